@@ -1,5 +1,6 @@
 -- Where an engine fails, it tells a file that its line names, or that writing failed.
-use Rattle.std.proofs.Common.{◌≡◌, Bool, true, false, ℕ, List, [], ◌∷◌, map, Option, Some, None, inl, inr, refl, subst, if◌then◌else◌}
+use Rattle.std.proofs.Common.{◌≡◌, Bool, true, false, ℕ, List, [], ◌∷◌, map, Option, Some, None, inl, inr, refl}
+use Rattle.std.proofs.Common.{subst, if◌then◌else◌}
 use Rattle.std.specs.Prelude.{◌⊎◌}
 use Rattle.driver.specs.{Serves, Reading, Tells, IsMissed, cannot_read, cannot_write, writing_failed}
 use Rattle.driver.specs.Engines.{first_unread, of_program, of_other, of_reader, of_memory}
@@ -7,7 +8,8 @@ use Rattle.driver.specs.declared.streams.Streams.{Streams}
 use Rattle.driver.specs.declared.status.Status.{Status}
 use Rattle.driver.specs.declared.status.Status.TheVariants.{Failed}
 use Rattle.driver_words.specs.declared.line.Line.{Line}
-use Rattle.driver_words.specs.declared.line.Line.TheVariants.{Check, Explain, Order, Listing, Serial, Outcomes, Simulate, Trace, Run, Replay}
+use Rattle.driver_words.specs.declared.line.Line.TheVariants.{Check, Explain, Order, Listing, Serial, Outcomes}
+use Rattle.driver_words.specs.declared.line.Line.TheVariants.{Simulate, Trace, Run, Replay}
 use Rattle.autolock.specs.Asked.{file_of, other_of, files_of, NamesOneOf, IsOverOne, IsOverTwo}
 
 abbrev pub names_of : List Reading → List (List ℕ)
@@ -19,7 +21,8 @@ unread_named : (Told : List ℕ → Type 0) (files : List Reading) (file : Readi
 unread_named Told [] file is told = absurd cc
 unread_named Told (f ∷ fs) file is told = by f.failed refl is (λ e. unread_named Told fs file e told)
   where
-    by : (b : Bool) → f.failed ≡ b → first_unread (f ∷ fs) ≡ Some file → (first_unread fs ≡ Some file → NamesOneOf Told (names_of fs)) →
+    by : (b : Bool) → f.failed ≡ b → first_unread (f ∷ fs) ≡ Some file →
+        (first_unread fs ≡ Some file → NamesOneOf Told (names_of fs)) →
         NamesOneOf Told (f.name ∷ names_of fs)
     by true e is rest =
         let some : Some f ≡ Some file = subst (λ (b : Bool). (if b then Some f else first_unread fs) ≡ Some file) e is in
@@ -68,7 +71,8 @@ two_files (Trace file steps sections) over = refl
 two_files (Replay file history turns why) over = refl
 
 -- the program's file is named first
-pub first_named : (line : Line) (Told : List ℕ → Type 0) → Told (cannot_read (file_of line)) → NamesOneOf Told (files_of line)
+pub first_named : (line : Line) (Told : List ℕ → Type 0) → Told (cannot_read (file_of line)) →
+    NamesOneOf Told (files_of line)
 first_named (Check file) Told told = inl told
 first_named (Explain file json) Told told = inl told
 first_named (Order file) Told told = inl told

@@ -3,9 +3,11 @@ use Rattle.std.specs.Prelude.{◌≡◌, ◌⊎◌, ℕ, List, [], ◌∷◌, �
 use Rattle.clap.specs.declared.error.kind.ErrorKind.{ErrorKind}
 use Rattle.clap.specs.declared.error.kind.ErrorKind.TheVariants.{DisplayHelp, DisplayVersion}
 use Rattle.driver.specs.declared.status.Status.{Status}
-use Rattle.driver.specs.{cannot_read, CheckAnswers, ExplainAnswers, OrderGraphAnswers, ListingAnswers, SerialAnswers, OutcomesAnswers, SimulationAnswers, TraceAnswers, ReplayAnswers, ThreadsAnswers}
+use Rattle.driver.specs.{cannot_read, CheckAnswers, ExplainAnswers, OrderGraphAnswers, ListingAnswers, SerialAnswers}
+use Rattle.driver.specs.{OutcomesAnswers, SimulationAnswers, TraceAnswers, ReplayAnswers, ThreadsAnswers}
 use Rattle.driver_words.specs.declared.line.Line.{Line}
-use Rattle.driver_words.specs.declared.line.Line.TheVariants.{Check, Explain, Order, Listing, Serial, Outcomes, Simulate, Trace, Run, Replay}
+use Rattle.driver_words.specs.declared.line.Line.TheVariants.{Check, Explain, Order, Listing, Serial, Outcomes}
+use Rattle.driver_words.specs.declared.line.Line.TheVariants.{Simulate, Trace, Run, Replay}
 
 -- the name of the file whose program is asked for
 abbrev pub file_of : Line → List ℕ

@@ -1,5 +1,6 @@
 -- An instruction on held cells, beside the same instruction on a heap; and whole runs.
-use Rattle.std.proofs.Common.{◌≡◌, ℕ, zero, suc, ◌+◌, ◌<◌, List, [], ◌∷◌, length, Option, Some, None, Bool, true, false, Result, Ok, Err, inl, inr, refl, sym, ap, ◌∙◌, subst, arith}
+use Rattle.std.proofs.Common.{◌≡◌, ℕ, zero, suc, ◌+◌, ◌<◌, List, [], ◌∷◌, length, Option, Some, None, Bool, true}
+use Rattle.std.proofs.Common.{false, Result, Ok, Err, inl, inr, refl, sym, ap, ◌∙◌, subst, arith}
 use Rattle.std.specs.Prelude.{slice_get, slice_set, not, ⊤}
 use Rattle.std.proofs.lemmas.Bool.Decides.{eqb_tells}
 use Rattle.std.proofs.lemmas.Option.{none-some, same_Some, slice_get_within, slice_get-get_or}
@@ -10,18 +11,29 @@ use Rattle.core_lang.specs.declared.shape.Shape.{Shape}
 use Rattle.core_lang.specs.Arithmetic.{on_values, negated, compared}
 use Rattle.core_lang.specs.Cells.{with, found, element_cell, member_of, field_cell, final_value, owned, not_null}
 use Rattle.code.specs.declared.instr.Instr.{Instr}
-use Rattle.code.specs.declared.instr.Instr.TheVariants.{PushNumber, PushNull, GetLocal, PutLocal, LoadGlobal, PutGlobal, LoadElement, Bound, PutElement, GetMember, LoadFinal, LoadField, NonNull, PutField, Where, NegateTop, NotTop, Operate, Test, Jump, JumpBack, JumpIfFalse, JumpIfTrue, PrintTop, Acquire, Return, End}
-use Rattle.code.specs.Machine.{Machine, Effect, Moves, Asks, Finishes, Undefined, Standing, At, Halted, Stuck, passed, advances, jumps_if, or_trap, on_top, on_two, if_there, is_true, negation, printed, loads, stores, act, proceed, exec}
-use Rattle.code.specs.Memory.{HeldCells, value_at, with_value, with_changed, beside, load_from, written_where, store_to, noted, read_if_held, load_held, write_if_held, store_held, overwritten, Agrees, IsCovered, IsConsistent, IsPartOf, Keeps}
+use Rattle.code.specs.declared.instr.Instr.TheVariants.{PushNumber, PushNull, GetLocal, PutLocal, LoadGlobal}
+use Rattle.code.specs.declared.instr.Instr.TheVariants.{PutGlobal, LoadElement, Bound, PutElement, GetMember}
+use Rattle.code.specs.declared.instr.Instr.TheVariants.{LoadFinal, LoadField, NonNull, PutField, Where, NegateTop}
+use Rattle.code.specs.declared.instr.Instr.TheVariants.{NotTop, Operate, Test, Jump, JumpBack, JumpIfFalse}
+use Rattle.code.specs.declared.instr.Instr.TheVariants.{JumpIfTrue, PrintTop, Acquire, Return, End}
+use Rattle.code.specs.Machine.{Machine, Effect, Moves, Asks, Finishes, Undefined, Standing, At, Halted, Stuck, passed}
+use Rattle.code.specs.Machine.{advances, jumps_if, or_trap, on_top, on_two, if_there, is_true, negation, printed}
+use Rattle.code.specs.Machine.{loads, stores, act, proceed, exec}
+use Rattle.code.specs.Memory.{HeldCells, value_at, with_value, with_changed, beside, load_from, written_where}
+use Rattle.code.specs.Memory.{store_to, noted, read_if_held, load_held, write_if_held, store_held, overwritten}
+use Rattle.code.specs.Memory.{Agrees, IsCovered, IsConsistent, IsPartOf, Keeps}
 use Rattle.code.specs.Working.Laws.{on_heap}
-use Rattle.code.proofs.Values.{set_same, set_other, changed_same, changed_other, changed_cells, changed_covered, length-overwritten, written_cell, unwritten_cell, overwritten_with, agrees_noted, noted_agrees, set_here, set_there}
+use Rattle.code.proofs.Values.{set_same, set_other, changed_same, changed_other, changed_cells, changed_covered}
+use Rattle.code.proofs.Values.{length-overwritten, written_cell, unwritten_cell, overwritten_with, agrees_noted}
+use Rattle.code.proofs.Values.{noted_agrees, set_here, set_there}
 
 -- ---- what a read and a write keep
 
 keeps_all : (held : HeldCells) → Keeps held held
 keeps_all held = record { cells = refl; consistent = λ ok. ok; part = λ heap part. part; agreed = λ heap ok agrees. agrees }
 
-keeps_noted : (held : HeldCells) (c : ℕ) (v : Value) (w : Option Value) → value_at held.cells c ≡ Some v → value_at held.writes c ≡ w →
+keeps_noted : (held : HeldCells) (c : ℕ) (v : Value) (w : Option Value) → value_at held.cells c ≡ Some v →
+    value_at held.writes c ≡ w →
     Keeps held (noted held c v w)
 keeps_noted held c v (Some u) here e = keeps_all held
 keeps_noted held c v None here e = record {
@@ -34,7 +46,8 @@ keeps_noted held c v None here e = record {
   agreed = λ heap ok agrees. (agrees_noted heap held.reads c v (λ old is. same_Some _ _ (sym (ok.read c old e is) ∙ here)) agrees).1;
 }
   where
-    still_read : IsConsistent held → (k : ℕ) (u : Value) → value_at held.writes k ≡ None → value_at (with_value held.reads c v) k ≡ Some u →
+    still_read : IsConsistent held → (k : ℕ) (u : Value) → value_at held.writes k ≡ None →
+        value_at (with_value held.reads c v) k ≡ Some u →
         value_at held.cells k ≡ Some u
     still_read ok k u unwritten is =
         elim (eqb_tells c k) [
@@ -63,7 +76,8 @@ keeps_wrote held c old v here = record {
           | inr h ↦ changed_other held.cells c k v h.1 ∙ ok.written k u (sym (set_other held.writes c k v h.1) ∙ is)
         ]
 
-    still_read : IsConsistent held → (k : ℕ) (u : Value) → value_at (with_value held.writes c v) k ≡ None → value_at held.reads k ≡ Some u →
+    still_read : IsConsistent held → (k : ℕ) (u : Value) → value_at (with_value held.writes c v) k ≡ None →
+        value_at held.reads k ≡ Some u →
         value_at (with_changed held.cells c v) k ≡ Some u
     still_read ok k u unwritten is =
         elim (eqb_tells c k) [
@@ -71,7 +85,8 @@ keeps_wrote held c old v here = record {
           | inr h ↦ changed_other held.cells c k v h.1 ∙ ok.read k u (sym (set_other held.writes c k v h.1) ∙ unwritten) is
         ]
 
-    still_now : (heap : List Value) → IsPartOf heap held → (k : ℕ) (u : Value) → value_at (with_changed held.cells c v) k ≡ Some u →
+    still_now : (heap : List Value) → IsPartOf heap held → (k : ℕ) (u : Value) →
+        value_at (with_changed held.cells c v) k ≡ Some u →
         slice_get (overwritten heap (with_value held.writes c v)) k ≡ Some u
     still_now heap part k u is =
         ap (λ h. slice_get h k) (overwritten_with heap held.writes c v)
@@ -97,43 +112,51 @@ module _ (heap : List Value) (shape : Shape) where
   Beside (Finishes outcome) y m = y ≡ Finishes outcome
   Beside Undefined y m = ⊤
 
-  trap_beside : {A : Type 0} (r : Result A Failure) (m : Machine HeldCells) (go : A → Effect HeldCells) (go' : A → Effect (List Value)) →
+  trap_beside : {A : Type 0} (r : Result A Failure) (m : Machine HeldCells) (go : A → Effect HeldCells) (go' : A →
+      Effect (List Value)) →
       ((a : A) → Beside (go a) (go' a) m) → Beside (or_trap r go) (or_trap r go') m
   trap_beside (Ok a) m go go' h = h a
   trap_beside (Err (Trap t)) m go go' h = refl
   trap_beside (Err Wrong) m go go' h = tt
 
-  top_beside : (stack : List Value) (m : Machine HeldCells) (go : Value → List Value → Effect HeldCells) (go' : Value → List Value → Effect (List Value)) →
+  top_beside : (stack : List Value) (m : Machine HeldCells) (go : Value → List Value →
+      Effect HeldCells) (go' : Value → List Value → Effect (List Value)) →
       ((v : Value) (rest : List Value) → Beside (go v rest) (go' v rest) m) → Beside (on_top stack go) (on_top stack go') m
   top_beside [] m go go' h = tt
   top_beside (v ∷ rest) m go go' h = h v rest
 
-  two_beside : (stack : List Value) (m : Machine HeldCells) (go : Value → Value → List Value → Effect HeldCells) (go' : Value → Value → List Value → Effect (List Value)) →
+  two_beside : (stack : List Value) (m : Machine HeldCells) (go : Value → Value → List Value →
+      Effect HeldCells) (go' : Value → Value → List Value → Effect (List Value)) →
       ((u v : Value) (rest : List Value) → Beside (go u v rest) (go' u v rest) m) → Beside (on_two stack go) (on_two stack go') m
   two_beside [] m go go' h = tt
   two_beside (v ∷ []) m go go' h = tt
   two_beside (v ∷ u ∷ rest) m go go' h = h u v rest
 
   -- a move that leaves the memory as it is
-  moves_beside : (m next : Machine HeldCells) → next.memory ≡ m.memory → Beside (Moves next) (Moves (on_heap heap next)) m
+  moves_beside : (m next : Machine HeldCells) → next.memory ≡ m.memory →
+      Beside (Moves next) (Moves (on_heap heap next)) m
   moves_beside m next e =
       (subst (Keeps m.memory) (sym e) (keeps_all m.memory), λ covered. subst (λ h. IsCovered h.cells heap) (sym e) covered, λ ok covered agrees. refl)
 
-  jump_beside : (b : Bool) (m : Machine HeldCells) (over : ℕ) (rest : List Value) → Beside (jumps_if b m over rest) (jumps_if b (on_heap heap m) over rest) m
+  jump_beside : (b : Bool) (m : Machine HeldCells) (over : ℕ) (rest : List Value) →
+      Beside (jumps_if b m over rest) (jumps_if b (on_heap heap m) over rest) m
   jump_beside true m over rest = moves_beside m _ refl
   jump_beside false m over rest = moves_beside m _ refl
 
   -- a load
-  noted_same : (held : HeldCells) (c : ℕ) (v : Value) (w : Option Value) → overwritten heap (noted held c v w).writes ≡ overwritten heap held.writes
+  noted_same : (held : HeldCells) (c : ℕ) (v : Value) (w : Option Value) →
+      overwritten heap (noted held c v w).writes ≡ overwritten heap held.writes
   noted_same held c v (Some u) = refl
   noted_same held c v None = refl
 
-  noted_covered : (held : HeldCells) (c : ℕ) (v : Value) (w : Option Value) → IsCovered held.cells heap → IsCovered (noted held c v w).cells heap
+  noted_covered : (held : HeldCells) (c : ℕ) (v : Value) (w : Option Value) → IsCovered held.cells heap →
+      IsCovered (noted held c v w).cells heap
   noted_covered held c v (Some u) covered = covered
   noted_covered held c v None covered = covered
 
   -- what is read is what the heap has, with the writes made
-  read_there : (held : HeldCells) (c : ℕ) (v : Value) (w : Option Value) → value_at held.cells c ≡ Some v → value_at held.writes c ≡ w →
+  read_there : (held : HeldCells) (c : ℕ) (v : Value) (w : Option Value) → value_at held.cells c ≡ Some v →
+      value_at held.writes c ≡ w →
       IsConsistent held → IsCovered held.cells heap → Agrees heap (noted held c v w).reads → slice_get (overwritten heap held.writes) c ≡ Some v
   read_there held c v (Some u) here e ok covered agrees =
       written_cell heap held.writes c u (covered c v here) e ∙ sym (ok.written c u e) ∙ here
@@ -159,7 +182,8 @@ module _ (heap : List Value) (shape : Shape) where
   load_beside m c rest = load_by (value_at m.memory.cells c) m c rest refl
 
   -- a store
-  store_by : (o : Option Value) (m : Machine HeldCells) (c : ℕ) (v : Value) (rest : List Value) → value_at m.memory.cells c ≡ o →
+  store_by : (o : Option Value) (m : Machine HeldCells) (c : ℕ) (v : Value) (rest : List Value) →
+      value_at m.memory.cells c ≡ o →
       Beside (if_there (write_if_held m.memory o c v) (λ memory. advances (record m { memory = memory }) rest))
       (stores load_from store_to shape (on_heap heap m) c v rest) m
   store_by None m c v rest here = tt
@@ -266,7 +290,8 @@ module _ (heap : List Value) (shape : Shape) where
     StandsOn (Halted outcome held prints) = IsPartOf heap held
     StandsOn Stuck = ⊤
 
-    step_part : (n : ℕ) → ((m : Machine HeldCells) → IsPartOf heap m.memory → StandsOn (exec load_held store_held shape code n m)) →
+    step_part : (n : ℕ) →
+        ((m : Machine HeldCells) → IsPartOf heap m.memory → StandsOn (exec load_held store_held shape code n m)) →
         (m : Machine HeldCells) (x : Effect HeldCells) (y : Effect (List Value)) → Beside x y m → IsPartOf heap m.memory →
         StandsOn (proceed load_held store_held shape m x (exec load_held store_held shape code n))
     step_part n ih m (Moves next) y h part = ih next (h.0.part heap part)
@@ -274,7 +299,8 @@ module _ (heap : List Value) (shape : Shape) where
     step_part n ih m (Finishes outcome) y h part = part
     step_part n ih m Undefined y h part = tt
 
-    pub run_part : (n : ℕ) (m : Machine HeldCells) → IsPartOf heap m.memory → StandsOn (exec load_held store_held shape code n m)
+    pub run_part : (n : ℕ) (m : Machine HeldCells) → IsPartOf heap m.memory →
+        StandsOn (exec load_held store_held shape code n m)
     run_part zero m part = part
     run_part (suc n) m part =
         step_part n (run_part n) m (act load_held store_held shape (slice_get code m.place) m) _ (act_beside (slice_get code m.place) m) part

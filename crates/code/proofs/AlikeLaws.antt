@@ -6,7 +6,8 @@ use Rattle.core_lang.specs.declared.value.Outcome.{Outcome}
 use Rattle.core_lang.specs.declared.shape.Shape.{Shape}
 use Rattle.code.specs.declared.instr.Instr.{Instr}
 use Rattle.code.specs.Machine.{Machine, Halted, Moves, Asks, Finishes, act, exec}
-use Rattle.code.specs.Memory.{HeldCells, load_from, store_to, load_held, store_held, opened, overwritten, Agrees, IsCovered, IsConsistent, IsPartOf, Keeps}
+use Rattle.code.specs.Memory.{HeldCells, load_from, store_to, load_held, store_held, opened, overwritten, Agrees}
+use Rattle.code.specs.Memory.{IsCovered, IsConsistent, IsPartOf, Keeps}
 use Rattle.code.specs.Alone.{starting, alone}
 use Rattle.code.specs.Working.Laws.{on_heap}
 use Rattle.code.proofs.Alike.{Beside, act_beside, StandsBeside, run_beside, StandsOn, run_part}

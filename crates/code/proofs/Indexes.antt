@@ -15,12 +15,14 @@ behind-first true g o p q r same = refl
 behind-first false g o p q r same = same
 
 -- the last of those that are left goes into the index, in the place of what that has for its cell
-pub last-moved : (test : GlobalName → Bool) (left : List GlobalName) (last : Bor GlobalName) (o : Option (Bor GlobalName))
+pub last-moved : (test : GlobalName →
+    Bool) (left : List GlobalName) (last : Bor GlobalName) (o : Option (Bor GlobalName))
     → option_or (find test left) (option_copied (cond (test last.now) (Some last) o))
     ≡ option_or (find test (left ++ last.now ∷ [])) (option_copied o)
 last-moved test [] last o = decide (test last.now)
   where
-    decide : (b : Bool) → option_copied (cond b (Some last) o) ≡ option_or (cond b (Some last.now) None) (option_copied o)
+    decide : (b : Bool) →
+        option_copied (cond b (Some last) o) ≡ option_or (cond b (Some last.now) None) (option_copied o)
     decide true = refl
     decide false = refl
 last-moved test (g ∷ left) last o = behind-first (test g) g (find test left) _ (find test (left ++ last.now ∷ [])) _ (last-moved test left last o)

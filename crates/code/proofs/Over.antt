@@ -26,7 +26,8 @@ module _ {M : Type 0} (load : M → ℕ → Option (Value × M)) (store : M → 
   stays_over m (suc n) (suc more) le over =
       stays n more (λ next. stays_over next n more (omega arith)) m (act load store shape (slice_get code m.place) m) over
 
-  pub ends_once : (m : Machine M) (n k : ℕ) → IsOver (exec load store shape code n m) → IsOver (exec load store shape code k m) →
+  pub ends_once : (m : Machine M) (n k : ℕ) → IsOver (exec load store shape code n m) →
+      IsOver (exec load store shape code k m) →
       exec load store shape code n m ≡ exec load store shape code k m
   ends_once m n k over over' =
       elim (cases_lt n k) [

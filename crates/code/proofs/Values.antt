@@ -1,5 +1,6 @@
 -- Values of cells, and heaps that they are written into.
-use Rattle.std.proofs.Common.{◌≡◌, ◌≢◌, ℕ, ◌<◌, List, [], ◌∷◌, length, map, Option, Some, None, Bool, true, false, inl, inr, refl, sym, ap, ◌∙◌, arith, length-set, get_or-set_same, get_or-set_other}
+use Rattle.std.proofs.Common.{◌≡◌, ◌≢◌, ℕ, ◌<◌, List, [], ◌∷◌, length, map, Option, Some, None, Bool, true, false}
+use Rattle.std.proofs.Common.{inl, inr, refl, sym, ap, ◌∙◌, arith, length-set, get_or-set_same, get_or-set_other}
 use Rattle.std.specs.Prelude.{slice_get, slice_set, nat_eq, nat_lt, if◌then◌else◌}
 use Rattle.std.proofs.lemmas.Bool.Decides.{eqb_tells}
 use Rattle.std.proofs.lemmas.List.{set-set, set_comm}
@@ -25,7 +26,8 @@ first_is_not a k v rest ne =
 
 -- ---- with a cell's value set
 
-set_same_by : (lt eq : Bool) (x : ℕ × Value) (xs : List (ℕ × Value)) (c : ℕ) (v : Value) → nat_eq c x.0 ≡ eq → value_at (with_value xs c v) c ≡ Some v →
+set_same_by : (lt eq : Bool) (x : ℕ × Value) (xs : List (ℕ × Value)) (c : ℕ) (v : Value) → nat_eq c x.0 ≡ eq →
+    value_at (with_value xs c v) c ≡ Some v →
     value_at (if lt then (c, v) ∷ x ∷ xs else if eq then (c, v) ∷ xs else x ∷ with_value xs c v) c ≡ Some v
 set_same_by true eq x xs c v e ih = first_is c c v (value_at (x ∷ xs) c) refl
 set_same_by false true x xs c v e ih = first_is c c v (value_at xs c) refl
@@ -36,7 +38,8 @@ pub set_same : (xs : List (ℕ × Value)) (c : ℕ) (v : Value) → value_at (wi
 set_same [] c v = first_is c c v None refl
 set_same (x ∷ xs) c v = set_same_by (nat_lt c x.0) (nat_eq c x.0) x xs c v refl (set_same xs c v)
 
-set_other_by : (lt eq : Bool) (x : ℕ × Value) (xs : List (ℕ × Value)) (c k : ℕ) (v : Value) → nat_eq c x.0 ≡ eq → c ≢ k →
+set_other_by : (lt eq : Bool) (x : ℕ × Value) (xs : List (ℕ × Value)) (c k : ℕ) (v : Value) → nat_eq c x.0 ≡ eq →
+    c ≢ k →
     value_at (with_value xs c v) k ≡ value_at xs k →
     value_at (if lt then (c, v) ∷ x ∷ xs else if eq then (c, v) ∷ xs else x ∷ with_value xs c v) k ≡ value_at (x ∷ xs) k
 set_other_by true eq x xs c k v e ne ih = first_is_not c k v (value_at (x ∷ xs) k) ne
@@ -58,11 +61,13 @@ changed_same_by true x xs c old v e there ih = first_is c c v (value_at xs c) re
 changed_same_by false x xs c old v e there ih =
     first_is_not x.0 c x.1 (value_at (with_changed xs c v) c) (other_cell x.0 c e) ∙ ih there
 
-pub changed_same : (xs : List (ℕ × Value)) (c : ℕ) (old v : Value) → value_at xs c ≡ Some old → value_at (with_changed xs c v) c ≡ Some v
+pub changed_same : (xs : List (ℕ × Value)) (c : ℕ) (old v : Value) → value_at xs c ≡ Some old →
+    value_at (with_changed xs c v) c ≡ Some v
 changed_same [] c old v there = absurd (none-some _ there)
 changed_same (x ∷ xs) c old v there = changed_same_by (nat_eq x.0 c) x xs c old v refl there (changed_same xs c old v)
 
-changed_other_by : (eq : Bool) (x : ℕ × Value) (xs : List (ℕ × Value)) (c k : ℕ) (v : Value) → nat_eq x.0 c ≡ eq → c ≢ k →
+changed_other_by : (eq : Bool) (x : ℕ × Value) (xs : List (ℕ × Value)) (c k : ℕ) (v : Value) → nat_eq x.0 c ≡ eq →
+    c ≢ k →
     value_at (with_changed xs c v) k ≡ value_at xs k →
     value_at (if eq then (c, v) ∷ xs else x ∷ with_changed xs c v) k ≡ value_at (x ∷ xs) k
 changed_other_by true x xs c k v e ne ih =
@@ -70,7 +75,8 @@ changed_other_by true x xs c k v e ne ih =
     ∙ sym (first_is_not x.0 k x.1 (value_at xs k) (λ q. ne (sym (same_cell x.0 c e) ∙ q)))
 changed_other_by false x xs c k v e ne ih = ap (λ t. if nat_eq x.0 k then Some x.1 else t) ih
 
-pub changed_other : (xs : List (ℕ × Value)) (c k : ℕ) (v : Value) → c ≢ k → value_at (with_changed xs c v) k ≡ value_at xs k
+pub changed_other : (xs : List (ℕ × Value)) (c k : ℕ) (v : Value) → c ≢ k →
+    value_at (with_changed xs c v) k ≡ value_at xs k
 changed_other [] c k v ne = refl
 changed_other (x ∷ xs) c k v ne = changed_other_by (nat_eq x.0 c) x xs c k v refl ne (changed_other xs c k v ne)
 
@@ -85,7 +91,8 @@ pub changed_cells : (xs : List (ℕ × Value)) (c : ℕ) (v : Value) →
 changed_cells [] c v = refl
 changed_cells (x ∷ xs) c v = changed_cells_by (nat_eq x.0 c) x xs c v refl (changed_cells xs c v)
 
-pub changed_covered : (xs : List (ℕ × Value)) (c : ℕ) (old v : Value) (heap : List Value) → value_at xs c ≡ Some old → IsCovered xs heap →
+pub changed_covered : (xs : List (ℕ × Value)) (c : ℕ) (old v : Value) (heap : List Value) → value_at xs c ≡ Some old →
+    IsCovered xs heap →
     IsCovered (with_changed xs c v) heap
 changed_covered xs c old v heap there covered k w is =
     elim (eqb_tells c k) [
@@ -114,7 +121,8 @@ set_there xs i j v ne =
     ]
 
 -- a cell that was written has what was written, and another what it had
-pub written_cell : (heap : List Value) (ws : List (ℕ × Value)) (c : ℕ) (v : Value) → c < length heap → value_at ws c ≡ Some v →
+pub written_cell : (heap : List Value) (ws : List (ℕ × Value)) (c : ℕ) (v : Value) → c < length heap →
+    value_at ws c ≡ Some v →
     slice_get (overwritten heap ws) c ≡ Some v
 written_cell heap [] c v lt is = absurd (none-some _ is)
 written_cell heap (w ∷ ws) c v lt is =
@@ -128,7 +136,8 @@ written_cell heap (w ∷ ws) c v lt is =
           ∙ written_cell heap ws c v lt (sym (first_is_not w.0 c w.1 (value_at ws c) h.1) ∙ is)
     ]
 
-pub unwritten_cell : (heap : List Value) (ws : List (ℕ × Value)) (c : ℕ) → value_at ws c ≡ None → slice_get (overwritten heap ws) c ≡ slice_get heap c
+pub unwritten_cell : (heap : List Value) (ws : List (ℕ × Value)) (c : ℕ) → value_at ws c ≡ None →
+    slice_get (overwritten heap ws) c ≡ slice_get heap c
 unwritten_cell heap [] c none = refl
 unwritten_cell heap (w ∷ ws) c none =
     elim (eqb_tells w.0 c) [
@@ -138,7 +147,8 @@ unwritten_cell heap (w ∷ ws) c none =
           ∙ unwritten_cell heap ws c (sym (first_is_not w.0 c w.1 (value_at ws c) h.1) ∙ none)
     ]
 
-overwritten_by : (lt eq : Bool) (heap : List Value) (x : ℕ × Value) (xs : List (ℕ × Value)) (c : ℕ) (v : Value) → nat_eq c x.0 ≡ eq →
+overwritten_by : (lt eq : Bool) (heap : List Value) (x : ℕ × Value) (xs : List (ℕ × Value)) (c : ℕ) (v : Value) →
+    nat_eq c x.0 ≡ eq →
     overwritten heap (with_value xs c v) ≡ slice_set (overwritten heap xs) c v →
     overwritten heap (if lt then (c, v) ∷ x ∷ xs else if eq then (c, v) ∷ xs else x ∷ with_value xs c v) ≡ slice_set (overwritten heap (x ∷ xs)) c v
 overwritten_by true eq heap x xs c v e ih = refl
@@ -157,7 +167,8 @@ overwritten_with heap (x ∷ xs) c v =
 
 -- ---- a heap that has the values read
 
-agrees_by : (lt eq : Bool) (heap : List Value) (x : ℕ × Value) (xs : List (ℕ × Value)) (c : ℕ) (v : Value) → nat_eq c x.0 ≡ eq →
+agrees_by : (lt eq : Bool) (heap : List Value) (x : ℕ × Value) (xs : List (ℕ × Value)) (c : ℕ) (v : Value) →
+    nat_eq c x.0 ≡ eq →
     ((old : Value) → value_at (x ∷ xs) c ≡ Some old → old ≡ v) →
     (((old : Value) → value_at xs c ≡ Some old → old ≡ v) → Agrees heap (with_value xs c v) → (slice_get heap c ≡ Some v) × Agrees heap xs) →
     Agrees heap (if lt then (c, v) ∷ x ∷ xs else if eq then (c, v) ∷ xs else x ∷ with_value xs c v) →
@@ -178,7 +189,8 @@ agrees_noted heap [] c v same agrees = agrees
 agrees_noted heap (x ∷ xs) c v same agrees =
     agrees_by (nat_lt c x.0) (nat_eq c x.0) heap x xs c v refl same (agrees_noted heap xs c v) agrees
 
-noted_agrees_by : (lt eq : Bool) (heap : List Value) (x : ℕ × Value) (xs : List (ℕ × Value)) (c : ℕ) (v : Value) → slice_get heap c ≡ Some v →
+noted_agrees_by : (lt eq : Bool) (heap : List Value) (x : ℕ × Value) (xs : List (ℕ × Value)) (c : ℕ) (v : Value) →
+    slice_get heap c ≡ Some v →
     Agrees heap (x ∷ xs) → Agrees heap (with_value xs c v) →
     Agrees heap (if lt then (c, v) ∷ x ∷ xs else if eq then (c, v) ∷ xs else x ∷ with_value xs c v)
 noted_agrees_by true eq heap x xs c v is agrees ih = (is, agrees)
@@ -186,7 +198,8 @@ noted_agrees_by false true heap x xs c v is agrees ih = (is, agrees.1)
 noted_agrees_by false false heap x xs c v is agrees ih = (agrees.0, ih)
 
 -- and the other way round
-pub noted_agrees : (heap : List Value) (xs : List (ℕ × Value)) (c : ℕ) (v : Value) → slice_get heap c ≡ Some v → Agrees heap xs →
+pub noted_agrees : (heap : List Value) (xs : List (ℕ × Value)) (c : ℕ) (v : Value) → slice_get heap c ≡ Some v →
+    Agrees heap xs →
     Agrees heap (with_value xs c v)
 noted_agrees heap [] c v is agrees = (is, tt)
 noted_agrees heap (x ∷ xs) c v is agrees =

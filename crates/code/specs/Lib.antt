@@ -8,12 +8,14 @@ pub mod Working
 pub mod Theory
 -- what the public clauses cite
 pub use Rattle.code.specs.Memory.{HeldCells, opened, overwritten, Agrees, IsCovered, IsConsistent, IsPartOf, Keeps}
-pub use Rattle.code.specs.Working.Laws.{IsOver, InRuns, StaysOver, EndsOnce, HasWritten, KeepsUnwritten, KeepsSize, on_heap}
+pub use Rattle.code.specs.Working.Laws.{IsOver, InRuns, StaysOver, EndsOnce, HasWritten, KeepsUnwritten, KeepsSize}
+pub use Rattle.code.specs.Working.Laws.{on_heap}
 pub use Rattle.code.specs.Working.Laws.{KeepsHeld, MovesAlike, AsksAlike, FinishesAlike, HaltsAlike, HaltsOnItsHeap}
 pub use Rattle.code.specs.Working.Seen.{IsMemory, held_value, IsSeen, Shows, IsAccessible, Covers}
 pub use Rattle.code.specs.Working.Spots.{HasAt, Spot, spot, InSection}
 pub use Rattle.code.specs.Working.Ahead.{Safe, Goes, Steps, between_points, CanExecute, MayEnd, HasComeOn}
-pub use Rattle.code.specs.Working.PointLaws.{PointsGoOn, SpotsArePoints, PointsHaveSpots, SpotsHaveNumbers, FirstPointIsAtStart}
+pub use Rattle.code.specs.Working.PointLaws.{PointsGoOn, SpotsArePoints, PointsHaveSpots, SpotsHaveNumbers}
+pub use Rattle.code.specs.Working.PointLaws.{FirstPointIsAtStart}
 pub use Rattle.code.specs.Working.PointLaws.{EmptyHasEnd, SpotsAcquire, OnlySpotsAcquire, SectionsGoOn}
 pub use Rattle.code.specs.Working.RunLaws.{EndsAsSection, EndsOnlyAsSection, SectionsBehave}
 pub use Rattle.code.specs.Listing.{listing_text}

@@ -3,15 +3,22 @@ use Rattle.std.specs.Prelude.{ℕ, ◌+◌, pos, List, [], ◌∷◌, ◌++◌, 
 use Rattle.core_lang.specs.declared.tree.FieldStep.{FieldStep}
 use Rattle.core_lang.specs.declared.tree.FieldStep.TheVariants.{Final, Field}
 use Rattle.core_lang.specs.declared.tree.Path.{Path}
-use Rattle.core_lang.specs.declared.tree.Expr.{Expr, Number, Null, Place, Global, Element', Member', Negate', Owned', Chain', Row_of-Operation, end_of-Operation, more_of-Operation}
-use Rattle.core_lang.specs.declared.tree.Condition.{Condition, Compare, Not', And', Or', Row_of-Condition, end_of-Condition, more_of-Condition}
+use Rattle.core_lang.specs.declared.tree.Expr.{Expr, Number, Null, Place, Global, Element', Member', Negate', Owned'}
+use Rattle.core_lang.specs.declared.tree.Expr.{Chain', Row_of-Operation, end_of-Operation, more_of-Operation}
+use Rattle.core_lang.specs.declared.tree.Condition.{Condition, Compare, Not', And', Or', Row_of-Condition}
+use Rattle.core_lang.specs.declared.tree.Condition.{end_of-Condition, more_of-Condition}
 use Rattle.core_lang.specs.declared.tree.Stmt.{Stmt}
-use Rattle.core_lang.specs.declared.tree.Action.{Action, Bind, SetLocal, SetGlobal, SetElement, SetField, Call, Print, If', IfElse', While', Row_of-Stmt, end_of-Stmt, more_of-Stmt}
+use Rattle.core_lang.specs.declared.tree.Action.{Action, Bind, SetLocal, SetGlobal, SetElement, SetField, Call, Print}
+use Rattle.core_lang.specs.declared.tree.Action.{If', IfElse', While', Row_of-Stmt, end_of-Stmt, more_of-Stmt}
 use Rattle.core_lang.specs.declared.tree.Return.{Return as Result_of}
 use Rattle.core_lang.specs.declared.tree.Section.{Section}
 use Rattle.flow.specs.Skeletons.{Nil, count, in_front, block_skeleton}
 use Rattle.code.specs.declared.instr.Instr.{Instr}
-use Rattle.code.specs.declared.instr.Instr.TheVariants.{PushNumber, PushNull, GetLocal, PutLocal, LoadGlobal, PutGlobal, LoadElement, Bound, PutElement, GetMember, LoadFinal, LoadField, NonNull, PutField, Where, NegateTop, NotTop, Operate, Test, Jump, JumpBack, JumpIfFalse, JumpIfTrue, PrintTop, Acquire, Return, End}
+use Rattle.code.specs.declared.instr.Instr.TheVariants.{PushNumber, PushNull, GetLocal, PutLocal, LoadGlobal}
+use Rattle.code.specs.declared.instr.Instr.TheVariants.{PutGlobal, LoadElement, Bound, PutElement, GetMember}
+use Rattle.code.specs.declared.instr.Instr.TheVariants.{LoadFinal, LoadField, NonNull, PutField, Where, NegateTop}
+use Rattle.code.specs.declared.instr.Instr.TheVariants.{NotTop, Operate, Test, Jump, JumpBack, JumpIfFalse}
+use Rattle.code.specs.declared.instr.Instr.TheVariants.{JumpIfTrue, PrintTop, Acquire, Return, End}
 
 -- ---- expressions and conditions
 

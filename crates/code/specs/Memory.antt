@@ -1,5 +1,6 @@
 -- Memories: a whole heap, and the cells of locks that a section holds.
-use Rattle.std.specs.Prelude.{◌≡◌, ℕ, ◌<◌, nat_lt, nat_eq, if◌then◌else◌, List, [], ◌∷◌, length, map, slice_get, slice_set, Option, Some, None, ⊤}
+use Rattle.std.specs.Prelude.{◌≡◌, ℕ, ◌<◌, nat_lt, nat_eq, if◌then◌else◌, List, [], ◌∷◌, length, map, slice_get}
+use Rattle.std.specs.Prelude.{slice_set, Option, Some, None, ⊤}
 use Rattle.core_lang.specs.declared.value.Value.{Value}
 
 -- ---- a whole heap

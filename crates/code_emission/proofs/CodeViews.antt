@@ -2,22 +2,30 @@
 use Rattle.std.specs.Prelude.{◌≡◌, ℕ, ◌+◌, pos, List, [], ◌∷◌, ◌++◌, Option}
 use Rattle.std.proofs.Common.{refl, sym, ap, ◌∙◌, Vec, Box, Global, append_assoc, arith}
 use mathlib.Core.Former.{Count}
-use Rattle.core_lang.specs.declared.tree.Expr.{Expr, Chain, Row_of-Operation, end_of-Operation, more_of-Operation, items-the_row-Operation, items_hidden-the_row-Operation-0}
+use Rattle.core_lang.specs.declared.tree.Expr.{Expr, Chain, Row_of-Operation, end_of-Operation, more_of-Operation}
+use Rattle.core_lang.specs.declared.tree.Expr.{items-the_row-Operation, items_hidden-the_row-Operation-0}
 use Rattle.core_lang.specs.declared.tree.Operation.{Operation}
-use Rattle.core_lang.specs.declared.tree.Condition.{Condition, And, Or, Row_of-Condition, end_of-Condition, more_of-Condition, items-the_row-Condition, items_hidden-the_row-Condition-0}
+use Rattle.core_lang.specs.declared.tree.Condition.{Condition, And, Or, Row_of-Condition, end_of-Condition}
+use Rattle.core_lang.specs.declared.tree.Condition.{more_of-Condition, items-the_row-Condition}
+use Rattle.core_lang.specs.declared.tree.Condition.{items_hidden-the_row-Condition-0}
 use Rattle.core_lang.specs.declared.tree.Stmt.{Stmt}
-use Rattle.core_lang.specs.declared.tree.Action.{Action, Bind, SetLocal, SetGlobal, SetElement, SetField, Call, Print, If, IfElse, While, If', IfElse', While', Row_of-Stmt, end_of-Stmt, more_of-Stmt, items-the_row-Stmt, items_hidden-the_row-Stmt-0}
+use Rattle.core_lang.specs.declared.tree.Action.{Action, Bind, SetLocal, SetGlobal, SetElement, SetField, Call, Print}
+use Rattle.core_lang.specs.declared.tree.Action.{If, IfElse, While, If', IfElse', While', Row_of-Stmt, end_of-Stmt}
+use Rattle.core_lang.specs.declared.tree.Action.{more_of-Stmt, items-the_row-Stmt, items_hidden-the_row-Stmt-0}
 use Rattle.core_lang.specs.declared.tree.Return.{Return}
 use Rattle.core_lang.specs.Theory.Lists.{row_of, conditions_of, block_of, else_of}
 use Rattle.flow.specs.Skeletons.{Skeleton, count, in_front, block_skeleton}
 use Rattle.code.specs.declared.instr.Instr.{Instr}
 use Rattle.code.specs.declared.instr.Instr.TheVariants.{PushNumber, Operate, Jump, JumpIfFalse, JumpIfTrue}
-use Rattle.code.specs.Lowering.{expr_code, chain_code, test_code, and_code, or_code, all_code, any_code, points_of, points_in, if_code, if_else_code, while_code, acquire_code, stmt_code, block_code, body_code, end_code}
+use Rattle.code.specs.Lowering.{expr_code, chain_code, test_code, and_code, or_code, all_code, any_code, points_of}
+use Rattle.code.specs.Lowering.{points_in, if_code, if_else_code, while_code, acquire_code, stmt_code, block_code}
+use Rattle.code.specs.Lowering.{body_code, end_code}
 use Rattle.code_emission.specs.Working.CodeLists.{operations_code, conditions_code, points_of_all, sequence_code}
 
 -- ---- expressions and conditions
 
-pub chain_code-items : (n : Count) (row : Row_of-Operation n) → chain_code row ≡ operations_code (items-the_row-Operation n row)
+pub chain_code-items : (n : Count) (row : Row_of-Operation n) →
+    chain_code row ≡ operations_code (items-the_row-Operation n row)
 chain_code-items n end_of-Operation = refl
 chain_code-items n (more_of-Operation o e rest) = ap (λ c. (expr_code e ++ Operate o ∷ []) ++ c) (chain_code-items _ rest)
 
@@ -31,7 +39,8 @@ pub any_code-items : (n : Count) (row : Row_of-Condition n) (last : List Instr) 
 any_code-items n end_of-Condition last = refl
 any_code-items n (more_of-Condition c rest) last = ap (or_code (test_code c)) (any_code-items _ rest last)
 
-pub expr_code-Chain : (first : Box Expr Global) (rest : Vec Operation Global) → expr_code (Chain first rest) ≡ expr_code first.value ++ operations_code rest.items
+pub expr_code-Chain : (first : Box Expr Global) (rest : Vec Operation Global) →
+    expr_code (Chain first rest) ≡ expr_code first.value ++ operations_code rest.items
 expr_code-Chain first rest =
     let row = row_of (Chain first rest) in
     ap (λ c. expr_code first.value ++ c) (chain_code-items row.0 row.1 ∙ ap operations_code (items_hidden-the_row-Operation-0 rest))
@@ -72,7 +81,8 @@ points_in-items n end_of-Stmt = refl
 points_in-items n (more_of-Stmt start action rest) =
     count-in_front action (block_skeleton rest) ∙ ap (λ p. points_of action + p) (points_in-items _ rest)
 
-points_in-vec : (block : Vec Stmt Global) (n : Count) (row : Row_of-Stmt n) → items-the_row-Stmt n row ≡ block.items → points_in row ≡ points_of_all block.items
+points_in-vec : (block : Vec Stmt Global) (n : Count) (row : Row_of-Stmt n) → items-the_row-Stmt n row ≡ block.items →
+    points_in row ≡ points_of_all block.items
 points_in-vec block n row e = points_in-items n row ∙ ap points_of_all e
 
 pub points_of-If : (c : Condition) (a : Vec Stmt Global) → points_of (If c a) ≡ 1 + points_of_all a.items
@@ -82,7 +92,8 @@ points_of-If c a =
     let unfolded : points_of (If c a) ≡ 1 + points_in one.1 + 0 + 0 = refl in
     omega arith
 
-pub points_of-IfElse : (c : Condition) (a b : Vec Stmt Global) → points_of (IfElse c a b) ≡ 1 + points_of_all a.items + points_of_all b.items
+pub points_of-IfElse : (c : Condition) (a b : Vec Stmt Global) →
+    points_of (IfElse c a b) ≡ 1 + points_of_all a.items + points_of_all b.items
 points_of-IfElse c a b =
     let one = block_of (IfElse c a b) in
     let two = else_of (IfElse c a b) in
@@ -101,12 +112,14 @@ points_of-While c body =
 -- ---- statements
 
 module _ {P : Type 0} (lists : List (List P)) where
-  pub block_code-items : (n : Count) (row : Row_of-Stmt n) (point : ℕ) → block_code lists row point ≡ sequence_code lists (items-the_row-Stmt n row) point
+  pub block_code-items : (n : Count) (row : Row_of-Stmt n) (point : ℕ) →
+      block_code lists row point ≡ sequence_code lists (items-the_row-Stmt n row) point
   block_code-items n end_of-Stmt point = refl
   block_code-items n (more_of-Stmt start action rest) point =
       ap (λ c. stmt_code lists action point ++ c) (block_code-items _ rest (point + points_of action))
 
-  block_code-vec : (block : Vec Stmt Global) (n : Count) (row : Row_of-Stmt n) (point : ℕ) → items-the_row-Stmt n row ≡ block.items →
+  block_code-vec : (block : Vec Stmt Global) (n : Count) (row : Row_of-Stmt n) (point : ℕ) →
+      items-the_row-Stmt n row ≡ block.items →
       block_code lists row point ≡ sequence_code lists block.items point
   block_code-vec block n row point e = block_code-items n row point ∙ ap (λ ss. sequence_code lists ss point) e
 

@@ -1,5 +1,6 @@
 -- The jumps of `&&` and `||`, pointed to the end.
-use Rattle.std.proofs.Common.{◌≡◌, ℕ, ◌+◌, ◌-◌, ◌<◌, ◌≤◌, List, [], ◌∷◌, ◌++◌, length, refl, sym, ap, ◌∙◌, arith, append_assoc, length-append, All, subst, pos, Vec, Box, Global}
+use Rattle.std.proofs.Common.{◌≡◌, ℕ, ◌+◌, ◌-◌, ◌<◌, ◌≤◌, List, [], ◌∷◌, ◌++◌, length, refl, sym, ap, ◌∙◌, arith}
+use Rattle.std.proofs.Common.{append_assoc, length-append, All, subst, pos, Vec, Box, Global}
 use Rattle.std.specs.Prelude.{slice_set}
 use Rattle.std.proofs.Math.Seq.{set-append_seam}
 use Rattle.std.proofs.lemmas.List.Elements.{All-nil, All-cons}
@@ -13,7 +14,8 @@ use Rattle.code_emission.specs.Working.Assembly.{jump_of, decided, blank, places
 use Rattle.code_emission.specs.Working.CodeLists.{conditions_code}
 use Rattle.code_emission.proofs.CodeViews.{test_code-And, test_code-Or}
 
-length-conditions : (k : Connective) (cs : List Condition) (tail : List Instr) → length (blank k cs ++ tail) ≡ length (conditions_code (jump_of k) cs tail)
+length-conditions : (k : Connective) (cs : List Condition) (tail : List Instr) →
+    length (blank k cs ++ tail) ≡ length (conditions_code (jump_of k) cs tail)
 length-conditions k [] tail = refl
 length-conditions k (c ∷ cs) tail =
     let ct = test_code c in
@@ -26,14 +28,16 @@ length-conditions k (c ∷ cs) tail =
       length-append ct (jump_of k (length (conditions_code (jump_of k) cs tail)) ∷ conditions_code (jump_of k) cs tail),
     )
 
-places_within : (k : Connective) (cs : List Condition) (at bound : ℕ) → at + length (blank k cs) ≤ bound → All (λ p. p < bound) (places at cs)
+places_within : (k : Connective) (cs : List Condition) (at bound : ℕ) → at + length (blank k cs) ≤ bound →
+    All (λ p. p < bound) (places at cs)
 places_within k [] at bound h = All-nil (λ p. p < bound)
 places_within k (c ∷ cs) at bound h =
     let ct = test_code c in
     let l = length-append ct (jump_of k 0 ∷ blank k cs) in
     All-cons (λ p. p < bound) (at + length ct) (places (at + length ct + 1) cs) (omega arith) (places_within k cs (at + length ct + 1) bound (omega arith))
 
-pointed_conditions : (k : Connective) (cs : List Condition) (base tail : List Instr) (end at : ℕ) → end ≡ length (base ++ (blank k cs ++ tail)) → at ≡ length base →
+pointed_conditions : (k : Connective) (cs : List Condition) (base tail : List Instr) (end at : ℕ) →
+    end ≡ length (base ++ (blank k cs ++ tail)) → at ≡ length base →
     pointed k end (places at cs) (base ++ (blank k cs ++ tail)) ≡ base ++ conditions_code (jump_of k) cs tail
 pointed_conditions k [] base tail end at e a = refl
 pointed_conditions k (c ∷ cs) base tail end at e a =
@@ -92,7 +96,8 @@ or_emitted c before last items l base c1 c2 c3 jumps js is all one e1 ej same e2
     ∙ ap (λ x. base ++ test_code x) (sym is)
 
 -- each jump stands in the code
-pub jumps_within : (k : Connective) (items : List Condition) (base c1 c2 a : List Instr) (jumps js : List ℕ) → c1 ≡ base ++ blank k items → jumps ≡ places (length base) items →
+pub jumps_within : (k : Connective) (items : List Condition) (base c1 c2 a : List Instr) (jumps js : List ℕ) →
+    c1 ≡ base ++ blank k items → jumps ≡ places (length base) items →
     js ≡ jumps → c2 ≡ c1 ++ a → All (λ p. p < length c2) js
 jumps_within k items base c1 c2 a jumps js e1 ej same e2 =
     let l1 = ap length e1 ∙ length-append base (blank k items) in

@@ -4,7 +4,8 @@ use Rattle.std.specs.Prelude.{slice_set}
 use Rattle.std.proofs.Math.Seq.{set-append_seam}
 use Rattle.code.specs.declared.instr.Instr.{Instr}
 
-pub landed : (jump : ℕ → Instr) (base tail code new : List Instr) (x : Instr) (place : ℕ) → code ≡ base ++ x ∷ tail → place ≡ length base →
+pub landed : (jump : ℕ → Instr) (base tail code new : List Instr) (x : Instr) (place : ℕ) → code ≡ base ++ x ∷ tail →
+    place ≡ length base →
     new ≡ slice_set code place (jump (length code - place - 1)) → new ≡ base ++ jump (length tail) ∷ tail
 landed jump base tail code new x place is at wrote =
     let long : length code ≡ length base + length (x ∷ tail) = ap length is ∙ length-append base (x ∷ tail) in

@@ -1,7 +1,8 @@
 -- Pieces of code, one behind another.
 use mir.Val.{to_z, of_z}
 use mir.Syntax.{w64}
-use Rattle.std.proofs.Common.{◌≡◌, ◌∙◌, ℕ, zero, suc, ◌+◌, ◌-◌, ◌<◌, ◌≤◌, List, [], ◌∷◌, ◌++◌, length, drop, get_or, add-one, append_assoc, append-nil, length-append, refl, sym, ap, arith}
+use Rattle.std.proofs.Common.{◌≡◌, ◌∙◌, ℕ, zero, suc, ◌+◌, ◌-◌, ◌<◌, ◌≤◌, List, [], ◌∷◌, ◌++◌, length, drop, get_or}
+use Rattle.std.proofs.Common.{add-one, append_assoc, append-nil, length-append, refl, sym, ap, arith}
 use Rattle.std.specs.Prelude.{slice_set, ℤ}
 use Rattle.std.proofs.Math.Seq.{drop-cons}
 use Rattle.core_lang.specs.declared.tree.Comparison.{Comparison}
@@ -28,18 +29,21 @@ use Rattle.core_lang.specs.Theory.Items.{drop_past, next_of}
 pub two_added : (base one two x y : List Instr) → one ≡ base ++ x → two ≡ one ++ y → two ≡ base ++ (x ++ y)
 two_added base one two x y e d = d ∙ ap (λ (l : List Instr). l ++ y) e ∙ append_assoc base x y
 
-pub four_added : (base a b c d x y : List Instr) (first last : Instr) → a ≡ base ++ x → b ≡ a ++ first ∷ [] → c ≡ b ++ y → d ≡ c ++ last ∷ [] →
+pub four_added : (base a b c d x y : List Instr) (first last : Instr) → a ≡ base ++ x → b ≡ a ++ first ∷ [] →
+    c ≡ b ++ y → d ≡ c ++ last ∷ [] →
     d ≡ base ++ (x ++ (first ∷ (y ++ last ∷ [])))
 four_added base a b c d x y first last e f g h =
     two_added base a d x (first ∷ (y ++ last ∷ [])) e (two_added a b d (first ∷ []) (y ++ last ∷ []) f (two_added b c d y (last ∷ []) g h))
 
-pub compared : (base one two three : List Instr) (c : Condition) (sign : Comparison) (a b : Expr) → c ≡ Compare sign a b → one ≡ base ++ expr_code a → two ≡ one ++ expr_code b →
+pub compared : (base one two three : List Instr) (c : Condition) (sign : Comparison) (a b : Expr) →
+    c ≡ Compare sign a b → one ≡ base ++ expr_code a → two ≡ one ++ expr_code b →
     three ≡ two ++ Test sign ∷ [] → three ≡ base ++ test_code c
 compared base one two three c sign a b is e d f =
     two_added base one three (expr_code a) (expr_code b ++ Test sign ∷ []) e (two_added one two three (expr_code b) (Test sign ∷ []) d f)
     ∙ sym (ap (λ (x : Condition). base ++ test_code x) is)
 
-pub one_added : (base one two given part whole : List Instr) (last : Instr) → given ≡ part → whole ≡ part ++ last ∷ [] → one ≡ base ++ given → two ≡ one ++ last ∷ [] →
+pub one_added : (base one two given part whole : List Instr) (last : Instr) → given ≡ part →
+    whole ≡ part ++ last ∷ [] → one ≡ base ++ given → two ≡ one ++ last ∷ [] →
     two ≡ base ++ whole
 one_added base one two given part whole last same is e d =
     two_added base one two given (last ∷ []) e d ∙ ap (λ (l : List Instr). base ++ (l ++ last ∷ [])) same ∙ sym (ap (λ (l : List Instr). base ++ l) is)
@@ -57,7 +61,8 @@ module _ (a b : Emitter) (x : Emits a b 1 (λ ls p. acquire_code ls p)) where
     writes = λ p h. two_added a.code.instructions.items b.code.instructions.items code.instructions.items (acquire_code (lists_of a) p) piece (x.writes p h) adds;
   }
 
-  pub opened : (one two : Assembler) (c : Condition) (place : ℕ) → Adds b.code one (test_code c) → place ≡ length one.instructions.items → Adds one two (JumpIfFalse 0 ∷ []) →
+  pub opened : (one two : Assembler) (c : Condition) (place : ℕ) → Adds b.code one (test_code c) →
+      place ≡ length one.instructions.items → Adds one two (JumpIfFalse 0 ∷ []) →
       Opens a (record { lists = b.lists; point = b.point; code = two }) c place
   opened one two c place tests at jumps = record {
     emits = record {
@@ -76,12 +81,14 @@ next_or : {A : Type 0} (xs : List A) (i : ℕ) (d : A) → i < length xs → dro
 next_or xs i d lt = drop-cons xs i d lt ∙ ap (λ (k : ℕ). get_or xs i d ∷ drop k xs) (sym (add-one i))
 
 -- nothing is left
-pub none_left : {A B : Type 0} (all : List A → List B) (xs : List A) (i : ℕ) (done whole : List B) → length xs ≤ i → all [] ≡ [] → done ++ all (drop i xs) ≡ whole → done ≡ whole
+pub none_left : {A B : Type 0} (all : List A → List B) (xs : List A) (i : ℕ) (done whole : List B) → length xs ≤ i →
+    all [] ≡ [] → done ++ all (drop i xs) ≡ whole → done ≡ whole
 none_left {A = A} {B = B} all xs i done whole past none e =
     sym (append-nil done) ∙ ap (λ (l : List B). done ++ l) (sym (ap all (drop_past xs i past) ∙ none)) ∙ e
 
 module _ {A : Type 0} (part : A → List Instr) (all : List A → List Instr) (splits : (x : A) (xs : List A) → all (x ∷ xs) ≡ part x ++ all xs) where
-  turn : (xs : List A) (i : ℕ) (x : A) → drop i xs ≡ x ∷ drop (i + 1) xs → (code new : List Instr) → new ≡ code ++ part x →
+  turn : (xs : List A) (i : ℕ) (x : A) → drop i xs ≡ x ∷ drop (i + 1) xs → (code new : List Instr) →
+      new ≡ code ++ part x →
       new ++ all (drop (i + 1) xs) ≡ code ++ all (drop i xs)
   turn xs i x head code new added =
       ap (λ (l : List Instr). l ++ all (drop (i + 1) xs)) added ∙ append_assoc code (part x) (all (drop (i + 1) xs))
@@ -91,18 +98,21 @@ fields_split : (x : FieldStep) (xs : List FieldStep) → fields_code (x ∷ xs) 
 fields_split (Final s f) xs = refl
 fields_split (Field s f) xs = refl
 
-pub field_turn : (xs : List FieldStep) (i : ℕ) (d : FieldStep) (y : Instr) → i < length xs → y ≡ field_code (get_or xs i d) → (code new : List Instr) → new ≡ code ++ y ∷ [] →
+pub field_turn : (xs : List FieldStep) (i : ℕ) (d : FieldStep) (y : Instr) → i < length xs →
+    y ≡ field_code (get_or xs i d) → (code new : List Instr) → new ≡ code ++ y ∷ [] →
     new ++ fields_code (drop (i + 1) xs) ≡ code ++ fields_code (drop i xs)
 field_turn xs i d y lt one code new added =
     turn (λ (z : FieldStep). field_code z ∷ []) fields_code fields_split xs i (get_or xs i d) (next_or xs i d lt) code new (added ∙ ap (λ (z : Instr). code ++ z ∷ []) one)
 
-pub path_starts : (base new : List Instr) (path : Path) (items : List FieldStep) → new ≡ base ++ GetLocal path.local ∷ [] → items ≡ path.fields.items →
+pub path_starts : (base new : List Instr) (path : Path) (items : List FieldStep) →
+    new ≡ base ++ GetLocal path.local ∷ [] → items ≡ path.fields.items →
     new ++ fields_code items ≡ base ++ path_code path
 path_starts base new path items added is =
     ap (λ (l : List Instr). l ++ fields_code items) added ∙ append_assoc base (GetLocal path.local ∷ []) (fields_code items)
     ∙ ap (λ (fs : List FieldStep). base ++ (GetLocal path.local ∷ fields_code fs)) is
 
-pub operation_turn : (xs : List Operation) (i : ℕ) (x : Operation) → i < length xs → x ≡ get_or xs i x → (code one two : List Instr) → one ≡ code ++ expr_code x.operand →
+pub operation_turn : (xs : List Operation) (i : ℕ) (x : Operation) → i < length xs → x ≡ get_or xs i x →
+    (code one two : List Instr) → one ≡ code ++ expr_code x.operand →
     two ≡ one ++ Operate x.operator ∷ [] → two ++ operations_code (drop (i + 1) xs) ≡ code ++ operations_code (drop i xs)
 operation_turn xs i x lt is code one two e d =
     turn (λ (o : Operation). expr_code o.operand ++ Operate o.operator ∷ []) operations_code (λ o os. refl) xs i x (next_of xs i x lt is) code two
@@ -115,7 +125,8 @@ module _ (k : Connective) (xs : List Condition) (i : ℕ) (x : Condition) (lt : 
       turn (λ (c : Condition). test_code c ++ jump_of k 0 ∷ []) (blank k) (λ c cs. sym (append_assoc (test_code c) (jump_of k 0 ∷ []) (blank k cs))) xs i x (next_of xs i x lt is) code two
       (two_added code one two (test_code x) (jump_of k 0 ∷ []) tests (jumps ∙ ap (λ (j : Instr). one ++ j ∷ []) made))
 
-  pub places_turn : (before after : List ℕ) (n : ℕ) → n ≡ length one → after ≡ before ++ n ∷ [] → after ++ places (length two) (drop (i + 1) xs) ≡ before ++ places (length code) (drop i xs)
+  pub places_turn : (before after : List ℕ) (n : ℕ) → n ≡ length one → after ≡ before ++ n ∷ [] →
+      after ++ places (length two) (drop (i + 1) xs) ≡ before ++ places (length code) (drop i xs)
   places_turn before after n count pushed =
       let here = length code + length (test_code x) in
       let rest = drop (i + 1) xs in
@@ -128,14 +139,16 @@ module _ (k : Connective) (xs : List Condition) (i : ℕ) (x : Condition) (lt : 
 
 -- ---- the jumps of `&&` and `||`
 
-pub point_turn : (k : Connective) (end i : ℕ) (jumps : List ℕ) (code : List Instr) (jump : Instr) → i < length jumps → jump ≡ jump_of k (end - get_or jumps i 0 - 1) →
+pub point_turn : (k : Connective) (end i : ℕ) (jumps : List ℕ) (code : List Instr) (jump : Instr) → i < length jumps →
+    jump ≡ jump_of k (end - get_or jumps i 0 - 1) →
     pointed k end (drop (i + 1) jumps) (slice_set code (get_or jumps i 0) jump) ≡ pointed k end (drop i jumps) code
 point_turn k end i jumps code jump lt is =
     ap (λ (j : Instr). pointed k end (drop (i + 1) jumps) (slice_set code (get_or jumps i 0) j)) is
     ∙ ap (λ (m : ℕ). pointed k end (drop m jumps) (slice_set code (get_or jumps i 0) (jump_of k (end - get_or jumps i 0 - 1)))) (add-one i)
     ∙ sym (ap (λ (js : List ℕ). pointed k end js code) (drop-cons jumps i 0 lt))
 
-pub closes : (k : Connective) (jumps : List ℕ) (code whole at new : List Instr) (truth : ℤ) → whole ≡ code ++ Jump 1 ∷ [] → at ≡ pointed k (length whole) jumps whole →
+pub closes : (k : Connective) (jumps : List ℕ) (code whole at new : List Instr) (truth : ℤ) →
+    whole ≡ code ++ Jump 1 ∷ [] → at ≡ pointed k (length whole) jumps whole →
     truth ≡ decided k → new ≡ at ++ PushNumber truth ∷ [] → new ≡ closed k jumps code
 closes k jumps code whole at new truth is points tells put =
     put ∙ ap (λ (l : List Instr). l ++ PushNumber truth ∷ []) (points ∙ ap (λ (l : List Instr). pointed k (length l) jumps l) is)

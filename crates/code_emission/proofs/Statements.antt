@@ -1,5 +1,6 @@
 -- Statements with blocks, as they are emitted.
-use Rattle.std.proofs.Common.{◌≡◌, ℕ, ◌+◌, ◌-◌, ◌<◌, ◌≤◌, List, [], ◌∷◌, ◌++◌, length, sym, ap, subst, ◌∙◌, arith, append_assoc, length-append, Vec, Global}
+use Rattle.std.proofs.Common.{◌≡◌, ℕ, ◌+◌, ◌-◌, ◌<◌, ◌≤◌, List, [], ◌∷◌, ◌++◌, length, sym, ap, subst, ◌∙◌, arith}
+use Rattle.std.proofs.Common.{append_assoc, length-append, Vec, Global}
 use Rattle.std.proofs.Math.ListN.{length-set}
 use Rattle.core_lang.specs.declared.tree.Condition.{Condition}
 use Rattle.core_lang.specs.declared.tree.Stmt.{Stmt}
@@ -11,8 +12,10 @@ use Rattle.code_emission.specs.declared.assembler.Assembler.{Assembler}
 use Rattle.code_emission.specs.declared.emitter.Emitter.{Emitter}
 use Rattle.code_emission.specs.Working.Assembly.{Adds, Lands}
 use Rattle.code_emission.specs.Working.CodeLists.{points_of_all, sequence_code}
-use Rattle.code_emission.proofs.CodeViews.{points_of-If, points_of-IfElse, points_of-While, stmt_code-If, stmt_code-IfElse, stmt_code-While}
-use Rattle.code_emission.specs.Working.Emission.{lists_of, IsBefore, CodeAt, Emits, Opens, Skips, Joins, condition_code, choice_code, loop_code, statement_code}
+use Rattle.code_emission.proofs.CodeViews.{points_of-If, points_of-IfElse, points_of-While, stmt_code-If}
+use Rattle.code_emission.proofs.CodeViews.{stmt_code-IfElse, stmt_code-While}
+use Rattle.code_emission.specs.Working.Emission.{lists_of, IsBefore, CodeAt, Emits, Opens, Skips, Joins}
+use Rattle.code_emission.specs.Working.Emission.{condition_code, choice_code, loop_code, statement_code}
 use Rattle.code_emission.proofs.Landing.{landed}
 use Rattle.code_emission.proofs.Steps.{both, again, longer, same_lists, same_before}
 
@@ -46,7 +49,8 @@ module _ (c : Condition) (ss : List Stmt) (a b d : Emitter) (place : ℕ) (opens
       let l = ap length (opens.emits.writes p h) ∙ length-append a.code.instructions.items (test ++ JumpIfFalse 0 ∷ []) in
       omega (arith, opens.last, l, length-append test (JumpIfFalse 0 ∷ []), length-append a.code.instructions.items test)
 
-  pub choice_emitted : (e : Emitter) → e.lists ≡ d.lists → e.point ≡ d.point → Lands place d.code e.code → Emits a e (1 + points_of_all ss) (choice_code c ss)
+  pub choice_emitted : (e : Emitter) → e.lists ≡ d.lists → e.point ≡ d.point → Lands place d.code e.code →
+      Emits a e (1 + points_of_all ss) (choice_code c ss)
   choice_emitted e lists point lands =
       let whole = both a b d 1 (points_of_all ss) _ _ opens.emits block in
       record {
@@ -57,7 +61,8 @@ module _ (c : Condition) (ss : List Stmt) (a b d : Emitter) (place : ℕ) (opens
             ∙ append_assoc a.code.instructions.items (condition_code c (lists_of a) p) (JumpIfFalse (length (behind p)) ∷ behind p);
       }
 
-  pub loop_emitted : (put : Assembler) (e : Emitter) (start len : ℕ) → start ≡ length a.code.instructions.items → len ≡ length d.code.instructions.items →
+  pub loop_emitted : (put : Assembler) (e : Emitter) (start len : ℕ) → start ≡ length a.code.instructions.items →
+      len ≡ length d.code.instructions.items →
       Adds d.code put (JumpBack (len - start) ∷ []) → e.lists ≡ d.lists → e.point ≡ d.point → Lands place put e.code → Emits a e (1 + points_of_all ss) (loop_code c ss)
   loop_emitted put e start len from to adds lists point lands =
       let whole = both a b d 1 (points_of_all ss) _ _ opens.emits block in
@@ -131,7 +136,8 @@ module _ (c : Condition) (ss : List Stmt) (a b d : Emitter) (place : ℕ) (opens
         }
 
 -- the jump at the end of the first block stands in the code
-pub skip_within : (d s o : Emitter) (place skip n : ℕ) (f : CodeAt) → Skips place d s skip → Emits s o n f → skip < length o.code.instructions.items
+pub skip_within : (d s o : Emitter) (place skip n : ℕ) (f : CodeAt) → Skips place d s skip → Emits s o n f →
+    skip < length o.code.instructions.items
 skip_within d s o place skip n f skips second =
     let whole = d.code.instructions.items ++ Jump 0 ∷ [] in
     let l = ap length skips.code ∙ length-set whole place (JumpIfFalse (length whole - place - 1)) ∙ length-append d.code.instructions.items (Jump 0 ∷ []) in
@@ -139,16 +145,19 @@ skip_within d s o place skip n f skips second =
 
 -- ---- of the statements
 
-pub emits_as : (x y : Action) (a e : Emitter) → x ≡ y → Emits a e (points_of y) (statement_code y) → Emits a e (points_of x) (statement_code x)
+pub emits_as : (x y : Action) (a e : Emitter) → x ≡ y → Emits a e (points_of y) (statement_code y) →
+    Emits a e (points_of x) (statement_code x)
 emits_as x y a e is h = subst (λ (z : Action). Emits a e (points_of z) (statement_code z)) (sym is) h
 
-pub if_is : (x : Action) (c : Condition) (block : Vec Stmt Global) (items : List Stmt) (a e : Emitter) → x ≡ If c block → items ≡ block.items →
+pub if_is : (x : Action) (c : Condition) (block : Vec Stmt Global) (items : List Stmt) (a e : Emitter) →
+    x ≡ If c block → items ≡ block.items →
     Emits a e (1 + points_of_all items) (choice_code c items) → Emits a e (points_of x) (λ ls p. stmt_code ls x p)
 if_is x c block items a e is all h =
     again a e _ _ _ _ h (ap (λ i. 1 + points_of_all i) all ∙ sym (points_of-If c block) ∙ ap points_of (sym is))
     (λ ls p. ap (λ i. choice_code c i ls p) all ∙ sym (stmt_code-If ls c block p) ∙ ap (λ y. stmt_code ls y p) (sym is))
 
-pub while_is : (x : Action) (c : Condition) (body : Vec Stmt Global) (items : List Stmt) (a e : Emitter) → x ≡ While c body → items ≡ body.items →
+pub while_is : (x : Action) (c : Condition) (body : Vec Stmt Global) (items : List Stmt) (a e : Emitter) →
+    x ≡ While c body → items ≡ body.items →
     Emits a e (1 + points_of_all items) (loop_code c items) → Emits a e (points_of x) (λ ls p. stmt_code ls x p)
 while_is x c body items a e is all h =
     again a e _ _ _ _ h (ap (λ i. 1 + points_of_all i) all ∙ sym (points_of-While c body) ∙ ap points_of (sym is))

@@ -1,5 +1,6 @@
 -- Emission goes point after point.
-use Rattle.std.proofs.Common.{◌≡◌, ◌≢◌, ℕ, ◌+◌, ◌<◌, ◌≤◌, min, List, [], ◌∷◌, ◌++◌, length, take, get_or, Some, None, refl, sym, ap, subst, ◌∙◌, arith, append_assoc, append-nil, length-append, Vec, Global}
+use Rattle.std.proofs.Common.{◌≡◌, ◌≢◌, ℕ, ◌+◌, ◌<◌, ◌≤◌, min, List, [], ◌∷◌, ◌++◌, length, take, get_or, Some, None}
+use Rattle.std.proofs.Common.{refl, sym, ap, subst, ◌∙◌, arith, append_assoc, append-nil, length-append, Vec, Global}
 use Rattle.std.specs.Prelude.{slice_get, option_map}
 use Rattle.std.proofs.lemmas.List.{length-map, take_more}
 use Rattle.std.proofs.lemmas.Option.{slice_get-map, slice_get_past, slice_get_within}
@@ -26,7 +27,8 @@ same_before a b p lists point h =
     ap (λ x. min x (length (lists_of b))) point ∙ ap (min a.point) n ∙ h' ∙ ap (min p) (sym n)
 
 -- one after the other
-pub both : (a b c : Emitter) (m n : ℕ) (f g : CodeAt) → Emits a b m f → Emits b c n g → Emits a c (m + n) (λ ls p. f ls p ++ g ls (p + m))
+pub both : (a b c : Emitter) (m n : ℕ) (f g : CodeAt) → Emits a b m f → Emits b c n g →
+    Emits a c (m + n) (λ ls p. f ls p ++ g ls (p + m))
 both a b c m n f g x y = record {
   lists = y.lists ∙ x.lists;
   point = λ p h. let far : (p + m) + n ≡ p + (m + n) = omega arith in subst (IsBefore c) far (y.point (p + m) (x.point p h));
@@ -38,7 +40,8 @@ both a b c m n f g x y = record {
 }
 
 -- by equal numbers and equal code
-pub again : (a b : Emitter) (m n : ℕ) (f g : CodeAt) → Emits a b m f → m ≡ n → ((ls : List (List ℕ)) (p : ℕ) → f ls p ≡ g ls p) → Emits a b n g
+pub again : (a b : Emitter) (m n : ℕ) (f g : CodeAt) → Emits a b m f → m ≡ n →
+    ((ls : List (List ℕ)) (p : ℕ) → f ls p ≡ g ls p) → Emits a b n g
 again a b m n f g x e same = record {
   lists = x.lists;
   point = λ p h. subst (λ k. IsBefore b (p + k)) e (x.point p h);
@@ -46,7 +49,8 @@ again a b m n f g x e same = record {
 }
 
 -- code is never lost
-pub longer : (a b : Emitter) (n : ℕ) (f : CodeAt) → Emits a b n f → length a.code.instructions.items ≤ length b.code.instructions.items
+pub longer : (a b : Emitter) (n : ℕ) (f : CodeAt) → Emits a b n f →
+    length a.code.instructions.items ≤ length b.code.instructions.items
 longer a b n f x =
     let more = f (lists_of a) a.point in
     omega (arith, ap length (x.writes a.point refl) ∙ length-append a.code.instructions.items more)
@@ -65,7 +69,8 @@ past_the_last a past =
           sym (append-nil a.code.instructions.items) ∙ ap (λ l. a.code.instructions.items ++ acquire_any l p) (sym none);
     }
 
-pub at_a_list : (a b : Emitter) (list : Vec ℕ Global) → slice_get a.lists.now a.point ≡ Some list → b.lists ≡ a.lists → b.point ≡ a.point + 1 →
+pub at_a_list : (a b : Emitter) (list : Vec ℕ Global) → slice_get a.lists.now a.point ≡ Some list →
+    b.lists ≡ a.lists → b.point ≡ a.point + 1 →
     b.code.instructions.items ≡ a.code.instructions.items ++ acquire_any (Some list.items) a.point → Emits a b 1 (λ ls p. acquire_code ls p)
 at_a_list a b list at lists point code =
     let n : length (lists_of a) ≡ length a.lists.now = length-map a.lists.now _ in
@@ -90,14 +95,16 @@ not_acquired : (items : List ℕ) (point : ℕ) → length items ≡ 0 → acqui
 not_acquired [] point none = refl
 not_acquired (x ∷ items) point none = absurd (omega arith)
 
-pub at_some_list : (a b : Emitter) (put : Assembler) (list : Vec ℕ Global) → slice_get a.lists.now a.point ≡ Some list → length list.items ≢ 0 →
+pub at_some_list : (a b : Emitter) (put : Assembler) (list : Vec ℕ Global) →
+    slice_get a.lists.now a.point ≡ Some list → length list.items ≢ 0 →
     b ≡ record { lists = a.lists; point = a.point; code = put } → Adds a.code put (Acquire a.point ∷ []) →
     Emits a (record { lists = b.lists; point = b.point + 1; code = b.code }) 1 (λ ls p. acquire_code ls p)
 at_some_list a b put list at some is adds =
     at_a_list a (record { lists = b.lists; point = b.point + 1; code = b.code }) list at (ap (λ (e : Emitter). e.lists) is) (ap (λ (e : Emitter). e.point + 1) is)
     (ap (λ (e : Emitter). e.code.instructions.items) is ∙ adds ∙ ap (λ l. a.code.instructions.items ++ l) (sym (acquired list.items a.point some)))
 
-pub at_no_path : (a b : Emitter) (list : Vec ℕ Global) → slice_get a.lists.now a.point ≡ Some list → length list.items ≡ 0 → b ≡ a →
+pub at_no_path : (a b : Emitter) (list : Vec ℕ Global) → slice_get a.lists.now a.point ≡ Some list →
+    length list.items ≡ 0 → b ≡ a →
     Emits a (record { lists = b.lists; point = b.point + 1; code = b.code }) 1 (λ ls p. acquire_code ls p)
 at_no_path a b list at none is =
     at_a_list a (record { lists = b.lists; point = b.point + 1; code = b.code }) list at (ap (λ (e : Emitter). e.lists) is) (ap (λ (e : Emitter). e.point + 1) is)
@@ -130,7 +137,8 @@ block_turn ss i s a b c is h x y =
 
 -- ---- a whole section
 
-pub section_emitted : (a b : Emitter) (code : List Instr) (ls : List (List ℕ)) (section : Section) (ss : List Stmt) → lists_of a ≡ ls → a.point ≡ 0 →
+pub section_emitted : (a b : Emitter) (code : List Instr) (ls : List (List ℕ)) (section : Section) (ss : List Stmt) →
+    lists_of a ≡ ls → a.point ≡ 0 →
     a.code.instructions.items ≡ [] → ss ≡ section.body.items → Emits a b (points_of_all ss) (λ ls p. sequence_code ls ss p) →
     ((p : ℕ) → IsBefore b p → code ≡ b.code.instructions.items ++ end_code (lists_of b) section.result p) → code ≡ section_code ls section
 section_emitted a b code ls section ss is at_first empty body x ends =

@@ -1,16 +1,20 @@
 -- Programs that stand for one resolved program have the same accesses, lock paths and faults of these, wherever they lie in memory.
-use Rattle.std.proofs.Common.{◌≡◌, ℕ, zero, suc, List, [], ◌∷◌, ◌++◌, length, Option, Some, None, if◌then◌else◌, refl, sym, ap, subst, ◌∙◌, arith}
+use Rattle.std.proofs.Common.{◌≡◌, ℕ, zero, suc, List, [], ◌∷◌, ◌++◌, length, Option, Some, None, if◌then◌else◌, refl}
+use Rattle.std.proofs.Common.{sym, ap, subst, ◌∙◌, arith}
 use Rattle.std.specs.Prelude.{map, option_map, slice_get, ◌==◌}
 use Rattle.std.specs.List.{Contains, filter_map, flat_map, cons_option}
 use Rattle.source.specs.declared.fault.Code.{Code}
 use Rattle.core_lang.specs.declared.tree.FieldStep.{FieldStep}
 use Rattle.core_lang.specs.declared.tree.Expr as e
-use Rattle.core_lang.specs.declared.tree.Expr.{Number, Null, Place, Global, Element', Member', Negate', Owned', Chain', Row_of-Operation, end_of-Operation, more_of-Operation}
+use Rattle.core_lang.specs.declared.tree.Expr.{Number, Null, Place, Global, Element', Member', Negate', Owned'}
+use Rattle.core_lang.specs.declared.tree.Expr.{Chain', Row_of-Operation, end_of-Operation, more_of-Operation}
 use Rattle.core_lang.specs.declared.tree.Condition as c
-use Rattle.core_lang.specs.declared.tree.Condition.{Compare, Not', And', Or', Row_of-Condition, end_of-Condition, more_of-Condition}
+use Rattle.core_lang.specs.declared.tree.Condition.{Compare, Not', And', Or', Row_of-Condition, end_of-Condition}
+use Rattle.core_lang.specs.declared.tree.Condition.{more_of-Condition}
 use Rattle.core_lang.specs.declared.tree.Stmt as s
 use Rattle.core_lang.specs.declared.tree.Action as a
-use Rattle.core_lang.specs.declared.tree.Action.{Bind, SetLocal, SetGlobal, SetElement, SetField, Call as CallOf, Print, If', IfElse', While', Row_of-Stmt, end_of-Stmt, more_of-Stmt}
+use Rattle.core_lang.specs.declared.tree.Action.{Bind, SetLocal, SetGlobal, SetElement, SetField, Call as CallOf}
+use Rattle.core_lang.specs.declared.tree.Action.{Print, If', IfElse', While', Row_of-Stmt, end_of-Stmt, more_of-Stmt}
 use Rattle.core_lang.specs.declared.tree.Return as the_return
 use Rattle.core_lang.specs.declared.tree.Section as the_section
 use Rattle.core_lang.specs.declared.typed.Owner.{Owner}
@@ -23,14 +27,28 @@ use Rattle.core_lang.specs.declared.typed.Field as the_field
 use Rattle.core_lang.specs.declared.typed.Struct as the_struct
 use Rattle.core_lang.specs.declared.typed.Typed.{Typed}
 use Rattle.core_lang.specs.Typing.{lookup}
-use Rattle.resolution.specs.Core.{Expr, number, null, place, global, element, member, negate, owned, chain, Operations, no_operations, operation, Condition, compare, negation, all_of, any_of, Conditions, no_conditions, condition, Action, bind, set_local, set_global, set_element, set_field, call, print, if_true, if_else, while_true, Stmts, no_stmts, stmt, Return, Local, Section, LockClass, global_lock, lock_field, Protection, Field, Struct, GlobalVariable, Array, Program}
-use Rattle.resolution.specs.CoreViews.{core_expr, core_operations_row, core_condition, core_conditions_row, core_action, core_stmts_row, core_stmts, core_return, core_local, core_section, core_class, core_protection, core_field, core_struct, core_global, core_array, core_of}
+use Rattle.resolution.specs.Core.{Expr, number, null, place, global, element, member, negate, owned, chain}
+use Rattle.resolution.specs.Core.{Operations, no_operations, operation, Condition, compare, negation, all_of, any_of}
+use Rattle.resolution.specs.Core.{Conditions, no_conditions, condition, Action, bind, set_local, set_global}
+use Rattle.resolution.specs.Core.{set_element, set_field, call, print, if_true, if_else, while_true, Stmts, no_stmts}
+use Rattle.resolution.specs.Core.{stmt, Return, Local, Section, LockClass, global_lock, lock_field, Protection, Field}
+use Rattle.resolution.specs.Core.{Struct, GlobalVariable, Array, Program}
+use Rattle.resolution.specs.CoreViews.{core_expr, core_operations_row, core_condition, core_conditions_row}
+use Rattle.resolution.specs.CoreViews.{core_action, core_stmts_row, core_stmts, core_return, core_local, core_section}
+use Rattle.resolution.specs.CoreViews.{core_class, core_protection, core_field, core_struct, core_global, core_array}
+use Rattle.resolution.specs.CoreViews.{core_of}
 use Rattle.flow.specs.Points.{Point, statement, result, inner_points, points_in, points_of_all, point_of_return, points}
 use Rattle.locks.specs.declared.path.Root.TheVariants as root
-use Rattle.locks.specs.Accesses.{Access, Target, global as at_global, element as at_element, field as at_field, along, access, in_path, in_expr, in_exprs, in_operations, in_condition, in_conditions, in_action, accesses_at, accesses}
+use Rattle.locks.specs.Accesses.{Access, Target, global as at_global, element as at_element, field as at_field, along}
+use Rattle.locks.specs.Accesses.{access, in_path, in_expr, in_exprs, in_operations, in_condition, in_conditions}
+use Rattle.locks.specs.Accesses.{in_action, accesses_at, accesses}
 use Rattle.locks.specs.Locks.{protection_of}
-use Rattle.locks.specs.LockPaths.{StablePath, OwnerPath, is_fixed, all_final, stable, stable_value, owner_of, owned_path, Binding, binding_at, bindings, or_behind, replaced, all_replaced, normal_form, extended, normal_base, LockPath, global_path, under, class_if_global, target_path, lock_path, paths_of, each_once}
-use Rattle.locks.specs.Faults.{HasSection, IsFault, Named, where_at, IsUnstable, IsUnstableOwner, IsOverLimit, unstable, unstable_owner, one_too_many, unstable_base, unstable_owner_base, over_limit}
+use Rattle.locks.specs.LockPaths.{StablePath, OwnerPath, is_fixed, all_final, stable, stable_value, owner_of}
+use Rattle.locks.specs.LockPaths.{owned_path, Binding, binding_at, bindings, or_behind, replaced, all_replaced}
+use Rattle.locks.specs.LockPaths.{normal_form, extended, normal_base, LockPath, global_path, under, class_if_global}
+use Rattle.locks.specs.LockPaths.{target_path, lock_path, paths_of, each_once}
+use Rattle.locks.specs.Faults.{HasSection, IsFault, Named, where_at, IsUnstable, IsUnstableOwner, IsOverLimit}
+use Rattle.locks.specs.Faults.{unstable, unstable_owner, one_too_many, unstable_base, unstable_owner_base, over_limit}
 use Rattle.core_lang.specs.Theory.Items.{get_mapped}
 
 -- ---- lists and lookups seen by a view
@@ -42,19 +60,23 @@ mapped_append : {A B : Type 0} (f : A → B) (xs ys : List A) → map f (xs ++ y
 mapped_append f [] ys = refl
 mapped_append f (x ∷ xs) ys = ap (λ zs. f x ∷ zs) (mapped_append f xs ys)
 
-looked : {A B C : Type 0} (f : A → B) (o : Option A) (g : B → Option C) → lookup (option_map f o) g ≡ lookup o (λ x. g (f x))
+looked : {A B C : Type 0} (f : A → B) (o : Option A) (g : B → Option C) →
+    lookup (option_map f o) g ≡ lookup o (λ x. g (f x))
 looked f (Some x) g = refl
 looked f None g = refl
 
-pub looked_at : {A B C : Type 0} (f : A → B) (xs : List A) (k : ℕ) (g : B → Option C) → lookup (slice_get (map f xs) k) g ≡ lookup (slice_get xs k) (λ x. g (f x))
+pub looked_at : {A B C : Type 0} (f : A → B) (xs : List A) (k : ℕ) (g : B → Option C) →
+    lookup (slice_get (map f xs) k) g ≡ lookup (slice_get xs k) (λ x. g (f x))
 looked_at f xs k g = ap (λ o. lookup o g) (get_mapped f xs k) ∙ looked f (slice_get xs k) g
 
-viewed : {A B C : Type 0} (f : B → C) (o : Option A) (g : A → Option B) → option_map f (lookup o g) ≡ lookup o (λ x. option_map f (g x))
+viewed : {A B C : Type 0} (f : B → C) (o : Option A) (g : A → Option B) →
+    option_map f (lookup o g) ≡ lookup o (λ x. option_map f (g x))
 viewed f (Some x) g = refl
 viewed f None g = refl
 
 -- what a view has, is the view of something
-pub viewed_as : {A B : Type 0} (f : A → B) (o : Option A) (y : B) → option_map f o ≡ Some y → (x : A) × (o ≡ Some x) × (f x ≡ y)
+pub viewed_as : {A B : Type 0} (f : A → B) (o : Option A) (y : B) → option_map f o ≡ Some y →
+    (x : A) × (o ≡ Some x) × (f x ≡ y)
 viewed_as f (Some x) y is = (x, refl, cc)
 viewed_as f None y is = cc
 
@@ -230,7 +252,8 @@ stable_of locals k fields =
     lookup (slice_get locals k) (λ (l : Local).
     if is_fixed l.kind then option_map (λ finals. record { root = k; finals = finals }) (all_final fields) else None)
 
-stable_alike : (x : the_section.Section) (k : ℕ) (fields : List FieldStep) → stable x k fields ≡ stable_of (core_section x).locals k fields
+stable_alike : (x : the_section.Section) (k : ℕ) (fields : List FieldStep) →
+    stable x k fields ≡ stable_of (core_section x).locals k fields
 stable_alike x k fields = sym (looked_at core_local x.locals.items k (λ (l : Local).
     if is_fixed l.kind then option_map (λ finals. record { root = k; finals = finals }) (all_final fields) else None))
 
@@ -282,7 +305,8 @@ bound_by locals (at_statement start (bind local v)) = Some (record { local = loc
 bound_by locals (at_statement start (call helper xs (Some local))) = Some (record { local = local; owner = None; value = None })
 bound_by locals _ = None
 
-bound_alike : (x : the_section.Section) (p : Point) → option_map (bound_to x) (binding_at p) ≡ bound_by (core_section x).locals (spot p)
+bound_alike : (x : the_section.Section) (p : Point) →
+    option_map (bound_to x) (binding_at p) ≡ bound_by (core_section x).locals (spot p)
 bound_alike x (statement start (Bind local v)) = λ i. Some (record { local = local; owner = owner_alike x v i; value = value_alike x v i })
 bound_alike x (statement start (SetLocal local v)) = refl
 bound_alike x (statement start (SetGlobal cell v)) = refl
@@ -296,7 +320,8 @@ bound_alike x (statement start (IfElse' v _ block _ otherwise)) = refl
 bound_alike x (statement start (While' v _ body)) = refl
 bound_alike x (result r) = refl
 
-cons_mapped : {A B : Type 0} (f : A → B) (o : Option A) (xs : List A) → map f (cons_option o xs) ≡ cons_option (option_map f o) (map f xs)
+cons_mapped : {A B : Type 0} (f : A → B) (o : Option A) (xs : List A) →
+    map f (cons_option o xs) ≡ cons_option (option_map f o) (map f xs)
 cons_mapped f (Some x) xs = refl
 cons_mapped f None xs = refl
 
@@ -318,14 +343,16 @@ replaced_by [] path = path
 replaced_by (b ∷ bs) path =
     let rest = replaced_by bs path in if b.local == rest.root then or_behind (owned_path b.owner rest) b.value rest else rest
 
-replaced_alike : (x : the_section.Section) (bs : List Binding) (path : StablePath) → all_replaced x bs path ≡ replaced_by (map (bound_to x) bs) path
+replaced_alike : (x : the_section.Section) (bs : List Binding) (path : StablePath) →
+    all_replaced x bs path ≡ replaced_by (map (bound_to x) bs) path
 replaced_alike x [] path = refl
 replaced_alike x (b ∷ bs) path = ap (replaced x b) (replaced_alike x bs path)
 
 abbrev normal_form_of : Section → StablePath → StablePath
 normal_form_of x path = replaced_by (all_bound x) path
 
-normal_form_alike : (x : the_section.Section) (path : StablePath) → normal_form x path ≡ normal_form_of (core_section x) path
+normal_form_alike : (x : the_section.Section) (path : StablePath) →
+    normal_form x path ≡ normal_form_of (core_section x) path
 normal_form_alike x path = replaced_alike x (bindings x) path ∙ ap (λ bs. replaced_by bs path) (bindings_alike x)
 
 -- ---- lock paths
@@ -334,7 +361,8 @@ abbrev protection_by : Program → ℕ → ℕ → Option Protection
 protection_by program k f =
     lookup (slice_get program.structs k) (λ (x : Struct). lookup (slice_get x.fields f) (λ (y : Field). Some y.protection))
 
-protection_alike : (program : Typed) (k f : ℕ) → option_map core_protection (protection_of program k f) ≡ protection_by (core_of program) k f
+protection_alike : (program : Typed) (k f : ℕ) →
+    option_map core_protection (protection_of program k f) ≡ protection_by (core_of program) k f
 protection_alike program k f =
     viewed core_protection (slice_get program.structs.items k) _
     ∙ (λ i. lookup (slice_get program.structs.items k) (λ (x : the_struct.Struct). in_struct x i))
@@ -352,7 +380,8 @@ under_class (global_lock name) p base = Some (global_path p.class)
 under_class (lock_field k l) p base =
     option_map (λ (b : StablePath). record { root = root.Local b.root; finals = b.finals; class = p.class }) base
 
-under_alike : (x : the_class.LockClass) (p : the_protection.Protection) (base : Option StablePath) → under x p base ≡ under_class (core_class x) (core_protection p) base
+under_alike : (x : the_class.LockClass) (p : the_protection.Protection) (base : Option StablePath) →
+    under x p base ≡ under_class (core_class x) (core_protection p) base
 under_alike (class_case.Global name) p base = refl
 under_alike (class_case.Field k l) p base = refl
 
@@ -448,7 +477,8 @@ in_view f [] x c = absurd (omega (arith, c.1))
 in_view f (y ∷ xs) x (zero, lt, e) = (0, omega arith, ap f e)
 in_view f (y ∷ xs) x (suc k, lt, e) = let r = in_view f xs x (k, omega (arith, lt), e) in (suc r.0, omega (arith, r.1), r.2)
 
-from_view : {A B : Type 0} (f : A → B) (xs : List A) (b : B) → Contains (map f xs) b → (x : A) × Contains xs x × (f x ≡ b)
+from_view : {A B : Type 0} (f : A → B) (xs : List A) (b : B) → Contains (map f xs) b →
+    (x : A) × Contains xs x × (f x ≡ b)
 from_view f [] b c = absurd (omega (arith, c.1))
 from_view f (y ∷ xs) b (zero, lt, e) = (y, (0, omega arith, refl), e)
 from_view f (y ∷ xs) b (suc k, lt, e) =
@@ -464,7 +494,8 @@ module _ (program other : Typed) (same : core_of program ≡ core_of other) wher
       let found = viewed_as core_section (slice_get other.sections.items k) (core_section x) (sym (get_mapped core_section other.sections.items k) ∙ seen) in
       (found.0, found.1, sym found.2)
 
-  section_alike : (x : the_section.Section) → HasSection program x → (y : the_section.Section) × HasSection other y × (core_section x ≡ core_section y)
+  section_alike : (x : the_section.Section) → HasSection program x →
+      (y : the_section.Section) × HasSection other y × (core_section x ≡ core_section y)
   section_alike x (k, at) =
       let found = section_at k x at in
       (found.0, (k, found.1), found.2)

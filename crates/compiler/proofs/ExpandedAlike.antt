@@ -11,14 +11,20 @@ use Rattle.core_lang.specs.declared.typed.Struct as the_struct
 use Rattle.core_lang.specs.declared.typed.Thread as the_thread
 use Rattle.core_lang.specs.Expansion.{ArrayData, array_data, PoolData, pool_data, IsWrittenOut}
 use Rattle.core_lang.specs.WrittenLocals.{AreWrittenLocals}
-use Rattle.core_lang_expansion.specs.Data.{Numbered, lock_field_data, final_data, ClassData, NamedLock, FieldLock, class_data, FieldData, field_data, StructData, struct_data, GlobalData, global_data, CallData, call_data, ThreadData, thread_data, HeadData, head_data, IsExpanded}
-use Rattle.resolution.specs.Core.{Section, LockClass, global_lock, lock_field, LockField, FinalField, Field, Struct, GlobalVariable, Array, Pool, Call, Thread, Program}
-use Rattle.resolution.specs.CoreViews.{core_section, core_class, core_lock, core_final, core_field, core_struct, core_global, core_array, core_pool, core_call, core_thread, core_of}
+use Rattle.core_lang_expansion.specs.Data.{Numbered, lock_field_data, final_data, ClassData, NamedLock, FieldLock}
+use Rattle.core_lang_expansion.specs.Data.{class_data, FieldData, field_data, StructData, struct_data, GlobalData}
+use Rattle.core_lang_expansion.specs.Data.{global_data, CallData, call_data, ThreadData, thread_data, HeadData}
+use Rattle.core_lang_expansion.specs.Data.{head_data, IsExpanded}
+use Rattle.resolution.specs.Core.{Section, LockClass, global_lock, lock_field, LockField, FinalField, Field, Struct}
+use Rattle.resolution.specs.Core.{GlobalVariable, Array, Pool, Call, Thread, Program}
+use Rattle.resolution.specs.CoreViews.{core_section, core_class, core_lock, core_final, core_field, core_struct}
+use Rattle.resolution.specs.CoreViews.{core_global, core_array, core_pool, core_call, core_thread, core_of}
 use Rattle.compiler.proofs.WrittenAlike.{body_alike}
 use Rattle.compiler.proofs.LocalsAlike.{mapped_twice, locals_alike}
 
 -- what is seen by one view is seen by another that goes on from it
-seen_so : {A B C : Type 0} (f : A → B) (g : B → C) (h : A → C) (xs ys : List A) → ((x : A) → g (f x) ≡ h x) → map f ys ≡ map f xs → map h ys ≡ map h xs
+seen_so : {A B C : Type 0} (f : A → B) (g : B → C) (h : A → C) (xs ys : List A) → ((x : A) → g (f x) ≡ h x) →
+    map f ys ≡ map f xs → map h ys ≡ map h xs
 seen_so f g h xs ys same e = sym (mapped_twice f g h ys same) ∙ ap (map g) e ∙ mapped_twice f g h xs same
 
 abbrev class_of : ClassData → LockClass
@@ -70,7 +76,8 @@ thread_is t =
 
 -- ---- sections
 
-section_alike : (shape shape' : Shape) (x y x' y' : the_section.Section) → map core_section shape.helpers.items ≡ map core_section shape'.helpers.items →
+section_alike : (shape shape' : Shape) (x y x' y' : the_section.Section) →
+    map core_section shape.helpers.items ≡ map core_section shape'.helpers.items →
     core_section x ≡ core_section y → IsWrittenOut shape x x' → AreWrittenLocals shape x x' → head_data x' ≡ head_data x → IsWrittenOut shape' y y' → AreWrittenLocals shape' y y' →
     head_data y' ≡ head_data y → core_section x' ≡ core_section y'
 section_alike shape shape' x y x' y' helpers same out locals head out' locals' head' =
@@ -81,7 +88,8 @@ section_alike shape shape' x y x' y' helpers same out locals head out' locals' h
     let result = ap (λ (h : HeadData). h.result_type) head ∙ ap (λ (z : Section). z.result_type) same ∙ sym (ap (λ (h : HeadData). h.result_type) head') in
     λ i. record { name = name i; parameters = parameters i; locals = own i; result_type = result i; body = body.0 i; result = body.1 i }
 
-sections_alike : (shape shape' : Shape) (xs ys xs' ys' : List the_section.Section) → map core_section shape.helpers.items ≡ map core_section shape'.helpers.items →
+sections_alike : (shape shape' : Shape) (xs ys xs' ys' : List the_section.Section) →
+    map core_section shape.helpers.items ≡ map core_section shape'.helpers.items →
     map core_section xs ≡ map core_section ys → AllZip (IsWrittenOut shape) xs xs' → AllZip (AreWrittenLocals shape) xs xs' → map head_data xs' ≡ map head_data xs →
     AllZip (IsWrittenOut shape') ys ys' → AllZip (AreWrittenLocals shape') ys ys' → map head_data ys' ≡ map head_data ys → map core_section xs' ≡ map core_section ys'
 sections_alike shape shape' [] [] [] [] helpers same out locals heads out' locals' heads' = refl
@@ -103,7 +111,8 @@ sections_alike shape shape' (x ∷ xs) (y ∷ ys) [] ys' helpers same out locals
 sections_alike shape shape' (x ∷ xs) (y ∷ ys) (x' ∷ xs') [] helpers same out locals heads out' locals' heads' = absurd out'
 
 -- what holds at each place, of lists of one length
-zipped : {X : Type 0} (R S : X → X → Type 0) (xs ys : List X) → ((k : ℕ) (x : X) → slice_get xs k ≡ Some x → (y : X) × (slice_get ys k ≡ Some y) × R x y) → AllZip S xs ys →
+zipped : {X : Type 0} (R S : X → X → Type 0) (xs ys : List X) →
+    ((k : ℕ) (x : X) → slice_get xs k ≡ Some x → (y : X) × (slice_get ys k ≡ Some y) × R x y) → AllZip S xs ys →
     AllZip R xs ys
 zipped R S [] [] there same = tt
 zipped R S [] (y ∷ ys) there same = absurd same
@@ -115,7 +124,8 @@ zipped R S (x ∷ xs) (y ∷ ys) there same =
 
 -- ---- programs
 
-pub expanded_alike : (program other written written' : Typed) → core_of program ≡ core_of other → IsExpanded program written → IsExpanded other written' →
+pub expanded_alike : (program other written written' : Typed) → core_of program ≡ core_of other →
+    IsExpanded program written → IsExpanded other written' →
     core_of written ≡ core_of written'
 expanded_alike program other written written' same out out' =
     let helpers : map core_section program.shape.helpers.items ≡ map core_section other.shape.helpers.items = ap (λ (p : Program). p.helpers) same in

@@ -29,7 +29,8 @@ tokens_end total source _ (at_end gap) none = none.0 refl
 tokens_end total source _ (token next within rest) none = tokens_end total _ _ rest none.1
 
 -- tokens with a tree have no fault but a misplaced return
-pub tokens_faultless : (source : List ℕ) (ts : List Tok) (tree : List Decl) (code : Code) (start : ℕ) → text.HasTokens source ts
+pub tokens_faultless : (source : List ℕ) (ts : List Tok) (tree : List Decl) (code : Code) (start : ℕ) →
+    text.HasTokens source ts
     → grammar.HasRightTree ts tree → ((s : ℕ) → IsMisplaced ts s → ⊥) → grammar.IsFault ts code start → ⊥
 tokens_faultless source ts tree _ _ has right placed (unended none) = tokens_end (length source) source ts has none
 tokens_faultless source ts tree _ _ has right placed (unexpected u) =
@@ -53,13 +54,15 @@ module _ (source : List ℕ) (ts : List Tok) (tree : List Decl) (program written
       only decls (subst (λ (o : List Tok). grammar.HasRightTree o decls) (sym (one tokens within others)) rights)
 
   -- and what it means is one program but for where that lies
-  program_same : (other : Typed) (decls : List Decl) → tree ≡ decls → Resolves decls other → core_of other ≡ core_of program
+  program_same : (other : Typed) (decls : List Decl) → tree ≡ decls → Resolves decls other →
+      core_of other ≡ core_of program
   program_same other decls same resolves =
       let both : Some (core_of other) ≡ Some (core_of program) = sym resolves ∙ ap resolved (sym same) ∙ means in
       cc
 
   -- and with its helpers written out it is one, too
-  written_same : (other out : Typed) (decls : List Decl) → tree ≡ decls → Resolves decls other → IsExpanded other out → core_of out ≡ core_of written
+  written_same : (other out : Typed) (decls : List Decl) → tree ≡ decls → Resolves decls other →
+      IsExpanded other out → core_of out ≡ core_of written
   written_same other out decls same resolves is = expanded_alike other program out written (program_same other decls same resolves) is expanded
 
   faultless_within : length source ≤ SOURCE_LIMIT → (fault : the_fault.Fault) → HasFault source fault → ⊥

@@ -7,11 +7,15 @@ use Rattle.core_lang.specs.declared.tree.LocalKind.TheVariants.{Let}
 use Rattle.core_lang.specs.declared.tree.Local as the_local
 use Rattle.core_lang.specs.declared.tree.Stmt as the_stmt
 use Rattle.core_lang.specs.declared.tree.Action as the_action
-use Rattle.core_lang.specs.declared.tree.Action.{Bind, SetLocal, SetGlobal, SetElement, SetField, Call as CallOf, Print, If', IfElse', While', Row_of-Stmt, end_of-Stmt, more_of-Stmt}
+use Rattle.core_lang.specs.declared.tree.Action.{Bind, SetLocal, SetGlobal, SetElement, SetField, Call as CallOf}
+use Rattle.core_lang.specs.declared.tree.Action.{Print, If', IfElse', While', Row_of-Stmt, end_of-Stmt, more_of-Stmt}
 use Rattle.core_lang.specs.declared.tree.Section as the_section
 use Rattle.core_lang.specs.Meaning.{deepest}
-use Rattle.core_lang.specs.WrittenLocals.{LocalData, local_data, parameter_data, own_local, hidden_local, Brought, locals_by, locals_in, locals_in_all, brought_by, brought, written_locals, AreWrittenLocals}
-use Rattle.resolution.specs.Core.{Action, bind, call, if_true, if_else, while_true, Stmts, no_stmts, stmt, Local, Section}
+use Rattle.core_lang.specs.WrittenLocals.{LocalData, local_data, parameter_data, own_local, hidden_local, Brought}
+use Rattle.core_lang.specs.WrittenLocals.{locals_by, locals_in, locals_in_all, brought_by, brought, written_locals}
+use Rattle.core_lang.specs.WrittenLocals.{AreWrittenLocals}
+use Rattle.resolution.specs.Core.{Action, bind, call, if_true, if_else, while_true, Stmts, no_stmts, stmt, Local}
+use Rattle.resolution.specs.Core.{Section}
 use Rattle.resolution.specs.CoreViews.{core_action, core_stmts_row, core_stmts, core_local, core_section}
 use Rattle.core_lang.specs.Theory.Items.{get_mapped}
 
@@ -71,7 +75,8 @@ mapped_both : {A B : Type 0} (f : A → B) (xs ys : List A) → map f (xs ++ ys)
 mapped_both f [] ys = refl
 mapped_both f (x ∷ xs) ys = ap (λ zs. f x ∷ zs) (mapped_both f xs ys)
 
-pub mapped_twice : {A B C : Type 0} (f : A → B) (g : B → C) (h : A → C) (xs : List A) → ((x : A) → g (f x) ≡ h x) → map g (map f xs) ≡ map h xs
+pub mapped_twice : {A B C : Type 0} (f : A → B) (g : B → C) (h : A → C) (xs : List A) → ((x : A) → g (f x) ≡ h x) →
+    map g (map f xs) ≡ map h xs
 mapped_twice f g h [] same = refl
 mapped_twice f g h (x ∷ xs) same = λ i. same x i ∷ mapped_twice f g h xs same i
 
@@ -84,7 +89,8 @@ own_is : (o : Option the_local.Local) → map local_of (own_local o) ≡ own_out
 own_is (Some l) = refl
 own_is None = refl
 
-own_at : (own : List the_local.Local) (k : ℕ) → map local_of (own_local (slice_get own k)) ≡ own_out (slice_get (map core_local own) k)
+own_at : (own : List the_local.Local) (k : ℕ) →
+    map local_of (own_local (slice_get own k)) ≡ own_out (slice_get (map core_local own) k)
 own_at own k = own_is (slice_get own k) ∙ ap own_out (sym (get_mapped core_local own k))
 
 hidden_is : (t : Option ValueType) → map local_of (hidden_local t) ≡ hidden_out t
@@ -96,7 +102,8 @@ brings_of b = record { locals = map local_of b.locals; result_type = b.result_ty
 
 module _ (brings : ℕ → Brought) (out : ℕ → Brings) (same : (k : ℕ) → brings_of (brings k) ≡ out k) (own : List the_local.Local) where
   mutual
-    locals_are : (v : the_action.Action) → map local_of (locals_by brings own v) ≡ locals_out out (map core_local own) (core_action v)
+    locals_are : (v : the_action.Action) →
+        map local_of (locals_by brings own v) ≡ locals_out out (map core_local own) (core_action v)
     locals_are (Bind k v) = own_at own k
     locals_are (SetLocal k v) = refl
     locals_are (SetGlobal cell v) = refl
@@ -113,11 +120,13 @@ module _ (brings : ℕ → Brought) (out : ℕ → Brings) (same : (k : ℕ) →
         mapped_both local_of (locals_in brings own block) (locals_in brings own otherwise) ∙ (λ i. row_locals_are block i ++ row_locals_are otherwise i)
     locals_are (While' t m body) = row_locals_are body
 
-    row_locals_are : {m : _} (row : Row_of-Stmt m) → map local_of (locals_in brings own row) ≡ all_locals_out out (map core_local own) (core_stmts_row row)
+    row_locals_are : {m : _} (row : Row_of-Stmt m) →
+        map local_of (locals_in brings own row) ≡ all_locals_out out (map core_local own) (core_stmts_row row)
     row_locals_are end_of-Stmt = refl
     row_locals_are (more_of-Stmt start v rest) = mapped_both local_of (locals_by brings own v) (locals_in brings own rest) ∙ (λ i. locals_are v i ++ row_locals_are rest i)
 
-  all_locals_are : (xs : List the_stmt.Stmt) → map local_of (locals_in_all brings own xs) ≡ all_locals_out out (map core_local own) (core_stmts xs)
+  all_locals_are : (xs : List the_stmt.Stmt) →
+      map local_of (locals_in_all brings own xs) ≡ all_locals_out out (map core_local own) (core_stmts xs)
   all_locals_are [] = refl
   all_locals_are (v ∷ xs) = mapped_both local_of (locals_by brings own v.action) (locals_in_all brings own xs) ∙ (λ i. locals_are v.action i ++ all_locals_are xs i)
 
@@ -127,7 +136,8 @@ brought_of depth shape h = record {
   result_type = h.result_type;
 }
 
-found_brings : (depth : ℕ) (shape : Shape) (helpers : List Section) → ((k : ℕ) → brings_of (brought depth shape k) ≡ brings_out helpers depth k) → (o : Option the_section.Section) →
+found_brings : (depth : ℕ) (shape : Shape) (helpers : List Section) →
+    ((k : ℕ) → brings_of (brought depth shape k) ≡ brings_out helpers depth k) → (o : Option the_section.Section) →
     brings_of (brought_by o (brought_of depth shape)) ≡ brings_if (option_map core_section o) (λ h. record {
       locals = map as_let (take h.parameters h.locals) ++ all_locals_out (brings_out helpers depth) h.locals h.body;
       result_type = h.result_type;
@@ -145,7 +155,8 @@ found_brings depth shape helpers same (Some h) =
     let both = mapped_both local_of (map parameter_data (take p own)) (locals_in_all (brought depth shape) own h.body.items) in
     (λ i. record { locals = both i; result_type = h.result_type }) ∙ (λ i. record { locals = first i ++ second i; result_type = h.result_type })
 
-brings_are : (shape : Shape) (depth : ℕ) (k : ℕ) → brings_of (brought depth shape k) ≡ brings_out (map core_section shape.helpers.items) depth k
+brings_are : (shape : Shape) (depth : ℕ) (k : ℕ) →
+    brings_of (brought depth shape k) ≡ brings_out (map core_section shape.helpers.items) depth k
 brings_are shape zero k = refl
 brings_are shape (suc depth) k =
     let helpers = map core_section shape.helpers.items in
@@ -155,7 +166,8 @@ brings_are shape (suc depth) k =
       result_type = h.result_type;
     })) (sym (get_mapped core_section shape.helpers.items k))
 
-section_locals_are : (shape : Shape) (x : the_section.Section) → map local_of (written_locals shape x) ≡ section_locals (map core_section shape.helpers.items) (core_section x)
+section_locals_are : (shape : Shape) (x : the_section.Section) →
+    map local_of (written_locals shape x) ≡ section_locals (map core_section shape.helpers.items) (core_section x)
 section_locals_are shape x =
     let p = x.parameters in
     let own = x.locals.items in
@@ -166,7 +178,8 @@ section_locals_are shape x =
     mapped_both local_of (map local_data (take p own)) (locals_in_all (brought deepest shape) own x.body.items) ∙ (λ i. first i ++ second i)
 
 -- the locals, by the section and the helpers as data
-pub locals_alike : (shape shape' : Shape) (x y x' y' : the_section.Section) → map core_section shape.helpers.items ≡ map core_section shape'.helpers.items →
+pub locals_alike : (shape shape' : Shape) (x y x' y' : the_section.Section) →
+    map core_section shape.helpers.items ≡ map core_section shape'.helpers.items →
     core_section x ≡ core_section y → AreWrittenLocals shape x x' → AreWrittenLocals shape' y y' → map core_local x'.locals.items ≡ map core_local y'.locals.items
 locals_alike shape shape' x y x' y' helpers same out out' =
     sym (mapped_twice local_data local_of core_local x'.locals.items (λ l. refl)) ∙ ap (map local_of) out ∙ section_locals_are shape x

@@ -5,7 +5,8 @@ use Rattle.std.specs.List.{Contains}
 use Rattle.source.specs.declared.fault.Fault.{Fault}
 use Rattle.core_lang.specs.declared.tree.Stmt as s
 use Rattle.core_lang.specs.declared.tree.Action as a
-use Rattle.core_lang.specs.declared.tree.Action.{Bind, SetLocal, SetGlobal, SetElement, SetField, Call as CallOf, Print, If', IfElse', While', Row_of-Stmt, end_of-Stmt, more_of-Stmt}
+use Rattle.core_lang.specs.declared.tree.Action.{Bind, SetLocal, SetGlobal, SetElement, SetField, Call as CallOf}
+use Rattle.core_lang.specs.declared.tree.Action.{Print, If', IfElse', While', Row_of-Stmt, end_of-Stmt, more_of-Stmt}
 use Rattle.core_lang.specs.declared.tree.Return as the_return
 use Rattle.core_lang.specs.declared.tree.Section as the_section
 use Rattle.core_lang.specs.declared.typed.LockClass as the_class
@@ -14,10 +15,13 @@ use Rattle.core_lang.specs.declared.typed.LockField as the_lock
 use Rattle.core_lang.specs.declared.typed.Struct as the_struct
 use Rattle.core_lang.specs.declared.typed.Typed.{Typed}
 use Rattle.core_lang.specs.Typing.{lookup}
-use Rattle.resolution.specs.Core.{Action, bind, call, if_true, if_else, while_true, Stmts, no_stmts, stmt, Return, Section, LockClass, global_lock, lock_field, LockField, Struct, Program}
-use Rattle.resolution.specs.CoreViews.{core_action, core_stmts_row, core_stmts, core_return, core_section, core_class, core_lock, core_struct, core_of}
+use Rattle.resolution.specs.Core.{Action, bind, call, if_true, if_else, while_true, Stmts, no_stmts, stmt, Return}
+use Rattle.resolution.specs.Core.{Section, LockClass, global_lock, lock_field, LockField, Struct, Program}
+use Rattle.resolution.specs.CoreViews.{core_action, core_stmts_row, core_stmts, core_return, core_section, core_class}
+use Rattle.resolution.specs.CoreViews.{core_lock, core_struct, core_of}
 use Rattle.flow.specs.Points.{Point, statement, result, points, start_of, bound_at, Binds}
-use Rattle.flow.specs.Skeletons.{Skeleton, Nil, Step, Fork, Loop, in_front, block_skeleton, all_in_front, return_skeleton, skeleton}
+use Rattle.flow.specs.Skeletons.{Skeleton, Nil, Step, Fork, Loop, in_front, block_skeleton, all_in_front}
+use Rattle.flow.specs.Skeletons.{return_skeleton, skeleton}
 use Rattle.flow.specs.Flow.{Before}
 use Rattle.locks.specs.Accesses.{accesses_at}
 use Rattle.locks.specs.LockPaths.{LockPath, paths_of, Uses}
@@ -25,7 +29,8 @@ use Rattle.locks.specs.Texts.{or_nothing, lock_name, struct_name, class_text, cl
 use Rattle.lockorder.specs.Ranks.{LeadTo, IsCycle}
 use Rattle.lockorder.specs.Edges.{UsesClass, BindsClass, Makes, Edge}
 use Rattle.lockorder.specs.Faults.{arrows, cycle_text, second, StartsAt, IsFault, cycle}
-use Rattle.compiler.proofs.Alike.{looked_at, viewed_as, Spot, at_statement, at_return, spot, spots, points_alike, accesses_of_spot, accesses_at_alike, section_at, paths_same}
+use Rattle.compiler.proofs.Alike.{looked_at, viewed_as, Spot, at_statement, at_return, spot, spots, points_alike}
+use Rattle.compiler.proofs.Alike.{accesses_of_spot, accesses_at_alike, section_at, paths_same}
 use Rattle.core_lang.specs.Theory.Items.{get_mapped}
 
 -- ---- skeletons of what is resolved
@@ -135,7 +140,8 @@ abbrev text_by : Program → LockClass → List ℕ
 text_by program (global_lock name) = name
 text_by program (lock_field k l) = struct_by program k ++ codes "." ++ lock_by program k l
 
-text_alike : (program : Typed) (x : the_class.LockClass) → class_text program x ≡ text_by (core_of program) (core_class x)
+text_alike : (program : Typed) (x : the_class.LockClass) →
+    class_text program x ≡ text_by (core_of program) (core_class x)
 text_alike program (class_case.Global name) = refl
 text_alike program (class_case.Field k l) = λ i. struct_alike program k i ++ codes "." ++ lock_alike program k l i
 
@@ -197,7 +203,8 @@ module _ (program other : Typed) (same : core_of program ≡ core_of other) wher
     binds_class_alike p c (path, user, uses, (k, root, binds), of) =
         (path, user, uses_alike user path uses, (k, root, binds_alike p k binds), of)
 
-    before_alike : (used bound : ℕ) → (used ≡ bound) ⊎ Before (skeleton x) used bound → (used ≡ bound) ⊎ Before (skeleton y) used bound
+    before_alike : (used bound : ℕ) → (used ≡ bound) ⊎ Before (skeleton x) used bound →
+        (used ≡ bound) ⊎ Before (skeleton y) used bound
     before_alike used bound order = subst (λ c. (used ≡ bound) ⊎ Before c used bound) skeleton_same order
 
   makes_alike : (number used bound c d : ℕ) → Makes program number used bound c d → Makes other number used bound c d

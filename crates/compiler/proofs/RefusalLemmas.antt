@@ -12,13 +12,15 @@ use Rattle.core_lang.specs.declared.typed.Typed.{Typed}
 use Rattle.core_lang_expansion.specs.Data.{IsExpanded}
 use Rattle.locks.specs.Faults as paths
 use Rattle.source.specs.Mistakes.{IsLeastOf}
-use Rattle.compiler.specs.Programs.{IsRefusal, IsOrderRefusal, HasNoTextFault, HasNoTokenFault, in_text, in_tokens, in_tree, in_paths, in_order}
+use Rattle.compiler.specs.Programs.{IsRefusal, IsOrderRefusal, HasNoTextFault, HasNoTokenFault, in_text, in_tokens}
+use Rattle.compiler.specs.Programs.{in_tree, in_paths, in_order}
 
 pub text_refused : (source : List ℕ) (e : Refusal) → text.IsRefusal source e → IsRefusal source e
 text_refused source NoMemory refused = tt
 text_refused source (Fault fault) refused = in_text refused
 
-pub tokens_refused : (source : List ℕ) (tokens : List Tok) (e : Refusal) → HasNoTextFault source → text.HasTokens source tokens
+pub tokens_refused : (source : List ℕ) (tokens : List Tok) (e : Refusal) → HasNoTextFault source →
+    text.HasTokens source tokens
     → grammar.IsRefusal tokens e → IsRefusal source e
 tokens_refused source tokens NoMemory no_text has refused = tt
 tokens_refused source tokens (Fault fault) no_text has refused = in_tokens tokens no_text has refused
@@ -30,14 +32,16 @@ tree_refused source tokens tree NoMemory no_text has no_token right refused leas
 tree_refused source tokens tree (Fault fault) no_text has no_token right refused least =
     in_tree tokens tree no_text has no_token right refused least
 
-pub paths_refused : (source : List ℕ) (tokens : List Tok) (tree : List Decl) (program written : Typed) (e : Refusal) → HasNoTextFault source
+pub paths_refused : (source : List ℕ) (tokens : List Tok) (tree : List Decl) (program written : Typed) (e : Refusal) →
+    HasNoTextFault source
     → text.HasTokens source tokens → HasNoTokenFault tokens → grammar.HasRightTree tokens tree → names.HasNoFault tree
     → Resolves tree program → IsExpanded program written → paths.IsRefusal written e → paths.IsLeast written e → IsRefusal source e
 paths_refused source tokens tree program written NoMemory no_text has no_token right no_name means expanded refused least = tt
 paths_refused source tokens tree program written (Fault fault) no_text has no_token right no_name means expanded refused least =
     in_paths tokens tree program written no_text has no_token right no_name means expanded refused least
 
-pub order_refused : (source : List ℕ) (tokens : List Tok) (tree : List Decl) (program written : Typed) (e : Refusal) → HasNoTextFault source
+pub order_refused : (source : List ℕ) (tokens : List Tok) (tree : List Decl) (program written : Typed) (e : Refusal) →
+    HasNoTextFault source
     → text.HasTokens source tokens → HasNoTokenFault tokens → grammar.HasRightTree tokens tree → names.HasNoFault tree
     → Resolves tree program → IsExpanded program written → paths.HasNoFault written → IsOrderRefusal written e → IsRefusal source e
 order_refused source tokens tree program written NoMemory no_text has no_token right no_name means expanded no_path refused = tt

@@ -1,25 +1,39 @@
 -- What a section is written out as depends on the resolved program alone, not on where it lies in memory.
-use Rattle.std.proofs.Common.{◌≡◌, ℕ, zero, suc, ◌+◌, ◌<◌, ◌≤◌, List, [], ◌∷◌, ◌++◌, length, map, Option, Some, None, if◌then◌else◌, Bool, true, false, refl, sym, ap, ◌∙◌, subst, arith, Vec, Global}
+use Rattle.std.proofs.Common.{◌≡◌, ℕ, zero, suc, ◌+◌, ◌<◌, ◌≤◌, List, [], ◌∷◌, ◌++◌, length, map, Option, Some, None}
+use Rattle.std.proofs.Common.{if◌then◌else◌, Bool, true, false, refl, sym, ap, ◌∙◌, subst, arith, Vec, Global}
 use Rattle.std.specs.Prelude.{slice_get, option_map, ⊤}
 use Rattle.std.specs.List.{Contains}
 use mathlib.Core.Former.{Count}
 use Rattle.core_lang.specs.declared.shape.Shape.{Shape}
 use Rattle.core_lang.specs.declared.tree.Path as the_path
 use Rattle.core_lang.specs.declared.tree.Expr as the_expr
-use Rattle.core_lang.specs.declared.tree.Expr.{Number, Null, Place, Global as GlobalCell, Element', Member', Negate', Owned', Chain', Row_of-Operation, end_of-Operation, more_of-Operation}
+use Rattle.core_lang.specs.declared.tree.Expr.{Number, Null, Place, Global as GlobalCell, Element', Member', Negate'}
+use Rattle.core_lang.specs.declared.tree.Expr.{Owned', Chain', Row_of-Operation, end_of-Operation, more_of-Operation}
 use Rattle.core_lang.specs.declared.tree.Condition as the_condition
-use Rattle.core_lang.specs.declared.tree.Condition.{Compare, Not', And', Or', Row_of-Condition, end_of-Condition, more_of-Condition}
+use Rattle.core_lang.specs.declared.tree.Condition.{Compare, Not', And', Or', Row_of-Condition, end_of-Condition}
+use Rattle.core_lang.specs.declared.tree.Condition.{more_of-Condition}
 use Rattle.core_lang.specs.declared.tree.Stmt as the_stmt
 use Rattle.core_lang.specs.declared.tree.Action as the_action
-use Rattle.core_lang.specs.declared.tree.Action.{Bind, SetLocal, SetGlobal, SetElement, SetField, Call as CallOf, Print, If', IfElse', While', If, IfElse, While, Row_of-Stmt, end_of-Stmt, more_of-Stmt, items-the_row-Stmt, items_hidden-the_row-Stmt-0}
+use Rattle.core_lang.specs.declared.tree.Action.{Bind, SetLocal, SetGlobal, SetElement, SetField, Call as CallOf}
+use Rattle.core_lang.specs.declared.tree.Action.{Print, If', IfElse', While', If, IfElse, While, Row_of-Stmt}
+use Rattle.core_lang.specs.declared.tree.Action.{end_of-Stmt, more_of-Stmt, items-the_row-Stmt}
+use Rattle.core_lang.specs.declared.tree.Action.{items_hidden-the_row-Stmt-0}
 use Rattle.core_lang.specs.declared.tree.Return as the_return
 use Rattle.core_lang.specs.declared.tree.Section as the_section
 use Rattle.core_lang.specs.Theory.Lists.{block_of, else_of}
 use Rattle.core_lang.specs.Meaning.{deepest}
 use Rattle.core_lang.specs.Expansion as x
-use Rattle.core_lang.specs.Expansion.{Pair, pair, At, behind_bound, behind_block, parameters_at, entered, one, RenamesPath, Renames, RenamesEach, RenamesTest, RenamesTests, RenamesResult, Arguments, Bound, Bodies, Writes, WritesRow, WritesAll, HelpersWritten, IsWrittenOut}
-use Rattle.resolution.specs.Core.{Path, Expr, number, null, place, global, element, member, negate, owned, chain, Operations, no_operations, operation, Condition, compare, negation, all_of, any_of, Conditions, no_conditions, condition, Action, bind, set_local, set_global, set_element, set_field, call, print, if_true, if_else, while_true, Stmts, no_stmts, stmt, Return, Section}
-use Rattle.resolution.specs.CoreViews.{core_path, core_expr, core_operations_row, core_condition, core_conditions_row, core_action, core_stmts_row, core_stmts, core_return, core_section}
+use Rattle.core_lang.specs.Expansion.{Pair, pair, At, behind_bound, behind_block, parameters_at, entered, one}
+use Rattle.core_lang.specs.Expansion.{RenamesPath, Renames, RenamesEach, RenamesTest, RenamesTests, RenamesResult}
+use Rattle.core_lang.specs.Expansion.{Arguments, Bound, Bodies, Writes, WritesRow, WritesAll, HelpersWritten}
+use Rattle.core_lang.specs.Expansion.{IsWrittenOut}
+use Rattle.resolution.specs.Core.{Path, Expr, number, null, place, global, element, member, negate, owned, chain}
+use Rattle.resolution.specs.Core.{Operations, no_operations, operation, Condition, compare, negation, all_of, any_of}
+use Rattle.resolution.specs.Core.{Conditions, no_conditions, condition, Action, bind, set_local, set_global}
+use Rattle.resolution.specs.Core.{set_element, set_field, call, print, if_true, if_else, while_true, Stmts, no_stmts}
+use Rattle.resolution.specs.Core.{stmt, Return, Section}
+use Rattle.resolution.specs.CoreViews.{core_path, core_expr, core_operations_row, core_condition, core_conditions_row}
+use Rattle.resolution.specs.CoreViews.{core_action, core_stmts_row, core_stmts, core_return, core_section}
 use Rattle.core_lang.specs.Theory.Items.{not_in_none}
 
 -- ---- lists
@@ -61,7 +75,8 @@ number_less zero (suc n) lt = refl
 number_less (suc k) zero lt = absurd (omega (arith, lt))
 number_less (suc k) (suc n) lt = number_less k n (omega (arith, lt))
 
-found_written : (own : ℕ) (scope : List Pair) (k w : ℕ) → Falling own scope → Contains scope (pair k w) → w ≡ written_for scope k
+found_written : (own : ℕ) (scope : List Pair) (k w : ℕ) → Falling own scope → Contains scope (pair k w) →
+    w ≡ written_for scope k
 found_written own [] k w f c = absurd (not_in_none (pair k w) c)
 found_written own (p ∷ ps) k w f (zero, lt, e) =
     let mine : p.own ≡ k = ap (λ (z : Pair). z.own) e in
@@ -134,7 +149,8 @@ module _ (scope : List Pair) where
       each_is _ _ r = absurd r
 
     mutual
-      test_is : (v w : the_condition.Condition) → RenamesTest scope v w → core_condition w ≡ renamed_test (core_condition v)
+      test_is : (v w : the_condition.Condition) → RenamesTest scope v w →
+          core_condition w ≡ renamed_test (core_condition v)
       test_is (Compare o v w) (Compare o' v' w') r = λ i. compare (r.0 i) (expr_is v v' r.1 i) (expr_is w w' r.2 i)
       test_is (Not' p v) (Not' p' v') r = ap negation (test_is v v' r)
       test_is (And' m before p last) (And' m' before' p' last') r = λ i. all_of (tests_are before before' r.0 i) (test_is last last' r.1 i)
@@ -147,7 +163,8 @@ module _ (scope : List Pair) where
       tests_are (more_of-Condition v rest) (more_of-Condition v' rest') r = λ i. condition (test_is v v' r.0 i) (tests_are rest rest' r.1 i)
       tests_are _ _ r = absurd r
 
-    result_is : (o o' : Option the_return.Return) → RenamesResult scope o o' → option_map core_return o' ≡ option_map renamed_return (option_map core_return o)
+    result_is : (o o' : Option the_return.Return) → RenamesResult scope o o' →
+        option_map core_return o' ≡ option_map renamed_return (option_map core_return o)
     result_is None None r = refl
     result_is (Some v) (Some w) r = λ i. Some (record { start = r.0 i; value = expr_is v.value w.value r.1 i })
     result_is None (Some w) r = absurd r
@@ -167,10 +184,12 @@ row_is : (n : Count) (row : Row_of-Stmt n) → core_stmts_row row ≡ core_stmts
 row_is n end_of-Stmt = refl
 row_is n (more_of-Stmt start v rest) = ap (stmt start (core_action v)) (row_is _ rest)
 
-if_is : (t : the_condition.Condition) (block : Vec the_stmt.Stmt Global) → core_action (If t block) ≡ if_true (core_condition t) (core_stmts block.items)
+if_is : (t : the_condition.Condition) (block : Vec the_stmt.Stmt Global) →
+    core_action (If t block) ≡ if_true (core_condition t) (core_stmts block.items)
 if_is t block = let row = block_of (If t block) in ap (if_true (core_condition t)) (row_is row.0 row.1 ∙ ap core_stmts (items_hidden-the_row-Stmt-0 block))
 
-while_is : (t : the_condition.Condition) (block : Vec the_stmt.Stmt Global) → core_action (While t block) ≡ while_true (core_condition t) (core_stmts block.items)
+while_is : (t : the_condition.Condition) (block : Vec the_stmt.Stmt Global) →
+    core_action (While t block) ≡ while_true (core_condition t) (core_stmts block.items)
 while_is t block = let row = block_of (While t block) in ap (while_true (core_condition t)) (row_is row.0 row.1 ∙ ap core_stmts (items_hidden-the_row-Stmt-0 block))
 
 if_else_is : (t : the_condition.Condition) (block otherwise : Vec the_stmt.Stmt Global) →
@@ -271,7 +290,8 @@ BodiesFollow Body bodies =
 falls : (a b : At) → b ≡ a → Falling a.own a.scope → Falling b.own b.scope
 falls a b e f = subst (λ (z : At). Falling z.own z.scope) (sym e) f
 
-stays : (a b : At) (ys : List the_stmt.Stmt) (start : ℕ) (v : the_action.Action) (w : Action) → ys ≡ one start v → b ≡ a → core_action v ≡ w → Falling a.own a.scope →
+stays : (a b : At) (ys : List the_stmt.Stmt) (start : ℕ) (v : the_action.Action) (w : Action) → ys ≡ one start v →
+    b ≡ a → core_action v ≡ w → Falling a.own a.scope →
     Follows ys a b (record { stmts = lone start w; at = a })
 stays a b ys start v w is e same falling = record {
   stmts = ap core_stmts is ∙ ap (lone start) same;
@@ -280,7 +300,8 @@ stays a b ys start v w is e same falling = record {
   own = let f = ap (λ (z : At). z.own) e in omega (arith, f);
 }
 
-bound_follows : (a b : At) (ys : List the_stmt.Stmt) (start : ℕ) (v : the_expr.Expr) (w : Expr) → ys ≡ one start (Bind a.fresh v) → b ≡ behind_bound a → core_expr v ≡ w →
+bound_follows : (a b : At) (ys : List the_stmt.Stmt) (start : ℕ) (v : the_expr.Expr) (w : Expr) →
+    ys ≡ one start (Bind a.fresh v) → b ≡ behind_bound a → core_expr v ≡ w →
     Falling a.own a.scope → Follows ys a b (record { stmts = lone start (bind a.fresh w); at = behind_bound a })
 bound_follows a b ys start v w is e same falling = record {
   stmts = ap core_stmts is ∙ ap (λ z. lone start (bind a.fresh z)) same;
@@ -299,7 +320,8 @@ block_follows a after b ys inside start v w out is e same falling inner =
       own = let f = ap (λ (z : At). z.own) e in omega (arith, f, le);
     }
 
-both_follow : (a m b : At) (xs ys : List the_stmt.Stmt) (first second : Out) → Follows xs a m first → Follows ys m b second →
+both_follow : (a m b : At) (xs ys : List the_stmt.Stmt) (first second : Out) → Follows xs a m first →
+    Follows ys m b second →
     Follows (xs ++ ys) a b (record { stmts = joined first.stmts second.stmts; at = second.at })
 both_follow a m b xs ys first second f g = record {
   stmts = joined_is xs ys ∙ (λ i. joined (f.stmts i) (g.stmts i));
@@ -308,7 +330,8 @@ both_follow a m b xs ys first second f g = record {
   own = let h = f.own in let k = g.own in omega (arith, h, k);
 }
 
-lets_follow : (start : ℕ) (scope : List Pair) (own : ℕ) → Falling own scope → (vs : List the_expr.Expr) (fresh : ℕ) (lets : List the_stmt.Stmt) → Arguments start scope vs fresh lets →
+lets_follow : (start : ℕ) (scope : List Pair) (own : ℕ) → Falling own scope →
+    (vs : List the_expr.Expr) (fresh : ℕ) (lets : List the_stmt.Stmt) → Arguments start scope vs fresh lets →
     core_stmts lets ≡ lets_out start scope (map core_expr vs) fresh
 lets_follow start scope own falling [] fresh lets w = ap core_stmts w
 lets_follow start scope own falling (v ∷ vs) fresh lets (v', rest, r, w, ws) =
@@ -316,7 +339,8 @@ lets_follow start scope own falling (v ∷ vs) fresh lets (v', rest, r, w, ws) =
     let more = lets_follow start scope own falling vs (fresh + 1) rest ws in
     ap core_stmts w ∙ (λ i. stmt start (bind fresh (this i)) (more i))
 
-last_follows : (result : Option ℕ) (r : Option the_return.Return) (a b : At) (fresh : ℕ) (last : List the_stmt.Stmt) → Bound result r a fresh last b → Falling a.own a.scope →
+last_follows : (result : Option ℕ) (r : Option the_return.Return) (a b : At) (fresh : ℕ) (last : List the_stmt.Stmt) →
+    Bound result r a fresh last b → Falling a.own a.scope →
     Follows last a b (last_out result (option_map core_return r) a fresh)
 last_follows None None a b fresh last w falling = record {
   stmts = ap core_stmts w.0;
@@ -340,7 +364,8 @@ last_follows (Some k) (Some r) a b fresh last w falling = record {
 
 module _ (Body : Bodies) (bodies : BodiesOut) (follow : BodiesFollow Body bodies) where
   mutual
-    follows : (v : the_action.Action) (start : ℕ) (a b : At) (ys : List the_stmt.Stmt) → Writes Body v start a ys b → Falling a.own a.scope → Follows ys a b (written bodies (core_action v) start a)
+    follows : (v : the_action.Action) (start : ℕ) (a b : At) (ys : List the_stmt.Stmt) → Writes Body v start a ys b →
+        Falling a.own a.scope → Follows ys a b (written bodies (core_action v) start a)
     follows (Bind k v) start a b ys (v', r, same, w, f) falling = bound_follows a b ys start v' (renamed a.scope (core_expr v)) w f (expr_is a.scope a.own falling v v' r) falling
     follows (SetLocal k v) start a b ys (k', v', c, r, w, f) falling =
         let this = expr_is a.scope a.own falling v v' r in
@@ -399,7 +424,8 @@ module _ (Body : Bodies) (bodies : BodiesOut) (follow : BodiesFollow Body bodies
         block_follows a after b ys body'.items start (While t' body') _ (all_written bodies (core_stmts_row body) a) e f
         (while_is t' body' ∙ (λ i. while_true (test i) (inner.stmts i))) falling inner
 
-    row_follows : {m : _} (row : Row_of-Stmt m) (a b : At) (ys : List the_stmt.Stmt) → WritesRow Body row a ys b → Falling a.own a.scope →
+    row_follows : {m : _} (row : Row_of-Stmt m) (a b : At) (ys : List the_stmt.Stmt) → WritesRow Body row a ys b →
+        Falling a.own a.scope →
         Follows ys a b (all_written bodies (core_stmts_row row) a)
     row_follows end_of-Stmt a b ys (e, f) falling = record {
       stmts = ap core_stmts e;
@@ -417,7 +443,8 @@ module _ (Body : Bodies) (bodies : BodiesOut) (follow : BodiesFollow Body bodies
         subst (λ zs. Follows zs a b (all_written bodies (core_stmts_row (more_of-Stmt start v rest)) a)) (sym e)
         (both_follow a middle b front rear out (all_written bodies (core_stmts_row rest) out.at) first moved)
 
-  all_follow : (xs : List the_stmt.Stmt) (a b : At) (ys : List the_stmt.Stmt) → WritesAll Body xs a ys b → Falling a.own a.scope → Follows ys a b (all_written bodies (core_stmts xs) a)
+  all_follow : (xs : List the_stmt.Stmt) (a b : At) (ys : List the_stmt.Stmt) → WritesAll Body xs a ys b →
+      Falling a.own a.scope → Follows ys a b (all_written bodies (core_stmts xs) a)
   all_follow [] a b ys (e, f) falling = record {
     stmts = ap core_stmts e;
     at = f;
@@ -436,7 +463,8 @@ parameters_fall : (n first : ℕ) → Falling n (parameters_at n first)
 parameters_fall zero first = tt
 parameters_fall (suc n) first = (omega arith, parameters_fall n first)
 
-body_follows : (Body : Bodies) (bodies : BodiesOut) → BodiesFollow Body bodies → (h : the_section.Section) (first : ℕ) (body : List the_stmt.Stmt) (r : Option the_return.Return) (fresh : ℕ) →
+body_follows : (Body : Bodies) (bodies : BodiesOut) → BodiesFollow Body bodies →
+    (h : the_section.Section) (first : ℕ) (body : List the_stmt.Stmt) (r : Option the_return.Return) (fresh : ℕ) →
     x.WritesBody Body h first body r fresh →
     (core_stmts body ≡ (body_written bodies (core_section h) first).stmts) × (option_map core_return r ≡ (body_written bodies (core_section h) first).result)
     × (fresh ≡ (body_written bodies (core_section h) first).fresh)
@@ -448,12 +476,14 @@ body_follows Body bodies follow h first body r fresh (b, w, ends, own, f) =
       sym f ∙ ap (λ (z : At). z.fresh) all.at,
     )
 
-get_viewed : {X Y : Type 0} (f : X → Y) (xs : List X) (k : ℕ) (v : X) → slice_get xs k ≡ Some v → slice_get (map f xs) k ≡ Some (f v)
+get_viewed : {X Y : Type 0} (f : X → Y) (xs : List X) (k : ℕ) (v : X) → slice_get xs k ≡ Some v →
+    slice_get (map f xs) k ≡ Some (f v)
 get_viewed f [] k v is = absurd cc
 get_viewed f (y ∷ xs) zero v is = let same : y ≡ v = cc in ap (λ z. Some (f z)) same
 get_viewed f (y ∷ xs) (suc k) v is = get_viewed f xs k v is
 
-helpers_follow : (shape : Shape) (depth : ℕ) → BodiesFollow (HelpersWritten shape depth) (helpers_written (map core_section shape.helpers.items) depth)
+helpers_follow : (shape : Shape) (depth : ℕ) →
+    BodiesFollow (HelpersWritten shape depth) (helpers_written (map core_section shape.helpers.items) depth)
 helpers_follow shape zero helper count first body r fresh w = absurd w
 helpers_follow shape (suc depth) helper count first body r fresh (h, is, e, w) =
     let bodies = helpers_written (map core_section shape.helpers.items) depth in
@@ -467,7 +497,8 @@ helpers_follow shape (suc depth) helper count first body r fresh (h, is, e, w) =
     )
 
 -- the body and the result of a section that is written out, by the section and the helpers as data
-pub body_alike : (shape shape' : Shape) (x y x' y' : the_section.Section) → map core_section shape.helpers.items ≡ map core_section shape'.helpers.items →
+pub body_alike : (shape shape' : Shape) (x y x' y' : the_section.Section) →
+    map core_section shape.helpers.items ≡ map core_section shape'.helpers.items →
     core_section x ≡ core_section y → IsWrittenOut shape x x' → IsWrittenOut shape' y y' →
     (core_stmts x'.body.items ≡ core_stmts y'.body.items) × (option_map core_return x'.result ≡ option_map core_return y'.result)
 body_alike shape shape' x y x' y' helpers same out out' =

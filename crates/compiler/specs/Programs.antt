@@ -20,12 +20,15 @@ use Rattle.lockorder.specs.Faults as order
 -- with its helpers written out, in its lock paths or the order of its locks
 pub data HasFault (source : List ℕ) (fault : the_fault.Fault) : Type 0 where
   of_text : text.IsRefusal source (Fault fault) → HasFault source fault
-  of_tokens : (tokens : List Tok) → text.HasTokens source tokens → grammar.IsRefusal tokens (Fault fault) → HasFault source fault
+  of_tokens : (tokens : List Tok) → text.HasTokens source tokens → grammar.IsRefusal tokens (Fault fault) →
+      HasFault source fault
   of_tree : (tokens : List Tok) (tree : List Decl) → text.HasTokens source tokens → grammar.HasRightTree tokens tree
       → names.IsRefusal tree (Fault fault) → HasFault source fault
-  of_paths : (tokens : List Tok) (tree : List Decl) (program written : Typed) → text.HasTokens source tokens → grammar.HasRightTree tokens tree
+  of_paths : (tokens : List Tok) (tree : List Decl) (program written : Typed) → text.HasTokens source tokens →
+      grammar.HasRightTree tokens tree
       → Resolves tree program → IsExpanded program written → paths.IsRefusal written (Fault fault) → HasFault source fault
-  of_order : (tokens : List Tok) (tree : List Decl) (program written : Typed) → text.HasTokens source tokens → grammar.HasRightTree tokens tree
+  of_order : (tokens : List Tok) (tree : List Decl) (program written : Typed) → text.HasTokens source tokens →
+      grammar.HasRightTree tokens tree
       → Resolves tree program → IsExpanded program written → order.IsFault written fault → HasFault source fault
 
 -- the text has these tokens, the tokens this tree, and the program is what the tree means; and the text has no fault
@@ -54,10 +57,12 @@ pub data IsOfFirstPass (source : List ℕ) (fault : the_fault.Fault) : Type 0 wh
   in_tree : (tokens : List Tok) (tree : List Decl) → HasNoTextFault source → text.HasTokens source tokens
       → HasNoTokenFault tokens → grammar.HasRightTree tokens tree
       → names.IsRefusal tree (Fault fault) → IsLeastOf (names.IsFault tree) (Fault fault) → IsOfFirstPass source fault
-  in_paths : (tokens : List Tok) (tree : List Decl) (program written : Typed) → HasNoTextFault source → text.HasTokens source tokens
+  in_paths : (tokens : List Tok) (tree : List Decl) (program written : Typed) → HasNoTextFault source →
+      text.HasTokens source tokens
       → HasNoTokenFault tokens → grammar.HasRightTree tokens tree → names.HasNoFault tree → Resolves tree program → IsExpanded program written
       → paths.IsRefusal written (Fault fault) → paths.IsLeast written (Fault fault) → IsOfFirstPass source fault
-  in_order : (tokens : List Tok) (tree : List Decl) (program written : Typed) → HasNoTextFault source → text.HasTokens source tokens
+  in_order : (tokens : List Tok) (tree : List Decl) (program written : Typed) → HasNoTextFault source →
+      text.HasTokens source tokens
       → HasNoTokenFault tokens → grammar.HasRightTree tokens tree → names.HasNoFault tree → Resolves tree program → IsExpanded program written
       → paths.HasNoFault written → order.IsFaultAtFirst written fault → IsOfFirstPass source fault
 

@@ -1,5 +1,6 @@
 -- Renamed expressions and conditions have the values of their own.
-use Rattle.std.proofs.Common.{◌≡◌, ℕ, ◌+◌, List, [], ◌∷◌, length, Some, None, Option, Result, Ok, Err, Bool, refl, sym, ap, ◌∙◌, zero, suc}
+use Rattle.std.proofs.Common.{◌≡◌, ℕ, ◌+◌, List, [], ◌∷◌, length, Some, None, Option, Result, Ok, Err, Bool, refl}
+use Rattle.std.proofs.Common.{sym, ap, ◌∙◌, zero, suc}
 use Rattle.std.specs.Prelude.{slice_get, not, map, option_map}
 use Rattle.std.specs.List.{Contains}
 use Rattle.core_lang.specs.declared.value.Value.{Value}
@@ -14,12 +15,17 @@ use Rattle.core_lang.specs.declared.tree.Comparison.TheVariants.{Equal}
 use Rattle.core_lang.specs.declared.tree.FieldStep.{FieldStep}
 use Rattle.core_lang.specs.declared.tree.FieldStep.TheVariants.{Final, Field}
 use Rattle.core_lang.specs.declared.tree.Path.{Path}
-use Rattle.core_lang.specs.declared.tree.Expr.{Expr, Number, Null, Place, Global, Element', Member', Negate', Owned', Chain', Row_of-Operation, end_of-Operation, more_of-Operation}
-use Rattle.core_lang.specs.declared.tree.Condition.{Condition, Compare, Not', And', Or', Row_of-Condition, end_of-Condition, more_of-Condition}
+use Rattle.core_lang.specs.declared.tree.Expr.{Expr, Number, Null, Place, Global, Element', Member', Negate', Owned'}
+use Rattle.core_lang.specs.declared.tree.Expr.{Chain', Row_of-Operation, end_of-Operation, more_of-Operation}
+use Rattle.core_lang.specs.declared.tree.Condition.{Condition, Compare, Not', And', Or', Row_of-Condition}
+use Rattle.core_lang.specs.declared.tree.Condition.{end_of-Condition, more_of-Condition}
 use Rattle.core_lang.specs.Arithmetic.{negated, compared}
-use Rattle.core_lang.specs.Cells.{with, found, at_index, element_cell, reference_to, member_of, object_of, field_cell, final_value, if_named, owned, read, step_value}
-use Rattle.core_lang.specs.Meaning.{along, place_of, joined, value_of, chained, and_then, or_else, truth_of, all_true, any_true}
-use Rattle.core_lang.specs.Expansion.{Pair, pair, RenamesPath, Renames, RenamesEach, RenamesTest, RenamesTests, ArrayData, array_data, PoolData, pool_data, HasSamePlaces}
+use Rattle.core_lang.specs.Cells.{with, found, at_index, element_cell, reference_to, member_of, object_of, field_cell}
+use Rattle.core_lang.specs.Cells.{final_value, if_named, owned, read, step_value}
+use Rattle.core_lang.specs.Meaning.{along, place_of, joined, value_of, chained, and_then, or_else, truth_of, all_true}
+use Rattle.core_lang.specs.Meaning.{any_true}
+use Rattle.core_lang.specs.Expansion.{Pair, pair, RenamesPath, Renames, RenamesEach, RenamesTest, RenamesTests}
+use Rattle.core_lang.specs.Expansion.{ArrayData, array_data, PoolData, pool_data, HasSamePlaces}
 use Rattle.core_lang.specs.Theory.Items.{get_mapped}
 
 -- each local in scope has the value of the one that stands for it
@@ -27,18 +33,21 @@ abbrev pub Agree : List Pair → List Value → List Value → Type 0
 Agree scope locals locals' =
     (own written : ℕ) → Contains scope (pair own written) → (v : Value) × (slice_get locals own ≡ Some v) × (slice_get locals' written ≡ Some v)
 
-with_same : {A B : Type 0} (r : Result A Failure) (f g : A → Result B Failure) → ((a : A) → f a ≡ g a) → with r f ≡ with r g
+with_same : {A B : Type 0} (r : Result A Failure) (f g : A → Result B Failure) → ((a : A) → f a ≡ g a) →
+    with r f ≡ with r g
 with_same (Ok a) f g h = h a
 with_same (Err e) f g h = refl
 
-get_same : {A B : Type 0} (f : A → B) (xs ys : List A) (k : ℕ) → map f ys ≡ map f xs → option_map f (slice_get ys k) ≡ option_map f (slice_get xs k)
+get_same : {A B : Type 0} (f : A → B) (xs ys : List A) (k : ℕ) → map f ys ≡ map f xs →
+    option_map f (slice_get ys k) ≡ option_map f (slice_get xs k)
 get_same f xs ys k e = sym (get_mapped f ys k) ∙ ap (λ zs. slice_get zs k) e ∙ get_mapped f xs k
 
 -- which cell, and which member, by an array and a pool as data
 cell_in : Option ArrayData → Value → Result ℕ Failure
 cell_in o v = with (found o) (λ (a : ArrayData). at_index a.first a.count v)
 
-cell_by_data : (o : Option Array) (v : Value) → with (found o) (λ (a : Array). at_index a.first a.length v) ≡ cell_in (option_map array_data o) v
+cell_by_data : (o : Option Array) (v : Value) →
+    with (found o) (λ (a : Array). at_index a.first a.length v) ≡ cell_in (option_map array_data o) v
 unfolding cell_in
 cell_by_data None v = refl
 cell_by_data (Some a) v = refl
@@ -46,7 +55,8 @@ cell_by_data (Some a) v = refl
 member_in : Option PoolData → Value → Result Value Failure
 member_in o v = with (found o) (λ (p : PoolData). with (at_index p.first p.count v) reference_to)
 
-member_by_data : (o : Option Pool) (v : Value) → with (found o) (λ (p : Pool). with (at_index p.first p.length v) reference_to) ≡ member_in (option_map pool_data o) v
+member_by_data : (o : Option Pool) (v : Value) →
+    with (found o) (λ (p : Pool). with (at_index p.first p.length v) reference_to) ≡ member_in (option_map pool_data o) v
 unfolding member_in
 member_by_data None v = refl
 member_by_data (Some p) v = refl
@@ -83,7 +93,8 @@ module _ (shape shape' : Shape) (same : HasSamePlaces shape shape') where
       ∙ ap (λ o. member_in o v) (get_same pool_data shape.pools.items shape'.pools.items pool same.pools)
       ∙ sym (member_by_data (slice_get shape.pools.items pool) v)
 
-  step_same : (heap : List Value) (v : Value) (step : FieldStep) → step_value shape' heap v step ≡ step_value shape heap v step
+  step_same : (heap : List Value) (v : Value) (step : FieldStep) →
+      step_value shape' heap v step ≡ step_value shape heap v step
   step_same heap v (Final s f) = final_same v f
   step_same heap v (Field s f) = ap (λ r. with r (λ cell. read heap cell)) (cell_same v f)
 
@@ -94,10 +105,12 @@ module _ (shape shape' : Shape) (same : HasSamePlaces shape shape') where
       ∙ with_same (step_value shape heap v f) (λ w. along shape' heap w fs) (λ w. along shape heap w fs) (λ w. along_same heap w fs)
 
   module _ (scope : List Pair) (locals locals' heap : List Value) (agree : Agree scope locals locals') where
-    found_same : (own written : ℕ) → Contains scope (pair own written) → found (slice_get locals' written) ≡ found (slice_get locals own)
+    found_same : (own written : ℕ) → Contains scope (pair own written) →
+        found (slice_get locals' written) ≡ found (slice_get locals own)
     found_same own written c = let a = agree own written c in ap found (a.2 ∙ sym a.1)
 
-    pub place_same : (p q : Path) → RenamesPath scope p q → place_of q shape' locals' heap ≡ place_of p shape locals heap
+    pub place_same : (p q : Path) → RenamesPath scope p q →
+        place_of q shape' locals' heap ≡ place_of p shape locals heap
     place_same p q r =
         ap (λ x. with x (λ base. along shape' heap base q.fields.items)) (found_same p.local q.local r.local)
         ∙ with_same (found (slice_get locals p.local)) (λ base. along shape' heap base q.fields.items) (λ base. along shape heap base p.fields.items)
@@ -107,7 +120,8 @@ module _ (shape shape' : Shape) (same : HasSamePlaces shape shape') where
     joined_with o left r r' e = ap (joined o left) e
 
     mutual
-      pub value_same : (e e' : Expr) → Renames scope e e' → value_of e' shape' locals' heap ≡ value_of e shape locals heap
+      pub value_same : (e e' : Expr) → Renames scope e e' →
+          value_of e' shape' locals' heap ≡ value_of e shape locals heap
       value_same (Number n) (Number m) r = ap (λ z. Ok (Int z)) r
       value_same Null Null r = refl
       value_same (Place p) (Place q) r = place_same p q r
@@ -138,7 +152,8 @@ module _ (shape shape' : Shape) (same : HasSamePlaces shape shape') where
       chained_same _ _ left r = absurd r
 
     mutual
-      pub truth_same : (c c' : Condition) → RenamesTest scope c c' → truth_of c' shape' locals' heap ≡ truth_of c shape locals heap
+      pub truth_same : (c c' : Condition) → RenamesTest scope c c' →
+          truth_of c' shape' locals' heap ≡ truth_of c shape locals heap
       truth_same (Compare c a b) (Compare c' a' b') r =
           ap (λ x. with x (λ v. with (value_of b' shape' locals' heap) (λ w. compared c' v w))) (value_same a a' r.1)
           ∙ with_same (value_of a shape locals heap) _ _ (λ v.
@@ -151,7 +166,8 @@ module _ (shape shape' : Shape) (same : HasSamePlaces shape shape') where
           ap (any_true before' shape' locals' heap) (truth_same last last' r.1) ∙ any_same before before' (truth_of last shape locals heap) r.0
       truth_same _ _ r = absurd r
 
-      all_same : {m m' : _} (row : Row_of-Condition m) (row' : Row_of-Condition m') (last : Result Bool Failure) → RenamesTests scope row row' →
+      all_same : {m m' : _} (row : Row_of-Condition m) (row' : Row_of-Condition m') (last : Result Bool Failure) →
+          RenamesTests scope row row' →
           all_true row' shape' locals' heap last ≡ all_true row shape locals heap last
       all_same end_of-Condition end_of-Condition last r = refl
       all_same (more_of-Condition c rest) (more_of-Condition c' rest') last r =
@@ -159,7 +175,8 @@ module _ (shape shape' : Shape) (same : HasSamePlaces shape shape') where
           ∙ ap (and_then (truth_of c shape locals heap)) (all_same rest rest' last r.1)
       all_same _ _ last r = absurd r
 
-      any_same : {m m' : _} (row : Row_of-Condition m) (row' : Row_of-Condition m') (last : Result Bool Failure) → RenamesTests scope row row' →
+      any_same : {m m' : _} (row : Row_of-Condition m) (row' : Row_of-Condition m') (last : Result Bool Failure) →
+          RenamesTests scope row row' →
           any_true row' shape' locals' heap last ≡ any_true row shape locals heap last
       any_same end_of-Condition end_of-Condition last r = refl
       any_same (more_of-Condition c rest) (more_of-Condition c' rest') last r =

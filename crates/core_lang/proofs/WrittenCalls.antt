@@ -1,17 +1,21 @@
 -- What is written out has no calls.
-use Rattle.std.proofs.Common.{◌≡◌, ℕ, zero, suc, List, [], ◌∷◌, ◌++◌, length, Option, Some, None, sym, subst, Vec, Global}
+use Rattle.std.proofs.Common.{◌≡◌, ℕ, zero, suc, List, [], ◌∷◌, ◌++◌, length, Option, Some, None, sym, subst, Vec}
+use Rattle.std.proofs.Common.{Global}
 use mathlib.Core.Former.{Count}
 use Rattle.core_lang.specs.declared.tree.Expr.{Expr}
 use Rattle.core_lang.specs.declared.tree.Condition.{Condition}
 use Rattle.core_lang.specs.declared.tree.Stmt.{Stmt}
-use Rattle.core_lang.specs.declared.tree.Action.{Action, Bind, SetLocal, SetGlobal, SetElement, SetField, Call, Print, If', IfElse', While', If, IfElse, While, Row_of-Stmt, end_of-Stmt, more_of-Stmt, items-the_row-Stmt, items_hidden-the_row-Stmt-0}
+use Rattle.core_lang.specs.declared.tree.Action.{Action, Bind, SetLocal, SetGlobal, SetElement, SetField, Call, Print}
+use Rattle.core_lang.specs.declared.tree.Action.{If', IfElse', While', If, IfElse, While, Row_of-Stmt, end_of-Stmt}
+use Rattle.core_lang.specs.declared.tree.Action.{more_of-Stmt, items-the_row-Stmt, items_hidden-the_row-Stmt-0}
 use Rattle.core_lang.specs.declared.tree.Return.{Return}
 use Rattle.core_lang.specs.declared.tree.Section.{Section}
 use Rattle.core_lang.specs.declared.shape.Shape.{Shape}
 use Rattle.core_lang.specs.Theory.Lists.{block_of, else_of}
 use Rattle.core_lang.specs.Meaning.{deepest}
 use Rattle.core_lang.specs.Helpers.{CallsOnly, AllCallOnly, EachCallsOnly}
-use Rattle.core_lang.specs.Expansion.{Pair, At, behind_block, entered, one, Arguments, Bound, Bodies, Writes, WritesRow, WritesAll, HelpersWritten, IsWrittenOut}
+use Rattle.core_lang.specs.Expansion.{Pair, At, behind_block, entered, one, Arguments, Bound, Bodies, Writes}
+use Rattle.core_lang.specs.Expansion.{WritesRow, WritesAll, HelpersWritten, IsWrittenOut}
 
 abbrev Never : ℕ → Type 0
 Never helper = ⊥
@@ -33,7 +37,8 @@ of_if c block h = let row = block_of (If c block) in of_items row.0 row.1 (subst
 of_while : (c : Condition) (block : Vec Stmt Global) → HasNoCalls block.items → CallsOnly Never (While c block)
 of_while c block h = let row = block_of (While c block) in of_items row.0 row.1 (subst HasNoCalls (sym (items_hidden-the_row-Stmt-0 block)) h)
 
-of_if_else : (c : Condition) (block otherwise : Vec Stmt Global) → HasNoCalls block.items → HasNoCalls otherwise.items → CallsOnly Never (IfElse c block otherwise)
+of_if_else : (c : Condition) (block otherwise : Vec Stmt Global) → HasNoCalls block.items →
+    HasNoCalls otherwise.items → CallsOnly Never (IfElse c block otherwise)
 of_if_else c block otherwise h k =
     let row = block_of (IfElse c block otherwise) in
     let row' = else_of (IfElse c block otherwise) in (
@@ -48,11 +53,13 @@ abbrev pub BodiesHaveNone : Bodies → Type 0
 BodiesHaveNone Body =
     (helper count first : ℕ) (body : List Stmt) (r : Option Return) (fresh : ℕ) → Body helper count first body r fresh → HasNoCalls body
 
-arguments_have_none : (start : ℕ) (scope : List Pair) (es : List Expr) (fresh : ℕ) (lets : List Stmt) → Arguments start scope es fresh lets → HasNoCalls lets
+arguments_have_none : (start : ℕ) (scope : List Pair) (es : List Expr) (fresh : ℕ) (lets : List Stmt) →
+    Arguments start scope es fresh lets → HasNoCalls lets
 arguments_have_none start scope [] fresh lets w = subst HasNoCalls (sym w) tt
 arguments_have_none start scope (e ∷ es) fresh lets (e', rest, r, w, ws) = subst HasNoCalls (sym w) (tt, arguments_have_none start scope es _ rest ws)
 
-bound_has_none : (result : Option ℕ) (r : Option Return) (a b : At) (fresh : ℕ) (last : List Stmt) → Bound result r a fresh last b → HasNoCalls last
+bound_has_none : (result : Option ℕ) (r : Option Return) (a b : At) (fresh : ℕ) (last : List Stmt) →
+    Bound result r a fresh last b → HasNoCalls last
 bound_has_none None None a b fresh last w = subst HasNoCalls (sym w.0) tt
 bound_has_none None (Some r) a b fresh last w = lone last r.start (Bind fresh r.value) w.0 tt
 bound_has_none (Some k) None a b fresh last w = absurd w
@@ -93,6 +100,7 @@ helpers_have_none shape (suc depth) helper count first body r fresh (h, is, e, (
     all_none (HelpersWritten shape depth) (helpers_have_none shape depth) h.body.items (entered h.parameters first) b body w
 
 -- an expanded section has no call
-pub written_out_has_no_calls : (shape : Shape) (section section' : Section) → IsWrittenOut shape section section' → HasNoCalls section'.body.items
+pub written_out_has_no_calls : (shape : Shape) (section section' : Section) → IsWrittenOut shape section section' →
+    HasNoCalls section'.body.items
 written_out_has_no_calls shape section section' w =
     all_none (HelpersWritten shape deepest) (helpers_have_none shape deepest) section.body.items (entered section.parameters 0) w.body.0 section'.body.items w.body.1

@@ -1,17 +1,21 @@
 -- What is written out binds the next numbers, in the order of its text.
-use Rattle.std.proofs.Common.{◌≡◌, ℕ, zero, suc, ◌+◌, List, [], ◌∷◌, ◌++◌, length, Option, Some, None, refl, sym, ap, ◌∙◌, subst, arith, append_assoc, Vec, Global}
+use Rattle.std.proofs.Common.{◌≡◌, ℕ, zero, suc, ◌+◌, List, [], ◌∷◌, ◌++◌, length, Option, Some, None, refl, sym, ap}
+use Rattle.std.proofs.Common.{◌∙◌, subst, arith, append_assoc, Vec, Global}
 use mathlib.Core.Former.{Count}
 use Rattle.core_lang.specs.declared.tree.Expr.{Expr}
 use Rattle.core_lang.specs.declared.tree.Condition.{Condition}
 use Rattle.core_lang.specs.declared.tree.Stmt.{Stmt}
-use Rattle.core_lang.specs.declared.tree.Action.{Action, Bind, SetLocal, SetGlobal, SetElement, SetField, Call, Print, If', IfElse', While', If, IfElse, While, Row_of-Stmt, end_of-Stmt, more_of-Stmt, items-the_row-Stmt, items_hidden-the_row-Stmt-0}
+use Rattle.core_lang.specs.declared.tree.Action.{Action, Bind, SetLocal, SetGlobal, SetElement, SetField, Call, Print}
+use Rattle.core_lang.specs.declared.tree.Action.{If', IfElse', While', If, IfElse, While, Row_of-Stmt, end_of-Stmt}
+use Rattle.core_lang.specs.declared.tree.Action.{more_of-Stmt, items-the_row-Stmt, items_hidden-the_row-Stmt-0}
 use Rattle.core_lang.specs.declared.tree.Return.{Return}
 use Rattle.core_lang.specs.declared.tree.Section.{Section}
 use Rattle.core_lang.specs.declared.shape.Shape.{Shape}
 use Rattle.core_lang.specs.Scopes.{bound_by, bound_in, bound_in_all, numbers_from}
 use Rattle.core_lang.specs.Theory.Lists.{block_of, else_of}
 use Rattle.core_lang.specs.Meaning.{deepest}
-use Rattle.core_lang.specs.Expansion.{Pair, At, behind_block, entered, one, Arguments, Bound, Bodies, Writes, WritesRow, WritesAll, HelpersWritten, IsWrittenOut}
+use Rattle.core_lang.specs.Expansion.{Pair, At, behind_block, entered, one, Arguments, Bound, Bodies, Writes}
+use Rattle.core_lang.specs.Expansion.{WritesRow, WritesAll, HelpersWritten, IsWrittenOut}
 
 -- ---- lists of numbers
 
@@ -36,7 +40,8 @@ bound_if c block = let row = block_of (If c block) in bound_items row.0 row.1 �
 bound_while : (c : Condition) (block : Vec Stmt Global) → bound_by (While c block) ≡ bound_in_all block.items
 bound_while c block = let row = block_of (While c block) in bound_items row.0 row.1 ∙ ap bound_in_all (items_hidden-the_row-Stmt-0 block)
 
-bound_if_else : (c : Condition) (block otherwise : Vec Stmt Global) → bound_by (IfElse c block otherwise) ≡ bound_in_all block.items ++ bound_in_all otherwise.items
+bound_if_else : (c : Condition) (block otherwise : Vec Stmt Global) →
+    bound_by (IfElse c block otherwise) ≡ bound_in_all block.items ++ bound_in_all otherwise.items
 bound_if_else c block otherwise =
     let row = block_of (IfElse c block otherwise) in
     let row' = else_of (IfElse c block otherwise) in
@@ -71,7 +76,8 @@ none a b ys e f = (0, e, omega (arith, f))
 single : (a b : ℕ) (ys : List Stmt) → bound_in_all ys ≡ a ∷ [] → b ≡ a + 1 → Numbered a ys b
 single a b ys e f = (1, e, omega (arith, f))
 
-arguments_numbered : (start : ℕ) (scope : List Pair) (es : List Expr) (fresh : ℕ) (lets : List Stmt) → Arguments start scope es fresh lets → Numbered fresh lets (fresh + length es)
+arguments_numbered : (start : ℕ) (scope : List Pair) (es : List Expr) (fresh : ℕ) (lets : List Stmt) →
+    Arguments start scope es fresh lets → Numbered fresh lets (fresh + length es)
 arguments_numbered start scope [] fresh lets w = none fresh (fresh + 0) lets (ap bound_in_all w) (omega arith)
 arguments_numbered start scope (e ∷ es) fresh lets (e', rest, r, w, ws) =
     let first : Numbered fresh (one start (Bind fresh e')) (fresh + 1) = single fresh (fresh + 1) (one start (Bind fresh e')) refl refl in
@@ -80,18 +86,21 @@ arguments_numbered start scope (e ∷ es) fresh lets (e', rest, r, w, ws) =
     let end : fresh + 1 + length es ≡ fresh + length (e ∷ es) = omega arith in
     subst (λ zs. Numbered fresh zs (fresh + length (e ∷ es))) (sym w) (subst (λ b. Numbered fresh (record { start = start; action = Bind fresh e' } ∷ rest) b) end together)
 
-bound_numbered : (result : Option ℕ) (r : Option Return) (a b : At) (fresh : ℕ) (last : List Stmt) → Bound result r a fresh last b → Numbered fresh last b.fresh
+bound_numbered : (result : Option ℕ) (r : Option Return) (a b : At) (fresh : ℕ) (last : List Stmt) →
+    Bound result r a fresh last b → Numbered fresh last b.fresh
 bound_numbered None None a b fresh last w = none fresh b.fresh last (ap bound_in_all w.0) (ap (λ (z : At). z.fresh) w.1)
 bound_numbered None (Some r) a b fresh last w = single fresh b.fresh last (ap bound_in_all w.0) (ap (λ (z : At). z.fresh) w.1)
 bound_numbered (Some k) None a b fresh last w = absurd w
 bound_numbered (Some k) (Some r) a b fresh last w = single fresh b.fresh last (ap bound_in_all w.1) (ap (λ (z : At). z.fresh) w.2)
 
 module _ (Body : Bodies) (bodies : BodiesNumbered Body) where
-  quiet : (a b : At) (ys : List Stmt) (start : ℕ) (x : Action) → bound_by x ≡ [] → ys ≡ one start x → b ≡ a → Numbered a.fresh ys b.fresh
+  quiet : (a b : At) (ys : List Stmt) (start : ℕ) (x : Action) → bound_by x ≡ [] → ys ≡ one start x → b ≡ a →
+      Numbered a.fresh ys b.fresh
   quiet a b ys start x e w f = none a.fresh b.fresh ys (ap bound_in_all w ∙ bound_one start x ∙ e) (ap (λ (z : At). z.fresh) f)
 
   mutual
-    pub writes_numbered : (x : Action) (start : ℕ) (a b : At) (ys : List Stmt) → Writes Body x start a ys b → Numbered a.fresh ys b.fresh
+    pub writes_numbered : (x : Action) (start : ℕ) (a b : At) (ys : List Stmt) → Writes Body x start a ys b →
+        Numbered a.fresh ys b.fresh
     writes_numbered (Bind k e) start a b ys (e', r, same, w, f) = single a.fresh b.fresh ys (ap bound_in_all w) (ap (λ (z : At). z.fresh) f)
     writes_numbered (SetLocal k e) start a b ys (k', e', c, r, w, f) = quiet a b ys start (SetLocal k' e') refl w f
     writes_numbered (SetGlobal cell e) start a b ys (e', r, w, f) = quiet a b ys start (SetGlobal cell e') refl w f
@@ -119,13 +128,15 @@ module _ (Body : Bodies) (bodies : BodiesNumbered Body) where
         let inner = row_numbered body a after body'.items w in
         (inner.0, ap bound_in_all e ∙ bound_one start (While c' body') ∙ bound_while c' body' ∙ inner.1, inner.2 ∙ sym (ap (λ (z : At). z.fresh) f))
 
-    pub row_numbered : {m : _} (row : Row_of-Stmt m) (a b : At) (ys : List Stmt) → WritesRow Body row a ys b → Numbered a.fresh ys b.fresh
+    pub row_numbered : {m : _} (row : Row_of-Stmt m) (a b : At) (ys : List Stmt) → WritesRow Body row a ys b →
+        Numbered a.fresh ys b.fresh
     row_numbered end_of-Stmt a b ys (e, f) = none a.fresh b.fresh ys (ap bound_in_all e) (ap (λ (z : At). z.fresh) f)
     row_numbered (more_of-Stmt start x rest) a b ys (front, rear, middle, w, ws, e) =
         subst (λ zs. Numbered a.fresh zs b.fresh) (sym e)
         (both a.fresh middle.fresh b.fresh front rear (writes_numbered x start a middle front w) (row_numbered rest middle b rear ws))
 
-  pub all_numbered : (xs : List Stmt) (a b : At) (ys : List Stmt) → WritesAll Body xs a ys b → Numbered a.fresh ys b.fresh
+  pub all_numbered : (xs : List Stmt) (a b : At) (ys : List Stmt) → WritesAll Body xs a ys b →
+      Numbered a.fresh ys b.fresh
   all_numbered [] a b ys (e, f) = none a.fresh b.fresh ys (ap bound_in_all e) (ap (λ (z : At). z.fresh) f)
   all_numbered (x ∷ xs) a b ys (front, rear, middle, w, ws, e) =
       subst (λ zs. Numbered a.fresh zs b.fresh) (sym e)

@@ -1,5 +1,7 @@
 -- A section with its helpers written out means what it meant.
-use Rattle.std.proofs.Common.{◌≡◌, ℕ, zero, suc, ◌+◌, ◌<◌, ◌≤◌, ℤ, List, [], ◌∷◌, ◌++◌, length, map, drop, Option, Some, None, Result, Ok, Err, Bool, true, false, refl, sym, ap, ◌∙◌, subst, arith, inl, inr}
+use Rattle.std.proofs.Common.{◌≡◌, ℕ, zero, suc, ◌+◌, ◌<◌, ◌≤◌, ℤ, List, [], ◌∷◌, ◌++◌, length, map, drop, Option}
+use Rattle.std.proofs.Common.{Some, None, Result, Ok, Err, Bool, true, false, refl, sym, ap, ◌∙◌, subst, arith, inl}
+use Rattle.std.proofs.Common.{inr}
 use Rattle.std.specs.Prelude.{slice_get, slice_set, nat_lt, if◌then◌else◌, ⊤}
 use Rattle.std.specs.List.{Contains}
 use Rattle.std.proofs.lemmas.Option.{none-some}
@@ -14,17 +16,26 @@ use Rattle.core_lang.specs.declared.shape.Shape.{Shape}
 use Rattle.core_lang.specs.declared.tree.Expr.{Expr}
 use Rattle.core_lang.specs.declared.tree.Condition.{Condition}
 use Rattle.core_lang.specs.declared.tree.Stmt.{Stmt}
-use Rattle.core_lang.specs.declared.tree.Action.{Action, Bind, SetLocal, SetGlobal, SetElement, SetField, Call, Print, If', IfElse', While', If, IfElse, While, Row_of-Stmt, end_of-Stmt, more_of-Stmt}
+use Rattle.core_lang.specs.declared.tree.Action.{Action, Bind, SetLocal, SetGlobal, SetElement, SetField, Call, Print}
+use Rattle.core_lang.specs.declared.tree.Action.{If', IfElse', While', If, IfElse, While, Row_of-Stmt, end_of-Stmt}
+use Rattle.core_lang.specs.declared.tree.Action.{more_of-Stmt}
 use Rattle.core_lang.specs.declared.tree.Return.{Return}
 use Rattle.core_lang.specs.declared.tree.Local.{Local}
 use Rattle.core_lang.specs.declared.tree.Section.{Section}
 use Rattle.core_lang.specs.Cells.{with, found, element_cell, field_cell, not_null, read}
-use Rattle.core_lang.specs.Meaning.{State, Flow, GoesOn, Traps, Beyond, Astray, Helpers, Run, Over, place_of, value_of, values_of, truth_of, given, after, choose, printed, written, stored, turns, over, returned, ending, concluded, default_local, opening, back, effect_by, effects_by, sequence_by, run_from, if_there, helped, deepest, effect_of, sequence}
+use Rattle.core_lang.specs.Meaning.{State, Flow, GoesOn, Traps, Beyond, Astray, Helpers, Run, Over, place_of}
+use Rattle.core_lang.specs.Meaning.{value_of, values_of, truth_of, given, after, choose, printed, written, stored}
+use Rattle.core_lang.specs.Meaning.{turns, over, returned, ending, concluded, default_local, opening, back, effect_by}
+use Rattle.core_lang.specs.Meaning.{effects_by, sequence_by, run_from, if_there, helped, deepest, effect_of, sequence}
 use Rattle.core_lang.specs.Theory.Lists.{effect_of-If, effect_of-IfElse, effect_of-While}
 use Rattle.core_lang.specs.Whole.{run_of}
-use Rattle.core_lang.specs.Expansion.{Pair, pair, At, Renames, RenamesTest, RenamesResult, HasSamePlaces, behind_bound, behind_block, parameters_at, entered, one, Arguments, Bound, Bodies, Writes, WritesRow, WritesAll, WritesBody, HelpersWritten, IsWrittenOut}
+use Rattle.core_lang.specs.Expansion.{Pair, pair, At, Renames, RenamesTest, RenamesResult, HasSamePlaces}
+use Rattle.core_lang.specs.Expansion.{behind_bound, behind_block, parameters_at, entered, one, Arguments, Bound}
+use Rattle.core_lang.specs.Expansion.{Bodies, Writes, WritesRow, WritesAll, WritesBody, HelpersWritten, IsWrittenOut}
 use Rattle.core_lang.proofs.Renamed.{Agree, value_same, truth_same, place_same, element_same, cell_same}
-use Rattle.core_lang.proofs.WrittenScopes.{get_set_same, get_set_other, length_set, there, Ordered, first_below, all_below, raised, set_agree, new_agree, bound_agree, BodiesGrow, writes_grow, row_grows, all_grow, helpers_grow}
+use Rattle.core_lang.proofs.WrittenScopes.{get_set_same, get_set_other, length_set, there, Ordered, first_below}
+use Rattle.core_lang.proofs.WrittenScopes.{all_below, raised, set_agree, new_agree, bound_agree, BodiesGrow}
+use Rattle.core_lang.proofs.WrittenScopes.{writes_grow, row_grows, all_grow, helpers_grow}
 use Rattle.core_lang.specs.Theory.Items.{not_in_none, in_cases}
 
 -- ---- flows
@@ -47,13 +58,15 @@ after_with (Traps t s) f g h = refl
 after_with Beyond f g h = refl
 after_with Astray f g h = refl
 
-sequence_append : (xs ys : List Stmt) (shape : Shape) (n : ℕ) (s : State) → sequence (xs ++ ys) shape n s ≡ after (sequence xs shape n s) (sequence ys shape n)
+sequence_append : (xs ys : List Stmt) (shape : Shape) (n : ℕ) (s : State) →
+    sequence (xs ++ ys) shape n s ≡ after (sequence xs shape n s) (sequence ys shape n)
 sequence_append [] ys shape n s = refl
 sequence_append (x ∷ xs) ys shape n s =
     after_with (effect_of x.action shape n s) (sequence (xs ++ ys) shape n) (λ t. after (sequence xs shape n t) (sequence ys shape n)) (λ t. sequence_append xs ys shape n t)
     ∙ sym (after_after (effect_of x.action shape n s) (sequence xs shape n) (sequence ys shape n))
 
-stored_there : (k : ℕ) (v old : Value) (s : State) → slice_get s.locals k ≡ Some old → stored k v s ≡ GoesOn (record s { locals = slice_set s.locals k v })
+stored_there : (k : ℕ) (v old : Value) (s : State) → slice_get s.locals k ≡ Some old →
+    stored k v s ≡ GoesOn (record s { locals = slice_set s.locals k v })
 stored_there k v old s e = ap (λ (o : Option Value). given (found o) s (λ _. GoesOn (record s { locals = slice_set s.locals k v }))) e
 
 -- ---- what the written tree keeps
@@ -98,17 +111,20 @@ module _ (shape shape' : Shape) (same : HasSamePlaces shape shape') (n : ℕ) (c
   both : (scope : List Pair) (f g f' g' : Flow) → f ≡ g → f' ≡ g' → LinkedFlow scope g g' → LinkedFlow scope f f'
   both scope f g f' g' e e' h = subst (λ z. LinkedFlow scope z f') (sym e) (subst (LinkedFlow scope g) (sym e') h)
 
-  given_one : {A : Type 0} (scope : List Pair) (r : Result A Failure) (s s' : State) (f f' : A → Flow) → s'.heap ≡ s.heap → s'.prints ≡ s.prints →
+  given_one : {A : Type 0} (scope : List Pair) (r : Result A Failure) (s s' : State) (f f' : A → Flow) →
+      s'.heap ≡ s.heap → s'.prints ≡ s.prints →
       ((a : A) → LinkedFlow scope (f a) (f' a)) → LinkedFlow scope (given r s f) (given r s' f')
   given_one scope (Ok a) s s' f f' e p h = h a
   given_one scope (Err (Trap t)) s s' f f' e p h = (refl, e, p)
   given_one scope (Err Wrong) s s' f f' e p h = tt
 
-  given_linked : {A : Type 0} (scope old : List Pair) (r r' : Result A Failure) (s s' : State) (f f' : A → Flow) → r' ≡ r → Linked old s s' →
+  given_linked : {A : Type 0} (scope old : List Pair) (r r' : Result A Failure) (s s' : State) (f f' : A → Flow) →
+      r' ≡ r → Linked old s s' →
       ((a : A) → LinkedFlow scope (f a) (f' a)) → LinkedFlow scope (given r s f) (given r' s' f')
   given_linked scope old r r' s s' f f' e l h = subst (λ z. LinkedFlow scope (given r s f) (given z s' f')) (sym e) (given_one scope r s s' f f' l.heap l.prints h)
 
-  after_linked : (scope old : List Pair) (f f' : Flow) (g g' : State → Flow) → LinkedFlow old f f' → ((s s' : State) → Linked old s s' → LinkedFlow scope (g s) (g' s')) →
+  after_linked : (scope old : List Pair) (f f' : Flow) (g g' : State → Flow) → LinkedFlow old f f' →
+      ((s s' : State) → Linked old s s' → LinkedFlow scope (g s) (g' s')) →
       LinkedFlow scope (after f g) (after f' g')
   after_linked scope old (GoesOn s) (GoesOn s') g g' l h = h s s' l
   after_linked scope old (Traps t s) (Traps t' s') g g' l h = l
@@ -116,22 +132,26 @@ module _ (shape shape' : Shape) (same : HasSamePlaces shape shape') (n : ℕ) (c
   after_linked scope old Astray Astray g g' l h = tt
   after_linked scope old _ _ g g' l h = absurd l
 
-  choose_linked : (scope : List Pair) (b : Bool) (f f' g g' : Flow) → LinkedFlow scope f f' → LinkedFlow scope g g' → LinkedFlow scope (choose b f g) (choose b f' g')
+  choose_linked : (scope : List Pair) (b : Bool) (f f' g g' : Flow) → LinkedFlow scope f f' → LinkedFlow scope g g' →
+      LinkedFlow scope (choose b f g) (choose b f' g')
   choose_linked scope true f f' g g' l m = l
   choose_linked scope false f f' g g' l m = m
 
-  weaker : (scope old : List Pair) (s s' : State) → ((p : Pair) → Contains scope p → Contains old p) → Linked old s s' → Linked scope s s'
+  weaker : (scope old : List Pair) (s s' : State) → ((p : Pair) → Contains scope p → Contains old p) →
+      Linked old s s' → Linked scope s s'
   weaker scope old s s' sub l =
       record { heap = l.heap; prints = l.prints; locals = λ a b c. l.locals a b (sub (pair a b) c); own_count = l.own_count; count = l.count; kept = l.kept }
 
-  weaker_flow : (scope old : List Pair) (f f' : Flow) → ((p : Pair) → Contains scope p → Contains old p) → LinkedFlow old f f' → LinkedFlow scope f f'
+  weaker_flow : (scope old : List Pair) (f f' : Flow) → ((p : Pair) → Contains scope p → Contains old p) →
+      LinkedFlow old f f' → LinkedFlow scope f f'
   weaker_flow scope old (GoesOn s) (GoesOn s') sub l = weaker scope old s s' sub l
   weaker_flow scope old (Traps t s) (Traps t' s') sub l = l
   weaker_flow scope old Beyond Beyond sub l = tt
   weaker_flow scope old Astray Astray sub l = tt
   weaker_flow scope old _ _ sub l = absurd l
 
-  turns_linked : (scope : List Pair) (k : ℕ) (test test' : State → Result Bool Failure) (f f' : State → Flow) → ((s s' : State) → Linked scope s s' → test' s' ≡ test s) →
+  turns_linked : (scope : List Pair) (k : ℕ) (test test' : State → Result Bool Failure) (f f' : State → Flow) →
+      ((s s' : State) → Linked scope s s' → test' s' ≡ test s) →
       ((s s' : State) → Linked scope s s' → LinkedFlow scope (f s) (f' s')) → (s s' : State) → Linked scope s s' → LinkedFlow scope (turns k test f s) (turns k test' f' s')
   turns_linked scope zero test test' f f' t h s s' l =
       given_linked scope scope (test s) (test' s') s s' _ _ (t s s' l) l (λ b. choose_linked scope b Beyond Beyond (GoesOn s) (GoesOn s') tt l)
@@ -142,13 +162,16 @@ module _ (shape shape' : Shape) (same : HasSamePlaces shape shape') (n : ℕ) (c
 
   -- ---- single statements
 
-  values : (scope : List Pair) (s s' : State) (e e' : Expr) → Linked scope s s' → Renames scope e e' → value_of e' shape' s'.locals s'.heap ≡ value_of e shape s.locals s.heap
+  values : (scope : List Pair) (s s' : State) (e e' : Expr) → Linked scope s s' → Renames scope e e' →
+      value_of e' shape' s'.locals s'.heap ≡ value_of e shape s.locals s.heap
   values scope s s' e e' l r = ap (value_of e' shape' s'.locals) l.heap ∙ value_same shape shape' same scope s.locals s'.locals s.heap l.locals e e' r
 
-  tests : (scope : List Pair) (s s' : State) (c c' : Condition) → Linked scope s s' → RenamesTest scope c c' → truth_of c' shape' s'.locals s'.heap ≡ truth_of c shape s.locals s.heap
+  tests : (scope : List Pair) (s s' : State) (c c' : Condition) → Linked scope s s' → RenamesTest scope c c' →
+      truth_of c' shape' s'.locals s'.heap ≡ truth_of c shape s.locals s.heap
   tests scope s s' c c' l r = ap (truth_of c' shape' s'.locals) l.heap ∙ truth_same shape shape' same scope s.locals s'.locals s.heap l.locals c c' r
 
-  written_linked : (scope : List Pair) (cell : ℕ) (v : Value) (s s' : State) → Linked scope s s' → LinkedFlow scope (written cell v s) (written cell v s')
+  written_linked : (scope : List Pair) (cell : ℕ) (v : Value) (s s' : State) → Linked scope s s' →
+      LinkedFlow scope (written cell v s) (written cell v s')
   written_linked scope cell v s s' l =
       given_linked scope scope (read s.heap cell) (read s'.heap cell) s s' _ _ (ap (λ h. read h cell) l.heap) l
       (λ _. record { heap = ap (λ h. slice_set h cell v) l.heap; prints = l.prints; locals = l.locals; own_count = l.own_count; count = l.count; kept = l.kept })
@@ -159,14 +182,16 @@ module _ (shape shape' : Shape) (same : HasSamePlaces shape shape') (n : ℕ) (c
       record { heap = l.heap; prints = ap (λ p. p ++ z ∷ []) l.prints; locals = l.locals; own_count = l.own_count; count = l.count; kept = l.kept }
   printed_if scope false z s s' l = (refl, l.heap, l.prints)
 
-  printed_linked : (scope : List Pair) (v : Value) (s s' : State) → Linked scope s s' → LinkedFlow scope (printed v s) (printed v s')
+  printed_linked : (scope : List Pair) (v : Value) (s s' : State) → Linked scope s s' →
+      LinkedFlow scope (printed v s) (printed v s')
   printed_linked scope (Int z) s s' l =
       subst (λ b. LinkedFlow scope (printed (Int z) s) (if b then GoesOn (record s' { prints = s'.prints ++ z ∷ [] }) else Traps TooManyPrints s'))
       (sym (ap (λ (p : List ℤ). nat_lt (length p) 256) l.prints)) (printed_if scope (nat_lt (length s.prints) 256) z s s' l)
   printed_linked scope (Ref r) s s' l = tt
 
   -- a local in scope is assigned to
-  assigned_linked : (a : At) (k k' : ℕ) (v : Value) (s s' : State) → Ordered first a.own a.fresh a.scope → Contains a.scope (pair k k') → Linked a.scope s s' →
+  assigned_linked : (a : At) (k k' : ℕ) (v : Value) (s s' : State) → Ordered first a.own a.fresh a.scope →
+      Contains a.scope (pair k k') → Linked a.scope s s' →
       LinkedFlow a.scope (stored k v s) (stored k' v s')
   assigned_linked a k k' v s s' o c l =
       let x = l.locals k k' c in
@@ -183,7 +208,8 @@ module _ (shape shape' : Shape) (same : HasSamePlaces shape shape') (n : ℕ) (c
       })
 
   -- a new local is bound
-  bound_linked : (a : At) (v : Value) (s s' : State) → Ordered first a.own a.fresh a.scope → a.own < many → a.fresh < many' → Linked a.scope s s' →
+  bound_linked : (a : At) (v : Value) (s s' : State) → Ordered first a.own a.fresh a.scope → a.own < many →
+      a.fresh < many' → Linked a.scope s s' →
       LinkedFlow (pair a.own a.fresh ∷ a.scope) (stored a.own v s) (stored a.fresh v s')
   bound_linked a v s s' o lt lt' l =
       let at : a.own < length s.locals = let c = l.own_count in omega (arith, c, lt) in
@@ -203,7 +229,8 @@ module _ (shape shape' : Shape) (same : HasSamePlaces shape shape') (n : ℕ) (c
       })
 
   -- a statement that is written as one statement
-  arrives : (flow : Flow) (s' : State) (start : ℕ) (x' : Action) (ys : List Stmt) (b c : At) → ys ≡ one start x' → b ≡ c → LinkedFlow c.scope flow (effect_of x' shape' n s') →
+  arrives : (flow : Flow) (s' : State) (start : ℕ) (x' : Action) (ys : List Stmt) (b c : At) → ys ≡ one start x' →
+      b ≡ c → LinkedFlow c.scope flow (effect_of x' shape' n s') →
       LinkedFlow b.scope flow (sequence ys shape' n s')
   arrives flow s' start x' ys b c e f h =
       subst (λ (z : At). LinkedFlow z.scope flow (sequence ys shape' n s')) (sym f)
@@ -220,7 +247,8 @@ module _ (shape shape' : Shape) (same : HasSamePlaces shape shape') (n : ℕ) (c
   ArgumentsLinked fresh count s' (Err Wrong) Astray = ⊤
   ArgumentsLinked fresh count s' _ _ = ⊥
 
-  one_argument : (fresh count : ℕ) (v : Value) (s' : State) (q : Result (List Value) Failure) (flow : Flow) → fresh < length s'.locals →
+  one_argument : (fresh count : ℕ) (v : Value) (s' : State) (q : Result (List Value) Failure) (flow : Flow) →
+      fresh < length s'.locals →
       ArgumentsLinked (fresh + 1) count (record s' { locals = slice_set s'.locals fresh v }) q flow → ArgumentsLinked fresh (suc count) s' (with q (λ vs. Ok (v ∷ vs))) flow
   one_argument fresh count v s' (Ok vs) (GoesOn t) lt (h, p, c, k, placed, e) = (
     h,
@@ -303,7 +331,8 @@ module _ (shape shape' : Shape) (same : HasSamePlaces shape shape') (n : ℕ) (c
   result_on (Err (Trap t)) a b result r fresh last s u w o le le' l = (refl, refl, refl)
   result_on (Err Wrong) a b result r fresh last s u w o le le' l = tt
 
-  ended_linked : (a b : At) (result : Option ℕ) (r : Option Return) (fresh : ℕ) (last : List Stmt) (s u : State) → Bound result r a fresh last b →
+  ended_linked : (a b : At) (result : Option ℕ) (r : Option Return) (fresh : ℕ) (last : List Stmt) (s u : State) →
+      Bound result r a fresh last b →
       Ordered first a.own fresh a.scope → b.own ≤ many → b.fresh ≤ many' → Linked a.scope (returns_to s u) u →
       LinkedFlow b.scope (back (ending r shape' u) result s) (sequence last shape' n u)
   ended_linked a b None None fresh last s u w o le le' l =
@@ -353,7 +382,8 @@ module _ (shape shape' : Shape) (same : HasSamePlaces shape shape') (n : ℕ) (c
   call_on (Err Wrong) Astray helper count a b result r fresh body last s s' g inside w o le le' few l = tt
   call_on _ _ helper count a b result r fresh body last s s' g inside w o le le' few l = absurd g
 
-  fresh_within : (result : Option ℕ) (r : Option Return) (a b : At) (fresh : ℕ) (last : List Stmt) → Bound result r a fresh last b → fresh ≤ b.fresh
+  fresh_within : (result : Option ℕ) (r : Option Return) (a b : At) (fresh : ℕ) (last : List Stmt) →
+      Bound result r a fresh last b → fresh ≤ b.fresh
   fresh_within None None a b fresh last w = let e = ap (λ (z : At). z.fresh) w.1 in omega (arith, e)
   fresh_within None (Some r) a b fresh last w = let e = ap (λ (z : At). z.fresh) w.1 in omega (arith, e)
   fresh_within (Some k) None a b fresh last w = absurd w
@@ -362,7 +392,8 @@ module _ (shape shape' : Shape) (same : HasSamePlaces shape shape') (n : ℕ) (c
   -- ---- statements
 
   mutual
-    action_linked : (x : Action) (start : ℕ) (a b : At) (ys : List Stmt) (s s' : State) → Writes Body x start a ys b → Ordered first a.own a.fresh a.scope → b.own ≤ many →
+    action_linked : (x : Action) (start : ℕ) (a b : At) (ys : List Stmt) (s s' : State) → Writes Body x start a ys b →
+        Ordered first a.own a.fresh a.scope → b.own ≤ many →
         b.fresh ≤ many' → Linked a.scope s s' → LinkedFlow b.scope (effect_by call x shape n s) (sequence ys shape' n s')
     action_linked (Bind k e) start a b ys s s' (e', r, same_k, w, f) o le le' l =
         let lt : a.own < many = let z = ap (λ (z : At). z.own) f in omega (arith, z, le) in
@@ -444,7 +475,8 @@ module _ (shape shape' : Shape) (same : HasSamePlaces shape shape') (n : ℕ) (c
         (λ u u' lu. weaker_flow a.scope middle.scope (effects_by call body shape n u) (sequence body'.items shape' n u') g.scope
         (row_linked body a middle body'.items u u' w o (omega (arith, own, le)) (omega (arith, fresh, le')) lu)) s s' l))
 
-    row_linked : {m : _} (row : Row_of-Stmt m) (a b : At) (ys : List Stmt) (s s' : State) → WritesRow Body row a ys b → Ordered first a.own a.fresh a.scope → b.own ≤ many →
+    row_linked : {m : _} (row : Row_of-Stmt m) (a b : At) (ys : List Stmt) (s s' : State) →
+        WritesRow Body row a ys b → Ordered first a.own a.fresh a.scope → b.own ≤ many →
         b.fresh ≤ many' → Linked a.scope s s' → LinkedFlow b.scope (effects_by call row shape n s) (sequence ys shape' n s')
     row_linked end_of-Stmt a b ys s s' (e, f) o le le' l =
         subst (λ (z : At). LinkedFlow z.scope (GoesOn s) (sequence ys shape' n s')) (sym f) (subst (λ zs. LinkedFlow a.scope (GoesOn s) (sequence zs shape' n s')) (sym e) l)
@@ -458,7 +490,8 @@ module _ (shape shape' : Shape) (same : HasSamePlaces shape shape') (n : ℕ) (c
         (action_linked x start a middle front s s' w o (omega (arith, own, le)) (omega (arith, fresh, le')) l)
         (λ u u' lu. row_linked rest middle b rear u u' ws (g.ordered o) le le' lu))
 
-  all_linked : (xs : List Stmt) (a b : At) (ys : List Stmt) (s s' : State) → WritesAll Body xs a ys b → Ordered first a.own a.fresh a.scope → b.own ≤ many →
+  all_linked : (xs : List Stmt) (a b : At) (ys : List Stmt) (s s' : State) → WritesAll Body xs a ys b →
+      Ordered first a.own a.fresh a.scope → b.own ≤ many →
       b.fresh ≤ many' → Linked a.scope s s' → LinkedFlow b.scope (sequence_by call xs shape n s) (sequence ys shape' n s')
   all_linked [] a b ys s s' (e, f) o le le' l =
       subst (λ (z : At). LinkedFlow z.scope (GoesOn s) (sequence ys shape' n s')) (sym f) (subst (λ zs. LinkedFlow a.scope (GoesOn s) (sequence zs shape' n s')) (sym e) l)
@@ -478,19 +511,22 @@ module _ (shape shape' : Shape) (same : HasSamePlaces shape shape') (n : ℕ) (c
   over_same o s s' h p =
       ap (λ z. Over (record { outcome = o; prints = z; heap = s.heap })) (sym p) ∙ ap (λ z. Over (record { outcome = o; prints = s'.prints; heap = z })) (sym h)
 
-  returned_same : (q : Result Value Failure) (s s' : State) → s'.heap ≡ s.heap → s'.prints ≡ s.prints → returned q s ≡ returned q s'
+  returned_same : (q : Result Value Failure) (s s' : State) → s'.heap ≡ s.heap → s'.prints ≡ s.prints →
+      returned q s ≡ returned q s'
   returned_same (Ok v) s s' h p = over_same (out.Returns v) s s' h p
   returned_same (Err (Trap t)) s s' h p = over_same (out.Traps t) s s' h p
   returned_same (Err Wrong) s s' h p = refl
 
-  ending_same : (scope : List Pair) (result r : Option Return) (s s' : State) → Linked scope s s' → RenamesResult scope result r → ending result shape s ≡ ending r shape' s'
+  ending_same : (scope : List Pair) (result r : Option Return) (s s' : State) → Linked scope s s' →
+      RenamesResult scope result r → ending result shape s ≡ ending r shape' s'
   ending_same scope None None s s' l w = over_same out.Ends s s' l.heap l.prints
   ending_same scope (Some x) (Some y) s s' l w =
       ap (λ z. returned z s) (sym (values scope s s' x.value y.value l w.1)) ∙ returned_same (value_of y.value shape' s'.locals s'.heap) s s' l.heap l.prints
   ending_same scope None (Some y) s s' l w = absurd w
   ending_same scope (Some x) None s s' l w = absurd w
 
-  concluded_same : (scope : List Pair) (result r : Option Return) (flow flow' : Flow) → LinkedFlow scope flow flow' → RenamesResult scope result r →
+  concluded_same : (scope : List Pair) (result r : Option Return) (flow flow' : Flow) → LinkedFlow scope flow flow' →
+      RenamesResult scope result r →
       concluded result shape flow ≡ concluded r shape' flow'
   concluded_same scope result r (GoesOn s) (GoesOn s') l w = ending_same scope result r s s' l w
   concluded_same scope result r (Traps t s) (Traps t' s') (e, h, p) w = over_same (out.Traps t) s s' h p ∙ ap (λ z. over (out.Traps z) s') (sym e)
@@ -498,7 +534,8 @@ module _ (shape shape' : Shape) (same : HasSamePlaces shape shape') (n : ℕ) (c
   concluded_same scope result r Astray Astray l w = refl
   concluded_same scope result r _ _ l w = absurd l
 
-  keeps_linked : (scope : List Pair) (flow flow' : Flow) (t : State) → LinkedFlow scope flow flow' → t.locals ≡ base → length t.locals ≡ many' → Keeps first t flow'
+  keeps_linked : (scope : List Pair) (flow flow' : Flow) (t : State) → LinkedFlow scope flow flow' → t.locals ≡ base →
+      length t.locals ≡ many' → Keeps first t flow'
   keeps_linked scope (GoesOn s) (GoesOn s') t l e c = (λ j lt. l.kept j lt ∙ ap (λ z. slice_get z j) (sym e), l.count ∙ sym c)
   keeps_linked scope flow (Traps x u) t l e c = tt
   keeps_linked scope flow Beyond t l e c = tt
@@ -510,7 +547,8 @@ module _ (shape shape' : Shape) (same : HasSamePlaces shape shape') (n : ℕ) (c
 -- ---- bodies
 
 -- the arguments, in the locals that stand for the parameters
-arguments_agree : (count : ℕ) (first : ℕ) (ls ls' : List Value) → ((k : ℕ) → k < count → (v : Value) × (slice_get ls k ≡ Some v) × (slice_get ls' (first + k) ≡ Some v)) →
+arguments_agree : (count : ℕ) (first : ℕ) (ls ls' : List Value) →
+    ((k : ℕ) → k < count → (v : Value) × (slice_get ls k ≡ Some v) × (slice_get ls' (first + k) ≡ Some v)) →
     Agree (parameters_at count first) ls ls'
 arguments_agree zero first ls ls' all a b c = absurd (not_in_none (pair a b) c)
 arguments_agree (suc n) first ls ls' all a b c =
@@ -527,7 +565,8 @@ parameters_ordered : (count first : ℕ) → Ordered first count (first + count)
 parameters_ordered zero first = omega arith
 parameters_ordered (suc n) first = (omega arith, omega arith, parameters_ordered n first)
 
-placed_there : (ls : List Value) (first : ℕ) (vs : List Value) (k : ℕ) → Placed ls first vs → k < length vs → (v : Value) × (slice_get vs k ≡ Some v) × (slice_get ls (first + k) ≡ Some v)
+placed_there : (ls : List Value) (first : ℕ) (vs : List Value) (k : ℕ) → Placed ls first vs → k < length vs →
+    (v : Value) × (slice_get vs k ≡ Some v) × (slice_get ls (first + k) ≡ Some v)
 placed_there ls first [] k p lt = absurd (omega (arith, lt))
 placed_there ls first (v ∷ vs) zero p lt = let z : first + 0 ≡ first = omega arith in (v, refl, ap (slice_get ls) z ∙ p.0)
 placed_there ls first (v ∷ vs) (suc k) p lt =
@@ -549,7 +588,8 @@ long_enough [] ls = all ls
 long_enough (v ∷ vs) [] = omega arith
 long_enough (v ∷ vs) (l ∷ ls) = let rest = long_enough vs ls in omega (arith, rest)
 
-body_means : (shape shape' : Shape) → HasSamePlaces shape shape' → (n : ℕ) (call : Helpers) (Body : Bodies) → BodiesGrow Body → BodiesMean shape' n call Body →
+body_means : (shape shape' : Shape) → HasSamePlaces shape shape' → (n : ℕ) (call : Helpers) (Body : Bodies) →
+    BodiesGrow Body → BodiesMean shape' n call Body →
     (section : Section) (first : ℕ) (body : List Stmt) (r : Option Return) (fresh : ℕ) → WritesBody Body section first body r fresh → (vs : List Value) (t : State) →
     length vs ≡ section.parameters → Placed t.locals first vs → fresh ≤ length t.locals →
     (run_from call section shape n (record (opening section vs t.heap) { prints = t.prints }) ≡ concluded r shape' (sequence body shape' n t)) × Keeps first t (sequence body shape' n t)
@@ -571,7 +611,8 @@ body_means shape shape' same n call Body bodies mean section first body r fresh 
       keeps_linked shape shape' same n call Body bodies mean first t.locals many many' b.scope (sequence_by call section.body.items shape n s) (sequence body shape' n t) t flow refl refl,
     )
 
-helpers_mean : (shape shape' : Shape) → HasSamePlaces shape shape' → (n depth : ℕ) → BodiesMean shape' n (helped depth shape n) (HelpersWritten shape depth)
+helpers_mean : (shape shape' : Shape) → HasSamePlaces shape shape' → (n depth : ℕ) →
+    BodiesMean shape' n (helped depth shape n) (HelpersWritten shape depth)
 helpers_mean shape shape' same n zero helper count first body r fresh w vs t e placed few = absurd w
 helpers_mean shape shape' same n (suc depth) helper count first body r fresh (h, is, c, w) vs t e placed few =
     let m = body_means shape shape' same n (helped depth shape n) (HelpersWritten shape depth) (helpers_grow shape depth) (helpers_mean shape shape' same n depth) h first body r fresh w vs t
@@ -580,7 +621,8 @@ helpers_mean shape shape' same n (suc depth) helper count first body r fresh (h,
     (ap (λ o. if_there o go) is ∙ m.0, m.1)
 
 -- a section with its helpers written out has the run that it had, whatever the turns
-pub written_out_runs_alike : (shape shape' : Shape) (section section' : Section) → HasSamePlaces shape shape' → IsWrittenOut shape section section' → (n : ℕ) (arguments heap : List Value) →
+pub written_out_runs_alike : (shape shape' : Shape) (section section' : Section) → HasSamePlaces shape shape' →
+    IsWrittenOut shape section section' → (n : ℕ) (arguments heap : List Value) →
     length arguments ≡ section.parameters → run_of section shape n arguments heap ≡ run_of section' shape' n arguments heap
 written_out_runs_alike shape shape' section section' same w n arguments heap count =
     let t : State = opening section' arguments heap in
@@ -588,7 +630,8 @@ written_out_runs_alike shape shape' section section' same w n arguments heap cou
     section'.body.items section'.result (length section'.locals.items) w.body arguments t count
     (place arguments 0 t.locals (λ k v e. let z : 0 + k ≡ k = omega arith in ap (slice_get t.locals) z ∙ get_front arguments (map default_local (drop (length arguments) section'.locals.items)) k v e)) (long_enough arguments section'.locals.items)).0
   where
-    place : (vs : List Value) (before : ℕ) (ls : List Value) → ((k : ℕ) (v : Value) → slice_get vs k ≡ Some v → slice_get ls (before + k) ≡ Some v) → Placed ls before vs
+    place : (vs : List Value) (before : ℕ) (ls : List Value) →
+        ((k : ℕ) (v : Value) → slice_get vs k ≡ Some v → slice_get ls (before + k) ≡ Some v) → Placed ls before vs
     place [] before ls h = tt
     place (v ∷ vs) before ls h =
         let z : before ≡ before + 0 = omega arith in (

@@ -1,14 +1,17 @@
 -- How scopes grow where helpers are written out, and which locals a write leaves.
-use Rattle.std.proofs.Common.{◌≡◌, ℕ, zero, suc, ◌+◌, ◌<◌, ◌≤◌, List, [], ◌∷◌, length, Option, Some, None, ◌⊎◌, inl, inr, refl, sym, ap, ◌∙◌, subst, arith}
+use Rattle.std.proofs.Common.{◌≡◌, ℕ, zero, suc, ◌+◌, ◌<◌, ◌≤◌, List, [], ◌∷◌, length, Option, Some, None, ◌⊎◌, inl}
+use Rattle.std.proofs.Common.{inr, refl, sym, ap, ◌∙◌, subst, arith}
 use Rattle.std.specs.Prelude.{slice_get, slice_set}
 use Rattle.std.specs.List.{Contains}
 use Rattle.std.proofs.lemmas.Option.{slice_get_within}
 use Rattle.core_lang.specs.declared.value.Value.{Value}
 use Rattle.core_lang.specs.declared.tree.Stmt.{Stmt}
-use Rattle.core_lang.specs.declared.tree.Action.{Action, Bind, SetLocal, SetGlobal, SetElement, SetField, Call, Print, If', IfElse', While', Row_of-Stmt, end_of-Stmt, more_of-Stmt}
+use Rattle.core_lang.specs.declared.tree.Action.{Action, Bind, SetLocal, SetGlobal, SetElement, SetField, Call, Print}
+use Rattle.core_lang.specs.declared.tree.Action.{If', IfElse', While', Row_of-Stmt, end_of-Stmt, more_of-Stmt}
 use Rattle.core_lang.specs.declared.tree.Return.{Return}
 use Rattle.core_lang.specs.declared.shape.Shape.{Shape}
-use Rattle.core_lang.specs.Expansion.{Pair, pair, At, behind_bound, behind_block, entered, Bound, Bodies, Writes, WritesRow, WritesAll, HelpersWritten}
+use Rattle.core_lang.specs.Expansion.{Pair, pair, At, behind_bound, behind_block, entered, Bound, Bodies, Writes}
+use Rattle.core_lang.specs.Expansion.{WritesRow, WritesAll, HelpersWritten}
 use Rattle.core_lang.proofs.Renamed.{Agree}
 use Rattle.core_lang.specs.Theory.Items.{in_cases, in_rest, not_in_none}
 
@@ -19,7 +22,8 @@ get_set_same [] k v lt = absurd (omega (arith, lt))
 get_set_same (x ∷ xs) zero v lt = refl
 get_set_same (x ∷ xs) (suc k) v lt = get_set_same xs k v (omega (arith, lt))
 
-pub get_set_other : (xs : List Value) (k j : ℕ) (v : Value) → (j ≡ k → ⊥) → slice_get (slice_set xs k v) j ≡ slice_get xs j
+pub get_set_other : (xs : List Value) (k j : ℕ) (v : Value) → (j ≡ k → ⊥) →
+    slice_get (slice_set xs k v) j ≡ slice_get xs j
 get_set_other [] k j v n = refl
 get_set_other (x ∷ xs) zero zero v n = absurd (n refl)
 get_set_other (x ∷ xs) zero (suc j) v n = refl
@@ -53,7 +57,8 @@ pub first_below : (first own fresh : ℕ) (scope : List Pair) → Ordered first 
 first_below first own fresh [] o = o
 first_below first own fresh (p ∷ ps) o = let rest = first_below first p.own p.written ps o.2 in omega (arith, o.1, rest)
 
-pub all_below : (first own fresh : ℕ) (scope : List Pair) (a b : ℕ) → Ordered first own fresh scope → Contains scope (pair a b) → (a < own) × (b < fresh) × (first ≤ b)
+pub all_below : (first own fresh : ℕ) (scope : List Pair) (a b : ℕ) → Ordered first own fresh scope →
+    Contains scope (pair a b) → (a < own) × (b < fresh) × (first ≤ b)
 all_below first own fresh [] a b o c = absurd (not_in_none (pair a b) c)
 all_below first own fresh (p ∷ ps) a b o c =
     elim (in_cases p (pair a b) ps c) [
@@ -65,11 +70,13 @@ all_below first own fresh (p ∷ ps) a b o c =
       | inr d ↦ let rest = all_below first p.own p.written ps a b o.2 d in (omega (arith, rest.0, o.0), omega (arith, rest.1, o.1), rest.2)
     ]
 
-pub raised : (first own fresh own' fresh' : ℕ) (scope : List Pair) → own ≤ own' → fresh ≤ fresh' → Ordered first own fresh scope → Ordered first own' fresh' scope
+pub raised : (first own fresh own' fresh' : ℕ) (scope : List Pair) → own ≤ own' → fresh ≤ fresh' →
+    Ordered first own fresh scope → Ordered first own' fresh' scope
 raised first own fresh own' fresh' [] le le' o = omega (arith, le', o)
 raised first own fresh own' fresh' (p ∷ ps) le le' o = (omega (arith, o.0, le), omega (arith, o.1, le'), o.2)
 
-one_written : (first own fresh : ℕ) (scope : List Pair) (k a b : ℕ) → Ordered first own fresh scope → Contains scope (pair k a) → Contains scope (pair k b) → a ≡ b
+one_written : (first own fresh : ℕ) (scope : List Pair) (k a b : ℕ) → Ordered first own fresh scope →
+    Contains scope (pair k a) → Contains scope (pair k b) → a ≡ b
 one_written first own fresh [] k a b o c d = absurd (not_in_none (pair k a) c)
 one_written first own fresh (p ∷ ps) k a b o c d =
     elim (in_cases p (pair k a) ps c) [
@@ -83,7 +90,8 @@ one_written first own fresh (p ∷ ps) k a b o c d =
       ]
     ]
 
-one_own : (first own fresh : ℕ) (scope : List Pair) (a b k : ℕ) → Ordered first own fresh scope → Contains scope (pair a k) → Contains scope (pair b k) → a ≡ b
+one_own : (first own fresh : ℕ) (scope : List Pair) (a b k : ℕ) → Ordered first own fresh scope →
+    Contains scope (pair a k) → Contains scope (pair b k) → a ≡ b
 one_own first own fresh [] a b k o c d = absurd (not_in_none (pair a k) c)
 one_own first own fresh (p ∷ ps) a b k o c d =
     elim (in_cases p (pair a k) ps c) [
@@ -98,7 +106,8 @@ one_own first own fresh (p ∷ ps) a b k o c d =
     ]
 
 -- a local in scope is assigned to, in both
-pub set_agree : (first own fresh : ℕ) (scope : List Pair) (ls ls' : List Value) (k k' : ℕ) (v : Value) → Ordered first own fresh scope → Contains scope (pair k k') →
+pub set_agree : (first own fresh : ℕ) (scope : List Pair) (ls ls' : List Value) (k k' : ℕ) (v : Value) →
+    Ordered first own fresh scope → Contains scope (pair k k') →
     Agree scope ls ls' → Agree scope (slice_set ls k v) (slice_set ls' k' v)
 set_agree first own fresh scope ls ls' k k' v o c agree a b d =
     let old = agree a b d in
@@ -116,7 +125,8 @@ set_agree first own fresh scope ls ls' k k' v o c agree a b d =
     ]
 
 -- a new local of the written tree is bound
-pub new_agree : (first own fresh : ℕ) (scope : List Pair) (ls ls' : List Value) (k : ℕ) (v : Value) → Ordered first own fresh scope → fresh ≤ k →
+pub new_agree : (first own fresh : ℕ) (scope : List Pair) (ls ls' : List Value) (k : ℕ) (v : Value) →
+    Ordered first own fresh scope → fresh ≤ k →
     Agree scope ls ls' → Agree scope ls (slice_set ls' k v)
 new_agree first own fresh scope ls ls' k v o le agree a b d =
     let old = agree a b d in
@@ -124,7 +134,8 @@ new_agree first own fresh scope ls ls' k v o le agree a b d =
     (old.0, old.1, get_set_other ls' k b v (λ e. omega (arith, e, low.1, le)) ∙ old.2)
 
 -- a new local is bound in both
-pub bound_agree : (first own fresh : ℕ) (scope : List Pair) (ls ls' : List Value) (v : Value) → Ordered first own fresh scope → own < length ls → fresh < length ls' →
+pub bound_agree : (first own fresh : ℕ) (scope : List Pair) (ls ls' : List Value) (v : Value) →
+    Ordered first own fresh scope → own < length ls → fresh < length ls' →
     Agree scope ls ls' → Agree (pair own fresh ∷ scope) (slice_set ls own v) (slice_set ls' fresh v)
 bound_agree first own fresh scope ls ls' v o lt lt' agree a b d =
     elim (in_cases (pair own fresh) (pair a b) scope d) [
@@ -196,7 +207,8 @@ raises first a b fresh le e =
       ordered = λ o. raised first a.own a.fresh a.own fresh a.scope (omega arith) le o;
     })
 
-pub bound_grows : (first : ℕ) (result : Option ℕ) (r : Option Return) (a b : At) (fresh : ℕ) (last : List Stmt) → a.fresh ≤ fresh → Bound result r a fresh last b → Grows first a b
+pub bound_grows : (first : ℕ) (result : Option ℕ) (r : Option Return) (a b : At) (fresh : ℕ) (last : List Stmt) →
+    a.fresh ≤ fresh → Bound result r a fresh last b → Grows first a b
 bound_grows first None None a b fresh last le w = raises first a b fresh le w.1
 bound_grows first None (Some r) a b fresh last le w = raises first a b (fresh + 1) (omega (arith, le)) w.1
 bound_grows first (Some k) None a b fresh last le w = absurd w
@@ -206,7 +218,8 @@ bound_grows first (Some k) (Some r) a b fresh last le w =
 
 module _ (Body : Bodies) (bodies : BodiesGrow Body) (first : ℕ) where
   mutual
-    pub writes_grow : (x : Action) (start : ℕ) (a b : At) (ys : List Stmt) → Writes Body x start a ys b → Grows first a b
+    pub writes_grow : (x : Action) (start : ℕ) (a b : At) (ys : List Stmt) → Writes Body x start a ys b →
+        Grows first a b
     writes_grow (Bind k e) start a b ys w = binds first a b w.4
     writes_grow (SetLocal k e) start a b ys w = stays first a b w.5
     writes_grow (SetGlobal cell e) start a b ys w = stays first a b w.3
@@ -222,7 +235,8 @@ module _ (Body : Bodies) (bodies : BodiesGrow Body) (first : ℕ) where
         blocks first a after b (grows_on first a (behind_block a middle) after one (row_grows otherwise (behind_block a middle) after otherwise'.items w')) f
     writes_grow (While' c m body) start a b ys (c', body', after, t, w, e, f) = blocks first a after b (row_grows body a after body'.items w) f
 
-    pub row_grows : {m : _} (row : Row_of-Stmt m) (a b : At) (ys : List Stmt) → WritesRow Body row a ys b → Grows first a b
+    pub row_grows : {m : _} (row : Row_of-Stmt m) (a b : At) (ys : List Stmt) → WritesRow Body row a ys b →
+        Grows first a b
     row_grows end_of-Stmt a b ys w = stays first a b w.1
     row_grows (more_of-Stmt start x rest) a b ys (front, back, middle, w, ws, e) =
         grows_on first a middle b (writes_grow x start a middle front w) (row_grows rest middle b back ws)

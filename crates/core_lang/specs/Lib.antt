@@ -22,5 +22,11 @@ pub use Rattle.core_lang.specs.Serial.{Invocation, Ended, WholeCall, run_call, s
 pub use Rattle.core_lang.specs.Typing.{struct_of, HasType, HaveTypes, local_types, IsHeap, HasCells, Fit, CanEnd}
 pub use Rattle.core_lang.specs.WellFormed.{IsChecked, IsWellFormed}
 unfoldable pub use Rattle.core_lang.specs.WellFormed.{CanCall}
-pub use Rattle.core_lang.specs.Working.Soundness.{Gives, IsTypedState, LeadsToTyped, ValuesHaveTheirTypes, TestsDecide, EffectsStayTyped}
-pub use Rattle.core_lang.specs.Laws.{MoreTurnsChangeNothing, HaveAtMostOneWhole, StaysTyped, NeverGoAstray, OpeningIsTyped, OverIsWhole, WholeIsOver, SerialOfNone, SerialOfBoth, HaveAtMostOneSerial, SerialSplits, QuietCallsChangeNothing, IsUnsettled, SettledAreSerial, WritingOutChangesNothing, ExpansionsRunAlike, WrittenOutHasNoCalls, WrittenOutBindsInOrder, WellFormedAreChecked, WellFormedCallNothing}
+pub use Rattle.core_lang.specs.Working.Soundness.{Gives, IsTypedState, LeadsToTyped, ValuesHaveTheirTypes}
+pub use Rattle.core_lang.specs.Working.Soundness.{TestsDecide, EffectsStayTyped}
+pub use Rattle.core_lang.specs.Laws.{MoreTurnsChangeNothing, HaveAtMostOneWhole, StaysTyped, NeverGoAstray}
+pub use Rattle.core_lang.specs.Laws.{OpeningIsTyped, OverIsWhole, WholeIsOver, SerialOfNone, SerialOfBoth}
+pub use Rattle.core_lang.specs.Laws.{HaveAtMostOneSerial, SerialSplits, QuietCallsChangeNothing, IsUnsettled}
+pub use Rattle.core_lang.specs.Laws.{SettledAreSerial, WritingOutChangesNothing, ExpansionsRunAlike}
+pub use Rattle.core_lang.specs.Laws.{WrittenOutHasNoCalls, WrittenOutBindsInOrder, WellFormedAreChecked}
+pub use Rattle.core_lang.specs.Laws.{WellFormedCallNothing}

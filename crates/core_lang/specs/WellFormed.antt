@@ -54,7 +54,8 @@ pub record IsLaidOut (program : Typed) : Type 0 where
       (i : ℕ) → i < x.length → IsCell program (x.first + i) (owner.Element a i) x.element
   pub pool : (p : ℕ) (x : Pool) → slice_get program.shape.pools.items p ≡ Some x →
       (i : ℕ) → i < x.length → (o : Object) × (slice_get program.shape.objects.items (x.first + i) ≡ Some o) × (o.pool ≡ p)
-  pub structure : (p : ℕ) (x : Pool) → slice_get program.shape.pools.items p ≡ Some x → x.structure < length program.structs.items
+  pub structure : (p : ℕ) (x : Pool) → slice_get program.shape.pools.items p ≡ Some x →
+      x.structure < length program.structs.items
   pub object : (o : ℕ) (x : Object) → slice_get program.shape.objects.items o ≡ Some x →
       (p : Pool) × (slice_get program.shape.pools.items x.pool ≡ Some p) × (p.first ≤ o) × (o < p.first + p.length)
   pub field : (o : ℕ) (x : Object) → slice_get program.shape.objects.items o ≡ Some x →
@@ -63,7 +64,8 @@ pub record IsLaidOut (program : Typed) : Type 0 where
   pub final : (o : ℕ) (x : Object) → slice_get program.shape.objects.items o ≡ Some x →
       (s f target : ℕ) → struct_of program.shape o ≡ Some s → final_target program s f ≡ Some target →
       (named : ℕ) × (slice_get program.shape.finals.items (x.finals + f) ≡ Some named) × (struct_of program.shape named ≡ Some target)
-  pub owner : (place : ℕ) (cell : Cell) → slice_get program.cells.items place ≡ Some cell → IsCellOf program place cell.owner
+  pub owner : (place : ℕ) (cell : Cell) → slice_get program.cells.items place ≡ Some cell →
+      IsCellOf program place cell.owner
 
 -- ---- what protects the cells
 
@@ -102,11 +104,14 @@ IsClassOf program number (class.Field structure lock) =
 pub record IsProtected (program : Typed) : Type 0 where
   pub global : (g : ℕ) (x : GlobalVariable) → slice_get program.globals.items g ≡ Some x → IsGlobalClass program x.class
   pub array : (a : ℕ) (x : Array) → slice_get program.shape.arrays.items a ≡ Some x → IsGlobalClass program x.class
-  pub field : (s f : ℕ) (x : Struct) (field : Field) → slice_get program.structs.items s ≡ Some x → slice_get x.fields.items f ≡ Some field →
+  pub field : (s f : ℕ) (x : Struct) (field : Field) → slice_get program.structs.items s ≡ Some x →
+      slice_get x.fields.items f ≡ Some field →
       Protects program s field.protection
-  pub lock_field : (s l : ℕ) (x : Struct) (lock : LockField) → slice_get program.structs.items s ≡ Some x → slice_get x.locks.items l ≡ Some lock →
+  pub lock_field : (s l : ℕ) (x : Struct) (lock : LockField) → slice_get program.structs.items s ≡ Some x →
+      slice_get x.locks.items l ≡ Some lock →
       slice_get program.classes.items lock.class ≡ Some (class.Field s l)
-  pub class_field : (number : ℕ) (c : LockClass) → slice_get program.classes.items number ≡ Some c → IsClassOf program number c
+  pub class_field : (number : ℕ) (c : LockClass) → slice_get program.classes.items number ≡ Some c →
+      IsClassOf program number c
 
 -- ---- the whole
 
@@ -125,7 +130,8 @@ pub record IsWithinLimits (program : Typed) : Type 0 where
   pub classes : length program.classes.items ≤ 128
   pub structs : length program.structs.items ≤ 64
   -- a struct's members, of all three kinds together
-  pub members : (s : ℕ) (x : Struct) → slice_get program.structs.items s ≡ Some x → length x.locks.items + length x.finals.items + length x.fields.items ≤ 32
+  pub members : (s : ℕ) (x : Struct) → slice_get program.structs.items s ≡ Some x →
+      length x.locks.items + length x.finals.items + length x.fields.items ≤ 32
   pub objects : length program.shape.objects.items ≤ 65536
   pub cells : length program.cells.items ≤ 262144
   -- sections and helpers together
@@ -142,15 +148,22 @@ pub record IsChecked (program : Typed) : Type 0 where
   pub laid_out : IsLaidOut program
   pub protected : IsProtected program
   pub opens : IsHeap program (opening_heap program)
-  pub sections : (k : ℕ) (section : Section) → slice_get program.sections.items k ≡ Some section → IsWellTypedSection program section
+  pub sections : (k : ℕ) (section : Section) → slice_get program.sections.items k ≡ Some section →
+      IsWellTypedSection program section
   pub scopes : (k : ℕ) (section : Section) → slice_get program.sections.items k ≡ Some section → IsWellScoped section
-  pub helpers : (k : ℕ) (helper : Section) → slice_get program.shape.helpers.items k ≡ Some helper → IsWellTypedSection program helper
-  pub helper_scopes : (k : ℕ) (helper : Section) → slice_get program.shape.helpers.items k ≡ Some helper → IsWellScoped helper
-  pub helper_depths : (k : ℕ) (helper : Section) → slice_get program.shape.helpers.items k ≡ Some helper → IsAtMostDeep program.shape deepest k
+  pub helpers : (k : ℕ) (helper : Section) → slice_get program.shape.helpers.items k ≡ Some helper →
+      IsWellTypedSection program helper
+  pub helper_scopes : (k : ℕ) (helper : Section) → slice_get program.shape.helpers.items k ≡ Some helper →
+      IsWellScoped helper
+  pub helper_depths : (k : ℕ) (helper : Section) → slice_get program.shape.helpers.items k ≡ Some helper →
+      IsAtMostDeep program.shape deepest k
   -- with what the helpers bring
-  pub written_locals : (k : ℕ) (section : Section) → slice_get program.sections.items k ≡ Some section → length (written_locals program.shape section) ≤ 64
-  pub helper_points : (k : ℕ) (section : Section) → slice_get program.sections.items k ≡ Some section → helper_points program.shape section ≤ 65536
-  pub scripts : (t k : ℕ) (thread : Thread) (call : Call) → slice_get program.threads.items t ≡ Some thread → slice_get thread.calls.items k ≡ Some call →
+  pub written_locals : (k : ℕ) (section : Section) → slice_get program.sections.items k ≡ Some section →
+      length (written_locals program.shape section) ≤ 64
+  pub helper_points : (k : ℕ) (section : Section) → slice_get program.sections.items k ≡ Some section →
+      helper_points program.shape section ≤ 65536
+  pub scripts : (t k : ℕ) (thread : Thread) (call : Call) → slice_get program.threads.items t ≡ Some thread →
+      slice_get thread.calls.items k ≡ Some call →
       CanCall program call.section call.arguments.items
 
 -- the same of a program whose helpers are written out: it has none left
@@ -159,8 +172,10 @@ pub record IsWellFormed (program : Typed) : Type 0 where
   pub laid_out : IsLaidOut program
   pub protected : IsProtected program
   pub opens : IsHeap program (opening_heap program)
-  pub sections : (k : ℕ) (section : Section) → slice_get program.sections.items k ≡ Some section → IsWellTypedSection program section
+  pub sections : (k : ℕ) (section : Section) → slice_get program.sections.items k ≡ Some section →
+      IsWellTypedSection program section
   pub scopes : (k : ℕ) (section : Section) → slice_get program.sections.items k ≡ Some section → IsWellScoped section
   pub helpers : program.shape.helpers.items ≡ []
-  pub scripts : (t k : ℕ) (thread : Thread) (call : Call) → slice_get program.threads.items t ≡ Some thread → slice_get thread.calls.items k ≡ Some call →
+  pub scripts : (t k : ℕ) (thread : Thread) (call : Call) → slice_get program.threads.items t ≡ Some thread →
+      slice_get thread.calls.items k ≡ Some call →
       CanCall program call.section call.arguments.items

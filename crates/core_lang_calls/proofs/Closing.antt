@@ -1,5 +1,6 @@
 -- The table of what is reached, against the relation.
-use Rattle.std.proofs.Common.{◌≡◌, ℕ, zero, suc, ◌<◌, true, ◌&&◌, List, [], ◌∷◌, length, ◌⊎◌, inl, inr, refl, ap, ◌∙◌, subst, arith}
+use Rattle.std.proofs.Common.{◌≡◌, ℕ, zero, suc, ◌<◌, true, ◌&&◌, List, [], ◌∷◌, length, ◌⊎◌, inl, inr, refl, ap, ◌∙◌}
+use Rattle.std.proofs.Common.{subst, arith}
 use Rattle.std.specs.Prelude.{◌==◌, slice_get, Option, Some, None}
 use Rattle.std.proofs.lemmas.Bool.{cases_lt, or_cases, or_left, or_right, and_parts, and_from, eq-eqb, eqb-true}
 use Rattle.std.proofs.lemmas.Option.{slice_get_within}
@@ -20,7 +21,8 @@ has_called [] g h = absurd h
 has_called (c ∷ cs) g (inl e) = or_left (c.helper == g) (is_called cs g) (eq-eqb c.helper g e)
 has_called (c ∷ cs) g (inr h) = or_right (c.helper == g) (is_called cs g) (has_called cs g h)
 
-called_at : (helpers : List Body) (f g : ℕ) (o : Option Body) → slice_get helpers f ≡ o → called_by o g ≡ true → Calls helpers f g
+called_at : (helpers : List Body) (f g : ℕ) (o : Option Body) → slice_get helpers f ≡ o → called_by o g ≡ true →
+    Calls helpers f g
 called_at helpers f g (Some b) is e = (b, is, called_has b.calls g e)
 called_at helpers f g None is e = absurd cc
 
@@ -89,7 +91,8 @@ from_last : (helpers : List Body) (k g : ℕ) → Parts helpers k k g → reache
 from_last helpers k g (inl b) = b
 from_last helpers k g (inr b) = b.1
 
-closed : (helpers : List Body) (k j f g : ℕ) → j < k → reaches_over k helpers f j ≡ true → reaches_over k helpers j g ≡ true → reaches_over k helpers f g ≡ true
+closed : (helpers : List Body) (k j f g : ℕ) → j < k → reaches_over k helpers f j ≡ true →
+    reaches_over k helpers j g ≡ true → reaches_over k helpers f g ≡ true
 closed helpers zero j f g lt a b = absurd (omega (arith, lt))
 closed helpers (suc k) j f g lt a b =
     elim (cases_lt j k) [

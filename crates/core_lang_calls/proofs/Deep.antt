@@ -7,7 +7,8 @@ use Rattle.core_lang_calls.specs.Depths.{of_body, deepest_of, depth_within, Call
 use Rattle.core_lang_calls.specs.Working.Laws.{CallsAreOfHelpers}
 
 -- what holds of each helper that is no deeper holds of all called
-all_called : (deep : ℕ → ℕ) (P Q : ℕ → Type 0) (d : ℕ) → ((g : ℕ) → deep g ≤ d → P g → Q g) → (cs : List CallSite) → deepest_of deep cs ≤ d → CallsOnly P cs → CallsOnly Q cs
+all_called : (deep : ℕ → ℕ) (P Q : ℕ → Type 0) (d : ℕ) → ((g : ℕ) → deep g ≤ d → P g → Q g) → (cs : List CallSite) →
+    deepest_of deep cs ≤ d → CallsOnly P cs → CallsOnly Q cs
 all_called deep P Q d go [] le only = tt
 all_called deep P Q d go (c ∷ cs) le only = (go c.helper (omega (arith, le)) only.0, all_called deep P Q d go cs (omega (arith, le)) only.1)
 
@@ -16,11 +17,13 @@ there [] f lt = absurd (omega (arith, lt))
 there (b ∷ bs) zero lt = (b, refl)
 there (b ∷ bs) (suc f) lt = there bs f (omega (arith, lt))
 
-deep_is : (helpers : List Body) (n f : ℕ) (b : Body) → slice_get helpers f ≡ Some b → depth_within (suc n) helpers f ≡ 1 + deepest_of (depth_within n helpers) b.calls
+deep_is : (helpers : List Body) (n f : ℕ) (b : Body) → slice_get helpers f ≡ Some b →
+    depth_within (suc n) helpers f ≡ 1 + deepest_of (depth_within n helpers) b.calls
 deep_is helpers n f b is = ap (λ (o : Option Body). of_body o (λ (b : Body). 1 + deepest_of (depth_within n helpers) b.calls)) is
 
 -- calls followed further than they go tell how deep they go
-pub deep_at : (helpers : List Body) → CallsAreOfHelpers helpers → (d n f : ℕ) → f < length helpers → depth_within n helpers f ≤ d → d < n → IsAtMostDeep helpers d f
+pub deep_at : (helpers : List Body) → CallsAreOfHelpers helpers → (d n f : ℕ) → f < length helpers →
+    depth_within n helpers f ≤ d → d < n → IsAtMostDeep helpers d f
 deep_at helpers right d zero f lt le less = absurd (omega (arith, less))
 deep_at helpers right zero (suc n) f lt le less =
     let b = there helpers f lt in
@@ -45,6 +48,7 @@ deeper helpers zero f is = absurd is
 deeper helpers (suc d) f is = (is.0, is.1, only_like (IsAtMostDeep helpers d) (IsAtMostDeep helpers (suc d)) (deeper helpers d) is.0.calls is.2)
 
 -- and so at most any more
-pub deeper_by : (helpers : List Body) (more d f : ℕ) → IsAtMostDeep helpers d f → (e : ℕ) → e ≡ d + more → IsAtMostDeep helpers e f
+pub deeper_by : (helpers : List Body) (more d f : ℕ) → IsAtMostDeep helpers d f → (e : ℕ) → e ≡ d + more →
+    IsAtMostDeep helpers e f
 deeper_by helpers zero d f is e same = subst (λ (x : ℕ). IsAtMostDeep helpers x f) (sym (let eq : e ≡ d = omega (arith, same) in eq)) is
 deeper_by helpers (suc more) d f is e same = deeper_by helpers more (suc d) f (deeper helpers d f is) e (omega (arith, same))

@@ -1,7 +1,9 @@
 -- Calls go further than there are helpers exactly where a recursion is reached.
-use Rattle.std.proofs.Common.{◌≡◌, ℕ, zero, suc, ◌+◌, ◌<◌, ◌≤◌, Bool, true, false, ◌&&◌, List, [], ◌∷◌, length, ◌⊎◌, inl, inr, refl, sym, ap, ◌∙◌, arith}
+use Rattle.std.proofs.Common.{◌≡◌, ℕ, zero, suc, ◌+◌, ◌<◌, ◌≤◌, Bool, true, false, ◌&&◌, List, [], ◌∷◌, length, ◌⊎◌}
+use Rattle.std.proofs.Common.{inl, inr, refl, sym, ap, ◌∙◌, arith}
 use Rattle.std.specs.Prelude.{slice_get, Option, Some, None}
-use Rattle.std.proofs.lemmas.Bool.{cases_eq, cases_lt, cases_Bool, and_parts, and_from, both_ways, false_from_ne_true, lt-ltb, le-ltb}
+use Rattle.std.proofs.lemmas.Bool.{cases_eq, cases_lt, cases_Bool, and_parts, and_from, both_ways, false_from_ne_true}
+use Rattle.std.proofs.lemmas.Bool.{lt-ltb, le-ltb}
 use Rattle.std.proofs.lemmas.Option.{slice_get_past}
 use Rattle.core_lang_calls.specs.declared.graph.CallSite.{CallSite}
 use Rattle.core_lang_calls.specs.Graphs.{Body}
@@ -35,7 +37,8 @@ count_le p q (suc n) h =
     let rest : count_to p n ≤ count_to q n = count_le p q n h in
     omega (arith, one, rest)
 
-count_lt : (p q : ℕ → Bool) (n j : ℕ) → ((k : ℕ) → p k ≡ true → q k ≡ true) → j < n → p j ≡ false → q j ≡ true → count_to p n < count_to q n
+count_lt : (p q : ℕ → Bool) (n j : ℕ) → ((k : ℕ) → p k ≡ true → q k ≡ true) → j < n → p j ≡ false → q j ≡ true →
+    count_to p n < count_to q n
 count_lt p q zero j h lt fails passes = absurd (omega (arith, lt))
 count_lt p q (suc n) j h lt fails passes =
     elim (cases_eq j n) [
@@ -72,7 +75,8 @@ search_below p (suc n) =
 
 -- ---- the deepest of calls
 
-pub deepest_le : (deep : ℕ → ℕ) (cs : List CallSite) (m : ℕ) → ((g : ℕ) → HasCall cs g → deep g ≤ m) → deepest_of deep cs ≤ m
+pub deepest_le : (deep : ℕ → ℕ) (cs : List CallSite) (m : ℕ) → ((g : ℕ) → HasCall cs g → deep g ≤ m) →
+    deepest_of deep cs ≤ m
 deepest_le deep [] m h = omega arith
 deepest_le deep (c ∷ cs) m h =
     let one : deep c.helper ≤ m = h c.helper (inl refl) in
@@ -102,14 +106,16 @@ called_free helpers f g free c = λ h r circle. free h (calls_one c r) circle
 abbrev reached : List Body → ℕ → ℕ
 reached helpers f = count_to (reaches helpers f) (length helpers)
 
-reached_less : (helpers : List Body) (f g : ℕ) → NoCircle helpers f → Calls helpers f g → g < length helpers → reached helpers g < reached helpers f
+reached_less : (helpers : List Body) (f g : ℕ) → NoCircle helpers f → Calls helpers f g → g < length helpers →
+    reached helpers g < reached helpers f
 reached_less helpers f g free c lt =
     count_lt (reaches helpers g) (reaches helpers f) (length helpers) g
     (λ h e. reaches_all helpers f h (calls_one c (all_reaches helpers g h e))) lt
     (false_from_ne_true (reaches helpers g g) (λ e. free g (calls c) (all_reaches helpers g g e)))
     (reaches_all helpers f g (calls c))
 
-depth_step : (helpers : List Body) (n f : ℕ) → NoCircle helpers f → ((g : ℕ) → NoCircle helpers g → depth_within n helpers g ≤ reached helpers g + 1) →
+depth_step : (helpers : List Body) (n f : ℕ) → NoCircle helpers f →
+    ((g : ℕ) → NoCircle helpers g → depth_within n helpers g ≤ reached helpers g + 1) →
     (b : Body) → slice_get helpers f ≡ Some b → (g : ℕ) → HasCall b.calls g → depth_within n helpers g ≤ reached helpers f
 depth_step helpers n f free before b is g has = elim (cases_lt g (length helpers)) [
   | inl lt ↦
@@ -119,7 +125,8 @@ depth_step helpers n f free before b is g has = elim (cases_lt g (length helpers
   | inr ge ↦ let none : depth_within n helpers g ≡ 0 = none_deep helpers n g ge in omega (arith, none)
 ]
 
-depth_of : (helpers : List Body) (n f : ℕ) → NoCircle helpers f → ((g : ℕ) → NoCircle helpers g → depth_within n helpers g ≤ reached helpers g + 1) →
+depth_of : (helpers : List Body) (n f : ℕ) → NoCircle helpers f →
+    ((g : ℕ) → NoCircle helpers g → depth_within n helpers g ≤ reached helpers g + 1) →
     (o : Option Body) → slice_get helpers f ≡ o → of_body o (λ (b : Body). 1 + deepest_of (depth_within n helpers) b.calls) ≤ reached helpers f + 1
 depth_of helpers n f free before None is = omega arith
 depth_of helpers n f free before (Some b) is =
@@ -146,14 +153,16 @@ free_ends helpers f free = le-ltb (length helpers) (depth helpers f) (free_depth
 
 -- ---- where one is reached, they go as far as they are followed
 
-called_deeper : (helpers : List Body) (n f g : ℕ) → Calls helpers f g → depth_within n helpers g + 1 ≤ depth_within (suc n) helpers f
+called_deeper : (helpers : List Body) (n f g : ℕ) → Calls helpers f g →
+    depth_within n helpers g + 1 ≤ depth_within (suc n) helpers f
 called_deeper helpers n f g c =
     let is : depth_within (suc n) helpers f ≡ 1 + deepest_of (depth_within n helpers) c.0.calls =
     ap (λ (o : Option Body). of_body o (λ (b : Body). 1 + deepest_of (depth_within n helpers) b.calls)) c.1 in
     let deep : depth_within n helpers g ≤ deepest_of (depth_within n helpers) c.0.calls = deepest_ge (depth_within n helpers) c.0.calls g c.2 in
     omega (arith, is, deep)
 
-circle_deep : (helpers : List Body) (n f g : ℕ) → Reaches helpers f g → Reaches helpers g g → n ≤ depth_within n helpers f
+circle_deep : (helpers : List Body) (n f g : ℕ) → Reaches helpers f g → Reaches helpers g g →
+    n ≤ depth_within n helpers f
 circle_deep helpers zero f g r circle = omega arith
 circle_deep helpers (suc n) f g (calls c) circle =
     let deep : n ≤ depth_within n helpers g = circle_deep helpers n g g circle circle in

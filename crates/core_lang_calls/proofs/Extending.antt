@@ -1,5 +1,6 @@
 -- What helpers come to, one call further.
-use Rattle.std.proofs.Common.{◌≡◌, ℕ, zero, suc, ◌+◌, ◌<◌, max, List, [], ◌∷◌, ◌++◌, length, map, replicate, get_or, take, inl, inr, refl, sym, ap, ◌∙◌, subst, add-one, arith}
+use Rattle.std.proofs.Common.{◌≡◌, ℕ, zero, suc, ◌+◌, ◌<◌, max, List, [], ◌∷◌, ◌++◌, length, map, replicate, get_or}
+use Rattle.std.proofs.Common.{take, inl, inr, refl, sym, ap, ◌∙◌, subst, add-one, arith}
 use Rattle.std.specs.Prelude.{slice_get, Option, Some, None}
 use Rattle.std.specs.List.{sum_by}
 use Rattle.std.proofs.lemmas.List.{length-map, length-replicate, get_or-replicate, get_or_past, take_more}
@@ -15,16 +16,19 @@ use Rattle.core_lang_calls.specs.Working.Tables.{FAR, up_to, no_extent, extent_a
 
 -- ---- counts up to one past a limit
 
-up_both : (limit a b x y : ℕ) → up_to limit a ≡ up_to limit b → up_to limit x ≡ up_to limit y → up_to limit (a + x) ≡ up_to limit (b + y)
+up_both : (limit a b x y : ℕ) → up_to limit a ≡ up_to limit b → up_to limit x ≡ up_to limit y →
+    up_to limit (a + x) ≡ up_to limit (b + y)
 up_both limit a b x y p q = omega (arith, p, q)
 
-up_max : (limit a b x y : ℕ) → up_to limit a ≡ up_to limit b → up_to limit x ≡ up_to limit y → up_to limit (max a x) ≡ up_to limit (max b y)
+up_max : (limit a b x y : ℕ) → up_to limit a ≡ up_to limit b → up_to limit x ≡ up_to limit y →
+    up_to limit (max a x) ≡ up_to limit (max b y)
 up_max limit a b x y p q = omega (arith, p, q)
 
 up_up : (limit a b : ℕ) → a ≡ up_to limit b → up_to limit a ≡ up_to limit b
 up_up limit a b p = omega (arith, p)
 
-pub up_sum : (limit : ℕ) (f g : CallSite → ℕ) → ((c : CallSite) → up_to limit (f c) ≡ up_to limit (g c)) → (cs : List CallSite) →
+pub up_sum : (limit : ℕ) (f g : CallSite → ℕ) → ((c : CallSite) → up_to limit (f c) ≡ up_to limit (g c)) →
+    (cs : List CallSite) →
     up_to limit (sum_by f cs) ≡ up_to limit (sum_by g cs)
 up_sum limit f g h [] = refl
 up_sum limit f g h (c ∷ cs) =
@@ -46,15 +50,18 @@ module _ (helpers : List Body) (table : List Extent) (n : ℕ) (right : (h : ℕ
   depths : (h : ℕ) → up_to FAR (extent_at table h).depth ≡ up_to FAR (depth_within n helpers h)
   depths h = up_up FAR (extent_at table h).depth (depth_within n helpers h) (ap (λ (e : Extent). e.depth) (right h))
 
-  locals : (c : CallSite) → up_to LOCAL_LIMIT ((extent_at table c.helper).locals + hidden helpers c) ≡ up_to LOCAL_LIMIT (locals_within n helpers c.helper + hidden helpers c)
+  locals : (c : CallSite) →
+      up_to LOCAL_LIMIT ((extent_at table c.helper).locals + hidden helpers c) ≡ up_to LOCAL_LIMIT (locals_within n helpers c.helper + hidden helpers c)
   locals c =
       up_both LOCAL_LIMIT (extent_at table c.helper).locals (locals_within n helpers c.helper) (hidden helpers c) (hidden helpers c)
       (up_up LOCAL_LIMIT (extent_at table c.helper).locals (locals_within n helpers c.helper) (ap (λ (e : Extent). e.locals) (right c.helper))) refl
 
-  points : (c : CallSite) → up_to POINT_LIMIT (extent_at table c.helper).points ≡ up_to POINT_LIMIT (points_within n helpers c.helper)
+  points : (c : CallSite) →
+      up_to POINT_LIMIT (extent_at table c.helper).points ≡ up_to POINT_LIMIT (points_within n helpers c.helper)
   points c = up_up POINT_LIMIT (extent_at table c.helper).points (points_within n helpers c.helper) (ap (λ (e : Extent). e.points) (right c.helper))
 
-  further_there : (h : ℕ) (b : Body) → slice_get helpers h ≡ Some b → extent_by table helpers b ≡ extent_within (suc n) helpers h
+  further_there : (h : ℕ) (b : Body) → slice_get helpers h ≡ Some b →
+      extent_by table helpers b ≡ extent_within (suc n) helpers h
   further_there h b is =
       let f : ℕ → ℕ = λ h. (extent_at table h).depth in
       let g : CallSite → ℕ = λ c. (extent_at table c.helper).locals + hidden helpers c in
@@ -79,22 +86,26 @@ module _ (helpers : List Body) (table : List Extent) (n : ℕ) (right : (h : ℕ
       (ap (λ (o : Option Body). up_to LOCAL_LIMIT (of_body o (λ (b : Body). b.locals + sum_by g' b.calls))) (sym none))
       (ap (λ (o : Option Body). up_to POINT_LIMIT (of_body o (λ (b : Body). b.parameters + b.points + sum_by k' b.calls + one_for b.has_result))) (sym none))
 
-mapped_there : (F : Body → Extent) (helpers : List Body) (h : ℕ) (b : Body) → slice_get helpers h ≡ Some b → extent_at (map F helpers) h ≡ F b
+mapped_there : (F : Body → Extent) (helpers : List Body) (h : ℕ) (b : Body) → slice_get helpers h ≡ Some b →
+    extent_at (map F helpers) h ≡ F b
 mapped_there F [] h b is = absurd cc
 mapped_there F (x ∷ xs) zero b is = let same : x ≡ b = cc in ap F same
 mapped_there F (x ∷ xs) (suc h) b is = mapped_there F xs h b is
 
-mapped_none : (F : Body → Extent) (helpers : List Body) (h : ℕ) → slice_get helpers h ≡ None → extent_at (map F helpers) h ≡ no_extent
+mapped_none : (F : Body → Extent) (helpers : List Body) (h : ℕ) → slice_get helpers h ≡ None →
+    extent_at (map F helpers) h ≡ no_extent
 mapped_none F [] h none = refl
 mapped_none F (x ∷ xs) zero none = absurd cc
 mapped_none F (x ∷ xs) (suc h) none = mapped_none F xs h none
 
-further : (helpers : List Body) (table : List Extent) (n : ℕ) → ((h : ℕ) → extent_at table h ≡ extent_within n helpers h) → (h : ℕ) (o : Option Body) → slice_get helpers h ≡ o →
+further : (helpers : List Body) (table : List Extent) (n : ℕ) →
+    ((h : ℕ) → extent_at table h ≡ extent_within n helpers h) → (h : ℕ) (o : Option Body) → slice_get helpers h ≡ o →
     extent_at (map (extent_by table helpers) helpers) h ≡ extent_within (suc n) helpers h
 further helpers table n right h (Some b) is = mapped_there (extent_by table helpers) helpers h b is ∙ further_there helpers table n right h b is
 further helpers table n right h None is = mapped_none (extent_by table helpers) helpers h is ∙ further_none helpers table n right h is
 
-pub one_further : (helpers : List Body) (table made : List Extent) (n : ℕ) → IsExtents helpers table n → made ≡ map (extent_by table helpers) helpers → IsExtents helpers made (n + 1)
+pub one_further : (helpers : List Body) (table made : List Extent) (n : ℕ) → IsExtents helpers table n →
+    made ≡ map (extent_by table helpers) helpers → IsExtents helpers made (n + 1)
 one_further helpers table made n right is =
     subst (λ (k : ℕ). IsExtents helpers made k) (sym (add-one n)) (record {
       long = ap length is ∙ length-map helpers (extent_by table helpers);
@@ -107,7 +118,8 @@ nothing_at n h = elim (cases_lt h n) [
   | inr ge ↦ get_or_past (replicate n no_extent) h no_extent (omega (arith, ge, length-replicate {A = Extent} n no_extent))
 ]
 
-pub none_yet : (helpers : List Body) (table : List Extent) (n : ℕ) → n ≡ length helpers → table ≡ replicate n no_extent → IsExtents helpers table 0
+pub none_yet : (helpers : List Body) (table : List Extent) (n : ℕ) → n ≡ length helpers →
+    table ≡ replicate n no_extent → IsExtents helpers table 0
 none_yet helpers table n same is = record {
   long = ap length is ∙ length-replicate n no_extent ∙ same;
   extents = λ h. ap (λ (t : List Extent). extent_at t h) is ∙ nothing_at n h;
@@ -115,11 +127,13 @@ none_yet helpers table n same is = record {
 
 -- ---- one more call
 
-pub deepest_push : (deep : ℕ → ℕ) (cs : List CallSite) (c : CallSite) → deepest_of deep (cs ++ c ∷ []) ≡ max (deepest_of deep cs) (deep c.helper)
+pub deepest_push : (deep : ℕ → ℕ) (cs : List CallSite) (c : CallSite) →
+    deepest_of deep (cs ++ c ∷ []) ≡ max (deepest_of deep cs) (deep c.helper)
 deepest_push deep [] c = omega arith
 deepest_push deep (x ∷ cs) c = let rest : deepest_of deep (cs ++ c ∷ []) ≡ max (deepest_of deep cs) (deep c.helper) = deepest_push deep cs c in omega (arith, rest)
 
-pub taken : {X : Type 0} (xs : List X) (i : ℕ) (x : X) → i < length xs → x ≡ get_or xs i x → take (i + 1) xs ≡ take i xs ++ x ∷ []
+pub taken : {X : Type 0} (xs : List X) (i : ℕ) (x : X) → i < length xs → x ≡ get_or xs i x →
+    take (i + 1) xs ≡ take i xs ++ x ∷ []
 taken xs i x lt is = take_more xs i x lt ∙ ap (λ y. take i xs ++ y ∷ []) (sym is)
 
 -- ---- as the code goes over calls
@@ -131,7 +145,8 @@ module _ (table : List Extent) (helpers : List Body) (b : Body) (cs : List CallS
   abbrev point_sum : CallSite → ℕ
   point_sum c = (extent_at table c.helper).points
 
-  pub depth_next : (depth callee new : ℕ) → depth ≡ deepest_of (λ h. (extent_at table h).depth) (take i cs) → callee ≡ (extent_at table (get_or cs i d).helper).depth →
+  pub depth_next : (depth callee new : ℕ) → depth ≡ deepest_of (λ h. (extent_at table h).depth) (take i cs) →
+      callee ≡ (extent_at table (get_or cs i d).helper).depth →
       new ≡ max depth callee → new ≡ deepest_of (λ h. (extent_at table h).depth) (take (i + 1) cs)
   depth_next depth callee new before at is =
       let deep : ℕ → ℕ = λ h. (extent_at table h).depth in
@@ -139,14 +154,16 @@ module _ (table : List Extent) (helpers : List Body) (b : Body) (cs : List CallS
       ap (deepest_of deep) (take_more cs i d lt) ∙ deepest_push deep (take i cs) (get_or cs i d) in
       omega (arith, before, at, is, next)
 
-  pub locals_next : (locals callee more brought new : ℕ) → locals ≡ up_to LOCAL_LIMIT (b.locals + sum_by local_sum (take i cs)) →
+  pub locals_next : (locals callee more brought new : ℕ) →
+      locals ≡ up_to LOCAL_LIMIT (b.locals + sum_by local_sum (take i cs)) →
       callee ≡ (extent_at table (get_or cs i d).helper).locals → more ≡ hidden helpers (get_or cs i d) → brought ≡ up_to LOCAL_LIMIT (callee + more) →
       new ≡ up_to LOCAL_LIMIT (locals + brought) → new ≡ up_to LOCAL_LIMIT (b.locals + sum_by local_sum (take (i + 1) cs))
   locals_next locals callee more brought new before at hid both is =
       let next : sum_by local_sum (take (i + 1) cs) ≡ sum_by local_sum (take i cs) + local_sum (get_or cs i d) = sum_by_more local_sum cs i d lt in
       omega (arith, before, at, hid, both, is, next)
 
-  pub points_next : (points callee new : ℕ) → points ≡ up_to POINT_LIMIT (b.parameters + b.points + sum_by point_sum (take i cs)) →
+  pub points_next : (points callee new : ℕ) →
+      points ≡ up_to POINT_LIMIT (b.parameters + b.points + sum_by point_sum (take i cs)) →
       callee ≡ (extent_at table (get_or cs i d).helper).points → new ≡ up_to POINT_LIMIT (points + callee) →
       new ≡ up_to POINT_LIMIT (b.parameters + b.points + sum_by point_sum (take (i + 1) cs))
   points_next points callee new before at is =

@@ -1,8 +1,10 @@
 -- The listed faults are the faults of the graph.
-use Rattle.std.proofs.Common.{◌≡◌, ℕ, zero, suc, ◌+◌, ◌<◌, ◌≤◌, Bool, true, false, not, List, [], ◌∷◌, ◌++◌, ◌⊎◌, inl, inr, refl, sym, ◌∙◌, subst, append_assoc, arith}
+use Rattle.std.proofs.Common.{◌≡◌, ℕ, zero, suc, ◌+◌, ◌<◌, ◌≤◌, Bool, true, false, not, List, [], ◌∷◌, ◌++◌, ◌⊎◌, inl}
+use Rattle.std.proofs.Common.{inr, refl, sym, ◌∙◌, subst, append_assoc, arith}
 use Rattle.std.specs.Prelude.{nat_lt, nat_le, ◌==◌, slice_get, Some}
 use Rattle.std.specs.List.{flat_map, sum_by}
-use Rattle.std.proofs.lemmas.Bool.{and_parts, and_from, or_cases, or_left, or_right, eq-eqb, eqb-true, lt-ltb, ltb-true, le-leb, leb-true, not-true, not_from_false}
+use Rattle.std.proofs.lemmas.Bool.{and_parts, and_from, or_cases, or_left, or_right, eq-eqb, eqb-true, lt-ltb}
+use Rattle.std.proofs.lemmas.Bool.{ltb-true, le-leb, leb-true, not-true, not_from_false}
 use Rattle.std.proofs.lemmas.List.Sums.{sum_by_push, sum_by-cons}
 use Rattle.source.specs.declared.fault.Code.{Code}
 use Rattle.source.specs.declared.fault.Code.TheVariants.{LimitExceeded, RecursiveHelper}
@@ -14,18 +16,24 @@ use Rattle.core_lang_calls.specs.Recursion.{LeadsTo}
 use Rattle.core_lang_calls.specs.Depths.{depth, is_endless}
 use Rattle.core_lang_calls.specs.Counts.{brought_locals, brought_points}
 use Rattle.core_lang_calls.specs.Working.Tables.{reaches}
-use Rattle.core_lang_calls.specs.Faults.{DEPTH_LIMIT, LOCAL_LIMIT, POINT_LIMIT, IsRecursive, recursive_call, IsOverLimit, too_deep, too_many_locals, too_many_points, IsGraphFault, recursive, over_limit}
-use Rattle.core_lang_calls.specs.Working.FaultLists.{told_if, leads_back, recursion_faults, is_too_deep, helper_faults, helpers_faults, first_too_many, call_faults, section_faults, graph_faults}
+use Rattle.core_lang_calls.specs.Faults.{DEPTH_LIMIT, LOCAL_LIMIT, POINT_LIMIT, IsRecursive, recursive_call}
+use Rattle.core_lang_calls.specs.Faults.{IsOverLimit, too_deep, too_many_locals, too_many_points, IsGraphFault}
+use Rattle.core_lang_calls.specs.Faults.{recursive, over_limit}
+use Rattle.core_lang_calls.specs.Working.FaultLists.{told_if, leads_back, recursion_faults, is_too_deep}
+use Rattle.core_lang_calls.specs.Working.FaultLists.{helper_faults, helpers_faults, first_too_many, call_faults}
+use Rattle.core_lang_calls.specs.Working.FaultLists.{section_faults, graph_faults}
 use Rattle.core_lang_calls.proofs.Closing.{reaches_all, all_reaches}
 
 -- ---- what is in lists
 
-told : (b : Bool) (code : Code) (start : ℕ) (f : Mistake) → IsAmong f (told_if b code start) → (b ≡ true) × (f ≡ record { code = code; start = start })
+told : (b : Bool) (code : Code) (start : ℕ) (f : Mistake) → IsAmong f (told_if b code start) →
+    (b ≡ true) × (f ≡ record { code = code; start = start })
 told true code start f (inl e) = (refl, e)
 told true code start f (inr h) = absurd h
 told false code start f h = absurd h
 
-is_told : (b : Bool) (code : Code) (start : ℕ) → b ≡ true → IsAmong (record { code = code; start = start }) (told_if b code start)
+is_told : (b : Bool) (code : Code) (start : ℕ) → b ≡ true →
+    IsAmong (record { code = code; start = start }) (told_if b code start)
 is_told true code start e = inl refl
 is_told false code start e = absurd cc
 
@@ -46,14 +54,16 @@ in_either f (g ∷ a) b (inr h) = elim (in_either f a b h) [ inl x ↦ inl (inr 
 abbrev InOne : {X : Type 0} → (X → List Mistake) → List X → Mistake → Type 0
 InOne {X} faults xs f = (k : ℕ) × ((x : X) × (slice_get xs k ≡ Some x) × IsAmong f (faults x))
 
-in_one : {X : Type 0} (faults : X → List Mistake) (xs : List X) (f : Mistake) → IsAmong f (flat_map faults xs) → InOne faults xs f
+in_one : {X : Type 0} (faults : X → List Mistake) (xs : List X) (f : Mistake) → IsAmong f (flat_map faults xs) →
+    InOne faults xs f
 in_one faults [] f h = absurd h
 in_one faults (x ∷ xs) f h = elim (in_either f (faults x) (flat_map faults xs) h) [
   | inl here ↦ (0, (x, refl, here))
   | inr later ↦ let r = in_one faults xs f later in (suc r.0, r.1)
 ]
 
-in_all : {X : Type 0} (faults : X → List Mistake) (xs : List X) (f : Mistake) (k : ℕ) (x : X) → slice_get xs k ≡ Some x → IsAmong f (faults x) → IsAmong f (flat_map faults xs)
+in_all : {X : Type 0} (faults : X → List Mistake) (xs : List X) (f : Mistake) (k : ℕ) (x : X) →
+    slice_get xs k ≡ Some x → IsAmong f (faults x) → IsAmong f (flat_map faults xs)
 in_all faults [] f k x is h = absurd cc
 in_all faults (y ∷ xs) f zero x is h = let same : y ≡ x = cc in in_left f (faults y) (flat_map faults xs) (subst (λ z. IsAmong f (faults z)) (sym same) h)
 in_all faults (y ∷ xs) f (suc k) x is h = in_right f (faults y) (flat_map faults xs) (in_all faults xs f k x is h)
@@ -77,7 +87,8 @@ module _ (graph : Graph) where
   forth f c (inl same) = or_left (c.helper == f) (reaches graph.helpers c.helper f) (eq-eqb c.helper f same)
   forth f c (inr r) = or_right (c.helper == f) (reaches graph.helpers c.helper f) (reaches_all graph.helpers c.helper f r)
 
-  helper_true : (k : ℕ) (b : Body) (f : Mistake) → slice_get graph.helpers k ≡ Some b → IsAmong f (helper_faults graph.helpers k b) → Holds f
+  helper_true : (k : ℕ) (b : Body) (f : Mistake) → slice_get graph.helpers k ≡ Some b →
+      IsAmong f (helper_faults graph.helpers k b) → Holds f
   helper_true k b f is h =
       elim (in_either f (told_if (is_too_deep graph.helpers k) LimitExceeded b.start) (flat_map (recursion_faults graph.helpers k) b.calls) h) [
         | inl deep ↦
@@ -102,7 +113,8 @@ module _ (graph : Graph) where
         (suc k, (r.1.0, r.1.1, subst (λ (m : ℕ). IsAmong f (helper_faults graph.helpers m r.1.0)) (let e : n + 1 + k ≡ n + suc k = omega arith in e) r.1.2))
   ]
 
-  helpers_all : (f : Mistake) (n : ℕ) (bs : List Body) (k : ℕ) (b : Body) → slice_get bs k ≡ Some b → IsAmong f (helper_faults graph.helpers (n + k) b) →
+  helpers_all : (f : Mistake) (n : ℕ) (bs : List Body) (k : ℕ) (b : Body) → slice_get bs k ≡ Some b →
+      IsAmong f (helper_faults graph.helpers (n + k) b) →
       IsAmong f (helpers_faults graph.helpers n bs)
   helpers_all f n [] k b is h = absurd cc
   helpers_all f n (x ∷ bs) zero b is h =
@@ -115,16 +127,19 @@ module _ (graph : Graph) where
 
   -- ---- sections
 
-  first_parts : (limit before more : ℕ) → first_too_many limit before more ≡ true → (before ≤ limit) × (limit < before + more)
+  first_parts : (limit before more : ℕ) → first_too_many limit before more ≡ true →
+      (before ≤ limit) × (limit < before + more)
   first_parts limit before more e =
       let p : (nat_le before limit ≡ true) × (nat_lt limit (before + more) ≡ true) = and_parts (nat_le before limit) (nat_lt limit (before + more)) e in
       (leb-true before limit p.0, ltb-true limit (before + more) p.1)
 
-  first_from : (limit before more : ℕ) → before ≤ limit → limit < before + more → first_too_many limit before more ≡ true
+  first_from : (limit before more : ℕ) → before ≤ limit → limit < before + more →
+      first_too_many limit before more ≡ true
   first_from limit before more le lt = and_from (nat_le before limit) (nat_lt limit (before + more)) (le-leb before limit le) (lt-ltb limit (before + more) lt)
 
   -- calls behind others
-  calls_true : (s : ℕ) (b : Body) → slice_get graph.sections s ≡ Some b → (f : Mistake) (before behind : List CallSite) → b.calls ≡ before ++ behind →
+  calls_true : (s : ℕ) (b : Body) → slice_get graph.sections s ≡ Some b →
+      (f : Mistake) (before behind : List CallSite) → b.calls ≡ before ++ behind →
       (locals points : ℕ) → locals ≡ b.locals + sum_by (brought_locals graph.helpers) before → points ≡ sum_by (brought_points graph.helpers) before →
       IsAmong f (call_faults graph.helpers locals points behind) → Holds f
   calls_true s b is f before [] all locals points l_is p_is h = absurd h
@@ -180,7 +195,8 @@ module _ (graph : Graph) where
       (subst (λ (n : ℕ). IsAmong f (told_if (first_too_many LOCAL_LIMIT (locals + L + sum_by (brought_locals graph.helpers) before) C) LimitExceeded c.start ++ told_if (first_too_many POINT_LIMIT n D) LimitExceeded c.start)) p_is
       (subst (λ (n : ℕ). IsAmong f (told_if (first_too_many LOCAL_LIMIT n C) LimitExceeded c.start ++ told_if (first_too_many POINT_LIMIT (points + sum_by (brought_points graph.helpers) (x ∷ before)) D) LimitExceeded c.start)) l_is h)))
 
-  section_true : (s : ℕ) (b : Body) (f : Mistake) → slice_get graph.sections s ≡ Some b → IsAmong f (section_faults graph.helpers b) → Holds f
+  section_true : (s : ℕ) (b : Body) (f : Mistake) → slice_get graph.sections s ≡ Some b →
+      IsAmong f (section_faults graph.helpers b) → Holds f
   section_true s b f is h = calls_true s b is f [] b.calls refl b.locals 0 (omega arith) refl h
 
   -- ---- the whole
@@ -194,24 +210,28 @@ module _ (graph : Graph) where
     | inr y ↦ let r = in_one (section_faults graph.helpers) graph.sections f y in section_true r.0 r.1.0 f r.1.1 r.1.2
   ]
 
-  in_helpers : (f : Mistake) (k : ℕ) (b : Body) → slice_get graph.helpers k ≡ Some b → IsAmong f (helper_faults graph.helpers k b) → IsAmong f (graph_faults graph)
+  in_helpers : (f : Mistake) (k : ℕ) (b : Body) → slice_get graph.helpers k ≡ Some b →
+      IsAmong f (helper_faults graph.helpers k b) → IsAmong f (graph_faults graph)
   in_helpers f k b is h =
       in_left f (helpers_faults graph.helpers 0 graph.helpers) (flat_map (section_faults graph.helpers) graph.sections)
       (helpers_all f 0 graph.helpers k b is (subst (λ (m : ℕ). IsAmong f (helper_faults graph.helpers m b)) (let e : k ≡ 0 + k = omega arith in e) h))
 
-  in_sections : (f : Mistake) (s : ℕ) (b : Body) → slice_get graph.sections s ≡ Some b → IsAmong f (section_faults graph.helpers b) → IsAmong f (graph_faults graph)
+  in_sections : (f : Mistake) (s : ℕ) (b : Body) → slice_get graph.sections s ≡ Some b →
+      IsAmong f (section_faults graph.helpers b) → IsAmong f (graph_faults graph)
   in_sections f s b is h =
       in_right f (helpers_faults graph.helpers 0 graph.helpers) (flat_map (section_faults graph.helpers) graph.sections)
       (in_all (section_faults graph.helpers) graph.sections f s b is h)
 
-  listed_call : (f : Mistake) (s : ℕ) (b : Body) (before behind : List CallSite) (c : CallSite) → slice_get graph.sections s ≡ Some b → b.calls ≡ before ++ c ∷ behind →
+  listed_call : (f : Mistake) (s : ℕ) (b : Body) (before behind : List CallSite) (c : CallSite) →
+      slice_get graph.sections s ≡ Some b → b.calls ≡ before ++ c ∷ behind →
       IsAmong f (told_if (first_too_many LOCAL_LIMIT (b.locals + sum_by (brought_locals graph.helpers) before) (brought_locals graph.helpers c)) LimitExceeded c.start
       ++ told_if (first_too_many POINT_LIMIT (0 + sum_by (brought_points graph.helpers) before) (brought_points graph.helpers c)) LimitExceeded c.start) →
       IsAmong f (graph_faults graph)
   listed_call f s b before behind c is all h =
       in_sections f s b is (subst (λ (cs : List CallSite). IsAmong f (call_faults graph.helpers b.locals 0 cs)) (sym all) (calls_all f before behind c b.locals 0 h))
 
-  over_listed : (p : ℕ) → IsOverLimit graph p → IsAmong (record { code = LimitExceeded; start = p }) (graph_faults graph)
+  over_listed : (p : ℕ) → IsOverLimit graph p →
+      IsAmong (record { code = LimitExceeded; start = p }) (graph_faults graph)
   over_listed p (too_deep k {body = b} is ends deep) =
       in_helpers _ k b is (in_left _ (told_if (is_too_deep graph.helpers k) LimitExceeded b.start) (flat_map (recursion_faults graph.helpers k) b.calls)
       (is_told (is_too_deep graph.helpers k) LimitExceeded b.start
@@ -224,11 +244,13 @@ module _ (graph : Graph) where
       let lt' : POINT_LIMIT < 0 + sum + brought_points graph.helpers c = omega (arith, lt) in
       listed_call _ s b before behind c is all (in_right _ _ _ (is_told _ LimitExceeded c.start (first_from POINT_LIMIT (0 + sum) (brought_points graph.helpers c) le' lt')))
 
-  recursive_listed : (p : ℕ) → IsRecursive graph p → IsAmong (record { code = RecursiveHelper; start = p }) (graph_faults graph)
+  recursive_listed : (p : ℕ) → IsRecursive graph p →
+      IsAmong (record { code = RecursiveHelper; start = p }) (graph_faults graph)
   recursive_listed p (recursive_call f k {body = b} {c = c} is at leads) =
       in_helpers _ f b is (in_right _ (told_if (is_too_deep graph.helpers f) LimitExceeded b.start) (flat_map (recursion_faults graph.helpers f) b.calls)
       (in_all (recursion_faults graph.helpers f) b.calls _ k c at (is_told (leads_back graph.helpers f c) RecursiveHelper c.start (forth f c leads))))
 
-  pub true_listed : (code : Code) (p : ℕ) → IsGraphFault graph code p → IsAmong (record { code = code; start = p }) (graph_faults graph)
+  pub true_listed : (code : Code) (p : ℕ) → IsGraphFault graph code p →
+      IsAmong (record { code = code; start = p }) (graph_faults graph)
   true_listed code p (recursive h) = recursive_listed p h
   true_listed code p (over_limit h) = over_listed p h

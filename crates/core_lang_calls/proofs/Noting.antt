@@ -1,5 +1,7 @@
 -- Faults that are noted one after another.
-use Rattle.std.proofs.Common.{◌≡◌, ℕ, zero, suc, ◌+◌, ◌<◌, ◌≤◌, Bool, true, false, ◌&&◌, List, [], ◌∷◌, ◌++◌, length, get_or, take, drop, map, Option, inl, inr, sym, ap, ◌∙◌, append_assoc, append-nil, arith}
+use Rattle.std.proofs.Common.{◌≡◌, ℕ, zero, suc, ◌+◌, ◌<◌, ◌≤◌, Bool, true, false, ◌&&◌, List, [], ◌∷◌, ◌++◌, length}
+use Rattle.std.proofs.Common.{get_or, take, drop, map, Option, inl, inr, sym, ap, ◌∙◌, append_assoc, append-nil}
+use Rattle.std.proofs.Common.{arith}
 use Rattle.std.specs.Prelude.{nat_lt, nat_le}
 use Rattle.std.specs.List.{flat_map, sum_by}
 use Rattle.std.proofs.lemmas.Bool.{cases_lt, lt-ltb, le-ltb}
@@ -19,20 +21,24 @@ use Rattle.core_lang_calls.specs.Faults.{LOCAL_LIMIT, POINT_LIMIT}
 use Rattle.core_lang_calls.specs.declared.judge.Known.{Known}
 use Rattle.core_lang_calls.specs.Working.Tables.{up_to, leads, reaches_over, reaches}
 use Rattle.core_lang_calls.specs.Working.Knowledge.{IsKnown, bodies}
-use Rattle.core_lang_calls.specs.Working.FaultLists.{told_if, leads_back, recursion_faults, is_too_deep, helper_faults, helpers_faults, first_too_many, call_faults}
+use Rattle.core_lang_calls.specs.Working.FaultLists.{told_if, leads_back, recursion_faults, is_too_deep}
+use Rattle.core_lang_calls.specs.Working.FaultLists.{helper_faults, helpers_faults, first_too_many, call_faults}
 use Rattle.core_lang_calls.proofs.Extending.{taken}
 
 -- what is noted where a test is passed
-pub noted : (b : Bool) (code : Code) (start : ℕ) (old new : Option Mistake) → b ≡ true → new ≡ lesser old (record { code = code; start = start }) →
+pub noted : (b : Bool) (code : Code) (start : ℕ) (old new : Option Mistake) → b ≡ true →
+    new ≡ lesser old (record { code = code; start = start }) →
     new ≡ least_of old (told_if b code start)
 noted b code start old new passes is = is ∙ ap (λ (t : Bool). least_of old (told_if t code start)) (sym passes)
 
-pub not_noted : (b : Bool) (code : Code) (start : ℕ) (old : Option Mistake) → b ≡ false → old ≡ least_of old (told_if b code start)
+pub not_noted : (b : Bool) (code : Code) (start : ℕ) (old : Option Mistake) → b ≡ false →
+    old ≡ least_of old (told_if b code start)
 not_noted b code start old fails = ap (λ (t : Bool). least_of old (told_if t code start)) (sym fails)
 
 -- ---- one more of a list
 
-pub flat_next : {X : Type 0} (faults : X → List Mistake) (xs : List X) (i : ℕ) (x : X) (start old new : Option Mistake) → i < length xs → x ≡ get_or xs i x →
+pub flat_next : {X : Type 0} (faults : X →
+    List Mistake) (xs : List X) (i : ℕ) (x : X) (start old new : Option Mistake) → i < length xs → x ≡ get_or xs i x →
     old ≡ least_of start (flat_map faults (take i xs)) → new ≡ least_of old (faults x) → new ≡ least_of start (flat_map faults (take (i + 1) xs))
 flat_next faults xs i x start old new lt is before step =
     step ∙ ap (λ (f : Option Mistake). least_of f (faults x)) before ∙ sym (least_append start (flat_map faults (take i xs)) (faults x))
@@ -49,7 +55,8 @@ helpers_push all f (x ∷ bs) b =
     ∙ sym (append_assoc (helper_faults all f x) (helpers_faults all (f + 1) bs) (helper_faults all (f + 1 + length bs) b))
     ∙ ap (λ (n : ℕ). helper_faults all f x ++ helpers_faults all (f + 1) bs ++ helper_faults all n b) (let e : f + 1 + length bs ≡ f + suc (length bs) = omega arith in e)
 
-pub helper_next : (all bs : List Body) (i : ℕ) (b : Body) (start old new : Option Mistake) → i < length bs → b ≡ get_or bs i b →
+pub helper_next : (all bs : List Body) (i : ℕ) (b : Body) (start old new : Option Mistake) → i < length bs →
+    b ≡ get_or bs i b →
     old ≡ least_of start (helpers_faults all 0 (take i bs)) → new ≡ least_of old (helper_faults all i b) → new ≡ least_of start (helpers_faults all 0 (take (i + 1) bs))
 helper_next all bs i b start old new lt is before step =
     let here : length (take i bs) ≡ i = length-take-le i bs (omega (arith, lt)) in
@@ -69,19 +76,22 @@ lt_up n limit d le = elim (cases_lt n d) [
 ]
 
 -- the test as the code makes it
-pub first_is : (limit before more : ℕ) → (nat_le before limit && nat_lt limit (up_to limit (before + more))) ≡ first_too_many limit before more
+pub first_is : (limit before more : ℕ) →
+    (nat_le before limit && nat_lt limit (up_to limit (before + more))) ≡ first_too_many limit before more
 first_is limit before more = ap (λ (t : Bool). nat_le before limit && t) (lt_up limit limit (before + more) (omega arith))
 
 same_le : (limit a b : ℕ) → up_to limit a ≡ up_to limit b → nat_le a limit ≡ nat_le b limit
 same_le limit a b same = grind (arith, nat_tests)
 
-same_lt : (limit a b x y : ℕ) → up_to limit a ≡ up_to limit b → up_to limit x ≡ up_to limit y → nat_lt limit (a + x) ≡ nat_lt limit (b + y)
+same_lt : (limit a b x y : ℕ) → up_to limit a ≡ up_to limit b → up_to limit x ≡ up_to limit y →
+    nat_lt limit (a + x) ≡ nat_lt limit (b + y)
 same_lt limit a b x y p q = elim (cases_lt limit (a + x)) [
   | inl lt ↦ lt-ltb limit (a + x) lt ∙ sym (lt-ltb limit (b + y) (omega (arith, lt, p, q)))
   | inr ge ↦ le-ltb limit (a + x) ge ∙ sym (le-ltb limit (b + y) (omega (arith, ge, p, q)))
 ]
 
-pub first_same : (limit a b x y : ℕ) → up_to limit a ≡ up_to limit b → up_to limit x ≡ up_to limit y → first_too_many limit a x ≡ first_too_many limit b y
+pub first_same : (limit a b x y : ℕ) → up_to limit a ≡ up_to limit b → up_to limit x ≡ up_to limit y →
+    first_too_many limit a x ≡ first_too_many limit b y
 first_same limit a b x y p q =
     ap (λ (t : Bool). t && nat_lt limit (a + x)) (same_le limit a b p) ∙ ap (λ (t : Bool). nat_le b limit && t) (same_lt limit a b x y p q)
 
@@ -148,20 +158,23 @@ recursion_passed helpers f cs i d start old new lt before back is =
     flat_next (recursion_faults helpers f) cs i (get_or cs i d) start old new lt (get_or_default cs i d (get_or cs i d) lt) before
     (is ∙ not_noted (leads_back helpers f (get_or cs i d)) RecursiveHelper (get_or cs i d).start old back)
 
-mapped_item : {X Y : Type 0} (f : X → Y) (xs : List X) (i : ℕ) (x : X) → i < length xs → x ≡ get_or xs i x → f x ≡ get_or (map f xs) i (f x)
+mapped_item : {X Y : Type 0} (f : X → Y) (xs : List X) (i : ℕ) (x : X) → i < length xs → x ≡ get_or xs i x →
+    f x ≡ get_or (map f xs) i (f x)
 mapped_item f [] i x lt is = absurd (omega (arith, lt))
 mapped_item f (y ∷ xs) zero x lt is = ap f is
 mapped_item f (y ∷ xs) (suc i) x lt is = mapped_item f xs i x (omega (arith, lt)) is
 
 -- the same of a list that is viewed
-pub flat_mapped : {X Y : Type 0} (view : X → Y) (faults : Y → List Mistake) (xs : List X) (i : ℕ) (x : X) (start old new : Option Mistake) → i < length xs → x ≡ get_or xs i x →
+pub flat_mapped : {X Y : Type 0} (view : X → Y) (faults : Y →
+    List Mistake) (xs : List X) (i : ℕ) (x : X) (start old new : Option Mistake) → i < length xs → x ≡ get_or xs i x →
     old ≡ least_of start (flat_map faults (map view (take i xs))) → new ≡ least_of old (faults (view x)) → new ≡ least_of start (flat_map faults (map view (take (i + 1) xs)))
 flat_mapped view faults xs i x start old new lt is before step =
     flat_next faults (map view xs) i (view x) start old new (omega (arith, lt, length-map xs view)) (mapped_item view xs i x lt is)
     (before ∙ ap (λ ys. least_of start (flat_map faults ys)) (sym (take-map view i xs))) step
     ∙ ap (λ ys. least_of start (flat_map faults ys)) (take-map view (i + 1) xs)
 
-pub helper_mapped : {X : Type 0} (view : X → Body) (all : List Body) (xs : List X) (i : ℕ) (x : X) (start old middle new : Option Mistake) → i < length xs → x ≡ get_or xs i x →
+pub helper_mapped : {X : Type 0} (view : X →
+    Body) (all : List Body) (xs : List X) (i : ℕ) (x : X) (start old middle new : Option Mistake) → i < length xs → x ≡ get_or xs i x →
     old ≡ least_of start (helpers_faults all 0 (map view (take i xs))) →
     middle ≡ least_of old (told_if (is_too_deep all i) LimitExceeded (view x).start) →
     new ≡ least_of middle (flat_map (recursion_faults all i) (view x).calls) → new ≡ least_of start (helpers_faults all 0 (map view (take (i + 1) xs)))
@@ -172,6 +185,7 @@ helper_mapped view all xs i x start old middle new lt is before first second =
     ∙ sym (least_append old (told_if (is_too_deep all i) LimitExceeded (view x).start) (flat_map (recursion_faults all i) (view x).calls)))
     ∙ ap (λ ys. least_of start (helpers_faults all 0 ys)) (take-map view (i + 1) xs)
 
-pub one_path : (known : Known) → IsKnown known → (f g : ℕ) → g < 256 → leads known.reach.rows.items f g ≡ reaches (bodies known) f g
+pub one_path : (known : Known) → IsKnown known → (f g : ℕ) → g < 256 →
+    leads known.reach.rows.items f g ≡ reaches (bodies known) f g
 one_path known is f g few =
     is.reach.leads f g few ∙ ap (λ (n : ℕ). reaches_over n (bodies known) f g) (sym (length-map known.helpers.now body_of))

@@ -1,13 +1,16 @@
 -- The table of what is reached, as the code makes it.
-use Rattle.std.proofs.Common.{◌≡◌, ◌≢◌, ℕ, ◌+◌, ◌<◌, ◌≤◌, Bool, true, false, ◌||◌, ◌&&◌, List, [], ◌∷◌, ◌++◌, length, get_or, set, inl, inr, refl, sym, ap, ◌∙◌, subst, add-one, arith}
+use Rattle.std.proofs.Common.{◌≡◌, ◌≢◌, ℕ, ◌+◌, ◌<◌, ◌≤◌, Bool, true, false, ◌||◌, ◌&&◌, List, [], ◌∷◌, ◌++◌, length}
+use Rattle.std.proofs.Common.{get_or, set, inl, inr, refl, sym, ap, ◌∙◌, subst, add-one, arith}
 use Rattle.std.specs.Prelude.{◌==◌, slice_get, Option, Some}
 use Rattle.std.proofs.lemmas.Bool.{cases_lt, cases_eq}
-use Rattle.std.proofs.lemmas.List.{length-append, length-set, get_or_append_left, get_or_push, get_or_past, get_or-set_same, get_or-set_other, get_or_read}
+use Rattle.std.proofs.lemmas.List.{length-append, length-set, get_or_append_left, get_or_push, get_or_past}
+use Rattle.std.proofs.lemmas.List.{get_or-set_same, get_or-set_other, get_or_read}
 use Rattle.std.proofs.lemmas.Option.{slice_get_past}
 use Rattle.core_lang_calls.specs.declared.graph.CallSite.{CallSite}
 use Rattle.core_lang_calls.specs.declared.helper_set.HelperSet.{HelperSet}
 use Rattle.core_lang_calls.specs.Graphs.{Body}
-use Rattle.core_lang_calls.specs.Working.Tables.{has_helper, no_helpers, leads, is_called, called_by, reaches_over, AddsThrough, IsReach}
+use Rattle.core_lang_calls.specs.Working.Tables.{has_helper, no_helpers, leads, is_called, called_by, reaches_over}
+use Rattle.core_lang_calls.specs.Working.Tables.{AddsThrough, IsReach}
 use Rattle.core_lang_calls.proofs.Sets.{none_has}
 use Rattle.bit_set.specs.Theory.Bits.{or_none}
 
@@ -34,7 +37,8 @@ pub record IsDirect (helpers : List Body) (rows : List HelperSet) (k : ℕ) : Ty
   pub long : length rows ≡ k
   pub leads : (f g : ℕ) → g < 256 → f < k → leads rows f g ≡ called_by (slice_get helpers f) g
 
-pub one_direct : (helpers : List Body) (rows new : List HelperSet) (k : ℕ) (row : HelperSet) (b : Body) → IsDirect helpers rows k → slice_get helpers k ≡ Some b →
+pub one_direct : (helpers : List Body) (rows new : List HelperSet) (k : ℕ) (row : HelperSet) (b : Body) →
+    IsDirect helpers rows k → slice_get helpers k ≡ Some b →
     CalledSo row b.calls → new ≡ rows ++ row ∷ [] → IsDirect helpers new (k + 1)
 one_direct helpers rows new k row b right is called step = record {
   long = ap length step ∙ length-append rows (row ∷ []) ∙ ap (λ n. n + 1) right.long;
@@ -48,7 +52,8 @@ one_direct helpers rows new k row b right is called step = record {
   ];
 }
 
-pub all_direct : (helpers : List Body) (rows : List HelperSet) (k : ℕ) → IsDirect helpers rows k → k ≡ length helpers → IsReach helpers rows 0
+pub all_direct : (helpers : List Body) (rows : List HelperSet) (k : ℕ) → IsDirect helpers rows k →
+    k ≡ length helpers → IsReach helpers rows 0
 all_direct helpers rows k right all = record {
   long = right.long ∙ all;
   leads = λ f g few. elim (cases_lt f k) [
@@ -123,7 +128,8 @@ all_added old rows m k adding le = λ f g. elim (cases_lt f k) [
 
 -- ---- the table over one more helper
 
-pub over_next : (helpers : List Body) (rows new : List HelperSet) (k : ℕ) → IsReach helpers rows k → k < 256 → length new ≡ length rows → AddsThrough rows new k →
+pub over_next : (helpers : List Body) (rows new : List HelperSet) (k : ℕ) → IsReach helpers rows k → k < 256 →
+    length new ≡ length rows → AddsThrough rows new k →
     IsReach helpers new (k + 1)
 over_next helpers rows new k right few long adds =
     subst (λ (n : ℕ). IsReach helpers new n) (sym (add-one k)) (record {

@@ -1,5 +1,6 @@
 -- Sets of helpers, one helper at a time.
-use Rattle.std.proofs.Common.{◌≡◌, ℕ, ◌*◌, ◌%◌, ◌^◌, ◌<◌, ◌≤◌, ◌-◌, max, Bool, true, false, ◌||◌, inl, inr, refl, sym, ap, ◌∙◌, arith}
+use Rattle.std.proofs.Common.{◌≡◌, ℕ, ◌*◌, ◌%◌, ◌^◌, ◌<◌, ◌≤◌, ◌-◌, max, Bool, true, false, ◌||◌, inl, inr, refl, sym}
+use Rattle.std.proofs.Common.{ap, ◌∙◌, arith}
 use Rattle.std.specs.Prelude.{◌==◌, nat_lt, bit_or}
 use Rattle.std.specs.Int.{bit_at, Width}
 use mir.Val.{bits}
@@ -15,18 +16,21 @@ use Rattle.bit_set.specs.Theory.Bits.{or_none}
 -- ---- both halves
 
 -- none is in a set whose halves have none
-empty_by : (b : Bool) (x : HelperSet) → ((k : ℕ) → has_number x.low k ≡ false) → ((k : ℕ) → has_number x.high k ≡ false) → (h : ℕ) → has_by b x h ≡ false
+empty_by : (b : Bool) (x : HelperSet) → ((k : ℕ) → has_number x.low k ≡ false) →
+    ((k : ℕ) → has_number x.high k ≡ false) → (h : ℕ) → has_by b x h ≡ false
 empty_by true x low high h = low h
 empty_by false x low high h = high (h - 128)
 
-pub empty_has : (x : HelperSet) → ((k : ℕ) → has_number x.low k ≡ false) → ((k : ℕ) → has_number x.high k ≡ false) → (h : ℕ) → has_helper x h ≡ false
+pub empty_has : (x : HelperSet) → ((k : ℕ) → has_number x.low k ≡ false) → ((k : ℕ) → has_number x.high k ≡ false) →
+    (h : ℕ) → has_helper x h ≡ false
 empty_has x low high h = empty_by (nat_lt h 128) x low high h
 
 pub none_has : (h : ℕ) → has_helper no_helpers h ≡ false
 none_has h = empty_has no_helpers (λ k. ap (λ x. x == 1) (bit_at-zero k)) (λ k. ap (λ x. x == 1) (bit_at-zero k)) h
 
 -- a union has those of either
-union_by : (b : Bool) (x y u : HelperSet) → ((k : ℕ) → has_number u.low k ≡ (has_number x.low k || has_number y.low k)) →
+union_by : (b : Bool) (x y u : HelperSet) →
+    ((k : ℕ) → has_number u.low k ≡ (has_number x.low k || has_number y.low k)) →
     ((k : ℕ) → has_number u.high k ≡ (has_number x.high k || has_number y.high k)) → (h : ℕ) → has_by b u h ≡ (has_by b x h || has_by b y h)
 union_by true x y u low high h = low h
 union_by false x y u low high h = high (h - 128)
@@ -36,7 +40,8 @@ pub union_has : (x y u : HelperSet) → ((k : ℕ) → has_number u.low k ≡ (h
 union_has x y u low high h = union_by (nat_lt h 128) x y u low high h
 
 -- one more in the lower half
-with_low_by : (b : Bool) (x u : HelperSet) (g h : ℕ) → nat_lt h 128 ≡ b → g < 128 → ((k : ℕ) → has_number u.low k ≡ (has_number x.low k || k == g)) → u.high ≡ x.high →
+with_low_by : (b : Bool) (x u : HelperSet) (g h : ℕ) → nat_lt h 128 ≡ b → g < 128 →
+    ((k : ℕ) → has_number u.low k ≡ (has_number x.low k || k == g)) → u.high ≡ x.high →
     has_by b u h ≡ (has_by b x h || h == g)
 with_low_by true x u g h e lt low high = low h
 with_low_by false x u g h e lt low high =
@@ -44,7 +49,8 @@ with_low_by false x u g h e lt low high =
     ap (λ (half : BitSet). has_number half (h - 128)) high ∙ or_none (has_number x.high (h - 128))
     ∙ ap (λ (t : Bool). has_number x.high (h - 128) || t) (sym (ne_eqb h g (λ same. omega (arith, ge, lt, same))))
 
-pub with_low : (x u : HelperSet) (g : ℕ) → g < 128 → ((k : ℕ) → has_number u.low k ≡ (has_number x.low k || k == g)) → u.high ≡ x.high →
+pub with_low : (x u : HelperSet) (g : ℕ) → g < 128 → ((k : ℕ) → has_number u.low k ≡ (has_number x.low k || k == g)) →
+    u.high ≡ x.high →
     (h : ℕ) → has_helper u h ≡ (has_helper x h || h == g)
 with_low x u g lt low high h = with_low_by (nat_lt h 128) x u g h refl lt low high
 
@@ -56,7 +62,8 @@ eq_back h g a b =
     ]
 
 -- and in the upper one
-with_high_by : (b : Bool) (x u : HelperSet) (g h : ℕ) → nat_lt h 128 ≡ b → 128 ≤ g → u.low ≡ x.low → ((k : ℕ) → has_number u.high k ≡ (has_number x.high k || k == g - 128)) →
+with_high_by : (b : Bool) (x u : HelperSet) (g h : ℕ) → nat_lt h 128 ≡ b → 128 ≤ g → u.low ≡ x.low →
+    ((k : ℕ) → has_number u.high k ≡ (has_number x.high k || k == g - 128)) →
     has_by b u h ≡ (has_by b x h || h == g)
 with_high_by true x u g h e le low high =
     let lt : h < 128 = ltb-true h 128 e in
@@ -66,7 +73,8 @@ with_high_by false x u g h e le low high =
     let ge : 128 ≤ h = ltb-false h 128 e in
     high (h - 128) ∙ ap (λ (t : Bool). has_number x.high (h - 128) || t) (eq_back h g ge le)
 
-pub with_high : (x u : HelperSet) (g : ℕ) → 128 ≤ g → u.low ≡ x.low → ((k : ℕ) → has_number u.high k ≡ (has_number x.high k || k == g - 128)) →
+pub with_high : (x u : HelperSet) (g : ℕ) → 128 ≤ g → u.low ≡ x.low →
+    ((k : ℕ) → has_number u.high k ≡ (has_number x.high k || k == g - 128)) →
     (h : ℕ) → has_helper u h ≡ (has_helper x h || h == g)
 with_high x u g le low high h = with_high_by (nat_lt h 128) x u g h refl le low high
 
@@ -78,7 +86,8 @@ has_low_by false x h e lt = let ge : 128 ≤ h = ltb-false h 128 e in absurd (om
 pub has_low : (x : HelperSet) (h : ℕ) → h < 128 → has_number x.low h ≡ has_helper x h
 has_low x h lt = has_low_by (nat_lt h 128) x h refl lt
 
-has_high_by : (b : Bool) (x : HelperSet) (h : ℕ) → nat_lt h 128 ≡ b → 128 ≤ h → has_number x.high (h - 128) ≡ has_by b x h
+has_high_by : (b : Bool) (x : HelperSet) (h : ℕ) → nat_lt h 128 ≡ b → 128 ≤ h →
+    has_number x.high (h - 128) ≡ has_by b x h
 has_high_by true x h e ge = let lt : h < 128 = ltb-true h 128 e in absurd (omega (arith, ge, lt))
 has_high_by false x h e ge = refl
 

@@ -1,5 +1,6 @@
 -- What a program's sections and helpers come to when helpers are written out, by the numbers of its graph.
-use Rattle.std.proofs.Common.{◌≡◌, ℕ, zero, suc, ◌+◌, ◌<◌, ◌≤◌, Bool, true, false, List, [], ◌∷◌, ◌++◌, length, map, take, inl, inr, refl, sym, ap, ◌∙◌, subst, length-append, arith}
+use Rattle.std.proofs.Common.{◌≡◌, ℕ, zero, suc, ◌+◌, ◌<◌, ◌≤◌, Bool, true, false, List, [], ◌∷◌, ◌++◌, length, map}
+use Rattle.std.proofs.Common.{take, inl, inr, refl, sym, ap, ◌∙◌, subst, length-append, arith}
 use Rattle.std.specs.Prelude.{slice_get, Option, Some, None, is_some, if◌then◌else◌}
 use Rattle.std.specs.List.{sum_by}
 use Rattle.std.proofs.lemmas.Bool.{cases_lt}
@@ -10,15 +11,18 @@ use Rattle.core_lang.specs.declared.value.ValueType.{ValueType}
 use Rattle.core_lang.specs.declared.tree.Local.{Local}
 use Rattle.core_lang.specs.declared.tree.Return.{Return}
 use Rattle.core_lang.specs.declared.tree.Stmt.{Stmt}
-use Rattle.core_lang.specs.declared.tree.Action.{Action, Bind, SetLocal, SetGlobal, SetElement, SetField, Call, Print, If', IfElse', While', Row_of-Stmt, end_of-Stmt, more_of-Stmt}
+use Rattle.core_lang.specs.declared.tree.Action.{Action, Bind, SetLocal, SetGlobal, SetElement, SetField, Call, Print}
+use Rattle.core_lang.specs.declared.tree.Action.{If', IfElse', While', Row_of-Stmt, end_of-Stmt, more_of-Stmt}
 use Rattle.core_lang.specs.declared.tree.Section.{Section}
 use Rattle.core_lang.specs.declared.typed.Typed.{Typed}
 use Rattle.core_lang.specs.Typing.{local_types, IsResult, IsWellTyped, AreWellTyped, AllWellTyped, IsWellTypedSection}
 use Rattle.core_lang.specs.Scopes.{bound_by, bound_in, bound_in_all, numbers_from, IsWellScoped}
 use Rattle.core_lang.specs.Helpers as core
 use Rattle.core_lang.specs.Helpers.{CallsOnly, AllCallOnly, EachCallsOnly}
-use Rattle.core_lang.specs.WrittenLocals.{LocalData, Brought, local_data, parameter_data, own_local, hidden_local, locals_by, locals_in, locals_in_all, brought_by, brought, written_locals}
-use Rattle.core_lang.specs.WrittenPoints.{points_by, points_among, points_among_all, result_points, points_if, brought_points, helper_points}
+use Rattle.core_lang.specs.WrittenLocals.{LocalData, Brought, local_data, parameter_data, own_local, hidden_local}
+use Rattle.core_lang.specs.WrittenLocals.{locals_by, locals_in, locals_in_all, brought_by, brought, written_locals}
+use Rattle.core_lang.specs.WrittenPoints.{points_by, points_among, points_among_all, result_points, points_if}
+use Rattle.core_lang.specs.WrittenPoints.{brought_points, helper_points}
 use Rattle.core_lang.specs.WellFormed.{IsWithinLimits}
 use Rattle.core_lang_calls.specs.declared.graph.CallSite.{CallSite}
 use Rattle.core_lang_calls.specs.Graphs.{Body, Graph}
@@ -26,7 +30,8 @@ use Rattle.core_lang_calls.specs.Depths as graphs
 use Rattle.core_lang_calls.specs.Depths.{of_body, depth, far, is_endless}
 use Rattle.core_lang_calls.specs.Counts as counts
 use Rattle.core_lang_calls.specs.Counts.{one_for, hidden, locals_within, points_within, brought_locals}
-use Rattle.core_lang_calls.specs.Working.Programs.{site_of, sites_by, sites_in, sites_in_all, brings_none, IsBodyOf, IsGraphOf, CallsKeepLimits}
+use Rattle.core_lang_calls.specs.Working.Programs.{site_of, sites_by, sites_in, sites_in_all, brings_none, IsBodyOf}
+use Rattle.core_lang_calls.specs.Working.Programs.{IsGraphOf, CallsKeepLimits}
 use Rattle.core_lang_calls.specs.Working.Laws.{CallsAreOfHelpers, HasNoGraphFault}
 use Rattle.core_lang_calls.proofs.Deep.{only_like, deep_at}
 use Rattle.core_lang_calls.proofs.Endless.{free_depth, free_ends}
@@ -117,7 +122,8 @@ total_both : (f : ℕ × Bool → ℕ) (a b : List (ℕ × Bool)) → total f (a
 total_both f [] b = omega arith
 total_both f (s ∷ a) b = let rest : total f (a ++ b) ≡ total f a + total f b = total_both f a b in omega (arith, rest)
 
-total_le : (f : ℕ × Bool → ℕ) (g : CallSite → ℕ) → ((c : CallSite) → f (site_of c) ≤ g c) → (cs : List CallSite) → total f (map site_of cs) ≤ sum_by g cs
+total_le : (f : ℕ × Bool → ℕ) (g : CallSite → ℕ) → ((c : CallSite) → f (site_of c) ≤ g c) → (cs : List CallSite) →
+    total f (map site_of cs) ≤ sum_by g cs
 total_le f g le [] = omega arith
 total_le f g le (c ∷ cs) =
     let one : f (site_of c) ≤ g c = le c in
@@ -149,7 +155,8 @@ module _ (own : ℕ) (brings : ℕ → ℕ) where
     points_are (While' c m a) =
         let x : points_among own brings a ≡ points_among own brings_none a + total by_helper (sites_in a) = row_points_are a in omega (arith, x)
 
-    row_points_are : {m : _} (row : Row_of-Stmt m) → points_among own brings row ≡ points_among own brings_none row + total by_helper (sites_in row)
+    row_points_are : {m : _} (row : Row_of-Stmt m) →
+        points_among own brings row ≡ points_among own brings_none row + total by_helper (sites_in row)
     row_points_are end_of-Stmt = omega arith
     row_points_are (more_of-Stmt start a rest) =
         let x : points_by own brings a ≡ points_by own brings_none a + total by_helper (sites_by a) = points_are a in
@@ -157,7 +164,8 @@ module _ (own : ℕ) (brings : ℕ → ℕ) where
         let z : total by_helper (sites_by a ++ sites_in rest) ≡ total by_helper (sites_by a) + total by_helper (sites_in rest) = total_both by_helper (sites_by a) (sites_in rest) in
         omega (arith, x, y, z)
 
-  all_points_are : (xs : List Stmt) → points_among_all own brings xs ≡ points_among_all own brings_none xs + total by_helper (sites_in_all xs)
+  all_points_are : (xs : List Stmt) →
+      points_among_all own brings xs ≡ points_among_all own brings_none xs + total by_helper (sites_in_all xs)
   all_points_are [] = omega arith
   all_points_are (a ∷ xs) =
       let x : points_by own brings a.action ≡ points_by own brings_none a.action + total by_helper (sites_by a.action) = points_are a.action in
@@ -203,14 +211,16 @@ own_few (Some local) = omega arith
 own_few None = omega arith
 
 module _ (brings : ℕ → Brought) (own : List Local) where
-  both_few : (a b : List LocalData) (c d : List ℕ) (e f : List (ℕ × Bool)) → length a ≤ length c + total (locals_for brings) e → length b ≤ length d + total (locals_for brings) f →
+  both_few : (a b : List LocalData) (c d : List ℕ) (e f : List (ℕ × Bool)) →
+      length a ≤ length c + total (locals_for brings) e → length b ≤ length d + total (locals_for brings) f →
       length (a ++ b) ≤ length (c ++ d) + total (locals_for brings) (e ++ f)
   both_few a b c d e f x y =
       let z : total (locals_for brings) (e ++ f) ≡ total (locals_for brings) e + total (locals_for brings) f = total_both (locals_for brings) e f in
       omega (arith, x, y, z, length-append a b, length-append c d)
 
   mutual
-    locals_few : (x : Action) → length (locals_by brings own x) ≤ length (bound_by x) + total (locals_for brings) (sites_by x)
+    locals_few : (x : Action) →
+        length (locals_by brings own x) ≤ length (bound_by x) + total (locals_for brings) (sites_by x)
     locals_few (Bind local e) = let x = own_few (slice_get own local) in omega (arith, x)
     locals_few (SetLocal local e) = omega arith
     locals_few (SetGlobal cell e) = omega arith
@@ -223,11 +233,13 @@ module _ (brings : ℕ → Brought) (own : List Local) where
     locals_few (IfElse' c m a k b) = both_few _ _ _ _ (sites_in a) (sites_in b) (row_locals_few a) (row_locals_few b)
     locals_few (While' c m a) = row_locals_few a
 
-    row_locals_few : {m : _} (row : Row_of-Stmt m) → length (locals_in brings own row) ≤ length (bound_in row) + total (locals_for brings) (sites_in row)
+    row_locals_few : {m : _} (row : Row_of-Stmt m) →
+        length (locals_in brings own row) ≤ length (bound_in row) + total (locals_for brings) (sites_in row)
     row_locals_few end_of-Stmt = omega arith
     row_locals_few (more_of-Stmt start x rest) = both_few _ _ _ _ (sites_by x) (sites_in rest) (locals_few x) (row_locals_few rest)
 
-  all_locals_few : (xs : List Stmt) → length (locals_in_all brings own xs) ≤ length (bound_in_all xs) + total (locals_for brings) (sites_in_all xs)
+  all_locals_few : (xs : List Stmt) →
+      length (locals_in_all brings own xs) ≤ length (bound_in_all xs) + total (locals_for brings) (sites_in_all xs)
   all_locals_few [] = omega arith
   all_locals_few (x ∷ xs) = both_few _ _ _ _ (sites_by x.action) (sites_in_all xs) (locals_few x.action) (all_locals_few xs)
 
@@ -238,7 +250,8 @@ taken_few (suc count) (x ∷ xs) = let h = taken_few count xs in omega arith
 
 -- ---- helpers whose calls end come to the same however far they are followed
 
-sum_same : (P : ℕ → Type 0) (f g : CallSite → ℕ) → ((c : CallSite) → P c.helper → f c ≡ g c) → (cs : List CallSite) → graphs.CallsOnly P cs → sum_by f cs ≡ sum_by g cs
+sum_same : (P : ℕ → Type 0) (f g : CallSite → ℕ) → ((c : CallSite) → P c.helper → f c ≡ g c) → (cs : List CallSite) →
+    graphs.CallsOnly P cs → sum_by f cs ≡ sum_by g cs
 sum_same P f g same [] only = refl
 sum_same P f g same (c ∷ cs) only =
     let one : f c ≡ g c = same c only.0 in
@@ -261,7 +274,8 @@ module _ (helpers : List Body) where
   points_at n h b is =
       ap (λ (o : Option Body). of_body o (λ (b : Body). b.parameters + b.points + sum_by (λ (c : CallSite). points_within n helpers c.helper) b.calls + one_for b.has_result)) is
 
-  locals_stay : (d k h : ℕ) → graphs.IsAtMostDeep helpers d h → d ≤ k → locals_within k helpers h ≡ locals_within d helpers h
+  locals_stay : (d k h : ℕ) → graphs.IsAtMostDeep helpers d h → d ≤ k →
+      locals_within k helpers h ≡ locals_within d helpers h
   locals_stay zero k h deep le = absurd deep
   locals_stay (suc d) zero h deep le = absurd (omega (arith, le))
   locals_stay (suc d) (suc k) h deep le =
@@ -272,7 +286,8 @@ module _ (helpers : List Body) where
       ∙ ap (λ (n : ℕ). b.locals + n) (sum_same (graphs.IsAtMostDeep helpers d) f g (λ c is. ap (λ (n : ℕ). n + hidden helpers c) (locals_stay d k c.helper is (omega (arith, le)))) b.calls deep.2)
       ∙ sym (locals_at d h b deep.1)
 
-  points_stay : (d k h : ℕ) → graphs.IsAtMostDeep helpers d h → d ≤ k → points_within k helpers h ≡ points_within d helpers h
+  points_stay : (d k h : ℕ) → graphs.IsAtMostDeep helpers d h → d ≤ k →
+      points_within k helpers h ≡ points_within d helpers h
   points_stay zero k h deep le = absurd deep
   points_stay (suc d) zero h deep le = absurd (omega (arith, le))
   points_stay (suc d) (suc k) h deep le =
@@ -299,7 +314,8 @@ hidden_one : (t : Option ValueType) → length (hidden_local t) ≡ one_for (is_
 hidden_one (Some t) = refl
 hidden_one None = refl
 
-returned_one : (program : Typed) (types : List ValueType) (t : Option ValueType) (r : Option Return) → IsResult program types t r → result_points r ≡ one_for (is_some t)
+returned_one : (program : Typed) (types : List ValueType) (t : Option ValueType) (r : Option Return) →
+    IsResult program types t r → result_points r ≡ one_for (is_some t)
 returned_one program types None None is = refl
 returned_one program types None (Some r) is = absurd is
 returned_one program types (Some t) None is = absurd is
@@ -313,7 +329,8 @@ section_there (x ∷ xs) (suc k) lt = section_there xs k (omega (arith, lt))
 module _ (program : Typed) (graph : Graph) (fits : IsGraphOf program graph)
     (typed : (k : ℕ) (helper : Section) → slice_get program.shape.helpers.items k ≡ Some helper → IsWellTypedSection program helper) where
   -- a body of the graph is that of a helper
-  helper_of : (h : ℕ) (b : Body) → slice_get graph.helpers h ≡ Some b → (s : Section) × (slice_get program.shape.helpers.items h ≡ Some s) × IsBodyOf s b
+  helper_of : (h : ℕ) (b : Body) → slice_get graph.helpers h ≡ Some b →
+      (s : Section) × (slice_get program.shape.helpers.items h ≡ Some s) × IsBodyOf s b
   helper_of h b is =
       let lt : h < length graph.helpers = slice_get_within graph.helpers h b is in
       let s = section_there program.shape.helpers.items h (omega (arith, lt, fits.few)) in
@@ -361,11 +378,13 @@ module _ (program : Typed) (graph : Graph) (fits : IsGraphOf program graph)
       })).result_type)) is in
       omega (arith, left)
 
-  hidden_le : (d h : ℕ) → length (hidden_local (brought d program.shape h).result_type) ≤ of_body (slice_get graph.helpers h) (λ (b : Body). one_for b.has_result)
+  hidden_le : (d h : ℕ) →
+      length (hidden_local (brought d program.shape h).result_type) ≤ of_body (slice_get graph.helpers h) (λ (b : Body). one_for b.has_result)
   hidden_le zero h = omega arith
   hidden_le (suc d) h = hidden_of d h (slice_get program.shape.helpers.items h) refl
 
-  hidden_by_le : (b : Bool) (d h : ℕ) → hidden_by (brought d program.shape) (h, b) ≤ hidden graph.helpers (record { helper = h; start = 0; is_bound = b })
+  hidden_by_le : (b : Bool) (d h : ℕ) →
+      hidden_by (brought d program.shape) (h, b) ≤ hidden graph.helpers (record { helper = h; start = 0; is_bound = b })
   hidden_by_le true d h = omega arith
   hidden_by_le false d h = hidden_le d h
 
@@ -376,7 +395,8 @@ module _ (program : Typed) (graph : Graph) (fits : IsGraphOf program graph)
       let y : hidden_by (brought d program.shape) (c.helper, c.is_bound) ≤ hidden graph.helpers c = hidden_by_le c.is_bound d c.helper in
       omega (arith, x, y)
 
-  body_le : (d : ℕ) → ((h : ℕ) → length (brought d program.shape h).locals ≤ locals_within d graph.helpers h) → (s : Section) (b : Body) → IsBodyOf s b →
+  body_le : (d : ℕ) → ((h : ℕ) → length (brought d program.shape h).locals ≤ locals_within d graph.helpers h) →
+      (s : Section) (b : Body) → IsBodyOf s b →
       length (take s.parameters s.locals.items) + length (locals_in_all (brought d program.shape) s.locals.items s.body.items)
       ≤ b.locals + sum_by (λ (c : CallSite). locals_within d graph.helpers c.helper + hidden graph.helpers c) b.calls
   body_le d le s b is =
@@ -389,7 +409,8 @@ module _ (program : Typed) (graph : Graph) (fits : IsGraphOf program graph)
       total_le (locals_for (brought d program.shape)) (λ (c : CallSite). locals_within d graph.helpers c.helper + hidden graph.helpers c) (site_le d le) b.calls in
       omega (arith, few, all, sites, sum, is.locals)
 
-  locals_of : (d h : ℕ) → ((h : ℕ) → length (brought d program.shape h).locals ≤ locals_within d graph.helpers h) → (o : Option Section) → slice_get program.shape.helpers.items h ≡ o →
+  locals_of : (d h : ℕ) → ((h : ℕ) → length (brought d program.shape h).locals ≤ locals_within d graph.helpers h) →
+      (o : Option Section) → slice_get program.shape.helpers.items h ≡ o →
       length (brought (suc d) program.shape h).locals ≤ locals_within (suc d) graph.helpers h
   locals_of d h le (Some s) is =
       let r = fits.helpers h s is in
@@ -417,7 +438,8 @@ module _ (program : Typed) (graph : Graph) (fits : IsGraphOf program graph)
   locals_le zero h = omega arith
   locals_le (suc d) h = locals_of d h (locals_le d) (slice_get program.shape.helpers.items h) refl
 
-  points_body : (d : ℕ) → ((h : ℕ) → brought_points d program.shape h ≤ points_within d graph.helpers h) → (own : ℕ) (s : Section) (b : Body) → IsBodyOf s b →
+  points_body : (d : ℕ) → ((h : ℕ) → brought_points d program.shape h ≤ points_within d graph.helpers h) →
+      (own : ℕ) (s : Section) (b : Body) → IsBodyOf s b →
       points_among_all own (brought_points d program.shape) s.body.items ≤ points_among_all own brings_none s.body.items + sum_by (λ (c : CallSite). points_within d graph.helpers c.helper) b.calls
   points_body d le own s b is =
       let all = all_points_are own (brought_points d program.shape) s.body.items in
@@ -427,7 +449,8 @@ module _ (program : Typed) (graph : Graph) (fits : IsGraphOf program graph)
       total_le f (λ (c : CallSite). points_within d graph.helpers c.helper) (λ c. le c.helper) b.calls in
       omega (arith, all, sites, sum)
 
-  points_of : (d h : ℕ) → ((h : ℕ) → brought_points d program.shape h ≤ points_within d graph.helpers h) → (o : Option Section) → slice_get program.shape.helpers.items h ≡ o →
+  points_of : (d h : ℕ) → ((h : ℕ) → brought_points d program.shape h ≤ points_within d graph.helpers h) →
+      (o : Option Section) → slice_get program.shape.helpers.items h ≡ o →
       brought_points (suc d) program.shape h ≤ points_within (suc d) graph.helpers h
   points_of d h le (Some s) is =
       let r = fits.helpers h s is in
@@ -476,16 +499,19 @@ module _ (program : Typed) (graph : Graph) (fits : IsGraphOf program graph)
       | inr ge ↦ past_points graph.helpers 8 h ge ∙ sym (past_points graph.helpers (far graph.helpers) h ge)
     ]
 
-    locals_brought : (cs : List CallSite) → sum_by (λ (c : CallSite). locals_within 8 graph.helpers c.helper + hidden graph.helpers c) cs ≡ sum_by (brought_locals graph.helpers) cs
+    locals_brought : (cs : List CallSite) →
+        sum_by (λ (c : CallSite). locals_within 8 graph.helpers c.helper + hidden graph.helpers c) cs ≡ sum_by (brought_locals graph.helpers) cs
     locals_brought cs = sum_same (λ h. Unit {0}) (λ (c : CallSite). locals_within 8 graph.helpers c.helper + hidden graph.helpers c) (brought_locals graph.helpers)
         (λ c is. ap (λ (n : ℕ). n + hidden graph.helpers c) (same_locals c.helper)
         ∙ ap (λ (t : Bool). if t then 0 else locals_within (far graph.helpers) graph.helpers c.helper + hidden graph.helpers c) (sym (ends c.helper))) cs (any_calls cs)
 
-    points_brought : (cs : List CallSite) → sum_by (λ (c : CallSite). points_within 8 graph.helpers c.helper) cs ≡ sum_by (counts.brought_points graph.helpers) cs
+    points_brought : (cs : List CallSite) →
+        sum_by (λ (c : CallSite). points_within 8 graph.helpers c.helper) cs ≡ sum_by (counts.brought_points graph.helpers) cs
     points_brought cs = sum_same (λ h. Unit {0}) (λ (c : CallSite). points_within 8 graph.helpers c.helper) (counts.brought_points graph.helpers)
         (λ c is. same_points c.helper ∙ ap (λ (t : Bool). if t then 0 else points_within (far graph.helpers) graph.helpers c.helper) (sym (ends c.helper))) cs (any_calls cs)
 
-    few_written : IsWithinLimits program → (k : ℕ) (s : Section) → slice_get program.sections.items k ≡ Some s → IsWellScoped s → length (written_locals program.shape s) ≤ 64
+    few_written : IsWithinLimits program → (k : ℕ) (s : Section) → slice_get program.sections.items k ≡ Some s →
+        IsWellScoped s → length (written_locals program.shape s) ≤ 64
     few_written within k s is scoped =
         let r = fits.sections k s is in
         let front : List LocalData = map local_data (take s.parameters s.locals.items) in
@@ -502,7 +528,8 @@ module _ (program : Typed) (graph : Graph) (fits : IsGraphOf program graph)
         let few = (bring_few graph none k r.0 r.1).0 fits_own in
         omega (arith, parts, many, body, sum, few)
 
-    few_points : (k : ℕ) (s : Section) → slice_get program.sections.items k ≡ Some s → helper_points program.shape s ≤ 65536
+    few_points : (k : ℕ) (s : Section) → slice_get program.sections.items k ≡ Some s →
+        helper_points program.shape s ≤ 65536
     few_points k s is =
         let r = fits.sections k s is in
         let body = points_body 8 (points_le 8) 0 s r.0 r.2 in
@@ -511,7 +538,9 @@ module _ (program : Typed) (graph : Graph) (fits : IsGraphOf program graph)
         let few = (bring_few graph none k r.0 r.1).1 in
         omega (arith, body, sum, own, few)
 
-    pub keeps_limits : IsWithinLimits program → ((k : ℕ) (section : Section) → slice_get program.sections.items k ≡ Some section → IsWellScoped section) → CallsKeepLimits program
+    pub keeps_limits : IsWithinLimits program →
+        ((k : ℕ) (section : Section) → slice_get program.sections.items k ≡ Some section → IsWellScoped section) →
+        CallsKeepLimits program
     keeps_limits within scoped = record {
       helper_depths = λ k h is.
           let lt : k < length program.shape.helpers.items = slice_get_within program.shape.helpers.items k h is in

@@ -1,7 +1,8 @@
 -- Statements leave in scope what was: what they bind stands in front of it.
 use Rattle.std.proofs.Common.{◌≡◌, ℕ, List, [], ◌∷◌, ◌++◌, Option, Some, None, sym, ap, ◌∙◌, append_assoc}
 use Rattle.core_lang.specs.declared.tree.Stmt.{Stmt}
-use Rattle.core_lang.specs.declared.tree.Action.{Action, Bind, SetLocal, SetGlobal, SetElement, SetField, Call, Print, If', IfElse', While'}
+use Rattle.core_lang.specs.declared.tree.Action.{Action, Bind, SetLocal, SetGlobal, SetElement, SetField, Call, Print}
+use Rattle.core_lang.specs.declared.tree.Action.{If', IfElse', While'}
 use Rattle.core_lang.specs.declared.tree.Return.{Return}
 use Rattle.core_lang.specs.Expansion.{Pair, pair, At, Bound, Bodies, Writes, WritesAll}
 
@@ -11,7 +12,8 @@ Grows a b = (more : List Pair) × (b.scope ≡ more ++ a.scope)
 same : (a b : At) → b.scope ≡ a.scope → Grows a b
 same a b e = ([], e)
 
-bound_grows : (result : Option ℕ) (r : Option Return) (a b : At) (fresh : ℕ) (last : List Stmt) → Bound result r a fresh last b → Grows a b
+bound_grows : (result : Option ℕ) (r : Option Return) (a b : At) (fresh : ℕ) (last : List Stmt) →
+    Bound result r a fresh last b → Grows a b
 bound_grows None None a b fresh last w = same a b (ap (λ (z : At). z.scope) w.1)
 bound_grows None (Some r) a b fresh last w = same a b (ap (λ (z : At). z.scope) w.1)
 bound_grows (Some k) None a b fresh last w = absurd w

@@ -1,21 +1,26 @@
 -- Calls of helpers that do nothing are written out as nothing.
-use Rattle.std.proofs.Common.{◌≡◌, ◌⊎◌, inl, inr, ℕ, zero, suc, ◌+◌, ◌≤◌, ◌==◌, ◌&&◌, Bool, true, false, not, List, [], ◌∷◌, ◌++◌, length, map, take, Option, Some, None, refl, sym, ap, ◌∙◌, subst, arith}
+use Rattle.std.proofs.Common.{◌≡◌, ◌⊎◌, inl, inr, ℕ, zero, suc, ◌+◌, ◌≤◌, ◌==◌, ◌&&◌, Bool, true, false, not, List}
+use Rattle.std.proofs.Common.{[], ◌∷◌, ◌++◌, length, map, take, Option, Some, None, refl, sym, ap, ◌∙◌, subst, arith}
 use Rattle.std.specs.Prelude.{◌<◌, slice_get, slice_set, slice_index_or, is_some}
 use Rattle.std.proofs.lemmas.Bool.{eqb-true}
 use Rattle.std.proofs.lemmas.List.{append-nil}
-use Rattle.core_lang.specs.declared.tree.Action.{Action, Bind, SetLocal, SetGlobal, SetElement, SetField, Call, Print, If', IfElse', While'}
+use Rattle.core_lang.specs.declared.tree.Action.{Action, Bind, SetLocal, SetGlobal, SetElement, SetField, Call, Print}
+use Rattle.core_lang.specs.declared.tree.Action.{If', IfElse', While'}
 use Rattle.core_lang.specs.declared.tree.Local.{Local}
 use Rattle.core_lang.specs.declared.tree.Return.{Return}
 use Rattle.core_lang.specs.declared.tree.Section.{Section}
 use Rattle.core_lang.specs.declared.tree.Stmt.{Stmt}
 use Rattle.core_lang.specs.declared.shape.Shape.{Shape}
-use Rattle.core_lang.specs.Expansion.{At, entered, Arguments, Bodies, Writes, WritesAll, WritesBody, HelpersWritten, RenamesResult}
-use Rattle.core_lang.specs.WrittenLocals.{LocalData, Brought, local_data, parameter_data, hidden_local, locals_by, locals_in_all, brought_by, brought}
+use Rattle.core_lang.specs.Expansion.{At, entered, Arguments, Bodies, Writes, WritesAll, WritesBody, HelpersWritten}
+use Rattle.core_lang.specs.Expansion.{RenamesResult}
+use Rattle.core_lang.specs.WrittenLocals.{LocalData, Brought, local_data, parameter_data, hidden_local, locals_by}
+use Rattle.core_lang.specs.WrittenLocals.{locals_in_all, brought_by, brought}
 use Rattle.core_lang_expansion.specs.declared.body.Body.{Body}
 use Rattle.core_lang_expansion.specs.declared.scope.Scope.{Scope}
 use Rattle.core_lang_expansion.specs.Working.Bodies.{bodies, at, Wrote, HasMore, locals_of}
 use Rattle.core_lang_expansion.proofs.Pairs.{take_one}
-use Rattle.core_lang_expansion.specs.Working.IdleHelpers.{is_idle_call, are_idle_calls, is_idle_body, if_section, is_idle, AreIdle}
+use Rattle.core_lang_expansion.specs.Working.IdleHelpers.{is_idle_call, are_idle_calls, is_idle_body, if_section}
+use Rattle.core_lang_expansion.specs.Working.IdleHelpers.{is_idle, AreIdle}
 
 -- ---- what the tests say
 
@@ -52,7 +57,8 @@ facts idle h e =
       calls = a.1;
     }
 
-there : (o : Option Section) (test : Section → Bool) → if_section o test ≡ true → (h : Section) × (o ≡ Some h) × (test h ≡ true)
+there : (o : Option Section) (test : Section → Bool) → if_section o test ≡ true →
+    (h : Section) × (o ≡ Some h) × (test h ≡ true)
 there (Some h) test e = (h, refl, e)
 there None test e = absurd cc
 
@@ -61,7 +67,8 @@ there None test e = absurd cc
 and_map : (a b c d : Bool) → (a ≡ true → c ≡ true) → (b ≡ true → d ≡ true) → (a && b) ≡ true → (c && d) ≡ true
 and_map a b c d f g e = let h = both a b e in ap (λ x. x && d) (f h.0) ∙ g h.1
 
-call_map : (P Q : ℕ → Bool) → ((g : ℕ) → P g ≡ true → Q g ≡ true) → (x : Action) → is_idle_call P x ≡ true → is_idle_call Q x ≡ true
+call_map : (P Q : ℕ → Bool) → ((g : ℕ) → P g ≡ true → Q g ≡ true) → (x : Action) → is_idle_call P x ≡ true →
+    is_idle_call Q x ≡ true
 call_map P Q f (Call helper arguments None) h =
     and_map (length arguments.items == 0) (P helper) (length arguments.items == 0) (Q helper) (λ e. e) (f helper) h
 call_map P Q f (Call helper arguments (Some k)) h = absurd cc
@@ -75,22 +82,26 @@ call_map P Q f (If' c m block) h = absurd cc
 call_map P Q f (IfElse' c m block k otherwise) h = absurd cc
 call_map P Q f (While' c m body) h = absurd cc
 
-calls_map : (P Q : ℕ → Bool) → ((g : ℕ) → P g ≡ true → Q g ≡ true) → (xs : List Stmt) → are_idle_calls P xs ≡ true → are_idle_calls Q xs ≡ true
+calls_map : (P Q : ℕ → Bool) → ((g : ℕ) → P g ≡ true → Q g ≡ true) → (xs : List Stmt) → are_idle_calls P xs ≡ true →
+    are_idle_calls Q xs ≡ true
 calls_map P Q f [] h = refl
 calls_map P Q f (x ∷ xs) h =
     and_map (is_idle_call P x.action) (are_idle_calls P xs) (is_idle_call Q x.action) (are_idle_calls Q xs) (call_map P Q f x.action) (calls_map P Q f xs) h
 
-body_map : (P Q : ℕ → Bool) → ((g : ℕ) → P g ≡ true → Q g ≡ true) → (h : Section) → is_idle_body P h ≡ true → is_idle_body Q h ≡ true
+body_map : (P Q : ℕ → Bool) → ((g : ℕ) → P g ≡ true → Q g ≡ true) → (h : Section) → is_idle_body P h ≡ true →
+    is_idle_body Q h ≡ true
 body_map P Q f h e =
     let a = both _ (are_idle_calls P h.body.items) e in
     ap (λ b. b && are_idle_calls Q h.body.items) a.0 ∙ calls_map P Q f h.body.items a.1
 
-section_map : (o : Option Section) (P Q : Section → Bool) → ((h : Section) → P h ≡ true → Q h ≡ true) → if_section o P ≡ true → if_section o Q ≡ true
+section_map : (o : Option Section) (P Q : Section → Bool) → ((h : Section) → P h ≡ true → Q h ≡ true) →
+    if_section o P ≡ true → if_section o Q ≡ true
 section_map (Some h) P Q f e = f h e
 section_map None P Q f e = absurd cc
 
 -- what goes at most so deep goes at most deeper
-pub deeper : (helpers : List Section) (d e number : ℕ) → d ≤ e → is_idle helpers d number ≡ true → is_idle helpers e number ≡ true
+pub deeper : (helpers : List Section) (d e number : ℕ) → d ≤ e → is_idle helpers d number ≡ true →
+    is_idle helpers e number ≡ true
 deeper helpers zero e number le h = absurd cc
 deeper helpers (suc d) zero number le h = absurd (omega (arith, le))
 deeper helpers (suc d) (suc e) number le h =
@@ -100,14 +111,16 @@ deeper helpers (suc d) (suc e) number le h =
 
 -- ---- what is written
 
-all_write : (P : ℕ → Bool) (Body : Bodies) → ((x : Action) (start : ℕ) (a : At) → is_idle_call P x ≡ true → Writes Body x start a [] a) →
+all_write : (P : ℕ → Bool) (Body : Bodies) →
+    ((x : Action) (start : ℕ) (a : At) → is_idle_call P x ≡ true → Writes Body x start a [] a) →
     (xs : List Stmt) (a : At) → are_idle_calls P xs ≡ true → WritesAll Body xs a [] a
 all_write P Body one [] a h = (refl, refl)
 all_write P Body one (x ∷ xs) a h =
     let e = both (is_idle_call P x.action) (are_idle_calls P xs) h in
     ([], [], a, one x.action x.start a e.0, all_write P Body one xs a e.1, refl)
 
-body_writes : (P : ℕ → Bool) (Body : Bodies) → ((x : Action) (start : ℕ) (a : At) → is_idle_call P x ≡ true → Writes Body x start a [] a) →
+body_writes : (P : ℕ → Bool) (Body : Bodies) →
+    ((x : Action) (start : ℕ) (a : At) → is_idle_call P x ≡ true → Writes Body x start a [] a) →
     (h : Section) (first : ℕ) → IsIdleBody P h → WritesBody Body h first [] None first
 body_writes P Body one h first is =
     let a = entered h.parameters first in
@@ -119,7 +132,8 @@ body_writes P Body one h first is =
       omega (arith, none),
     )
 
-pub call_writes : (shape : Shape) (depth : ℕ) (x : Action) (start : ℕ) (a : At) → is_idle_call (is_idle shape.helpers.items depth) x ≡ true →
+pub call_writes : (shape : Shape) (depth : ℕ) (x : Action) (start : ℕ) (a : At) →
+    is_idle_call (is_idle shape.helpers.items depth) x ≡ true →
     Writes (HelpersWritten shape depth) x start a [] a
 call_writes shape zero (Call helper arguments None) start a idle = absurd (let e = (both (length arguments.items == 0) false idle).1 in cc)
 call_writes shape (suc d) (Call helper arguments None) start a idle =
@@ -152,7 +166,8 @@ call_writes shape depth (While' c m body) start a h = absurd cc
 
 -- ---- which locals it brings
 
-all_bring : (P : ℕ → Bool) (brings : ℕ → Brought) (own : List Local) → ((x : Action) → is_idle_call P x ≡ true → locals_by brings own x ≡ []) →
+all_bring : (P : ℕ → Bool) (brings : ℕ → Brought) (own : List Local) →
+    ((x : Action) → is_idle_call P x ≡ true → locals_by brings own x ≡ []) →
     (xs : List Stmt) → are_idle_calls P xs ≡ true → locals_in_all brings own xs ≡ []
 all_bring P brings own one [] h = refl
 all_bring P brings own one (x ∷ xs) h =
@@ -172,7 +187,8 @@ nothing = record { locals = []; result_type = None }
 abbrev all_locals : Brought → List LocalData
 all_locals b = b.locals ++ hidden_local b.result_type
 
-pub call_brings : (shape : Shape) (depth : ℕ) (own : List Local) (x : Action) → is_idle_call (is_idle shape.helpers.items depth) x ≡ true →
+pub call_brings : (shape : Shape) (depth : ℕ) (own : List Local) (x : Action) →
+    is_idle_call (is_idle shape.helpers.items depth) x ≡ true →
     locals_by (brought depth shape) own x ≡ []
 call_brings shape zero own (Call helper arguments None) idle = absurd (let e = (both (length arguments.items == 0) false idle).1 in cc)
 call_brings shape (suc d) own (Call helper arguments None) idle =
@@ -200,23 +216,27 @@ call_brings shape depth own (While' c m body) h = absurd cc
 -- ---- the table
 
 -- the same of one more statement
-calls_with : (P : ℕ → Bool) (xs : List Stmt) (x : Stmt) → are_idle_calls P xs ≡ true → is_idle_call P x.action ≡ true → are_idle_calls P (xs ++ x ∷ []) ≡ true
+calls_with : (P : ℕ → Bool) (xs : List Stmt) (x : Stmt) → are_idle_calls P xs ≡ true →
+    is_idle_call P x.action ≡ true → are_idle_calls P (xs ++ x ∷ []) ≡ true
 calls_with P [] x e f = ap (λ b. b && true) f
 calls_with P (v ∷ xs) x e f =
     let parts = both (is_idle_call P v.action) (are_idle_calls P xs) e in
     ap (λ b. b && are_idle_calls P (xs ++ x ∷ [])) parts.0 ∙ calls_with P xs x parts.1 f
 
-pub one_more_call : (P : ℕ → Bool) (xs : List Stmt) (k : ℕ) (x : Stmt) → k < length xs → x ≡ slice_index_or xs k x → are_idle_calls P (take k xs) ≡ true →
+pub one_more_call : (P : ℕ → Bool) (xs : List Stmt) (k : ℕ) (x : Stmt) → k < length xs → x ≡ slice_index_or xs k x →
+    are_idle_calls P (take k xs) ≡ true →
     is_idle_call P x.action ≡ true → are_idle_calls P (take (k + 1) xs) ≡ true
 one_more_call P xs k x lt is e f = ap (are_idle_calls P) (take_one xs k x lt is) ∙ calls_with P (take k xs) x e f
 
 -- a helper with a depth in the table, at most this one
-pub known_idle : (helpers : List Section) (depths : List ℕ) (number known depth : ℕ) → AreIdle helpers depths → slice_get depths number ≡ Some known →
+pub known_idle : (helpers : List Section) (depths : List ℕ) (number known depth : ℕ) → AreIdle helpers depths →
+    slice_get depths number ≡ Some known →
     0 < known → known ≤ depth → is_idle helpers depth number ≡ true
 known_idle helpers depths number zero depth are e some le = absurd (omega (arith, some))
 known_idle helpers depths number (suc known) depth are e some le = deeper helpers (suc known) depth number le (are number known e)
 
-at_set : (xs : List ℕ) (k j v y : ℕ) → slice_get (slice_set xs k v) j ≡ Some y → ((j ≡ k) × (v ≡ y)) ⊎ (slice_get xs j ≡ Some y)
+at_set : (xs : List ℕ) (k j v y : ℕ) → slice_get (slice_set xs k v) j ≡ Some y →
+    ((j ≡ k) × (v ≡ y)) ⊎ (slice_get xs j ≡ Some y)
 at_set [] k j v y e = inr e
 at_set (x ∷ xs) zero zero v y e = let same : v ≡ y = cc in inl (refl, same)
 at_set (x ∷ xs) zero (suc j) v y e = inr e
@@ -228,17 +248,20 @@ at_set (x ∷ xs) (suc k) (suc j) v y e = further k j v y (at_set xs k j v y e)
     further k j v y (inr q) = inr q
 
 -- one more helper is known
-pub noted : (helpers : List Section) (depths : List ℕ) (number below : ℕ) → AreIdle helpers depths → is_idle helpers (suc below) number ≡ true →
+pub noted : (helpers : List Section) (depths : List ℕ) (number below : ℕ) → AreIdle helpers depths →
+    is_idle helpers (suc below) number ≡ true →
     AreIdle helpers (slice_set depths number (suc below))
 noted helpers depths number below known is k depth e = by_case (at_set depths number k (suc below) (suc depth) e)
   where
-    by_case : ((k ≡ number) × (suc below ≡ suc depth)) ⊎ (slice_get depths k ≡ Some (suc depth)) → is_idle helpers (suc depth) k ≡ true
+    by_case : ((k ≡ number) × (suc below ≡ suc depth)) ⊎ (slice_get depths k ≡ Some (suc depth)) →
+        is_idle helpers (suc depth) k ≡ true
     by_case (inl (a, b)) = ap (is_idle helpers (suc depth)) a ∙ ap (λ n. is_idle helpers n number) (sym b) ∙ is
     by_case (inr old) = known k depth old
 
 -- ---- a call that is passed over
 
-pub nothing_written : (body : Body) (x : Stmt) (y : Action) (scope : Scope) (locals : List Local) (old : List Stmt) → y ≡ x.action →
+pub nothing_written : (body : Body) (x : Stmt) (y : Action) (scope : Scope) (locals : List Local) (old : List Stmt) →
+    y ≡ x.action →
     body.idle.now.helpers.now ≡ body.shape.now.helpers.items → is_idle_call (is_idle body.idle.now.helpers.now body.depth) y ≡ true →
     Wrote (bodies body) x (at scope locals) old old (at scope locals)
 nothing_written body x y scope locals old same there idle = (
@@ -249,7 +272,8 @@ nothing_written body x y scope locals old same there idle = (
       (subst (λ (z : Action). is_idle_call (is_idle body.idle.now.helpers.now body.depth) z ≡ true) same idle)),
 )
 
-pub nothing_more : (body : Body) (x y : Action) (old : List Local) → y ≡ x → body.idle.now.helpers.now ≡ body.shape.now.helpers.items →
+pub nothing_more : (body : Body) (x y : Action) (old : List Local) → y ≡ x →
+    body.idle.now.helpers.now ≡ body.shape.now.helpers.items →
     is_idle_call (is_idle body.idle.now.helpers.now body.depth) y ≡ true → HasMore old old (locals_of body x)
 nothing_more body x y old same there idle =
     let none = call_brings body.shape.now body.depth body.section.now.locals.items x

@@ -10,7 +10,9 @@ use Rattle.core_lang.specs.declared.typed.Typed.{Typed}
 use Rattle.core_lang.specs.Expansion.{IsExpansion}
 use Rattle.core_lang.specs.WrittenLocals.{local_data, written_locals, AreWrittenLocals}
 use Rattle.core_lang.specs.WellFormed.{calls_together, IsWithinLimits, IsChecked}
-use Rattle.core_lang_expansion.specs.Data.{lock_field_data, final_data, class_data, field_data, StructData, struct_data, call_data, ThreadData, thread_data, HeadData, head_data, IsSameBesides}
+use Rattle.core_lang_expansion.specs.Data.{lock_field_data, final_data, class_data, field_data, StructData}
+use Rattle.core_lang_expansion.specs.Data.{struct_data, call_data, ThreadData, thread_data, HeadData, head_data}
+use Rattle.core_lang_expansion.specs.Data.{IsSameBesides}
 use Rattle.core_lang_expansion.proofs.Pairs.{zip_back}
 
 -- ---- lists that are the same as data
@@ -18,7 +20,8 @@ use Rattle.core_lang_expansion.proofs.Pairs.{zip_back}
 pub as_long : {X D : Type 0} (f : X → D) (xs ys : List X) → map f ys ≡ map f xs → length ys ≡ length xs
 as_long f xs ys e = sym (length-map ys f) ∙ ap length e ∙ length-map xs f
 
-pub data_there : {X D : Type 0} (f : X → D) (xs ys : List X) (k : ℕ) (y : X) → map f ys ≡ map f xs → slice_get ys k ≡ Some y →
+pub data_there : {X D : Type 0} (f : X → D) (xs ys : List X) (k : ℕ) (y : X) → map f ys ≡ map f xs →
+    slice_get ys k ≡ Some y →
     (x : X) × (slice_get xs k ≡ Some x) × (f y ≡ f x)
 data_there f xs [] k y e is = absurd cc
 data_there f [] (w ∷ ys) k y e is = absurd cc
@@ -45,7 +48,8 @@ calls_alike (x ∷ xs) (y ∷ ys) e =
 
 module _ (program program' : Typed) (checked : IsChecked program) (expands : IsExpansion program program') (same : IsSameBesides program program')
     (named : AllZip (AreWrittenLocals program.shape) program.sections.items program'.sections.items) where
-  members : (s : ℕ) (y : Struct) → slice_get program'.structs.items s ≡ Some y → length y.locks.items + length y.finals.items + length y.fields.items ≤ 32
+  members : (s : ℕ) (y : Struct) → slice_get program'.structs.items s ≡ Some y →
+      length y.locks.items + length y.finals.items + length y.fields.items ≤ 32
   members s y is =
       let found = data_there struct_data program.structs.items program'.structs.items s y same.structs is in
       let x = found.0 in

@@ -1,5 +1,6 @@
 -- Where the locals of what is written out lie in the list of all, and what stands for what.
-use Rattle.std.proofs.Common.{◌≡◌, ℕ, zero, suc, ◌+◌, ◌<◌, ◌≤◌, List, [], ◌∷◌, ◌++◌, length, map, take, Some, ◌⊎◌, inl, inr, refl, sym, ap, ◌∙◌, subst, arith}
+use Rattle.std.proofs.Common.{◌≡◌, ℕ, zero, suc, ◌+◌, ◌<◌, ◌≤◌, List, [], ◌∷◌, ◌++◌, length, map, take, Some, ◌⊎◌}
+use Rattle.std.proofs.Common.{inl, inr, refl, sym, ap, ◌∙◌, subst, arith}
 use Rattle.std.specs.Prelude.{slice_get, option_map, ◌≢◌, ⊤}
 use Rattle.std.specs.List.{Contains}
 use Rattle.core_lang.specs.declared.value.ValueType.{ValueType}
@@ -23,7 +24,8 @@ in_either (x ∷ xs) ys y c =
       ]
     ]
 
-pub mapped_there : {A B : Type 0} (f : A → B) (xs : List A) (k : ℕ) (b : B) → slice_get (map f xs) k ≡ Some b → (a : A) × (slice_get xs k ≡ Some a) × (f a ≡ b)
+pub mapped_there : {A B : Type 0} (f : A → B) (xs : List A) (k : ℕ) (b : B) → slice_get (map f xs) k ≡ Some b →
+    (a : A) × (slice_get xs k ≡ Some a) × (f a ≡ b)
 mapped_there f [] k b is = absurd cc
 mapped_there f (x ∷ xs) zero b is = let same : f x ≡ b = cc in (x, refl, same)
 mapped_there f (x ∷ xs) (suc k) b is = mapped_there f xs k b is
@@ -33,10 +35,12 @@ get_past [] ys i = let e : 0 + i ≡ i = omega arith in ap (slice_get ys) e
 get_past (x ∷ front) ys i = let e : length (x ∷ front) + i ≡ suc (length front + i) = omega arith in ap (slice_get (x ∷ (front ++ ys))) e ∙ get_past front ys i
 
 -- the one that stands behind so many
-pub get_behind : {X : Type 0} (front rest : List X) (x : X) (k : ℕ) → length front ≡ k → slice_get (front ++ x ∷ rest) k ≡ Some x
+pub get_behind : {X : Type 0} (front rest : List X) (x : X) (k : ℕ) → length front ≡ k →
+    slice_get (front ++ x ∷ rest) k ≡ Some x
 get_behind front rest x k e = let at : k ≡ length front + 0 = omega (arith, e) in ap (slice_get (front ++ x ∷ rest)) at ∙ get_past front (x ∷ rest) 0
 
-pub get_within : {X : Type 0} (xs ys : List X) (i : ℕ) (x : X) → slice_get xs i ≡ Some x → slice_get (xs ++ ys) i ≡ Some x
+pub get_within : {X : Type 0} (xs ys : List X) (i : ℕ) (x : X) → slice_get xs i ≡ Some x →
+    slice_get (xs ++ ys) i ≡ Some x
 get_within [] ys i x is = absurd cc
 get_within (y ∷ xs) ys zero x is = is
 get_within (y ∷ xs) ys (suc i) x is = get_within xs ys i x is
@@ -71,7 +75,8 @@ pub none_of_both : (xs ys : List LocalData) → NoParameters xs → NoParameters
 none_of_both [] ys h k = k
 none_of_both (x ∷ xs) ys h k = (h.0, none_of_both xs ys h.1 k)
 
-pub none_there : (ds : List LocalData) (k : ℕ) (d : LocalData) → NoParameters ds → slice_get ds k ≡ Some d → d.kind ≢ Parameter
+pub none_there : (ds : List LocalData) (k : ℕ) (d : LocalData) → NoParameters ds → slice_get ds k ≡ Some d →
+    d.kind ≢ Parameter
 none_there [] k d h is = absurd cc
 none_there (x ∷ ds) zero d h is = let same : x ≡ d = cc in subst (λ (z : LocalData). z.kind ≢ Parameter) same h.0
 none_there (x ∷ ds) (suc k) d h is = none_there ds k d h.1 is
@@ -109,7 +114,8 @@ parameters_stand own all p (suc n) first le each k written c =
     stands_more own all (parameters_at n first) n (first + n) this.0 this.1 (parameters_stand own all p n first (omega (arith, le)) each) this.2 this.3 this.4 this.5 k written c
 
 -- a parameter, where the list of all has those of the parameters behind others
-pub parameter_there : (f : Local → LocalData) (own : List Local) (all front rest : List LocalData) (p i : ℕ) (l : Local) → i < p → slice_get own i ≡ Some l →
+pub parameter_there : (f : Local →
+    LocalData) (own : List Local) (all front rest : List LocalData) (p i : ℕ) (l : Local) → i < p → slice_get own i ≡ Some l →
     all ≡ front ++ (map f (take p own) ++ rest) → slice_get all (length front + i) ≡ Some (f l)
 parameter_there f own all front rest p i l lt is e =
     let mine : slice_get (map f (take p own)) i ≡ Some (f l) = get_mapped f (take p own) i ∙ ap (option_map f) (get_taken own p i lt ∙ is) in

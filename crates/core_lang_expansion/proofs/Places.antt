@@ -1,5 +1,6 @@
 -- A program whose helpers are written out has the cells, the objects and the locks that it had, so its types are the same.
-use Rattle.std.proofs.Common.{◌≡◌, ℕ, zero, suc, ◌+◌, List, [], ◌∷◌, map, Some, None, Option, refl, sym, ap, ◌∙◌, subst, arith}
+use Rattle.std.proofs.Common.{◌≡◌, ℕ, zero, suc, ◌+◌, List, [], ◌∷◌, map, Some, None, Option, refl, sym, ap, ◌∙◌}
+use Rattle.std.proofs.Common.{subst, arith}
 use Rattle.std.specs.Prelude.{slice_get}
 use Rattle.core_lang.specs.declared.value.Value.{Value}
 use Rattle.core_lang.specs.declared.value.Value.TheVariants.{Int, Ref}
@@ -20,15 +21,20 @@ use Rattle.core_lang.specs.declared.typed.Cell.{Cell}
 use Rattle.core_lang.specs.declared.typed.Typed.{Typed}
 use Rattle.core_lang.specs.Serial.{opening_heap}
 use Rattle.core_lang.specs.Expansion.{ArrayData, array_data, PoolData, pool_data, IsExpansion}
-use Rattle.core_lang.specs.Typing.{lookup, struct_of, HasType, HaveTypes, cell_types, IsHeap, final_target, field_type, if_global, global_type, array_type, pool_struct}
-use Rattle.core_lang.specs.WellFormed.{IsCell, IsCellOf, IsLaidOut, FinalsLead, EndsAt, Protects, IsGlobalLock, IsGlobalClass, IsClassOf, IsProtected}
-use Rattle.core_lang_expansion.specs.Data.{Numbered, lock_field_data, final_data, ClassData, class_data, FieldData, field_data, StructData, struct_data, GlobalData, global_data, IsSameBesides}
+use Rattle.core_lang.specs.Typing.{lookup, struct_of, HasType, HaveTypes, cell_types, IsHeap, final_target}
+use Rattle.core_lang.specs.Typing.{field_type, if_global, global_type, array_type, pool_struct}
+use Rattle.core_lang.specs.WellFormed.{IsCell, IsCellOf, IsLaidOut, FinalsLead, EndsAt, Protects, IsGlobalLock}
+use Rattle.core_lang.specs.WellFormed.{IsGlobalClass, IsClassOf, IsProtected}
+use Rattle.core_lang_expansion.specs.Data.{Numbered, lock_field_data, final_data, ClassData, class_data, FieldData}
+use Rattle.core_lang_expansion.specs.Data.{field_data, StructData, struct_data, GlobalData, global_data}
+use Rattle.core_lang_expansion.specs.Data.{IsSameBesides}
 use Rattle.core_lang_expansion.proofs.Limits.{as_long, data_there}
 
 -- ---- what is found in lists that are the same as data
 
 -- the other way round
-pub data_back : {X D : Type 0} (f : X → D) (xs ys : List X) (k : ℕ) (x : X) → map f ys ≡ map f xs → slice_get xs k ≡ Some x →
+pub data_back : {X D : Type 0} (f : X → D) (xs ys : List X) (k : ℕ) (x : X) → map f ys ≡ map f xs →
+    slice_get xs k ≡ Some x →
     (y : X) × (slice_get ys k ≡ Some y) × (f x ≡ f y)
 data_back f xs ys k x e is = data_there f ys xs k x (sym e) is
 
@@ -45,7 +51,8 @@ lookup_each (Some a) g h same = same a
 lookup_each None g h same = refl
 
 -- a lock class that is the same as data
-class_same : (c c' : LockClass) → class_data c' ≡ class_data c → (P : ClassData → Type 0) → P (class_data c) → P (class_data c')
+class_same : (c c' : LockClass) → class_data c' ≡ class_data c → (P : ClassData → Type 0) → P (class_data c) →
+    P (class_data c')
 class_same c c' e P p = subst P (sym e) p
 
 field_class : (s l : ℕ) (c : LockClass) → class_data (class.Field s l) ≡ class_data c → c ≡ class.Field s l
@@ -103,7 +110,8 @@ module _ (program program' : Typed) (expands : IsExpansion program program') (sa
   has_type (Reference s) (Ref None) h = tt
   has_type (Reference s) (Ref (Some o)) h = struct_same o ∙ h
 
-  pub have_types : (ts : List ValueType) (vs : List Value) → HaveTypes program.shape ts vs → HaveTypes program'.shape ts vs
+  pub have_types : (ts : List ValueType) (vs : List Value) → HaveTypes program.shape ts vs →
+      HaveTypes program'.shape ts vs
   have_types [] [] h = tt
   have_types [] (v ∷ vs) h = absurd h
   have_types (t ∷ ts) [] h = absurd h
@@ -186,7 +194,8 @@ module _ (program program' : Typed) (expands : IsExpansion program program') (sa
   finals_lead from [] to h = h
   finals_lead from (f ∷ fs) to (next, leads, rest) = (next, final_same from f ∙ leads, finals_lead next fs to rest)
 
-  ends_at : (s : ℕ) (through : List ℕ) (c c' : LockClass) → class_data c ≡ class_data c' → EndsAt program s through c → EndsAt program' s through c'
+  ends_at : (s : ℕ) (through : List ℕ) (c c' : LockClass) → class_data c ≡ class_data c' →
+      EndsAt program s through c → EndsAt program' s through c'
   ends_at s through (class.Global n) (class.Global m) e h = h
   ends_at s through (class.Global n) (class.Field t l) e h = absurd cc
   ends_at s through (class.Field t l) (class.Global m) e h = absurd cc
@@ -201,7 +210,8 @@ module _ (program program' : Typed) (expands : IsExpansion program program') (sa
   global_class : (number : ℕ) → IsGlobalClass program number → IsGlobalClass program' number
   global_class number (c, is, global) = let found = class_back number c is in (found.0, found.1, global_lock c found.0 (sym found.2) global)
 
-  protects : (s : ℕ) (p p' : Protection) → p'.through.items ≡ p.through.items → p'.class ≡ p.class → Protects program s p → Protects program' s p'
+  protects : (s : ℕ) (p p' : Protection) → p'.through.items ≡ p.through.items → p'.class ≡ p.class →
+      Protects program s p → Protects program' s p'
   protects s p p' e f (c, is, ends) =
       let found = class_back p.class c is in (
         found.0,
@@ -209,7 +219,8 @@ module _ (program program' : Typed) (expands : IsExpansion program program') (sa
         subst (λ through. EndsAt program' s through found.0) (sym e) (ends_at s p.through.items c found.0 found.2 ends),
       )
 
-  class_of : (number : ℕ) (c c' : LockClass) → class_data c' ≡ class_data c → IsClassOf program number c → IsClassOf program' number c'
+  class_of : (number : ℕ) (c c' : LockClass) → class_data c' ≡ class_data c → IsClassOf program number c →
+      IsClassOf program' number c'
   class_of number (class.Global n) (class.Global m) e h = tt
   class_of number (class.Global n) (class.Field t l) e h = absurd cc
   class_of number (class.Field t l) (class.Global m) e h = tt

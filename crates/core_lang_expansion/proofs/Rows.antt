@@ -1,13 +1,18 @@
 -- The rows of a tree over the items of each `Vec`: renamed, and written out.
 use Rattle.std.proofs.Common.{◌≡◌, ℕ, List, Vec, Box, Global, refl, sym, ap, ◌∙◌, subst}
 use mathlib.Core.Former.{Count}
-use Rattle.core_lang.specs.declared.tree.Expr.{Expr, Chain, Row_of-Operation, end_of-Operation, more_of-Operation, items-the_row-Operation, items_hidden-the_row-Operation-0}
+use Rattle.core_lang.specs.declared.tree.Expr.{Expr, Chain, Row_of-Operation, end_of-Operation, more_of-Operation}
+use Rattle.core_lang.specs.declared.tree.Expr.{items-the_row-Operation, items_hidden-the_row-Operation-0}
 use Rattle.core_lang.specs.declared.tree.Operation.{Operation}
-use Rattle.core_lang.specs.declared.tree.Condition.{Condition, And, Or, Row_of-Condition, end_of-Condition, more_of-Condition, items-the_row-Condition, items_hidden-the_row-Condition-0}
+use Rattle.core_lang.specs.declared.tree.Condition.{Condition, And, Or, Row_of-Condition, end_of-Condition}
+use Rattle.core_lang.specs.declared.tree.Condition.{more_of-Condition, items-the_row-Condition}
+use Rattle.core_lang.specs.declared.tree.Condition.{items_hidden-the_row-Condition-0}
 use Rattle.core_lang.specs.declared.tree.Stmt.{Stmt}
-use Rattle.core_lang.specs.declared.tree.Action.{Action, If, IfElse, While, Row_of-Stmt, end_of-Stmt, more_of-Stmt, items-the_row-Stmt, items_hidden-the_row-Stmt-0}
+use Rattle.core_lang.specs.declared.tree.Action.{Action, If, IfElse, While, Row_of-Stmt, end_of-Stmt, more_of-Stmt}
+use Rattle.core_lang.specs.declared.tree.Action.{items-the_row-Stmt, items_hidden-the_row-Stmt-0}
 use Rattle.core_lang.specs.Theory.Lists.{row_of, conditions_of, block_of, else_of}
-use Rattle.core_lang.specs.Expansion.{Pair, At, behind_block, one, Renames, RenamesEach, RenamesTest, RenamesTests, Bodies, Writes, WritesRow, WritesAll}
+use Rattle.core_lang.specs.Expansion.{Pair, At, behind_block, one, Renames, RenamesEach, RenamesTest, RenamesTests}
+use Rattle.core_lang.specs.Expansion.{Bodies, Writes, WritesRow, WritesAll}
 use Rattle.core_lang_expansion.specs.Working.Scopes.{RenamesOperations, RenamesConditions}
 use Rattle.core_lang_expansion.specs.Working.Bodies.{WroteBlock}
 

@@ -1,32 +1,43 @@
 -- What is written out names only locals in scope.
-use Rattle.std.proofs.Common.{◌≡◌, ℕ, zero, suc, ◌+◌, ◌<◌, ◌≤◌, List, [], ◌∷◌, ◌++◌, length, Option, Some, None, inl, inr, refl, sym, ap, subst, arith, Vec, Global}
+use Rattle.std.proofs.Common.{◌≡◌, ℕ, zero, suc, ◌+◌, ◌<◌, ◌≤◌, List, [], ◌∷◌, ◌++◌, length, Option, Some, None, inl}
+use Rattle.std.proofs.Common.{inr, refl, sym, ap, subst, arith, Vec, Global}
 use Rattle.std.specs.List.{Contains}
 use mathlib.Core.Former.{Count}
 use Rattle.core_lang.specs.declared.shape.Shape.{Shape}
-use Rattle.core_lang.specs.declared.tree.Expr.{Expr, Number, Null, Place, Global as GlobalCell, Element', Member', Negate', Owned', Chain', Row_of-Operation, end_of-Operation, more_of-Operation}
-use Rattle.core_lang.specs.declared.tree.Condition.{Condition, Compare, Not', And', Or', Row_of-Condition, end_of-Condition, more_of-Condition}
+use Rattle.core_lang.specs.declared.tree.Expr.{Expr, Number, Null, Place, Global as GlobalCell, Element', Member'}
+use Rattle.core_lang.specs.declared.tree.Expr.{Negate', Owned', Chain', Row_of-Operation, end_of-Operation}
+use Rattle.core_lang.specs.declared.tree.Expr.{more_of-Operation}
+use Rattle.core_lang.specs.declared.tree.Condition.{Condition, Compare, Not', And', Or', Row_of-Condition}
+use Rattle.core_lang.specs.declared.tree.Condition.{end_of-Condition, more_of-Condition}
 use Rattle.core_lang.specs.declared.tree.Stmt.{Stmt}
-use Rattle.core_lang.specs.declared.tree.Action.{Action, Bind, SetLocal, SetGlobal, SetElement, SetField, Call, Print, If', IfElse', While', If, IfElse, While, Row_of-Stmt, end_of-Stmt, more_of-Stmt, items-the_row-Stmt, items_hidden-the_row-Stmt-0}
+use Rattle.core_lang.specs.declared.tree.Action.{Action, Bind, SetLocal, SetGlobal, SetElement, SetField, Call, Print}
+use Rattle.core_lang.specs.declared.tree.Action.{If', IfElse', While', If, IfElse, While, Row_of-Stmt, end_of-Stmt}
+use Rattle.core_lang.specs.declared.tree.Action.{more_of-Stmt, items-the_row-Stmt, items_hidden-the_row-Stmt-0}
 use Rattle.core_lang.specs.declared.tree.Return.{Return}
 use Rattle.core_lang.specs.declared.tree.Section.{Section}
 use Rattle.core_lang.specs.Theory.Lists.{block_of, else_of}
 use Rattle.core_lang.specs.Meaning.{deepest}
-use Rattle.core_lang.specs.Scopes.{NamesOnly, AllNameOnly, TestsOnly, AllTestOnly, scope_after, IsScoped, AreScoped, AllScoped, scope_after_all, numbers_from, ResultNamesOnly}
-use Rattle.core_lang.specs.Expansion.{Pair, pair, At, behind_block, parameters_at, entered, one, Renames, RenamesEach, RenamesTest, RenamesTests, RenamesResult, Arguments, Bound, Bodies, Writes, WritesRow, WritesAll, HelpersWritten, IsWrittenOut}
+use Rattle.core_lang.specs.Scopes.{NamesOnly, AllNameOnly, TestsOnly, AllTestOnly, scope_after, IsScoped, AreScoped}
+use Rattle.core_lang.specs.Scopes.{AllScoped, scope_after_all, numbers_from, ResultNamesOnly}
+use Rattle.core_lang.specs.Expansion.{Pair, pair, At, behind_block, parameters_at, entered, one, Renames, RenamesEach}
+use Rattle.core_lang.specs.Expansion.{RenamesTest, RenamesTests, RenamesResult, Arguments, Bound, Bodies, Writes}
+use Rattle.core_lang.specs.Expansion.{WritesRow, WritesAll, HelpersWritten, IsWrittenOut}
 use Rattle.core_lang.specs.Theory.Items.{not_in_none, in_first, in_rest, in_cases}
 
 -- each local that stands for one in scope may be named
 abbrev pub Covers : List Pair → List ℕ → Type 0
 Covers scope names = (k written : ℕ) → Contains scope (pair k written) → Contains names written
 
-covers_more : (scope : List Pair) (names : List ℕ) (k written : ℕ) → Covers scope names → Covers (pair k written ∷ scope) (written ∷ names)
+covers_more : (scope : List Pair) (names : List ℕ) (k written : ℕ) → Covers scope names →
+    Covers (pair k written ∷ scope) (written ∷ names)
 covers_more scope names k written covers a b c =
     elim (in_cases (pair k written) (pair a b) scope c) [
       | inl e ↦ subst (λ z. Contains (written ∷ names) z) (ap (λ (z : Pair). z.written) e) (in_first written names)
       | inr rest ↦ in_rest written b names (covers a b rest)
     ]
 
-covers_parameters : (p n first : ℕ) (names : List ℕ) → n ≤ p → ((i : ℕ) → i < p → Contains names (first + i)) → Covers (parameters_at n first) names
+covers_parameters : (p n first : ℕ) (names : List ℕ) → n ≤ p → ((i : ℕ) → i < p → Contains names (first + i)) →
+    Covers (parameters_at n first) names
 covers_parameters p zero first names le each k written c = absurd (not_in_none (pair k written) c)
 covers_parameters p (suc n) first names le each k written c =
     elim (in_cases (pair n (first + n)) (pair k written) (parameters_at n first) c) [
@@ -59,7 +70,8 @@ module _ (scope : List Pair) (names : List ℕ) (covers : Covers scope names) wh
     names_only (Chain' p first m rest) (Chain' p' first' m' rest') r = (names_only first first' r.0, each_names_only rest rest' r.1)
     names_only _ _ r = absurd r
 
-    each_names_only : {m m' : _} (row : Row_of-Operation m) (row' : Row_of-Operation m') → RenamesEach scope row row' → AllNameOnly names row'
+    each_names_only : {m m' : _} (row : Row_of-Operation m) (row' : Row_of-Operation m') →
+        RenamesEach scope row row' → AllNameOnly names row'
     each_names_only end_of-Operation end_of-Operation r = tt
     each_names_only (more_of-Operation o e rest) (more_of-Operation o' e' rest') r = (names_only e e' r.1, each_names_only rest rest' r.2)
     each_names_only _ _ r = absurd r
@@ -72,7 +84,8 @@ module _ (scope : List Pair) (names : List ℕ) (covers : Covers scope names) wh
     tests_only (Or' m before p last) (Or' m' before' p' last') r = (all_test_only before before' r.0, tests_only last last' r.1)
     tests_only _ _ r = absurd r
 
-    all_test_only : {m m' : _} (row : Row_of-Condition m) (row' : Row_of-Condition m') → RenamesTests scope row row' → AllTestOnly names row'
+    all_test_only : {m m' : _} (row : Row_of-Condition m) (row' : Row_of-Condition m') → RenamesTests scope row row' →
+        AllTestOnly names row'
     all_test_only end_of-Condition end_of-Condition r = tt
     all_test_only (more_of-Condition c rest) (more_of-Condition c' rest') r = (tests_only c c' r.0, all_test_only rest rest' r.1)
     all_test_only _ _ r = absurd r
@@ -102,29 +115,35 @@ kept_in : (names : List ℕ) (ys : List Stmt) (k : ℕ) → Contains names k →
 kept_in names [] k c = c
 kept_in names (y ∷ ys) k c = kept_in (scope_after names y.action) ys k (kept_by names y.action k c)
 
-after_both : (names : List ℕ) (xs ys : List Stmt) → scope_after_all names (xs ++ ys) ≡ scope_after_all (scope_after_all names xs) ys
+after_both : (names : List ℕ) (xs ys : List Stmt) →
+    scope_after_all names (xs ++ ys) ≡ scope_after_all (scope_after_all names xs) ys
 after_both names [] ys = refl
 after_both names (x ∷ xs) ys = after_both (scope_after names x.action) xs ys
 
-both_scoped : (names : List ℕ) (xs ys : List Stmt) → AllScoped names xs → AllScoped (scope_after_all names xs) ys → AllScoped names (xs ++ ys)
+both_scoped : (names : List ℕ) (xs ys : List Stmt) → AllScoped names xs → AllScoped (scope_after_all names xs) ys →
+    AllScoped names (xs ++ ys)
 both_scoped names [] ys h k = k
 both_scoped names (x ∷ xs) ys h k = (h.0, both_scoped (scope_after names x.action) xs ys h.1 k)
 
-items_scoped : (names : List ℕ) (n : Count) (row : Row_of-Stmt n) → AllScoped names (items-the_row-Stmt n row) → AreScoped names row
+items_scoped : (names : List ℕ) (n : Count) (row : Row_of-Stmt n) → AllScoped names (items-the_row-Stmt n row) →
+    AreScoped names row
 items_scoped names n end_of-Stmt h = tt
 items_scoped names n (more_of-Stmt start x rest) h = (h.0, items_scoped (scope_after names x) _ rest h.1)
 
-if_scoped : (names : List ℕ) (c : Condition) (block : Vec Stmt Global) → TestsOnly names c → AllScoped names block.items → IsScoped names (If c block)
+if_scoped : (names : List ℕ) (c : Condition) (block : Vec Stmt Global) → TestsOnly names c →
+    AllScoped names block.items → IsScoped names (If c block)
 if_scoped names c block t h =
     let row = block_of (If c block) in
     (t, items_scoped names row.0 row.1 (subst (AllScoped names) (sym (items_hidden-the_row-Stmt-0 block)) h))
 
-while_scoped : (names : List ℕ) (c : Condition) (block : Vec Stmt Global) → TestsOnly names c → AllScoped names block.items → IsScoped names (While c block)
+while_scoped : (names : List ℕ) (c : Condition) (block : Vec Stmt Global) → TestsOnly names c →
+    AllScoped names block.items → IsScoped names (While c block)
 while_scoped names c block t h =
     let row = block_of (While c block) in
     (t, items_scoped names row.0 row.1 (subst (AllScoped names) (sym (items_hidden-the_row-Stmt-0 block)) h))
 
-if_else_scoped : (names : List ℕ) (c : Condition) (block otherwise : Vec Stmt Global) → TestsOnly names c → AllScoped names block.items → AllScoped names otherwise.items →
+if_else_scoped : (names : List ℕ) (c : Condition) (block otherwise : Vec Stmt Global) → TestsOnly names c →
+    AllScoped names block.items → AllScoped names otherwise.items →
     IsScoped names (IfElse c block otherwise)
 if_else_scoped names c block otherwise t h k =
     let row = block_of (IfElse c block otherwise) in
@@ -144,19 +163,22 @@ pub record Scoped (names : List ℕ) (ys : List Stmt) (scope : List Pair) : Type
 scoped_nothing : (names : List ℕ) (scope : List Pair) → Covers scope names → Scoped names [] scope
 scoped_nothing names scope covers = record { within = tt; covers = covers }
 
-scoped_both : (names : List ℕ) (xs ys : List Stmt) (scope : List Pair) → AllScoped names xs → Scoped (scope_after_all names xs) ys scope → Scoped names (xs ++ ys) scope
+scoped_both : (names : List ℕ) (xs ys : List Stmt) (scope : List Pair) → AllScoped names xs →
+    Scoped (scope_after_all names xs) ys scope → Scoped names (xs ++ ys) scope
 scoped_both names xs ys scope h s = record {
   within = both_scoped names xs ys h s.within;
   covers = subst (Covers scope) (sym (after_both names xs ys)) s.covers;
 }
 
 -- one statement that binds nothing
-scoped_one : (names : List ℕ) (start : ℕ) (x : Action) (a b : At) (ys : List Stmt) → ys ≡ one start x → b.scope ≡ a.scope → Covers a.scope names → IsScoped names x →
+scoped_one : (names : List ℕ) (start : ℕ) (x : Action) (a b : At) (ys : List Stmt) → ys ≡ one start x →
+    b.scope ≡ a.scope → Covers a.scope names → IsScoped names x →
     scope_after names x ≡ names → Scoped names ys b.scope
 scoped_one names start x a b ys w f covers h quiet =
     subst (λ s. Scoped names ys s) (sym f) (subst (λ zs. Scoped names zs a.scope) (sym w) (record { within = (h, tt); covers = subst (Covers a.scope) (sym quiet) covers }))
 
-scoped_bound : (names : List ℕ) (start k fresh : ℕ) (e : Expr) (scope : List Pair) → Covers scope names → NamesOnly names e →
+scoped_bound : (names : List ℕ) (start k fresh : ℕ) (e : Expr) (scope : List Pair) → Covers scope names →
+    NamesOnly names e →
     Scoped names (one start (Bind fresh e)) (pair k fresh ∷ scope)
 scoped_bound names start k fresh e scope covers h = record { within = (h, tt); covers = covers_more scope names k fresh covers }
 
@@ -174,7 +196,8 @@ argument_there fresh n names rest (suc j) lt each =
     let e : fresh + 1 + j ≡ fresh + suc j = omega arith in
     subst (λ z. Contains (scope_after_all (fresh ∷ names) rest) z) e (each j (omega (arith, lt)))
 
-arguments_scoped : (start : ℕ) (scope : List Pair) (es : List Expr) (fresh : ℕ) (lets : List Stmt) (names : List ℕ) → Covers scope names → Arguments start scope es fresh lets →
+arguments_scoped : (start : ℕ) (scope : List Pair) (es : List Expr) (fresh : ℕ) (lets : List Stmt) (names : List ℕ) →
+    Covers scope names → Arguments start scope es fresh lets →
     AllScoped names lets × ((i : ℕ) → i < length es → Contains (scope_after_all names lets) (fresh + i))
 arguments_scoped start scope [] fresh lets names covers w = (subst (AllScoped names) (sym w) tt, λ i lt. absurd (omega (arith, lt)))
 arguments_scoped start scope (e ∷ es) fresh lets names covers (e', rest, r, w, ws) =
@@ -187,7 +210,8 @@ arguments_scoped start scope (e ∷ es) fresh lets names covers (e', rest, r, w,
       subst (λ (zs : List Stmt). (i : ℕ) → i < length (e ∷ es) → Contains (scope_after_all names zs) (fresh + i)) (sym w) found,
     )
 
-bound_scoped : (result : Option ℕ) (r : Option Return) (a b : At) (fresh : ℕ) (last : List Stmt) (names : List ℕ) → Bound result r a fresh last b → ResultNamesOnly names r →
+bound_scoped : (result : Option ℕ) (r : Option Return) (a b : At) (fresh : ℕ) (last : List Stmt) (names : List ℕ) →
+    Bound result r a fresh last b → ResultNamesOnly names r →
     Covers a.scope names → Scoped names last b.scope
 bound_scoped None None a b fresh last names w h covers =
     subst (λ (z : At). Scoped names last z.scope) (sym w.1) (subst (λ zs. Scoped names zs a.scope) (sym w.0) (scoped_nothing names a.scope covers))
@@ -201,7 +225,8 @@ bound_scoped (Some k) (Some r) a b fresh last names w h covers =
 
 module _ (Body : Bodies) (bodies : BodiesScoped Body) where
   mutual
-    writes_scoped : (x : Action) (start : ℕ) (a b : At) (ys : List Stmt) (names : List ℕ) → Writes Body x start a ys b → Covers a.scope names → Scoped names ys b.scope
+    writes_scoped : (x : Action) (start : ℕ) (a b : At) (ys : List Stmt) (names : List ℕ) →
+        Writes Body x start a ys b → Covers a.scope names → Scoped names ys b.scope
     writes_scoped (Bind k e) start a b ys names (e', r, same, w, f) covers =
         subst (λ (z : At). Scoped names ys z.scope) (sym f) (subst (λ zs. Scoped names zs (pair a.own a.fresh ∷ a.scope)) (sym w)
         (scoped_bound names start a.own a.fresh e' a.scope covers (names_only a.scope names covers e e' r)))
@@ -236,7 +261,8 @@ module _ (Body : Bodies) (bodies : BodiesScoped Body) where
         let inner = row_scoped body a after body'.items names w covers in
         scoped_one names start (While c' body') a b ys e (ap (λ (z : At). z.scope) f) covers (while_scoped names c' body' (tests_only a.scope names covers c c' t) inner.within) refl
 
-    row_scoped : {m : _} (row : Row_of-Stmt m) (a b : At) (ys : List Stmt) (names : List ℕ) → WritesRow Body row a ys b → Covers a.scope names → Scoped names ys b.scope
+    row_scoped : {m : _} (row : Row_of-Stmt m) (a b : At) (ys : List Stmt) (names : List ℕ) →
+        WritesRow Body row a ys b → Covers a.scope names → Scoped names ys b.scope
     row_scoped end_of-Stmt a b ys names (e, f) covers =
         subst (λ (z : At). Scoped names ys z.scope) (sym f) (subst (λ zs. Scoped names zs a.scope) (sym e) (scoped_nothing names a.scope covers))
     row_scoped (more_of-Stmt start x rest) a b ys names (front, rear, middle, w, ws, e) covers =
@@ -244,7 +270,8 @@ module _ (Body : Bodies) (bodies : BodiesScoped Body) where
         let second = row_scoped rest middle b rear (scope_after_all names front) ws first.covers in
         subst (λ zs. Scoped names zs b.scope) (sym e) (scoped_both names front rear b.scope first.within second)
 
-  all_scoped : (xs : List Stmt) (a b : At) (ys : List Stmt) (names : List ℕ) → WritesAll Body xs a ys b → Covers a.scope names → Scoped names ys b.scope
+  all_scoped : (xs : List Stmt) (a b : At) (ys : List Stmt) (names : List ℕ) → WritesAll Body xs a ys b →
+      Covers a.scope names → Scoped names ys b.scope
   all_scoped [] a b ys names (e, f) covers =
       subst (λ (z : At). Scoped names ys z.scope) (sym f) (subst (λ zs. Scoped names zs a.scope) (sym e) (scoped_nothing names a.scope covers))
   all_scoped (x ∷ xs) a b ys names (front, rear, middle, w, ws, e) covers =

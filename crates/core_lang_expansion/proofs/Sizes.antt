@@ -1,10 +1,13 @@
 -- How much there is of statements, and of the helpers: what recursion through the table of helpers goes down by.
-use Rattle.std.proofs.Common.{◌≡◌, ℕ, zero, suc, ◌+◌, ◌*◌, ◌<◌, ◌≤◌, List, [], ◌∷◌, length, refl, ap, ◌∙◌, add-one, arith, Vec, Global}
+use Rattle.std.proofs.Common.{◌≡◌, ℕ, zero, suc, ◌+◌, ◌*◌, ◌<◌, ◌≤◌, List, [], ◌∷◌, length, refl, ap, ◌∙◌, add-one}
+use Rattle.std.proofs.Common.{arith, Vec, Global}
 use Rattle.std.specs.Prelude.{slice_get, slice_index_or, Some}
 use mathlib.Core.Former.{Count}
 use Rattle.core_lang.specs.declared.tree.Condition.{Condition}
 use Rattle.core_lang.specs.declared.tree.Stmt.{Stmt}
-use Rattle.core_lang.specs.declared.tree.Action.{Action, If, IfElse, While, If', IfElse', While', Row_of-Stmt, end_of-Stmt, more_of-Stmt, items-the_row-Stmt, items_hidden-the_row-Stmt-0}
+use Rattle.core_lang.specs.declared.tree.Action.{Action, If, IfElse, While, If', IfElse', While', Row_of-Stmt}
+use Rattle.core_lang.specs.declared.tree.Action.{end_of-Stmt, more_of-Stmt, items-the_row-Stmt}
+use Rattle.core_lang.specs.declared.tree.Action.{items_hidden-the_row-Stmt-0}
 use Rattle.core_lang.specs.declared.tree.Section.{Section}
 use Rattle.core_lang.specs.Theory.Lists.{block_of, else_of}
 use Rattle.core_lang_expansion.specs.declared.body.Body.{Body}
@@ -37,7 +40,8 @@ size_items : (n : Count) (row : Row_of-Stmt n) → size_row row ≡ sizes (items
 size_items n end_of-Stmt = refl
 size_items n (more_of-Stmt start x rest) = ap (λ k. size x + k) (size_items _ rest)
 
-size_vec : (block : Vec Stmt Global) (n : Count) (row : Row_of-Stmt n) → items-the_row-Stmt n row ≡ block.items → size_row row ≡ sizes block.items
+size_vec : (block : Vec Stmt Global) (n : Count) (row : Row_of-Stmt n) → items-the_row-Stmt n row ≡ block.items →
+    size_row row ≡ sizes block.items
 size_vec block n row e = size_items n row ∙ ap sizes e
 
 pub size_if : (c : Condition) (block : Vec Stmt Global) → size (If c block) ≡ 1 + sizes block.items
@@ -46,7 +50,8 @@ size_if c block = let row = block_of (If c block) in ap (λ k. 1 + k) (size_vec 
 pub size_while : (c : Condition) (block : Vec Stmt Global) → size (While c block) ≡ 1 + sizes block.items
 size_while c block = let row = block_of (While c block) in ap (λ k. 1 + k) (size_vec block row.0 row.1 (items_hidden-the_row-Stmt-0 block))
 
-pub size_if_else : (c : Condition) (block other : Vec Stmt Global) → size (IfElse c block other) ≡ 1 + (sizes block.items + sizes other.items)
+pub size_if_else : (c : Condition) (block other : Vec Stmt Global) →
+    size (IfElse c block other) ≡ 1 + (sizes block.items + sizes other.items)
 size_if_else c block other =
     let row = block_of (IfElse c block other) in
     let row' = else_of (IfElse c block other) in
@@ -58,7 +63,8 @@ within [] k s lt e = absurd (omega (arith, lt))
 within (x ∷ xs) zero s lt e = let z = ap (λ (y : Stmt). size y.action) e in omega (arith, z)
 within (x ∷ xs) (suc k) s lt e = let r = within xs k s (omega (arith, lt)) e in omega (arith, r)
 
-pub helper_within : (hs : List Section) (k : ℕ) (h : Section) → slice_get hs k ≡ Some h → sizes h.body.items ≤ all_sizes hs
+pub helper_within : (hs : List Section) (k : ℕ) (h : Section) → slice_get hs k ≡ Some h →
+    sizes h.body.items ≤ all_sizes hs
 helper_within [] k h e = absurd cc
 helper_within (x ∷ xs) zero h e = let same : x ≡ h = cc in let z = ap (λ (v : Section). sizes v.body.items) same in omega (arith, z)
 helper_within (x ∷ xs) (suc k) h e = let r = helper_within xs k h e in omega (arith, r)

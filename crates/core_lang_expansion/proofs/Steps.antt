@@ -1,5 +1,6 @@
 -- One more statement is written out, and one more `let`; calls, blocks and bodies as a whole.
-use Rattle.std.proofs.Common.{◌≡◌, ℕ, suc, ◌+◌, ◌<◌, List, [], ◌∷◌, ◌++◌, length, map, reverse, take, Option, Some, None, refl, sym, ap, ◌∙◌, subst, add-one, arith, append_assoc, Vec, Global}
+use Rattle.std.proofs.Common.{◌≡◌, ℕ, suc, ◌+◌, ◌<◌, List, [], ◌∷◌, ◌++◌, length, map, reverse, take, Option, Some}
+use Rattle.std.proofs.Common.{None, refl, sym, ap, ◌∙◌, subst, add-one, arith, append_assoc, Vec, Global}
 use Rattle.std.specs.Prelude.{slice_index_or}
 use Rattle.std.proofs.lemmas.List.{append-nil, length-take-le}
 use Rattle.core_lang.specs.declared.tree.Expr.{Expr}
@@ -8,24 +9,28 @@ use Rattle.core_lang.specs.declared.tree.Action.{Bind, Call}
 use Rattle.core_lang.specs.declared.tree.Return.{Return}
 use Rattle.core_lang.specs.declared.tree.Section.{Section}
 use Rattle.core_lang.specs.declared.shape.Shape.{Shape}
-use Rattle.core_lang.specs.Expansion.{Pair, At, entered, one, Renames, RenamesResult, Arguments, Bound, Bodies, Writes, WritesAll, WritesBody, HelpersWritten}
+use Rattle.core_lang.specs.Expansion.{Pair, At, entered, one, Renames, RenamesResult, Arguments, Bound, Bodies}
+use Rattle.core_lang.specs.Expansion.{Writes, WritesAll, WritesBody, HelpersWritten}
 use Rattle.core_lang_expansion.specs.declared.scope.Scope.{Scope}
 use Rattle.core_lang_expansion.specs.declared.body.Body.{Body}
 use Rattle.core_lang_expansion.specs.Working.Scopes.{pair_of, at_of, HasLets}
-use Rattle.core_lang_expansion.specs.Working.Bodies.{bodies, Wrote, WroteAll, WroteBlock, WroteBody, HasReceived, IsCallee}
+use Rattle.core_lang_expansion.specs.Working.Bodies.{bodies, Wrote, WroteAll, WroteBlock, WroteBody, HasReceived}
+use Rattle.core_lang_expansion.specs.Working.Bodies.{IsCallee}
 use Rattle.core_lang_expansion.proofs.Pairs.{take_one, cut_back}
 use Rattle.core_lang_expansion.proofs.Growth.{all_grow}
 
 -- ---- statements
 
-one_more : (Body : Bodies) (xs : List Stmt) (x : Stmt) (a m b : At) (ys zs : List Stmt) → WritesAll Body xs a ys m → Writes Body x.action x.start m zs b →
+one_more : (Body : Bodies) (xs : List Stmt) (x : Stmt) (a m b : At) (ys zs : List Stmt) → WritesAll Body xs a ys m →
+    Writes Body x.action x.start m zs b →
     WritesAll Body (xs ++ x ∷ []) a (ys ++ zs) b
 one_more Body [] x a m b ys zs (e, f) w =
     (zs, [], b, subst (λ s. Writes Body x.action x.start s zs b) f w, (refl, refl), ap (λ vs. vs ++ zs) e ∙ sym (append-nil zs))
 one_more Body (v ∷ xs) x a m b ys zs (front, back, middle, w, ws, e) w' =
     (front, back ++ zs, middle, w, one_more Body xs x middle m b back zs ws w', ap (λ vs. vs ++ zs) e ∙ append_assoc front back zs)
 
-pub wrote_one_more : (Body : Bodies) (xs : List Stmt) (k : ℕ) (x : Stmt) (a m b : At) (old mid new : List Stmt) → k < length xs → x ≡ slice_index_or xs k x →
+pub wrote_one_more : (Body : Bodies) (xs : List Stmt) (k : ℕ) (x : Stmt) (a m b : At) (old mid new : List Stmt) →
+    k < length xs → x ≡ slice_index_or xs k x →
     WroteAll Body (take k xs) a old mid m → Wrote Body x m mid new b → WroteAll Body (take (k + 1) xs) a old new b
 wrote_one_more Body xs k x a m b old mid new lt is (ys, e, w) (zs, f, w') = (
   ys ++ zs,
@@ -38,7 +43,8 @@ wrote_one_more Body xs k x a m b old mid new lt is (ys, e, w) (zs, f, w') = (
 abbrev let_of : ℕ → ℕ → Expr → Stmt
 let_of start local e = record { start = start; action = Bind local e }
 
-one_more_let : (start : ℕ) (scope : List Pair) (es : List Expr) (e e' : Expr) (first local : ℕ) (lets : List Stmt) → local ≡ first + length es →
+one_more_let : (start : ℕ) (scope : List Pair) (es : List Expr) (e e' : Expr) (first local : ℕ) (lets : List Stmt) →
+    local ≡ first + length es →
     Arguments start scope es first lets → Renames scope e e' → Arguments start scope (es ++ e ∷ []) first (lets ++ let_of start local e' ∷ [])
 one_more_let start scope [] e e' first local lets number h r =
     let n : local ≡ first = omega (arith, number) in
@@ -85,7 +91,8 @@ body_written Body section first start inside fresh fresh' ss old new r many begi
 
 -- ---- calls
 
-helper_written : (body helper : Body) (number count first : ℕ) (ys : List Stmt) (r : Option Return) (fresh : ℕ) → IsCallee body number count helper →
+helper_written : (body helper : Body) (number count first : ℕ) (ys : List Stmt) (r : Option Return) (fresh : ℕ) →
+    IsCallee body number count helper →
     WritesBody (bodies helper) helper.section.now first ys r fresh → bodies body number count first ys r fresh
 helper_written body helper number count first ys r fresh is w =
     let deep : body.depth ≡ suc helper.depth = is.depth ∙ add-one helper.depth in
@@ -110,7 +117,8 @@ call_written body helper x number arguments result es count scope local first fr
       subst (λ y. Writes (bodies body) y x.start a (lets ++ (ys ++ [])) (at_of scope fresh)) (sym (is ∙ ap (Call number arguments) none)) step,
     )
 
-last_written : (result : Option ℕ) (r : Return) (a b : At) (fresh : ℕ) → HasReceived result (record a { fresh = fresh }) b →
+last_written : (result : Option ℕ) (r : Return) (a b : At) (fresh : ℕ) →
+    HasReceived result (record a { fresh = fresh }) b →
     Bound result (Some r) a fresh (one r.start (Bind fresh r.value)) b
 last_written None r a b fresh h = (refl, h)
 last_written (Some k) r a b fresh h = (h.0, refl, h.1)

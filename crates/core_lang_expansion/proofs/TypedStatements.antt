@@ -1,5 +1,6 @@
 -- What is written out is well typed, and assigns to variables alone.
-use Rattle.std.proofs.Common.{◌≡◌, ℕ, ◌+◌, ◌≤◌, List, [], ◌∷◌, ◌++◌, length, map, take, Option, Some, None, inl, inr, refl, sym, ap, ◌∙◌, subst, arith, append_assoc, length-append, Vec, Global}
+use Rattle.std.proofs.Common.{◌≡◌, ℕ, ◌+◌, ◌≤◌, List, [], ◌∷◌, ◌++◌, length, map, take, Option, Some, None, inl, inr}
+use Rattle.std.proofs.Common.{refl, sym, ap, ◌∙◌, subst, arith, append_assoc, length-append, Vec, Global}
 use Rattle.std.specs.Prelude.{slice_get, option_map, ◌≢◌}
 use Rattle.std.specs.List.{Contains}
 use Rattle.std.proofs.lemmas.List.{append-nil}
@@ -12,18 +13,24 @@ use Rattle.core_lang.specs.declared.tree.Condition.{Condition}
 use Rattle.core_lang.specs.declared.tree.LocalKind.TheVariants.{Let, Parameter, Var}
 use Rattle.core_lang.specs.declared.tree.Local.{Local}
 use Rattle.core_lang.specs.declared.tree.Stmt.{Stmt}
-use Rattle.core_lang.specs.declared.tree.Action.{Action, Bind, SetLocal, SetGlobal, SetElement, SetField, Call, Print, If', IfElse', While', If, IfElse, While, Row_of-Stmt, end_of-Stmt, more_of-Stmt, items-the_row-Stmt, items_hidden-the_row-Stmt-0}
+use Rattle.core_lang.specs.declared.tree.Action.{Action, Bind, SetLocal, SetGlobal, SetElement, SetField, Call, Print}
+use Rattle.core_lang.specs.declared.tree.Action.{If', IfElse', While', If, IfElse, While, Row_of-Stmt, end_of-Stmt}
+use Rattle.core_lang.specs.declared.tree.Action.{more_of-Stmt, items-the_row-Stmt, items_hidden-the_row-Stmt-0}
 use Rattle.core_lang.specs.declared.tree.Return.{Return}
 use Rattle.core_lang.specs.declared.tree.Section.{Section}
 use Rattle.core_lang.specs.declared.typed.Typed.{Typed}
 use Rattle.core_lang.specs.Theory.Lists.{block_of, else_of}
 use Rattle.core_lang.specs.Scopes.{assigned_by, assigned_in, assigned_in_all}
-use Rattle.core_lang.specs.Typing.{local_types, IsOf, AreOf, IsTest, Takes, IsWellTyped, AreWellTyped, AllWellTyped, IsResult}
-use Rattle.core_lang.specs.Expansion.{Pair, pair, At, behind_bound, behind_block, one, Arguments, Bound, Bodies, Writes, WritesRow, WritesAll, IsExpansion}
-use Rattle.core_lang.specs.WrittenLocals.{LocalData, local_data, parameter_data, own_local, hidden_local, Brought, locals_by, locals_in, locals_in_all}
+use Rattle.core_lang.specs.Typing.{local_types, IsOf, AreOf, IsTest, Takes, IsWellTyped, AreWellTyped, AllWellTyped}
+use Rattle.core_lang.specs.Typing.{IsResult}
+use Rattle.core_lang.specs.Expansion.{Pair, pair, At, behind_bound, behind_block, one, Arguments, Bound, Bodies}
+use Rattle.core_lang.specs.Expansion.{Writes, WritesRow, WritesAll, IsExpansion}
+use Rattle.core_lang.specs.WrittenLocals.{LocalData, local_data, parameter_data, own_local, hidden_local, Brought}
+use Rattle.core_lang.specs.WrittenLocals.{locals_by, locals_in, locals_in_all}
 use Rattle.core_lang_expansion.specs.Data.{IsSameBesides}
 use Rattle.core_lang_expansion.proofs.Places.{field_same, global_same, array_same}
-use Rattle.core_lang_expansion.proofs.Located.{in_either, mapped_there, get_behind, types_of, StandsFor, IsVar, NoParameters, none_of_both, type_there, stands_more}
+use Rattle.core_lang_expansion.proofs.Located.{in_either, mapped_there, get_behind, types_of, StandsFor, IsVar}
+use Rattle.core_lang_expansion.proofs.Located.{NoParameters, none_of_both, type_there, stands_more}
 use Rattle.core_lang_expansion.proofs.TypedExprs.{path_typed, typed, test_typed}
 use Rattle.core_lang.specs.Theory.Items.{not_in_none, in_first, in_cases, get_mapped}
 
@@ -53,25 +60,30 @@ assigned_if_else c block otherwise =
     ∙ ap (λ zs. assigned_in_all block.items ++ zs) (assigned_items row'.0 row'.1 ∙ ap assigned_in_all (items_hidden-the_row-Stmt-0 otherwise))
 
 module _ (program : Typed) (types : List ValueType) where
-  both_typed : (xs ys : List Stmt) → AllWellTyped program types xs → AllWellTyped program types ys → AllWellTyped program types (xs ++ ys)
+  both_typed : (xs ys : List Stmt) → AllWellTyped program types xs → AllWellTyped program types ys →
+      AllWellTyped program types (xs ++ ys)
   both_typed [] ys h k = k
   both_typed (x ∷ xs) ys h k = (h.0, both_typed xs ys h.1 k)
 
-  items_typed : (n : Count) (row : Row_of-Stmt n) → AllWellTyped program types (items-the_row-Stmt n row) → AreWellTyped program types row
+  items_typed : (n : Count) (row : Row_of-Stmt n) → AllWellTyped program types (items-the_row-Stmt n row) →
+      AreWellTyped program types row
   items_typed n end_of-Stmt h = tt
   items_typed n (more_of-Stmt start x rest) h = (h.0, items_typed _ rest h.1)
 
-  if_typed : (c : Condition) (block : Vec Stmt Global) → IsTest program types c → AllWellTyped program types block.items → IsWellTyped program types (If c block)
+  if_typed : (c : Condition) (block : Vec Stmt Global) → IsTest program types c →
+      AllWellTyped program types block.items → IsWellTyped program types (If c block)
   if_typed c block t h =
       let row = block_of (If c block) in
       (t, items_typed row.0 row.1 (subst (AllWellTyped program types) (sym (items_hidden-the_row-Stmt-0 block)) h))
 
-  while_typed : (c : Condition) (block : Vec Stmt Global) → IsTest program types c → AllWellTyped program types block.items → IsWellTyped program types (While c block)
+  while_typed : (c : Condition) (block : Vec Stmt Global) → IsTest program types c →
+      AllWellTyped program types block.items → IsWellTyped program types (While c block)
   while_typed c block t h =
       let row = block_of (While c block) in
       (t, items_typed row.0 row.1 (subst (AllWellTyped program types) (sym (items_hidden-the_row-Stmt-0 block)) h))
 
-  if_else_typed : (c : Condition) (block otherwise : Vec Stmt Global) → IsTest program types c → AllWellTyped program types block.items →
+  if_else_typed : (c : Condition) (block otherwise : Vec Stmt Global) → IsTest program types c →
+      AllWellTyped program types block.items →
       AllWellTyped program types otherwise.items → IsWellTyped program types (IfElse c block otherwise)
   if_else_typed c block otherwise t h k =
       let row = block_of (IfElse c block otherwise) in
@@ -86,7 +98,8 @@ some_same None a b e f = absurd cc
 some_same (Some x) a b e f = let p : x ≡ a = cc in let q : x ≡ b = cc in sym p ∙ q
 
 -- what is bound last depends on the scope and on the next own number alone
-bound_from : (result : Option ℕ) (r : Option Return) (a b : At) (fresh : ℕ) (last : List Stmt) → Bound result r a fresh last b →
+bound_from : (result : Option ℕ) (r : Option Return) (a b : At) (fresh : ℕ) (last : List Stmt) →
+    Bound result r a fresh last b →
     Bound result r (record a { fresh = fresh }) fresh last b
 bound_from None None a b fresh last w = w
 bound_from None (Some r) a b fresh last w = w
@@ -133,14 +146,17 @@ module _ (program program' : Typed) (all : List LocalData) where
         ];
   }
 
-  one_fits : (start : ℕ) (x : Action) → IsWellTyped program' (types_of all) x → ((k : ℕ) → Contains (assigned_by x) k → IsVar all k) → Fits (one start x)
+  one_fits : (start : ℕ) (x : Action) → IsWellTyped program' (types_of all) x →
+      ((k : ℕ) → Contains (assigned_by x) k → IsVar all k) → Fits (one start x)
   one_fits start x h assigned = record { typed = (h, tt); assigned = λ k c. assigned k (subst (λ zs. Contains zs k) (append-nil (assigned_by x)) c) }
 
-  quiet_fits : (start : ℕ) (x : Action) → assigned_by x ≡ [] → IsWellTyped program' (types_of all) x → Fits (one start x)
+  quiet_fits : (start : ℕ) (x : Action) → assigned_by x ≡ [] → IsWellTyped program' (types_of all) x →
+      Fits (one start x)
   quiet_fits start x e h = one_fits start x h (λ k c. absurd (not_in_none k (subst (λ zs. Contains zs k) e c)))
 
   -- a `let` of what has the type of the one that stands there
-  let_fits : (start fresh : ℕ) (e : Expr) (d : LocalData) → slice_get all fresh ≡ Some d → IsOf program' (types_of all) e d.value_type → Fits (one start (Bind fresh e))
+  let_fits : (start fresh : ℕ) (e : Expr) (d : LocalData) → slice_get all fresh ≡ Some d →
+      IsOf program' (types_of all) e d.value_type → Fits (one start (Bind fresh e))
   let_fits start fresh e d is h =
       quiet_fits start (Bind fresh e) refl
       (d.value_type, get_mapped (λ (z : LocalData). z.value_type) all fresh ∙ ap (option_map (λ (z : LocalData). z.value_type)) is, h)
@@ -167,7 +183,8 @@ module _ (program program' : Typed) (all : List LocalData) where
   -- ---- arguments
 
   module _ (expands : IsExpansion program program') (same : IsSameBesides program program') where
-    arguments_fit : (own : List Local) (scope : List Pair) → StandsFor own all scope → (start : ℕ) (es : List Expr) (ls : List Local) (fresh : ℕ) (lets : List Stmt)
+    arguments_fit : (own : List Local) (scope : List Pair) → StandsFor own all scope →
+        (start : ℕ) (es : List Expr) (ls : List Local) (fresh : ℕ) (lets : List Stmt)
         (front rest : List LocalData) → Arguments start scope es fresh lets → AreOf program (local_types own) es (local_types ls) → length front ≡ fresh →
         all ≡ front ++ (map parameter_data ls ++ rest) → Fits lets
     arguments_fit own scope stands start [] [] fresh lets front rest w h e is = subst Fits (sym w) nothing_fits
@@ -193,14 +210,16 @@ module _ (program program' : Typed) (all : List LocalData) where
         pub count : length front ≡ a.fresh
 
       -- and behind it
-      ready_on : (a m : At) (xs : List Stmt) (front here : List LocalData) → Ready a front → Keeps own xs a m here → Ready m (front ++ here)
+      ready_on : (a m : At) (xs : List Stmt) (front here : List LocalData) → Ready a front → Keeps own xs a m here →
+          Ready m (front ++ here)
       ready_on a m xs front here ready keeps = record {
         stands = keeps.stands;
         behind = let le = ready.behind in let grows = keeps.own_grows in omega (arith, le, grows);
         count = let e = ready.count in let f = keeps.fresh in omega (arith, e, f, length-append front here);
       }
 
-      both_keep : (a m b : At) (xs ys : List Stmt) (here there : List LocalData) → Keeps own xs a m here → Keeps own ys m b there → Keeps own (xs ++ ys) a b (here ++ there)
+      both_keep : (a m b : At) (xs ys : List Stmt) (here there : List LocalData) → Keeps own xs a m here →
+          Keeps own ys m b there → Keeps own (xs ++ ys) a b (here ++ there)
       both_keep a m b xs ys here there k l = record {
         fits = both_fit xs ys k.fits l.fits;
         stands = l.stands;
@@ -215,11 +234,13 @@ module _ (program program' : Typed) (all : List LocalData) where
           subst (λ z. Keeps own ys a z []) (sym e) (record { fits = fits; stands = stands; fresh = omega arith; own_grows = omega arith; further = tt })
 
       -- a statement that binds nothing
-      lone : (start : ℕ) (x : Action) (a b : At) (ys : List Stmt) → ys ≡ one start x → b ≡ a → StandsFor own all a.scope → Fits (one start x) → Keeps own ys a b []
+      lone : (start : ℕ) (x : Action) (a b : At) (ys : List Stmt) → ys ≡ one start x → b ≡ a →
+          StandsFor own all a.scope → Fits (one start x) → Keeps own ys a b []
       lone start x a b ys w e stands fits = stay a b ys e stands (subst Fits (sym w) fits)
 
       -- the tree's next local is bound
-      binds : (start k : ℕ) (e' : Expr) (t : ValueType) (a b : At) (ys : List Stmt) (front rest : List LocalData) → Ready a front →
+      binds : (start k : ℕ) (e' : Expr) (t : ValueType) (a b : At) (ys : List Stmt) (front rest : List LocalData) →
+          Ready a front →
           slice_get (local_types own) k ≡ Some t → IsOf program' (types_of all) e' t → k ≡ a.own → ys ≡ one start (Bind a.fresh e') → b ≡ behind_bound a →
           all ≡ front ++ (own_local (slice_get own k) ++ rest) → Keeps own ys a b (own_local (slice_get own k))
       binds start k e' t a b ys front rest ready has h same w f is =
@@ -242,7 +263,8 @@ module _ (program program' : Typed) (all : List LocalData) where
           subst (Keeps own ys a b) (sym mine) (subst (λ z. Keeps own ys a z (d ∷ [])) (sym f) made)
 
       -- a block's locals are left behind
-      left : (a after : At) (ys : List Stmt) (here : List LocalData) (front : List LocalData) → Ready a front → Keeps own ys a after here → Keeps own ys a (behind_block a after) here
+      left : (a after : At) (ys : List Stmt) (here : List LocalData) (front : List LocalData) → Ready a front →
+          Keeps own ys a after here → Keeps own ys a (behind_block a after) here
       left a after ys here front ready inner = record {
         fits = inner.fits;
         stands = ready.stands;
@@ -252,7 +274,8 @@ module _ (program program' : Typed) (all : List LocalData) where
       }
 
       -- a statement with blocks, of which these are the statements
-      block_keep : (start : ℕ) (x : Action) (a after b : At) (ys inside : List Stmt) (here front : List LocalData) → Ready a front → Keeps own inside a after here →
+      block_keep : (start : ℕ) (x : Action) (a after b : At) (ys inside : List Stmt) (here front : List LocalData) →
+          Ready a front → Keeps own inside a after here →
           ys ≡ one start x → b ≡ behind_block a after → Fits (one start x) → Keeps own ys a b here
       block_keep start x a after b ys inside here front ready inner w f fits =
           subst (λ z. Keeps own ys a z here) (sym f) (record {
@@ -263,7 +286,8 @@ module _ (program program' : Typed) (all : List LocalData) where
             further = inner.further;
           })
 
-      assigns : (start k k' : ℕ) (e' : Expr) (t : ValueType) (scope : List Pair) → StandsFor own all scope → Contains scope (pair k k') →
+      assigns : (start k k' : ℕ) (e' : Expr) (t : ValueType) (scope : List Pair) → StandsFor own all scope →
+          Contains scope (pair k k') →
           slice_get (local_types own) k ≡ Some t → IsOf program' (types_of all) e' t → OnlyVars own (k ∷ []) → Fits (one start (SetLocal k' e'))
       assigns start k k' e' t scope stands c has h only =
           let found = stands k k' c in
@@ -340,7 +364,8 @@ module _ (program program' : Typed) (all : List LocalData) where
           }
 
       mutual
-        pub writes_keep : (x : Action) (start : ℕ) (a b : At) (ys : List Stmt) (front rest : List LocalData) → Ready a front → Writes Body x start a ys b →
+        pub writes_keep : (x : Action) (start : ℕ) (a b : At) (ys : List Stmt) (front rest : List LocalData) →
+            Ready a front → Writes Body x start a ys b →
             IsWellTyped program (local_types own) x → OnlyVars own (assigned_by x) → all ≡ front ++ (locals_by brings own x ++ rest) → Keeps own ys a b (locals_by brings own x)
         writes_keep (Bind k e) start a b ys front rest ready (e', r, same_k, w, f) h only is =
             binds start k e' h.0 a b ys front rest ready h.1 (typed program program' expands same own all a.scope ready.stands e e' h.0 r h.2) same_k w f is
@@ -398,7 +423,8 @@ module _ (program program' : Typed) (all : List LocalData) where
             (one_fits start (While c' body') (while_typed program' (types_of all) c' body' test inner.fits.typed) (λ k d.
             inner.fits.assigned k (subst (λ zs. Contains zs k) (assigned_while c' body') d)))
 
-        pub row_keep : {m : _} (row : Row_of-Stmt m) (a b : At) (ys : List Stmt) (front rest : List LocalData) → Ready a front → WritesRow Body row a ys b →
+        pub row_keep : {m : _} (row : Row_of-Stmt m) (a b : At) (ys : List Stmt) (front rest : List LocalData) →
+            Ready a front → WritesRow Body row a ys b →
             AreWellTyped program (local_types own) row → OnlyVars own (assigned_in row) → all ≡ front ++ (locals_in brings own row ++ rest) →
             Keeps own ys a b (locals_in brings own row)
         row_keep end_of-Stmt a b ys front rest ready (e, f) h only is = stay a b ys f ready.stands (subst Fits (sym e) nothing_fits)
@@ -412,7 +438,8 @@ module _ (program program' : Typed) (all : List LocalData) where
             in
             subst (λ zs. Keeps own zs a b (here ++ there)) (sym e) (both_keep a middle b head tail here there first second)
 
-      pub all_keep : (xs : List Stmt) (a b : At) (ys : List Stmt) (front rest : List LocalData) → Ready a front → WritesAll Body xs a ys b →
+      pub all_keep : (xs : List Stmt) (a b : At) (ys : List Stmt) (front rest : List LocalData) → Ready a front →
+          WritesAll Body xs a ys b →
           AllWellTyped program (local_types own) xs → OnlyVars own (assigned_in_all xs) → all ≡ front ++ (locals_in_all brings own xs ++ rest) →
           Keeps own ys a b (locals_in_all brings own xs)
       all_keep [] a b ys front rest ready (e, f) h only is = stay a b ys f ready.stands (subst Fits (sym e) nothing_fits)

@@ -1,5 +1,6 @@
 -- An accepted program whose helpers are written out is well formed.
-use Rattle.std.proofs.Common.{◌≡◌, ℕ, zero, suc, ◌+◌, ◌<◌, ◌≤◌, List, [], ◌∷◌, ◌++◌, length, map, take, Some, refl, sym, ap, ◌∙◌, subst, arith, append_assoc, length-append}
+use Rattle.std.proofs.Common.{◌≡◌, ℕ, zero, suc, ◌+◌, ◌<◌, ◌≤◌, List, [], ◌∷◌, ◌++◌, length, map, take, Some, refl}
+use Rattle.std.proofs.Common.{sym, ap, ◌∙◌, subst, arith, append_assoc, length-append}
 use Rattle.std.specs.Prelude.{slice_get, option_map, ◌≢◌}
 use Rattle.std.specs.List.{AllZip}
 use Rattle.std.proofs.lemmas.List.{append-nil, length-map}
@@ -14,14 +15,16 @@ use Rattle.core_lang.specs.Meaning.{deepest}
 use Rattle.core_lang.specs.Scopes.{bound_in_all, numbers_from, IsWellScoped}
 use Rattle.core_lang.specs.Typing.{local_types, HaveTypes, IsResult, AllWellTyped, IsWellTypedSection}
 use Rattle.core_lang.specs.Expansion.{entered, HelpersWritten, IsWrittenOut, IsExpansion}
-use Rattle.core_lang.specs.WrittenLocals.{LocalData, local_data, parameter_data, locals_in_all, Brought, brought_by, brought, AreWrittenLocals}
+use Rattle.core_lang.specs.WrittenLocals.{LocalData, local_data, parameter_data, locals_in_all, Brought, brought_by}
+use Rattle.core_lang.specs.WrittenLocals.{brought, AreWrittenLocals}
 use Rattle.core_lang.specs.Laws.{WrittenOutBindsInOrder}
 use Rattle.core_lang.specs.WellFormed.{CanCall, IsChecked, IsWellFormed}
 use Rattle.core_lang_expansion.specs.Data.{CallData, call_data, ThreadData, thread_data, IsSameBesides}
 use Rattle.core_lang_expansion.proofs.Pairs.{zip_back}
 use Rattle.core_lang_expansion.proofs.Limits.{data_there, within_limits}
 use Rattle.core_lang_expansion.proofs.Places.{laid_out, protected, opens_typed, have_types}
-use Rattle.core_lang_expansion.proofs.Located.{get_past, types_of, NoParameters, none_of_both, none_there, no_parameters, parameters_stand, parameter_there}
+use Rattle.core_lang_expansion.proofs.Located.{get_past, types_of, NoParameters, none_of_both, none_there}
+use Rattle.core_lang_expansion.proofs.Located.{no_parameters, parameters_stand, parameter_there}
 use Rattle.core_lang_expansion.proofs.TypedExprs.{result_typed}
 use Rattle.core_lang_expansion.proofs.TypedStatements.{some_same, BodiesKeep, Ready, all_keep}
 use Rattle.core_lang_expansion.proofs.ScopedStatements.{written_out_scoped}
@@ -66,7 +69,8 @@ at_least (suc p) zero le = absurd (omega (arith, le))
 at_least (suc p) (suc k) le = let r = at_least p k (omega (arith, le)) in (r.0, let e = r.1 in omega (arith, e))
 
 -- a parameter of what is written out is one of the section
-parameter_kind : (section : Section) (k : ℕ) (l : Local) (all here : List LocalData) → k < section.parameters → section.parameters ≤ length section.locals.items →
+parameter_kind : (section : Section) (k : ℕ) (l : Local) (all here : List LocalData) → k < section.parameters →
+    section.parameters ≤ length section.locals.items →
     IsWellScoped section → all ≡ map local_data (take section.parameters section.locals.items) ++ here → slice_get all k ≡ Some (local_data l) → l.kind ≡ Parameter
 parameter_kind section k l all here lt le scoped e is =
     let own = section.locals.items in
@@ -77,7 +81,8 @@ parameter_kind section k l all here lt le scoped e is =
     ap (λ (z : LocalData). z.kind) same ∙ (scoped.kinds k first.0 first.1).0 lt
 
 -- and a further local is none
-further_kind : (all front here : List LocalData) (p k : ℕ) (l : Local) → length front ≡ p → p ≤ k → all ≡ front ++ here → NoParameters here →
+further_kind : (all front here : List LocalData) (p k : ℕ) (l : Local) → length front ≡ p → p ≤ k →
+    all ≡ front ++ here → NoParameters here →
     slice_get all k ≡ Some (local_data l) → l.kind ≢ Parameter
 further_kind all front here p k l many low e none is =
     let i = at_least p k low in
@@ -90,7 +95,8 @@ module _ (program program' : Typed) (checked : IsChecked program) (expands : IsE
   -- ---- bodies of helpers
 
   module _ (all : List LocalData) where
-    helpers_keep : (depth : ℕ) → BodiesKeep program program' all (HelpersWritten program.shape depth) (brought depth program.shape)
+    helpers_keep : (depth : ℕ) →
+        BodiesKeep program program' all (HelpersWritten program.shape depth) (brought depth program.shape)
     helpers_keep zero helper count first body r fresh front rest inside e is = absurd inside
     helpers_keep (suc depth) helper count first body r fresh front rest (h, found, count_is, (b, w, ends, own, f)) e is =
         let p = h.parameters in
@@ -142,7 +148,8 @@ module _ (program program' : Typed) (checked : IsChecked program) (expands : IsE
 
   -- ---- sections
 
-  section_well : (section section' : Section) → IsWellTypedSection program section → IsWellScoped section → IsWrittenOut program.shape section section' →
+  section_well : (section section' : Section) → IsWellTypedSection program section → IsWellScoped section →
+      IsWrittenOut program.shape section section' →
       AreWrittenLocals program.shape section section' → IsWellTypedSection program' section' × IsWellScoped section'
   section_well section section' typed scoped out locals_are =
       let p = section.parameters in
@@ -198,7 +205,8 @@ module _ (program program' : Typed) (checked : IsChecked program) (expands : IsE
 
   -- ---- scripts
 
-  can_call : (number : ℕ) (arguments : List Value) → CanCall program number arguments → CanCall program' number arguments
+  can_call : (number : ℕ) (arguments : List Value) → CanCall program number arguments →
+      CanCall program' number arguments
   unfolding CanCall
   can_call number arguments (section, is, fit) =
       let found = expands.there number section is in
@@ -221,7 +229,8 @@ module _ (program program' : Typed) (checked : IsChecked program) (expands : IsE
       in
       (section', found.1, subst (λ ts. HaveTypes program'.shape ts arguments) types (have_types program program' expands same (local_types (take p own)) arguments fit))
 
-  scripts_fit : (t k : ℕ) (thread : Thread) (call : Call) → slice_get program'.threads.items t ≡ Some thread → slice_get thread.calls.items k ≡ Some call →
+  scripts_fit : (t k : ℕ) (thread : Thread) (call : Call) → slice_get program'.threads.items t ≡ Some thread →
+      slice_get thread.calls.items k ≡ Some call →
       CanCall program' call.section call.arguments.items
   scripts_fit t k thread call is has =
       let found = data_there thread_data program.threads.items program'.threads.items t thread same.threads is in
@@ -233,7 +242,8 @@ module _ (program program' : Typed) (checked : IsChecked program) (expands : IsE
 
   -- ---- the whole
 
-  one_well : (k : ℕ) (section' : Section) → slice_get program'.sections.items k ≡ Some section' → IsWellTypedSection program' section' × IsWellScoped section'
+  one_well : (k : ℕ) (section' : Section) → slice_get program'.sections.items k ≡ Some section' →
+      IsWellTypedSection program' section' × IsWellScoped section'
   one_well k section' is =
       let found = expands.back k section' is in
       let section = found.0 in

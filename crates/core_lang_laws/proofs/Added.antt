@@ -3,12 +3,14 @@ use Rattle.std.proofs.Common.{◌≡◌, ◌∙◌, ℕ, zero, suc, List, [], �
 use Rattle.std.specs.Prelude.{slice_get}
 use Rattle.core_lang.specs.declared.shape.Shape.{Shape}
 use Rattle.core_lang.specs.declared.tree.Stmt.{Stmt}
-use Rattle.core_lang.specs.declared.tree.Action.{Action, Bind, SetLocal, SetGlobal, SetElement, SetField, Call, Print, If', IfElse', While', Row_of-Stmt, end_of-Stmt, more_of-Stmt}
+use Rattle.core_lang.specs.declared.tree.Action.{Action, Bind, SetLocal, SetGlobal, SetElement, SetField, Call, Print}
+use Rattle.core_lang.specs.declared.tree.Action.{If', IfElse', While', Row_of-Stmt, end_of-Stmt, more_of-Stmt}
 use Rattle.core_lang.specs.declared.tree.Return.{Return}
 use Rattle.core_lang.specs.declared.tree.Section.{Section}
 use Rattle.core_lang.specs.declared.typed.Typed.{Typed}
 use Rattle.core_lang.specs.Serial.{Invocation}
-use Rattle.core_lang.specs.Expansion.{At, Bodies, Writes, WritesRow, WritesAll, WritesBody, HelpersWritten, IsWrittenOut, HasSamePlaces}
+use Rattle.core_lang.specs.Expansion.{At, Bodies, Writes, WritesRow, WritesAll, WritesBody, HelpersWritten}
+use Rattle.core_lang.specs.Expansion.{IsWrittenOut, HasSamePlaces}
 use Rattle.core_lang.specs.Laws.{CallsFill, ExpansionsRunAlike}
 use Rattle.core_lang_laws.specs.Laws.{UncalledHelpersChangeNoExpansion, UncalledHelpersChangeNoRun}
 
@@ -20,7 +22,8 @@ Within Body More =
 
 module _ (Body More : Bodies) (within : Within Body More) where
   mutual
-    writes : (x : Action) (start : ℕ) (a : At) (ys : List Stmt) (b : At) → Writes Body x start a ys b → Writes More x start a ys b
+    writes : (x : Action) (start : ℕ) (a : At) (ys : List Stmt) (b : At) → Writes Body x start a ys b →
+        Writes More x start a ys b
     writes (Bind k e) start a ys b w = w
     writes (SetLocal k e) start a ys b w = w
     writes (SetGlobal cell e) start a ys b w = w
@@ -36,7 +39,8 @@ module _ (Body More : Bodies) (within : Within Body More) where
     writes (While' c m body) start a ys b (c', body', after, test, inside, is, end) =
         (c', body', after, test, row body a body'.items after inside, is, end)
 
-    row : {m : _} (xs : Row_of-Stmt m) (a : At) (ys : List Stmt) (b : At) → WritesRow Body xs a ys b → WritesRow More xs a ys b
+    row : {m : _} (xs : Row_of-Stmt m) (a : At) (ys : List Stmt) (b : At) → WritesRow Body xs a ys b →
+        WritesRow More xs a ys b
     row end_of-Stmt a ys b w = w
     row (more_of-Stmt start x rest) a ys b (front, back, middle, w, ws, is) =
         (front, back, middle, writes x start a front middle w, row rest middle back b ws, is)
@@ -45,7 +49,8 @@ module _ (Body More : Bodies) (within : Within Body More) where
   all [] a ys b w = w
   all (x ∷ xs) a ys b (front, back, middle, w, ws, is) = (front, back, middle, writes x.action x.start a front middle w, all xs middle back b ws, is)
 
-  body_writes : (section : Section) (first : ℕ) (ys : List Stmt) (r : Option Return) (fresh : ℕ) → WritesBody Body section first ys r fresh →
+  body_writes : (section : Section) (first : ℕ) (ys : List Stmt) (r : Option Return) (fresh : ℕ) →
+      WritesBody Body section first ys r fresh →
       WritesBody More section first ys r fresh
   body_writes section first ys r fresh (b, w, result, own, end) = (b, all section.body.items _ ys b w, result, own, end)
 
@@ -56,7 +61,8 @@ still_there [] ys k x e = absurd cc
 still_there (z ∷ xs) ys zero x e = e
 still_there (z ∷ xs) ys (suc k) x e = still_there xs ys k x e
 
-helpers_within : (shape more : Shape) (added : List Section) → more.helpers.items ≡ shape.helpers.items ++ added → (depth : ℕ) →
+helpers_within : (shape more : Shape) (added : List Section) → more.helpers.items ≡ shape.helpers.items ++ added →
+    (depth : ℕ) →
     Within (HelpersWritten shape depth) (HelpersWritten more depth)
 helpers_within shape more added is zero helper count first ys r fresh w = w
 helpers_within shape more added is (suc depth) helper count first ys r fresh (h, found, many, w) = (
@@ -66,7 +72,8 @@ helpers_within shape more added is (suc depth) helper count first ys r fresh (h,
   body_writes (HelpersWritten shape depth) (HelpersWritten more depth) (helpers_within shape more added is depth) h first ys r fresh w,
 )
 
-written_out : (shape more : Shape) (added : List Section) → more.helpers.items ≡ shape.helpers.items ++ added → (section out : Section) →
+written_out : (shape more : Shape) (added : List Section) → more.helpers.items ≡ shape.helpers.items ++ added →
+    (section out : Section) →
     IsWrittenOut shape section out → IsWrittenOut more section out
 written_out shape more added is section out w = record {
   parameters = w.parameters;
@@ -77,7 +84,8 @@ written_out shape more added is section out w = record {
 
 -- ---- programs
 
-from_more : (shape more written : Shape) → HasSamePlaces shape more → HasSamePlaces shape written → HasSamePlaces more written
+from_more : (shape more written : Shape) → HasSamePlaces shape more → HasSamePlaces shape written →
+    HasSamePlaces more written
 from_more shape more written p q = record {
   arrays = q.arrays ∙ sym p.arrays;
   pools = q.pools ∙ sym p.pools;
@@ -102,7 +110,8 @@ same_expansion program more written has e =
           );
     }
 
-fills : (program more : Typed) (calls : List Invocation) → more.sections.items ≡ program.sections.items → CallsFill program calls → CallsFill more calls
+fills : (program more : Typed) (calls : List Invocation) → more.sections.items ≡ program.sections.items →
+    CallsFill program calls → CallsFill more calls
 fills program more [] same f = f
 fills program more (call ∷ calls) same f =
     (λ section found. f.0 section (subst (λ (ss : List Section). slice_get ss call.section ≡ Some section) same found), fills program more calls same f.1)

@@ -1,5 +1,6 @@
 -- A program without helpers is its own expansion.
-use Rattle.std.proofs.Common.{◌≡◌, ◌∙◌, ◌<◌, ◌+◌, ℕ, zero, suc, List, [], ◌∷◌, ◌++◌, length, take, drop, Option, Some, None, Bool, true, false, refl, sym, ap, subst, append_assoc, arith}
+use Rattle.std.proofs.Common.{◌≡◌, ◌∙◌, ◌<◌, ◌+◌, ℕ, zero, suc, List, [], ◌∷◌, ◌++◌, length, take, drop, Option, Some}
+use Rattle.std.proofs.Common.{None, Bool, true, false, refl, sym, ap, subst, append_assoc, arith}
 use Rattle.std.specs.Prelude.{slice_get, map, nat_eq}
 use Rattle.std.proofs.lemmas.Bool.Decides.{nat_tests}
 use Rattle.std.specs.List.{Contains, AllZip}
@@ -8,22 +9,34 @@ use Rattle.std.proofs.Math.ListN.{drop_of_length-le}
 use Rattle.core_lang.specs.declared.shape.Shape.{Shape}
 use Rattle.core_lang.specs.declared.value.ValueType.{ValueType}
 use Rattle.core_lang.specs.declared.tree.Path.{Path}
-use Rattle.core_lang.specs.declared.tree.Expr.{Expr, Number, Null, Place, Global as GlobalCell, Element', Member', Negate', Owned', Chain', Row_of-Operation, end_of-Operation, more_of-Operation}
-use Rattle.core_lang.specs.declared.tree.Condition.{Condition, Compare, Not', And', Or', Row_of-Condition, end_of-Condition, more_of-Condition}
+use Rattle.core_lang.specs.declared.tree.Expr.{Expr, Number, Null, Place, Global as GlobalCell, Element', Member'}
+use Rattle.core_lang.specs.declared.tree.Expr.{Negate', Owned', Chain', Row_of-Operation, end_of-Operation}
+use Rattle.core_lang.specs.declared.tree.Expr.{more_of-Operation}
+use Rattle.core_lang.specs.declared.tree.Condition.{Condition, Compare, Not', And', Or', Row_of-Condition}
+use Rattle.core_lang.specs.declared.tree.Condition.{end_of-Condition, more_of-Condition}
 use Rattle.core_lang.specs.declared.tree.Stmt.{Stmt}
-use Rattle.core_lang.specs.declared.tree.Action.{Action, Bind, SetLocal, SetGlobal, SetElement, SetField, Call, Print, If', IfElse', While', Row_of-Stmt, end_of-Stmt, more_of-Stmt, items-the_row-Stmt, items_shown-the_row-Stmt-0, roll-Action, roll-out-Action}
+use Rattle.core_lang.specs.declared.tree.Action.{Action, Bind, SetLocal, SetGlobal, SetElement, SetField, Call, Print}
+use Rattle.core_lang.specs.declared.tree.Action.{If', IfElse', While', Row_of-Stmt, end_of-Stmt, more_of-Stmt}
+use Rattle.core_lang.specs.declared.tree.Action.{items-the_row-Stmt, items_shown-the_row-Stmt-0, roll-Action}
+use Rattle.core_lang.specs.declared.tree.Action.{roll-out-Action}
 use Rattle.core_lang.specs.declared.tree.Action.TheBlock.{shown-the_row-Stmt-0}
-use Rattle.core_lang.specs.declared.tree.Action.TheVariants.{rolls-If, outs-If', rolls-IfElse, outs-IfElse', rolls-While, outs-While'}
+use Rattle.core_lang.specs.declared.tree.Action.TheVariants.{rolls-If, outs-If', rolls-IfElse, outs-IfElse'}
+use Rattle.core_lang.specs.declared.tree.Action.TheVariants.{rolls-While, outs-While'}
 use Rattle.core_lang.specs.declared.tree.Local.{Local}
 use Rattle.core_lang.specs.declared.tree.Return.{Return}
 use Rattle.core_lang.specs.declared.tree.Section.{Section}
 use Rattle.core_lang.specs.declared.typed.Typed.{Typed}
-use Rattle.core_lang.specs.Scopes.{NamesOnly, AllNameOnly, TestsOnly, AllTestOnly, scope_after, IsScoped, AreScoped, AllScoped, scope_after_all, bound_by, bound_in, bound_in_all, numbers_from, ResultNamesOnly, IsWellScoped}
+use Rattle.core_lang.specs.Scopes.{NamesOnly, AllNameOnly, TestsOnly, AllTestOnly, scope_after, IsScoped, AreScoped}
+use Rattle.core_lang.specs.Scopes.{AllScoped, scope_after_all, bound_by, bound_in, bound_in_all, numbers_from}
+use Rattle.core_lang.specs.Scopes.{ResultNamesOnly, IsWellScoped}
 use Rattle.core_lang.specs.Typing.{IsWellTyped, AreWellTyped, AllWellTyped, local_types}
 use Rattle.core_lang.specs.Helpers.{CallsOnly, AllCallOnly, EachCallsOnly, NoHelper, CallsNothing}
 use Rattle.core_lang.specs.Meaning.{deepest}
-use Rattle.core_lang.specs.WrittenLocals.{LocalData, local_data, own_local, Brought, locals_by, locals_in, locals_in_all, brought, AreWrittenLocals}
-use Rattle.core_lang.specs.Expansion.{Pair, pair, RenamesPath, Renames, RenamesEach, RenamesTest, RenamesTests, RenamesResult, At, behind_bound, behind_block, parameters_at, entered, one, Bodies, Writes, WritesRow, WritesAll, HelpersWritten, IsWrittenOut}
+use Rattle.core_lang.specs.WrittenLocals.{LocalData, local_data, own_local, Brought, locals_by, locals_in}
+use Rattle.core_lang.specs.WrittenLocals.{locals_in_all, brought, AreWrittenLocals}
+use Rattle.core_lang.specs.Expansion.{Pair, pair, RenamesPath, Renames, RenamesEach, RenamesTest, RenamesTests}
+use Rattle.core_lang.specs.Expansion.{RenamesResult, At, behind_bound, behind_block, parameters_at, entered, one}
+use Rattle.core_lang.specs.Expansion.{Bodies, Writes, WritesRow, WritesAll, HelpersWritten, IsWrittenOut}
 use Rattle.core_lang_laws.specs.Laws.{AProgramWithoutHelpersIsItsOwnExpansion}
 use Rattle.core_lang.specs.Theory.Items.{in_first}
 
@@ -87,7 +100,8 @@ next_left k rest own (suc j) total is all = (cc, (j, cc, omega (arith, all)))
 
 module _ (Body : Bodies) (total : ℕ) where
   mutual
-    action_alone : (x : Action) (start : ℕ) (a : At) (scope rest : List ℕ) → CallsOnly NoHelper x → IsScoped scope x → Itself a.scope scope →
+    action_alone : (x : Action) (start : ℕ) (a : At) (scope rest : List ℕ) → CallsOnly NoHelper x → IsScoped scope x →
+        Itself a.scope scope →
         Left a (bound_by x ++ rest) total →
         (b : At) × Writes Body x start a (one start x) b × Itself b.scope (scope_after scope x) × Left b rest total
     action_alone (Bind k e) start a scope rest calls c h (same, (m, is, all)) =
@@ -147,7 +161,8 @@ module _ (Body : Bodies) (total : ℕ) where
           end,
         )
 
-    row_alone : {m : _} (xs : Row_of-Stmt m) (a : At) (scope rest : List ℕ) → AllCallOnly NoHelper xs → AreScoped scope xs → Itself a.scope scope →
+    row_alone : {m : _} (xs : Row_of-Stmt m) (a : At) (scope rest : List ℕ) → AllCallOnly NoHelper xs →
+        AreScoped scope xs → Itself a.scope scope →
         Left a (bound_in xs ++ rest) total → (b : At) × WritesRow Body xs a (items-the_row-Stmt _ xs) b × Left b rest total
     row_alone end_of-Stmt a scope rest calls c h left = (a, (refl, refl), left)
     row_alone (more_of-Stmt start x more) a scope rest calls c h left =
@@ -156,7 +171,8 @@ module _ (Body : Bodies) (total : ℕ) where
         let (b, ws, end) = row_alone more middle (scope_after scope x) rest calls.1 c.1 still between in
         (b, (one start x, items-the_row-Stmt _ more, middle, w, ws, refl), end)
 
-  all_alone : (xs : List Stmt) (a : At) (scope rest : List ℕ) → EachCallsOnly NoHelper xs → AllScoped scope xs → Itself a.scope scope →
+  all_alone : (xs : List Stmt) (a : At) (scope rest : List ℕ) → EachCallsOnly NoHelper xs → AllScoped scope xs →
+      Itself a.scope scope →
       Left a (bound_in_all xs ++ rest) total → (b : At) × WritesAll Body xs a xs b × Itself b.scope (scope_after_all scope xs) × Left b rest total
   all_alone [] a scope rest calls c h left = (a, (refl, refl), h, left)
   all_alone (x ∷ xs) a scope rest calls c h left =
@@ -176,7 +192,8 @@ parameter : (n k : ℕ) → k < n → Contains (parameters_at n 0) (pair k k)
 parameter zero k lt = absurd (omega (arith, lt))
 parameter (suc n) k lt = decide (nat_eq k n) refl (parameter n k)
   where
-    decide : (b : Bool) → nat_eq k n ≡ b → (k < n → Contains (parameters_at n 0) (pair k k)) → Contains (parameters_at (suc n) 0) (pair k k)
+    decide : (b : Bool) → nat_eq k n ≡ b → (k < n → Contains (parameters_at n 0) (pair k k)) →
+        Contains (parameters_at (suc n) 0) (pair k k)
     decide true e go =
         let same : k ≡ n = grind (arith, nat_tests, e) in
         let last : k ≡ 0 + n = omega (arith, same) in
@@ -201,7 +218,8 @@ none_left own (suc m) total is all = absurd cc
 
 -- ---- sections
 
-section_alone : (shape : Shape) (section : Section) → CallsNothing section → IsWellScoped section → IsWrittenOut shape section section
+section_alone : (shape : Shape) (section : Section) → CallsNothing section → IsWellScoped section →
+    IsWrittenOut shape section section
 section_alone shape section calls scoped =
     let own = section.parameters in
     let all = length section.locals.items in
@@ -244,24 +262,28 @@ module _ (brings : ℕ → Brought) (own : List Local) where
         ∙ sym (named_append own (bound_in block) (bound_in otherwise))
     locals_of (While' t m body) calls = locals_of_row body calls
 
-    locals_of_row : {m : _} (xs : Row_of-Stmt m) → AllCallOnly NoHelper xs → locals_in brings own xs ≡ named_all own (bound_in xs)
+    locals_of_row : {m : _} (xs : Row_of-Stmt m) → AllCallOnly NoHelper xs →
+        locals_in brings own xs ≡ named_all own (bound_in xs)
     locals_of_row end_of-Stmt calls = refl
     locals_of_row (more_of-Stmt start x more) calls =
         ap (λ ls. ls ++ locals_in brings own more) (locals_of x calls.0) ∙ ap (λ ls. named_all own (bound_by x) ++ ls) (locals_of_row more calls.1)
         ∙ sym (named_append own (bound_by x) (bound_in more))
 
-  locals_of_all : (xs : List Stmt) → EachCallsOnly NoHelper xs → locals_in_all brings own xs ≡ named_all own (bound_in_all xs)
+  locals_of_all : (xs : List Stmt) → EachCallsOnly NoHelper xs →
+      locals_in_all brings own xs ≡ named_all own (bound_in_all xs)
   locals_of_all [] calls = refl
   locals_of_all (x ∷ xs) calls =
       ap (λ ls. ls ++ locals_in_all brings own xs) (locals_of x.action calls.0) ∙ ap (λ ls. named_all own (bound_by x.action) ++ ls) (locals_of_all xs calls.1)
       ∙ sym (named_append own (bound_by x.action) (bound_in_all xs))
 
-at_place : (own : List Local) (k : ℕ) → k < length own → (x : Local) × (slice_get own k ≡ Some x) × (drop k own ≡ x ∷ drop (suc k) own)
+at_place : (own : List Local) (k : ℕ) → k < length own →
+    (x : Local) × (slice_get own k ≡ Some x) × (drop k own ≡ x ∷ drop (suc k) own)
 at_place [] k lt = absurd (omega (arith, lt))
 at_place (x ∷ xs) zero lt = (x, refl, refl)
 at_place (x ∷ xs) (suc k) lt = at_place xs k (omega (arith, lt))
 
-named_from : (own : List Local) (k m : ℕ) → k + m ≡ length own → named_all own (numbers_from k m) ≡ map local_data (drop k own)
+named_from : (own : List Local) (k m : ℕ) → k + m ≡ length own →
+    named_all own (numbers_from k m) ≡ map local_data (drop k own)
 named_from own k zero all = sym (ap (map local_data) (drop_of_length-le own (omega (arith, all))))
 named_from own k (suc m) all =
     let (x, is, rest) = at_place own k (omega (arith, all)) in
@@ -270,7 +292,8 @@ named_from own k (suc m) all =
     ∙ ap (λ ls. local_data x ∷ ls) (named_from own (k + 1) m (omega (arith, all)) ∙ ap (λ i. map local_data (drop i own)) next)
     ∙ sym (ap (map local_data) rest)
 
-locals_alone : (shape : Shape) (section : Section) → CallsNothing section → IsWellScoped section → AreWrittenLocals shape section section
+locals_alone : (shape : Shape) (section : Section) → CallsNothing section → IsWellScoped section →
+    AreWrittenLocals shape section section
 locals_alone shape section calls scoped =
     let own = section.locals.items in
     let p = section.parameters in
@@ -308,7 +331,8 @@ module _ (program : Typed) (types : List ValueType) (none : program.shape.helper
   all_call_none [] t = tt
   all_call_none (x ∷ xs) t = (calls_none x.action t.0, all_call_none xs t.1)
 
-zipped : {A : Type 0} (R : A → A → Type 0) (xs : List A) → ((k : ℕ) (x : A) → slice_get xs k ≡ Some x → R x x) → AllZip R xs xs
+zipped : {A : Type 0} (R : A → A → Type 0) (xs : List A) → ((k : ℕ) (x : A) → slice_get xs k ≡ Some x → R x x) →
+    AllZip R xs xs
 zipped R [] h = tt
 zipped R (x ∷ xs) h = (h 0 x refl, zipped R xs (λ k. h (suc k)))
 

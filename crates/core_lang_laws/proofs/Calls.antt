@@ -1,5 +1,6 @@
 -- A section that only calls a helper means what the helper's body means.
-use Rattle.std.proofs.Common.{◌≡◌, ◌∙◌, ◌<◌, ℕ, zero, suc, List, [], ◌∷◌, length, Option, Some, None, Result, Ok, Err, refl, sym, ap, arith}
+use Rattle.std.proofs.Common.{◌≡◌, ◌∙◌, ◌<◌, ℕ, zero, suc, List, [], ◌∷◌, length, Option, Some, None, Result, Ok, Err}
+use Rattle.std.proofs.Common.{refl, sym, ap, arith}
 use Rattle.std.specs.Prelude.{slice_get, slice_set}
 use Rattle.core_lang.specs.declared.value.Value.{Value}
 use Rattle.core_lang.specs.declared.value.Failure.{Failure}
@@ -12,7 +13,8 @@ use Rattle.core_lang.specs.declared.tree.Stmt.{Stmt}
 use Rattle.core_lang.specs.declared.tree.Return.{Return}
 use Rattle.core_lang.specs.declared.tree.Section.{Section}
 use Rattle.core_lang.specs.Cells.{with, found}
-use Rattle.core_lang.specs.Meaning.{State, Flow, GoesOn, Traps, Beyond, Astray, along, value_of, given, after, returned, concluded, opening, back, sequence_by, run_from, if_there, helped}
+use Rattle.core_lang.specs.Meaning.{State, Flow, GoesOn, Traps, Beyond, Astray, along, value_of, given, after}
+use Rattle.core_lang.specs.Meaning.{returned, concluded, opening, back, sequence_by, run_from, if_there, helped}
 use Rattle.core_lang_laws.specs.Laws.{ACallDoesWhatTheHelperDoes, ACallGivesWhatTheHelperGives}
 
 -- behind a call that binds nothing

@@ -50,13 +50,15 @@ of_pair (Trace moves) text other_file other plan status out err (traces.bad_step
 of_pair (Replay judging) text other_file other plan status out err (judged is) = of_verdict is.verdict is.ended
 of_pair (Replay judging) text other_file other plan status out err (bad_history is) = serving.bad_input is.ended
 
-pub threads_are_answered : (file text : List ℕ) (status : Status) (out err : List ℕ) → ThreadsAnswers file text status out err →
+pub threads_are_answered : (file text : List ℕ) (status : Status) (out err : List ℕ) →
+    ThreadsAnswers file text status out err →
     IsAnswered status
 threads_are_answered file text status out err (accepted plan accepts compiled (written is)) = serving.done is.ended
 threads_are_answered file text status out err (accepted plan accepts compiled (was_strange is)) = serving.strange is.ended
 threads_are_answered file text status out err (refused is) = serving.refused is.ended
 
-pub explained_is_answered : (json : Bool) (file text : List ℕ) (status : Status) (out err : List ℕ) → ExplainAnswers json file text status out err →
+pub explained_is_answered : (json : Bool) (file text : List ℕ) (status : Status) (out err : List ℕ) →
+    ExplainAnswers json file text status out err →
     IsAnswered status
 explained_is_answered json file text status out err (faultless is) = serving.done is.ended
 explained_is_answered json file text status out err (explained is) = serving.refused is.ended

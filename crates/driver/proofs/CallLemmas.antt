@@ -1,5 +1,6 @@
 -- The calls of a well-formed program's scripts can be made.
-use Rattle.std.proofs.Common.{◌≡◌, ◌∙◌, ℕ, ◌<◌, zero, suc, List, [], ◌∷◌, ◌++◌, map, length, get_or, slice_get, Some, ap, sym, refl, arith, take, drop, drop-cons, add-one, ◌+◌}
+use Rattle.std.proofs.Common.{◌≡◌, ◌∙◌, ℕ, ◌<◌, zero, suc, List, [], ◌∷◌, ◌++◌, map, length, get_or, slice_get, Some}
+use Rattle.std.proofs.Common.{ap, sym, refl, arith, take, drop, drop-cons, add-one, ◌+◌}
 use Rattle.std.proofs.lemmas.List.{map-append, take-append-drop}
 use Rattle.core_lang.specs.declared.typed.Call.{Call}
 use Rattle.core_lang.specs.declared.typed.Thread.{Thread}
@@ -9,12 +10,14 @@ use Rattle.core_lang.specs.WellFormed.{IsChecked, CanCall}
 use Rattle.driver.specs.Working.Running.{CanMake}
 
 -- calls that can be made, one list behind the other
-pub can_make_both : (program : Typed) (ss more : List Scheduled) → CanMake program ss → CanMake program more → CanMake program (ss ++ more)
+pub can_make_both : (program : Typed) (ss more : List Scheduled) → CanMake program ss → CanMake program more →
+    CanMake program (ss ++ more)
 can_make_both program [] more all rest = rest
 can_make_both program (s ∷ ss) more all rest = (all.0, can_make_both program ss more all.1 rest)
 
 -- each of such calls
-pub can_make_at : {A : Type 0} (f : A → Scheduled) (program : Typed) (xs : List A) (i : ℕ) (x : A) → CanMake program (map f xs) → i < length xs
+pub can_make_at : {A : Type 0} (f : A → Scheduled) (program : Typed) (xs : List A) (i : ℕ) (x : A) →
+    CanMake program (map f xs) → i < length xs
     → x ≡ get_or xs i x → CanCall program (f x).call.section (f x).call.arguments
 can_make_at f program [] i x all within is = absurd (omega arith)
 can_make_at f program (y ∷ ys) zero x all within is = rw is all.0

@@ -1,5 +1,6 @@
 -- A text that is longer than a program may be is explained as its beginning is.
-use Rattle.std.proofs.Common.{Bool, true, false, ◌≡◌, ◌∙◌, ◌<◌, ◌≤◌, ◌+◌, ◌++◌, ℕ, suc, List, [], ◌∷◌, take, length, Option, Some, None, refl, sym, ap, ap₂, arith, ⊎_elim}
+use Rattle.std.proofs.Common.{Bool, true, false, ◌≡◌, ◌∙◌, ◌<◌, ◌≤◌, ◌+◌, ◌++◌, ℕ, suc, List, [], ◌∷◌, take, length}
+use Rattle.std.proofs.Common.{Option, Some, None, refl, sym, ap, ap₂, arith, ⊎_elim}
 use Rattle.std.proofs.lemmas.Bool.{cases_lt}
 use Rattle.std.proofs.lemmas.List.{take_all, length-take}
 use Rattle.std.proofs.lemmas.List.Elements.{All-weaker}
@@ -13,7 +14,8 @@ use Rattle.explanation.specs.Shown.{shown_place}
 use Rattle.explanation_json.specs.Json.{fault_json}
 use Rattle.explanation_json.specs.Working.Laws.{FaultByFirstBytes}
 use Rattle.explanation.specs.Notes.{Note, note_text, told_text}
-use Rattle.explanation_faults.specs.TextNotes.{IsTextLimit, source, a_name, IsTrueTextNote, of_tree, of_tokens, of_limit as of_text_limit, AreTextNotes}
+use Rattle.explanation_faults.specs.TextNotes.{IsTextLimit, source, a_name, IsTrueTextNote, of_tree, of_tokens}
+use Rattle.explanation_faults.specs.TextNotes.{of_limit as of_text_limit, AreTextNotes}
 use Rattle.core_lang.specs.declared.typed.Typed.{Typed}
 use Rattle.lockorder.specs.Faults.{IsFaultAtFirst, at_first}
 use Rattle.source.specs.declared.fault.Code.{Code}
@@ -25,7 +27,8 @@ use Rattle.driver.specs.declared.status.Status.{Status}
 use Rattle.driver.specs.Explanations.{ExplainAnswers, faultless, explained, cycle_explained, fault_told}
 use Rattle.driver.proofs.LongTexts.{IsLong, none_accepted, given_of_long, of_limit, starts_at_0, told_alike}
 
-place_alike : (t u : List ℕ) (start : ℕ) → start ≡ 0 → shown_place t 0 ≡ shown_place u 0 → shown_place t start ≡ shown_place u start
+place_alike : (t u : List ℕ) (start : ℕ) → start ≡ 0 → shown_place t 0 ≡ shown_place u 0 →
+    shown_place t start ≡ shown_place u start
 place_alike t u start first same = rw first same
 
 joined : (code : Code) (told other shown more notes rest : List ℕ) → told ≡ other → shown ≡ more → notes ≡ rest →
@@ -41,13 +44,15 @@ note_alike : (file t u : List ℕ) (note : Note) → note.start ≡ None → not
 note_alike file t u note none =
     ap (λ (start : Option ℕ). told_text file t start note.words) none ∙ sym (ap (λ (start : Option ℕ). told_text file u start note.words) none)
 
-notes_alike : (file t u : List ℕ) (notes : List Note) → AreOfWhole notes → flat_map (note_text file t) notes ≡ flat_map (note_text file u) notes
+notes_alike : (file t u : List ℕ) (notes : List Note) → AreOfWhole notes →
+    flat_map (note_text file t) notes ≡ flat_map (note_text file u) notes
 notes_alike file t u [] none = refl
 notes_alike file t u (note ∷ notes) none =
     ap₂ (λ (a b : List ℕ). a ++ b) (note_alike file t u note (none 0 note (omega arith)))
     (notes_alike file t u notes (λ k d lt. none (suc k) d (omega arith)))
 
-explained_alike : (file t u : List ℕ) (fault : Fault) (notes : List Note) → fault.start ≡ 0 → AreOfWhole notes → shown_place t 0 ≡ shown_place u 0 →
+explained_alike : (file t u : List ℕ) (fault : Fault) (notes : List Note) → fault.start ≡ 0 → AreOfWhole notes →
+    shown_place t 0 ≡ shown_place u 0 →
     explanation_text file t fault notes ≡ explanation_text file u fault notes
 explained_alike file t u fault notes first whole same =
     joined fault.code (fault_text file t fault) (fault_text file u fault) (shown_place t fault.start) (shown_place u fault.start) _ _
@@ -59,14 +64,16 @@ AreAlike file t u =
     (shown_place t 0 ≡ shown_place u 0)
     × ((fault : Fault) (notes : List Note) → fault.start ≡ 0 → AreOfWhole notes → fault_json file t fault notes ≡ fault_json file u fault notes)
 
-told_of_start : (json : Bool) (file t u : List ℕ) (fault : Fault) (notes : List Note) → fault.start ≡ 0 → AreOfWhole notes → AreAlike file t u →
+told_of_start : (json : Bool) (file t u : List ℕ) (fault : Fault) (notes : List Note) → fault.start ≡ 0 →
+    AreOfWhole notes → AreAlike file t u →
     fault_told json file t fault notes ≡ fault_told json file u fault notes
 told_of_start true file t u fault notes first whole are = are.1 fault notes first whole
 told_of_start false file t u fault notes first whole are = explained_alike file t u fault notes first whole are.0
 
 -- ---- texts that are too long
 
-of_whole : {text : List ℕ} {code : Code} {at : ℕ} {note : Note} → IsLong text → IsTrueTextNote text code at note → note.start ≡ None
+of_whole : {text : List ℕ} {code : Code} {at : ℕ} {note : Note} → IsLong text → IsTrueTextNote text code at note →
+    note.start ≡ None
 of_whole long (of_tree few has is) = absurd (omega arith)
 of_whole long (of_tokens few has is) = absurd (omega arith)
 of_whole long (of_text_limit is limit said) = ap (λ (note : Note). note.start) said
@@ -76,12 +83,14 @@ limit_alike : {t u words : List ℕ} {at : ℕ} → IsLong t → IsLong u → Is
 limit_alike long longer (source l) = source longer
 limit_alike long longer (a_name x few over) = absurd (omega arith)
 
-true_alike : {t u : List ℕ} {code : Code} {at : ℕ} {note : Note} → IsLong t → IsLong u → IsTrueTextNote t code at note → IsTrueTextNote u code at note
+true_alike : {t u : List ℕ} {code : Code} {at : ℕ} {note : Note} → IsLong t → IsLong u →
+    IsTrueTextNote t code at note → IsTrueTextNote u code at note
 true_alike long longer (of_tree few has is) = absurd (omega arith)
 true_alike long longer (of_tokens few has is) = absurd (omega arith)
 true_alike long longer (of_text_limit is limit said) = of_text_limit is (limit_alike long longer limit) said
 
-tell_alike : (t u : List ℕ) (code : Code) (at : ℕ) (notes : List Note) → IsLong t → IsLong u → AreTextNotes t code at notes → AreTextNotes u code at notes
+tell_alike : (t u : List ℕ) (code : Code) (at : ℕ) (notes : List Note) → IsLong t → IsLong u →
+    AreTextNotes t code at notes → AreTextNotes u code at notes
 tell_alike t u code at notes long longer are = record {
   are_true = All-weaker (IsTrueTextNote t code at) (IsTrueTextNote u code at) (λ note is. true_alike long longer is) notes are.are_true;
   told = λ tokens decls few has told. absurd (omega arith);
@@ -92,7 +101,8 @@ tell_alike t u code at notes long longer are = record {
 no_cycle : (program : Typed) (fault : Fault) → fault.code ≡ LimitExceeded → IsFaultAtFirst program fault → ⊥
 no_cycle program fault limit (at_first c rest number used bound cycle makes starts code detail) = absurd cc
 
-explained_of_long : (json : Bool) (file t u : List ℕ) (status : Status) (out err : List ℕ) → IsLong t → IsLong u → AreAlike file t u →
+explained_of_long : (json : Bool) (file t u : List ℕ) (status : Status) (out err : List ℕ) → IsLong t → IsLong u →
+    AreAlike file t u →
     ExplainAnswers json file t status out err → ExplainAnswers json file u status out err
 explained_of_long json file t u status out err long longer same (faultless is) = absurd (none_accepted t is.program long is.accepts)
 explained_of_long json file t u status out err long longer same (explained is) =
@@ -112,7 +122,8 @@ explained_of_long json file t u status out err long longer same (cycle_explained
     absurd (no_cycle is.program is.fault (of_limit t is.fault long is.given) is.of_order)
 
 -- what is answered for the beginning of a text is answered for the text
-pub explained_of_whole : ShownByFirstBytes → FaultByFirstBytes → (json : Bool) (file t : List ℕ) (had : Option (List ℕ)) (status : Status) (out err : List ℕ) →
+pub explained_of_whole : ShownByFirstBytes → FaultByFirstBytes →
+    (json : Bool) (file t : List ℕ) (had : Option (List ℕ)) (status : Status) (out err : List ℕ) →
     IfSome had (λ bytes. t ≡ take (SOURCE_LIMIT + 1) bytes) → ExplainAnswers json file t status out err →
     (text : List ℕ) × IfSome had (λ bytes. text ≡ bytes) × ExplainAnswers json file text status out err
 explained_of_whole law by_first json file t None status out err read answers = (t, tt, answers)

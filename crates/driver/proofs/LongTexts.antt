@@ -1,5 +1,6 @@
 -- A text that is longer than a program may be is answered as its beginning is.
-use Rattle.std.proofs.Common.{◌≡◌, ◌∙◌, ◌<◌, ◌≤◌, ◌+◌, ◌^◌, ℕ, List, [], take, length, Option, Some, None, min, refl, ap, inl, inr, ◌⊎◌, arith, ⊎_elim, lit<, lit≤, Vec, Global}
+use Rattle.std.proofs.Common.{◌≡◌, ◌∙◌, ◌<◌, ◌≤◌, ◌+◌, ◌^◌, ℕ, List, [], take, length, Option, Some, None, min, refl}
+use Rattle.std.proofs.Common.{ap, inl, inr, ◌⊎◌, arith, ⊎_elim, lit<, lit≤, Vec, Global}
 use Rattle.std.proofs.lemmas.List.{take_all, length-take}
 use Rattle.std.proofs.lemmas.Bool.{cases_lt}
 use Rattle.std.specs.Prelude.{IfSome}
@@ -81,10 +82,12 @@ starts_at_0 t fault long (in_order tokens tree program written none has no_fault
 zero_first : (n : ℕ) → min 0 n ≡ 0
 zero_first n = grind arith
 
-pub told_alike : (file t u : List ℕ) (fault : Fault) → fault.start ≡ 0 → fault_text file t fault ≡ fault_text file u fault
+pub told_alike : (file t u : List ℕ) (fault : Fault) → fault.start ≡ 0 →
+    fault_text file t fault ≡ fault_text file u fault
 told_alike file t u fault first = rw (first, zero_first (length t), zero_first (length u)) refl
 
-answers_of_long : {Wanted Other : Plan → Status → List ℕ → List ℕ → Type 0} (file t u : List ℕ) (status : Status) (out err : List ℕ) →
+answers_of_long : {Wanted Other : Plan → Status → List ℕ → List ℕ →
+    Type 0} (file t u : List ℕ) (status : Status) (out err : List ℕ) →
     IsLong t → IsLong u → TextAnswers Wanted file t status out err → TextAnswers Other file u status out err
 answers_of_long file t u status out err long longer (accepted plan accepts compiled is) = absurd (none_accepted t plan.accepted long accepts)
 answers_of_long file t u status out err long longer (refused is) =
@@ -97,7 +100,8 @@ answers_of_long file t u status out err long longer (refused is) =
     })
 
 -- what is answered for the beginning of a text is answered for the text
-pub answers_of_whole : (Wanted : List ℕ → Plan → Status → List ℕ → List ℕ → Type 0) (file t : List ℕ) (had : Option (List ℕ))
+pub answers_of_whole : (Wanted : List ℕ → Plan → Status → List ℕ → List ℕ →
+    Type 0) (file t : List ℕ) (had : Option (List ℕ))
     (status : Status) (out err : List ℕ) → IfSome had (λ bytes. t ≡ take (SOURCE_LIMIT + 1) bytes) →
     TextAnswers (Wanted t) file t status out err →
     (text : List ℕ) × IfSome had (λ bytes. text ≡ bytes) × TextAnswers (Wanted text) file text status out err
@@ -126,13 +130,15 @@ read_or_long t had left read (inl ended) = inl ended
 read_or_long t had left read (inr long) = inr (cut_is_long t had read long)
 
 -- a text that is shorter than what may be read is whole
-pub whole_text : (t : List ℕ) (most : ℕ) (had : Option (List ℕ)) → length t < most → IfSome had (λ bytes. t ≡ take most bytes) →
+pub whole_text : (t : List ℕ) (most : ℕ) (had : Option (List ℕ)) → length t < most →
+    IfSome had (λ bytes. t ≡ take most bytes) →
     IfSome had (λ bytes. t ≡ bytes)
 whole_text t most None short read = tt
 whole_text t most (Some bytes) short read =
     let e : t ≡ take most bytes = read in
     e ∙ take_all most bytes (omega (arith, ap length e, length-take most bytes))
 
-pub read_out : (t : List ℕ) (most : ℕ) (left : Option (List ℕ)) → length t < most + 1 → IsAtEnd left ⊎ (most < length t) → IsAtEnd left
+pub read_out : (t : List ℕ) (most : ℕ) (left : Option (List ℕ)) → length t < most + 1 →
+    IsAtEnd left ⊎ (most < length t) → IsAtEnd left
 read_out t most left short (inl ended) = ended
 read_out t most left short (inr long) = absurd (omega arith)

@@ -1,5 +1,6 @@
 -- The calls of an order, one after another, and where the turns stop them.
-use Rattle.std.proofs.Common.{◌≡◌, ◌∙◌, ℕ, ◌+◌, ◌≤◌, suc, List, [], ◌∷◌, ◌++◌, length, get_or, slice_get, Option, Some, None, ap, sym, refl, subst, arith, append_assoc, append-nil, length-append}
+use Rattle.std.proofs.Common.{◌≡◌, ◌∙◌, ℕ, ◌+◌, ◌≤◌, suc, List, [], ◌∷◌, ◌++◌, length, get_or, slice_get, Option}
+use Rattle.std.proofs.Common.{Some, None, ap, sym, refl, subst, arith, append_assoc, append-nil, length-append}
 use Rattle.std.specs.Option.{option_map, option_to_list}
 use Rattle.std.proofs.lemmas.List.{map-append}
 use Rattle.std.proofs.Math.ListN.{length-set}
@@ -32,24 +33,28 @@ pub record IsOfScript (program : Typed) (done : List ℕ) (t : ℕ) (call : Invo
   pub in_script : slice_get thread.calls.items (get_or done t 0) ≡ Some of
   pub is : invocation of ≡ call
 
-in_script : (program : Typed) (done : List ℕ) (t : ℕ) (call : Invocation) (thread : Thread) (o : Option Call) → slice_get program.threads.items t ≡ Some thread →
+in_script : (program : Typed) (done : List ℕ) (t : ℕ) (call : Invocation) (thread : Thread) (o : Option Call) →
+    slice_get program.threads.items t ≡ Some thread →
     slice_get thread.calls.items (get_or done t 0) ≡ o → option_map invocation o ≡ Some call → IsOfScript program done t call
 in_script program done t call thread None there script is = cc
 in_script program done t call thread (Some of) there script is =
     let same : invocation of ≡ call = cc in
     record { thread = thread; of = of; there = there; in_script = script; is = same }
 
-in_thread : (program : Typed) (done : List ℕ) (t : ℕ) (call : Invocation) (o : Option Thread) → slice_get program.threads.items t ≡ o →
+in_thread : (program : Typed) (done : List ℕ) (t : ℕ) (call : Invocation) (o : Option Thread) →
+    slice_get program.threads.items t ≡ o →
     lookup o (λ (thread : Thread). option_map invocation (slice_get thread.calls.items (get_or done t 0))) ≡ Some call → IsOfScript program done t call
 in_thread program done t call None there is = cc
 in_thread program done t call (Some thread) there is =
     in_script program done t call thread (slice_get thread.calls.items (get_or done t 0)) there refl is
 
-pub next_of_script : (program : Typed) (done : List ℕ) (t : ℕ) (call : Invocation) → next_call program done t ≡ Some call → IsOfScript program done t call
+pub next_of_script : (program : Typed) (done : List ℕ) (t : ℕ) (call : Invocation) →
+    next_call program done t ≡ Some call → IsOfScript program done t call
 next_of_script program done t call is = in_thread program done t call (slice_get program.threads.items t) refl is
 
 -- so the calls of an order can be made
-can_make_next : (program : Typed) → IsChecked program → (done order : List ℕ) (t : ℕ) (o : Option Invocation) → next_call program done t ≡ o →
+can_make_next : (program : Typed) → IsChecked program → (done order : List ℕ) (t : ℕ) (o : Option Invocation) →
+    next_call program done t ≡ o →
     CanMake program (scheduled_from program (one_more done t) order) →
     CanMake program (option_to_list (option_map (λ (call : Invocation). record { thread = t; step = get_or done t 0; call = call }) o) ++ scheduled_from program (one_more done t) order)
 can_make_next program checked done order t None is rest = rest
@@ -60,7 +65,8 @@ can_make_next program checked done order t (Some call) is rest =
       rest,
     )
 
-pub can_make_order : (program : Typed) → IsChecked program → (done order : List ℕ) → CanMake program (scheduled_from program done order)
+pub can_make_order : (program : Typed) → IsChecked program → (done order : List ℕ) →
+    CanMake program (scheduled_from program done order)
 can_make_order program checked done [] = tt
 can_make_order program checked done (t ∷ order) =
     can_make_next program checked done order t (next_call program done t) refl (can_make_order program checked (one_more done t) order)
@@ -73,7 +79,8 @@ called_next : (program : Typed) (done : List ℕ) (t : ℕ) (o : Option Invocati
 called_next program done t None = refl
 called_next program done t (Some call) = refl
 
-pub called : (program : Typed) (done order : List ℕ) → calls_of (scheduled_from program done order) ≡ orders.calls_of program done order
+pub called : (program : Typed) (done order : List ℕ) →
+    calls_of (scheduled_from program done order) ≡ orders.calls_of program done order
 called program done [] = refl
 called program done (t ∷ order) =
     map-append (λ (s : Scheduled). s.call) (option_to_list (scheduled_next program done t)) (scheduled_from program (one_more done t) order)
@@ -100,19 +107,22 @@ pub record HasCall (program : Typed) (done : List ℕ) (t : ℕ) (order : List �
   pub next : next_call program done t ≡ Some call
   pub rest : length (orders.calls_of program (one_more done t) order) ≡ length order
 
-has_call_if : (program : Typed) (done : List ℕ) (t : ℕ) (order : List ℕ) (o : Option Invocation) → next_call program done t ≡ o →
+has_call_if : (program : Typed) (done : List ℕ) (t : ℕ) (order : List ℕ) (o : Option Invocation) →
+    next_call program done t ≡ o →
     length (option_to_list o ++ orders.calls_of program (one_more done t) order) ≡ suc (length order) → HasCall program done t order
 has_call_if program done t order None is made = absurd (let few = few_calls program (one_more done t) order in omega (arith, few, made))
 has_call_if program done t order (Some call) is made = record { call = call; next = is; rest = omega (arith, made) }
 
-pub has_call : (program : Typed) (done : List ℕ) (t : ℕ) (order : List ℕ) → length (orders.calls_of program done (t ∷ order)) ≡ length (t ∷ order) →
+pub has_call : (program : Typed) (done : List ℕ) (t : ℕ) (order : List ℕ) →
+    length (orders.calls_of program done (t ∷ order)) ≡ length (t ∷ order) →
     HasCall program done t order
 has_call program done t order made = has_call_if program done t order (next_call program done t) refl made
 
 abbrev pub with_place : List ℕ → ℕ → Invocation → Scheduled
 with_place done t call = record { thread = t; step = get_or done t 0; call = call }
 
-pub begins_with : (program : Typed) (done : List ℕ) (t : ℕ) (order : List ℕ) (call : Invocation) → next_call program done t ≡ Some call →
+pub begins_with : (program : Typed) (done : List ℕ) (t : ℕ) (order : List ℕ) (call : Invocation) →
+    next_call program done t ≡ Some call →
     scheduled_from program done (t ∷ order) ≡ with_place done t call ∷ scheduled_from program (one_more done t) order
 begins_with program done t order call next =
     ap (λ (o : Option Invocation). option_to_list (option_map (with_place done t) o) ++ scheduled_from program (one_more done t) order) next
@@ -142,12 +152,14 @@ along_further program order ss done t rest s along is =
       made = has.rest;
     }
 
-step_of : (done : List ℕ) (t : ℕ) (o : Option Invocation) (s : Scheduled) → Some s ≡ option_map (with_place done t) o → s.step ≡ get_or done t 0
+step_of : (done : List ℕ) (t : ℕ) (o : Option Invocation) (s : Scheduled) →
+    Some s ≡ option_map (with_place done t) o → s.step ≡ get_or done t 0
 step_of done t None s is = cc
 step_of done t (Some call) s is = let same : s ≡ with_place done t call = cc in ap (λ (x : Scheduled). x.step) same
 
 -- a thread's next call has how many are done as its number
-pub step_is : (program : Typed) (done : List ℕ) (t : ℕ) (s : Scheduled) → Some s ≡ scheduled_next program done t → s.step ≡ get_or done t 0
+pub step_is : (program : Typed) (done : List ℕ) (t : ℕ) (s : Scheduled) → Some s ≡ scheduled_next program done t →
+    s.step ≡ get_or done t 0
 step_is program done t s is = step_of done t (next_call program done t) s is
 
 pub never_stuck : (program : Typed) (order : List ℕ) (ss : List Scheduled) (done : List ℕ) (t : ℕ) (rest : List ℕ) →
@@ -157,7 +169,8 @@ never_stuck program order ss done t rest along none =
     let is : None ≡ Some (with_place done t has.call) = none ∙ ap (λ (o : Option Invocation). option_map (with_place done t) o) has.next in
     cc
 
-pub along_end : (program : Typed) (order : List ℕ) (ss : List Scheduled) (done : List ℕ) → IsAlong program order ss done [] →
+pub along_end : (program : Typed) (order : List ℕ) (ss : List Scheduled) (done : List ℕ) →
+    IsAlong program order ss done [] →
     (ss ≡ scheduled_in program order) × (done ≡ done_after (none_done program) order)
 along_end program order ss done along = (sym (append-nil ss) ∙ along.calls, along.after)
 
@@ -171,7 +184,8 @@ pub record IsBeginning (program : Typed) (done : List ℕ) (before : List Schedu
   pub next : next_call program (done_after done order) this.thread ≡ Some this.call
   pub step : this.step ≡ get_or (done_after done order) this.thread 0
 
-one_longer : (program : Typed) (done : List ℕ) (t : ℕ) (call : Invocation) (order : List ℕ) → next_call program done t ≡ Some call →
+one_longer : (program : Typed) (done : List ℕ) (t : ℕ) (call : Invocation) (order : List ℕ) →
+    next_call program done t ≡ Some call →
     length (orders.calls_of program (one_more done t) order) ≡ length order →
     length (orders.calls_of program done (t ∷ order)) ≡ length (t ∷ order)
 one_longer program done t call order next rest =
@@ -209,7 +223,8 @@ beginning program done (t ∷ order) (b ∷ before) this after made parts =
     }
 
 -- the turns stop at one of the order's calls
-pub stops_inside : SettledAreSerial → (turns : ℕ) (program : Typed) (order : List ℕ) (thread step : ℕ) (es : List Entry) (status : Status) (out err : List ℕ) →
+pub stops_inside : SettledAreSerial →
+    (turns : ℕ) (program : Typed) (order : List ℕ) (thread step : ℕ) (es : List Entry) (status : Status) (out err : List ℕ) →
     length (calls_in program order) ≡ length order → StopsAt turns program (scheduled_in program order) (thread, step) →
     es ≡ entries (scheduled_in program order) (progress_of turns program (scheduled_in program order)).ends →
     status ≡ Unsettled → out ≡ unsettled_of program es thread step → err ≡ [] → StopsInOrder turns program status out err
@@ -244,7 +259,8 @@ stops_inside law turns program order thread step es status out err made stops re
     }
 
 -- or they settle them all
-pub stops_behind : SettledAreSerial → HaveAtMostOneSerial → (turns : ℕ) (program : Typed) (order : List ℕ) (thread : ℕ) (es : List Entry) (status : Status) (out err : List ℕ) →
+pub stops_behind : SettledAreSerial → HaveAtMostOneSerial →
+    (turns : ℕ) (program : Typed) (order : List ℕ) (thread : ℕ) (es : List Entry) (status : Status) (out err : List ℕ) →
     (stops : StopsAfter program turns order thread) → (progress_of turns program (scheduled_in program order)).unsettled ≡ [] →
     es ≡ entries (scheduled_in program order) (progress_of turns program (scheduled_in program order)).ends →
     status ≡ Unsettled → out ≡ unsettled_of program es thread (get_or (done_after (none_done program) order) thread 0) → err ≡ [] →

@@ -35,7 +35,8 @@ entries_ahead program heap last (s ∷ before) after (e ∷ ends) ran =
     ap (λ es. entry s e ∷ es) (entries_ahead program ran.0.heap last before after ends ran.3)
 
 -- the turns settle all calls
-pub history_told : SettledAreSerial → (turns : ℕ) (program : Typed) (status : Status) (out err : List ℕ) → status ≡ Done →
+pub history_told : SettledAreSerial → (turns : ℕ) (program : Typed) (status : Status) (out err : List ℕ) →
+    status ≡ Done →
     (serial_run program turns).unsettled ≡ [] →
     out ≡ history_of One program (entries (all_calls program) (serial_run program turns).ends) (serial_run program turns).heap → err ≡ [] →
     IsHistory turns program status out err
@@ -49,7 +50,8 @@ history_told law turns program status out err done settled is none =
     }
 
 -- the turns settle the calls up to one
-pub stop_told : SettledAreSerial → (turns : ℕ) (program : Typed) (thread step : ℕ) (status : Status) (out err : List ℕ) →
+pub stop_told : SettledAreSerial →
+    (turns : ℕ) (program : Typed) (thread step : ℕ) (status : Status) (out err : List ℕ) →
     status ≡ Unsettled → StopsAt turns program (all_calls program) (thread, step) →
     out ≡ unsettled_of program (entries (all_calls program) (serial_run program turns).ends) thread step → err ≡ [] →
     StopsAtCall turns program status out err

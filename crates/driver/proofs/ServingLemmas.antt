@@ -1,12 +1,15 @@
 -- An engine that could not read, or had no memory, or whose answer went out, has served its request.
-use Rattle.std.proofs.Common.{◌≡◌, ◌≢◌, Bool, true, false, ℕ, List, [], ◌∷◌, Option, Some, None, Result, Ok, Err, IfOk, zero, suc, arith, refl, sym, subst, ◌∙◌, string_bytes}
+use Rattle.std.proofs.Common.{◌≡◌, ◌≢◌, Bool, true, false, ℕ, List, [], ◌∷◌, Option, Some, None, Result, Ok, Err}
+use Rattle.std.proofs.Common.{IfOk, zero, suc, arith, refl, sym, subst, ◌∙◌, string_bytes}
 use Rattle.std.specs.List.{All}
 use Rattle.rope.specs.Working.Ropes.{rope_text}
 use Rattle.driver.specs.declared.answer.Answer.{Answer}
 use Rattle.driver.specs.declared.streams.Streams.{Streams}
 use Rattle.driver.specs.declared.status.Status.{Status}
-use Rattle.driver.specs.declared.status.Status.TheVariants.{Done, Refused, BadWords, Failed, OutOfMemory, Differs, BadInput, Unsettled, Strange}
-use Rattle.driver.specs.Engines.{Serves, Reading, Gave, first_unread, IsReadOut, IsReadOrLong, IsUnread, of_reader, of_memory}
+use Rattle.driver.specs.declared.status.Status.TheVariants.{Done, Refused, BadWords, Failed, OutOfMemory, Differs}
+use Rattle.driver.specs.declared.status.Status.TheVariants.{BadInput, Unsettled, Strange}
+use Rattle.driver.specs.Engines.{Serves, Reading, Gave, first_unread, IsReadOut, IsReadOrLong, IsUnread, of_reader}
+use Rattle.driver.specs.Engines.{of_memory}
 use Rattle.driver.specs.Messages.{cannot_read, no_memory}
 use Rattle.driver.specs.Working.Serving.{IsOut, GoesOut, IsGiven}
 use Rattle.source.specs.declared.memory.NoMemory.{NoMemory}
@@ -53,7 +56,8 @@ strange is = rw is (record { words = λ e. cc; failed = λ e. cc; memory = λ e.
 module _ {O E : Type 0} (Answers : List ℕ → List (List ℕ) → Status → List ℕ → List ℕ → Type 0) (program : Reading)
     (others : List Reading) (contents : O → Option (List ℕ)) (told : E → Option (List ℕ)) (old new : Streams O E) (status : Status) where
   -- a file could not be read
-  pub unread_served : (file : Reading) → first_unread (program ∷ others) ≡ Some file → status ≡ Failed → new.out ≡ old.out →
+  pub unread_served : (file : Reading) → first_unread (program ∷ others) ≡ Some file → status ≡ Failed →
+      new.out ≡ old.out →
       Tells told old.err new.err (cannot_read file.name) → Serves Answers program others contents told old new status
   unread_served file is failed same tells =
       record {
@@ -118,11 +122,13 @@ module _ {O E : Type 0} (Answers : List ℕ → List (List ℕ) → Status → L
           memory = λ e. absurd (answered.memory (sym g.0 ∙ e));
         }
 
-    pub answer_served : GoesOut contents told answer old new status → Serves Answers program others contents told old new status
+    pub answer_served : GoesOut contents told answer old new status →
+        Serves Answers program others contents told old new status
     answer_served = gone (writing_failed new.out) refl
 
   -- an answer was given, or memory ran out before there was one
-  pub given_served : (result : Result Answer NoMemory) → first_unread (program ∷ others) ≡ None → writing_failed old.out ≡ false →
+  pub given_served : (result : Result Answer NoMemory) → first_unread (program ∷ others) ≡ None →
+      writing_failed old.out ≡ false →
       IsReadOrLong program × All IsReadOut others → IfOk result (IsRight Answers program others) → IsGiven contents told result old new status →
       Serves Answers program others contents told old new status
   given_served (Ok answer) none writable read is given =
@@ -138,7 +144,8 @@ module _ {O E : Type 0} (Answers : List ℕ → List (List ℕ) → Status → L
       unmade_served (rw unmarked none) out_of writable same tells
 
 -- the other file was not read
-pub other_unread : {O E : Type 0} (Answers : List ℕ → List (List ℕ) → Status → List ℕ → List ℕ → Type 0) (program other : Reading)
+pub other_unread : {O E : Type 0} (Answers : List ℕ → List (List ℕ) → Status → List ℕ → List ℕ →
+    Type 0) (program other : Reading)
     (contents : O → Option (List ℕ)) (told : E → Option (List ℕ)) (old new : Streams O E) (status : Status) →
     program.failed ≡ false → writing_failed old.out ≡ false → new.out ≡ old.out →
     IsUnread other.name other.failed (Tells told old.err new.err) status →

@@ -1,5 +1,6 @@
 -- What `replay` answers.
-use Rattle.std.specs.Prelude.{◌≡◌, ℕ, ◌-◌, Bool, List, [], ◌++◌, slice_get, codes, string_bytes, Option, Some, None, Ok, Err, if◌then◌else◌}
+use Rattle.std.specs.Prelude.{◌≡◌, ℕ, ◌-◌, Bool, List, [], ◌++◌, slice_get, codes, string_bytes, Option, Some, None}
+use Rattle.std.specs.Prelude.{Ok, Err, if◌then◌else◌}
 use Rattle.std.specs.Fmt.{decimal}
 use Rattle.std.specs.List.{flat_map}
 use Rattle.std.specs.Option.{option_map_or}
@@ -82,7 +83,8 @@ pub record HasBadHistory (history_file text : List ℕ) (status : Status) (out e
 -- what `replay` answers for a program and a history file's text
 pub data IsReplayed (judging : Judging) (history_file text : List ℕ) (plan : Plan) (status : Status) (out err : List ℕ) : Type 0 where
   judged : IsJudged judging text plan status out err → IsReplayed judging history_file text plan status out err
-  bad_history : HasBadHistory history_file text status out err → IsReplayed judging history_file text plan status out err
+  bad_history : HasBadHistory history_file text status out err →
+      IsReplayed judging history_file text plan status out err
 
 -- and for a program's text and a history file's
 abbrev pub ReplayAnswers : Judging → List ℕ → List ℕ → List ℕ → List ℕ → Status → List ℕ → List ℕ → Type 0

@@ -24,7 +24,8 @@ pub record IsTold (moves : Bool) (text items : List ℕ) (plan : Plan) (status :
 -- what `trace` answers for a program with this text and a steps file's text, where instructions are told or not
 pub data IsTraceAnswer (moves : Bool) (steps_file text items : List ℕ) (plan : Plan) (status : Status) (out err : List ℕ) : Type 0 where
   traced : IsTold moves text items plan status out err → IsTraceAnswer moves steps_file text items plan status out err
-  bad_steps : HasBadSteps steps_file items plan status out err → IsTraceAnswer moves steps_file text items plan status out err
+  bad_steps : HasBadSteps steps_file items plan status out err →
+      IsTraceAnswer moves steps_file text items plan status out err
 
 -- and for a program's text and a steps file's
 abbrev pub TraceAnswers : Bool → List ℕ → List ℕ → List ℕ → List ℕ → Status → List ℕ → List ℕ → Type 0

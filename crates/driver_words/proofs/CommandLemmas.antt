@@ -1,11 +1,13 @@
 -- What a command is after one more argument or subcommand.
 use Rattle.std.proofs.Common.{◌≡◌, ◌∙◌, ap, ap₂, refl, true, false}
-use Rattle.clap.specs.Words.{App, Rule, AddsArg, AddsSubcommand, is_simple, is_simple_and_free, rule_of, with_rule, with_subcommand}
+use Rattle.clap.specs.Words.{App, Rule, AddsArg, AddsSubcommand, is_simple, is_simple_and_free, rule_of, with_rule}
+use Rattle.clap.specs.Words.{with_subcommand}
 use Rattle.clap.specs.declared.builder.arg.Arg.{Arg}
 use Rattle.clap.specs.declared.builder.command.Command.{Command}
 use Rattle.driver_words.specs.Commands.{IsCommand, autolock}
 
-pub arg_is : (old new : Command) (arg : Arg) (a : App) (r : Rule) → IsCommand a old → rule_of arg ≡ r → arg.global ≡ false
+pub arg_is : (old new : Command) (arg : Arg) (a : App) (r : Rule) → IsCommand a old → rule_of arg ≡ r →
+    arg.global ≡ false
     → AddsArg old arg new → IsCommand (with_rule a r) new
 arg_is old new arg a r is rule local adds =
     (adds.shape local ∙ ap₂ with_rule is.0 rule, adds.globals ∙ rw (is.1, local) refl)

@@ -13,6 +13,7 @@ met_rows None name rows named given = cc
 met_rows (Some b) name rows named given = cc
 
 -- none was met where it has no rows
-pub not_met : {Z : Type 0} (o : Option (Box SubCommand Z)) → option_map (λ p. p.1) (subcommand_rows o) ≡ None → subcommand_rows o ≡ None
+pub not_met : {Z : Type 0} (o : Option (Box SubCommand Z)) → option_map (λ p. p.1) (subcommand_rows o) ≡ None →
+    subcommand_rows o ≡ None
 not_met None given = refl
 not_met (Some b) given = cc

@@ -7,7 +7,8 @@ use Rattle.clap.specs.declared.error.Error.{Error}
 use Rattle.clap.specs.declared.error.kind.ErrorKind.TheVariants.{MissingSubcommand}
 use Rattle.driver_words.specs.Commands.{autolock}
 use Rattle.driver_words.specs.declared.line.Line.{Line}
-use Rattle.driver_words.specs.declared.line.Line.TheVariants.{Check, Explain, Order, Listing, Serial, Outcomes, Simulate, Trace, Run, Replay}
+use Rattle.driver_words.specs.declared.line.Line.TheVariants.{Check, Explain, Order, Listing, Serial, Outcomes}
+use Rattle.driver_words.specs.declared.line.Line.TheVariants.{Simulate, Trace, Run, Replay}
 
 -- the value of a name, or nothing
 abbrev pub name_in : Text → List Row → Text

@@ -1,5 +1,7 @@
 -- A line that is cut to one byte more than is shown is shown alike.
-use Rattle.std.proofs.Common.{◌≡◌, ◌∙◌, ◌<◌, ◌≤◌, ◌+◌, ◌-◌, ◌++◌, ℕ, Bool, true, false, List, [], ◌∷◌, zero, suc, cond, take, drop, length, min, reverse, refl, sym, ap, arith, ⊎_elim, lt-ltb, length-drop}
+use Rattle.std.proofs.Common.{◌≡◌, ◌∙◌, ◌<◌, ◌≤◌, ◌+◌, ◌-◌, ◌++◌, ℕ, Bool, true, false, List, [], ◌∷◌, zero, suc}
+use Rattle.std.proofs.Common.{cond, take, drop, length, min, reverse, refl, sym, ap, arith, ⊎_elim, lt-ltb}
+use Rattle.std.proofs.Common.{length-drop}
 use Rattle.std.proofs.lemmas.Bool.{cases_lt}
 use Rattle.std.proofs.lemmas.List.{take-append-drop, take-append-le, take_all, reverse-append, length-reverse}
 use Rattle.std.specs.List.{prefix_len, suffix_len}
@@ -45,11 +47,13 @@ last_reversed n xs =
     ap (λ i. reverse (drop i xs)) none ∙ sym (take_all n (reverse xs) (omega (arith, length-reverse xs))))
     (cases_lt n (length xs))
 
-pub suffix_of_drop : (n : ℕ) (xs : List ℕ) → suffix_len is_in_line (drop (length xs - n) xs) ≡ min n (suffix_len is_in_line xs)
+pub suffix_of_drop : (n : ℕ) (xs : List ℕ) →
+    suffix_len is_in_line (drop (length xs - n) xs) ≡ min n (suffix_len is_in_line xs)
 suffix_of_drop n xs = ap (prefix_len is_in_line) (last_reversed n xs) ∙ prefix_of_take n (reverse xs)
 
 -- the same for a cut that is no longer than the list
-pub suffix_of_last : (n : ℕ) (xs : List ℕ) → suffix_len is_in_line (drop (length xs - min (length xs) n) xs) ≡ min n (suffix_len is_in_line xs)
+pub suffix_of_last : (n : ℕ) (xs : List ℕ) →
+    suffix_len is_in_line (drop (length xs - min (length xs) n) xs) ≡ min n (suffix_len is_in_line xs)
 suffix_of_last n xs =
     let same : length xs - min (length xs) n ≡ length xs - n = omega arith in
     ap (λ i. suffix_len is_in_line (drop i xs)) same ∙ suffix_of_drop n xs

@@ -1,5 +1,6 @@
 -- The edges of a cycle one by one, and notes on them put together.
-use Rattle.std.proofs.Common.{◌≡◌, ◌∙◌, ◌<◌, ◌+◌, ◌++◌, ℕ, zero, suc, List, [], ◌∷◌, length, drop, map, Some, refl, sym, ap, arith, append_assoc, get_or}
+use Rattle.std.proofs.Common.{◌≡◌, ◌∙◌, ◌<◌, ◌+◌, ◌++◌, ℕ, zero, suc, List, [], ◌∷◌, length, drop, map, Some, refl}
+use Rattle.std.proofs.Common.{sym, ap, arith, append_assoc, get_or}
 use Rattle.std.specs.Prelude.{slice_get}
 use Rattle.std.proofs.lemmas.List.{map-append}
 use Rattle.std.proofs.lemmas.Option.{same_Some}
@@ -11,7 +12,8 @@ use Rattle.explanation_cycles.specs.CycleNotes.{class_of_next, TellsEdge, TellsW
 use Rattle.explanation_cycles.specs.Working.Tellers.{IsMade}
 
 -- one more element behind two
-pub map_behind : {A B : Type 0} (f : A → B) (old : List B) (between new : List A) (one two : B) (a : A) → map f between ≡ old ++ one ∷ two ∷ [] →
+pub map_behind : {A B : Type 0} (f : A → B) (old : List B) (between new : List A) (one two : B) (a : A) →
+    map f between ≡ old ++ one ∷ two ∷ [] →
     new ≡ between ++ a ∷ [] → map f new ≡ old ++ one ∷ two ∷ f a ∷ []
 map_behind f old between new one two a e g =
     ap (map f) g ∙ map-append f between (a ∷ []) ∙ ap (λ l. l ++ f a ∷ []) e ∙ append_assoc old (one ∷ two ∷ []) (f a ∷ [])
@@ -32,7 +34,8 @@ module _ (program : Typed) (first : ℕ) where
   made_at (d ∷ f ∷ rest) (suc i) e all at = made_at (f ∷ rest) i e all.1 at
 
   -- notes on an edge go ahead of those on the ones behind it
-  pub told_ahead : (edges : List Edge) (e : Edge) (rest : List Edge) (usage binding way : Note) (more : List Note) → edges ≡ e ∷ rest →
+  pub told_ahead : (edges : List Edge) (e : Edge) (rest : List Edge) (usage binding way : Note) (more : List Note) →
+      edges ≡ e ∷ rest →
       TellsEdge program e (class_of_next first rest) usage binding → TellsWayOut program e way → TellEdges program first rest more →
       TellEdges program first edges (usage ∷ binding ∷ way ∷ more)
   told_ahead edges e rest usage binding way more is one out others = rw is (one, out, others)

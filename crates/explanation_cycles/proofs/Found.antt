@@ -1,11 +1,13 @@
 -- A path that a point uses, or whose root it binds, is among those of the section.
-use Rattle.std.proofs.Common.{◌≡◌, ◌∙◌, ◌<◌, ◌≤◌, ℕ, Bool, true, false, List, length, Option, Some, None, refl, sym, ap, subst, map, get_or, arith, eqb-true, eq-eqb}
+use Rattle.std.proofs.Common.{◌≡◌, ◌∙◌, ◌<◌, ◌≤◌, ℕ, Bool, true, false, List, length, Option, Some, None, refl, sym}
+use Rattle.std.proofs.Common.{ap, subst, map, get_or, arith, eqb-true, eq-eqb}
 use Rattle.std.specs.Prelude.{◌==◌, slice_get}
 use Rattle.std.specs.Option.{option_map}
 use Rattle.std.specs.List.{Contains}
 use Rattle.std.specs.Bool.{Decides}
 use Rattle.std.proofs.lemmas.List.{length-map}
-use Rattle.std.proofs.lemmas.Option.{none-some, same_Some, slice_get_within, slice_get_read, slice_get-map, slice_get-get_or, get_or_from_slice_get}
+use Rattle.std.proofs.lemmas.Option.{none-some, same_Some, slice_get_within, slice_get_read, slice_get-map}
+use Rattle.std.proofs.lemmas.Option.{slice_get-get_or, get_or_from_slice_get}
 use Rattle.core_lang.specs.declared.tree.Section.{Section}
 use Rattle.core_lang.specs.declared.typed.Typed.{Typed}
 use Rattle.flow.specs.declared.points.PointRef.{PointRef}
@@ -23,7 +25,8 @@ use Rattle.lockpaths.specs.declared.table.SectionPaths.{SectionPaths}
 use Rattle.lockpaths.specs.Paths.{AreSectionPaths}
 use Rattle.explanation_cycles.specs.Working.Tellers.{HasClass, BeginsAt, IsUsedPath, IsBoundPath, begins}
 
-map_some : {A B : Type 0} (f : A → B) (o : Option A) (y : B) → option_map f o ≡ Some y → (x : A) × (o ≡ Some x) × (f x ≡ y)
+map_some : {A B : Type 0} (f : A → B) (o : Option A) (y : B) → option_map f o ≡ Some y →
+    (x : A) × (o ≡ Some x) × (f x ≡ y)
 map_some f None y e = absurd (none-some y e)
 map_some f (Some x) y e = (x, refl, same_Some (f x) y e)
 
@@ -39,7 +42,8 @@ module _ (program : Typed) (section : Section) (x : SectionPaths) (are : AreSect
   abbrev paths : List LockPath
   paths = lock_paths program section
 
-  pub listed_at : (i : ℕ) (w : written.LockPath) → slice_get x.paths.items i ≡ Some w → slice_get paths i ≡ Some (lock_path_of w)
+  pub listed_at : (i : ℕ) (w : written.LockPath) → slice_get x.paths.items i ≡ Some w →
+      slice_get paths i ≡ Some (lock_path_of w)
   listed_at i w e =
       ap (λ l. slice_get l i) (sym are.paths) ∙ slice_get-map lock_path_of x.paths.items i ∙ ap (option_map lock_path_of) e
 
@@ -73,7 +77,8 @@ module _ (program : Typed) (section : Section) (x : SectionPaths) (are : AreSect
       λ h. eq-eqb w.class class (ap (λ (p : LockPath). p.class) (sym (same_path h.path h.listed)) ∙ h.of_class),
     )
 
-    pub root_decides : (local : Option ℕ) → w.class ≡ class → Decides (begins w.root local) (BeginsAt program section local class i)
+    pub root_decides : (local : Option ℕ) → w.class ≡ class →
+        Decides (begins w.root local) (BeginsAt program section local class i)
     root_decides local same = (
       λ e. record { path = lock_path_of w; listed = listed_at i w there; begins = e; of_class = same },
       λ h. subst (λ (p : LockPath). begins p.root local ≡ true) (same_path h.path h.listed) h.begins,
@@ -83,7 +88,8 @@ module _ (program : Typed) (section : Section) (x : SectionPaths) (are : AreSect
     other_class local other h = other (ap (λ (p : LockPath). p.class) (sym (same_path h.path h.listed)) ∙ h.of_class)
 
   -- a path of the class that the set of a point has is used there
-  pub used_at : (p class i : ℕ) (set : PathSet) → slice_get x.used.items p ≡ Some set → HasClass program section class i →
+  pub used_at : (p class i : ℕ) (set : PathSet) → slice_get x.used.items p ≡ Some set →
+      HasClass program section class i →
       has set i ≡ true → UsesClass program section p class
   used_at p class i set there h e = (h.path, (are.used.1 p i set h.path there h.listed).0 e, h.of_class)
 
@@ -93,7 +99,8 @@ module _ (program : Typed) (section : Section) (x : SectionPaths) (are : AreSect
       let b = begins_bound h.path.root (bound_at point) h.begins in
       record { path = h.path; listed = h.listed; binds = (b.0, b.1, (point, at, b.2)); of_class = h.of_class }
 
-  pub begins_at_bound : (p class : ℕ) (point : Point) (i : ℕ) (path : LockPath) → slice_get (points section) p ≡ Some point →
+  pub begins_at_bound : (p class : ℕ) (point : Point) (i : ℕ) (path : LockPath) →
+      slice_get (points section) p ≡ Some point →
       slice_get paths i ≡ Some path → BindsRoot section p path → path.class ≡ class → BeginsAt program section (bound_at point) class i
   begins_at_bound p class point i path at e b of_class =
       let same = same_Some b.2.0 point (sym b.2.1 ∙ at) in
@@ -105,21 +112,24 @@ module _ (program : Typed) (section : Section) (x : SectionPaths) (are : AreSect
       }
 
   module _ (listed : UsedAreListed) where
-    pub used_found : (p class : ℕ) → UsesClass program section p class → (set : PathSet) → slice_get x.used.items p ≡ Some set → (n : ℕ) →
+    pub used_found : (p class : ℕ) → UsesClass program section p class → (set : PathSet) →
+        slice_get x.used.items p ≡ Some set → (n : ℕ) →
         length x.paths.items ≤ n → ((k : ℕ) → k < n → HasClass program section class k → has set k ≡ true → ⊥) → ⊥
     used_found p class (path, uses, of_class) set there n many none =
         let i = number_of listed p path uses in
         let within : i.0 < n = omega (arith, listed_within i.0 path i.1) in
         none i.0 within (record { path = path; listed = i.1; of_class = of_class }) ((are.used.1 p i.0 set path there i.1).1 uses)
 
-    pub bound_found : (p class : ℕ) → BindsClass program section p class → (point : Point) → slice_get (points section) p ≡ Some point →
+    pub bound_found : (p class : ℕ) → BindsClass program section p class → (point : Point) →
+        slice_get (points section) p ≡ Some point →
         (n : ℕ) → length x.paths.items ≤ n → ((k : ℕ) → k < n → BeginsAt program section (bound_at point) class k → ⊥) → ⊥
     bound_found p class (path, user, uses, binds, of_class) point at n many none =
         let i = number_of listed user path uses in
         let within : i.0 < n = omega (arith, listed_within i.0 path i.1) in
         none i.0 within (begins_at_bound p class point i.0 path at i.1 binds of_class)
 
-    pub used_somewhere : (i : ℕ) (path : LockPath) → slice_get paths i ≡ Some path → (p : ℕ) × Uses program section p path
+    pub used_somewhere : (i : ℕ) (path : LockPath) → slice_get paths i ≡ Some path →
+        (p : ℕ) × Uses program section p path
     used_somewhere i path e =
         (listed program section path).0 (i, slice_get_within paths i path e, get_or_from_slice_get paths i path path e)
 
@@ -132,5 +142,6 @@ point_there section ps p q same lt is =
     ∙ ap (option_map point_at) (slice_get_read ps (length ps) p q refl few is)
 
 -- a point that binds is one of the section's
-pub bound_within : (program : Typed) (section : Section) (p class : ℕ) → BindsClass program section p class → p < length (points section)
+pub bound_within : (program : Typed) (section : Section) (p class : ℕ) → BindsClass program section p class →
+    p < length (points section)
 bound_within program section p class (path, user, uses, binds, of_class) = slice_get_within (points section) p binds.2.0 binds.2.1

@@ -9,7 +9,8 @@ use Rattle.explanation_cycles.specs.OrderNotes.{pair_note, TellPairs}
 use Rattle.explanation_cycles.specs.Working.Tellers.{AddsPair, AddsPairs}
 
 -- one more element, ahead of those that come
-pub map_one_more : {A B : Type 0} (f : A → B) (xs ys : List A) (a : A) (b : B) (rest : List B) → ys ≡ xs ++ a ∷ [] → f a ≡ b →
+pub map_one_more : {A B : Type 0} (f : A → B) (xs ys : List A) (a : A) (b : B) (rest : List B) → ys ≡ xs ++ a ∷ [] →
+    f a ≡ b →
     map f ys ++ rest ≡ map f xs ++ b ∷ rest
 map_one_more f xs ys a b rest e g =
     ap (λ l. map f l ++ rest) e ∙ ap (λ l. l ++ rest) (map-append f xs (a ∷ [])) ∙ append_assoc (map f xs) (f a ∷ []) rest

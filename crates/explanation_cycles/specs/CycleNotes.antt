@@ -70,8 +70,10 @@ on_no_place words = record { start = None; words = words }
 
 -- of a section's point of this number that binds, the note says whether it uses a lock of the class, with a way out for either
 pub data TellsWay (program : Typed) (section : Section) (p class : ℕ) (note : Note) : Type 0 where
-  apart : (UsesClass program section p class → ⊥) → note ≡ on_no_place (apart_words program class) → TellsWay program section p class note
-  within : UsesClass program section p class → note ≡ on_no_place (within_words program class) → TellsWay program section p class note
+  apart : (UsesClass program section p class → ⊥) → note ≡ on_no_place (apart_words program class) →
+      TellsWay program section p class note
+  within : UsesClass program section p class → note ≡ on_no_place (within_words program class) →
+      TellsWay program section p class note
 
 -- of an edge, in its section
 pub record TellsWayOut (program : Typed) (e : Edge) (way : Note) : Type 0 where

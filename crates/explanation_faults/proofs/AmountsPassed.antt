@@ -1,5 +1,6 @@
 -- Objects, cells and calls past their limits.
-use Rattle.std.proofs.Common.{◌≡◌, ◌∙◌, ℕ, ◌+◌, ◌-◌, ◌<◌, ◌≤◌, zero, suc, Bool, true, false, List, [], ◌∷◌, take, Option, Some, None, refl, sym, ap, add-one, arith, eq-eqb, lt-ltb}
+use Rattle.std.proofs.Common.{◌≡◌, ◌∙◌, ℕ, ◌+◌, ◌-◌, ◌<◌, ◌≤◌, zero, suc, Bool, true, false, List, [], ◌∷◌, take}
+use Rattle.std.proofs.Common.{Option, Some, None, refl, sym, ap, add-one, arith, eq-eqb, lt-ltb}
 use Rattle.std.proofs.lemmas.Bool.{eqb-true, ltb-true, ltb-false, le-ltb, leb-true, leb-false, le-leb, lt-leb, ne_eqb}
 use Rattle.std.proofs.lemmas.Option.{same_Some}
 use Rattle.std.proofs.lemmas.Slice.Eq.{bytes_eq-Decides}
@@ -26,10 +27,12 @@ begun at (Some x) is = (x, refl, eqb-true x.span.start at is)
 begun at None is = absurd cc
 
 module _ (of : Decl → ℕ) (at : ℕ) where
-  pub over_here : (room : ℕ) (d : Decl) (ds : List Decl) → room < of d → first_over of at room (d ∷ ds) ≡ begins at (declared d)
+  pub over_here : (room : ℕ) (d : Decl) (ds : List Decl) → room < of d →
+      first_over of at room (d ∷ ds) ≡ begins at (declared d)
   over_here room d ds more = if_true (nat_lt room (of d)) _ _ (lt-ltb room (of d) more)
 
-  pub over_later : (room : ℕ) (d : Decl) (ds : List Decl) → of d ≤ room → first_over of at room (d ∷ ds) ≡ first_over of at (room - of d) ds
+  pub over_later : (room : ℕ) (d : Decl) (ds : List Decl) → of d ≤ room →
+      first_over of at room (d ∷ ds) ≡ first_over of at (room - of d) ds
   over_later room d ds few = if_false (nat_lt room (of d)) _ _ (le-ltb room (of d) few)
 
   over_front : (room : ℕ) (d : Decl) (ds : List Decl) (b : Bool) → nat_lt room (of d) ≡ b →
@@ -57,7 +60,8 @@ module _ (of : Decl → ℕ) (at : ℕ) where
   over_if room [] is = absurd cc
   over_if room (d ∷ ds) is = over_front room d ds (nat_lt room (of d)) refl is (over_if (room - of d) ds)
 
-  over_there : (room : ℕ) (ds : List Decl) (k : ℕ) (d : Decl) (x : Ident) → slice_get ds k ≡ Some d → declared d ≡ Some x → x.span.start ≡ at →
+  over_there : (room : ℕ) (ds : List Decl) (k : ℕ) (d : Decl) (x : Ident) → slice_get ds k ≡ Some d →
+      declared d ≡ Some x → x.span.start ≡ at →
       total of (take k ds) ≤ room → room < total of (take k ds) + of d → first_over of at room ds ≡ true
   over_there room [] k d x listed named starts few many = absurd cc
   over_there room (e ∷ ds) zero d x listed named starts few many =
@@ -71,7 +75,8 @@ module _ (of : Decl → ℕ) (at : ℕ) where
   pub over_so : (room : ℕ) (ds : List Decl) → IsFirstOver of ds at room → first_over of at room ds ≡ true
   over_so room ds p = over_there room ds p.place p.decl p.name p.listed p.named p.starts p.few p.many
 
-  pub total_next : (ds : List Decl) (k : ℕ) (d : Decl) → slice_get ds k ≡ Some d → total of (take (suc k) ds) ≡ total of (take k ds) + of d
+  pub total_next : (ds : List Decl) (k : ℕ) (d : Decl) → slice_get ds k ≡ Some d →
+      total of (take (suc k) ds) ≡ total of (take k ds) + of d
   total_next [] k d listed = absurd cc
   total_next (e ∷ ds) zero d listed = let same = ap of (same_Some e d listed) in omega (arith, same)
   total_next (e ∷ ds) (suc k) d listed = let rest = total_next ds k d listed in omega (arith, rest)
@@ -94,11 +99,13 @@ pub ends_by : (a b : Bool) → a ≡ false → (if a then false else b) ≡ b
 ends_by true b over = absurd cc
 ends_by false b over = refl
 
-total_more : (of : Decl → ℕ) (at : ℕ) (ds : List Decl) (k : ℕ) (d : Decl) → slice_get ds k ≡ Some d → total of (take (k + 1) ds) ≡ total of (take k ds) + of d
+total_more : (of : Decl → ℕ) (at : ℕ) (ds : List Decl) (k : ℕ) (d : Decl) → slice_get ds k ≡ Some d →
+    total of (take (k + 1) ds) ≡ total of (take k ds) + of d
 total_more of at ds k d listed = ap (λ (n : ℕ). total of (take n ds)) (add-one k) ∙ total_next of at ds k d listed
 
 -- the thread at this place is the one
-pub is_last : (decls : List Decl) (at k : ℕ) (d : Decl) → slice_get decls k ≡ Some d → begins at (declared d) ≡ true → ends_few decls k ≡ true →
+pub is_last : (decls : List Decl) (at k : ℕ) (d : Decl) → slice_get decls k ≡ Some d → begins at (declared d) ≡ true →
+    ends_few decls k ≡ true →
     IsFirstOver calls_of decls at CALL_LIMIT
 is_last decls at k d listed starts ends =
     let b = begun at (declared d) starts in
@@ -132,12 +139,14 @@ ends_there decls at p =
 -- ---- the cells of an object
 
 -- the first of a name is the one at this place, or one ahead
-self_first : (ms : List Member) (q : List ℕ) (n k : ℕ) (m : Member) → slice_get ms k ≡ Some m → member_bears m q ≡ true →
+self_first : (ms : List Member) (q : List ℕ) (n k : ℕ) (m : Member) → slice_get ms k ≡ Some m →
+    member_bears m q ≡ true →
     is_at (n + k) (place_from (λ x. member_bears x q) n ms) ≡ not (is_some (place_from (λ x. member_bears x q) n (take k ms)))
 self_first [] q n k m listed bears = absurd cc
 self_first (x ∷ xs) q n zero m listed bears = here (member_bears x q) (ap (λ (y : Member). member_bears y q) (same_Some x m listed) ∙ bears)
   where
-    here : (b : Bool) → b ≡ true → is_at (n + 0) (if b then Some n else place_from (λ y. member_bears y q) (suc n) xs) ≡ true
+    here : (b : Bool) → b ≡ true →
+        is_at (n + 0) (if b then Some n else place_from (λ y. member_bears y q) (suc n) xs) ≡ true
     here true is = eq-eqb n (n + 0) (omega arith)
     here false is = absurd cc
 self_first (x ∷ xs) q n (suc k) m listed bears = by_front (member_bears x q) (self_first xs q (suc n) k m listed bears)
@@ -150,7 +159,8 @@ self_first (x ∷ xs) q n (suc k) m listed bears = by_front (member_bears x q) (
     by_front false rest =
         ap (λ (i : ℕ). is_at i (place_from (λ y. member_bears y q) (suc n) xs)) (let e : n + suc k ≡ suc n + k = omega arith in e) ∙ rest
 
-new_if : (b : Bool) (o : Option ℕ) (f : Field) → b ≡ not (is_some o) → (if b then 1 else 0) ≡ new_field o (field_member f)
+new_if : (b : Bool) (o : Option ℕ) (f : Field) → b ≡ not (is_some o) →
+    (if b then 1 else 0) ≡ new_field o (field_member f)
 new_if true (Some i) f is = absurd cc
 new_if true None f is = refl
 new_if false (Some i) f is = refl
@@ -176,7 +186,8 @@ counted_new ms k (field_member f) listed =
 
 -- ---- none of the three
 
-pub none_amount : (decls : List Decl) (at : ℕ) → first_over objects_of at OBJECT_LIMIT decls ≡ false → first_over (cells_of decls) at CELL_LIMIT decls ≡ false →
+pub none_amount : (decls : List Decl) (at : ℕ) → first_over objects_of at OBJECT_LIMIT decls ≡ false →
+    first_over (cells_of decls) at CELL_LIMIT decls ≡ false →
     (IsFirstOver calls_of decls at CALL_LIMIT → ⊥) → (words : List ℕ) → IsAmountPassed decls at words → ⊥
 none_amount decls at few_objects few_cells few words (objects p) =
     let e : false ≡ true = sym few_objects ∙ over_so objects_of at OBJECT_LIMIT decls p in absurd cc

@@ -5,11 +5,13 @@ use denote.Ref.{Bor}
 use Rattle.syntax.specs.declared.tree.Name.{Name}
 use Rattle.syntax.specs.Trees.{Ident, Decl}
 use Rattle.resolution.specs.Scopes.{has_body}
-use Rattle.explanation_faults.specs.NameSpaces.{inner_names, top_names, Repeats, Bears, IsDeclaredIn, inside, outside, IsDeclaredAs, at_the_top, in_one}
+use Rattle.explanation_faults.specs.NameSpaces.{inner_names, top_names, Repeats, Bears, IsDeclaredIn, inside, outside}
+use Rattle.explanation_faults.specs.NameSpaces.{IsDeclaredAs, at_the_top, in_one}
 use Rattle.explanation_faults.proofs.Places.{has_at}
 use Rattle.explanation_faults.specs.Working.Values.{FoundName}
 
-pub found_alike : (P Q : Ident → Type 0) (o : Option (Bor Name)) → ((x : Ident) → P x → Q x) → ((x : Ident) → Q x → P x) → FoundName P o → FoundName Q o
+pub found_alike : (P Q : Ident → Type 0) (o : Option (Bor Name)) → ((x : Ident) → P x → Q x) →
+    ((x : Ident) → Q x → P x) → FoundName P o → FoundName Q o
 found_alike P Q None to back none = λ x q. none x (back x q)
 found_alike P Q (Some name) to back is = to _ is
 
@@ -25,7 +27,8 @@ module _ (top names : List Ident) (d : Decl) (at : ℕ) (same : names ≡ inner_
     out_alone x (inside r) = absurd (not_inside x r)
     out_alone x (outside body b) = subst (λ (l : List Ident). Bears top l at x) (sym same) b
 
-    pub of_body : (o : Option (Bor Name)) → has_body d ≡ true → FoundName (Bears top names at) o → FoundName (IsDeclaredIn top d at) o
+    pub of_body : (o : Option (Bor Name)) → has_body d ≡ true → FoundName (Bears top names at) o →
+        FoundName (IsDeclaredIn top d at) o
     of_body o body found =
         found_alike (Bears top names at) (IsDeclaredIn top d at) o
         (λ x b. outside body (subst (λ (l : List Ident). Bears top l at x) same b)) out_alone found

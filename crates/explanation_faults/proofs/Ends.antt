@@ -1,5 +1,6 @@
 -- Whether statements end in a return, and which sections lack one.
-use Rattle.std.proofs.Common.{◌≡◌, ◌∙◌, ◌-◌, ◌≤◌, ℕ, suc, Bool, true, false, List, [], ◌∷◌, length, get_or, Option, Some, None, refl, sym, ap, subst, arith}
+use Rattle.std.proofs.Common.{◌≡◌, ◌∙◌, ◌-◌, ◌≤◌, ℕ, suc, Bool, true, false, List, [], ◌∷◌, length, get_or, Option}
+use Rattle.std.proofs.Common.{Some, None, refl, sym, ap, subst, arith}
 use Rattle.std.specs.Option.{option_map}
 use denote.Ref.{Bor}
 use Rattle.source.specs.declared.span.Span.{Span}
@@ -38,7 +39,8 @@ other_test (the_stmt.Call at c) h = refl
 one_less : (n : ℕ) → suc (suc n) - 1 ≡ suc (suc n - 1)
 one_less n = omega arith
 
-pub last_is_return : (xs : List the_stmt.Stmt) (x : the_stmt.Stmt) (at : Span) (e : the_expr.Expr) → 1 ≤ length xs → x ≡ get_or xs (length xs - 1) x → x ≡ Return at e →
+pub last_is_return : (xs : List the_stmt.Stmt) (x : the_stmt.Stmt) (at : Span) (e : the_expr.Expr) → 1 ≤ length xs →
+    x ≡ get_or xs (length xs - 1) x → x ≡ Return at e →
     EndsInReturn (stmts_of xs)
 last_is_return [] x at e some last is = absurd (omega arith)
 last_is_return (y ∷ []) x at e some last is = rw (sym last ∙ is) (last_returns is_return)
@@ -55,7 +57,8 @@ one_ends s no_return (ends_later h) = none_ends h
 more_ends : (s t : Stmt) (more : Stmts) → EndsInReturn (stmt s (stmt t more)) → EndsInReturn (stmt t more)
 more_ends s t more (ends_later h) = h
 
-pub last_is_other : (xs : List the_stmt.Stmt) (x : the_stmt.Stmt) → 1 ≤ length xs → x ≡ get_or xs (length xs - 1) x → IsOther x → EndsInReturn (stmts_of xs) → ⊥
+pub last_is_other : (xs : List the_stmt.Stmt) (x : the_stmt.Stmt) → 1 ≤ length xs → x ≡ get_or xs (length xs - 1) x →
+    IsOther x → EndsInReturn (stmts_of xs) → ⊥
 last_is_other [] x some last other h = absurd (omega arith)
 last_is_other (y ∷ []) x some last other h = one_ends (stmt_of y) (other_test y (subst IsOther last other)) h
 last_is_other (y ∷ z ∷ zs) x some last other h =
@@ -63,5 +66,6 @@ last_is_other (y ∷ z ∷ zs) x some last other h =
 
 -- ---- the section that a declaration is
 
-pub no_section : (o : Option (Bor the_section.Section)) (b : Option Section) (s : Section) → option_map section_at o ≡ b → o ≡ None → b ≡ Some s → ⊥
+pub no_section : (o : Option (Bor the_section.Section)) (b : Option Section) (s : Section) →
+    option_map section_at o ≡ b → o ≡ None → b ≡ Some s → ⊥
 no_section o b s seen none is = let e : None ≡ Some s = ap (option_map section_at) (sym none) ∙ seen ∙ is in cc

@@ -1,5 +1,6 @@
 -- Along annotations: what the code finds is the first member that is no final reference, or that a final reference is too many.
-use Rattle.std.proofs.Common.{◌≡◌, ◌∙◌, ◌+◌, ◌≤◌, ℕ, Bool, true, false, List, [], ◌∷◌, ◌++◌, length, Option, Some, None, refl, sym, ap, ap₂, subst, eq-eqb, length-append}
+use Rattle.std.proofs.Common.{◌≡◌, ◌∙◌, ◌+◌, ◌≤◌, ℕ, Bool, true, false, List, [], ◌∷◌, ◌++◌, length, Option, Some}
+use Rattle.std.proofs.Common.{None, refl, sym, ap, ap₂, subst, eq-eqb, length-append}
 use Rattle.std.specs.List.{cons_option, filter_map}
 use Rattle.std.specs.Option.{option_or}
 use Rattle.std.specs.Prelude.{◌==◌, ◌&&◌, nat_le, if◌then◌else◌, slice_get}
@@ -12,11 +13,13 @@ use Rattle.resolution.specs.Faults.{Reaches, stays, goes_on, walks}
 use Rattle.resolution.specs.Limits.{FINAL_LIMIT}
 use Rattle.resolution.specs.Scopes.{the_decl, the_member}
 use Rattle.resolution.specs.Where.{Has, annotates}
-use Rattle.syntax.specs.Trees.{Ident, Field, Final, Protection, Struct, Member, lock_member, final_member, field_member, Decl, lock, struct, global, array, pool, init, atomic, helper, thread}
+use Rattle.syntax.specs.Trees.{Ident, Field, Final, Protection, Struct, Member, lock_member, final_member}
+use Rattle.syntax.specs.Trees.{field_member, Decl, lock, struct, global, array, pool, init, atomic, helper, thread}
 use Rattle.explanation_faults.specs.FirstBy.{first_by}
 use Rattle.explanation_faults.specs.LimitsPassed.{AreFinalsPassed, finals_passed}
 use Rattle.explanation_faults.specs.Working.PassedFound.{beyond, met_along, met_at, met_by, met_for, met_of}
-use Rattle.explanation_faults.specs.PassedMembers.{next_members, passed_along, passed_at, passed_by, passed_for, passed_of, stopped_at}
+use Rattle.explanation_faults.specs.PassedMembers.{next_members, passed_along, passed_at, passed_by, passed_for}
+use Rattle.explanation_faults.specs.PassedMembers.{passed_of, stopped_at}
 use Rattle.explanation_faults.specs.declared.passed_members.Sought.TheVariants.{NonFinal, FinalTooMany}
 use Rattle.explanation_faults.proofs.FirstBy.{some_first, first_from}
 use Rattle.explanation_faults.proofs.PassedMembers.{gone_on}
@@ -24,7 +27,8 @@ use Rattle.explanation_faults.proofs.Places.{at_has, has_at}
 
 -- ---- a member that is no final reference
 
-same_by : {A B : Type 0} (f g : A → Option B) → ((x : A) → f x ≡ g x) → (xs : List A) → filter_map f xs ≡ filter_map g xs
+same_by : {A B : Type 0} (f g : A → Option B) → ((x : A) → f x ≡ g x) → (xs : List A) →
+    filter_map f xs ≡ filter_map g xs
 same_by f g same [] = refl
 same_by f g same (x ∷ xs) = ap₂ cons_option (same x) (same_by f g same xs)
 
@@ -76,7 +80,8 @@ both_so : (a b : Bool) → a ≡ true → b ≡ true → a && b ≡ true
 both_so true b e f = f
 both_so false b e f = absurd cc
 
-longer_at : (through : List ℕ) (n : ℕ) (o : Option (ℕ × Decl)) (next : AnnotationCursor) → at_struct through n o ≡ Some next →
+longer_at : (through : List ℕ) (n : ℕ) (o : Option (ℕ × Decl)) (next : AnnotationCursor) →
+    at_struct through n o ≡ Some next →
     length next.through ≡ length through + 1
 longer_at through n None next e = absurd cc
 longer_at through n (Some (i, struct s)) next e =
@@ -90,7 +95,8 @@ longer_at through n (Some (i, atomic x)) next e = absurd cc
 longer_at through n (Some (i, helper x)) next e = absurd cc
 longer_at through n (Some (i, thread x)) next e = absurd cc
 
-longer : (decls : List Decl) (st next : AnnotationCursor) (o : Option (ℕ × Member)) → through_member decls st o ≡ Some next →
+longer : (decls : List Decl) (st next : AnnotationCursor) (o : Option (ℕ × Member)) →
+    through_member decls st o ≡ Some next →
     length next.through ≡ length st.through + 1
 longer decls st next None e = absurd cc
 longer decls st next (Some (i, lock_member x)) e = absurd cc
@@ -98,12 +104,14 @@ longer decls st next (Some (i, field_member x)) e = absurd cc
 longer decls st next (Some (i, final_member f)) e =
     longer_at st.through (member_number st.members i (final_member f)) (the_decl decls f.target.text) next e
 
-own_of : (decls : List Decl) (st next : AnnotationCursor) (o : Option (ℕ × Member)) → through_member decls st o ≡ Some next →
+own_of : (decls : List Decl) (st next : AnnotationCursor) (o : Option (ℕ × Member)) →
+    through_member decls st o ≡ Some next →
     (own : ℕ × Member) × (o ≡ Some own)
 own_of decls st next None e = absurd cc
 own_of decls st next (Some own) e = (own, refl)
 
-has_own : (decls : List Decl) (st to : AnnotationCursor) (y name : Ident) (zs rest : List Ident) (x : ℕ × Member) → Reaches decls st y zs to name rest →
+has_own : (decls : List Decl) (st to : AnnotationCursor) (y name : Ident) (zs rest : List Ident) (x : ℕ × Member) →
+    Reaches decls st y zs to name rest →
     the_member to.members name.text ≡ Some x → (own : ℕ × Member) × (the_member st.members y.text ≡ Some own)
 has_own decls st to y name zs rest x stays here = (x, here)
 has_own decls st to y name zs rest x (goes_on {next = next} step on) here = own_of decls st next (the_member st.members y.text) step
@@ -134,7 +142,8 @@ module _ (decls : List Decl) (at : ℕ) (m : Member) where
   nothing_along first n y [] e = absurd cc
   nothing_along first n y (z ∷ zs) e = absurd cc
 
-  further_on : (first : Ident) (st next : AnnotationCursor) (y z : Ident) (zs : List Ident) → through_member decls st (the_member st.members y.text) ≡ Some next →
+  further_on : (first : Ident) (st next : AnnotationCursor) (y z : Ident) (zs : List Ident) →
+      through_member decls st (the_member st.members y.text) ≡ Some next →
       FarFrom first next z zs → FarFrom first st y (z ∷ zs)
   further_on first st next y z zs step far = record {
     to = far.to;
@@ -189,7 +198,8 @@ module _ (decls : List Decl) (at : ℕ) (m : Member) where
       }
   from_final first st y z zs i f false is here e on = from_next first st y z zs i f (the_decl decls f.target.text) here refl e on
 
-  from_found : (first : Ident) (st : AnnotationCursor) (y z : Ident) (zs : List Ident) (o : Option (ℕ × Member)) → the_member st.members y.text ≡ o →
+  from_found : (first : Ident) (st : AnnotationCursor) (y z : Ident) (zs : List Ident) (o : Option (ℕ × Member)) →
+      the_member st.members y.text ≡ o →
       option_or (beyond at first (length st.through) o) (comes first (length st.through + 1) (next_members decls o) z zs) ≡ Some m →
       Onward first st y z zs → FarFrom first st y (z ∷ zs)
   from_found first st y z zs None here e on = absurd (nothing_along first (length st.through + 1) z zs e)
@@ -197,12 +207,14 @@ module _ (decls : List Decl) (at : ℕ) (m : Member) where
   from_found first st y z zs (Some (i, field_member x)) here e on = absurd (nothing_along first (length st.through + 1) z zs e)
   from_found first st y z zs (Some (i, final_member f)) here e on = from_final first st y z zs i f _ refl here e on
 
-  far_from : (first : Ident) (st : AnnotationCursor) (y : Ident) (zs : List Ident) → comes first (length st.through) (Some st.members) y zs ≡ Some m →
+  far_from : (first : Ident) (st : AnnotationCursor) (y : Ident) (zs : List Ident) →
+      comes first (length st.through) (Some st.members) y zs ≡ Some m →
       FarFrom first st y zs
   far_from first st y [] e = absurd cc
   far_from first st y (z ∷ zs) e = from_found first st y z zs (the_member st.members y.text) refl e (λ next step is. far_from first next z zs is)
 
-  by_annotation : (s : Struct) (f : Field) (o : Option Protection) → Has decls (struct s) → Has s.members (field_member f) → f.protection ≡ o →
+  by_annotation : (s : Struct) (f : Field) (o : Option Protection) → Has decls (struct s) →
+      Has s.members (field_member f) → f.protection ≡ o →
       met_by (FinalTooMany at) decls s.members o ≡ Some m → AreFinalsPassed decls at
   by_annotation s f None has field is e = absurd cc
   by_annotation s f (Some p) has field is e =
@@ -211,7 +223,8 @@ module _ (decls : List Decl) (at : ℕ) (m : Member) where
       let own = has_own decls (cursor_at place.0 s.members) far.to p.first far.name p.rest (far.next ∷ far.rest) (far.i, final_member far.reference) far.reaches far.found in
       subst (AreFinalsPassed decls) far.begins (finals_passed (walks (annotates place.1 field is) own.1 far.reaches) far.found far.far)
 
-  in_member : (s : Struct) (x : Member) → Has decls (struct s) → Has s.members x → met_for (FinalTooMany at) decls s.members x ≡ Some m → AreFinalsPassed decls at
+  in_member : (s : Struct) (x : Member) → Has decls (struct s) → Has s.members x →
+      met_for (FinalTooMany at) decls s.members x ≡ Some m → AreFinalsPassed decls at
   in_member s (lock_member x) has field e = absurd cc
   in_member s (final_member x) has field e = absurd cc
   in_member s (field_member f) has field e = by_annotation s f f.protection has field refl e

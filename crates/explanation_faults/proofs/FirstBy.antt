@@ -1,5 +1,6 @@
 -- The first thing that a list gives.
-use Rattle.std.proofs.Common.{◌≡◌, ◌∙◌, ◌+◌, ◌<◌, ℕ, List, [], ◌∷◌, ◌++◌, length, map, drop, get_or, Option, Some, None, refl, sym, ap}
+use Rattle.std.proofs.Common.{◌≡◌, ◌∙◌, ◌+◌, ◌<◌, ℕ, List, [], ◌∷◌, ◌++◌, length, map, drop, get_or, Option, Some}
+use Rattle.std.proofs.Common.{None, refl, sym, ap}
 use Rattle.std.specs.List.{cons_option, filter_map}
 use Rattle.std.specs.Prelude.{slice_get}
 use Rattle.resolution.specs.Where.{Has, first, further}
@@ -13,7 +14,8 @@ module _ {A B : Type 0} (f : A → Option B) where
   of_rest : (o : Option B) (ys : List B) → o ≡ None → slice_get (cons_option o ys) 0 ≡ slice_get ys 0
   of_rest o ys is = ap (λ (p : Option B). slice_get (cons_option p ys) 0) is
 
-  further_some : (o : Option B) (ys : List B) → ((z : B) × (slice_get ys 0 ≡ Some z)) → (z : B) × (slice_get (cons_option o ys) 0 ≡ Some z)
+  further_some : (o : Option B) (ys : List B) → ((z : B) × (slice_get ys 0 ≡ Some z)) →
+      (z : B) × (slice_get (cons_option o ys) 0 ≡ Some z)
   further_some (Some y) ys rest = (y, refl)
   further_some None ys rest = rest
 
@@ -23,7 +25,8 @@ module _ {A B : Type 0} (f : A → Option B) where
   some_first (w ∷ xs) x y first is = (y, of_front (f w) y (filter_map f xs) is)
   some_first (w ∷ xs) x y (further has) is = further_some (f w) (filter_map f xs) (some_first xs x y has is)
 
-  from_front : (w : A) (ws : List A) (o : Option B) (y : B) → f w ≡ o → slice_get (cons_option o (filter_map f ws)) 0 ≡ Some y →
+  from_front : (w : A) (ws : List A) (o : Option B) (y : B) → f w ≡ o →
+      slice_get (cons_option o (filter_map f ws)) 0 ≡ Some y →
       (first_by f ws ≡ Some y → (x : A) × Has ws x × (f x ≡ Some y)) → (x : A) × Has (w ∷ ws) x × (f x ≡ Some y)
   from_front w ws (Some z) y gives is rest = (w, first, gives ∙ is)
   from_front w ws None y gives is rest = let r = rest is in (r.0, further r.1, r.2)
@@ -42,11 +45,13 @@ module _ {A B : Type 0} (f : A → Option B) where
     pub gives : f x ≡ Some y
     pub none : (z : A) → Has before z → f z ≡ None
 
-  none_front : (w : A) (ws : List A) → f w ≡ None → ((z : A) → Has ws z → f z ≡ None) → (z : A) → Has (w ∷ ws) z → f z ≡ None
+  none_front : (w : A) (ws : List A) → f w ≡ None → ((z : A) → Has ws z → f z ≡ None) → (z : A) → Has (w ∷ ws) z →
+      f z ≡ None
   none_front w ws is rest z first = is
   none_front w ws is rest z (further has) = rest z has
 
-  given_front : (w : A) (ws : List A) (o : Option B) (y : B) → f w ≡ o → slice_get (cons_option o (filter_map f ws)) 0 ≡ Some y →
+  given_front : (w : A) (ws : List A) (o : Option B) (y : B) → f w ≡ o →
+      slice_get (cons_option o (filter_map f ws)) 0 ≡ Some y →
       (first_by f ws ≡ Some y → Given ws y) → Given (w ∷ ws) y
   given_front w ws (Some z) y here is rest =
       record { before = []; x = w; behind = ws; parts = refl; gives = here ∙ is; none = λ v has. elim has [ ] }
@@ -65,7 +70,8 @@ module _ {A B : Type 0} (f : A → Option B) where
   given_by [] y is = absurd cc
   given_by (w ∷ ws) y is = given_front w ws (f w) y refl is (given_by ws y)
 
-  pub given_back : (before : List A) (x : A) (behind : List A) (y : B) → f x ≡ Some y → ((z : A) → Has before z → f z ≡ None) →
+  pub given_back : (before : List A) (x : A) (behind : List A) (y : B) → f x ≡ Some y →
+      ((z : A) → Has before z → f z ≡ None) →
       first_by f (before ++ x ∷ behind) ≡ Some y
   given_back [] x behind y gives none = of_front (f x) y (filter_map f behind) gives
   given_back (w ∷ before) x behind y gives none =
@@ -97,7 +103,8 @@ module _ {A B : Type 0} (f : A → Option B) (kind : B → A) (only : (w : A) (y
   not_front y w ws none rest first = let e = sym none ∙ gives y in cc
   not_front y w ws none rest (further has) = rest y has
 
-  first_front : (w : A) (ws : List A) (o : Option B) (y : B) → f w ≡ o → slice_get (cons_option o (filter_map f ws)) 0 ≡ Some y →
+  first_front : (w : A) (ws : List A) (o : Option B) (y : B) → f w ≡ o →
+      slice_get (cons_option o (filter_map f ws)) 0 ≡ Some y →
       (first_by f ws ≡ Some y → IsFirst kind ws y) → IsFirst kind (w ∷ ws) y
   first_front w ws (Some z) y here is rest =
       record { before = []; after = ws; parts = ap (λ (v : A). v ∷ ws) (only w y (here ∙ is)); none = λ z has. elim has [ ] }

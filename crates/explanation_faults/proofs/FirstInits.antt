@@ -1,5 +1,6 @@
 -- The first of the declarations that gives what an `init` gives.
-use Rattle.std.proofs.Common.{◌≡◌, ◌∙◌, ◌<◌, ◌+◌, ℕ, Bool, true, false, List, ◌∷◌, drop, length, map, get_or, Some, refl, sym, ap, add-one}
+use Rattle.std.proofs.Common.{◌≡◌, ◌∙◌, ◌<◌, ◌+◌, ℕ, Bool, true, false, List, ◌∷◌, drop, length, map, get_or, Some}
+use Rattle.std.proofs.Common.{refl, sym, ap, add-one}
 use Rattle.std.proofs.lemmas.List.{at_drop_more}
 use Rattle.syntax.specs.declared.tree.Decl as the_decl
 use Rattle.syntax.specs.declared.tree.Decl.TheVariants as decl_case
@@ -10,7 +11,8 @@ use Rattle.resolution.specs.Scopes.{place_from}
 use Rattle.explanation_faults.specs.Inits.{gives_same}
 
 -- what is no `init` gives nothing
-pub gives_nothing : (j : Init) (d : the_decl.Decl) → ((i : the_init.Init) → d ≡ decl_case.Init i → ⊥) → gives_same j (decl_of d) ≡ false
+pub gives_nothing : (j : Init) (d : the_decl.Decl) → ((i : the_init.Init) → d ≡ decl_case.Init i → ⊥) →
+    gives_same j (decl_of d) ≡ false
 gives_nothing j (decl_case.Lock x) none = refl
 gives_nothing j (decl_case.Struct x) none = refl
 gives_nothing j (decl_case.Global x) none = refl
@@ -30,14 +32,18 @@ module _ (j : Init) (ds : List the_decl.Decl) (k : ℕ) (d : the_decl.Decl) (is 
       at_drop_more (λ (l : List the_decl.Decl). place_from p k (map decl_of l)) ds k d lt
       ∙ ap (λ (x : the_decl.Decl). place_from p k (decl_of x ∷ map decl_of (drop (k + 1) ds))) (sym is)
 
-  pub first_here : gives_same j (decl_of d) ≡ true → place_from p k (map decl_of (drop k ds)) ≡ place_from p 0 (map decl_of ds) → place_from p 0 (map decl_of ds) ≡ Some k
+  pub first_here : gives_same j (decl_of d) ≡ true →
+      place_from p k (map decl_of (drop k ds)) ≡ place_from p 0 (map decl_of ds) →
+      place_from p 0 (map decl_of ds) ≡ Some k
   first_here gives before = sym before ∙ opened ∙ rw gives refl
 
-  pub not_here : gives_same j (decl_of d) ≡ false → place_from p k (map decl_of (drop k ds)) ≡ place_from p 0 (map decl_of ds) →
+  pub not_here : gives_same j (decl_of d) ≡ false →
+      place_from p k (map decl_of (drop k ds)) ≡ place_from p 0 (map decl_of ds) →
       place_from p (k + 1) (map decl_of (drop (k + 1) ds)) ≡ place_from p 0 (map decl_of ds)
   not_here gives before = ap (λ n. place_from p n (map decl_of (drop (k + 1) ds))) (add-one k) ∙ sym (opened ∙ rw gives refl) ∙ before
 
-pub no_init : (d : the_decl.Decl) → ((i : the_init.Init) → d ≡ decl_case.Init i → ⊥) → (j : Init) → decl_of d ≡ init j → ⊥
+pub no_init : (d : the_decl.Decl) → ((i : the_init.Init) → d ≡ decl_case.Init i → ⊥) → (j : Init) →
+    decl_of d ≡ init j → ⊥
 no_init (decl_case.Lock x) none j e = cc
 no_init (decl_case.Struct x) none j e = cc
 no_init (decl_case.Global x) none j e = cc

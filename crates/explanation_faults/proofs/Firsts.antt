@@ -21,17 +21,20 @@ pub same_name : (names : List (Bor Name)) (k : ℕ) (n : Bor Name) (x : Ident) �
 same_name names k n x is lt at = same_Some (ident_at n) x (sym (named_at names k n is lt) ∙ at)
 
 -- the first of those ahead of a place
-pub found_ahead : (names : List (Bor Name)) (j : ℕ) (q text : List ℕ) (o : Option ℕ) → o ≡ place_of ident_bears (idents (take j names)) q → q ≡ text →
+pub found_ahead : (names : List (Bor Name)) (j : ℕ) (q text : List ℕ) (o : Option ℕ) →
+    o ≡ place_of ident_bears (idents (take j names)) q → q ≡ text →
     place_of ident_bears (take j (idents names)) text ≡ o
 found_ahead names j q text o e same =
     ap (λ (l : List Ident). place_of ident_bears l text) (take-map ident_at j names) ∙ ap (place_of ident_bears (idents (take j names))) (sym same) ∙ sym e
 
-pub found_among : (names : List (Bor Name)) (q text : List ℕ) (o : Option ℕ) → o ≡ place_of ident_bears (idents names) q → q ≡ text →
+pub found_among : (names : List (Bor Name)) (q text : List ℕ) (o : Option ℕ) →
+    o ≡ place_of ident_bears (idents names) q → q ≡ text →
     place_of ident_bears (idents names) text ≡ o
 found_among names q text o e same = ap (place_of ident_bears (idents names)) (sym same) ∙ sym e
 
 pub within_ahead : (names : List (Bor Name)) (i j : ℕ) → i < length (take j names) → j < length names → i < length names
 within_ahead names i j lt more = omega (arith, length-take j names)
 
-pub place_within : (names : List (Bor Name)) (k : ℕ) (x : Ident) → slice_get (idents names) k ≡ Some x → k < length names
+pub place_within : (names : List (Bor Name)) (k : ℕ) (x : Ident) → slice_get (idents names) k ≡ Some x →
+    k < length names
 place_within names k x at = omega (arith, slice_get_within (idents names) k x at, length-map names ident_at)

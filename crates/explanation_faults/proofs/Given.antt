@@ -1,16 +1,20 @@
 -- Of an `init` that gives what another one gives the first is found.
-use Rattle.std.proofs.Common.{◌≡◌, ◌∙◌, ℕ, Bool, true, false, List, [], ◌∷◌, length, take, Option, Some, None, refl, sym, ap, subst, eq-eqb, eqb-true}
+use Rattle.std.proofs.Common.{◌≡◌, ◌∙◌, ℕ, Bool, true, false, List, [], ◌∷◌, length, take, Option, Some, None, refl}
+use Rattle.std.proofs.Common.{sym, ap, subst, eq-eqb, eqb-true}
 use Rattle.std.specs.Prelude.{slice_get, ◌==◌, ◌&&◌, ◌||◌, nat_lt, if◌then◌else◌}
 use Rattle.std.specs.Str.{bytes_eq}
 use Rattle.std.proofs.lemmas.Option.{same_Some}
 use Rattle.std.proofs.lemmas.Slice.Eq.{bytes_eq-Decides}
-use Rattle.syntax.specs.Trees.{Init, Decl, lock, struct, global, array, pool, init, atomic, helper, thread, Member, lock_member, final_member, field_member, Pool}
+use Rattle.syntax.specs.Trees.{Init, Decl, lock, struct, global, array, pool, init, atomic, helper, thread, Member}
+use Rattle.syntax.specs.Trees.{lock_member, final_member, field_member, Pool}
 use Rattle.resolution.specs.declared.init_target.InitTarget.{InitTarget}
-use Rattle.resolution.specs.Constants.{init_target_at, init_target_in, init_target_to, init_target_of, same_init_target, is_init_target, gives, members_of}
+use Rattle.resolution.specs.Constants.{init_target_at, init_target_in, init_target_to, init_target_of}
+use Rattle.resolution.specs.Constants.{same_init_target, is_init_target, gives, members_of}
 use Rattle.resolution.specs.Scopes.{◌>>=◌, bears, member_bears, member_name, named, place_of, the_decl, the_member}
 use Rattle.explanation_faults.specs.FaultNotes.{IsGivenAgain, given_again}
 use Rattle.explanation_faults.specs.Inits.{same_target, gives_same, IsFirstGiver, IsGivenFirst}
-use Rattle.explanation_faults.proofs.Places.{some_pass, found_passes, passing, passing_at, or_right, named_passes, at_front, take_front}
+use Rattle.explanation_faults.proofs.Places.{some_pass, found_passes, passing, passing_at, or_right, named_passes}
+use Rattle.explanation_faults.proofs.Places.{at_front, take_front}
 
 -- ---- what is named
 
@@ -32,7 +36,8 @@ module _ {A Q : Type 0} (is : A → Q → Bool) (xs : List A) (q : Q) (k : ℕ) 
       let e : y ≡ r.element = same_Some y r.element (sym here ∙ ap (slice_get xs) same ∙ r.is) in
       rw e r.passes
 
-  by_element : (i : ℕ) (o : Option A) → place_of is xs q ≡ Some i → slice_get xs i ≡ o → (o >>= numbered i) ≡ Some (k, x) → Named is xs q k x
+  by_element : (i : ℕ) (o : Option A) → place_of is xs q ≡ Some i → slice_get xs i ≡ o →
+      (o >>= numbered i) ≡ Some (k, x) → Named is xs q k x
   by_element i None at here e = absurd cc
   by_element i (Some y) at here e =
       let mine : ℕ × A = (i, y) in
@@ -45,7 +50,8 @@ module _ {A Q : Type 0} (is : A → Q → Bool) (xs : List A) (q : Q) (k : ℕ) 
         bears = rw (← element) (at_place i at y here);
       }
 
-  by_place : (o : Option ℕ) → place_of is xs q ≡ o → (o >>= λ i. slice_get xs i >>= numbered i) ≡ Some (k, x) → Named is xs q k x
+  by_place : (o : Option ℕ) → place_of is xs q ≡ o → (o >>= λ i. slice_get xs i >>= numbered i) ≡ Some (k, x) →
+      Named is xs q k x
   by_place None at e = absurd cc
   by_place (Some i) at e = by_element i (slice_get xs i) at refl e
 
@@ -66,7 +72,8 @@ pub record Target (decls : List Decl) (i : Init) (g : InitTarget) : Type 0 where
 module _ (decls : List Decl) (i : Init) (g : InitTarget) where
   module _ (k : ℕ) (p : Pool) (named_pool : the_decl decls i.pool.text ≡ Some (k, pool p)) where
     module _ (ms : List Member) (of_struct : members_of decls p.target ≡ Some ms) where
-      known : (m : ℕ) (x : Member) → the_member ms i.field.text ≡ Some (m, x) → Some (record { pool = k; index = i.index.value; member = m }) ≡ Some g → Target decls i g
+      known : (m : ℕ) (x : Member) → the_member ms i.field.text ≡ Some (m, x) →
+          Some (record { pool = k; index = i.index.value; member = m }) ≡ Some g → Target decls i g
       known m x field e =
           let same : record { pool = k; index = i.index.value; member = m } ≡ g = same_Some _ g e in
           let in_pool : k ≡ g.pool = ap (λ (t : InitTarget). t.pool) same in
@@ -81,21 +88,26 @@ module _ (decls : List Decl) (i : Init) (g : InitTarget) where
             field_named = field ∙ ap (λ n. Some (n, x)) in_struct;
           }
 
-      by_member : (o : Option (ℕ × Member)) → the_member ms i.field.text ≡ o → init_target_at k i.index.value o ≡ Some g → Target decls i g
+      by_member : (o : Option (ℕ × Member)) → the_member ms i.field.text ≡ o →
+          init_target_at k i.index.value o ≡ Some g → Target decls i g
       by_member None at e = absurd cc
       by_member (Some (m, lock_member x)) at e = absurd cc
       by_member (Some (m, final_member f)) at e = known m (final_member f) at e
       by_member (Some (m, field_member f)) at e = known m (field_member f) at e
 
-    by_members : (o : Option (List Member)) → members_of decls p.target ≡ o → init_target_in k i.index.value o i.field.text ≡ Some g → Target decls i g
+    by_members : (o : Option (List Member)) → members_of decls p.target ≡ o →
+        init_target_in k i.index.value o i.field.text ≡ Some g → Target decls i g
     by_members None at e = absurd cc
     by_members (Some ms) at e = by_member ms at (the_member ms i.field.text) refl e
 
-    within : (b : Bool) → (if b then init_target_in k i.index.value (members_of decls p.target) i.field.text else None) ≡ Some g → Target decls i g
+    within : (b : Bool) →
+        (if b then init_target_in k i.index.value (members_of decls p.target) i.field.text else None) ≡ Some g →
+        Target decls i g
     within true e = by_members (members_of decls p.target) refl e
     within false e = absurd cc
 
-  by_pool : (o : Option (ℕ × Decl)) → the_decl decls i.pool.text ≡ o → init_target_to decls o i.index.value i.field.text ≡ Some g → Target decls i g
+  by_pool : (o : Option (ℕ × Decl)) → the_decl decls i.pool.text ≡ o →
+      init_target_to decls o i.index.value i.field.text ≡ Some g → Target decls i g
   by_pool None at e = absurd cc
   by_pool (Some (k, lock x)) at e = absurd cc
   by_pool (Some (k, struct x)) at e = absurd cc
@@ -124,7 +136,8 @@ abbrev pool_in : Pool → Decl → Pool
 pool_in q (pool p) = p
 pool_in q _ = q
 
-pub alike : (decls : List Decl) (i j : Init) (g : InitTarget) → Target decls i g → Target decls j g → same_target i j ≡ true
+pub alike : (decls : List Decl) (i j : Init) (g : InitTarget) → Target decls i g → Target decls j g →
+    same_target i j ≡ true
 alike decls i j g s t =
     let a = named_at bears decls i.pool.text g.pool (pool s.p) s.pool_named in
     let b = named_at bears decls j.pool.text g.pool (pool t.p) t.pool_named in
@@ -157,7 +170,8 @@ same_targets h g e =
     ap (λ n. make n h.index h.member) pools ∙ ap (λ n. make g.pool n h.member) indexes ∙ ap (λ n. make g.pool g.index n) members
 
 module _ (decls : List Decl) (j : Init) (g : InitTarget) (gives_g : init_target_of decls j ≡ Some g) where
-  of_target : (i : Init) (o : Option InitTarget) → init_target_of decls i ≡ o → is_init_target o g ≡ true → same_target j i ≡ true
+  of_target : (i : Init) (o : Option InitTarget) → init_target_of decls i ≡ o → is_init_target o g ≡ true →
+      same_target j i ≡ true
   of_target i None at e = absurd cc
   of_target i (Some h) at e =
       let same = same_targets h g e in
@@ -174,7 +188,8 @@ module _ (decls : List Decl) (j : Init) (g : InitTarget) (gives_g : init_target_
   gives_alike (helper x) e = absurd cc
   gives_alike (thread x) e = absurd cc
 
-  one_gives : (d : Decl) (ds : List Decl) (b : Bool) → gives decls d g ≡ b → b || some_pass (λ d. gives decls d g) ds ≡ true →
+  one_gives : (d : Decl) (ds : List Decl) (b : Bool) → gives decls d g ≡ b →
+      b || some_pass (λ d. gives decls d g) ds ≡ true →
       (some_pass (λ d. gives decls d g) ds ≡ true → some_pass (gives_same j) ds ≡ true) → gives_same j d || some_pass (gives_same j) ds ≡ true
   one_gives d ds true is some rest = rw (gives_alike d is) refl
   one_gives d ds false is some rest = or_right (gives_same j d) (some_pass (gives_same j) ds) (rest some)

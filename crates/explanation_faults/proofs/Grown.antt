@@ -1,5 +1,6 @@
 -- Names that are pushed behind others.
-use Rattle.std.proofs.Common.{◌≡◌, ◌∙◌, ◌<◌, ◌+◌, ℕ, List, [], ◌∷◌, ◌++◌, drop, length, refl, sym, ap, ap₂, append_assoc, get_or}
+use Rattle.std.proofs.Common.{◌≡◌, ◌∙◌, ◌<◌, ◌+◌, ℕ, List, [], ◌∷◌, ◌++◌, drop, length, refl, sym, ap, ap₂}
+use Rattle.std.proofs.Common.{append_assoc, get_or}
 use Rattle.std.proofs.lemmas.List.{map-append, at_drop_more}
 use denote.Ref.{Bor}
 use Rattle.std.specs.Prelude.{Box}
@@ -11,18 +12,21 @@ use Rattle.syntax.specs.declared.tree.Name.{Name}
 use Rattle.syntax.specs.declared.tree.Stmt as the_stmt
 use Rattle.syntax.specs.declared.tree.Stmt.{If}
 use Rattle.syntax.specs.Theory.Rows.{if_of-out}
-use Rattle.syntax.specs.Trees.{Ident, Stmts, no_stmts, stmt, Stmt, let_local, let_owned, let_call, var_local, assign, if_then, while, print, return_value, call, Otherwise, no_else, else_do}
+use Rattle.syntax.specs.Trees.{Ident, Stmts, no_stmts, stmt, Stmt, let_local, let_owned, let_call, var_local, assign}
+use Rattle.syntax.specs.Trees.{if_then, while, print, return_value, call, Otherwise, no_else, else_do}
 use Rattle.syntax.specs.Views.{stmt_of}
 use Rattle.explanation_faults.specs.NameSpaces.{bound_names, names_among, names_in_else}
 use Rattle.explanation_faults.specs.Working.Values.{bound_name, ident_at, idents}
 use Rattle.explanation_faults.specs.Vars.{all_of, behind, within}
 
 -- one more name
-pub one_more : (old new : List (Bor Name)) (x : Bor Name) → new ≡ old ++ x ∷ [] → idents new ≡ idents old ++ ident_at x ∷ []
+pub one_more : (old new : List (Bor Name)) (x : Bor Name) → new ≡ old ++ x ∷ [] →
+    idents new ≡ idents old ++ ident_at x ∷ []
 one_more old new x e = ap idents e ∙ map-append ident_at old (x ∷ [])
 
 -- a turn of a loop: behind p those of the element stand, and what is left comes behind them
-pub turn : {X : Type 0} (F : List X → List Ident) (xs : List X) (i : ℕ) (x y : X) (p q one start : List Ident) → i < length xs → x ≡ get_or xs i y →
+pub turn : {X : Type 0} (F : List X → List Ident) (xs : List X) (i : ℕ) (x y : X) (p q one start : List Ident) →
+    i < length xs → x ≡ get_or xs i y →
     F (x ∷ drop (i + 1) xs) ≡ one ++ F (drop (i + 1) xs) → q ≡ p ++ one → p ++ F (drop i xs) ≡ start → q ++ F (drop (i + 1) xs) ≡ start
 turn F xs i x y p q one start lt is front e before =
     let rest = F (drop (i + 1) xs) in
@@ -31,7 +35,8 @@ turn F xs i x y p q one start lt is front e before =
 
 -- ---- the locals of a section
 
-joined : (xs ys : List Ident) (ss ts : List Stmt) → xs ≡ filter_map bound_name ss → ys ≡ filter_map bound_name ts → xs ++ ys ≡ filter_map bound_name (ss ++ ts)
+joined : (xs ys : List Ident) (ss ts : List Stmt) → xs ≡ filter_map bound_name ss → ys ≡ filter_map bound_name ts →
+    xs ++ ys ≡ filter_map bound_name (ss ++ ts)
 joined xs ys ss ts e f = ap₂ (λ (a b : List Ident). a ++ b) e f ∙ sym (filter_map-append bound_name ss ts)
 
 mutual

@@ -1,11 +1,13 @@
 -- Limits on what helpers call.
-use Rattle.std.proofs.Common.{◌≡◌, ◌∙◌, ℕ, ◌+◌, ◌<◌, ◌≤◌, List, length, take, Option, Some, None, true, false, Bool, refl, sym, ap, subst, arith, lt-ltb, ⊎_elim}
+use Rattle.std.proofs.Common.{◌≡◌, ◌∙◌, ℕ, ◌+◌, ◌<◌, ◌≤◌, List, length, take, Option, Some, None, true, false, Bool}
+use Rattle.std.proofs.Common.{refl, sym, ap, subst, arith, lt-ltb, ⊎_elim}
 use Rattle.std.specs.Prelude.{◌&&◌, min, nat_le, nat_lt}
 use Rattle.std.proofs.lemmas.Bool.{cases_lt, le-leb, le-ltb, leb-true, ltb-false, ltb-true}
 use Rattle.std.proofs.lemmas.List.{length-map, take-map, take_all}
 use Rattle.core_lang_calls.specs.Depths.{depth, depth_within, is_endless}
 use Rattle.core_lang_calls.specs.Working.FaultLists.{graph_faults}
-use Rattle.core_lang_calls.specs.Faults.{DEPTH_LIMIT, IsGraphFault, over_limit, IsOverLimit, too_deep, too_many_locals, too_many_points}
+use Rattle.core_lang_calls.specs.Faults.{DEPTH_LIMIT, IsGraphFault, over_limit, IsOverLimit, too_deep}
+use Rattle.core_lang_calls.specs.Faults.{too_many_locals, too_many_points}
 use Rattle.core_lang_calls.specs.Graphs.{Body, Graph, bodies_of, body_of}
 use Rattle.core_lang_calls.specs.Working.Tables.{IsExtents, extent_at}
 use Rattle.core_lang_calls.specs.declared.extents.Extent.{Extent}
@@ -84,7 +86,8 @@ take_least {A} ys n k is =
     ⊎_elim (λ (many : n < length ys). ap (λ (j : ℕ). take j ys) (let e : k ≡ n = omega (arith, is, many) in e))
     (λ (few : length ys ≤ n). take_all k ys (omega (arith, is, few)) ∙ sym (take_all n ys few)) (cases_lt n (length ys))
 
-pub helpers_are : (bs : List code.Body) (all : List Body) (m : ℕ) → bodies_of bs ≡ all → m ≡ min (length bs) 256 → bodies_of (take m bs) ≡ take 256 all
+pub helpers_are : (bs : List code.Body) (all : List Body) (m : ℕ) → bodies_of bs ≡ all → m ≡ min (length bs) 256 →
+    bodies_of (take m bs) ≡ take 256 all
 helpers_are bs all m is least =
     sym (take-map body_of m bs) ∙ take_least (bodies_of bs) 256 m (let e = length-map bs body_of in omega (arith, least, e)) ∙ ap (take 256) is
 
@@ -103,7 +106,8 @@ module _ (listed : ListedAreFaults) (all : FaultsAreListed) (decls : List Decl) 
   pub first_over : IsFirstThere decls at → IsOverLimit graph at
   first_over is = over_of graph at (listed graph wanted (least_in wanted (graph_faults graph) is))
 
-  by_least : (o : Option Mistake) → least_of None (graph_faults graph) ≡ o → IsFirstOfHelpers decls at → IsFirstThere decls at
+  by_least : (o : Option Mistake) → least_of None (graph_faults graph) ≡ o → IsFirstOfHelpers decls at →
+      IsFirstThere decls at
   by_least None is first =
       let among = all graph LimitExceeded at (over_limit first.over) in
       absurd (subst (IsAmong wanted) (least_none (graph_faults graph) is) among)

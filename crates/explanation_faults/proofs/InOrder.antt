@@ -4,7 +4,9 @@ use Rattle.source.specs.declared.token.Keyword.{Keyword}
 use Rattle.source.specs.declared.token.Keyword.TheVariants as keyword
 use Rattle.source.specs.declared.token.Sign.{Sign}
 use Rattle.source.specs.declared.token.Sign.TheVariants as sign
-use Rattle.source.specs.Texts.{IsGap, no_gap, white, comment, IsUnit, is_name, is_number, is_word, is_mark, keyword_text, sign_text, place, tok_at, end_at, AreTokens, at_end, token, HasTokens, SOURCE_LIMIT}
+use Rattle.source.specs.Texts.{IsGap, no_gap, white, comment, IsUnit, is_name, is_number, is_word, is_mark}
+use Rattle.source.specs.Texts.{keyword_text, sign_text, place, tok_at, end_at, AreTokens, at_end, token, HasTokens}
+use Rattle.source.specs.Texts.{SOURCE_LIMIT}
 use Rattle.source.specs.Tokens.{Lexeme, Tok}
 use Rattle.explanation_tokens.specs.Expected.{AreInOrder, IsBehind, StartBefore}
 
@@ -70,7 +72,8 @@ unit_long (is_number a) = omega arith
 unit_long (is_word w) = word_long w
 unit_long (is_mark s) = sign_long s
 
-begins_before : (b : Tok) (bs : List Tok) (start : ℕ) → b.span.start < start → StartBefore bs start → StartBefore (b ∷ bs) start
+begins_before : (b : Tok) (bs : List Tok) (start : ℕ) → b.span.start < start → StartBefore bs start →
+    StartBefore (b ∷ bs) start
 begins_before b bs start early rest zero d lt = early
 begins_before b bs start early rest (suc k) d lt = rest k d (omega arith)
 
@@ -80,7 +83,8 @@ record Orders (total from : ℕ) (before : List Tok) (t : Tok) : Type 0 where
   pub within : t.span.start ≤ total
   pub rise : StartBefore before t.span.start
 
-order_of : (total : ℕ) (before : List Tok) (t : Tok) (after : List Tok) {text : List ℕ} {ts : List Tok} → AreTokens total text ts → length text ≤ total →
+order_of : (total : ℕ) (before : List Tok) (t : Tok) (after : List Tok) {text : List ℕ} {ts : List Tok} →
+    AreTokens total text ts → length text ≤ total →
     ts ≡ before ++ t ∷ after → Orders total (place total text) before t
 order_of total [] t after (at_end {text} g) le parts =
     let same : t ≡ end_at total = cc in
@@ -107,7 +111,8 @@ order_of total (b ∷ bs) t after (token {text} {bytes} {rest} {k} {ts} n w more
       rise = begins_before b bs t.span.start (omega (arith, at, rest_of.later, gap, long, sum)) rest_of.rise;
     }
 
-pub are_in_order : (text : List ℕ) (ts : List Tok) (start : ℕ) (before : List Tok) → length text ≤ SOURCE_LIMIT → HasTokens text ts → IsBehind ts start before →
+pub are_in_order : (text : List ℕ) (ts : List Tok) (start : ℕ) (before : List Tok) → length text ≤ SOURCE_LIMIT →
+    HasTokens text ts → IsBehind ts start before →
     AreInOrder ts start
 are_in_order text ts start before few has at =
     let first = order_of (length text) before at.token at.after has (omega arith) at.parts in

@@ -1,17 +1,22 @@
 -- The limit that is found is passed, and one is found where one is passed.
-use Rattle.std.proofs.Common.{◌≡◌, ◌∙◌, ℕ, ◌≤◌, zero, suc, Bool, true, false, List, [], ◌∷◌, ◌++◌, length, map, Option, Some, None, refl, sym, ap, subst, arith, eq-eqb}
+use Rattle.std.proofs.Common.{◌≡◌, ◌∙◌, ℕ, ◌≤◌, zero, suc, Bool, true, false, List, [], ◌∷◌, ◌++◌, length, map}
+use Rattle.std.proofs.Common.{Option, Some, None, refl, sym, ap, subst, arith, eq-eqb}
 use Rattle.std.proofs.lemmas.Bool.{eqb-true}
 use Rattle.std.specs.List.{filter_map, flat_map}
 use Rattle.std.specs.Option.{option_or}
 use Rattle.std.specs.Prelude.{◌==◌, ◌||◌, codes}
 use Rattle.std.proofs.lemmas.Option.{same_Some}
-use Rattle.resolution.specs.Limits.{STRUCT_LIMIT, MEMBER_LIMIT, CLASS_LIMIT, SECTION_LIMIT, THREAD_LIMIT, PARAMETER_LIMIT, LOCAL_LIMIT}
+use Rattle.resolution.specs.Limits.{STRUCT_LIMIT, MEMBER_LIMIT, CLASS_LIMIT, SECTION_LIMIT, THREAD_LIMIT}
+use Rattle.resolution.specs.Limits.{PARAMETER_LIMIT, LOCAL_LIMIT}
 use Rattle.resolution.specs.Scopes.{member_name}
 use Rattle.resolution.specs.Where.{Has}
 use Rattle.syntax.specs.Trees.{Ident, Decl, lock, struct, global, array, pool, init, atomic, helper, thread}
 use Rattle.explanation_faults.specs.FirstBy.{first_by}
-use Rattle.explanation_faults.specs.Working.LimitsFound.{some_starts, is_past, said_if, limit_of_all, limit_in, limit_passed}
-use Rattle.explanation_faults.specs.LimitsPassed.{IsPast, IsCountPassed, structs, bodies, threads, classes, members, parameters, locals, struct_name, body_name, thread_name, lock_names, parameter_names}
+use Rattle.explanation_faults.specs.Working.LimitsFound.{some_starts, is_past, said_if, limit_of_all, limit_in}
+use Rattle.explanation_faults.specs.Working.LimitsFound.{limit_passed}
+use Rattle.explanation_faults.specs.LimitsPassed.{IsPast, IsCountPassed, structs, bodies, threads, classes, members}
+use Rattle.explanation_faults.specs.LimitsPassed.{parameters, locals, struct_name, body_name, thread_name, lock_names}
+use Rattle.explanation_faults.specs.LimitsPassed.{parameter_names}
 use Rattle.explanation_faults.specs.NameSpaces.{local_names}
 use Rattle.explanation_faults.proofs.FirstBy.{some_first, first_from}
 
@@ -37,7 +42,8 @@ past_later x p = record {
   starts = p.starts;
 }
 
-past_here : (at : ℕ) (x : Ident) (xs : List Ident) (b : Bool) → (x.span.start == at) ≡ b → b || some_starts at xs ≡ true →
+past_here : (at : ℕ) (x : Ident) (xs : List Ident) (b : Bool) → (x.span.start == at) ≡ b →
+    b || some_starts at xs ≡ true →
     (some_starts at xs ≡ true → IsPast at 0 xs) → IsPast at 0 (x ∷ xs)
 past_here at x xs true is some rest =
     record { before = []; name = x; after = xs; parts = refl; many = omega arith; starts = eqb-true x.span.start at is }
@@ -60,11 +66,13 @@ or_later : (a b : Bool) → b ≡ true → a || b ≡ true
 or_later true b e = refl
 or_later false b e = e
 
-some_there : (at : ℕ) (before : List Ident) (x : Ident) (after : List Ident) → x.span.start ≡ at → some_starts at (before ++ x ∷ after) ≡ true
+some_there : (at : ℕ) (before : List Ident) (x : Ident) (after : List Ident) → x.span.start ≡ at →
+    some_starts at (before ++ x ∷ after) ≡ true
 some_there at [] x after starts = or_so (x.span.start == at) (some_starts at after) (eq-eqb x.span.start at starts)
 some_there at (y ∷ before) x after starts = or_later (y.span.start == at) (some_starts at (before ++ x ∷ after)) (some_there at before x after starts)
 
-past_there : (at limit : ℕ) (before : List Ident) (x : Ident) (after : List Ident) → limit ≤ length before → x.span.start ≡ at →
+past_there : (at limit : ℕ) (before : List Ident) (x : Ident) (after : List Ident) → limit ≤ length before →
+    x.span.start ≡ at →
     is_past at limit (before ++ x ∷ after) ≡ true
 past_there at zero before x after many starts = some_there at before x after starts
 past_there at (suc limit) [] x after many starts = absurd (omega arith)
@@ -76,12 +84,14 @@ past_so at limit names p = ap (is_past at limit) p.parts ∙ past_there at limit
 -- ---- the first that is said
 
 -- what is said is said of the first test, or of the others
-said_of : (b : Bool) (own words : List ℕ) (o : Option (List ℕ)) (P : List ℕ → Type 0) → option_or (said_if b own) o ≡ Some words →
+said_of : (b : Bool) (own words : List ℕ) (o : Option (List ℕ)) (P : List ℕ → Type 0) →
+    option_or (said_if b own) o ≡ Some words →
     (b ≡ true → P own) → (o ≡ Some words → P words) → P words
 said_of true own words o P is mine others = subst P (same_Some own words is) (mine refl)
 said_of false own words o P is mine others = others is
 
-said_last : (b : Bool) (own words : List ℕ) (P : List ℕ → Type 0) → said_if b own ≡ Some words → (b ≡ true → P own) → P words
+said_last : (b : Bool) (own words : List ℕ) (P : List ℕ → Type 0) → said_if b own ≡ Some words → (b ≡ true → P own) →
+    P words
 said_last true own words P is mine = subst P (same_Some own words is) (mine refl)
 said_last false own words P is mine = absurd cc
 
@@ -108,7 +118,8 @@ also_said : (o p : Option (List ℕ)) → IsSaid p → IsSaid (option_or o p)
 also_said (Some w) p is = (w, refl)
 also_said None p is = is
 
-either : (o p : Option (List ℕ)) (words : List ℕ) (P : Type 0) → option_or o p ≡ Some words → (o ≡ Some words → P) → (p ≡ Some words → P) → P
+either : (o p : Option (List ℕ)) (words : List ℕ) (P : Type 0) → option_or o p ≡ Some words → (o ≡ Some words → P) →
+    (p ≡ Some words → P) → P
 either (Some w) p words P is mine others = mine is
 either None p words P is mine others = others is
 

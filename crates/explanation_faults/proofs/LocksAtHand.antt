@@ -1,12 +1,15 @@
 -- The lock that is found is at hand, and one is found where one is.
-use Rattle.std.proofs.Common.{◌≡◌, ◌∙◌, ℕ, Bool, true, false, List, [], ◌∷◌, Option, Some, None, refl, sym, ap, eq-eqb, eqb-true}
+use Rattle.std.proofs.Common.{◌≡◌, ◌∙◌, ℕ, Bool, true, false, List, [], ◌∷◌, Option, Some, None, refl, sym, ap}
+use Rattle.std.proofs.Common.{eq-eqb, eqb-true}
 use Rattle.std.specs.Option.{option_or}
 use Rattle.std.specs.Prelude.{◌||◌, if◌then◌else◌}
 use Rattle.resolution.specs.Where.{Has, first, further}
-use Rattle.syntax.specs.Trees.{Ident, Protection, Field, Member, lock_member, final_member, field_member, Struct, Decl, lock, struct, global, array, pool, init, atomic, helper, thread}
+use Rattle.syntax.specs.Trees.{Ident, Protection, Field, Member, lock_member, final_member, field_member, Struct}
+use Rattle.syntax.specs.Trees.{Decl, lock, struct, global, array, pool, init, atomic, helper, thread}
 use Rattle.explanation_faults.specs.FirstBy.{IsFirst}
 use Rattle.explanation_faults.specs.LocksAtHand.{IsNearest, inside, outside, IsAtHand, for_global, for_array, for_field}
-use Rattle.explanation_faults.specs.Working.LocksFound.{field_lacks_lock, global_lock, lacks_lock, lock_at_hand, lock_for, lock_in, own_lock, some_lacks_lock}
+use Rattle.explanation_faults.specs.Working.LocksFound.{field_lacks_lock, global_lock, lacks_lock, lock_at_hand}
+use Rattle.explanation_faults.specs.Working.LocksFound.{lock_for, lock_in, own_lock, some_lacks_lock}
 use Rattle.explanation_faults.specs.LimitsPassed.{own_lock_in}
 use Rattle.explanation_faults.proofs.FirstBy.{some_first, first_from, is_first, has_first}
 use Rattle.explanation_faults.proofs.Places.{or_right}
@@ -15,7 +18,8 @@ or_left : (a b : Bool) → a ≡ true → a || b ≡ true
 or_left true b e = refl
 or_left false b e = absurd cc
 
-some_bare : (at : ℕ) (ms : List Member) (m : Member) → Has ms m → field_lacks_lock at m ≡ true → some_lacks_lock at ms ≡ true
+some_bare : (at : ℕ) (ms : List Member) (m : Member) → Has ms m → field_lacks_lock at m ≡ true →
+    some_lacks_lock at ms ≡ true
 some_bare at [] m has is = elim has [ ]
 some_bare at (w ∷ ms) m first is = or_left (field_lacks_lock at w) (some_lacks_lock at ms) is
 some_bare at (w ∷ ms) m (further has) is = or_right (field_lacks_lock at w) (some_lacks_lock at ms) (some_bare at ms m has is)
@@ -59,7 +63,8 @@ record LacksThere (at : ℕ) (ms : List Member) : Type 0 where
 further_lacks : (at : ℕ) (m : Member) (ms : List Member) → LacksThere at ms → LacksThere at (m ∷ ms)
 further_lacks at m ms l = record { field = l.field; has = further l.has; none = l.none; starts = l.starts }
 
-lacks_here : (at : ℕ) (m : Member) (ms : List Member) (b : Bool) → field_lacks_lock at m ≡ b → b || some_lacks_lock at ms ≡ true →
+lacks_here : (at : ℕ) (m : Member) (ms : List Member) (b : Bool) → field_lacks_lock at m ≡ b →
+    b || some_lacks_lock at ms ≡ true →
     (some_lacks_lock at ms ≡ true → LacksThere at ms) → LacksThere at (m ∷ ms)
 lacks_here at m ms false is some rest = further_lacks at m ms (rest some)
 lacks_here at (lock_member x) ms true is some rest = absurd cc
@@ -79,7 +84,8 @@ module _ (decls : List Decl) where
   global_first : (x : Ident) → global_lock decls ≡ Some x → IsFirst lock decls x
   global_first x is = is_first lock_in lock lock_only (λ y. refl) decls x is
 
-  nearest : (s : Struct) (x : Ident) (o : Option Ident) → own_lock s.members ≡ o → option_or o (global_lock decls) ≡ Some x → IsNearest decls s.members x
+  nearest : (s : Struct) (x : Ident) (o : Option Ident) → own_lock s.members ≡ o →
+      option_or o (global_lock decls) ≡ Some x → IsNearest decls s.members x
   nearest s x (Some y) own is =
       inside (is_first own_lock_in lock_member own_only (λ y. refl) s.members x (own ∙ is))
   nearest s x None own is =
@@ -121,7 +127,8 @@ module _ (decls : List Decl) where
   own_so (Some x) p y = (x, refl)
   own_so None p y = absurd (let e = y.1 in cc)
 
-  some_nearest : (s : Struct) (x : Ident) → IsNearest decls s.members x → (y : Ident) × (option_or (own_lock s.members) (global_lock decls) ≡ Some y)
+  some_nearest : (s : Struct) (x : Ident) → IsNearest decls s.members x →
+      (y : Ident) × (option_or (own_lock s.members) (global_lock decls) ≡ Some y)
   some_nearest s x (inside is) =
       own_so (own_lock s.members) (global_lock decls) (some_first own_lock_in s.members (lock_member x) x (has_first lock_member s.members x is) refl)
   some_nearest s x (outside none is) = own_or (own_lock s.members) (global_lock decls) (some_global x is)

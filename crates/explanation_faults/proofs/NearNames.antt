@@ -12,6 +12,7 @@ module _ (tokens : List Tok) (decls : List Decl) (at : ℕ) where
   pub no_name : None ≡ name_there at tokens → HasNearName tokens decls at → ⊥
   no_name none told = let e : None ≡ Some told.unknown = none ∙ told.there in cc
 
-  pub none_near : (q : List ℕ) → Some q ≡ name_there at tokens → NoneIsNear (CouldStand decls at) q → HasNearName tokens decls at → ⊥
+  pub none_near : (q : List ℕ) → Some q ≡ name_there at tokens → NoneIsNear (CouldStand decls at) q →
+      HasNearName tokens decls at → ⊥
   none_near q is none told =
       none told.name told.could (subst (λ (p : List ℕ). IsNear p told.name.text) (same_Some told.unknown q (sym told.there ∙ sym is)) told.near)

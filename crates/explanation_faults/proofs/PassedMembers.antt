@@ -9,8 +9,10 @@ use Rattle.resolution.specs.Expressions.{member_number}
 use Rattle.resolution.specs.Faults.{IsFinalMember, PassesNonFinal, passes, Reaches, stays, goes_on, walks}
 use Rattle.resolution.specs.Scopes.{the_decl, the_member}
 use Rattle.resolution.specs.Where.{annotates}
-use Rattle.syntax.specs.Trees.{Ident, Member, lock_member, final_member, field_member, Decl, lock, struct, global, array, pool, init, atomic, helper, thread}
-use Rattle.explanation_faults.specs.PassedMembers.{next_members, passed_along, passed_at, passed_by, passed_for, passed_of, stopped_at}
+use Rattle.syntax.specs.Trees.{Ident, Member, lock_member, final_member, field_member, Decl, lock, struct, global}
+use Rattle.syntax.specs.Trees.{array, pool, init, atomic, helper, thread}
+use Rattle.explanation_faults.specs.PassedMembers.{next_members, passed_along, passed_at, passed_by, passed_for}
+use Rattle.explanation_faults.specs.PassedMembers.{passed_of, stopped_at}
 use Rattle.explanation_faults.proofs.FirstBy.{some_first}
 use Rattle.explanation_faults.proofs.Places.{at_has}
 
@@ -19,7 +21,8 @@ use Rattle.explanation_faults.proofs.Places.{at_has}
 abbrev members_at : AnnotationCursor → List Member
 members_at c = c.members
 
-at_next : (through : List ℕ) (n : ℕ) (o : Option (ℕ × Decl)) (next : AnnotationCursor) → at_struct through n o ≡ Some next → members_in o ≡ Some next.members
+at_next : (through : List ℕ) (n : ℕ) (o : Option (ℕ × Decl)) (next : AnnotationCursor) →
+    at_struct through n o ≡ Some next → members_in o ≡ Some next.members
 at_next through n None next e = absurd cc
 at_next through n (Some (i, struct s)) next e = ap (λ (c : AnnotationCursor). Some c.members) (same_Some _ next e)
 at_next through n (Some (i, lock x)) next e = absurd cc
@@ -35,7 +38,8 @@ pub record GoesOn (decls : List Decl) (at : ℕ) (y : Ident) (o : Option (ℕ ×
   pub passes_none : stopped_at at y o ≡ None
   pub leads : next_members decls o ≡ Some next.members
 
-pub gone_on : (decls : List Decl) (at : ℕ) (st next : AnnotationCursor) (y : Ident) (o : Option (ℕ × Member)) → through_member decls st o ≡ Some next → GoesOn decls at y o next
+pub gone_on : (decls : List Decl) (at : ℕ) (st next : AnnotationCursor) (y : Ident) (o : Option (ℕ × Member)) →
+    through_member decls st o ≡ Some next → GoesOn decls at y o next
 gone_on decls at st next y None e = absurd cc
 gone_on decls at st next y (Some (i, lock_member x)) e = absurd cc
 gone_on decls at st next y (Some (i, field_member x)) e = absurd cc
@@ -61,7 +65,8 @@ or_second : {A : Type 0} (o p : Option A) → o ≡ None → option_or o p ≡ p
 or_second o p is = ap (λ q. option_or q p) is
 
 module _ (decls : List Decl) where
-  along : (own st : AnnotationCursor) (a y z : Ident) (names zs : List Ident) (i : ℕ) (m : Member) → Reaches decls own a names st y (z ∷ zs) →
+  along : (own st : AnnotationCursor) (a y z : Ident) (names zs : List Ident) (i : ℕ) (m : Member) →
+      Reaches decls own a names st y (z ∷ zs) →
       the_member st.members y.text ≡ Some (i, m) → (IsFinalMember m → ⊥) → passed_along decls y.span.start (Some own.members) a names ≡ Some m
   along own st a y z names zs i m stays here no_final =
       or_first (stopped_at y.span.start y (the_member st.members y.text)) _ m (ap (stopped_at y.span.start y) here ∙ stops y i m no_final)

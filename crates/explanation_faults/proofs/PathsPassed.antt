@@ -17,7 +17,8 @@ use Rattle.explanation_faults.specs.Working.Values.{IsLimitAt, TellsOfPaths}
 past_of : (written : Typed) (at : ℕ) → IsFault written LimitExceeded at → IsOverLimit written at
 past_of written at (over_limit is) = is
 
-pub paths_past : (tokens : List Tok) (at : ℕ) (written : Typed) → IsMeantProgram tokens written → IsFirstOfPaths written at → ArePathsPast tokens at
+pub paths_past : (tokens : List Tok) (at : ℕ) (written : Typed) → IsMeantProgram tokens written →
+    IsFirstOfPaths written at → ArePathsPast tokens at
 paths_past tokens at written meant first = record { written = written; meant = meant; past = past_of written at first.0 }
 
 pub told_of_paths : (tokens : List Tok) (at : ℕ) (written : Typed) (is : Bool) → IsMeantProgram tokens written →

@@ -1,5 +1,6 @@
 -- Elements of lists by their places, and the first of those that pass a test.
-use Rattle.std.proofs.Common.{◌≡◌, ◌∙◌, ◌+◌, ℕ, zero, suc, Bool, true, false, List, [], ◌∷◌, ◌++◌, length, take, map, get_or, Option, Some, None, refl, sym, ap, ◌<◌, arith}
+use Rattle.std.proofs.Common.{◌≡◌, ◌∙◌, ◌+◌, ℕ, zero, suc, Bool, true, false, List, [], ◌∷◌, ◌++◌, length, take, map}
+use Rattle.std.proofs.Common.{get_or, Option, Some, None, refl, sym, ap, ◌<◌, arith}
 use Rattle.std.specs.Prelude.{slice_get, ◌||◌, if◌then◌else◌}
 use Rattle.std.specs.Option.{option_map}
 use Rattle.std.proofs.lemmas.List.{length-map}
@@ -18,12 +19,14 @@ at_has (y ∷ xs) zero x e = rw (same_Some y x e) first
 at_has (y ∷ xs) (suc k) x e = further (at_has xs k x e)
 
 -- an element of what is seen by a view
-pub viewed_at : {A B : Type 0} (view : A → B) (xs ys : List A) (k : ℕ) (x : A) → ys ≡ xs → x ≡ get_or ys k x → k < length ys →
+pub viewed_at : {A B : Type 0} (view : A → B) (xs ys : List A) (k : ℕ) (x : A) → ys ≡ xs → x ≡ get_or ys k x →
+    k < length ys →
     slice_get (map view xs) k ≡ Some (view x)
 viewed_at view xs ys k x same is lt =
     ap (λ l. slice_get (map view l) k) (sym same) ∙ slice_get-map view ys k ∙ ap (option_map view) (slice_get_read ys (length ys) k x refl lt is)
 
-pub within_view : {A B : Type 0} (view : A → B) (xs ys : List A) (k : ℕ) (y : B) → ys ≡ xs → slice_get (map view xs) k ≡ Some y → k < length ys
+pub within_view : {A B : Type 0} (view : A → B) (xs ys : List A) (k : ℕ) (y : B) → ys ≡ xs →
+    slice_get (map view xs) k ≡ Some y → k < length ys
 within_view view xs ys k y same at = omega (arith, slice_get_within (map view xs) k y at, length-map xs view, ap length same)
 
 -- the element behind some others
@@ -35,7 +38,8 @@ pub take_front : {A : Type 0} (before behind : List A) → take (length before) 
 take_front [] behind = refl
 take_front (y ∷ before) behind = ap (λ l. y ∷ l) (take_front before behind)
 
-pub get_front : {A : Type 0} (before behind : List A) (k : ℕ) (x : A) → slice_get before k ≡ Some x → slice_get (before ++ behind) k ≡ Some x
+pub get_front : {A : Type 0} (before behind : List A) (k : ℕ) (x : A) → slice_get before k ≡ Some x →
+    slice_get (before ++ behind) k ≡ Some x
 get_front [] behind k x e = absurd cc
 get_front (y ∷ before) behind zero x e = e
 get_front (y ∷ before) behind (suc k) x e = get_front before behind k x e
@@ -50,11 +54,13 @@ pub or_right : (a b : Bool) → b ≡ true → a || b ≡ true
 or_right true b e = refl
 or_right false b e = e
 
-pub or_cases : (a b : Bool) (n : ℕ) (o : Option ℕ) (k : ℕ) → (if a then Some n else o) ≡ Some k → (o ≡ Some k → b ≡ true) → a || b ≡ true
+pub or_cases : (a b : Bool) (n : ℕ) (o : Option ℕ) (k : ℕ) → (if a then Some n else o) ≡ Some k →
+    (o ≡ Some k → b ≡ true) → a || b ≡ true
 or_cases true b n o k e rest = refl
 or_cases false b n o k e rest = rest e
 
-pub found_passes : {A : Type 0} (p : A → Bool) (n : ℕ) (xs : List A) (k : ℕ) → place_from p n xs ≡ Some k → some_pass p xs ≡ true
+pub found_passes : {A : Type 0} (p : A → Bool) (n : ℕ) (xs : List A) (k : ℕ) → place_from p n xs ≡ Some k →
+    some_pass p xs ≡ true
 found_passes p n [] k e = absurd cc
 found_passes p n (x ∷ xs) k e = or_cases (p x) (some_pass p xs) n (place_from p (suc n) xs) k e (λ f. found_passes p (suc n) xs k f)
 
@@ -66,7 +72,8 @@ pub record Passing {A : Type 0} (p : A → Bool) (n : ℕ) (xs : List A) : Type 
   pub is : slice_get xs offset ≡ Some element
   pub passes : p element ≡ true
 
-passing_cons : {A : Type 0} (p : A → Bool) (n : ℕ) (x : A) (xs : List A) (b : Bool) → p x ≡ b → b || some_pass p xs ≡ true →
+passing_cons : {A : Type 0} (p : A → Bool) (n : ℕ) (x : A) (xs : List A) (b : Bool) → p x ≡ b →
+    b || some_pass p xs ≡ true →
     (some_pass p xs ≡ true → Passing p (suc n) xs) → Passing p n (x ∷ xs)
 passing_cons p n x xs true is some rest = record {
   offset = 0;
@@ -94,9 +101,11 @@ pub passing_at : {A : Type 0} (p : A → Bool) (xs : List A) (r : Passing p 0 xs
 passing_at p xs r = r.found ∙ ap Some (omega arith)
 
 -- of a name that some bears
-pub named_passes : {A Q : Type 0} (is : A → Q → Bool) (xs : List A) (q : Q) (f : ℕ × A) → named is xs q ≡ Some f → some_pass (λ x. is x q) xs ≡ true
+pub named_passes : {A Q : Type 0} (is : A → Q → Bool) (xs : List A) (q : Q) (f : ℕ × A) → named is xs q ≡ Some f →
+    some_pass (λ x. is x q) xs ≡ true
 named_passes is xs q f e = of_place (place_of is xs q) refl e
   where
-    of_place : (o : Option ℕ) → place_of is xs q ≡ o → (o >>= λ i. slice_get xs i >>= λ x. Some (i, x)) ≡ Some f → some_pass (λ x. is x q) xs ≡ true
+    of_place : (o : Option ℕ) → place_of is xs q ≡ o → (o >>= λ i. slice_get xs i >>= λ x. Some (i, x)) ≡ Some f →
+        some_pass (λ x. is x q) xs ≡ true
     of_place None at e = absurd cc
     of_place (Some i) at e = found_passes (λ x. is x q) 0 xs i at

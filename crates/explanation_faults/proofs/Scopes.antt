@@ -1,14 +1,18 @@
 -- The names of the locals so far are those that stand ahead in the text.
-use Rattle.std.proofs.Common.{◌≡◌, ◌∙◌, ℕ, zero, suc, true, List, [], ◌∷◌, ◌++◌, length, map, refl, sym, ap, append_assoc}
+use Rattle.std.proofs.Common.{◌≡◌, ◌∙◌, ℕ, zero, suc, true, List, [], ◌∷◌, ◌++◌, length, map, refl, sym, ap}
+use Rattle.std.proofs.Common.{append_assoc}
 use Rattle.std.proofs.lemmas.List.{map-append, append-nil}
-use Rattle.syntax.specs.Trees.{Ident, Stmt, let_local, let_owned, let_call, var_local, assign, if_then, while, print, return_value, call, Stmts, no_stmts, stmt, Otherwise, no_else, else_do, Param, Section, Decl, atomic, helper}
+use Rattle.syntax.specs.Trees.{Ident, Stmt, let_local, let_owned, let_call, var_local, assign, if_then, while, print}
+use Rattle.syntax.specs.Trees.{return_value, call, Stmts, no_stmts, stmt, Otherwise, no_else, else_do, Param, Section}
+use Rattle.syntax.specs.Trees.{Decl, atomic, helper}
 use Rattle.resolution.specs.declared.body_limits.BodyLimits.{BodyLimits}
 use Rattle.resolution.specs.Resolution.{ahead_of, entry}
 use Rattle.resolution.specs.Scopes as scopes
 use Rattle.resolution.specs.Scopes.{Scope, outside, type_of, has_body, bound, entered, hidden_from, left}
 use Rattle.core_lang.specs.declared.tree.LocalKind.TheVariants.{Parameter}
 use Rattle.resolution.specs.Statements.{after, after_else, after_all}
-use Rattle.resolution.specs.Where.{Has, HasBody, of_section, of_helper, HasStmt, in_body, Among, here, later, in_then, in_else, in_while, Binds, parameter, a_let, an_owned_let, a_called_let, a_var}
+use Rattle.resolution.specs.Where.{Has, HasBody, of_section, of_helper, HasStmt, in_body, Among, here, later, in_then}
+use Rattle.resolution.specs.Where.{in_else, in_while, Binds, parameter, a_let, an_owned_let, a_called_let, a_var}
 use Rattle.explanation_faults.specs.NameSpaces.{bound_names, names_in_else, names_among, local_names, inner_names}
 
 abbrev Texts : Type 0
@@ -54,7 +58,8 @@ mutual
   after_named sc (return_value start e) = sym (append-nil (named sc.locals))
   after_named sc (call start c) = sym (append-nil (named sc.locals))
 
-  else_named : (sc : Scope) (o : Otherwise) → named (after_else sc o).locals ≡ named sc.locals ++ texts (names_in_else o)
+  else_named : (sc : Scope) (o : Otherwise) →
+      named (after_else sc o).locals ≡ named sc.locals ++ texts (names_in_else o)
   else_named sc no_else = sym (append-nil (named sc.locals))
   else_named sc (else_do body close) = left_named sc (after_all sc body) ∙ all_named sc body
 
@@ -73,7 +78,8 @@ pub record Ahead (names part : List Ident) (first there : Texts) : Type 0 where
   pub parts : names ≡ before ++ (part ++ behind)
   pub named : there ≡ first ++ texts before
 
-behind_some : (names part some : List Ident) (a b c : Texts) → b ≡ a ++ texts some → Ahead names part b c → Ahead (some ++ names) part a c
+behind_some : (names part some : List Ident) (a b c : Texts) → b ≡ a ++ texts some → Ahead names part b c →
+    Ahead (some ++ names) part a c
 behind_some names part some a b c e x = record {
   before = some ++ x.before;
   behind = x.behind;
@@ -89,7 +95,8 @@ ahead_of_some names part some a c x = record {
   named = x.named;
 }
 
-pub among_named : {sc sc' : Scope} {ss : Stmts} {s : Stmt} → Among sc ss sc' s → Ahead (names_among ss) (bound_names s) (named sc.locals) (named sc'.locals)
+pub among_named : {sc sc' : Scope} {ss : Stmts} {s : Stmt} → Among sc ss sc' s →
+    Ahead (names_among ss) (bound_names s) (named sc.locals) (named sc'.locals)
 among_named {sc = sc} {ss = stmt s rest} here = record {
   before = [];
   behind = names_among rest;
@@ -114,7 +121,8 @@ among_named {sc = sc} {sc' = sc'} {s = s'} (in_while {body = body} {rest = rest}
 abbrev pub params_named : List Param → List Ident
 params_named ps = map (λ (p : Param). p.name) ps
 
-entered_named : (sc : Scope) (ps : List Param) → named (entered sc ps).locals ≡ named sc.locals ++ texts (params_named ps)
+entered_named : (sc : Scope) (ps : List Param) →
+    named (entered sc ps).locals ≡ named sc.locals ++ texts (params_named ps)
 entered_named sc [] = sym (append-nil (named sc.locals))
 entered_named sc (p ∷ ps) =
     let next = bound sc Parameter p.name (type_of (outside sc.decls) p.value_type) in
@@ -133,7 +141,8 @@ of_body : {decls : List Decl} {limits : BodyLimits} {s : Section} (sc : Scope) (
 of_body sc x (of_section h) a = record { decl = atomic _; has = h; body = refl; ahead = a }
 of_body sc x (of_helper h) a = record { decl = helper _; has = h; body = refl; ahead = a }
 
-stmt_bound : {decls : List Decl} (sc : Scope) (s : Stmt) (x : Ident) → bound_names s ≡ x ∷ [] → HasStmt decls sc s → IsLocal decls sc x
+stmt_bound : {decls : List Decl} (sc : Scope) (s : Stmt) (x : Ident) → bound_names s ≡ x ∷ [] → HasStmt decls sc s →
+    IsLocal decls sc x
 stmt_bound {decls = decls} sc s x is (in_body {limits = limits} {x = section} body among) =
     of_body sc x body
     (behind_some (names_among section.body.stmts) (x ∷ []) (params_named section.params) [] (named (entry decls limits section).locals) (named sc.locals)

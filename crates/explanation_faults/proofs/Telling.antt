@@ -13,7 +13,10 @@ use Rattle.source.specs.Tokens.{Tok}
 use Rattle.syntax.specs.Trees.{Decl}
 use Rattle.explanation_types.specs.TypeNotes.{IsTypeNote}
 use Rattle.explanation_faults.specs.declared.tree_notes.Faulty.{Faulty}
-use Rattle.explanation_faults.specs.FaultNotes.{IsTrueNote, IsTold, IsDeclaredNote, HasTypeNote, IsLockNote, IsLockWanted, IsPassedNote, IsGivenNote, IsGivenAgain, IsLimitTold, count_told, amount_told, finals_told, helpers_told, paths_told, declared_note, lock_note, passed_note, given_note}
+use Rattle.explanation_faults.specs.FaultNotes.{IsTrueNote, IsTold, IsDeclaredNote, HasTypeNote, IsLockNote}
+use Rattle.explanation_faults.specs.FaultNotes.{IsLockWanted, IsPassedNote, IsGivenNote, IsGivenAgain, IsLimitTold}
+use Rattle.explanation_faults.specs.FaultNotes.{count_told, amount_told, finals_told, helpers_told, paths_told}
+use Rattle.explanation_faults.specs.FaultNotes.{declared_note, lock_note, passed_note, given_note}
 use Rattle.explanation_faults.specs.AmountsPassed.{IsAmountPassed}
 use Rattle.explanation_faults.specs.HelperLimits.{IsFirstOfHelpers}
 use Rattle.explanation_faults.specs.LimitsPassed.{AreFinalsPassed, IsCountPassed}
@@ -31,16 +34,20 @@ module _ (x : Faulty) (code kind : Code) (is : code ≡ kind) where
   as_kind : (o : Option written.Note) → IsNoteIfTold x kind o → IsNoteIfTold x code o
   as_kind o told = subst (λ (c : Code). IsNoteIfTold x c o) (sym is) told
 
-  pub told_so : (r : Result (Option written.Note) NoMemory) → IfOk r (IsNoteIfTold x kind) → IfOk r (IsNoteIfTold x code)
+  pub told_so : (r : Result (Option written.Note) NoMemory) → IfOk r (IsNoteIfTold x kind) →
+      IfOk r (IsNoteIfTold x code)
   told_so r told = IfOk-weaker r _ _ as_kind told
 
-  told_if : (IsTold (tokens_of x) (decls_of x) kind x.at → (note : Note) × IsTrueNote (tokens_of x) (decls_of x) kind x.at note) → (o : Option written.Note) →
+  told_if : (IsTold (tokens_of x) (decls_of x) kind x.at →
+      (note : Note) × IsTrueNote (tokens_of x) (decls_of x) kind x.at note) → (o : Option written.Note) →
       FoundNote (IsTrueNote (tokens_of x) (decls_of x) kind x.at) o → IsNoteIfTold x code o
   told_if must (Some note) found = as_kind (Some note) found
   told_if must None none = as_kind None (λ told. let m = must told in none m.0 m.1)
 
   -- what is found of a fault of this kind is what is told
-  pub told_as : (r : Result (Option written.Note) NoMemory) → (IsTold (tokens_of x) (decls_of x) kind x.at → (note : Note) × IsTrueNote (tokens_of x) (decls_of x) kind x.at note) →
+  pub told_as : (r : Result (Option written.Note) NoMemory) →
+      (IsTold (tokens_of x) (decls_of x) kind x.at →
+      (note : Note) × IsTrueNote (tokens_of x) (decls_of x) kind x.at note) →
       IfOk r (FoundNote (IsTrueNote (tokens_of x) (decls_of x) kind x.at)) → IfOk r (IsNoteIfTold x code)
   told_as r must found = IfOk-weaker r _ _ (told_if must) found
 
@@ -70,7 +77,8 @@ module _ (decls : List Decl) (at : ℕ) where
 
 -- ---- limits
 
-pub none_of_limits : (tokens : List Tok) (decls : List Decl) (at : ℕ) → ((words : List ℕ) → IsCountPassed decls at words → ⊥) →
+pub none_of_limits : (tokens : List Tok) (decls : List Decl) (at : ℕ) →
+    ((words : List ℕ) → IsCountPassed decls at words → ⊥) →
     ((words : List ℕ) → IsAmountPassed decls at words → ⊥) → (AreFinalsPassed decls at → ⊥) → (IsFirstOfHelpers decls at → ⊥) →
     (ArePathsFirst tokens at → ⊥) →
     IsLimitTold tokens decls at → ⊥
@@ -82,7 +90,8 @@ none_of_limits tokens decls at count amount finals helpers paths (paths_told is)
 
 -- ---- what is told of a var
 
-var_if : (x : Faulty) (o : Option written.Note) → option_map note_of o ≡ var_noted (tokens_of x) (decls_of x) x.at → IsNoteIfTold x UnstableBase o
+var_if : (x : Faulty) (o : Option written.Note) → option_map note_of o ≡ var_noted (tokens_of x) (decls_of x) x.at →
+    IsNoteIfTold x UnstableBase o
 var_if x (Some note) e = is_var_note (tokens_of x) (decls_of x) x.at (note_of note) (sym e)
 var_if x None e = λ told. no_var_there (tokens_of x) (decls_of x) x.at (sym e) told.0 told.1
 

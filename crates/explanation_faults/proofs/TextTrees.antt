@@ -15,7 +15,8 @@ use Rattle.syntax.specs.Faults.{IsUnexpected}
 use Rattle.syntax.specs.Grammar.{HasTree, Spells}
 use Rattle.syntax.specs.Trees.{Decl}
 use Rattle.explanation_faults.specs.FaultNotes.{IsTrueNote, IsTold, AreNotes}
-use Rattle.explanation_faults.specs.TextNotes.{HasTextTree, IsTextLimit, source, a_name, IsTrueTextNote, of_tree, of_tokens, of_limit, AreTextNotes}
+use Rattle.explanation_faults.specs.TextNotes.{HasTextTree, IsTextLimit, source, a_name, IsTrueTextNote, of_tree}
+use Rattle.explanation_faults.specs.TextNotes.{of_tokens, of_limit, AreTextNotes}
 use Rattle.explanation_faults.specs.Working.Values.{IsItsFault, IsLimitAt}
 use Rattle.explanation_faults.specs.Words.{note_of_all}
 use Rattle.explanation_tokens.specs.Expected.{AreTokenNotes, IsTokenTold, IsTrueTokenNote}
@@ -54,18 +55,21 @@ pub its_fault : (text : List ℕ) (found : Fault) → IsRefusal text (refusal.Fa
 its_fault text found is refused only =
     (is.0, (λ code start fault. let same = refused code start fault in (sym same.0, sym same.1)), (λ ts few has. let e = only ts few has in absurd cc))
 
-pub limit_found : (text : List ℕ) (found : Fault) (at : ℕ) → IsItsFault text found → IsLimitAt found at → IsFault text LimitExceeded at
+pub limit_found : (text : List ℕ) (found : Fault) (at : ℕ) → IsItsFault text found → IsLimitAt found at →
+    IsFault text LimitExceeded at
 limit_found text found at is there =
     subst (λ (code : Code). IsFault text code at) there.0 (subst (λ (start : ℕ). IsFault text found.code start) there.1 is.0)
 
 -- the fault is not the one of a limit that is found
-pub no_limit : (text : List ℕ) (found fault : Fault) → IsItsFault text found → (IsLimitAt found fault.start → IsLimitAt fault found.start → ⊥) →
+pub no_limit : (text : List ℕ) (found fault : Fault) → IsItsFault text found →
+    (IsLimitAt found fault.start → IsLimitAt fault found.start → ⊥) →
     (words : List ℕ) → fault.code ≡ LimitExceeded → IsTextLimit text fault.start words → ⊥
 no_limit text found fault is other words limited limit =
     let same = is.1 LimitExceeded fault.start (fault_of limit) in other (sym same.0, sym same.1) (limited, same.1)
 
 module _ (text : List ℕ) (found : Fault) (is : IsItsFault text found) (code : Code) (at : ℕ) where
-  pub without_limit : ((words : List ℕ) → code ≡ LimitExceeded → IsTextLimit text at words → ⊥) → AreTextNotes text code at []
+  pub without_limit : ((words : List ℕ) → code ≡ LimitExceeded → IsTextLimit text at words → ⊥) →
+      AreTextNotes text code at []
   without_limit none = record {
     are_true = λ k d lt. absurd (omega arith);
     told = λ ts ds short h told. absurd (is.2 ts short h.has_tokens);
@@ -73,7 +77,8 @@ module _ (text : List ℕ) (found : Fault) (is : IsItsFault text found) (code : 
     limited = λ words limited limit. absurd (none words limited limit);
   }
 
-  pub with_limit : (words : List ℕ) → code ≡ LimitExceeded → IsTextLimit text at words → AreTextNotes text code at (note_of_all words ∷ [])
+  pub with_limit : (words : List ℕ) → code ≡ LimitExceeded → IsTextLimit text at words →
+      AreTextNotes text code at (note_of_all words ∷ [])
   with_limit words limited limit = record {
     are_true = alone (IsTrueTextNote text code at) (note_of_all words) (of_limit limited limit refl);
     told = λ ts ds short h told. omega arith;
@@ -93,7 +98,8 @@ within_limit text none =
     (cases_lt SOURCE_LIMIT (length text))
 
 -- what has no tree tells what its tokens do
-pub without_tree : (text : List ℕ) (ts : List Tok) (code : Code) (at : ℕ) (notes : List Note) → IsFaultless text → HasTokens text ts →
+pub without_tree : (text : List ℕ) (ts : List Tok) (code : Code) (at : ℕ) (notes : List Note) → IsFaultless text →
+    HasTokens text ts →
     Only text ts → ((ds : List Decl) → HasTree ts ds → ⊥) → AreTokenNotes ts code at notes → AreTextNotes text code at notes
 without_tree text ts code at notes no_fault has only none are = let few = within_limit text no_fault in record {
   are_true = All-weaker (IsTrueTokenNote ts code at) (IsTrueTextNote text code at) (λ note is. of_tokens few has is) notes are.are_true;
@@ -106,7 +112,8 @@ without_tree text ts code at notes no_fault has only none are = let few = within
 }
 
 -- notes on the tree are notes on the text
-all_of_tree : (text : List ℕ) (ts : List Tok) (ds : List Decl) (code : Code) (at : ℕ) (notes : List Note) → length text ≤ SOURCE_LIMIT → HasTextTree text ts ds →
+all_of_tree : (text : List ℕ) (ts : List Tok) (ds : List Decl) (code : Code) (at : ℕ) (notes : List Note) →
+    length text ≤ SOURCE_LIMIT → HasTextTree text ts ds →
     All (IsTrueNote ts ds code at) notes → All (IsTrueTextNote text code at) notes
 all_of_tree text ts ds code at notes few has all =
     All-weaker (IsTrueNote ts ds code at) (IsTrueTextNote text code at) (λ note is. of_tree few has is) notes all

@@ -1,13 +1,17 @@
 -- Of a name that is declared twice the first is found.
-use Rattle.std.proofs.Common.{◌≡◌, ◌∙◌, ℕ, Bool, true, List, [], ◌∷◌, ◌++◌, length, map, Option, Some, None, refl, sym, ap}
+use Rattle.std.proofs.Common.{◌≡◌, ◌∙◌, ℕ, Bool, true, List, [], ◌∷◌, ◌++◌, length, map, Option, Some, None, refl}
+use Rattle.std.proofs.Common.{sym, ap}
 use Rattle.std.specs.Prelude.{◌||◌}
 use Rattle.std.proofs.lemmas.List.{map-append}
 use Rattle.syntax.specs.Trees.{Ident, Decl, struct, Member}
 use Rattle.resolution.specs.Faults.{IsDeclaredTwice, two_decls, two_members, two_locals, top_level}
 use Rattle.resolution.specs.Scopes as scopes
-use Rattle.resolution.specs.Scopes.{◌>>=◌, Scope, bears, declared, is_called, local_bears, member_bears, member_name, named, place_of, the_decl, the_local}
-use Rattle.explanation_faults.specs.NameSpaces.{with_name, top_names, inner_names, ident_bears, Repeats, Bears, inside, outside, IsDeclaredAs, at_the_top, in_one}
-use Rattle.explanation_faults.proofs.Places.{some_pass, found_passes, passing, passing_at, named_passes, at_front, take_front, get_front}
+use Rattle.resolution.specs.Scopes.{◌>>=◌, Scope, bears, declared, is_called, local_bears, member_bears, member_name}
+use Rattle.resolution.specs.Scopes.{named, place_of, the_decl, the_local}
+use Rattle.explanation_faults.specs.NameSpaces.{with_name, top_names, inner_names, ident_bears, Repeats, Bears}
+use Rattle.explanation_faults.specs.NameSpaces.{inside, outside, IsDeclaredAs, at_the_top, in_one}
+use Rattle.explanation_faults.proofs.Places.{some_pass, found_passes, passing, passing_at, named_passes, at_front}
+use Rattle.explanation_faults.proofs.Places.{take_front, get_front}
 use Rattle.explanation_faults.proofs.Scopes as locals
 use Rattle.explanation_faults.proofs.Scopes.{texts, bound_local}
 
@@ -16,7 +20,8 @@ same_as q x = ident_bears x q
 
 -- ---- a name that some ahead of it bears
 
-pub repeats : (names before behind : List Ident) (x : Ident) → names ≡ before ++ x ∷ behind → some_pass (same_as x.text) before ≡ true →
+pub repeats : (names before behind : List Ident) (x : Ident) → names ≡ before ++ x ∷ behind →
+    some_pass (same_as x.text) before ≡ true →
     (y : Ident) × Repeats names x.span.start y
 repeats names before behind x parts some =
     let p = passing (same_as x.text) 0 before some in (
@@ -32,7 +37,8 @@ repeats names before behind x parts some =
       },
     )
 
-pub bears_one : (others names before behind : List Ident) (x : Ident) → names ≡ before ++ x ∷ behind → some_pass (same_as x.text) others ≡ true →
+pub bears_one : (others names before behind : List Ident) (x : Ident) → names ≡ before ++ x ∷ behind →
+    some_pass (same_as x.text) others ≡ true →
     (y : Ident) × Bears others names x.span.start y
 bears_one others names before behind x parts some =
     let p = passing (same_as x.text) 0 others some in (
@@ -62,15 +68,18 @@ top_borne : (q : List ℕ) (ds : List Decl) → some_pass (λ d. bears d q) ds �
 top_borne q [] = refl
 top_borne q (d ∷ ds) = one (declared d) (some_pass (λ d. bears d q) ds) (top_names ds) (top_borne q ds)
   where
-    one : (o : Option Ident) (b : Bool) (xs : List Ident) → b ≡ some_pass (same_as q) xs → is_called o q || b ≡ some_pass (same_as q) (with_name o xs)
+    one : (o : Option Ident) (b : Bool) (xs : List Ident) → b ≡ some_pass (same_as q) xs →
+        is_called o q || b ≡ some_pass (same_as q) (with_name o xs)
     one (Some x) b xs e = ap (λ r. same_as q x || r) e
     one None b xs e = e
 
-members_borne : (q : List ℕ) (ms : List Member) → some_pass (λ m. member_bears m q) ms ≡ some_pass (same_as q) (map member_name ms)
+members_borne : (q : List ℕ) (ms : List Member) →
+    some_pass (λ m. member_bears m q) ms ≡ some_pass (same_as q) (map member_name ms)
 members_borne q [] = refl
 members_borne q (m ∷ ms) = ap (λ r. member_bears m q || r) (members_borne q ms)
 
-locals_borne : (q : List ℕ) (ls : List scopes.Local) (xs : List Ident) → locals.named ls ≡ texts xs → some_pass (λ l. local_bears l q) ls ≡ some_pass (same_as q) xs
+locals_borne : (q : List ℕ) (ls : List scopes.Local) (xs : List Ident) → locals.named ls ≡ texts xs →
+    some_pass (λ l. local_bears l q) ls ≡ some_pass (same_as q) xs
 locals_borne q [] [] e = refl
 locals_borne q [] (x ∷ xs) e = absurd cc
 locals_borne q (l ∷ ls) [] e = absurd cc

@@ -23,7 +23,8 @@ use Rattle.explanation_faults.specs.Working.VarsFound.{assigns, note_of_var, sec
 -- ---- statements
 
 -- those of a loop's body
-pub within_while : (s : the_stmt.Stmt) (b : Box the_while.While Global) → s ≡ While b → within (stmt_of s) ≡ all_of (stmts_of b.value.block.stmts.items)
+pub within_while : (s : the_stmt.Stmt) (b : Box the_while.While Global) → s ≡ While b →
+    within (stmt_of s) ≡ all_of (stmts_of b.value.block.stmts.items)
 within_while s b e = ap (λ (s : the_stmt.Stmt). within (stmt_of s)) e ∙ ap within (stmt_of-While b)
 
 -- those of the blocks of a choice
@@ -31,7 +32,8 @@ pub within_if : (s : the_stmt.Stmt) (b : Box the_if.If Global) → s ≡ If b �
     ≡ all_of (stmts_of (out-If b.value).block.stmts.items) ++ behind (else_of (out-If b.value).otherwise)
 within_if s b e = ap (λ (s : the_stmt.Stmt). within (stmt_of s)) e ∙ ap within (if_of-out b.value)
 
-pub no_var : (q : List ℕ) (s : the_stmt.Stmt) → ((l : Box the_local.Local Global) → s ≡ Var l → ⊥) → var_in q (stmt_of s) ≡ None
+pub no_var : (q : List ℕ) (s : the_stmt.Stmt) → ((l : Box the_local.Local Global) → s ≡ Var l → ⊥) →
+    var_in q (stmt_of s) ≡ None
 no_var q (the_stmt.Let l) h = refl
 no_var q (the_stmt.LetOwned l) h = refl
 no_var q (the_stmt.LetCall l) h = refl
@@ -43,7 +45,8 @@ no_var q (the_stmt.Print at e) h = refl
 no_var q (the_stmt.Return at e) h = refl
 no_var q (the_stmt.Call at c) h = refl
 
-pub no_assignment : (q : List ℕ) (s : the_stmt.Stmt) → ((p : the_place.Place) (e : the_expr.Expr) → s ≡ Assign p e → ⊥) → assigns q (stmt_of s) ≡ false
+pub no_assignment : (q : List ℕ) (s : the_stmt.Stmt) →
+    ((p : the_place.Place) (e : the_expr.Expr) → s ≡ Assign p e → ⊥) → assigns q (stmt_of s) ≡ false
 no_assignment q (the_stmt.Let l) h = refl
 no_assignment q (the_stmt.LetOwned l) h = refl
 no_assignment q (the_stmt.LetCall l) h = refl

@@ -1,5 +1,6 @@
 -- What is found of a `var` is told of it, and it is found where there is one.
-use Rattle.std.proofs.Common.{◌≡◌, ◌∙◌, ◌⊎◌, inl, inr, ⊎_elim, ℕ, Bool, true, false, IsTrue, List, [], ◌∷◌, ◌++◌, Option, Some, None, refl, sym, ap, subst, lt-ltb}
+use Rattle.std.proofs.Common.{◌≡◌, ◌∙◌, ◌⊎◌, inl, inr, ⊎_elim, ℕ, Bool, true, false, IsTrue, List, [], ◌∷◌, ◌++◌}
+use Rattle.std.proofs.Common.{Option, Some, None, refl, sym, ap, subst, lt-ltb}
 use Rattle.std.specs.Prelude.{◌||◌, nat_lt, if◌then◌else◌, slice_get}
 use Rattle.std.specs.Str.{bytes_eq}
 use Rattle.std.proofs.lemmas.Bool.{and_parts, and_from, both_ways, ltb-true, or_parts}
@@ -9,16 +10,20 @@ use Rattle.explanation.specs.Notes.{Note}
 use Rattle.resolution.specs.Scopes.{◌>>=◌}
 use Rattle.resolution.specs.Where.{Has, first, further}
 use Rattle.source.specs.Tokens.{Tok}
-use Rattle.syntax.specs.Trees.{Ident, lone, element, path, Expr, Local, Stmt, let_local, let_owned, let_call, var_local, assign, if_then, while, print, return_value, call, Section, Decl}
+use Rattle.syntax.specs.Trees.{Ident, lone, element, path, Expr, Local, Stmt, let_local, let_owned, let_call}
+use Rattle.syntax.specs.Trees.{var_local, assign, if_then, while, print, return_value, call, Section, Decl}
 use Rattle.explanation_faults.specs.FirstBy.{first_by}
 use Rattle.explanation_faults.specs.MissingReturns.{body_of}
 use Rattle.explanation_faults.specs.TokensThere.{token_at, name_of, has_two_fields}
-use Rattle.explanation_faults.specs.Vars.{all_of, Encloses, IsAssigned, IsIn, IsVar, IsVarNote, IsVarThere, needed, not_needed, var_note, fixed_note}
-use Rattle.explanation_faults.specs.Working.VarsFound.{assigns, encloses, section_if, section_there, some_assigns, var_in, var_noted}
+use Rattle.explanation_faults.specs.Vars.{all_of, Encloses, IsAssigned, IsIn, IsVar, IsVarNote, IsVarThere, needed}
+use Rattle.explanation_faults.specs.Vars.{not_needed, var_note, fixed_note}
+use Rattle.explanation_faults.specs.Working.VarsFound.{assigns, encloses, section_if, section_there, some_assigns}
+use Rattle.explanation_faults.specs.Working.VarsFound.{var_in, var_noted}
 use Rattle.explanation_faults.proofs.FirstBy.{given_by, given_back}
 use Rattle.explanation_faults.proofs.VarsNoted.{noted_by}
 
-bind_if : {A B : Type 0} (o : Option A) (f : A → Option B) (y : B) → (o >>= f) ≡ Some y → (x : A) × (o ≡ Some x) × (f x ≡ Some y)
+bind_if : {A B : Type 0} (o : Option A) (f : A → Option B) (y : B) → (o >>= f) ≡ Some y →
+    (x : A) × (o ≡ Some x) × (f x ≡ Some y)
 bind_if (Some x) f y is = (x, refl, is)
 bind_if None f y is = absurd cc
 
@@ -82,7 +87,8 @@ module _ (at : ℕ) where
 -- ---- the var
 
 module _ (q : List ℕ) where
-  var_if : (st : Stmt) (x : Ident) → var_in q st ≡ Some x → (l : Local) × (st ≡ var_local l) × (q ≡ l.name.text) × (l.name ≡ x)
+  var_if : (st : Stmt) (x : Ident) → var_in q st ≡ Some x →
+      (l : Local) × (st ≡ var_local l) × (q ≡ l.name.text) × (l.name ≡ x)
   var_if (var_local l) x is =
       let found = some_if (bytes_eq q l.name.text) l.name x is in (l, refl, (bytes_eq-Decides q l.name.text).0 found.0, found.1)
   var_if (let_local l) x is = absurd cc
@@ -139,7 +145,8 @@ module _ (q : List ℕ) where
   assigned_front (return_value s e) ss is = absurd cc
   assigned_front (call s c) ss is = absurd cc
 
-  assigned_by : (st : Stmt) (ss : List Stmt) (b : Bool) → assigns q st ≡ b → b || some_assigns q ss ≡ true → (some_assigns q ss ≡ true → IsAssigned ss q) →
+  assigned_by : (st : Stmt) (ss : List Stmt) (b : Bool) → assigns q st ≡ b → b || some_assigns q ss ≡ true →
+      (some_assigns q ss ≡ true → IsAssigned ss q) →
       IsAssigned (st ∷ ss) q
   assigned_by st ss true here is rest = assigned_front st ss here
   assigned_by st ss false here is rest = here_so st ss (rest is)
@@ -156,7 +163,8 @@ module _ (q : List ℕ) where
   or_there true b e = refl
   or_there false b e = e
 
-  assigned_at : (x : Ident) (e : Expr) (ss : List Stmt) → Has ss (assign (lone x) e) → q ≡ x.text → some_assigns q ss ≡ true
+  assigned_at : (x : Ident) (e : Expr) (ss : List Stmt) → Has ss (assign (lone x) e) → q ≡ x.text →
+      some_assigns q ss ≡ true
   assigned_at x e [] has is = elim has [ ]
   assigned_at x e (st ∷ ss) first is = or_here (bytes_eq q x.text) (some_assigns q ss) ((bytes_eq-Decides q x.text).1 is)
   assigned_at x e (st ∷ ss) (further has) is = or_there (assigns q st) (some_assigns q ss) (assigned_at x e ss has is)
@@ -202,7 +210,8 @@ module _ (tokens : List Tok) (decls : List Decl) (at : ℕ) where
       } in
       by_need var.0 v (has_two_fields token.0 tokens || some_assigns named.0 (all_of there.0.body.stmts)) note refl (same_Some _ note var.2)
 
-  pub var_is_noted : (x : Ident) → IsVarThere tokens decls at x → (note : Note) × (var_noted tokens decls at ≡ Some note)
+  pub var_is_noted : (x : Ident) → IsVarThere tokens decls at x →
+      (note : Note) × (var_noted tokens decls at ≡ Some note)
   var_is_noted x v =
       let ss = all_of v.section.body.stmts in
       let long = has_two_fields v.i tokens in (

@@ -18,7 +18,9 @@ pub record IsFirstOver (of : Decl → ℕ) (decls : List Decl) (at limit : ℕ) 
 
 -- what is said of such a limit that is passed there
 pub data IsAmountPassed (decls : List Decl) (at : ℕ) : List ℕ → Type 0 where
-  objects : IsFirstOver objects_of decls at OBJECT_LIMIT → IsAmountPassed decls at (codes "a program has at most 65536 objects")
-  cells : IsFirstOver (cells_of decls) decls at CELL_LIMIT → IsAmountPassed decls at (codes "a program has at most 262144 cells")
+  objects : IsFirstOver objects_of decls at OBJECT_LIMIT →
+      IsAmountPassed decls at (codes "a program has at most 65536 objects")
+  cells : IsFirstOver (cells_of decls) decls at CELL_LIMIT →
+      IsAmountPassed decls at (codes "a program has at most 262144 cells")
   calls : IsFirstOver calls_of decls at CALL_LIMIT →
       IsAmountPassed decls at (codes "the threads of a program make at most 100000 calls, each repeat multiplied out")

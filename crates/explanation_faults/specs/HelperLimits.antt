@@ -16,7 +16,8 @@ IsOfDepth (too_many_points s before behind c is parts few many) = ⊥
 
 -- what is said of a limit that is passed there
 pub data IsHelperLimit (decls : List Decl) (at : ℕ) : List ℕ → Type 0 where
-  depth : (o : IsOverLimit (tree_graph decls) at) → IsOfDepth o → IsHelperLimit decls at (codes "calls of helpers go at most 8 deep")
+  depth : (o : IsOverLimit (tree_graph decls) at) → IsOfDepth o →
+      IsHelperLimit decls at (codes "calls of helpers go at most 8 deep")
   brought : (o : IsOverLimit (tree_graph decls) at) → (IsOfDepth o → ⊥) →
       IsHelperLimit decls at (codes "with what its calls bring, a section has at most 64 locals, and at most 65536 points of helpers")
 

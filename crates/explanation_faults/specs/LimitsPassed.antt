@@ -3,10 +3,12 @@ use Rattle.std.specs.List.{filter_map, flat_map}
 use Rattle.std.specs.Prelude.{◌≡◌, ◌≤◌, ℕ, List, [], ◌∷◌, ◌++◌, length, map, Option, Some, None, codes}
 use Rattle.resolution.specs.Annotations.{AnnotationCursor}
 use Rattle.resolution.specs.Faults.{Walks}
-use Rattle.resolution.specs.Limits.{STRUCT_LIMIT, MEMBER_LIMIT, FINAL_LIMIT, CLASS_LIMIT, SECTION_LIMIT, THREAD_LIMIT, PARAMETER_LIMIT, LOCAL_LIMIT}
+use Rattle.resolution.specs.Limits.{STRUCT_LIMIT, MEMBER_LIMIT, FINAL_LIMIT, CLASS_LIMIT, SECTION_LIMIT, THREAD_LIMIT}
+use Rattle.resolution.specs.Limits.{PARAMETER_LIMIT, LOCAL_LIMIT}
 use Rattle.resolution.specs.Scopes.{member_name, the_member}
 use Rattle.resolution.specs.Where.{Has}
-use Rattle.syntax.specs.Trees.{Ident, Protection, Final, Member, lock_member, final_member, Param, Struct, Section, Decl, lock, struct, atomic, helper, thread}
+use Rattle.syntax.specs.Trees.{Ident, Protection, Final, Member, lock_member, final_member, Param, Struct, Section}
+use Rattle.syntax.specs.Trees.{Decl, lock, struct, atomic, helper, thread}
 use Rattle.explanation_faults.specs.NameSpaces.{local_names}
 
 -- ---- names of a kind
@@ -55,10 +57,14 @@ pub record IsPast (at limit : ℕ) (names : List Ident) : Type 0 where
 
 -- what is said of such a limit that is passed there
 pub data IsCountPassed (decls : List Decl) (at : ℕ) : List ℕ → Type 0 where
-  structs : IsPast at STRUCT_LIMIT (filter_map struct_name decls) → IsCountPassed decls at (codes "a program has at most 64 structs")
-  bodies : IsPast at SECTION_LIMIT (filter_map body_name decls) → IsCountPassed decls at (codes "a program has at most 256 sections and helpers")
-  threads : IsPast at THREAD_LIMIT (filter_map thread_name decls) → IsCountPassed decls at (codes "a program has at most 64 threads")
-  classes : IsPast at CLASS_LIMIT (flat_map lock_names decls) → IsCountPassed decls at (codes "a program has at most 128 lock classes")
+  structs : IsPast at STRUCT_LIMIT (filter_map struct_name decls) →
+      IsCountPassed decls at (codes "a program has at most 64 structs")
+  bodies : IsPast at SECTION_LIMIT (filter_map body_name decls) →
+      IsCountPassed decls at (codes "a program has at most 256 sections and helpers")
+  threads : IsPast at THREAD_LIMIT (filter_map thread_name decls) →
+      IsCountPassed decls at (codes "a program has at most 64 threads")
+  classes : IsPast at CLASS_LIMIT (flat_map lock_names decls) →
+      IsCountPassed decls at (codes "a program has at most 128 lock classes")
   members : {s : Struct} → Has decls (struct s) → IsPast at MEMBER_LIMIT (map member_name s.members) →
       IsCountPassed decls at (codes "a struct has at most 32 members")
   parameters : {s : Section} → Has decls (atomic s) → IsPast at PARAMETER_LIMIT (parameter_names s.params) →

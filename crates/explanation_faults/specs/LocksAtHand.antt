@@ -1,7 +1,8 @@
 -- Which lock could protect what has none.
 use Rattle.std.specs.Prelude.{◌≡◌, ℕ, List, None}
 use Rattle.resolution.specs.Where.{Has}
-use Rattle.syntax.specs.Trees.{Ident, Field, Member, lock_member, field_member, Struct, Variable, Array, Decl, lock, struct, global, array}
+use Rattle.syntax.specs.Trees.{Ident, Field, Member, lock_member, field_member, Struct, Variable, Array, Decl, lock}
+use Rattle.syntax.specs.Trees.{struct, global, array}
 use Rattle.explanation_faults.specs.FirstBy.{IsFirst}
 
 -- of a struct with these members: its first lock, or if it has none, the first of the top level
@@ -11,7 +12,10 @@ pub data IsNearest (decls : List Decl) (members : List Member) (x : Ident) : Typ
 
 -- of what has its name there and no annotation: of a field the nearest lock, of a global or an array the first of the top level
 pub data IsAtHand (decls : List Decl) (at : ℕ) (x : Ident) : Type 0 where
-  for_global : {v : Variable} → Has decls (global v) → v.protection ≡ None → v.name.span.start ≡ at → IsFirst lock decls x → IsAtHand decls at x
-  for_array : {a : Array} → Has decls (array a) → a.protection ≡ None → a.name.span.start ≡ at → IsFirst lock decls x → IsAtHand decls at x
-  for_field : {s : Struct} {f : Field} → Has decls (struct s) → Has s.members (field_member f) → f.protection ≡ None → f.name.span.start ≡ at →
+  for_global : {v : Variable} → Has decls (global v) → v.protection ≡ None → v.name.span.start ≡ at →
+      IsFirst lock decls x → IsAtHand decls at x
+  for_array : {a : Array} → Has decls (array a) → a.protection ≡ None → a.name.span.start ≡ at →
+      IsFirst lock decls x → IsAtHand decls at x
+  for_field : {s : Struct} {f : Field} → Has decls (struct s) → Has s.members (field_member f) → f.protection ≡ None →
+      f.name.span.start ≡ at →
       IsNearest decls s.members x → IsAtHand decls at x

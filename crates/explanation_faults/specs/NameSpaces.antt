@@ -1,7 +1,9 @@
 -- The names that must differ from each other, and which of two that are the same is declared first.
 use Rattle.std.specs.Prelude.{◌≡◌, ℕ, Bool, true, List, [], ◌∷◌, ◌++◌, map, take, slice_get, Option, Some, None}
 use Rattle.std.specs.Str.{bytes_eq}
-use Rattle.syntax.specs.Trees.{Ident, Stmt, let_local, let_owned, let_call, var_local, assign, if_then, while, print, return_value, call, Stmts, no_stmts, stmt, Otherwise, no_else, else_do, Param, Section, Decl, struct, atomic, helper}
+use Rattle.syntax.specs.Trees.{Ident, Stmt, let_local, let_owned, let_call, var_local, assign, if_then, while, print}
+use Rattle.syntax.specs.Trees.{return_value, call, Stmts, no_stmts, stmt, Otherwise, no_else, else_do, Param, Section}
+use Rattle.syntax.specs.Trees.{Decl, struct, atomic, helper}
 use Rattle.resolution.specs.Scopes.{place_of, declared, has_body, member_name}
 use Rattle.resolution.specs.Where.{Has}
 

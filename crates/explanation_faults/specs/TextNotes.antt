@@ -43,7 +43,8 @@ IsExpectedTold text code at notes =
 -- the notes are true, and there is one where there must be
 pub record AreTextNotes (text : List ℕ) (code : Code) (at : ℕ) (notes : List Note) : Type 0 where
   pub are_true : AreTrueTextNotes text code at notes
-  pub told : (tokens : List Tok) (decls : List Decl) → length text ≤ SOURCE_LIMIT → HasTextTree text tokens decls → IsTold tokens decls code at →
+  pub told : (tokens : List Tok) (decls : List Decl) → length text ≤ SOURCE_LIMIT → HasTextTree text tokens decls →
+      IsTold tokens decls code at →
       1 ≤ length notes
   pub expected : IsExpectedTold text code at notes
   pub limited : (words : List ℕ) → code ≡ LimitExceeded → IsTextLimit text at words → 1 ≤ length notes

@@ -3,7 +3,9 @@ use Rattle.explanation.specs.Notes.{Note}
 use Rattle.std.specs.Prelude.{◌≡◌, ℕ, ◌<◌, ◌⊎◌, IsTrue, List, [], ◌∷◌, ◌++◌, slice_get, Some, codes}
 use Rattle.resolution.specs.Where.{Has}
 use Rattle.source.specs.Tokens.{Tok}
-use Rattle.syntax.specs.Trees.{Ident, lone, Expr, Local, Stmt, let_local, let_owned, let_call, var_local, assign, if_then, while, print, return_value, call, Stmts, no_stmts, stmt, Otherwise, no_else, else_do, Section, Decl}
+use Rattle.syntax.specs.Trees.{Ident, lone, Expr, Local, Stmt, let_local, let_owned, let_call, var_local, assign}
+use Rattle.syntax.specs.Trees.{if_then, while, print, return_value, call, Stmts, no_stmts, stmt, Otherwise, no_else}
+use Rattle.syntax.specs.Trees.{else_do, Section, Decl}
 use Rattle.explanation_faults.specs.MissingReturns.{body_of}
 use Rattle.explanation_faults.specs.TokensThere.{token_at, name_of, has_two_fields}
 use Rattle.explanation_faults.specs.Words.{name_note}
@@ -86,10 +88,13 @@ pub record IsVarThere (tokens : List Tok) (decls : List Decl) (at : ℕ) (x : Id
   pub is_var : IsVar (all_of section.body.stmts) q x
 
 -- it is the base of two fields or more, or a statement of its section assigns it
-abbrev pub IsNeeded : (tokens : List Tok) (decls : List Decl) (at : ℕ) (x : Ident) → IsVarThere tokens decls at x → Type 0
+abbrev pub IsNeeded : (tokens : List Tok) (decls : List Decl) (at : ℕ) (x : Ident) → IsVarThere tokens decls at x →
+    Type 0
 IsNeeded tokens decls at x v = IsTrue (has_two_fields v.i tokens) ⊎ IsAssigned (all_of v.section.body.stmts) v.q
 
 -- that it is a `var`; and if that is not needed, that a `let` would do
 pub data IsVarNote (tokens : List Tok) (decls : List Decl) (at : ℕ) : Note → Type 0 where
-  needed : {x : Ident} (v : IsVarThere tokens decls at x) → IsNeeded tokens decls at x v → IsVarNote tokens decls at (var_note x)
-  not_needed : {x : Ident} (v : IsVarThere tokens decls at x) → (IsNeeded tokens decls at x v → ⊥) → IsVarNote tokens decls at (fixed_note x)
+  needed : {x : Ident} (v : IsVarThere tokens decls at x) → IsNeeded tokens decls at x v →
+      IsVarNote tokens decls at (var_note x)
+  not_needed : {x : Ident} (v : IsVarThere tokens decls at x) → (IsNeeded tokens decls at x v → ⊥) →
+      IsVarNote tokens decls at (fixed_note x)

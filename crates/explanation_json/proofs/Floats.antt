@@ -14,7 +14,8 @@ none_in_notes : (text : List ℕ) (notes : List Note) → items_have_float (item
 none_in_notes text [] = refl
 none_in_notes text (note ∷ notes) = rw (none_in_told text note.start note.words, none_in_notes text notes) refl
 
-pub none_in_fault : (file text : List ℕ) (fault : Fault) (notes : List Note) → has_float (fault_data file text fault notes) ≡ false
+pub none_in_fault : (file text : List ℕ) (fault : Fault) (notes : List Note) →
+    has_float (fault_data file text fault notes) ≡ false
 none_in_fault file text fault notes = rw (none_in_notes text notes) refl
 
 pub none_in_accepted : (file text : List ℕ) (notes : List Note) → has_float (accepted_data file text notes) ≡ false

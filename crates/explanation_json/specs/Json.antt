@@ -1,6 +1,7 @@
 -- The JSON of a fault that is explained, and of a program without one. `compact_text` is `serde_json`'s: the text of data without a space, with
 -- the members of each object by their keys, and strings in quotes with the shortest escapes.
-use Rattle.std.specs.Prelude.{ℕ, ◌+◌, ◌-◌, List, ◌++◌, Option, Some, None, true, false, length, max, min, map, take, drop, codes, string_bytes}
+use Rattle.std.specs.Prelude.{ℕ, ◌+◌, ◌-◌, List, ◌++◌, Option, Some, None, true, false, length, max, min, map, take}
+use Rattle.std.specs.Prelude.{drop, codes, string_bytes}
 use Rattle.std.specs.List.{prefix_len}
 use Rattle.code.specs.Listing.{line}
 use Rattle.explanation.specs.Notes.{Note}

@@ -1,5 +1,6 @@
 -- What is found, name by name and use by use.
-use Rattle.std.proofs.Common.{◌≡◌, ℕ, ◌<◌, ◌≤◌, ◌+◌, List, [], ◌∷◌, ◌++◌, Bool, true, false, length, get_or, drop, map, refl, sym, ap, ◌∙◌, append_assoc, subst, Option, Some, None, Vec, Global}
+use Rattle.std.proofs.Common.{◌≡◌, ℕ, ◌<◌, ◌≤◌, ◌+◌, List, [], ◌∷◌, ◌++◌, Bool, true, false, length, get_or, drop}
+use Rattle.std.proofs.Common.{map, refl, sym, ap, ◌∙◌, append_assoc, subst, Option, Some, None, Vec, Global}
 use Rattle.std.specs.List.{cons_option, filter_map}
 use Rattle.std.specs.Prelude.{not, if◌then◌else◌}
 use Rattle.std.proofs.lemmas.List.{append-nil, at_drop_more, at_drop_all, map-append}
@@ -17,7 +18,8 @@ use Rattle.explanation_names.specs.Working.Found.{meant_by}
 use Rattle.explanation_names.specs.Locals.{LocalInScope, declared_by, param_in_scope}
 use Rattle.explanation_names.specs.Sought.{Use}
 use Rattle.explanation_names.specs.Working.UsesFound.{all_declared, uses_by, uses_in_blocks, uses_in_stmts}
-use Rattle.explanation_names.specs.Working.Values.{Adds, Binds, Says, decls_at, ident_at, idents, meant_for, option_list, typed_seen}
+use Rattle.explanation_names.specs.Working.Values.{Adds, Binds, Says, decls_at, ident_at, idents, meant_for}
+use Rattle.explanation_names.specs.Working.Values.{option_list, typed_seen}
 
 pub nothing_added : (p : Found) → Adds p p []
 nothing_added p = record { unrefused = λ ok. ok; names = λ ok. sym (append-nil (idents p.names.items)) }
@@ -40,7 +42,8 @@ pub record Leads (first here : Found) (rest whole : List Ident) : Type 0 where
 pub at_first : (p : Found) (whole : List Ident) → Leads p p whole whole
 at_first p whole = record { unrefused = λ ok. ok; names = λ ok. refl }
 
-pub one_further : {p q r : Found} {x rest whole : List Ident} → Leads p q (x ++ rest) whole → Adds q r x → Leads p r rest whole
+pub one_further : {p q r : Found} {x rest whole : List Ident} → Leads p q (x ++ rest) whole → Adds q r x →
+    Leads p r rest whole
 one_further {q = q} {x = x} {rest = rest} l a = record {
   unrefused = λ ok. l.unrefused (a.unrefused ok);
   names = λ ok. ap (λ (s : List Ident). s ++ rest) (a.names ok) ∙ append_assoc (idents q.names.items) x rest ∙ l.names (a.unrefused ok);
@@ -53,14 +56,16 @@ at_last {q = q} l = record {
 }
 
 -- `rest` gives what is found in a list's rest, and `behind` what is found behind an item: one item further
-pub item_then : {B : Type 0} {p q r : Found} {piece whole : List Ident} (rest behind : List B → List Ident) (xs : List B) (i : ℕ) (x : B)
+pub item_then : {B : Type 0} {p q r : Found} {piece whole : List Ident} (rest behind : List B →
+    List Ident) (xs : List B) (i : ℕ) (x : B)
     → i < length xs → x ≡ get_or xs i x → rest (x ∷ drop (i + 1) xs) ≡ piece ++ behind (drop (i + 1) xs)
     → Leads p q (rest (drop i xs)) whole → Adds q r piece → Leads p r (behind (drop (i + 1) xs)) whole
 item_then {p = p} {q = q} {whole = whole} rest behind xs i x below is begins l a =
     let here = at_drop_more rest xs i x below ∙ ap (λ y. rest (y ∷ drop (i + 1) xs)) (sym is) ∙ begins in
     one_further (subst (λ (s : List Ident). Leads p q s whole) here l) a
 
-pub item_added : {B : Type 0} {p q r : Found} {piece whole : List Ident} (rest : List B → List Ident) (xs : List B) (i : ℕ) (x : B)
+pub item_added : {B : Type 0} {p q r : Found} {piece whole : List Ident} (rest : List B →
+    List Ident) (xs : List B) (i : ℕ) (x : B)
     → i < length xs → x ≡ get_or xs i x → rest (x ∷ drop (i + 1) xs) ≡ piece ++ rest (drop (i + 1) xs)
     → Leads p q (rest (drop i xs)) whole → Adds q r piece → Leads p r (rest (drop (i + 1) xs)) whole
 item_added rest xs i x below is begins l a = item_then rest rest xs i x below is begins l a
@@ -92,19 +97,22 @@ some_ahead (Some x) rest = refl
 some_ahead None rest = refl
 
 -- what a function gives of a list's items: one item further, and the end
-pub name_added : {A B : Type 0} {p q r : Found} {whole : List Ident} (f : A → Option Ident) (view : B → A) (xs : List B) (i : ℕ) (x : B) (o : Option Ident)
+pub name_added : {A B : Type 0} {p q r : Found} {whole : List Ident} (f : A → Option Ident) (view : B →
+    A) (xs : List B) (i : ℕ) (x : B) (o : Option Ident)
     → i < length xs → x ≡ get_or xs i x → o ≡ f (view x) → Leads p q (filter_map f (map view (drop i xs))) whole → Adds q r (option_list o)
     → Leads p r (filter_map f (map view (drop (i + 1) xs))) whole
 name_added f view xs i x o below is given l a =
     item_added (λ ys. filter_map f (map view ys)) xs i x below is
     (ap (λ (z : Option Ident). cons_option z (filter_map f (map view (drop (i + 1) xs)))) (sym given) ∙ some_ahead o (filter_map f (map view (drop (i + 1) xs)))) l a
 
-pub all_named : {A B : Type 0} {p q : Found} {whole : List Ident} (f : A → Option Ident) (view : B → A) (xs : List B) (i : ℕ)
+pub all_named : {A B : Type 0} {p q : Found} {whole : List Ident} (f : A → Option Ident) (view : B →
+    A) (xs : List B) (i : ℕ)
     → length xs ≤ i → Leads p q (filter_map f (map view (drop i xs))) whole → Adds p q whole
 all_named f view xs i above = all_added (λ ys. filter_map f (map view ys)) xs i above refl
 
 -- the whole of what was added to none
-pub all_there : {p q : Found} {names : List Ident} → p.names.items ≡ [] → Adds p q names → q.is_refused ≡ false → idents q.names.items ≡ names
+pub all_there : {p q : Found} {names : List Ident} → p.names.items ≡ [] → Adds p q names → q.is_refused ≡ false →
+    idents q.names.items ≡ names
 all_there {names = names} none a ok = a.names ok ∙ ap (λ (xs : List (Bor Name)). idents xs ++ names) none
 
 -- ---- uses of names
@@ -128,25 +136,29 @@ pub record Tells (s : Search) (first here : Found) (rest whole : List Use) : Typ
 pub tells_first : (s : Search) (p : Found) (whole : List Use) → Tells s p p whole whole
 tells_first s p whole = record { leads = at_first p (meant_for s whole) }
 
-pub told_further : {s : Search} {p q r : Found} {us rest whole : List Use} → Tells s p q (us ++ rest) whole → Says s q r us → Tells s p r rest whole
+pub told_further : {s : Search} {p q r : Found} {us rest whole : List Use} → Tells s p q (us ++ rest) whole →
+    Says s q r us → Tells s p r rest whole
 told_further {s = s} {p = p} {q = q} {us = us} {rest = rest} {whole = whole} l a = record {
   leads = one_further (subst (λ (xs : List Ident). Leads p q xs (meant_for s whole)) (flat_map-append (meant_by (decls_at s) s.at) us rest) l.leads) a.found;
 }
 
 -- `rest` gives the uses in a list's rest, and `behind` those behind an item: one item further
-pub item_said_then : {B : Type 0} {s : Search} {p q r : Found} {piece whole : List Use} (rest behind : List B → List Use) (xs : List B) (i : ℕ) (x : B)
+pub item_said_then : {B : Type 0} {s : Search} {p q r : Found} {piece whole : List Use} (rest behind : List B →
+    List Use) (xs : List B) (i : ℕ) (x : B)
     → i < length xs → x ≡ get_or xs i x → rest (x ∷ drop (i + 1) xs) ≡ piece ++ behind (drop (i + 1) xs)
     → Tells s p q (rest (drop i xs)) whole → Says s q r piece → Tells s p r (behind (drop (i + 1) xs)) whole
 item_said_then {s = s} {p = p} {q = q} {whole = whole} rest behind xs i x below is begins l a =
     let here = at_drop_more rest xs i x below ∙ ap (λ y. rest (y ∷ drop (i + 1) xs)) (sym is) ∙ begins in
     told_further (subst (λ (us : List Use). Tells s p q us whole) here l) a
 
-pub item_said : {B : Type 0} {s : Search} {p q r : Found} {piece whole : List Use} (rest : List B → List Use) (xs : List B) (i : ℕ) (x : B)
+pub item_said : {B : Type 0} {s : Search} {p q r : Found} {piece whole : List Use} (rest : List B →
+    List Use) (xs : List B) (i : ℕ) (x : B)
     → i < length xs → x ≡ get_or xs i x → rest (x ∷ drop (i + 1) xs) ≡ piece ++ rest (drop (i + 1) xs)
     → Tells s p q (rest (drop i xs)) whole → Says s q r piece → Tells s p r (rest (drop (i + 1) xs)) whole
 item_said rest xs i x below is begins l a = item_said_then rest rest xs i x below is begins l a
 
-pub all_said : {B : Type 0} {s : Search} {p q : Found} {whole : List Use} (rest : List B → List Use) (xs : List B) (i : ℕ)
+pub all_said : {B : Type 0} {s : Search} {p q : Found} {whole : List Use} (rest : List B →
+    List Use) (xs : List B) (i : ℕ)
     → length xs ≤ i → rest [] ≡ [] → Tells s p q (rest (drop i xs)) whole → Says s p q whole
 all_said {s = s} {p = p} {q = q} {whole = whole} rest xs i above none l = record {
   found = at_last (subst (λ (us : List Ident). Leads p q us (meant_for s whole)) (ap (meant_for s) (at_drop_all rest xs i above ∙ none)) l.leads);
@@ -155,7 +167,8 @@ all_said {s = s} {p = p} {q = q} {whole = whole} rest xs i above none l = record
 -- ---- with locals that come into scope
 
 -- the same uses, where no growth was refused before them
-pub said_when : {s : Search} {q r : Found} {us vs : List Use} → (q.is_refused ≡ false → us ≡ vs) → Says s q r us → Says s q r vs
+pub said_when : {s : Search} {q r : Found} {us vs : List Use} → (q.is_refused ≡ false → us ≡ vs) → Says s q r us →
+    Says s q r vs
 said_when {s = s} {q = q} e a = record {
   found = record {
     unrefused = a.found.unrefused;
@@ -163,7 +176,8 @@ said_when {s = s} {q = q} e a = record {
   };
 }
 
-pub told_when : {s : Search} {p q : Found} {us vs whole : List Use} → (q.is_refused ≡ false → us ≡ vs) → Tells s p q us whole → Tells s p q vs whole
+pub told_when : {s : Search} {p q : Found} {us vs whole : List Use} → (q.is_refused ≡ false → us ≡ vs) →
+    Tells s p q us whole → Tells s p q vs whole
 told_when {s = s} {q = q} e l = record {
   leads = record {
     unrefused = l.leads.unrefused;
@@ -182,12 +196,14 @@ module _ (s : Search) {q r t u : Found} {b d : Vec the_local.LocalInScope Global
   grown : u.is_refused ≡ false → typed_seen d.items ≡ xs ++ declared_by (stmt_of x)
   grown ok = binds.scope ok ∙ ap (λ (ys : List LocalInScope). ys ++ o) (keeps (binds.adds.unrefused ok)) ∙ ap (λ (ys : List LocalInScope). xs ++ ys) declares
 
-  pub stmt_said : {p : Found} {whole : List Use} → Tells s p q (uses_in_stmts xs (stmts_of (drop i ss))) whole → Tells s p u (uses_in_stmts (typed_seen d.items) (stmts_of (drop (i + 1) ss))) whole
+  pub stmt_said : {p : Found} {whole : List Use} → Tells s p q (uses_in_stmts xs (stmts_of (drop i ss))) whole →
+      Tells s p u (uses_in_stmts (typed_seen d.items) (stmts_of (drop (i + 1) ss))) whole
   stmt_said l =
       told_when (λ ok. ap (λ (ys : List LocalInScope). uses_in_stmts ys (stmts_of (drop (i + 1) ss))) (sym (grown ok)))
       (item_said_then (λ l. uses_in_stmts xs (stmts_of l)) (λ l. uses_in_stmts (xs ++ declared_by (stmt_of x)) (stmts_of l)) ss i x below is refl l (after_binding (both own inner) binds))
 
-  pub stmt_grown : {whole : List LocalInScope} → (q.is_refused ≡ false → xs ++ all_declared (stmts_of (drop i ss)) ≡ whole) →
+  pub stmt_grown : {whole : List LocalInScope} →
+      (q.is_refused ≡ false → xs ++ all_declared (stmts_of (drop i ss)) ≡ whole) →
       u.is_refused ≡ false → typed_seen d.items ++ all_declared (stmts_of (drop (i + 1) ss)) ≡ whole
   stmt_grown so_far ok =
       ap (λ (ys : List LocalInScope). ys ++ all_declared (stmts_of (drop (i + 1) ss))) (grown ok)
@@ -201,7 +217,8 @@ pub record Binding (a b : Vec the_local.LocalInScope Global) (first here : Found
   pub leads : Leads first here [] []
   pub scope : here.is_refused ≡ false → typed_seen b.items ++ rest ≡ typed_seen a.items ++ whole
 
-pub binds_first : (a : Vec the_local.LocalInScope Global) (p : Found) (whole : List LocalInScope) → Binding a a p p whole whole
+pub binds_first : (a : Vec the_local.LocalInScope Global) (p : Found) (whole : List LocalInScope) →
+    Binding a a p p whole whole
 binds_first a p whole = record { leads = at_first p []; scope = λ ok. refl }
 
 -- one parameter further
@@ -219,7 +236,8 @@ param_bound {b = b} {d = d} ps i x o below is one l binds = record {
       ∙ l.scope (binds.adds.unrefused ok);
 }
 
-pub all_bound : {p q : Found} {a b : Vec the_local.LocalInScope Global} (ps : List the_param.Param) (i : ℕ) → length ps ≤ i
+pub all_bound : {p q : Found} {a b : Vec the_local.LocalInScope Global} (ps : List the_param.Param) (i : ℕ) →
+    length ps ≤ i
     → Binding a b p q (map param_in_scope (map param_of (drop i ps))) (map param_in_scope (map param_of ps)) → Binds a b p q (map param_in_scope (map param_of ps))
 all_bound {b = b} ps i above l = record {
   adds = at_last l.leads;

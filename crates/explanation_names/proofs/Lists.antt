@@ -1,5 +1,6 @@
 -- What is in lists that stand one after another.
-use Rattle.std.proofs.Common.{◌≡◌, List, [], ◌∷◌, ◌++◌, ◌⊎◌, inl, inr, Bool, true, false, Option, Some, None, if◌then◌else◌, Result, Ok, Err, OnOk, take, length, map, refl, ap}
+use Rattle.std.proofs.Common.{◌≡◌, List, [], ◌∷◌, ◌++◌, ◌⊎◌, inl, inr, Bool, true, false, Option, Some, None}
+use Rattle.std.proofs.Common.{if◌then◌else◌, Result, Ok, Err, OnOk, take, length, map, refl, ap}
 use Rattle.std.specs.List.{cons_option, filter_map, flat_map}
 use Rattle.resolution.specs.Where.{Has, first, further}
 
@@ -31,7 +32,8 @@ pub where_so : {A : Type 0} (b : Bool) (xs : List A) {x : A} → b ≡ true → 
 where_so true xs is h = h
 where_so false xs is h = absurd cc
 
-pub so_where : {A : Type 0} {P : Type 0} (b : Bool) (xs : List A) {x : A} → (b ≡ true → Has xs x → P) → Has (if b then xs else []) x → P
+pub so_where : {A : Type 0} {P : Type 0} (b : Bool) (xs : List A) {x : A} → (b ≡ true → Has xs x → P) →
+    Has (if b then xs else []) x → P
 so_where true xs f h = f refl h
 so_where false xs f h = elim h [ ]
 
@@ -50,7 +52,8 @@ module _ {A B : Type 0} (f : A → Option B) {y : B} where
   given (x ∷ xs) first is = at_front (f x) (filter_map f xs) is
   given (x ∷ xs) (further h) is = behind (f x) (filter_map f xs) (given xs h is)
 
-  from_front : {P : Type 0} (o : Option B) (rest : List B) → (o ≡ Some y → P) → (Has rest y → P) → Has (cons_option o rest) y → P
+  from_front : {P : Type 0} (o : Option B) (rest : List B) → (o ≡ Some y → P) → (Has rest y → P) →
+      Has (cons_option o rest) y → P
   from_front (Some z) rest here later first = here refl
   from_front (Some z) rest here later (further h) = later h
   from_front None rest here later h = later h
@@ -75,7 +78,8 @@ module _ {A B : Type 0} {y : B} where
   flat_in f (x ∷ xs) first h = in_left (f x) (flat_map f xs) h
   flat_in f (x ∷ xs) (further has) h = in_right (f x) (flat_map f xs) (flat_in f xs has h)
 
-  pub flat_from : {P : Type 0} (f : A → List B) (xs : List A) → ((x : A) → Has xs x → Has (f x) y → P) → Has (flat_map f xs) y → P
+  pub flat_from : {P : Type 0} (f : A → List B) (xs : List A) → ((x : A) → Has xs x → Has (f x) y → P) →
+      Has (flat_map f xs) y → P
   flat_from f [] up h = elim h [ ]
   flat_from f (x ∷ xs) up h = either (f x) (flat_map f xs) (up x first) (flat_from f xs (λ z has. up z (further has))) h
 

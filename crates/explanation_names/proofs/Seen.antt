@@ -20,7 +20,8 @@ use Rattle.syntax.specs.Trees.{chain, if_then}
 use Rattle.syntax.specs.Views.{expr_of, item_of, items_of, joined_of, links_of, stmt_of, if_of, stmts_of, else_of}
 use Rattle.explanation_names.specs.declared.search.LocalInScope as the_local
 use Rattle.explanation_names.specs.Locals.{LocalInScope, declared_by}
-use Rattle.explanation_names.specs.Working.UsesFound.{uses_in_blocks, uses_in_else, uses_in_stmts, uses_of_item, uses_of_items}
+use Rattle.explanation_names.specs.Working.UsesFound.{uses_in_blocks, uses_in_else, uses_in_stmts, uses_of_item}
+use Rattle.explanation_names.specs.Working.UsesFound.{uses_of_items}
 use Rattle.explanation_names.specs.Working.Values.{typed_of, typed_seen}
 use Rattle.explanation_names.proofs.Lists.{front}
 
@@ -28,7 +29,8 @@ pub chain_seen : (e : the_joined.Joined) (k : Level) (first : the_expr.Expr) (li
     chain k (expr_of first) (links_of ls) ≡ joined_of e
 chain_seen e k first links ls is here = sym (ap joined_of is ∙ joined_of-Chain k first links ∙ ap (λ l. chain k (expr_of first) (links_of l)) (sym here))
 
-pub while_seen : (s : the_stmt.Stmt) (b : Box the_while.While Global) (x : the_while.While) → s ≡ While b → x ≡ b.value → while_of x ≡ stmt_of s
+pub while_seen : (s : the_stmt.Stmt) (b : Box the_while.While Global) (x : the_while.While) → s ≡ While b →
+    x ≡ b.value → while_of x ≡ stmt_of s
 while_seen s b x is here = ap while_of here ∙ sym (ap stmt_of is ∙ stmt_of-While b)
 
 pub if_seen : (s : the_stmt.Stmt) (b : Box the_if.If Global) (x : the_if.If) → s ≡ If b → x ≡ b.value →
@@ -36,7 +38,8 @@ pub if_seen : (s : the_stmt.Stmt) (b : Box the_if.If Global) (x : the_if.If) →
 if_seen s b x is here = sym (if_of-out x) ∙ ap if_of here ∙ sym (ap stmt_of is)
 
 -- the two blocks of a choice, each seen through what holds it
-pub blocks_seen : (xs ys : List LocalInScope) (s : the_stmt.Stmt) (b : Box the_if.If Global) (x y : the_if.If) → s ≡ If b → x ≡ b.value → y ≡ b.value → ys ≡ xs →
+pub blocks_seen : (xs ys : List LocalInScope) (s : the_stmt.Stmt) (b : Box the_if.If Global) (x y : the_if.If) →
+    s ≡ If b → x ≡ b.value → y ≡ b.value → ys ≡ xs →
     uses_in_stmts xs (stmts_of (out-If x).block.stmts.items) ++ uses_in_else ys (else_of (out-If y).otherwise) ≡ uses_in_blocks xs (stmt_of s)
 blocks_seen xs ys s b x y is here there same =
     ap (λ (zs : List LocalInScope). uses_in_stmts xs (stmts_of (out-If x).block.stmts.items) ++ uses_in_else zs (else_of (out-If y).otherwise)) same
@@ -44,7 +47,8 @@ blocks_seen xs ys s b x y is here there same =
     ∙ ap (uses_in_blocks xs) (if_seen s b x is here)
 
 -- locals behind others, taken off again
-pub taken_off : (old new : List the_local.LocalInScope) (n : ℕ) (more : List LocalInScope) → n ≡ length old → typed_seen new ≡ typed_seen old ++ more → typed_seen (take n new) ≡ typed_seen old
+pub taken_off : (old new : List the_local.LocalInScope) (n : ℕ) (more : List LocalInScope) → n ≡ length old →
+    typed_seen new ≡ typed_seen old ++ more → typed_seen (take n new) ≡ typed_seen old
 taken_off old new n more count made =
     sym (take-map typed_of n new) ∙ ap (take n) made
     ∙ ap (λ (k : ℕ). take k (typed_seen old ++ more)) (count ∙ sym (length-map old typed_of))

@@ -10,10 +10,18 @@ use Rattle.resolution.specs.Where.{Has, first, further}
 use Rattle.resolution.specs.Scopes.{Scope}
 use Rattle.resolution.specs.Statements.{first_name}
 use Rattle.resolution.specs.Annotations.{AnnotationCursor}
-use Rattle.syntax.specs.Trees.{Ident, ValueType, Const, Place, lone, element, path, Expr, HelperCall, Stmt, Stmts, Struct, Member, Protection, Section, Decl}
+use Rattle.syntax.specs.Trees.{Ident, ValueType, Const, Place, lone, element, path, Expr, HelperCall, Stmt, Stmts}
+use Rattle.syntax.specs.Trees.{Struct, Member, Protection, Section, Decl}
 use Rattle.explanation_names.specs.Working.Laws.{IsSoughtAt, seekers}
-use Rattle.explanation_names.specs.Locals.{LocalInScope, Stands, here, later, in_then, in_else, in_while, declared_by, param_in_scope, HasBody, of_section, of_helper, HasStmt, in_body}
-use Rattle.explanation_names.specs.Sought.{Use, Uses, a_value, an_element, a_base, a_way, an_owner, an_owner_local, a_struct, a_helper, a_section, a_pool, a_pool_given, a_field_given, a_lock, a_guard, a_guard_way, HasExpr, of_let, of_owned, of_var, of_assign, of_index, of_if, of_while, of_print, of_return, of_argument, HasHelperCall, by_let, by_itself, HasPlace, is_read, is_written, HasType, of_global, of_array, of_pool, of_final, of_field, of_parameter, of_result, of_local, HasConst, opening, initial, argument, Guards, guards}
+use Rattle.explanation_names.specs.Locals.{LocalInScope, Stands, here, later, in_then, in_else, in_while, declared_by}
+use Rattle.explanation_names.specs.Locals.{param_in_scope, HasBody, of_section, of_helper, HasStmt, in_body}
+use Rattle.explanation_names.specs.Sought.{Use, Uses, a_value, an_element, a_base, a_way, an_owner, an_owner_local}
+use Rattle.explanation_names.specs.Sought.{a_struct, a_helper, a_section, a_pool, a_pool_given, a_field_given, a_lock}
+use Rattle.explanation_names.specs.Sought.{a_guard, a_guard_way, HasExpr, of_let, of_owned, of_var, of_assign}
+use Rattle.explanation_names.specs.Sought.{of_index, of_if, of_while, of_print, of_return, of_argument, HasHelperCall}
+use Rattle.explanation_names.specs.Sought.{by_let, by_itself, HasPlace, is_read, is_written, HasType, of_global}
+use Rattle.explanation_names.specs.Sought.{of_array, of_pool, of_final, of_field, of_parameter, of_result, of_local}
+use Rattle.explanation_names.specs.Sought.{HasConst, opening, initial, argument, Guards, guards}
 use Rattle.explanation_names.proofs.Lists as l
 
 has_at : {A : Type 0} (xs : List A) (k : ℕ) {x : A} → slice_get xs k ≡ Some x → Has xs x
@@ -26,14 +34,16 @@ record Scoped (P : List LocalInScope → Type 0) : Type 0 where
   locals : List LocalInScope
   holds : P locals
 
-to_stands : {sc last : Scope} {ss : Stmts} {t : Stmt} → there.Among sc ss last t → (xs : List LocalInScope) → Scoped (λ ys. Stands xs ss ys t)
+to_stands : {sc last : Scope} {ss : Stmts} {t : Stmt} → there.Among sc ss last t → (xs : List LocalInScope) →
+    Scoped (λ ys. Stands xs ss ys t)
 to_stands there.here xs = record { locals = xs; holds = here }
 to_stands (there.later {s = s} a) xs = let b = to_stands a (xs ++ declared_by s) in record { locals = b.locals; holds = later b.holds }
 to_stands (there.in_then a) xs = let b = to_stands a xs in record { locals = b.locals; holds = in_then b.holds }
 to_stands (there.in_else a) xs = let b = to_stands a xs in record { locals = b.locals; holds = in_else b.holds }
 to_stands (there.in_while a) xs = let b = to_stands a xs in record { locals = b.locals; holds = in_while b.holds }
 
-passed : {ds : List Decl} {o : Option (ℕ × Section)} {es : List Expr} {w : Want} {e : Expr} → there.IsArgument ds o es w e → Has es e
+passed : {ds : List Decl} {o : Option (ℕ × Section)} {es : List Expr} {w : Want} {e : Expr} →
+    there.IsArgument ds o es w e → Has es e
 passed (there.for_parameter k {es = es} long taken given) = has_at es k given
 passed (there.for_nothing has) = has
 
@@ -50,7 +60,8 @@ module _ (decls : List Decl) where
   helper_call (there.by_let has) = let s = stmt has in record { locals = s.locals; holds = by_let s.holds }
   helper_call (there.by_itself has) = let s = stmt has in record { locals = s.locals; holds = by_itself s.holds }
 
-  asked : {xs : List LocalInScope} {sc : Scope} {s : Stmt} {w : Want} {e : Expr} → there.Asks sc s w e → HasStmt decls xs s → HasExpr decls xs e
+  asked : {xs : List LocalInScope} {sc : Scope} {s : Stmt} {w : Want} {e : Expr} → there.Asks sc s w e →
+      HasStmt decls xs s → HasExpr decls xs e
   asked there.of_let has = of_let has
   asked there.of_owned has = of_owned has
   asked (there.of_let_call is) has = of_argument (by_let has) (passed is)
@@ -95,7 +106,8 @@ module _ (decls : List Decl) where
   guard : {i : ℕ} {ms : List Member} {p : Protection} → there.Annotates decls i ms p → GuardOf p
   guard (there.annotates {i = i} {s = s} at_place member is) = record { structure = s; guarded = guards (has_at decls i at_place) member is }
 
-  reached : {start last : AnnotationCursor} {y x : Ident} {ys xs : List Ident} → Reaches decls start y ys last x xs → Has (y ∷ ys) x
+  reached : {start last : AnnotationCursor} {y x : Ident} {ys xs : List Ident} → Reaches decls start y ys last x xs →
+      Has (y ∷ ys) x
   reached fault.stays = first
   reached (fault.goes_on is reaches) = further (reached reaches)
 
@@ -119,7 +131,8 @@ module _ (decls : List Decl) where
   lock_named (fault.of_global has) = by_one (a_lock has) first
   lock_named (fault.no_member annotates none) = by_one (a_guard (guard annotates).guarded) first
 
-  member_passed : {p : Protection} {start : AnnotationCursor} {y : Ident} {ys : List Ident} → Walks decls p start y ys → IsSoughtAt decls y.span.start
+  member_passed : {p : Protection} {start : AnnotationCursor} {y : Ident} {ys : List Ident} →
+      Walks decls p start y ys → IsSoughtAt decls y.span.start
   member_passed (fault.walks annotates own reaches) = by_one (a_guard_way (guard annotates).guarded) (reached reaches)
 
   pub sought_at : (at : ℕ) → IsUnknown decls at → IsSoughtAt decls at

@@ -4,15 +4,37 @@ use Rattle.std.specs.List.{flat_map}
 use Rattle.core_lang.specs.declared.value.ValueType.TheVariants.{Integer}
 use Rattle.resolution.specs.declared.wanted.Want.{Want}
 use Rattle.resolution.specs.declared.wanted.Want.TheVariants.{Anything, Value}
-use Rattle.resolution.specs.Where.{Has, first, further, Within, itself, in_parentheses, in_prefix, in_first, in_operand, in_index, HasLink, this_link, later_link, HasCall, in_thread, InItems, this_call, in_repeat, later_call, HasLock, of_variable, of_elements, operand_want, prefix_want, side_want}
+use Rattle.resolution.specs.Where.{Has, first, further, Within, itself, in_parentheses, in_prefix, in_first}
+use Rattle.resolution.specs.Where.{in_operand, in_index, HasLink, this_link, later_link, HasCall, in_thread, InItems}
+use Rattle.resolution.specs.Where.{this_call, in_repeat, later_call, HasLock, of_variable, of_elements, operand_want}
+use Rattle.resolution.specs.Where.{prefix_want, side_want}
 use Rattle.resolution.specs.Where as where_
 use Rattle.syntax.specs.declared.tree.Operator.{Operator}
-use Rattle.syntax.specs.Trees.{Ident, ValueType, int_type, ref_type, Const, int_const, negative, null_const, member_const, Expr, int, null, place, paren, prefix, chain, compare, Place, lone, element, path, Links, no_links, link, HelperCall, Stmt, let_local, let_owned, let_call, var_local, assign, if_then, while, print, return_value, Stmts, no_stmts, stmt, Otherwise, no_else, else_do, Protection, Member, lock_member, final_member, field_member, Struct, Variable, Array, Init, Section, Call, Item, call, repeat, Items, no_items, item, Decl, lock, struct, global, array, pool, init, atomic, helper, thread}
+use Rattle.syntax.specs.Trees.{Ident, ValueType, int_type, ref_type, Const, int_const, negative, null_const}
+use Rattle.syntax.specs.Trees.{member_const, Expr, int, null, place, paren, prefix, chain, compare, Place, lone}
+use Rattle.syntax.specs.Trees.{element, path, Links, no_links, link, HelperCall, Stmt, let_local, let_owned, let_call}
+use Rattle.syntax.specs.Trees.{var_local, assign, if_then, while, print, return_value, Stmts, no_stmts, stmt}
+use Rattle.syntax.specs.Trees.{Otherwise, no_else, else_do, Protection, Member, lock_member, final_member}
+use Rattle.syntax.specs.Trees.{field_member, Struct, Variable, Array, Init, Section, Call, Item, call, repeat, Items}
+use Rattle.syntax.specs.Trees.{no_items, item, Decl, lock, struct, global, array, pool, init, atomic, helper, thread}
 use Rattle.syntax.specs.Trees as tree
 use Rattle.explanation_names.specs.declared.sought.Sought.TheVariants as kind
-use Rattle.explanation_names.specs.Locals.{LocalInScope, declared_by, param_in_scope, Stands, here, later, in_then, in_else, in_while, HasBody, of_section, of_helper, HasStmt, in_body}
-use Rattle.explanation_names.specs.Sought.{Use, of_kind, by_dots, by_init, by_owner, Uses, a_value, an_element, a_base, a_way, an_owner, an_owner_local, a_struct, a_helper, a_section, a_pool, a_pool_given, a_field_given, a_lock, a_guard, a_guard_way, HasExpr, of_let, of_owned, of_var, of_assign, of_index, of_if, of_while, of_print, of_return, of_argument, HasHelperCall, by_let, by_itself, HasPlace, is_read, is_written, HasType, of_global, of_array, of_pool, of_final, of_field, of_parameter, of_result, of_local, HasConst, opening, initial, argument, Guards, guards}
-use Rattle.explanation_names.specs.Working.UsesFound.{uses_in, uses_at, uses_behind, uses_of_type, uses_of_call, uses_of_local, uses_by, uses_in_blocks, uses_in_else, uses_in_stmts, uses_of_body, uses_of_const, uses_of_value, uses_of_result, uses_of_section_call, uses_of_item, uses_of_items, uses_of_annotation, uses_of_guard, uses_of_member, uses_of_param, uses_of_section, uses_of_decl}
+use Rattle.explanation_names.specs.Locals.{LocalInScope, declared_by, param_in_scope, Stands, here, later, in_then}
+use Rattle.explanation_names.specs.Locals.{in_else, in_while, HasBody, of_section, of_helper, HasStmt, in_body}
+use Rattle.explanation_names.specs.Sought.{Use, of_kind, by_dots, by_init, by_owner, Uses, a_value, an_element}
+use Rattle.explanation_names.specs.Sought.{a_base, a_way, an_owner, an_owner_local, a_struct, a_helper, a_section}
+use Rattle.explanation_names.specs.Sought.{a_pool, a_pool_given, a_field_given, a_lock, a_guard, a_guard_way, HasExpr}
+use Rattle.explanation_names.specs.Sought.{of_let, of_owned, of_var, of_assign, of_index, of_if, of_while, of_print}
+use Rattle.explanation_names.specs.Sought.{of_return, of_argument, HasHelperCall, by_let, by_itself, HasPlace}
+use Rattle.explanation_names.specs.Sought.{is_read, is_written, HasType, of_global, of_array, of_pool, of_final}
+use Rattle.explanation_names.specs.Sought.{of_field, of_parameter, of_result, of_local, HasConst, opening, initial}
+use Rattle.explanation_names.specs.Sought.{argument, Guards, guards}
+use Rattle.explanation_names.specs.Working.UsesFound.{uses_in, uses_at, uses_behind, uses_of_type, uses_of_call}
+use Rattle.explanation_names.specs.Working.UsesFound.{uses_of_local, uses_by, uses_in_blocks, uses_in_else}
+use Rattle.explanation_names.specs.Working.UsesFound.{uses_in_stmts, uses_of_body, uses_of_const, uses_of_value}
+use Rattle.explanation_names.specs.Working.UsesFound.{uses_of_result, uses_of_section_call, uses_of_item}
+use Rattle.explanation_names.specs.Working.UsesFound.{uses_of_items, uses_of_annotation, uses_of_guard}
+use Rattle.explanation_names.specs.Working.UsesFound.{uses_of_member, uses_of_param, uses_of_section, uses_of_decl}
 use Rattle.explanation_names.proofs.Lists as l
 
 -- ---- in expressions
@@ -24,7 +46,8 @@ own xs (element x e) = of_kind kind.Indexed xs x ∷ []
 own xs (path x fs) = of_kind kind.Local xs x ∷ by_dots xs x fs ∷ []
 
 module _ (xs : List LocalInScope) {u : Use} where
-  link_found : {links : Links} {o : Operator} {f : Expr} → HasLink links o f → Has (uses_in xs f) u → Has (uses_behind xs links) u
+  link_found : {links : Links} {o : Operator} {f : Expr} → HasLink links o f → Has (uses_in xs f) u →
+      Has (uses_behind xs links) u
   link_found (this_link {e = e} {rest = rest}) h = l.in_left (uses_in xs e) (uses_behind xs rest) h
   link_found (later_link {e = e} {rest = rest} has) h = l.in_right (uses_in xs e) (uses_behind xs rest) (link_found has h)
 
@@ -40,7 +63,8 @@ module _ (xs : List LocalInScope) {u : Use} where
 
   module _ (P : Type 0) where
     mutual
-      from_expr : (w : Want) (e : Expr) → ((v : Want) (p : Place) → Within w e v (place p) → Has (own xs p) u → P) → Has (uses_in xs e) u → P
+      from_expr : (w : Want) (e : Expr) → ((v : Want) (p : Place) → Within w e v (place p) → Has (own xs p) u → P) →
+          Has (uses_in xs e) u → P
       from_expr w (int n) up h = elim h [ ]
       from_expr w (null s) up h = elim h [ ]
       from_expr w (place (lone x)) up h = up w (lone x) itself h
@@ -59,7 +83,9 @@ module _ (xs : List LocalInScope) {u : Use} where
           (from_expr (side_want c) a (λ v p k. up v p (where_.in_left k)))
           (from_expr (side_want c) b (λ v p k. up v p (where_.in_right k))) h
 
-      from_links : (w : Want) (links : Links) → ((o : Operator) (f : Expr) (v : Want) (p : Place) → HasLink links o f → Within w f v (place p) → Has (own xs p) u → P) →
+      from_links : (w : Want) (links : Links) →
+          ((o : Operator) (f : Expr) (v : Want) (p : Place) → HasLink links o f → Within w f v (place p) →
+          Has (own xs p) u → P) →
           Has (uses_behind xs links) u → P
       from_links w no_links up h = elim h [ ]
       from_links w (link o e rest) up h =
@@ -70,7 +96,8 @@ module _ (xs : List LocalInScope) {u : Use} where
 -- ---- in statements
 
 module _ {u : Use} where
-  stands_found : {xs ys : List LocalInScope} {ss : Stmts} {t : Stmt} → Stands xs ss ys t → Has (uses_by ys t) u → Has (uses_in_stmts xs ss) u
+  stands_found : {xs ys : List LocalInScope} {ss : Stmts} {t : Stmt} → Stands xs ss ys t → Has (uses_by ys t) u →
+      Has (uses_in_stmts xs ss) u
   stands_found (here {xs = xs} {s = s} {rest = rest}) h =
       l.in_left (uses_by xs s ++ uses_in_blocks xs s) (uses_in_stmts (xs ++ declared_by s) rest) (l.in_left (uses_by xs s) (uses_in_blocks xs s) h)
   stands_found (later {xs = xs} {s = s} {rest = rest} stands) h =
@@ -117,7 +144,8 @@ module _ {u : Use} where
           (from_stmts (xs ++ declared_by s) rest (λ ys t a. up ys t (later a))) h
 
   -- the type of the local that a statement declares
-  declared_found : (xs : List LocalInScope) (s : Stmt) {x : LocalInScope} → Has (declared_by s) x → Has (uses_of_type xs x.value_type) u → Has (uses_by xs s) u
+  declared_found : (xs : List LocalInScope) (s : Stmt) {x : LocalInScope} → Has (declared_by s) x →
+      Has (uses_of_type xs x.value_type) u → Has (uses_by xs s) u
   declared_found xs (let_local k) first h = l.in_left (uses_of_type xs k.value_type) (uses_in xs k.value) h
   declared_found xs (let_owned k o) first h =
       l.in_left (uses_of_local xs k) (by_owner k.value_type o.field ∷ of_kind kind.Local xs o.local ∷ [])
@@ -148,14 +176,16 @@ module _ (decls : List Decl) {u : Use} where
   section_found (of_section has) h = decl_found has h
   section_found (of_helper has) h = decl_found has h
 
-  before_result : {s : Section} → HasBody decls s → Has (uses_of_body s ++ flat_map (uses_of_param []) s.params) u → IsFound decls u
+  before_result : {s : Section} → HasBody decls s → Has (uses_of_body s ++ flat_map (uses_of_param []) s.params) u →
+      IsFound decls u
   before_result {s = s} body h = section_found body (l.in_left (uses_of_body s ++ flat_map (uses_of_param []) s.params) (uses_of_result [] s.result) h)
 
   stmt_found : {xs : List LocalInScope} {t : Stmt} → HasStmt decls xs t → Has (uses_by xs t) u → IsFound decls u
   stmt_found (in_body {s = s} body stands) h =
       before_result body (l.in_left (uses_of_body s) (flat_map (uses_of_param []) s.params) (stands_found stands h))
 
-  call_found : {xs : List LocalInScope} {c : HelperCall} → HasHelperCall decls xs c → Has (uses_of_call xs c) u → IsFound decls u
+  call_found : {xs : List LocalInScope} {c : HelperCall} → HasHelperCall decls xs c → Has (uses_of_call xs c) u →
+      IsFound decls u
   call_found {xs = xs} (by_let {l = k} has) h = stmt_found has (l.in_right (uses_of_type xs k.value_type) (uses_of_call xs k.call) h)
   call_found (by_itself has) h = stmt_found has h
 
@@ -177,10 +207,12 @@ module _ (decls : List Decl) {u : Use} where
   place_found {xs = xs} (is_read has k) h = expr_found has (within_found xs k h)
   place_found {xs = xs} (is_written {p = p} {e = e} has) h = stmt_found has (l.in_left (uses_at xs p) (uses_in xs e) h)
 
-  member_found : {s : Struct} {m : Member} → Has decls (struct s) → Has s.members m → Has (uses_of_member [] s.name m) u → IsFound decls u
+  member_found : {s : Struct} {m : Member} → Has decls (struct s) → Has s.members m →
+      Has (uses_of_member [] s.name m) u → IsFound decls u
   member_found {s = s} has member h = decl_found has (l.flat_in (uses_of_member [] s.name) s.members member h)
 
-  type_found : {xs : List LocalInScope} {t : ValueType} → HasType decls xs t → Has (uses_of_type xs t) u → IsFound decls u
+  type_found : {xs : List LocalInScope} {t : ValueType} → HasType decls xs t → Has (uses_of_type xs t) u →
+      IsFound decls u
   type_found (of_global {v = v} has) h =
       decl_found has (l.in_left (uses_of_type [] v.value_type ++ uses_of_annotation [] v.protection) (uses_of_value [] v.value)
       (l.in_left (uses_of_type [] v.value_type) (uses_of_annotation [] v.protection) h))
@@ -220,7 +252,8 @@ module _ (decls : List Decl) {u : Use} where
       decl_found has (l.in_right (uses_of_type [] a.value_type) (uses_of_annotation [] a.protection)
       (subst (λ (o : Option Protection). Has (uses_of_annotation [] o) u) (sym is) h))
 
-  guard_found : {s : Struct} {p : Protection} → Guards decls s p → Has (uses_of_guard [] s.name (Some p)) u → IsFound decls u
+  guard_found : {s : Struct} {p : Protection} → Guards decls s p → Has (uses_of_guard [] s.name (Some p)) u →
+      IsFound decls u
   guard_found (guards {s = s} {f = f} has member is) h =
       member_found has member (l.in_right (uses_of_type [] f.value_type) (uses_of_guard [] s.name f.protection)
       (subst (λ (o : Option Protection). Has (uses_of_guard [] s.name o) u) (sym is) h))
@@ -259,22 +292,26 @@ module _ (decls : List Decl) where
   read_used : {xs : List LocalInScope} {u : Use} {e : Expr} → HasExpr decls xs e → Has (uses_in xs e) u → Uses decls u
   read_used {xs = xs} {u = u} {e = e} has h = from_expr xs (Uses decls u) Anything e (λ v p k. own_used p (is_read has k)) h
 
-  written_used : {xs : List LocalInScope} {u : Use} (p : Place) {e : Expr} → HasStmt decls xs (assign p e) → Has (uses_at xs p) u → Uses decls u
+  written_used : {xs : List LocalInScope} {u : Use} (p : Place) {e : Expr} → HasStmt decls xs (assign p e) →
+      Has (uses_at xs p) u → Uses decls u
   written_used (lone x) has h = own_used (lone x) (is_written has) h
   written_used {xs = xs} (element x i) has h =
       l.either (own xs (element x i)) (uses_in xs i) (own_used (element x i) (is_written has)) (read_used (of_index has)) h
   written_used (path x fs) has h = own_used (path x fs) (is_written has) h
 
-  type_used : {xs : List LocalInScope} {u : Use} (t : ValueType) → HasType decls xs t → Has (uses_of_type xs t) u → Uses decls u
+  type_used : {xs : List LocalInScope} {u : Use} (t : ValueType) → HasType decls xs t → Has (uses_of_type xs t) u →
+      Uses decls u
   type_used int_type has h = elim h [ ]
   type_used (ref_type x) has first = a_struct has
   type_used (ref_type x) has (further h) = elim h [ ]
 
-  call_used : {xs : List LocalInScope} {u : Use} {c : HelperCall} → HasHelperCall decls xs c → Has (uses_of_call xs c) u → Uses decls u
+  call_used : {xs : List LocalInScope} {u : Use} {c : HelperCall} → HasHelperCall decls xs c →
+      Has (uses_of_call xs c) u → Uses decls u
   call_used has first = a_helper has
   call_used {xs = xs} {c = c} has (further h) = l.flat_from (uses_in xs) c.arguments (λ e one. read_used (of_argument has one)) h
 
-  local_used : {xs : List LocalInScope} {u : Use} (k : tree.Local) → HasType decls xs k.value_type → HasExpr decls xs k.value → Has (uses_of_local xs k) u → Uses decls u
+  local_used : {xs : List LocalInScope} {u : Use} (k : tree.Local) → HasType decls xs k.value_type →
+      HasExpr decls xs k.value → Has (uses_of_local xs k) u → Uses decls u
   local_used {xs = xs} k one other h = l.either (uses_of_type xs k.value_type) (uses_in xs k.value) (type_used k.value_type one) (read_used other) h
 
   owner_used : {xs : List LocalInScope} {u : Use} {k : tree.Local} {o : tree.Owner} → HasStmt decls xs (let_owned k o) →
@@ -305,7 +342,8 @@ module _ (decls : List Decl) where
   const_used (member_const p n) has first = a_pool has
   const_used (member_const p n) has (further h) = elim h [ ]
 
-  value_used : {u : Use} {v : Variable} → Has decls (global v) → (o : Option Const) → v.value ≡ o → Has (uses_of_value [] o) u → Uses decls u
+  value_used : {u : Use} {v : Variable} → Has decls (global v) → (o : Option Const) → v.value ≡ o →
+      Has (uses_of_value [] o) u → Uses decls u
   value_used has (Some c) is h = const_used c (opening has is) h
   value_used has None is h = elim h [ ]
 
@@ -319,27 +357,32 @@ module _ (decls : List Decl) where
   in_front i rest c (later_call k) = elim k [ ]
 
   mutual
-    item_used : {u : Use} (i : Item) → ((c : Call) → InItems (item i no_items) c → HasCall decls c) → Has (uses_of_item [] i) u → Uses decls u
+    item_used : {u : Use} (i : Item) → ((c : Call) → InItems (item i no_items) c → HasCall decls c) →
+        Has (uses_of_item [] i) u → Uses decls u
     item_used (call c) up h = section_call_used (up c this_call) h
     item_used (repeat n is) up h = items_used is (λ c k. up c (in_repeat k)) h
 
-    items_used : {u : Use} (is : Items) → ((c : Call) → InItems is c → HasCall decls c) → Has (uses_of_items [] is) u → Uses decls u
+    items_used : {u : Use} (is : Items) → ((c : Call) → InItems is c → HasCall decls c) →
+        Has (uses_of_items [] is) u → Uses decls u
     items_used no_items up h = elim h [ ]
     items_used (item i rest) up h =
         l.either (uses_of_item [] i) (uses_of_items [] rest) (item_used i (λ c k. up c (in_front i rest c k))) (items_used rest (λ c k. up c (later_call k))) h
 
-  annotation_used : {u : Use} (o : Option Protection) → ((p : Protection) → o ≡ Some p → HasLock decls p) → Has (uses_of_annotation [] o) u → Uses decls u
+  annotation_used : {u : Use} (o : Option Protection) → ((p : Protection) → o ≡ Some p → HasLock decls p) →
+      Has (uses_of_annotation [] o) u → Uses decls u
   annotation_used (Some p) up first = a_lock (up p refl)
   annotation_used (Some p) up (further h) = elim h [ ]
   annotation_used None up h = elim h [ ]
 
-  guard_used : {u : Use} {s : Struct} (o : Option Protection) → ((p : Protection) → o ≡ Some p → Guards decls s p) → Has (uses_of_guard [] s.name o) u → Uses decls u
+  guard_used : {u : Use} {s : Struct} (o : Option Protection) → ((p : Protection) → o ≡ Some p → Guards decls s p) →
+      Has (uses_of_guard [] s.name o) u → Uses decls u
   guard_used (Some p) up first = a_guard (up p refl)
   guard_used (Some p) up (further first) = a_guard_way (up p refl)
   guard_used (Some p) up (further (further h)) = elim h [ ]
   guard_used None up h = elim h [ ]
 
-  member_used : {u : Use} {s : Struct} → Has decls (struct s) → (m : Member) → Has s.members m → Has (uses_of_member [] s.name m) u → Uses decls u
+  member_used : {u : Use} {s : Struct} → Has decls (struct s) → (m : Member) → Has s.members m →
+      Has (uses_of_member [] s.name m) u → Uses decls u
   member_used has (lock_member x) one h = elim h [ ]
   member_used has (final_member f) one h = type_used (ref_type f.target) (of_final has one) h
   member_used {s = s} has (field_member f) one h =
@@ -347,7 +390,8 @@ module _ (decls : List Decl) where
       (type_used f.value_type (of_field has one))
       (guard_used f.protection (λ p is. guards has one is)) h
 
-  result_used : {u : Use} {s : Section} → HasBody decls s → (o : Option ValueType) → s.result ≡ o → Has (uses_of_result [] o) u → Uses decls u
+  result_used : {u : Use} {s : Section} → HasBody decls s → (o : Option ValueType) → s.result ≡ o →
+      Has (uses_of_result [] o) u → Uses decls u
   result_used body (Some t) is h = type_used t (of_result body is) h
   result_used body None is h = elim h [ ]
 
@@ -359,7 +403,8 @@ module _ (decls : List Decl) where
       (l.flat_from (uses_of_param []) s.params (λ p has. type_used p.value_type (of_parameter body has))))
       (result_used body s.result refl) h
 
-  init_used : {u : Use} {i : Init} → Has decls (init i) → Has (of_kind kind.Pool [] i.pool ∷ by_init i.pool i.field ∷ []) u → Uses decls u
+  init_used : {u : Use} {i : Init} → Has decls (init i) →
+      Has (of_kind kind.Pool [] i.pool ∷ by_init i.pool i.field ∷ []) u → Uses decls u
   init_used has first = a_pool_given has
   init_used has (further first) = a_field_given has
   init_used has (further (further h)) = elim h [ ]

@@ -2,7 +2,8 @@
 use Rattle.std.specs.Prelude.{List, [], ◌∷◌, ◌++◌, map}
 use Rattle.resolution.specs.Where.{Has}
 use Rattle.source.specs.declared.span.Span.{Span}
-use Rattle.syntax.specs.Trees.{Ident, ValueType, Expr, Stmt, let_local, let_owned, let_call, var_local, if_then, while, Stmts, stmt, Otherwise, else_do, Param, Section, Decl, atomic, helper}
+use Rattle.syntax.specs.Trees.{Ident, ValueType, Expr, Stmt, let_local, let_owned, let_call, var_local, if_then}
+use Rattle.syntax.specs.Trees.{while, Stmts, stmt, Otherwise, else_do, Param, Section, Decl, atomic, helper}
 
 -- a local with its type
 pub record LocalInScope : Type 0 where

@@ -3,7 +3,8 @@ use Rattle.std.specs.Prelude.{◌≡◌, ℕ, List, ◌∷◌, Option, Some, Non
 use Rattle.resolution.specs.Constants.{members_of, pool_members}
 use Rattle.resolution.specs.Scopes.{the_decl, the_member}
 use Rattle.resolution.specs.Where.{Has}
-use Rattle.syntax.specs.Trees.{Ident, ValueType, int_type, ref_type, Member, lock_member, final_member, field_member, Decl, Protection}
+use Rattle.syntax.specs.Trees.{Ident, ValueType, int_type, ref_type, Member, lock_member, final_member, field_member}
+use Rattle.syntax.specs.Trees.{Decl, Protection}
 use Rattle.explanation_names.specs.declared.members.Role.{Role}
 use Rattle.explanation_names.specs.declared.members.Role.TheVariants as role
 use Rattle.explanation_names.specs.Locals.{LocalInScope}

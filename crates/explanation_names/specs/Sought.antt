@@ -4,7 +4,11 @@ use Rattle.resolution.specs.declared.wanted.Want.{Want}
 use Rattle.resolution.specs.Where.{Has, Within, HasCall, HasLock}
 use Rattle.source.specs.declared.span.Span.{Span}
 use Rattle.source.specs.declared.token.Number.{Number}
-use Rattle.syntax.specs.Trees.{Ident, ValueType, ref_type, Const, member_const, Place, lone, element, path, Expr, place, Local, Owner, HelperCall, CalledLocal, Stmt, let_local, let_owned, let_call, var_local, assign, if_then, while, print, return_value, Stmts, Otherwise, Protection, Final, Field, final_member, field_member, Struct, Variable, Array, Pool, Init, Param, Section, Call, Decl, struct, global, array, pool, init}
+use Rattle.syntax.specs.Trees.{Ident, ValueType, ref_type, Const, member_const, Place, lone, element, path, Expr}
+use Rattle.syntax.specs.Trees.{place, Local, Owner, HelperCall, CalledLocal, Stmt, let_local, let_owned, let_call}
+use Rattle.syntax.specs.Trees.{var_local, assign, if_then, while, print, return_value, Stmts, Otherwise, Protection}
+use Rattle.syntax.specs.Trees.{Final, Field, final_member, field_member, Struct, Variable, Array, Pool, Init, Param}
+use Rattle.syntax.specs.Trees.{Section, Call, Decl, struct, global, array, pool, init}
 use Rattle.syntax.specs.Trees as tree
 use Rattle.explanation_names.specs.declared.sought.Sought.{Sought}
 use Rattle.explanation_names.specs.declared.sought.Sought.TheVariants as kind
@@ -29,16 +33,19 @@ pub data HasHelperCall (decls : List Decl) : List LocalInScope → HelperCall �
 -- an expression that is no part of another
 pub data HasExpr (decls : List Decl) : List LocalInScope → Expr → Type 0 where
   of_let : {xs : List LocalInScope} {l : Local} → HasStmt decls xs (let_local l) → HasExpr decls xs l.value
-  of_owned : {xs : List LocalInScope} {l : Local} {o : Owner} → HasStmt decls xs (let_owned l o) → HasExpr decls xs l.value
+  of_owned : {xs : List LocalInScope} {l : Local} {o : Owner} → HasStmt decls xs (let_owned l o) →
+      HasExpr decls xs l.value
   of_var : {xs : List LocalInScope} {l : Local} → HasStmt decls xs (var_local l) → HasExpr decls xs l.value
   of_assign : {xs : List LocalInScope} {p : Place} {e : Expr} → HasStmt decls xs (assign p e) → HasExpr decls xs e
-  of_index : {xs : List LocalInScope} {x : Ident} {i e : Expr} → HasStmt decls xs (assign (element x i) e) → HasExpr decls xs i
+  of_index : {xs : List LocalInScope} {x : Ident} {i e : Expr} → HasStmt decls xs (assign (element x i) e) →
+      HasExpr decls xs i
   of_if : {xs : List LocalInScope} {start close : Span} {e : Expr} {body : Stmts} {other : Otherwise} →
       HasStmt decls xs (if_then start e body close other) → HasExpr decls xs e
   of_while : {xs : List LocalInScope} {start close : Span} {e : Expr} {body : Stmts} →
       HasStmt decls xs (while start e body close) → HasExpr decls xs e
   of_print : {xs : List LocalInScope} {start : Span} {e : Expr} → HasStmt decls xs (print start e) → HasExpr decls xs e
-  of_return : {xs : List LocalInScope} {start : Span} {e : Expr} → HasStmt decls xs (return_value start e) → HasExpr decls xs e
+  of_return : {xs : List LocalInScope} {start : Span} {e : Expr} → HasStmt decls xs (return_value start e) →
+      HasExpr decls xs e
   of_argument : {xs : List LocalInScope} {c : HelperCall} {e : Expr} →
       HasHelperCall decls xs c → Has c.arguments e → HasExpr decls xs e
 
@@ -82,14 +89,16 @@ pub data Uses (decls : List Decl) : Use → Type 0 where
       HasPlace decls xs (element x e) → Uses decls (of_kind kind.Indexed xs x)
   a_base : {xs : List LocalInScope} {x : Ident} {fs : List Ident} →
       HasPlace decls xs (path x fs) → Uses decls (of_kind kind.Local xs x)
-  a_way : {xs : List LocalInScope} {x : Ident} {fs : List Ident} → HasPlace decls xs (path x fs) → Uses decls (by_dots xs x fs)
+  a_way : {xs : List LocalInScope} {x : Ident} {fs : List Ident} → HasPlace decls xs (path x fs) →
+      Uses decls (by_dots xs x fs)
   -- behind `where` a final reference, and a local
   an_owner : {xs : List LocalInScope} {l : Local} {o : Owner} →
       HasStmt decls xs (let_owned l o) → Uses decls (by_owner l.value_type o.field)
   an_owner_local : {xs : List LocalInScope} {l : Local} {o : Owner} →
       HasStmt decls xs (let_owned l o) → Uses decls (of_kind kind.Local xs o.local)
   -- in a type a struct
-  a_struct : {xs : List LocalInScope} {x : Ident} → HasType decls xs (ref_type x) → Uses decls (of_kind kind.Struct xs x)
+  a_struct : {xs : List LocalInScope} {x : Ident} → HasType decls xs (ref_type x) →
+      Uses decls (of_kind kind.Struct xs x)
   -- in calls a helper, and a section
   a_helper : {xs : List LocalInScope} {c : HelperCall} →
       HasHelperCall decls xs c → Uses decls (of_kind kind.Helper xs c.helper)

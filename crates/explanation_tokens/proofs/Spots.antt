@@ -1,5 +1,6 @@
 -- Places among tokens.
-use Rattle.std.proofs.Common.{◌≡◌, ◌∙◌, ℕ, ◌+◌, ◌<◌, ◌≤◌, zero, suc, List, [], ◌∷◌, ◌++◌, length, take, get_or, slice_get, Some, ap, sym, subst, refl, arith}
+use Rattle.std.proofs.Common.{◌≡◌, ◌∙◌, ℕ, ◌+◌, ◌<◌, ◌≤◌, zero, suc, List, [], ◌∷◌, ◌++◌, length, take, get_or}
+use Rattle.std.proofs.Common.{slice_get, Some, ap, sym, subst, refl, arith}
 use Rattle.std.proofs.lemmas.List.{length-map, length-append}
 use Rattle.std.proofs.lemmas.List.Elements.{All-more}
 use Rattle.std.proofs.Math.ListN.{get_or-map}
@@ -13,13 +14,15 @@ use Rattle.explanation_tokens.specs.Working.Trials.{IsPlace, before_in}
 -- ---- the place is found
 
 -- one token more that starts before
-pub one_more_before : (tokens : List Token) (n start : ℕ) (t : Token) → n < length tokens → get_or tokens n t ≡ t → StartBefore (take n (seen tokens)) start →
+pub one_more_before : (tokens : List Token) (n start : ℕ) (t : Token) → n < length tokens → get_or tokens n t ≡ t →
+    StartBefore (take n (seen tokens)) start →
     (seen_token t).span.start < start → StartBefore (take (n + 1) (seen tokens)) start
 one_more_before tokens n start t within is all early =
     All-more (λ (x : Tok). x.span.start < start) (seen tokens) n (seen_token t) (rw length-map within) all
     (subst (λ (x : Tok). x.span.start < start) (sym (get_or-map seen_token tokens n t ∙ ap seen_token is)) early)
 
-pub there_seen : (tokens : List Token) (n : ℕ) (t : Token) → slice_get tokens n ≡ Some t → slice_get (seen tokens) n ≡ Some (seen_token t)
+pub there_seen : (tokens : List Token) (n : ℕ) (t : Token) → slice_get tokens n ≡ Some t →
+    slice_get (seen tokens) n ≡ Some (seen_token t)
 there_seen [] n t is = cc
 there_seen (x ∷ tokens) zero t is = let same : x ≡ t = cc in ap (λ (y : Token). Some (seen_token y)) same
 there_seen (x ∷ tokens) (suc n) t is = there_seen tokens n t is
@@ -27,7 +30,8 @@ there_seen (x ∷ tokens) (suc n) t is = there_seen tokens n t is
 -- ---- it is the only one
 
 -- where those before start before, one that does not is not among them
-not_before : (ts : List Tok) (n k start : ℕ) (t : Tok) → StartBefore (take n ts) start → slice_get ts k ≡ Some t → start ≤ t.span.start → n ≤ k
+not_before : (ts : List Tok) (n k start : ℕ) (t : Tok) → StartBefore (take n ts) start → slice_get ts k ≡ Some t →
+    start ≤ t.span.start → n ≤ k
 not_before ts zero k start t all there late = omega arith
 not_before [] (suc n) k start t all there late = cc
 not_before (x ∷ ts) (suc n) zero start t all there late =
@@ -37,14 +41,16 @@ not_before (x ∷ ts) (suc n) zero start t all there late =
 not_before (x ∷ ts) (suc n) (suc k) start t all there late =
     let rest = not_before ts n k start t (λ i d lt. all (suc i) d (omega arith)) there late in omega arith
 
-pub same_number : (ts : List Tok) (n k start : ℕ) (t u : Tok) → StartBefore (take n ts) start → StartBefore (take k ts) start →
+pub same_number : (ts : List Tok) (n k start : ℕ) (t u : Tok) → StartBefore (take n ts) start →
+    StartBefore (take k ts) start →
     slice_get ts n ≡ Some t → slice_get ts k ≡ Some u → t.span.start ≡ start → u.span.start ≡ start → n ≡ k
 same_number ts n k start t u first other there here starts begins =
     let a = not_before ts n k start u first here (omega arith) in
     let b = not_before ts k n start t other there (omega arith) in
     omega arith
 
-pub spot_is : (place : Spot) (number start : ℕ) → place.number ≡ number → place.span.start ≡ start → place.span.end ≡ start + 1 →
+pub spot_is : (place : Spot) (number start : ℕ) → place.number ≡ number → place.span.start ≡ start →
+    place.span.end ≡ start + 1 →
     place ≡ record { number = number; span = record { start = start; end = start + 1 } }
 spot_is place number start n s e =
     ap (λ k. record { number = k; span = record { start = place.span.start; end = place.span.end } }) n
@@ -52,7 +58,8 @@ spot_is place number start n s e =
     ∙ ap (λ k. record { number = number; span = record { start = start; end = k } }) e
 
 -- at a token that starts there, behind those that start before it, no other is the place
-pub only_place : (tokens : List Token) (start n : ℕ) (t : Tok) (place : Spot) → StartBefore (take n (seen tokens)) start → slice_get (seen tokens) n ≡ Some t →
+pub only_place : (tokens : List Token) (start n : ℕ) (t : Tok) (place : Spot) →
+    StartBefore (take n (seen tokens)) start → slice_get (seen tokens) n ≡ Some t →
     t.span.start ≡ start → IsPlace tokens start place → place ≡ record { number = n; span = record { start = start; end = start + 1 } }
 only_place tokens start n t place all there starts at =
     let before = subst (λ (k : ℕ). StartBefore (before_in place tokens) k) at.same at.behind.before in
@@ -60,7 +67,8 @@ only_place tokens start n t place all there starts at =
     (at.behind.one ∙ ap (λ k. k + 1) at.same)
 
 -- behind one that starts later, or behind the last, there is none
-pub none_later : (tokens : List Token) (start n : ℕ) (t : Tok) (place : Spot) → StartBefore (take n (seen tokens)) start → slice_get (seen tokens) n ≡ Some t →
+pub none_later : (tokens : List Token) (start n : ℕ) (t : Tok) (place : Spot) →
+    StartBefore (take n (seen tokens)) start → slice_get (seen tokens) n ≡ Some t →
     start < t.span.start → IsPlace tokens start place → ⊥
 none_later tokens start n t place all there late at =
     let before = subst (λ (k : ℕ). StartBefore (before_in place tokens) k) at.same at.behind.before in
@@ -76,7 +84,8 @@ within_seen [] k t is = cc
 within_seen (x ∷ ts) zero t is = omega arith
 within_seen (x ∷ ts) (suc k) t is = let rest = within_seen ts k t is in omega arith
 
-pub none_behind : (tokens : List Token) (start n : ℕ) (place : Spot) → length tokens ≤ n → StartBefore (take n (seen tokens)) start → IsPlace tokens start place → ⊥
+pub none_behind : (tokens : List Token) (start n : ℕ) (place : Spot) → length tokens ≤ n →
+    StartBefore (take n (seen tokens)) start → IsPlace tokens start place → ⊥
 none_behind tokens start n place all_read all at =
     let late = not_before (seen tokens) n place.number start at.token all at.there (omega (arith, at.starts)) in
     let within = within_seen (seen tokens) place.number at.token at.there in
@@ -84,12 +93,14 @@ none_behind tokens start n place all_read all at =
 
 -- ---- the place of an unexpected token
 
-split_at : (ts : List Tok) (n : ℕ) (t : Tok) → slice_get ts n ≡ Some t → (after : List Tok) × (ts ≡ take n ts ++ t ∷ after)
+split_at : (ts : List Tok) (n : ℕ) (t : Tok) → slice_get ts n ≡ Some t →
+    (after : List Tok) × (ts ≡ take n ts ++ t ∷ after)
 split_at [] n t is = cc
 split_at (x ∷ ts) zero t is = (ts, let same : x ≡ t = cc in ap (λ (y : Tok). y ∷ ts) same)
 split_at (x ∷ ts) (suc n) t is = let rest = split_at ts n t is in (rest.0, ap (λ (l : List Tok). x ∷ l) rest.1)
 
-pub are_expected : (tokens : List Token) (start : ℕ) (place : Spot) (list : List Candidate) → IsPlace tokens start place →
+pub are_expected : (tokens : List Token) (start : ℕ) (place : Spot) (list : List Candidate) →
+    IsPlace tokens start place →
     AreThose (CanCome (before_in place tokens) place.span.start) all_candidates list → AreExpected (seen tokens) start list
 are_expected tokens start place list at those =
     let parts = split_at (seen tokens) place.number at.token at.there in
@@ -110,10 +121,12 @@ there_at (x ∷ xs) t after = there_at xs t after
 abbrev pub spot_behind : List Tok → ℕ → Spot
 spot_behind before start = record { number = length before; span = record { start = start; end = start + 1 } }
 
-pub before_spot : (tokens : List Token) (start : ℕ) (before : List Tok) → IsBehind (seen tokens) start before → before_in (spot_behind before start) tokens ≡ before
+pub before_spot : (tokens : List Token) (start : ℕ) (before : List Tok) → IsBehind (seen tokens) start before →
+    before_in (spot_behind before start) tokens ≡ before
 before_spot tokens start before at = ap (λ (l : List Tok). take (length before) l) at.parts ∙ behind_all before at.token at.after
 
-pub place_behind : (tokens : List Token) (start : ℕ) (before : List Tok) → IsBehind (seen tokens) start before → StartBefore before start →
+pub place_behind : (tokens : List Token) (start : ℕ) (before : List Tok) → IsBehind (seen tokens) start before →
+    StartBefore before start →
     IsPlace tokens start (spot_behind before start)
 place_behind tokens start before at rise =
     record {

@@ -1,5 +1,6 @@
 -- What is told of the ones that can come.
-use Rattle.std.proofs.Common.{◌≡◌, ℕ, ◌+◌, ◌<◌, ◌≤◌, zero, suc, List, [], ◌∷◌, ◌++◌, length, take, get_or, slice_get, Some, sym, subst, refl, arith}
+use Rattle.std.proofs.Common.{◌≡◌, ℕ, ◌+◌, ◌<◌, ◌≤◌, zero, suc, List, [], ◌∷◌, ◌++◌, length, take, get_or, slice_get}
+use Rattle.std.proofs.Common.{Some, sym, subst, refl, arith}
 use Rattle.std.specs.List.{All}
 use Rattle.std.proofs.lemmas.List.{take_more}
 use Rattle.source.specs.declared.fault.Code.{Code}
@@ -9,33 +10,39 @@ use Rattle.source.specs.declared.token.Sign.TheVariants as sign
 use Rattle.source.specs.Tokens.{Tok}
 use Rattle.explanation_tokens.specs.declared.candidate.Candidate.{Candidate}
 use Rattle.explanation_tokens.specs.declared.candidate.Candidate.TheVariants.{Name, Number, Word, Mark}
-use Rattle.explanation_tokens.specs.Expected.{AreExpected, AreThose, no_more, it_is, it_is_not, IsTrueTokenNote, all_candidates}
+use Rattle.explanation_tokens.specs.Expected.{AreExpected, AreThose, no_more, it_is, it_is_not, IsTrueTokenNote}
+use Rattle.explanation_tokens.specs.Expected.{all_candidates}
 use Rattle.explanation_tokens.specs.Working.Trials.{notes_on}
 
 -- ---- those of a list that are so
 
-those_push : {A : Type 0} (Is : A → Type 0) (x : A) {xs those : List A} → AreThose Is xs those → Is x → AreThose Is (xs ++ x ∷ []) (those ++ x ∷ [])
+those_push : {A : Type 0} (Is : A → Type 0) (x : A) {xs those : List A} → AreThose Is xs those → Is x →
+    AreThose Is (xs ++ x ∷ []) (those ++ x ∷ [])
 those_push Is x no_more is = it_is is no_more
 those_push Is x (it_is was more) is = it_is was (those_push Is x more is)
 those_push Is x (it_is_not was more) is = it_is_not was (those_push Is x more is)
 
-those_pass : {A : Type 0} (Is : A → Type 0) (x : A) {xs those : List A} → AreThose Is xs those → (Is x → ⊥) → AreThose Is (xs ++ x ∷ []) those
+those_pass : {A : Type 0} (Is : A → Type 0) (x : A) {xs those : List A} → AreThose Is xs those → (Is x → ⊥) →
+    AreThose Is (xs ++ x ∷ []) those
 those_pass Is x no_more is = it_is_not is no_more
 those_pass Is x (it_is was more) is = it_is was (those_pass Is x more is)
 those_pass Is x (it_is_not was more) is = it_is_not was (those_pass Is x more is)
 
-pub one_more_is : {A : Type 0} (Is : A → Type 0) (xs those : List A) (i : ℕ) (d : A) → i < length xs → AreThose Is (take i xs) those → Is (get_or xs i d) →
+pub one_more_is : {A : Type 0} (Is : A → Type 0) (xs those : List A) (i : ℕ) (d : A) → i < length xs →
+    AreThose Is (take i xs) those → Is (get_or xs i d) →
     AreThose Is (take (i + 1) xs) (those ++ get_or xs i d ∷ [])
 one_more_is Is xs those i d within are is =
     subst (λ (l : List _). AreThose Is l (those ++ get_or xs i d ∷ [])) (sym (take_more xs i d within)) (those_push Is (get_or xs i d) are is)
 
-pub one_more_is_not : {A : Type 0} (Is : A → Type 0) (xs those : List A) (i : ℕ) (d : A) → i < length xs → AreThose Is (take i xs) those →
+pub one_more_is_not : {A : Type 0} (Is : A → Type 0) (xs those : List A) (i : ℕ) (d : A) → i < length xs →
+    AreThose Is (take i xs) those →
     (Is (get_or xs i d) → ⊥) → AreThose Is (take (i + 1) xs) those
 one_more_is_not Is xs those i d within are is =
     subst (λ (l : List _). AreThose Is l those) (sym (take_more xs i d within)) (those_pass Is (get_or xs i d) are is)
 
 -- where none is, no element is
-none_there : {A : Type 0} (Is : A → Type 0) (xs : List A) (i : ℕ) (x : A) → AreThose Is xs [] → slice_get xs i ≡ Some x → Is x → ⊥
+none_there : {A : Type 0} (Is : A → Type 0) (xs : List A) (i : ℕ) (x : A) → AreThose Is xs [] →
+    slice_get xs i ≡ Some x → Is x → ⊥
 none_there Is [] i x are there is = cc
 none_there Is (y ∷ ys) zero x (it_is_not was more) there is = was (let same : y ≡ x = cc in subst Is (sym same) is)
 none_there Is (y ∷ ys) (suc i) x (it_is_not was more) there is = none_there Is ys i x more there is
@@ -93,7 +100,8 @@ where_is (Mark sign.Or) = (47, refl)
 where_is (Mark sign.Not) = (48, refl)
 
 -- so one that can come is told
-pub some_told : (Is : Candidate → Type 0) (list : List Candidate) (c : Candidate) → AreThose Is all_candidates list → Is c → 1 ≤ length (notes_on list)
+pub some_told : (Is : Candidate → Type 0) (list : List Candidate) (c : Candidate) → AreThose Is all_candidates list →
+    Is c → 1 ≤ length (notes_on list)
 some_told Is [] c are is = let at = where_is c in absurd (none_there Is all_candidates at.0 c are at.1 is)
 some_told Is (first ∷ others) c are is = omega arith
 
@@ -101,7 +109,8 @@ pub one_told : (list : List Candidate) → length (notes_on list) ≤ 1
 one_told [] = omega arith
 one_told (first ∷ others) = omega arith
 
-pub true_notes : (ts : List Tok) (code : Code) (start : ℕ) (list : List Candidate) → code ≡ UnexpectedToken → AreExpected ts start list →
+pub true_notes : (ts : List Tok) (code : Code) (start : ℕ) (list : List Candidate) → code ≡ UnexpectedToken →
+    AreExpected ts start list →
     All (IsTrueTokenNote ts code start) (notes_on list)
 true_notes ts code start [] is are k d within = absurd (omega arith)
 true_notes ts code start (first ∷ others) is are zero d within = record { unexpected = is; first = first; others = others; expected = are; said = refl }

@@ -1,5 +1,6 @@
 -- What a parse of tokens with one that is tried says of it.
-use Rattle.std.proofs.Common.{◌≡◌, ◌∙◌, ℕ, ◌+◌, ◌<◌, ◌≤◌, ◌==◌, zero, suc, Bool, true, false, List, [], ◌∷◌, ◌++◌, length, take, ap, sym, subst, refl, arith, append_assoc}
+use Rattle.std.proofs.Common.{◌≡◌, ◌∙◌, ℕ, ◌+◌, ◌<◌, ◌≤◌, ◌==◌, zero, suc, Bool, true, false, List, [], ◌∷◌, ◌++◌}
+use Rattle.std.proofs.Common.{length, take, ap, sym, subst, refl, arith, append_assoc}
 use Rattle.std.proofs.lemmas.Bool.{eqb-true, eqb-false}
 use Rattle.source.specs.declared.fault.Code.{Code}
 use Rattle.source.specs.declared.token.Token.{Token}
@@ -16,7 +17,8 @@ starts_later : (t : Tok) (ts : List Tok) (start : ℕ) → StartBefore (t ∷ ts
 starts_later t ts start all k d within = all (suc k) d (omega arith)
 
 -- the token that starts one further is the last
-all_before : (before other : List Tok) (tried last t : Tok) (after : List Tok) (start : ℕ) → before ++ tried ∷ last ∷ [] ≡ other ++ t ∷ after →
+all_before : (before other : List Tok) (tried last t : Tok) (after : List Tok) (start : ℕ) →
+    before ++ tried ∷ last ∷ [] ≡ other ++ t ∷ after →
     StartBefore before start → tried.span.start ≡ start → t.span.start ≡ start + 1 → other ≡ before ++ tried ∷ []
 all_before [] [] tried last t after start parts first at later =
     let same : tried ≡ t = cc in
@@ -34,7 +36,8 @@ all_before (b ∷ bs) (x ∷ xs) tried last t after start parts first at later =
     ap (λ (y : Tok). y ∷ xs) (sym same) ∙ ap (λ (ys : List Tok). b ∷ ys) (all_before bs xs tried last t after start rest (starts_later b bs start first) at later)
 
 -- a token that is not the last is among those ahead of it
-inside : (xs other : List Tok) (last t : Tok) (after : List Tok) → xs ++ last ∷ [] ≡ other ++ t ∷ after → (t ≡ last → ⊥) →
+inside : (xs other : List Tok) (last t : Tok) (after : List Tok) → xs ++ last ∷ [] ≡ other ++ t ∷ after →
+    (t ≡ last → ⊥) →
     (mid : List Tok) × (xs ≡ other ++ t ∷ mid)
 inside [] [] last t after parts differs = absurd (differs cc)
 inside [] (o ∷ []) last t after parts differs = cc
@@ -47,7 +50,8 @@ inside (x ∷ xs) (o ∷ os) last t after parts differs =
     (found.0, ap (λ (y : Tok). y ∷ xs) same ∙ ap (λ (ys : List Tok). o ∷ ys) found.1)
 
 -- those ahead of the last, of tokens that end in the one that is tried and it
-ahead : (before other : List Tok) (tried last t : Tok) (after : List Tok) → before ++ tried ∷ last ∷ [] ≡ other ++ t ∷ after → (t ≡ last → ⊥) →
+ahead : (before other : List Tok) (tried last t : Tok) (after : List Tok) →
+    before ++ tried ∷ last ∷ [] ≡ other ++ t ∷ after → (t ≡ last → ⊥) →
     (mid : List Tok) × (before ++ tried ∷ [] ≡ other ++ t ∷ mid)
 ahead before other tried last t after parts differs =
     inside (before ++ tried ∷ []) other last t after (append_assoc before (tried ∷ []) (last ∷ []) ∙ parts) differs
@@ -91,7 +95,8 @@ comes_if_tree before last start candidate decls tree =
 -- ---- it can't
 
 -- with the one at fault no program begins, and it is not the last
-none_if_unexpected : (before : List Tok) (last : Tok) (start at : ℕ) (candidate : Candidate) → last.span.start ≡ start + 1 → (at ≡ start + 1 → ⊥) →
+none_if_unexpected : (before : List Tok) (last : Tok) (start at : ℕ) (candidate : Candidate) →
+    last.span.start ≡ start + 1 → (at ≡ start + 1 → ⊥) →
     IsUnexpected (before ++ token_at candidate start ∷ last ∷ []) at → CanCome before start candidate → ⊥
 none_if_unexpected before last start at candidate is_last differs fault can =
     let tried = token_at candidate start in
@@ -104,7 +109,8 @@ none_if_unexpected before last start at candidate is_last differs fault can =
     can.begins)
 
 -- so that the one behind it is at fault
-unexpected_says : (b : Bool) (before : List Tok) (last : Tok) (start at : ℕ) (candidate : Candidate) → (at == start + 1) ≡ b → last.span.start ≡ start + 1 →
+unexpected_says : (b : Bool) (before : List Tok) (last : Tok) (start at : ℕ) (candidate : Candidate) →
+    (at == start + 1) ≡ b → last.span.start ≡ start + 1 →
     IsUnexpected (before ++ token_at candidate start ∷ last ∷ []) at → CanCome before start candidate → (at == start + 1) ≡ true
 unexpected_says true before last start at candidate is is_last fault can = is
 unexpected_says false before last start at candidate is is_last fault can =
@@ -126,7 +132,8 @@ none_if_deep before last start at candidate is_end fault can =
 abbrev pub Parts : List Tok → List Tok → Candidate → ℕ → Tok → Type 0
 Parts ts before candidate start last = (ts ≡ before ++ token_at candidate start ∷ last ∷ []) × (last.kind ≡ end) × (last.span.start ≡ start + 1)
 
-pub can_if_fault : (before ts : List Tok) (last : Tok) (start at : ℕ) (code : Code) (candidate : Candidate) → Parts ts before candidate start last →
+pub can_if_fault : (before ts : List Tok) (last : Tok) (start at : ℕ) (code : Code) (candidate : Candidate) →
+    Parts ts before candidate start last →
     StartBefore before start → IsFault ts code at → says_it_can code at (start + 1) ≡ true → CanCome before start candidate
 can_if_fault before ts last start at code candidate parts first (unended none) says =
     absurd (has_end (before ++ token_at candidate start ∷ []) last parts.1
@@ -138,7 +145,8 @@ can_if_fault before ts last start at code candidate parts first (too_deep fault)
 can_if_fault before ts last start at code candidate parts first (misplaced fault) says =
     comes_if_tree before last start candidate fault.tree (subst (λ (l : List Tok). HasTree l fault.tree) parts.0 fault.has_tree)
 
-pub says_if_fault : (before ts : List Tok) (last : Tok) (start at : ℕ) (code : Code) (candidate : Candidate) → Parts ts before candidate start last →
+pub says_if_fault : (before ts : List Tok) (last : Tok) (start at : ℕ) (code : Code) (candidate : Candidate) →
+    Parts ts before candidate start last →
     IsFault ts code at → CanCome before start candidate → says_it_can code at (start + 1) ≡ true
 says_if_fault before ts last start at code candidate parts (unended none) can =
     absurd (has_end (before ++ token_at candidate start ∷ []) last parts.1
@@ -165,12 +173,14 @@ seen_parts zero old a b few = refl
 seen_parts (suc n) [] a b few = absurd (omega arith)
 seen_parts (suc n) (x ∷ old) a b few = ap (λ (l : List Tok). seen_token x ∷ l) (seen_parts n old a b (omega arith))
 
-pub before_still : (n : ℕ) (old : List Token) (a b : Token) → n ≤ length old → take n (seen (tried_with n old a b)) ≡ take n (seen old)
+pub before_still : (n : ℕ) (old : List Token) (a b : Token) → n ≤ length old →
+    take n (seen (tried_with n old a b)) ≡ take n (seen old)
 before_still zero old a b few = refl
 before_still (suc n) [] a b few = absurd (omega arith)
 before_still (suc n) (x ∷ old) a b few = ap (λ (l : List Tok). seen_token x ∷ l) (before_still n old a b (omega arith))
 
-pub behind_still : (place : Spot) (old : List Token) (a b : Token) → AreBefore place old → AreBefore place (tried_with place.number old a b)
+pub behind_still : (place : Spot) (old : List Token) (a b : Token) → AreBefore place old →
+    AreBefore place (tried_with place.number old a b)
 behind_still place old a b behind =
     record {
       within = long_still place.number old a b behind.within;

@@ -8,7 +8,8 @@ use Rattle.syntax.specs.declared.tree.If as tree_if
 use Rattle.syntax.specs.declared.tree.If.{out-If}
 use Rattle.syntax.specs.declared.tree.While as tree_while
 use Rattle.syntax.specs.Theory.Rows.{while_of, stmt_of-While, if_of-out}
-use Rattle.syntax.specs.Trees.{Param, Decl, Stmt, let_local, let_owned, let_call, var_local, assign, if_then, while, print, return_value, call, Stmts, no_stmts, stmt, no_else, else_do}
+use Rattle.syntax.specs.Trees.{Param, Decl, Stmt, let_local, let_owned, let_call, var_local, assign, if_then, while}
+use Rattle.syntax.specs.Trees.{print, return_value, call, Stmts, no_stmts, stmt, no_else, else_do}
 use Rattle.syntax.specs.Views.{expr_of, stmt_of, if_of, stmts_of, else_of}
 use Rattle.core_lang.specs.declared.value.ValueType as core_type
 use Rattle.resolution.specs.declared.body_limits.BodyLimits.{BodyLimits}
@@ -65,7 +66,8 @@ all_limits sc no_stmts = refl
 all_limits sc (stmt s rest) = all_limits (after sc s) rest ∙ after_limits sc s
 
 -- behind a block, whose locals are hidden
-pub left_is : (sc inner new : Scope) (number : ℕ) (ss : Stmts) → number ≡ length sc.locals → inner ≡ after_all sc ss → new ≡ record inner { locals = hidden_from number inner.locals } →
+pub left_is : (sc inner new : Scope) (number : ℕ) (ss : Stmts) → number ≡ length sc.locals → inner ≡ after_all sc ss →
+    new ≡ record inner { locals = hidden_from number inner.locals } →
     new ≡ left sc (after_all sc ss)
 left_is sc inner new number ss there within made =
     let end = after_all sc ss in
@@ -92,7 +94,8 @@ decls_there {decls = decls} (in_body {limits = limits} {x = x} b a) = among_decl
 
 -- ---- loops and choices, read through the box
 
-pub while_seen : (s : tree_stmt.Stmt) (b : Box tree_while.While Global) (x : tree_while.While) → s ≡ While b → x ≡ b.value → while_of x ≡ stmt_of s
+pub while_seen : (s : tree_stmt.Stmt) (b : Box tree_while.While Global) (x : tree_while.While) → s ≡ While b →
+    x ≡ b.value → while_of x ≡ stmt_of s
 while_seen s b x is same = ap while_of same ∙ sym (ap stmt_of is ∙ stmt_of-While b)
 
 pub if_seen : (s : tree_stmt.Stmt) (b : Box tree_if.If Global) (x : tree_if.If) → s ≡ If b → x ≡ b.value →
@@ -100,14 +103,16 @@ pub if_seen : (s : tree_stmt.Stmt) (b : Box tree_if.If Global) (x : tree_if.If) 
 if_seen s b x is same = sym (if_of-out x) ∙ ap if_of same ∙ sym (ap stmt_of is)
 
 -- the condition of a choice
-pub if_asked : (at : ℕ) (sc : Scope) (s : tree_stmt.Stmt) (b : Box tree_if.If Global) (x : tree_if.If) → s ≡ If b → x ≡ b.value → (xs ys : List Clash) →
+pub if_asked : (at : ℕ) (sc : Scope) (s : tree_stmt.Stmt) (b : Box tree_if.If Global) (x : tree_if.If) → s ≡ If b →
+    x ≡ b.value → (xs ys : List Clash) →
     ys ≡ xs ++ expr_clashes at sc Condition (expr_of (out-If x).condition) → ys ≡ xs ++ said_of_stmt at sc (stmt_of s)
 if_asked at sc s b x is same xs ys made = made ∙ ap (λ (t : Stmt). xs ++ said_of_stmt at sc t) (if_seen s b x is same)
 
 -- a choice by its parts, where the scope behind its block is sc2
 module _ (say : Scope → Stmt → List Clash) (sc sc2 : Scope) (s : tree_stmt.Stmt) (b : Box tree_if.If Global) (x y : tree_if.If) (is : s ≡ If b) (same : x ≡ b.value) (there : y ≡ b.value)
     (left_behind : sc2 ≡ left sc (after_all sc (stmts_of (out-If x).block.stmts.items))) where
-  pub if_notes : (xs ys zs : List Clash) → ys ≡ xs ++ of_stmts say sc (stmts_of (out-If x).block.stmts.items) → zs ≡ ys ++ search.in_else say sc2 (else_of (out-If y).otherwise) →
+  pub if_notes : (xs ys zs : List Clash) → ys ≡ xs ++ of_stmts say sc (stmts_of (out-If x).block.stmts.items) →
+      zs ≡ ys ++ search.in_else say sc2 (else_of (out-If y).otherwise) →
       zs ≡ xs ++ in_blocks say sc (stmt_of s)
   if_notes xs ys zs ahead behind =
       let sc3 = left sc (after_all sc (stmts_of (out-If x).block.stmts.items)) in

@@ -7,7 +7,8 @@ use Rattle.resolution.specs.Limits.{section_limits, helper_limits}
 use Rattle.resolution.specs.Scopes.{Scope, outside, type_of}
 use Rattle.resolution.specs.Expressions.{want}
 use Rattle.resolution.specs.Resolution.{entry}
-use Rattle.resolution.specs.Where.{Has, first, further, of_section, of_helper, HasStmt, in_body, HasConst, opening, initial, argument, in_thread}
+use Rattle.resolution.specs.Where.{Has, first, further, of_section, of_helper, HasStmt, in_body, HasConst, opening}
+use Rattle.resolution.specs.Where.{initial, argument, in_thread}
 use Rattle.explanation_types.specs.Working.Searches.{of_opening, in_decl, in_decls}
 use Rattle.explanation_types.proofs.Lists as l
 use Rattle.explanation_types.proofs.StatementLaws.{each_among, from_among}
@@ -16,16 +17,19 @@ use Rattle.explanation_types.proofs.ConstantLaws.{passed_has, from_opening, from
 module _ (say : Scope → Stmt → List Clash) (tell : Want → Const → List Clash) (decls : List Decl) (n : Clash) where
   -- ---- what is said of one is said
 
-  decl_has : (ds : List Decl) (d : Decl) → Has ds d → Has (in_decl say tell decls d) n → Has (in_decls say tell decls ds) n
+  decl_has : (ds : List Decl) (d : Decl) → Has ds d → Has (in_decl say tell decls d) n →
+      Has (in_decls say tell decls ds) n
   decl_has [] d b h = elim b [ ]
   decl_has (d ∷ ds) e first h = l.in_left (in_decl say tell decls d) (in_decls say tell decls ds) h
   decl_has (d ∷ ds) e (further b) h = l.in_right (in_decl say tell decls d) _ (decl_has ds e b h)
 
-  pub each_stmt : {sc : Scope} {s : Stmt} → HasStmt decls sc s → Has (say sc s) n → Has (in_decls say tell decls decls) n
+  pub each_stmt : {sc : Scope} {s : Stmt} → HasStmt decls sc s → Has (say sc s) n →
+      Has (in_decls say tell decls decls) n
   each_stmt (in_body (of_section {x = x} b) a) h = decl_has decls (atomic x) b (each_among say n a h)
   each_stmt (in_body (of_helper {x = x} b) a) h = decl_has decls (helper x) b (each_among say n a h)
 
-  pub each_const : {w : Want} {c : Const} → HasConst decls w c → Has (tell w c) n → Has (in_decls say tell decls decls) n
+  pub each_const : {w : Want} {c : Const} → HasConst decls w c → Has (tell w c) n →
+      Has (in_decls say tell decls decls) n
   each_const (opening {v = v} b is) h =
       decl_has decls (global v) b (subst (λ (o : Option Const). Has (of_opening tell (want (type_of (outside decls) v.value_type)) o) n) (sym is) h)
   each_const (initial {i = i} b) h = decl_has decls (init i) b h

@@ -1,6 +1,7 @@
 -- What has operands is a number or a condition, if it has a type.
 use Rattle.std.specs.Prelude.{Box, IfOk}
-use Rattle.std.proofs.Common.{◌≡◌, Global, Result, Ok, Err, Option, Some, None, Bool, true, false, refl, sym, ap, ◌∙◌, if◌then◌else◌}
+use Rattle.std.proofs.Common.{◌≡◌, Global, Result, Ok, Err, Option, Some, None, Bool, true, false, refl, sym, ap, ◌∙◌}
+use Rattle.std.proofs.Common.{if◌then◌else◌}
 use Rattle.syntax.specs.Trees.{Expr, Links, chain}
 use Rattle.syntax.specs.declared.tree.Level.{Level}
 use Rattle.syntax.specs.declared.tree.Level.TheVariants.{Term, Sum, Conjunction, Disjunction}
@@ -14,7 +15,9 @@ use Rattle.syntax.specs.Views.{expr_of, joined_of, links_of_row}
 use Rattle.core_lang.specs.declared.tree.Comparison.{Comparison}
 use Rattle.resolution.specs.Core as core
 use Rattle.resolution.specs.Scopes.{Scope}
-use Rattle.resolution.specs.Expressions.{ResolvedExpr, value, truth, Tests, alike_sorts, all_hold, one_holds, chained, ordered, equated, compared, number_resolved, test_resolved, typed, typed_links, typed_tests}
+use Rattle.resolution.specs.Expressions.{ResolvedExpr, value, truth, Tests, alike_sorts, all_hold, one_holds, chained}
+use Rattle.resolution.specs.Expressions.{ordered, equated, compared, number_resolved, test_resolved, typed}
+use Rattle.resolution.specs.Expressions.{typed_links, typed_tests}
 use Rattle.explanation_types.specs.Working.Values.{kind_if, whole_kind}
 
 abbrev IsWhole : Option ResolvedExpr → Type 0
@@ -68,7 +71,8 @@ joined_whole sc (the_joined.Pair op left right) = chain_whole sc (level_of op) (
 joined_whole sc (the_joined.Chain' level e _ links) = chain_whole sc level (expr_of e) (links_of_row links)
 joined_whole sc (the_joined.Compare c a b) = compared_whole c (typed sc (expr_of a)) (typed sc (expr_of b))
 
-pub joined_is : (sc : Scope) (e : the_expr.Expr) (b : Box the_joined.Joined Global) → e ≡ Joined b → whole_kind (typed sc (expr_of e)) ≡ kind_if (typed sc (expr_of e))
+pub joined_is : (sc : Scope) (e : the_expr.Expr) (b : Box the_joined.Joined Global) → e ≡ Joined b →
+    whole_kind (typed sc (expr_of e)) ≡ kind_if (typed sc (expr_of e))
 joined_is sc e b is =
     ap (λ (x : the_expr.Expr). whole_kind (typed sc (expr_of x))) is ∙ joined_whole sc b.value ∙ sym (ap (λ (x : the_expr.Expr). kind_if (typed sc (expr_of x))) is)
 

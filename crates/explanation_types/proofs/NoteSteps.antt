@@ -1,5 +1,6 @@
 -- Notes, pushed one after another.
-use Rattle.std.proofs.Common.{◌≡◌, Global, Vec, ℕ, ◌+◌, ◌<◌, List, ◌∷◌, ◌++◌, length, drop, get_or, sym, ap, ◌∙◌, subst, append_assoc}
+use Rattle.std.proofs.Common.{◌≡◌, Global, Vec, ℕ, ◌+◌, ◌<◌, List, ◌∷◌, ◌++◌, length, drop, get_or, sym, ap, ◌∙◌}
+use Rattle.std.proofs.Common.{subst, append_assoc}
 use Rattle.types_symbols.specs.Theory.Steps.{drop-here, step}
 use Rattle.syntax.specs.declared.tree.Expr as the_expr
 use Rattle.syntax.specs.declared.tree.Joined as the_joined
@@ -26,7 +27,8 @@ turn go next items i item now new own whole lt is made one before =
     step (λ l. now ++ go l) (λ l. new ++ next l) items i item whole lt is
     (ap (λ l. l ++ next (drop (i + 1) items)) made ∙ append_assoc now own (next (drop (i + 1) items)) ∙ ap (λ l. now ++ l) one) before
 
-pub turn_two : {A B C : Type 0} (go : List A → List B → List C) (xs : List A) (ys : List B) (i : ℕ) (x : A) (y : B) (now new own whole : List C) →
+pub turn_two : {A B C : Type 0} (go : List A → List B →
+    List C) (xs : List A) (ys : List B) (i : ℕ) (x : A) (y : B) (now new own whole : List C) →
     i < length xs → length xs ≡ length ys → x ≡ get_or xs i x → y ≡ get_or ys i y → new ≡ now ++ own →
     own ++ go (drop (i + 1) xs) (drop (i + 1) ys) ≡ go (x ∷ drop (i + 1) xs) (y ∷ drop (i + 1) ys) →
     now ++ go (drop i xs) (drop i ys) ≡ whole → new ++ go (drop (i + 1) xs) (drop (i + 1) ys) ≡ whole

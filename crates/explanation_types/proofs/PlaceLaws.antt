@@ -5,7 +5,8 @@ use Rattle.core_lang.specs.declared.tree.FieldStep.TheVariants.{Final, Field}
 use Rattle.resolution.specs.Scopes.{◌>>=◌}
 use Rattle.resolution.specs.Statements.{Split, behind, last_field}
 
-pub last_push : (ys : List FieldStep) (k n : ℕ) → last_field (ys ++ Field k n ∷ []) ≡ Some (record { base = ys; structure = k; field = n })
+pub last_push : (ys : List FieldStep) (k n : ℕ) →
+    last_field (ys ++ Field k n ∷ []) ≡ Some (record { base = ys; structure = k; field = n })
 last_push [] k n = refl
 last_push (Field j m ∷ []) k n = refl
 last_push (Final j m ∷ []) k n = refl

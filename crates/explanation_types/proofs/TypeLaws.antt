@@ -1,5 +1,6 @@
 -- What is found is what is true of types.
-use Rattle.std.proofs.Common.{◌≡◌, ◌∙◌, ℕ, List, [], ◌∷◌, ◌++◌, map, Option, Some, None, Bool, true, false, refl, sym, ap, subst, if◌then◌else◌, arith}
+use Rattle.std.proofs.Common.{◌≡◌, ◌∙◌, ℕ, List, [], ◌∷◌, ◌++◌, map, Option, Some, None, Bool, true, false, refl, sym}
+use Rattle.std.proofs.Common.{ap, subst, if◌then◌else◌, arith}
 use Rattle.std.specs.Prelude.{◌==◌, length, codes, option_map}
 use Rattle.std.proofs.lemmas.Bool.{eqb-true}
 use Rattle.std.proofs.lemmas.Bool.Decides.{nat_tests}
@@ -9,7 +10,9 @@ use Rattle.core_lang.specs.declared.value.ValueType as core_type
 use Rattle.core_lang.specs.declared.value.ValueType.TheVariants.{Integer, Reference}
 use Rattle.syntax.specs.declared.tree.Comparison as written_sign
 use Rattle.syntax.specs.declared.tree.Comparison.TheVariants as sign
-use Rattle.syntax.specs.Trees.{ValueType, Const, Expr, int, null, place, paren, prefix, chain, compare, Local, Owner, CalledLocal, Stmt, let_local, let_owned, let_call, var_local, assign, if_then, while, print, return_value, call, Section, Decl}
+use Rattle.syntax.specs.Trees.{ValueType, Const, Expr, int, null, place, paren, prefix, chain, compare, Local, Owner}
+use Rattle.syntax.specs.Trees.{CalledLocal, Stmt, let_local, let_owned, let_call, var_local, assign, if_then, while}
+use Rattle.syntax.specs.Trees.{print, return_value, call, Section, Decl}
 use Rattle.resolution.specs.Core as core
 use Rattle.resolution.specs.declared.wanted.Sort.{Sort}
 use Rattle.resolution.specs.declared.wanted.Sort.TheVariants as sort
@@ -20,12 +23,21 @@ use Rattle.resolution.specs.Constants.{const_sort}
 use Rattle.resolution.specs.Faults.{AreUnlike, IsEquality, start_of, const_start}
 use Rattle.resolution.specs.Owners.{owner_field}
 use Rattle.resolution.specs.Scopes as local
-use Rattle.resolution.specs.Scopes.{◌>>=◌, Scope, Meaning, a_decl, a_local, nothing, helper_meant, meaning, outside, result_of, type_of}
+use Rattle.resolution.specs.Scopes.{◌>>=◌, Scope, Meaning, a_decl, a_local, nothing, helper_meant, meaning, outside}
+use Rattle.resolution.specs.Scopes.{result_of, type_of}
 use Rattle.resolution.specs.declared.owner_field.OwnerField.{OwnerField}
 use Rattle.resolution.specs.Where.{Has, first, further, HasExpr, HasConst, HasStmt, in_stmt}
 use Rattle.explanation_types.specs.Working.Searches.{of_call, of_own}
-use Rattle.explanation_types.specs.TypeNotes.{types_note, sides_note, want_words, found_words, sort_words, type_words, IsTypeNote, of_expression, of_constant, of_sides, of_conditions, of_no_result, of_result, of_number_owned, of_owner}
-use Rattle.explanation_types.specs.Working.Values.{clash_note, types_clash, sides_clash, no_result_clash, no_reference_clash, kind_of, kind_if, fits_kind, unfit, misfit_at, is_equality, is_blamed, sides_if, sides_judged, sides_at, equality_at, said_by, type_unfit, given_said, result_said, result_of_local, result_at, meant_type, number_said, owner_said, member_owned_at, local_owned, local_owned_at, owner_at, said_of_stmt, const_kind, said_of_const, all_clashes}
+use Rattle.explanation_types.specs.TypeNotes.{types_note, sides_note, want_words, found_words, sort_words, type_words}
+use Rattle.explanation_types.specs.TypeNotes.{IsTypeNote, of_expression, of_constant, of_sides, of_conditions}
+use Rattle.explanation_types.specs.TypeNotes.{of_no_result, of_result, of_number_owned, of_owner}
+use Rattle.explanation_types.specs.Working.Values.{clash_note, types_clash, sides_clash, no_result_clash}
+use Rattle.explanation_types.specs.Working.Values.{no_reference_clash, kind_of, kind_if, fits_kind, unfit, misfit_at}
+use Rattle.explanation_types.specs.Working.Values.{is_equality, is_blamed, sides_if, sides_judged, sides_at}
+use Rattle.explanation_types.specs.Working.Values.{equality_at, said_by, type_unfit, given_said, result_said}
+use Rattle.explanation_types.specs.Working.Values.{result_of_local, result_at, meant_type, number_said, owner_said}
+use Rattle.explanation_types.specs.Working.Values.{member_owned_at, local_owned, local_owned_at, owner_at}
+use Rattle.explanation_types.specs.Working.Values.{said_of_stmt, const_kind, said_of_const, all_clashes}
 use Rattle.explanation_types.specs.declared.clash.Clash.{Clash}
 use Rattle.explanation_types.specs.declared.clash.Kind as the_kind
 use Rattle.explanation_types.specs.declared.clash.Kind.TheVariants as kind
@@ -52,7 +64,8 @@ fits_is Condition (truth c) = refl
 fits_is (Value t) (truth c) = refl
 
 module _ (P : Type 0) (n : Clash) where
-  here_if : (i at : ℕ) (ns : List Clash) (b : Bool) → (i == at) ≡ b → (i ≡ at → Has ns n → P) → Has (if b then ns else []) n → P
+  here_if : (i at : ℕ) (ns : List Clash) (b : Bool) → (i == at) ≡ b → (i ≡ at → Has ns n → P) →
+      Has (if b then ns else []) n → P
   here_if i at ns true e up h = up (eqb-true i at e) h
   here_if i at ns false e up h = elim h [ ]
 
@@ -67,15 +80,18 @@ module _ (P : Type 0) (n : Clash) where
   misfit_if m fit true e up h = elim h [ ]
   misfit_if m fit false e up h = one_only m (up e) h
 
-  from_unfit : (w : Want) (k : the_kind.Kind) → (fits_kind w k ≡ false → types_clash w k ≡ n → P) → Has (unfit w (Some k)) n → P
+  from_unfit : (w : Want) (k : the_kind.Kind) → (fits_kind w k ≡ false → types_clash w k ≡ n → P) →
+      Has (unfit w (Some k)) n → P
   from_unfit w k up h = misfit_if (types_clash w k) (fits_kind w k) (fits_kind w k) refl up h
 
-  from_said : (w : Want) (o : Option ResolvedExpr) → ((s : ResolvedExpr) → o ≡ Some s → fits w s ≡ false → types_clash w (kind_of s) ≡ n → P) →
+  from_said : (w : Want) (o : Option ResolvedExpr) →
+      ((s : ResolvedExpr) → o ≡ Some s → fits w s ≡ false → types_clash w (kind_of s) ≡ n → P) →
       Has (unfit w (kind_if o)) n → P
   from_said w None up h = elim h [ ]
   from_said w (Some s) up h = from_unfit w (kind_of s) (λ no_fit said. up s refl (sym (fits_is w s) ∙ no_fit) said) h
 
-  from_const_said : (w : Want) (o : Option Sort) → ((s : Sort) → o ≡ Some s → fits_sort w s ≡ false → types_clash w (kind.Value s) ≡ n → P) →
+  from_const_said : (w : Want) (o : Option Sort) →
+      ((s : Sort) → o ≡ Some s → fits_sort w s ≡ false → types_clash w (kind.Value s) ≡ n → P) →
       Has (unfit w (const_kind o)) n → P
   from_const_said w None up h = elim h [ ]
   from_const_said w (Some s) up h = from_unfit w (kind.Value s) (up s refl) h
@@ -85,16 +101,19 @@ module _ (P : Type 0) (n : Clash) where
   from_type t None up h = elim h [ ]
   from_type t (Some u) up h = from_unfit (Value t) (kind.Value (sort.Of u)) (up u refl) h
 
-said_has : (w : Want) (o : Option ResolvedExpr) (s : ResolvedExpr) → o ≡ Some s → fits w s ≡ false → Has (unfit w (kind_if o)) (types_clash w (kind_of s))
+said_has : (w : Want) (o : Option ResolvedExpr) (s : ResolvedExpr) → o ≡ Some s → fits w s ≡ false →
+    Has (unfit w (kind_if o)) (types_clash w (kind_of s))
 said_has w o s is no_fit =
     subst (λ (p : Option ResolvedExpr). Has (unfit w (kind_if p)) (types_clash w (kind_of s))) (sym is)
     (misfit_has (fits_kind w (kind_of s)) (types_clash w (kind_of s)) (fits_is w s ∙ no_fit))
 
-const_has : (w : Want) (o : Option Sort) (s : Sort) → o ≡ Some s → fits_sort w s ≡ false → Has (unfit w (const_kind o)) (types_clash w (kind.Value s))
+const_has : (w : Want) (o : Option Sort) (s : Sort) → o ≡ Some s → fits_sort w s ≡ false →
+    Has (unfit w (const_kind o)) (types_clash w (kind.Value s))
 const_has w o s is no_fit =
     subst (λ (p : Option Sort). Has (unfit w (const_kind p)) (types_clash w (kind.Value s))) (sym is) (misfit_has (fits_sort w s) (types_clash w (kind.Value s)) no_fit)
 
-type_has : (t u : core_type.ValueType) → fits_type t (sort.Of u) ≡ false → Has (type_unfit t (Some u)) (types_clash (Value t) (kind.Value (sort.Of u)))
+type_has : (t u : core_type.ValueType) → fits_type t (sort.Of u) ≡ false →
+    Has (type_unfit t (Some u)) (types_clash (Value t) (kind.Value (sort.Of u)))
 type_has t u no_fit = misfit_has (fits_type t (sort.Of u)) (types_clash (Value t) (kind.Value (sort.Of u))) no_fit
 
 -- ---- the sides of a comparison
@@ -122,7 +141,8 @@ module _ (at left right : ℕ) where
   abbrev blamed : ResolvedExpr → ResolvedExpr → Bool
   blamed s t = is_blamed at left right (kind_of s) (kind_of t)
 
-  unlike_if : (P : Type 0) (alike b : Bool) → alike ≡ b → (if b then false else right == at) ≡ true → (alike ≡ false → right ≡ at → P) → P
+  unlike_if : (P : Type 0) (alike b : Bool) → alike ≡ b → (if b then false else right == at) ≡ true →
+      (alike ≡ false → right ≡ at → P) → P
   unlike_if P alike true e is up = absurd cc
   unlike_if P alike false e is up = up e (eqb-true right at is)
 
@@ -143,23 +163,28 @@ module _ (at left right : ℕ) where
   abbrev judged : Option ResolvedExpr → Option ResolvedExpr → List Clash
   judged o p = sides_judged at left right (kind_if o) (kind_if p)
 
-  judged_has : (o p : Option ResolvedExpr) (s t : ResolvedExpr) → o ≡ Some s → p ≡ Some t → blamed s t ≡ true → Has (judged o p) (sides s t)
+  judged_has : (o p : Option ResolvedExpr) (s t : ResolvedExpr) → o ≡ Some s → p ≡ Some t → blamed s t ≡ true →
+      Has (judged o p) (sides s t)
   judged_has o p s t first_is second_is is =
       subst (λ (q : Option ResolvedExpr). Has (judged q p) (sides s t)) (sym first_is)
       (subst (λ (q : Option ResolvedExpr). Has (judged (Some s) q) (sides s t)) (sym second_is)
       (subst (λ (b : Bool). Has (sides_if b (kind_of s) (kind_of t)) (sides s t)) (sym is) first))
 
   module _ (P : Type 0) (n : Clash) where
-    said_so : (s t : ResolvedExpr) (b c : Bool) → c ≡ b → (c ≡ true → sides s t ≡ n → P) → Has (sides_if b (kind_of s) (kind_of t)) n → P
+    said_so : (s t : ResolvedExpr) (b c : Bool) → c ≡ b → (c ≡ true → sides s t ≡ n → P) →
+        Has (sides_if b (kind_of s) (kind_of t)) n → P
     said_so s t true c e up h = one_only P n (sides s t) (up e) h
     said_so s t false c e up h = elim h [ ]
 
-    from_judged : (o p : Option ResolvedExpr) → ((s t : ResolvedExpr) → o ≡ Some s → p ≡ Some t → blamed s t ≡ true → sides s t ≡ n → P) → Has (judged o p) n → P
+    from_judged : (o p : Option ResolvedExpr) →
+        ((s t : ResolvedExpr) → o ≡ Some s → p ≡ Some t → blamed s t ≡ true → sides s t ≡ n → P) →
+        Has (judged o p) n → P
     from_judged (Some s) (Some t) up h = said_so s t (blamed s t) (blamed s t) refl (up s t refl refl) h
     from_judged (Some s) None up h = elim h [ ]
     from_judged None p up h = elim h [ ]
 
-equal_then : (P : Type 0) (n : Clash) (ns : List Clash) (b c : Bool) → c ≡ b → (c ≡ true → Has ns n → P) → Has (if b then ns else []) n → P
+equal_then : (P : Type 0) (n : Clash) (ns : List Clash) (b c : Bool) → c ≡ b → (c ≡ true → Has ns n → P) →
+    Has (if b then ns else []) n → P
 equal_then P n ns true c e up h = up e h
 equal_then P n ns false c e up h = elim h [ ]
 
@@ -182,7 +207,8 @@ result_has n decls t m u i s type_is meant h =
     subst (λ (o : Option core_type.ValueType). Has (result_said decls o m) n) (sym type_is)
     (subst (λ (o : Option (ℕ × Section)). Has (result_said decls (Some u) o) n) (sym meant) h)
 
-given_has : (decls : List Decl) (t u : core_type.ValueType) (r : Option ValueType) → (r >>= λ v. type_of (outside decls) v) ≡ Some u → fits_type t (sort.Of u) ≡ false →
+given_has : (decls : List Decl) (t u : core_type.ValueType) (r : Option ValueType) →
+    (r >>= λ v. type_of (outside decls) v) ≡ Some u → fits_type t (sort.Of u) ≡ false →
     Has (given_said t r (r >>= λ v. type_of (outside decls) v)) (types_clash (Value t) (kind.Value (sort.Of u)))
 given_has decls t u None is no_fit = absurd cc
 given_has decls t u (Some r) is no_fit =
@@ -190,7 +216,8 @@ given_has decls t u (Some r) is no_fit =
 
 -- ---- owners
 
-from_number : (P : Type 0) (n : Clash) (o : Option core_type.ValueType) → (o ≡ Some Integer → no_reference_clash ≡ n → P) → Has (number_said o) n → P
+from_number : (P : Type 0) (n : Clash) (o : Option core_type.ValueType) →
+    (o ≡ Some Integer → no_reference_clash ≡ n → P) → Has (number_said o) n → P
 from_number P n (Some Integer) up h = one_only P n no_reference_clash (up refl) h
 from_number P n (Some (Reference k)) up h = elim h [ ]
 from_number P n None up h = elim h [ ]
@@ -218,11 +245,13 @@ owner_has o m f i c t field_is meant is no_fit =
 
 -- ---- in words
 
-expr_words : (decls : List Decl) (w : Want) (s : ResolvedExpr) → types_note (want_words decls w) (found_words decls s) ≡ clash_note decls (types_clash w (kind_of s))
+expr_words : (decls : List Decl) (w : Want) (s : ResolvedExpr) →
+    types_note (want_words decls w) (found_words decls s) ≡ clash_note decls (types_clash w (kind_of s))
 expr_words decls w (value e s) = refl
 expr_words decls w (truth c) = refl
 
-sides_words : (decls : List Decl) (s t : ResolvedExpr) → sides_note (found_words decls s) (found_words decls t) ≡ clash_note decls (sides s t)
+sides_words : (decls : List Decl) (s t : ResolvedExpr) →
+    sides_note (found_words decls s) (found_words decls t) ≡ clash_note decls (sides s t)
 sides_words decls (value e s) (value f t) = refl
 sides_words decls (value e s) (truth d) = refl
 sides_words decls (truth c) (value f t) = refl
@@ -239,7 +268,8 @@ module _ (at : ℕ) (decls : List Decl) where
     Told = IsTypeNote decls at (clash_note decls n)
 
     -- it is one of the declarations of a scope, in these words
-    tell : (c : Clash) (words : List Decl → Note) {ds : List Decl} → ds ≡ decls → words decls ≡ clash_note decls c → c ≡ n → IsTypeNote decls at (words ds) → Told
+    tell : (c : Clash) (words : List Decl → Note) {ds : List Decl} → ds ≡ decls → words decls ≡ clash_note decls c →
+        c ≡ n → IsTypeNote decls at (words ds) → Told
     tell c words all is said note =
         subst (λ (k : Clash). IsTypeNote decls at (clash_note decls k)) said (subst (IsTypeNote decls at) (ap words all ∙ is) note)
 
@@ -279,13 +309,15 @@ module _ (at : ℕ) (decls : List Decl) where
         (λ u is no_fit said. tell (types_clash (Value t) (kind.Value (sort.Of u))) (λ ds. types_note (type_words ds t) (type_words ds u)) (decls_there b) refl said
         (of_result b type_is meant is no_fit there)))) h
 
-    true_member : (sc : Scope) (k : Local) (o : Owner) → HasStmt decls sc (let_owned k o) → Has (member_owned_at at (type_of sc k.value_type) o) n → Told
+    true_member : (sc : Scope) (k : Local) (o : Owner) → HasStmt decls sc (let_owned k o) →
+        Has (member_owned_at at (type_of sc k.value_type) o) n → Told
     true_member sc k o b h =
         from_here Told n o.field.span.start at (number_said (type_of sc k.value_type))
         (λ there. from_number Told n (type_of sc k.value_type)
         (λ is said. tell no_reference_clash (λ ds. types_note (codes "a reference") (codes "int")) {ds = decls} refl refl said (of_number_owned b is there))) h
 
-    true_owner : (sc : Scope) (k : Local) (o : Owner) → HasStmt decls sc (let_owned k o) → Has (local_owned_at at sc (type_of sc k.value_type) o) n → Told
+    true_owner : (sc : Scope) (k : Local) (o : Owner) → HasStmt decls sc (let_owned k o) →
+        Has (local_owned_at at sc (type_of sc k.value_type) o) n → Told
     true_owner sc k o b h =
         from_here Told n o.local.span.start at (local_owned sc (type_of sc k.value_type) o)
         (λ there. from_owner Told n (owner_field sc.decls (type_of sc k.value_type) o.field) (meaning sc o.local.text)
@@ -332,13 +364,16 @@ module _ (at : ℕ) (decls : List Decl) where
     own_has sc (return_value start e) h = h
     own_has sc (call start c) h = h
 
-    stmt_has : {sc : Scope} {s : Stmt} → HasStmt decls sc s → Has (said_of_stmt at sc s) n → Has (all_clashes at decls) n
+    stmt_has : {sc : Scope} {s : Stmt} → HasStmt decls sc s → Has (said_of_stmt at sc s) n →
+        Has (all_clashes at decls) n
     stmt_has b h = each_stmt (said_of_stmt at) (said_of_const at decls) decls n b h
 
-    expr_has : {sc : Scope} {w : Want} {e : Expr} → HasExpr decls sc w e → Has (said_by at sc w e) n → Has (all_clashes at decls) n
+    expr_has : {sc : Scope} {w : Want} {e : Expr} → HasExpr decls sc w e → Has (said_by at sc w e) n →
+        Has (all_clashes at decls) n
     expr_has (in_stmt {sc = sc} {s = s} b a i) h = stmt_has b (own_has sc s (within_has (said_by at) n a i h))
 
-    result_told : {sc : Scope} {k : CalledLocal} {t : core_type.ValueType} {i : ℕ} {s : Section} → HasStmt decls sc (let_call k) →
+    result_told : {sc : Scope} {k : CalledLocal} {t : core_type.ValueType} {i : ℕ} {s : Section} →
+        HasStmt decls sc (let_call k) →
         type_of sc k.value_type ≡ Some t → helper_meant (meaning sc k.call.helper.text) ≡ Some (i, s) → k.call.helper.span.start ≡ at →
         Has (given_said t s.result (result_of sc.decls s)) n → Has (all_clashes at decls) n
     result_told {sc = sc} {k = k} {t = t} {i = i} {s = s} b type_is meant there h =
@@ -347,13 +382,15 @@ module _ (at : ℕ) (decls : List Decl) where
         (here_has k.call.helper.span.start at (result_of_local sc k) n there
         (result_has n sc.decls (type_of sc k.value_type) (helper_meant (meaning sc k.call.helper.text)) t i s type_is meant h)))
 
-    owner_told : {sc : Scope} {k : Local} {o : Owner} → HasStmt decls sc (let_owned k o) → Has (owner_at at sc k o) n → Has (all_clashes at decls) n
+    owner_told : {sc : Scope} {k : Local} {o : Owner} → HasStmt decls sc (let_owned k o) →
+        Has (owner_at at sc k o) n → Has (all_clashes at decls) n
     owner_told {sc = sc} {k = k} {o = o} b h = stmt_has b (l.in_right (of_own (said_by at) sc (let_owned k o)) _ h)
 
   abbrev notes : List Note
   notes = map (clash_note decls) (all_clashes at decls)
 
-  sides_told : {sc : Scope} {w : Want} {a f : Expr} {c : written_sign.Comparison} {s t : ResolvedExpr} → HasExpr decls sc w (compare a c f) →
+  sides_told : {sc : Scope} {w : Want} {a f : Expr} {c : written_sign.Comparison} {s t : ResolvedExpr} →
+      HasExpr decls sc w (compare a c f) →
       IsEquality c → typed sc a ≡ Some s → typed sc f ≡ Some t → blamed at (start_of a) (start_of f) s t ≡ true → Has (all_clashes at decls) (sides s t)
   sides_told {sc = sc} {w = w} {a = a} {f = f} {c = c} {s = s} {t = t} b equal first_is second_is is =
       expr_has (sides s t) b
@@ -367,7 +404,8 @@ module _ (at : ℕ) (decls : List Decl) where
   has_map (x ∷ cs) c (further h) = further (has_map cs c h)
 
   -- one that is found, in the words of the declarations of a scope
-  in_words : (c : Clash) (words : List Decl → Note) {ds : List Decl} → ds ≡ decls → words decls ≡ clash_note decls c → Has (all_clashes at decls) c → Has notes (words ds)
+  in_words : (c : Clash) (words : List Decl → Note) {ds : List Decl} → ds ≡ decls → words decls ≡ clash_note decls c →
+      Has (all_clashes at decls) c → Has notes (words ds)
   in_words c words all is h = subst (λ (m : Note). Has notes m) (sym (ap words all ∙ is)) (has_map (all_clashes at decls) c h)
 
   each_told : (m : Note) → IsTypeNote decls at m → Has notes m
@@ -417,12 +455,14 @@ module _ (at : ℕ) (decls : List Decl) where
   last_has (x ∷ rest) c = further (last_has rest c)
 
   -- the last, in words
-  pub last_told : (items rest : List Clash) (c : Clash) (note : written.Note) → items ≡ all_clashes at decls → items ≡ rest ++ c ∷ [] → note_of note ≡ clash_note decls c →
+  pub last_told : (items rest : List Clash) (c : Clash) (note : written.Note) → items ≡ all_clashes at decls →
+      items ≡ rest ++ c ∷ [] → note_of note ≡ clash_note decls c →
       IsTypeNote decls at (note_of note)
   last_told items rest c note all is words =
       subst (IsTypeNote decls at) (sym words) (all_true c (subst (λ (l : List Clash). Has l c) (sym is ∙ all) (last_has rest c)))
 
   -- none, if there are none
-  pub none_told : (items : List Clash) (n : ℕ) → items ≡ all_clashes at decls → n ≡ length items → n ≡ 0 → (m : Note) → IsTypeNote decls at m → ⊥
+  pub none_told : (items : List Clash) (n : ℕ) → items ≡ all_clashes at decls → n ≡ length items → n ≡ 0 →
+      (m : Note) → IsTypeNote decls at m → ⊥
   none_told [] n all len none m said = elim (subst (λ (cs : List Clash). Has (map (clash_note decls) cs) m) (sym all) (each_told m said)) [ ]
   none_told (x ∷ items) n all len none m said = absurd (omega (arith, len, none))

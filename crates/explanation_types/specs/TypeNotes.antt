@@ -5,7 +5,8 @@ use Rattle.explanation.specs.Notes.{Note}
 use Rattle.core_lang.specs.declared.value.ValueType as core_type
 use Rattle.core_lang.specs.declared.value.ValueType.TheVariants.{Integer, Reference}
 use Rattle.syntax.specs.declared.tree.Comparison as written
-use Rattle.syntax.specs.Trees.{Const, Expr, compare, Local, Owner, CalledLocal, let_owned, let_call, Struct, Section, Decl}
+use Rattle.syntax.specs.Trees.{Const, Expr, compare, Local, Owner, CalledLocal, let_owned, let_call, Struct, Section}
+use Rattle.syntax.specs.Trees.{Decl}
 use Rattle.resolution.specs.declared.owner_field.OwnerField.{OwnerField}
 use Rattle.resolution.specs.declared.wanted.Sort.{Sort}
 use Rattle.resolution.specs.declared.wanted.Sort.TheVariants as sort

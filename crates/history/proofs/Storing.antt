@@ -1,12 +1,14 @@
 -- Entries whose lists stand in the arrays, and one more.
-use Rattle.std.proofs.Common.{◌≡◌, ◌+◌, ◌-◌, List, [], ◌∷◌, ◌++◌, length, take, drop, length-append, length-drop, refl, ap, ◌∙◌, subst, sym, arith}
+use Rattle.std.proofs.Common.{◌≡◌, ◌+◌, ◌-◌, List, [], ◌∷◌, ◌++◌, length, take, drop, length-append, length-drop}
+use Rattle.std.proofs.Common.{refl, ap, ◌∙◌, subst, sym, arith}
 use Rattle.std.specs.List.{All}
 use Rattle.std.proofs.lemmas.List.{map-append, drop-append-le, take-append-le, drop_at, take_all}
 use Rattle.std.proofs.lemmas.List.Elements.{All-head, All-tail, All-push, All-weaker, All-same}
 use Rattle.history.specs.Commits.{Commit}
 use Rattle.history.specs.Working.Histories.{PromisedOf}
 use Rattle.history.specs.Working.Arrays.{ListsOf}
-use Rattle.history.specs.Working.Lists.{part_of, IsPart, part_behind, packed_commit, packed_behind, with_lists, commits_in, IsPacked}
+use Rattle.history.specs.Working.Lists.{part_of, IsPart, part_behind, packed_commit, packed_behind, with_lists}
+use Rattle.history.specs.Working.Lists.{commits_in, IsPacked}
 use Rattle.history.specs.declared.lists.Part.{Part}
 use Rattle.history.specs.declared.lists.Packed.{Packed}
 
@@ -49,7 +51,8 @@ packed_stays lists c less p is =
       prints = prints i;
     }
 
-packed_there : (lists : ListsOf) (c : Commit) (less : PromisedOf) → packed_commit (with_lists lists c less) (packed_behind lists c) ≡ c
+packed_there : (lists : ListsOf) (c : Commit) (less : PromisedOf) →
+    packed_commit (with_lists lists c less) (packed_behind lists c) ≡ c
 packed_there lists c less =
     let arguments = part_there lists.arguments c.arguments in
     let reads = part_there lists.reads c.reads in
@@ -57,7 +60,8 @@ packed_there lists c less =
     let prints = part_there lists.prints c.prints in
     λ i. record c { arguments = arguments i; reads = reads i; writes = writes i; prints = prints i }
 
-is_packed_still : (lists : ListsOf) (c : Commit) (less : PromisedOf) (p : Packed) → IsPacked lists p → IsPacked (with_lists lists c less) p
+is_packed_still : (lists : ListsOf) (c : Commit) (less : PromisedOf) (p : Packed) → IsPacked lists p →
+    IsPacked (with_lists lists c less) p
 is_packed_still lists c less p is = record {
   arguments = is_part_still lists.arguments c.arguments p.arguments is.arguments;
   reads = is_part_still lists.reads c.reads p.reads is.reads;
@@ -65,7 +69,8 @@ is_packed_still lists c less p is = record {
   prints = is_part_still lists.prints c.prints p.prints is.prints;
 }
 
-is_packed_behind : (lists : ListsOf) (c : Commit) (less : PromisedOf) → IsPacked (with_lists lists c less) (packed_behind lists c)
+is_packed_behind : (lists : ListsOf) (c : Commit) (less : PromisedOf) →
+    IsPacked (with_lists lists c less) (packed_behind lists c)
 is_packed_behind lists c less = record {
   arguments = is_part_behind lists.arguments c.arguments;
   reads = is_part_behind lists.reads c.reads;

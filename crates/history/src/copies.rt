@@ -3,18 +3,73 @@
 ghost use Rattle.std.specs.Prelude.{◌≡◌, ◌≤◌, ◌+◌, ◌++◌, ◌↔◌, length, vec_len, vec_capacity, IfOk, IsTrue};
 ghost use Rattle.history.specs.Working.Copies.{HasRoom};
 
-use crate::entry::{CellValue, Entry};
+use crate::entry::{CellValue, Entry, SHORT};
 use crate::kept::Kept;
 use core_lang::value::Value;
+use smallvec::SmallVec;
 use source::memory::NoMemory;
 use std::alloc::Global;
 use std::marker::Model;
 
+// Room for a list that is no longer than this. A short one stands in its entry itself and takes no memory.
+#[derive(Drop)]
+struct ListRoom<T> {
+    most: usize,
+    memory: Vec<T>,
+}
+
+impl<T> Model for ListRoom<T> {
+    ghost use Rattle.std.specs.Prelude.{◌≡◌, ◌≤◌, ◌⊎◌, ℕ, [], vec_len, vec_capacity};
+
+    ghost Value = { ℕ };
+
+    ghost view = { λ r. r.most };
+
+    ghost invariant = { λ r.
+        (r.memory.items ≡ []) × (vec_len r.memory ≡ 0) × ((r.most ≤ 4) ⊎ (r.most ≤ vec_capacity r.memory)) };
+}
+
+impl<T: Copy + Default> ListRoom<T> {
+    fn new(alloc: Global, most: usize) -> Result<ListRoom<T>, NoMemory>
+        ensures { IfOk result (λ room. room ≡ most) }
+    {
+        let memory = if most <= SHORT {
+            Vec::new(alloc)
+        } else {
+            Vec::with_capacity(alloc, most)?
+        };
+        Ok(ListRoom { most, memory })
+    }
+
+    // A list and behind it a second one, in this room.
+    fn filled(self, first: &[T], second: &[T]) -> SmallVec<T, SHORT>
+        requires { length first.now + length second.now ≤ self }
+        ensures { result.items ≡ first.now ++ second.now }
+    {
+        let ListRoom {
+            most: _,
+            mut memory,
+        } = self;
+        if first.len() + second.len() <= SHORT {
+            let mut list = SmallVec::new(*memory.allocator());
+            drop(memory);
+            list.extend_from_slice(first).unwrap();
+            list.extend_from_slice(second).unwrap();
+            list
+        } else {
+            memory.extend_from_slice(first).unwrap();
+            memory.extend_from_slice(second).unwrap();
+            memory.shrink_to_fit();
+            SmallVec::from_vec(memory)
+        }
+    }
+}
+
 /// Room for a copy of a finished section, so that the copy takes no memory. As a value it is how much it has room for.
 #[derive(Drop)]
 pub struct CopyRoom {
-    arguments: Vec<Value>,
-    cells: Vec<CellValue>,
+    arguments: ListRoom<Value>,
+    cells: ListRoom<CellValue>,
     prints: Vec<i64>,
 }
 
@@ -25,14 +80,12 @@ impl Model for CopyRoom {
     ghost Value = { CopyRoomOf };
 
     ghost view = { λ r. record {
-      arguments = vec_capacity r.arguments;
-      cells = vec_capacity r.cells;
+      arguments = r.arguments;
+      cells = r.cells;
       prints = vec_capacity r.prints;
     } };
 
-    ghost invariant = { λ r.
-        (r.arguments.items ≡ []) × (vec_len r.arguments ≡ 0) × (r.cells.items ≡ []) × (vec_len r.cells ≡ 0)
-        × (r.prints.items ≡ []) × (vec_len r.prints ≡ 0) };
+    ghost invariant = { λ r. (r.prints.items ≡ []) × (vec_len r.prints ≡ 0) };
 }
 
 impl CopyRoom {
@@ -54,8 +107,8 @@ impl CopyRoom {
         let Some(both) = cells.checked_add(cells) else {
             return Err(NoMemory);
         };
-        let arguments = Vec::with_capacity(alloc, arguments)?;
-        let cells = Vec::with_capacity(alloc, both)?;
+        let arguments = ListRoom::new(alloc, arguments)?;
+        let cells = ListRoom::new(alloc, both)?;
         let prints = Vec::with_capacity(alloc, prints)?;
         Ok(CopyRoom {
             arguments,
@@ -68,8 +121,8 @@ impl CopyRoom {
     pub fn holds(&self, entry: &Kept<'_>) -> bool
         ensures { IsTrue result ↔ HasRoom self.now entry.now }
     {
-        let cells = self.cells.capacity();
-        entry.arguments.len() <= self.arguments.capacity()
+        let cells = self.cells.most;
+        entry.arguments.len() <= self.arguments.most
             && entry.reads.len() <= cells
             && entry.writes.len() <= cells - entry.reads.len()
             && entry.prints.len() <= self.prints.capacity()
@@ -83,20 +136,18 @@ impl Kept<'_> {
         ensures { result ≡ self.now }
     {
         let CopyRoom {
-            mut arguments,
-            mut cells,
+            arguments,
+            cells,
             mut prints,
         } = room;
-        fill_values(&mut arguments, self.arguments);
-        fill_cells(&mut cells, self.reads, self.writes);
         fill_numbers(&mut prints, self.prints);
         Entry {
             thread: self.thread,
             step: self.step,
             section: self.section,
-            arguments,
+            arguments: arguments.filled(self.arguments, &[]),
             begun: self.begun,
-            cells,
+            cells: cells.filled(self.reads, self.writes),
             reads: self.reads.len(),
             outcome: self.outcome,
             prints,
@@ -115,7 +166,7 @@ impl Entry {
         if self.begun != other.begun || self.outcome != other.outcome {
             return false;
         }
-        if !same_values(&self.arguments, other.arguments) {
+        if !same_values(self.arguments(), other.arguments) {
             return false;
         }
         if !same_cells(self.reads(), other.reads) {
@@ -129,26 +180,6 @@ impl Entry {
 }
 
 // Fills a list that is empty, in room that is there, and gives back the rest of the room.
-fn fill_values(into: &mut Vec<Value>, from: &[Value])
-    requires { vec_len into.old + length from.now ≤ vec_capacity into.old }
-    ensures { into.new.items ≡ into.old.items ++ from.now }
-{
-    match into.extend_from_slice(from) {
-        Ok(()) => into.shrink_to_fit(),
-        Err(_) => unreachable!(),
-    }
-}
-
-// The same with two lists, one behind the other.
-fn fill_cells(into: &mut Vec<CellValue>, first: &[CellValue], second: &[CellValue])
-    requires { vec_len into.old + length first.now + length second.now ≤ vec_capacity into.old }
-    ensures { into.new.items ≡ into.old.items ++ first.now ++ second.now }
-{
-    into.extend_from_slice(first).unwrap();
-    into.extend_from_slice(second).unwrap();
-    into.shrink_to_fit();
-}
-
 fn fill_numbers(into: &mut Vec<i64>, from: &[i64])
     requires { vec_len into.old + length from.now ≤ vec_capacity into.old }
     ensures { into.new.items ≡ into.old.items ++ from.now }
@@ -159,10 +190,10 @@ fn fill_numbers(into: &mut Vec<i64>, from: &[i64])
     }
 }
 
-fn same_values(a: &Vec<Value>, b: &[Value]) -> bool
-    ensures { IsTrue result → a.now.items ≡ b.now }
+fn same_values(a: &[Value], b: &[Value]) -> bool
+    ensures { IsTrue result → a.now ≡ b.now }
 {
-    a.as_slice() == b
+    a == b
 }
 
 fn same_cells(a: &[CellValue], b: &[CellValue]) -> bool

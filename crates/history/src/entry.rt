@@ -1,21 +1,26 @@
 //! A finished section with lists of its own.
 
 use core_lang::value::{Outcome, Value};
+use smallvec::SmallVec;
 use std::marker::Model;
 
 /// A cell, and a value of it.
 pub type CellValue = (u32, Value);
 
-/// A finished section, with lists of its own. What it read and wrote lies in one block of memory.
+/// The longest list that stands in an entry itself. A longer one takes a block of memory.
+pub(crate) const SHORT: usize = 4;
+
+/// A finished section, with lists of its own. Where it has few arguments and touched few cells it takes no memory but
+/// for what it printed.
 #[derive(Drop)]
 pub struct Entry {
     pub(crate) thread: u32,
     pub(crate) step: usize,
     pub(crate) section: usize,
-    pub(crate) arguments: Vec<Value>,
+    pub(crate) arguments: SmallVec<Value, SHORT>,
     pub(crate) begun: usize,
     // What it read, and behind that what it wrote.
-    pub(crate) cells: Vec<CellValue>,
+    pub(crate) cells: SmallVec<CellValue, SHORT>,
     // How many of these it read.
     pub(crate) reads: usize,
     pub(crate) outcome: Outcome,
@@ -91,7 +96,7 @@ impl Entry {
     pub fn reads(&self) -> &[CellValue]
         ensures { result.now ≡ self.now.reads }
     {
-        &self.cells[..self.reads]
+        &self.cells.as_slice()[..self.reads]
     }
 
     /// Each cell that it wrote, with the value that it wrote last.
@@ -99,7 +104,7 @@ impl Entry {
     pub fn writes(&self) -> &[CellValue]
         ensures { result.now ≡ self.now.writes }
     {
-        &self.cells[self.reads..]
+        &self.cells.as_slice()[self.reads..]
     }
 
     /// How it ended.

@@ -29,12 +29,15 @@ module _ (program : Typed) (section : Section) (ranks : List ℕ) where
   pub record Arrived (p : ℕ) (locals : List Value) (held : List Lock) : Type 0 where
     pub walk : (ps : List ℕ) × Walk (skeleton section) ps p
     -- if the lock of a path that is in scope, and used here or later, isn't held, then all held ones are below
-    pub free : (path : LockPath) (l : Lock) → IsInScope section p path → Uses program section p path ⊎ IsUsedLater program section p path →
+    pub free : (path : LockPath) (l : Lock) → IsInScope section p path →
+        Uses program section p path ⊎ IsUsedLater program section p path →
         lock_named path program.shape locals ≡ Some l → (Contains held l → ⊥) → AreBelow held path
     -- all held ones are below a path whose root is bound here or later
-    pub later : (path : LockPath) (user b : ℕ) → Uses program section user path → BindsRoot section b path → (p ≡ b) ⊎ Before (skeleton section) p b → AreBelow held path
+    pub later : (path : LockPath) (user b : ℕ) → Uses program section user path → BindsRoot section b path →
+        (p ≡ b) ⊎ Before (skeleton section) p b → AreBelow held path
     -- what is surely held is held
-    pub sure : (path : LockPath) (l : Lock) → IsSurelyHeld program section ranks p path → lock_named path program.shape locals ≡ Some l → Contains held l
+    pub sure : (path : LockPath) (l : Lock) → IsSurelyHeld program section ranks p path →
+        lock_named path program.shape locals ≡ Some l → Contains held l
     pub of_path : (h : Lock) → Contains held h → HasPath locals h
 
   not_taken : (path : LockPath) → IsTaken program section ranks path [] → ⊥

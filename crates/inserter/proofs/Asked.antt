@@ -1,5 +1,6 @@
 -- Where a listed lock isn't held, there is a first one of those that aren't.
-use Rattle.std.proofs.Common.{◌≡◌, ℕ, ◌<◌, List, [], ◌∷◌, length, Option, Some, None, ◌⊎◌, inl, inr, refl, sym, ap, ◌∙◌, subst, arith}
+use Rattle.std.proofs.Common.{◌≡◌, ℕ, ◌<◌, List, [], ◌∷◌, length, Option, Some, None, ◌⊎◌, inl, inr, refl, sym, ap}
+use Rattle.std.proofs.Common.{◌∙◌, subst, arith}
 use Rattle.std.specs.Prelude.{slice_get, slice_index}
 use Rattle.std.specs.List.{Contains}
 use Rattle.std.proofs.lemmas.Bool.{cases_lt}
@@ -22,14 +23,16 @@ use Rattle.core_lang.specs.Theory.Items.{not_in_none, in_first, in_rest, in_case
 module _ (laws : PathLaws) (strict : PrecedesIsStrict) (program : Typed) (section : Section) (ranks : List ℕ) (lists : List (List ℕ))
     (ok : IsOrdered program section ranks lists) where
   -- the place of a class in the rank list is its rank
-  placed : (c : ℕ) → c < length program.classes.items → (k : ℕ) × (slice_get ok.ranked.list k ≡ Some c) × (slice_index ranks c ≡ k)
+  placed : (c : ℕ) → c < length program.classes.items →
+      (k : ℕ) × (slice_get ok.ranked.list k ≡ Some c) × (slice_index ranks c ≡ k)
   placed c lt =
       let at = ok.ranked.is_list.all c lt in
       let there : slice_get ok.ranked.list at.0 ≡ Some c = slice_get-get_or ok.ranked.list at.0 c at.1 ∙ ap Some at.2 in
       (at.0, there, get_or_from_slice_get ranks c at.0 0 (ok.ranked.places at.0 c there))
 
   -- classes of one rank are one
-  same_class : (c d : ℕ) → c < length program.classes.items → d < length program.classes.items → slice_index ranks c ≡ slice_index ranks d → c ≡ d
+  same_class : (c d : ℕ) → c < length program.classes.items → d < length program.classes.items →
+      slice_index ranks c ≡ slice_index ranks d → c ≡ d
   same_class c d lc ld e =
       let x = placed c lc in
       let y = placed d ld in
@@ -45,7 +48,8 @@ module _ (laws : PathLaws) (strict : PrecedesIsStrict) (program : Typed) (sectio
         subst (λ n. n < length program.classes.items) (sym (named_class x.path program.shape locals l x.named)) (slice_get_within program.classes.items x.path.class c.0 c.1)
 
     -- of two listed locks one comes first
-    compared : (a b : Lock) → IsListed program section ranks lists p locals a → IsListed program section ranks lists p locals b →
+    compared : (a b : Lock) → IsListed program section ranks lists p locals a →
+        IsListed program section ranks lists p locals b →
         (a ≡ b) ⊎ (Precedes ranks a b ⊎ Precedes ranks b a)
     compared a b x y =
         elim (cases_lt (slice_index ranks a.class) (slice_index ranks b.class)) [
@@ -78,7 +82,8 @@ module _ (laws : PathLaws) (strict : PrecedesIsStrict) (program : Typed) (sectio
       later : (i : ℕ) (is : List ℕ) (l : Lock) → IsBy is l → IsBy (i ∷ is) l
       later i is l x = record { number = x.number; path = x.path; listed = in_rest i x.number is x.listed; is_path = x.is_path; named = x.named }
 
-      cases_by : (i : ℕ) (is : List ℕ) (l : Lock) → IsBy (i ∷ is) l → ((path : LockPath) × IsPath program section i path × (lock_named path program.shape locals ≡ Some l)) ⊎ IsBy is l
+      cases_by : (i : ℕ) (is : List ℕ) (l : Lock) → IsBy (i ∷ is) l →
+          ((path : LockPath) × IsPath program section i path × (lock_named path program.shape locals ≡ Some l)) ⊎ IsBy is l
       cases_by i is l x =
           elim (in_cases i x.number is x.listed) [
             | inl e ↦ inl (x.path, subst (λ n. IsPath program section n x.path) (sym e) x.is_path, x.named)
@@ -89,13 +94,16 @@ module _ (laws : PathLaws) (strict : PrecedesIsStrict) (program : Typed) (sectio
       record IsFirst (numbers : List ℕ) (lock : Lock) : Type 0 where
         listed : IsListed program section ranks lists p locals lock
         new : Contains held lock → ⊥
-        first : (other : Lock) → IsBy numbers other → (Contains held other → ⊥) → (other ≡ lock) ⊎ Precedes ranks lock other
+        first : (other : Lock) → IsBy numbers other → (Contains held other → ⊥) →
+            (other ≡ lock) ⊎ Precedes ranks lock other
 
       abbrev Found : List ℕ → Type 0
       Found numbers = ((lock : Lock) → IsBy numbers lock → Contains held lock) ⊎ ((lock : Lock) × IsFirst numbers lock)
 
       -- one more number, which names no lock that isn't held
-      passed : (i : ℕ) (is : List ℕ) → ((path : LockPath) (l : Lock) → IsPath program section i path → lock_named path program.shape locals ≡ Some l → Contains held l) →
+      passed : (i : ℕ) (is : List ℕ) →
+          ((path : LockPath) (l : Lock) → IsPath program section i path →
+          lock_named path program.shape locals ≡ Some l → Contains held l) →
           Found is → Found (i ∷ is)
       passed i is all_held (inl all) = inl (λ l x. elim (cases_by i is l x) [ inl y ↦ all_held y.0 l y.1 y.2 | inr y ↦ all l y ])
       passed i is all_held (inr found) =
@@ -109,7 +117,8 @@ module _ (laws : PathLaws) (strict : PrecedesIsStrict) (program : Typed) (sectio
           )
 
       -- one that names a lock which isn't held
-      more : (i : ℕ) (is : List ℕ) (path : LockPath) (l : Lock) → Contains list i → IsPath program section i path → lock_named path program.shape locals ≡ Some l →
+      more : (i : ℕ) (is : List ℕ) (path : LockPath) (l : Lock) → Contains list i → IsPath program section i path →
+          lock_named path program.shape locals ≡ Some l →
           (Contains held l → ⊥) → Found is → (lock : Lock) × IsFirst (i ∷ is) lock
       more i is path l within is_path named new found =
           elim found [
@@ -144,7 +153,9 @@ module _ (laws : PathLaws) (strict : PrecedesIsStrict) (program : Typed) (sectio
           listed : IsListed program section ranks lists p locals l
           listed = record { list = list; number = i; path = path; here = here; listed = within; is_path = is_path; named = named }
 
-          own : (other : Lock) → (q : LockPath) × IsPath program section i q × (lock_named q program.shape locals ≡ Some other) → other ≡ l
+          own : (other : Lock) →
+              (q : LockPath) × IsPath program section i q × (lock_named q program.shape locals ≡ Some other) →
+              other ≡ l
           own other y =
               same_Some other l (sym y.2 ∙ ap (λ (q : LockPath). lock_named q program.shape locals) (same_Some y.0 path (sym y.1 ∙ is_path)) ∙ named)
 
@@ -166,7 +177,8 @@ module _ (laws : PathLaws) (strict : PrecedesIsStrict) (program : Typed) (sectio
           let rest = found_in is (λ j c. within j (in_rest i j is c)) in
           by_path (slice_get (lock_paths program section) i) refl rest
         where
-          by_lock : (path : LockPath) → IsPath program section i path → (o : Option Lock) → lock_named path program.shape locals ≡ o → Found is → Found (i ∷ is)
+          by_lock : (path : LockPath) → IsPath program section i path → (o : Option Lock) →
+              lock_named path program.shape locals ≡ o → Found is → Found (i ∷ is)
           by_lock path is_path None e rest =
               passed i is (λ q l at named. absurd (none-some l (sym e ∙ ap (λ (x : LockPath). lock_named x program.shape locals) (same_Some path q (sym is_path ∙ at)) ∙ named))) rest
           by_lock path is_path (Some l) e rest =
@@ -180,7 +192,8 @@ module _ (laws : PathLaws) (strict : PrecedesIsStrict) (program : Typed) (sectio
           by_path (Some path) e rest = by_lock path e (lock_named path program.shape locals) refl rest
 
     -- where a listed lock isn't held, a run asks for one
-    pub some_asked : (held : List Lock) (lock : Lock) → IsListed program section ranks lists p locals lock → (Contains held lock → ⊥) →
+    pub some_asked : (held : List Lock) (lock : Lock) → IsListed program section ranks lists p locals lock →
+        (Contains held lock → ⊥) →
         (asked : Lock) × Asks program section ranks lists p locals held asked
     some_asked held lock x new =
         elim (found_in held x.list x.here x.list (λ i c. c)) [
@@ -195,7 +208,8 @@ module _ (laws : PathLaws) (strict : PrecedesIsStrict) (program : Typed) (sectio
           )
         ]
       where
-        by_number : (other : Lock) (y : IsListed program section ranks lists p locals other) → IsBy held x.list x.here x.list other
+        by_number : (other : Lock) (y : IsListed program section ranks lists p locals other) →
+            IsBy held x.list x.here x.list other
         by_number other y = record {
           number = y.number;
           path = y.path;

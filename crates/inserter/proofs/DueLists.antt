@@ -1,5 +1,6 @@
 -- The lists that the sets of wanted and of surely held paths leave are those before the points.
-use Rattle.std.proofs.Common.{◌≡◌, ◌<◌, ◌≤◌, ◌⊎◌, ◌++◌, ℕ, zero, suc, false, List, [], ◌∷◌, map, length, get_or, Some, inl, inr, sym, ap, ◌∙◌, subst, arith, refl}
+use Rattle.std.proofs.Common.{◌≡◌, ◌<◌, ◌≤◌, ◌⊎◌, ◌++◌, ℕ, zero, suc, false, List, [], ◌∷◌, map, length, get_or, Some}
+use Rattle.std.proofs.Common.{inl, inr, sym, ap, ◌∙◌, subst, arith, refl}
 use Rattle.std.specs.Prelude.{slice_index, slice_get, not}
 use Rattle.std.specs.List.{AllPairs, Contains}
 use Rattle.std.specs.Bool.{Decides}
@@ -26,7 +27,8 @@ rank_at ranks (p ∷ ps) zero path e = let same : p ≡ path = cc in ap (rank_of
 rank_at ranks (p ∷ ps) (suc i) path e = rank_at ranks ps i path e
 
 -- one more item
-pub more_at : {X Y : Type 0} (f : X → Y) (xs : List X) (x : X) (k : ℕ) (y : Y) → slice_get (map f (xs ++ x ∷ [])) k ≡ Some y →
+pub more_at : {X Y : Type 0} (f : X → Y) (xs : List X) (x : X) (k : ℕ) (y : Y) →
+    slice_get (map f (xs ++ x ∷ [])) k ≡ Some y →
     (slice_get (map f xs) k ≡ Some y) ⊎ ((k ≡ length xs) × (y ≡ f x))
 more_at f [] x zero y e = inr (refl, cc)
 more_at f [] x (suc k) y e = absurd (none-some y e)
@@ -48,7 +50,9 @@ module _ (program : Typed) (section : Section) (ranks keys : List ℕ) (few : le
   few_by = omega (arith, few, long)
 
   -- one list, by its two sets
-  list_before : (p : ℕ) (w h : PathSet) (list : List ℕ) → ((i : ℕ) (path : LockPath) → IsPath program section i path → Decides (has w i) (IsWanted program section ranks p path)) →
+  list_before : (p : ℕ) (w h : PathSet) (list : List ℕ) →
+      ((i : ℕ) (path : LockPath) → IsPath program section i path →
+      Decides (has w i) (IsWanted program section ranks p path)) →
       ((i : ℕ) (path : LockPath) → IsPath program section i path → Decides (has h i) (IsSurelyHeld program section ranks p path)) → IsLeft keys w h list →
       IsListBefore program section ranks p list
   list_before p w h list wanted held left = record {
@@ -92,7 +96,8 @@ module _ (program : Typed) (section : Section) (ranks keys : List ℕ) (few : le
           (numbers_rise by_path set keys are.rising (λ k c. (own_key by_path keys few_by are k c).1) i j d lt bound)
 
 -- the lists of all points
-pub are_lists : (x : Points) (ranks keys : List ℕ) (wanted held : List PathSet) (lists : List (List ℕ)) → length x.classes.items ≤ 64 →
+pub are_lists : (x : Points) (ranks keys : List ℕ) (wanted held : List PathSet) (lists : List (List ℕ)) →
+    length x.classes.items ≤ 64 →
     AreKeys (map (slice_index ranks) x.classes.items) keys → AreWanted x ranks wanted → AreSurelyHeld x ranks held → AreDue keys wanted held lists → AreListsOf x ranks lists
 are_lists x ranks keys wanted held lists few are_keys are_wanted are_held due program section are =
     let w = are_wanted program section are in

@@ -29,7 +29,8 @@ module _ {X : Type 0} (n : ℕ) (HasNumber : ℕ → X → Type 0) (one : (i : �
     below : (i : ℕ) → Contains numbers i → i < n
     has : (i : ℕ) → Contains numbers i → (x : X) × Contains xs x × HasNumber i x
 
-  numbered : (xs : List X) → AllPairs ◌≢◌ xs → ((x : X) → Contains xs x → (i : ℕ) × (i < n) × HasNumber i x) → AreNumbers xs
+  numbered : (xs : List X) → AllPairs ◌≢◌ xs → ((x : X) → Contains xs x → (i : ℕ) × (i < n) × HasNumber i x) →
+      AreNumbers xs
   numbered [] d each = record {
     numbers = [];
     long = refl;
@@ -54,7 +55,8 @@ module _ {X : Type 0} (n : ℕ) (HasNumber : ℕ → X → Type 0) (one : (i : �
         ];
       }
 
-  pub no_more_than : (xs : List X) → AllPairs ◌≢◌ xs → ((x : X) → Contains xs x → (i : ℕ) × (i < n) × HasNumber i x) → length xs ≤ n
+  pub no_more_than : (xs : List X) → AllPairs ◌≢◌ xs → ((x : X) → Contains xs x → (i : ℕ) × (i < n) × HasNumber i x) →
+      length xs ≤ n
   no_more_than xs d each =
       let r = numbered xs d each in
       let few : length r.numbers ≤ n = no_more r.numbers n r.distinct r.below in

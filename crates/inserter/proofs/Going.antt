@@ -21,11 +21,13 @@ use Rattle.inserter.proofs.Listed.{PathLaws, named_rank, rises, somewhere, liste
 use Rattle.inserter.proofs.Standing.{Standing, path_of, wanted_held}
 
 module _ (program : Typed) (section : Section) where
-  from_here : {p q b : ℕ} → Follows (skeleton section) p q → (q ≡ b) ⊎ Before (skeleton section) q b → Before (skeleton section) p b
+  from_here : {p q b : ℕ} → Follows (skeleton section) p q → (q ≡ b) ⊎ Before (skeleton section) q b →
+      Before (skeleton section) p b
   from_here {p} f (inl e) = subst (λ x. Before (skeleton section) p x) e (one f)
   from_here f (inr b) = more f b
 
-  later_than : {p q : ℕ} (path : LockPath) → Follows (skeleton section) p q → Uses program section q path ⊎ IsUsedLater program section q path →
+  later_than : {p q : ℕ} (path : LockPath) → Follows (skeleton section) p q →
+      Uses program section q path ⊎ IsUsedLater program section q path →
       IsUsedLater program section p path
   later_than {p} {q} path f (inl u) = (q, one f, u)
   later_than path f (inr later) = (later.0, more f later.1, later.2)
@@ -36,7 +38,8 @@ module _ (program : Typed) (section : Section) where
   taken_user ranks path (p ∷ ps) (last wanted free) = (p, wanted.ahead)
   taken_user ranks path (p ∷ ps) (earlier t free) = taken_user ranks path ps t
 
-  not_bound : (ranks : List ℕ) (path : LockPath) (p : ℕ) (ps : List ℕ) → IsTaken program section ranks path (p ∷ ps) → BindsRoot section p path → ⊥
+  not_bound : (ranks : List ℕ) (path : LockPath) (p : ℕ) (ps : List ℕ) → IsTaken program section ranks path (p ∷ ps) →
+      BindsRoot section p path → ⊥
   not_bound ranks path p ps (last wanted free) = free
   not_bound ranks path p ps (earlier t free) = free
 
@@ -45,7 +48,8 @@ module _ (laws : PathLaws) (program : Typed) (section : Section) (ranks : List �
     (all : (l : Lock) → IsListed program section ranks lists p locals l → Contains held l)
     (keeps : Keeps program section ranks lists p locals after) (follows : Follows (skeleton section) p q) where
   -- all that is held is below a path whose root is bound here or later
-  below_bound : (path : LockPath) (user b : ℕ) → Uses program section user path → BindsRoot section b path → (p ≡ b) ⊎ Before (skeleton section) p b →
+  below_bound : (path : LockPath) (user b : ℕ) → Uses program section user path → BindsRoot section b path →
+      (p ≡ b) ⊎ Before (skeleton section) p b →
       AreBelow program section ranks held path
   below_bound path user b u binds order h c =
       elim (s.each h c) [
@@ -56,7 +60,8 @@ module _ (laws : PathLaws) (program : Typed) (section : Section) (ranks : List �
             omega (arith, a.2, up)
       ]
 
-  held_now : (path : LockPath) (l : Lock) → (BindsRoot section p path → ⊥) → IsInScope section p path → IsUsedLater program section p path →
+  held_now : (path : LockPath) (l : Lock) → (BindsRoot section p path → ⊥) → IsInScope section p path →
+      IsUsedLater program section p path →
       lock_named path program.shape locals ≡ Some l → (Contains held l → ⊥) → AreBelow program section ranks held path
   held_now path l stays scope later e none h c =
       elim (s.each h c) [
@@ -73,7 +78,8 @@ module _ (laws : PathLaws) (program : Typed) (section : Section) (ranks : List �
             ]
       ]
 
-  free_on : (path : LockPath) (l : Lock) → IsInScope section q path → Uses program section q path ⊎ IsUsedLater program section q path →
+  free_on : (path : LockPath) (l : Lock) → IsInScope section q path →
+      Uses program section q path ⊎ IsUsedLater program section q path →
       lock_named path program.shape after ≡ Some l → (Contains held l → ⊥) → AreBelow program section ranks held path
   free_on path l scope ahead e none h c =
       let user = somewhere laws program section ranks lists ok q path ahead in
@@ -88,7 +94,8 @@ module _ (laws : PathLaws) (program : Typed) (section : Section) (ranks : List �
             ]
       ]
 
-  sure_on : (path : LockPath) (l : Lock) → IsSurelyHeld program section ranks q path → lock_named path program.shape after ≡ Some l → Contains held l
+  sure_on : (path : LockPath) (l : Lock) → IsSurelyHeld program section ranks q path →
+      lock_named path program.shape after ≡ Some l → Contains held l
   sure_on path l surely e =
       let walk = s.arrived.walk in
       let taken = surely (p ∷ walk.0) (go walk.1 follows) in
@@ -100,7 +107,8 @@ module _ (laws : PathLaws) (program : Typed) (section : Section) (ranks : List �
         | inr none ↦ s.keeps l (s.arrived.sure path l (λ ps w. by_then ps (surely (p ∷ ps) (go w follows)) e' none) e')
       ]
     where
-      by_then : {path : LockPath} {l : Lock} (ps : List ℕ) → IsTaken program section ranks path (p ∷ ps) → lock_named path program.shape locals ≡ Some l →
+      by_then : {path : LockPath} {l : Lock} (ps : List ℕ) → IsTaken program section ranks path (p ∷ ps) →
+          lock_named path program.shape locals ≡ Some l →
           (Contains held l → ⊥) → IsTaken program section ranks path ps
       by_then {path} {l} ps (last wanted free) e none = absurd (none (wanted_held laws program section ranks lists ok p locals held s all path l wanted e))
       by_then ps (earlier t free) e none = t

@@ -1,5 +1,6 @@
 -- Whether a list of locks has a lock is decided; and lists that have nothing twice.
-use Rattle.std.proofs.Common.{◌≡◌, ℕ, zero, suc, ◌<◌, List, [], ◌∷◌, ◌++◌, length, get_or, ◌⊎◌, inl, inr, refl, sym, ap, ◌∙◌, arith}
+use Rattle.std.proofs.Common.{◌≡◌, ℕ, zero, suc, ◌<◌, List, [], ◌∷◌, ◌++◌, length, get_or, ◌⊎◌, inl, inr, refl, sym}
+use Rattle.std.proofs.Common.{ap, ◌∙◌, arith}
 use Rattle.std.specs.Prelude.{◌≢◌}
 use Rattle.std.specs.List.{AllPairs, Contains}
 use Rattle.std.proofs.lemmas.Bool.{cases_eq}
@@ -35,7 +36,8 @@ held_or_not (h ∷ held) l =
 at_contains : {X : Type 0} (xs : List X) (k : ℕ) (d x : X) → k < length xs → get_or xs k d ≡ x → Contains xs x
 at_contains xs k d x lt e = (k, lt, get_or_from_slice_get xs k (get_or xs k d) x (slice_get-get_or xs k d lt) ∙ e)
 
-pub distinct_push : {X : Type 0} (xs : List X) (y : X) → AllPairs ◌≢◌ xs → (Contains xs y → ⊥) → AllPairs ◌≢◌ (xs ++ y ∷ [])
+pub distinct_push : {X : Type 0} (xs : List X) (y : X) → AllPairs ◌≢◌ xs → (Contains xs y → ⊥) →
+    AllPairs ◌≢◌ (xs ++ y ∷ [])
 distinct_push xs y d new = all_pairs_push ◌≢◌ xs y d (λ k z lt e. new (at_contains xs k z y lt e))
 
 pub distinct_cons : {X : Type 0} (x : X) (xs : List X) → AllPairs ◌≢◌ xs → (Contains xs x → ⊥) → AllPairs ◌≢◌ (x ∷ xs)

@@ -1,5 +1,6 @@
 -- The keys of a section's paths: each once, and in rising order when they are sorted; and the paths of a set in that order.
-use Rattle.std.proofs.Common.{◌≡◌, ◌<◌, ◌≤◌, ◌+◌, ◌⊎◌, ℕ, zero, suc, Bool, true, false, List, [], ◌∷◌, length, get_or, if◌then◌else◌, inl, inr, sym, ap, ◌∙◌, subst, arith, refl}
+use Rattle.std.proofs.Common.{◌≡◌, ◌<◌, ◌≤◌, ◌+◌, ◌⊎◌, ℕ, zero, suc, Bool, true, false, List, [], ◌∷◌, length, get_or}
+use Rattle.std.proofs.Common.{if◌then◌else◌, inl, inr, sym, ap, ◌∙◌, subst, arith, refl}
 use Rattle.std.specs.Prelude.{slice_index, ◌==◌, ◌%◌}
 use Rattle.std.specs.List.{AllPairs, Contains}
 use Rattle.std.specs.List.Sorted.{IsPermutation, IsSortedByKey}
@@ -69,7 +70,8 @@ flips x y =
     ]
 
 -- sorted, they are the keys that are asked for
-pub sorted_are_keys : (ranks keys sorted : List ℕ) → length ranks ≤ 64 → keys ≡ first_keys ranks (length ranks) → IsPermutation keys sorted →
+pub sorted_are_keys : (ranks keys sorted : List ℕ) → length ranks ≤ 64 → keys ≡ first_keys ranks (length ranks) →
+    IsPermutation keys sorted →
     IsSortedByKey (λ (x : ℕ). x) nat_cmp sorted → AreKeys ranks sorted
 sorted_are_keys ranks keys sorted few first moved ordered =
     let moved' = subst (λ (l : List ℕ). IsPermutation l sorted) first moved in
@@ -87,7 +89,8 @@ sorted_are_keys ranks keys sorted few first moved ordered =
 pub number_of_key : (ranks : List ℕ) (i : ℕ) → i < 64 → key_of ranks i % 64 ≡ i
 number_of_key ranks i lt = mod-mul-add (slice_index ranks i) 64 i lt
 
-in_if : (b : Bool) (x i : ℕ) (xs : List ℕ) → Contains (if b then x ∷ xs else xs) i → ((b ≡ true) × (x ≡ i)) ⊎ Contains xs i
+in_if : (b : Bool) (x i : ℕ) (xs : List ℕ) → Contains (if b then x ∷ xs else xs) i →
+    ((b ≡ true) × (x ≡ i)) ⊎ Contains xs i
 in_if true x i xs c = elim (in_cases x i xs c) [ inl e ↦ inl (refl, e) | inr m ↦ inr m ]
 in_if false x i xs c = inr c
 
@@ -99,11 +102,13 @@ rest_if : (b : Bool) (x i : ℕ) (xs : List ℕ) → Contains xs i → Contains 
 rest_if true x i xs c = in_rest x i xs c
 rest_if false x i xs c = c
 
-pairs_if : (R : ℕ → ℕ → Type 0) (b : Bool) (x : ℕ) (xs : List ℕ) → AllPairs R xs → ((y : ℕ) → Contains xs y → R x y) → AllPairs R (if b then x ∷ xs else xs)
+pairs_if : (R : ℕ → ℕ → Type 0) (b : Bool) (x : ℕ) (xs : List ℕ) → AllPairs R xs → ((y : ℕ) → Contains xs y → R x y) →
+    AllPairs R (if b then x ∷ xs else xs)
 pairs_if R true x xs pairs before = AllPairs-cons R x xs (λ k d lt. before (get_or xs k d) (at_contains xs k d _ lt refl)) pairs
 pairs_if R false x xs pairs before = pairs
 
-pub of_numbers : (set : PathSet) (keys : List ℕ) (i : ℕ) → Contains (numbers_in set keys) i → (k : ℕ) × Contains keys k × (k % 64 ≡ i) × (has set i ≡ true)
+pub of_numbers : (set : PathSet) (keys : List ℕ) (i : ℕ) → Contains (numbers_in set keys) i →
+    (k : ℕ) × Contains keys k × (k % 64 ≡ i) × (has set i ≡ true)
 of_numbers set [] i c = absurd (not_in_none i c)
 of_numbers set (k ∷ ks) i c =
     elim (in_if (has set (k % 64)) (k % 64) i (numbers_in set ks) c) [
@@ -111,7 +116,8 @@ of_numbers set (k ∷ ks) i c =
       | inr m ↦ let h = of_numbers set ks i m in (h.0, in_rest k h.0 ks h.1, h.2, h.3)
     ]
 
-pub in_numbers : (set : PathSet) (keys : List ℕ) (k : ℕ) → Contains keys k → has set (k % 64) ≡ true → Contains (numbers_in set keys) (k % 64)
+pub in_numbers : (set : PathSet) (keys : List ℕ) (k : ℕ) → Contains keys k → has set (k % 64) ≡ true →
+    Contains (numbers_in set keys) (k % 64)
 in_numbers set [] k c t = absurd (not_in_none k c)
 in_numbers set (x ∷ ks) k c t =
     elim (in_cases x k ks c) [
@@ -122,7 +128,8 @@ in_numbers set (x ∷ ks) k c t =
     ]
 
 -- where the keys rise and are their paths', so do those of the listed paths
-pub numbers_rise : (ranks : List ℕ) (set : PathSet) (keys : List ℕ) → AllPairs ◌<◌ keys → ((k : ℕ) → Contains keys k → k ≡ key_of ranks (k % 64)) →
+pub numbers_rise : (ranks : List ℕ) (set : PathSet) (keys : List ℕ) → AllPairs ◌<◌ keys →
+    ((k : ℕ) → Contains keys k → k ≡ key_of ranks (k % 64)) →
     AllPairs (λ i j. key_of ranks i < key_of ranks j) (numbers_in set keys)
 numbers_rise ranks set [] rising own = λ i j d lt bound. omega (arith, bound)
 numbers_rise ranks set (k ∷ ks) rising own =
@@ -130,7 +137,8 @@ numbers_rise ranks set (k ∷ ks) rising own =
     (numbers_rise ranks set ks (λ i j d lt bound. rising (suc i) (suc j) d (omega (arith, lt)) (omega (arith, bound))) (λ x c. own x (in_rest k x ks c)))
     (λ y c. let h = of_numbers set ks y c in above y h)
   where
-    above : (y : ℕ) → (x : ℕ) × Contains ks x × (x % 64 ≡ y) × (has set y ≡ true) → key_of ranks (k % 64) < key_of ranks y
+    above : (y : ℕ) → (x : ℕ) × Contains ks x × (x % 64 ≡ y) × (has set y ≡ true) →
+        key_of ranks (k % 64) < key_of ranks y
     above y h =
         let less : k < h.0 = subst (λ z. k < z) h.1.2 (rising 0 (suc h.1.0) h.0 (omega arith) (omega (arith, h.1.1))) in
         let here = own k (in_first k ks) in
@@ -138,7 +146,8 @@ numbers_rise ranks set (k ∷ ks) rising own =
         omega (arith, less, here, there)
 
 -- the key of a path is that of its number
-pub own_key : (ranks keys : List ℕ) → length ranks ≤ 64 → AreKeys ranks keys → (k : ℕ) → Contains keys k → (k % 64 < length ranks) × (k ≡ key_of ranks (k % 64))
+pub own_key : (ranks keys : List ℕ) → length ranks ≤ 64 → AreKeys ranks keys → (k : ℕ) → Contains keys k →
+    (k % 64 < length ranks) × (k ≡ key_of ranks (k % 64))
 own_key ranks keys few are k c =
     let h = are.each k c in
     let same : k % 64 ≡ h.0 = ap (λ x. x % 64) h.2 ∙ number_of_key ranks h.0 (omega (arith, h.1, few)) in

@@ -26,24 +26,28 @@ pub record PathLaws : Type 0 where
   pub listed : UsedAreListed
 
 module _ (laws : PathLaws) (program : Typed) (section : Section) (ranks : List ℕ) (lists : List (List ℕ)) (ok : IsOrdered program section ranks lists) where
-  pub named_rank : (path : LockPath) (locals : List Value) (l : Lock) → lock_named path program.shape locals ≡ Some l → slice_index ranks l.class ≡ rank_of ranks path
+  pub named_rank : (path : LockPath) (locals : List Value) (l : Lock) →
+      lock_named path program.shape locals ≡ Some l → slice_index ranks l.class ≡ rank_of ranks path
   named_rank path locals l e = ap (λ c. slice_index ranks c) (named_class path program.shape locals l e)
 
-  has_rank : (p : ℕ) (path : LockPath) → Uses program section p path → slice_get ranks path.class ≡ Some (rank_of ranks path)
+  has_rank : (p : ℕ) (path : LockPath) → Uses program section p path →
+      slice_get ranks path.class ≡ Some (rank_of ranks path)
   has_rank p path u =
       let c = laws.classes program section p path ok.well_formed u in
       let lt : path.class < length ranks = omega (arith, slice_get_within program.classes.items path.class c.0 c.1, ok.ranked.long) in
       slice_get-get_or ranks path.class 0 lt
 
   -- a path that is used at a point is of a lesser rank than one whose root is bound there or later
-  pub rises : (p b user : ℕ) (a path : LockPath) → Uses program section p a → Uses program section user path → BindsRoot section b path →
+  pub rises : (p b user : ℕ) (a path : LockPath) → Uses program section p a → Uses program section user path →
+      BindsRoot section b path →
       (p ≡ b) ⊎ Before (skeleton section) p b → rank_of ranks a < rank_of ranks path
   rises p b user a path u v binds order =
       ok.rise a.class path.class (rank_of ranks a) (rank_of ranks path)
       (ok.here.0, p, b, record { section = section; here = ok.here.1; uses = (a, u, refl); binds = (path, user, v, binds, refl); order = order })
       (has_rank p a u) (has_rank user path v)
 
-  pub somewhere : (p : ℕ) (path : LockPath) → Uses program section p path ⊎ IsUsedLater program section p path → (user : ℕ) × Uses program section user path
+  pub somewhere : (p : ℕ) (path : LockPath) → Uses program section p path ⊎ IsUsedLater program section p path →
+      (user : ℕ) × Uses program section user path
   somewhere p path (inl u) = (p, u)
   somewhere p path (inr later) = (later.0, later.2)
 
@@ -56,12 +60,14 @@ module _ (laws : PathLaws) (program : Typed) (section : Section) (ranks : List �
 
   -- ---- what is listed
 
-  pub number_of : (user : ℕ) (path : LockPath) → Uses program section user path → (i : ℕ) × IsPath program section i path
+  pub number_of : (user : ℕ) (path : LockPath) → Uses program section user path →
+      (i : ℕ) × IsPath program section i path
   number_of user path u =
       let c = (laws.listed program section path).1 (user, u) in
       (c.0, slice_get-get_or (lock_paths program section) c.0 path c.1 ∙ ap Some c.2)
 
-  pub listed_wanted : (p : ℕ) (locals : List Value) (l : Lock) (x : IsListed program section ranks lists p locals l) → IsWanted program section ranks p x.path
+  pub listed_wanted : (p : ℕ) (locals : List Value) (l : Lock) (x : IsListed program section ranks lists p locals l) →
+      IsWanted program section ranks p x.path
   listed_wanted p locals l x =
       let y = ok.allowed.only p x.number x.list x.here x.listed in
       subst (λ (path : LockPath). IsWanted program section ranks p path) (same_Some y.0 x.path (sym y.1 ∙ x.is_path)) y.2

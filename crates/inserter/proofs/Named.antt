@@ -17,9 +17,11 @@ of_object : (number : ℕ) (o : Option ℕ) (l : Lock) → option_map (lock_at n
 of_object number None l e = absurd (none-some l e)
 of_object number (Some object) l e = ap (λ (x : Lock). x.class) (sym (same_Some (lock_at number object) l e))
 
-of_root : (root : Root) (finals : List ℕ) (number : ℕ) (shape : Shape) (locals : List Value) (l : Lock) → lock_from root finals number shape locals ≡ Some l → l.class ≡ number
+of_root : (root : Root) (finals : List ℕ) (number : ℕ) (shape : Shape) (locals : List Value) (l : Lock) →
+    lock_from root finals number shape locals ≡ Some l → l.class ≡ number
 of_root GlobalLock finals number shape locals l e = ap (λ (x : Lock). x.class) (sym (same_Some (global_lock number) l e))
 of_root (AtLocal k) finals number shape locals l e = of_object number (object_at shape locals k finals) l e
 
-pub named_class : (path : LockPath) (shape : Shape) (locals : List Value) (l : Lock) → lock_named path shape locals ≡ Some l → l.class ≡ path.class
+pub named_class : (path : LockPath) (shape : Shape) (locals : List Value) (l : Lock) →
+    lock_named path shape locals ≡ Some l → l.class ≡ path.class
 named_class path shape locals l e = of_root path.root path.finals path.class shape locals l e

@@ -21,7 +21,8 @@ use Rattle.inserter.proofs.Standing.{IsGranted, Standing, path_of, wanted_held}
 use Rattle.inserter.proofs.Going.{goes_on}
 
 module _ (laws : PathLaws) (program : Typed) (section : Section) (ranks : List ℕ) (lists : List (List ℕ)) (ok : IsOrdered program section ranks lists) where
-  granted : (p : ℕ) (locals : List Value) (held : List Lock) (lock : Lock) → Standing program section ranks lists p locals held →
+  granted : (p : ℕ) (locals : List Value) (held : List Lock) (lock : Lock) →
+      Standing program section ranks lists p locals held →
       Asks program section ranks lists p locals held lock → Standing program section ranks lists p locals (held ++ lock ∷ [])
   granted p locals held lock s asks =
       let more = λ (m : Lock) (c : Contains held m). Contains-append_left held (lock ∷ []) m c in
@@ -46,7 +47,8 @@ module _ (laws : PathLaws) (program : Typed) (section : Section) (ranks : List �
         once = distinct_push held lock s.once asks.new;
       }
 
-  stands : {p : ℕ} {locals : List Value} {held : List Lock} → Run program section ranks lists p locals held → Standing program section ranks lists p locals held
+  stands : {p : ℕ} {locals : List Value} {held : List Lock} → Run program section ranks lists p locals held →
+      Standing program section ranks lists p locals held
   stands (begins {locals}) = record {
     before = [];
     arrived = starts program section ranks locals;
@@ -65,7 +67,8 @@ module _ (laws : PathLaws) (program : Typed) (section : Section) (ranks : List �
         once = s.once;
       }
 
-  rise : (p : ℕ) (locals : List Value) (held : List Lock) → Run program section ranks lists p locals held → AsksRise program section ranks lists p locals held
+  rise : (p : ℕ) (locals : List Value) (held : List Lock) → Run program section ranks lists p locals held →
+      AsksRise program section ranks lists p locals held
   rise p locals held run lock other asks c =
       let s = stands run in
       elim (s.each other c) [
@@ -79,7 +82,8 @@ module _ (laws : PathLaws) (program : Typed) (section : Section) (ranks : List �
         | inr new ↦ new.first lock asks.listed asks.new
       ]
 
-  held_there : (p : ℕ) (locals : List Value) (held : List Lock) → Run program section ranks lists p locals held → UsedAreHeld program section ranks lists p locals held
+  held_there : (p : ℕ) (locals : List Value) (held : List Lock) → Run program section ranks lists p locals held →
+      UsedAreHeld program section ranks lists p locals held
   held_there p locals held run all path lock uses e =
       wanted_held laws program section ranks lists ok p locals held (stands run) all path lock (used_wanted laws program section ranks lists ok p path uses) e
 
@@ -87,13 +91,15 @@ module _ (laws : PathLaws) (program : Typed) (section : Section) (ranks : List �
   abbrev IsNamedBy : List Value → ℕ → Lock → Type 0
   IsNamedBy locals i lock = (path : LockPath) × IsPath program section i path × (lock_named path program.shape locals ≡ Some lock)
 
-  all_named : (p : ℕ) (locals : List Value) (held : List Lock) → Run program section ranks lists p locals held → HeldAreNamed program section ranks lists p locals held
+  all_named : (p : ℕ) (locals : List Value) (held : List Lock) → Run program section ranks lists p locals held →
+      HeldAreNamed program section ranks lists p locals held
   all_named p locals held run lock c =
       let x = path_of laws program section ranks lists ok p locals held (stands run) lock c in
       let i = number_of laws program section ranks lists ok x.user x.path x.uses in
       (i.0, x.path, i.1, x.named)
 
-  few : (p : ℕ) (locals : List Value) (held : List Lock) → Run program section ranks lists p locals held → FewAreHeld program section ranks lists p locals held
+  few : (p : ℕ) (locals : List Value) (held : List Lock) → Run program section ranks lists p locals held →
+      FewAreHeld program section ranks lists p locals held
   few p locals held run =
       let s = stands run in (
         s.once,

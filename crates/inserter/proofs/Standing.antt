@@ -19,7 +19,8 @@ module _ (program : Typed) (section : Section) (ranks : List ℕ) (lists : List 
   -- it was granted at this point: it is listed, and precedes all listed locks that aren't held
   pub record IsGranted (p : ℕ) (locals : List Value) (held : List Lock) (h : Lock) : Type 0 where
     pub listed : IsListed program section ranks lists p locals h
-    pub first : (m : Lock) → IsListed program section ranks lists p locals m → (Contains held m → ⊥) → Precedes ranks h m
+    pub first : (m : Lock) → IsListed program section ranks lists p locals m → (Contains held m → ⊥) →
+        Precedes ranks h m
 
   pub record Standing (p : ℕ) (locals : List Value) (held : List Lock) : Type 0 where
     -- the locks that were held when it came
@@ -42,7 +43,8 @@ module _ (laws : PathLaws) (program : Typed) (section : Section) (ranks : List �
       ]
 
   -- where all that is listed is held, so is the lock of each path that is wanted
-  pub wanted_held : ((l : Lock) → IsListed program section ranks lists p locals l → Contains held l) → (path : LockPath) (l : Lock) →
+  pub wanted_held : ((l : Lock) → IsListed program section ranks lists p locals l → Contains held l) →
+      (path : LockPath) (l : Lock) →
       IsWanted program section ranks p path → lock_named path program.shape locals ≡ Some l → Contains held l
   wanted_held all path l wanted e =
       elim (held_or_not held l) [

@@ -1,5 +1,6 @@
 -- Many instructions of one thread are as many steps of it.
-use Rattle.std.proofs.Common.{◌≡◌, ℕ, zero, suc, ◌+◌, ◌-◌, ◌<◌, ◌≤◌, List, [], ◌∷◌, ◌++◌, length, replicate, set, Some, refl, sym, ap, ◌∙◌, subst, arith}
+use Rattle.std.proofs.Common.{◌≡◌, ℕ, zero, suc, ◌+◌, ◌-◌, ◌<◌, ◌≤◌, List, [], ◌∷◌, ◌++◌, length, replicate, set}
+use Rattle.std.proofs.Common.{Some, refl, sym, ap, ◌∙◌, subst, arith}
 use Rattle.std.specs.Prelude.{slice_get}
 use Rattle.std.proofs.lemmas.List.{set-set}
 use Rattle.std.proofs.lemmas.Option.{slice_get_within}
@@ -38,7 +39,8 @@ module _ (plan : Plan) (m : Managed) (states : List State) (t : ℕ) (tied : IsT
     pub tied_then : IsTied plan m (set states t x)
     pub world : world_after plan (world_of m states) (replicate j t) ≡ world_of m (set states t x)
 
-  one_more : (j : ℕ) (o : OpenOf) (n : Next) → t < length states → RunTo j (state.Running o) → open_of n ≡ moved o → IsNamed n → RunTo (suc j) (state_of n)
+  one_more : (j : ℕ) (o : OpenOf) (n : Next) → t < length states → RunTo j (state.Running o) → open_of n ≡ moved o →
+      IsNamed n → RunTo (suc j) (state_of n)
   one_more j o n lt so_far is named =
       let before : List State = set states t (state.Running o) in
       let here : slice_get before t ≡ Some (state.Running o) = set_same states t (state.Running o) lt in
@@ -55,7 +57,8 @@ module _ (plan : Plan) (m : Managed) (states : List State) (t : ℕ) (tied : IsT
             ∙ ap (world_of m) once;
       }
 
-  all_along : (count : ℕ) (o : OpenOf) → slice_get states t ≡ Some (state.Running o) → ((k : ℕ) → k < count → IsRunning (moved_by k o)) →
+  all_along : (count : ℕ) (o : OpenOf) → slice_get states t ≡ Some (state.Running o) →
+      ((k : ℕ) → k < count → IsRunning (moved_by k o)) →
       (j : ℕ) → j < count → RunTo j (state.Running (moved_by j o))
   all_along count o here running zero lt =
       let same : states ≡ set states t (state.Running o) = sym (set_itself states t (state.Running o) here) in
@@ -104,12 +107,14 @@ replicate_more (suc a) b t =
     let number : suc a + b ≡ suc (a + b) = omega arith in
     ap (λ n. replicate n t) number ∙ ap (λ (ts : List ℕ). t ∷ ts) (replicate_more a b t)
 
-further_steps : (w : ThreadsOf) (a b t : ℕ) → with_steps (with_steps w (replicate a t)) (replicate b t) ≡ with_steps w (replicate (a + b) t)
+further_steps : (w : ThreadsOf) (a b t : ℕ) →
+    with_steps (with_steps w (replicate a t)) (replicate b t) ≡ with_steps w (replicate (a + b) t)
 further_steps w a b t =
     ap (threads_of w.plan) (sym (steps_more w.plan w.world (replicate a t) (replicate b t)) ∙ ap (world_after w.plan w.world) (sym (replicate_more a b t)))
 
 -- of a turn so many steps are left; with one more, and so many instructions, so many fewer are
-pub turn_on : (first w mid last : ThreadsOf) (count left more t : ℕ) (e : Event) → left ≤ count → 0 < left → more ≤ left - 1 →
+pub turn_on : (first w mid last : ThreadsOf) (count left more t : ℕ) (e : Event) → left ≤ count → 0 < left →
+    more ≤ left - 1 →
     w ≡ with_steps first (replicate (count - left) t) → happens w.plan w.world t ≡ (e, mid.world) → mid.plan ≡ w.plan →
     last ≡ with_steps mid (replicate more t) → last ≡ with_steps first (replicate (count - (left - 1 - more)) t)
 turn_on first w mid last count left more t e within some few so_far step same ran =

@@ -1,5 +1,6 @@
 -- The cells of a world, as the manager has them.
-use Rattle.std.proofs.Common.{◌≡◌, ◌≢◌, ℕ, zero, suc, ◌+◌, ◌<◌, if◌then◌else◌, nat_eq, List, [], ◌∷◌, length, map, Option, Some, None, inl, inr, refl, sym, ap, ◌∙◌, arith}
+use Rattle.std.proofs.Common.{◌≡◌, ◌≢◌, ℕ, zero, suc, ◌+◌, ◌<◌, if◌then◌else◌, nat_eq, List, [], ◌∷◌, length, map}
+use Rattle.std.proofs.Common.{Option, Some, None, inl, inr, refl, sym, ap, ◌∙◌, arith}
 use Rattle.std.specs.Prelude.{slice_get}
 use Rattle.std.specs.List.{Contains, range_with_len}
 use Rattle.std.proofs.lemmas.Bool.{cases_lt}
@@ -35,7 +36,8 @@ number_at a zero i lt = absurd (omega (arith, lt))
 number_at a (suc n) zero lt = ap Some (let e : a ≡ a + 0 = omega arith in e)
 number_at a (suc n) (suc i) lt = number_at (a + 1) n i (omega (arith, lt)) ∙ ap Some (let e : (a + 1) + i ≡ a + suc i = omega arith in e)
 
-pub seen_at : (m : Managed) (cell : ℕ) → cell < length m.layout.cell_locks → slice_get (cells_seen m) cell ≡ Some (cell_of m cell)
+pub seen_at : (m : Managed) (cell : ℕ) → cell < length m.layout.cell_locks →
+    slice_get (cells_seen m) cell ≡ Some (cell_of m cell)
 seen_at m cell lt =
     map_at (cell_of m) (range_with_len 0 (length m.layout.cell_locks)) cell (0 + cell) (number_at 0 (length m.layout.cell_locks) cell lt)
     ∙ ap (λ (c : ℕ). Some (cell_of m c)) (let e : 0 + cell ≡ cell = omega arith in e)
@@ -43,7 +45,8 @@ seen_at m cell lt =
 pub as_many_seen : (m : Managed) → length (cells_seen m) ≡ length m.layout.cell_locks
 as_many_seen m = length-map-range_with_len (cell_of m) 0 (length m.layout.cell_locks)
 
-pub cell_seen : (m : Managed) (cell : ℕ) → cell_of m cell ≡ lookup (slice_get (cells_seen m) cell) (λ (v : Option Value). v)
+pub cell_seen : (m : Managed) (cell : ℕ) →
+    cell_of m cell ≡ lookup (slice_get (cells_seen m) cell) (λ (v : Option Value). v)
 cell_seen m cell = elim (cases_lt cell (length m.layout.cell_locks)) [
   | inl lt ↦ sym (ap (λ r. lookup r (λ (v : Option Value). v)) (seen_at m cell lt))
   | inr le ↦ ap (λ r. lookup r (λ (lock : Lock). value_in m.layout.cell_locks lock (place_of m lock) cell)) (slice_get_past m.layout.cell_locks cell le)
@@ -63,7 +66,8 @@ later_cell P c cell cs (zero, lt, e) ne go = absurd (ne e)
 later_cell P c cell cs (suc j, lt, e) ne go = go (j, omega (arith, lt), e)
 
 -- what a heap has at one of some cells
-value_among : (heap : List Value) (cs : List ℕ) (cell : ℕ) → ((c : ℕ) → Contains cs c → c < length heap) → Contains cs cell →
+value_among : (heap : List Value) (cs : List ℕ) (cell : ℕ) → ((c : ℕ) → Contains cs c → c < length heap) →
+    Contains cs cell →
     value_at (numbered cs (values_on heap cs)) cell ≡ slice_get heap cell
 value_among heap [] cell all k = absurd (omega (arith, k.1))
 value_among heap (c ∷ cs) cell all k =
@@ -78,17 +82,20 @@ value_among heap (c ∷ cs) cell all k =
 pub as_many_values : (m : Managed) → IsKept m → CommittedKeepsSize → length m.values ≡ length m.layout.cell_locks
 as_many_values m k size = ap length k.values ∙ size m.layout.opening m.history ∙ k.cell_count
 
-cells_within : (m : Managed) (lock : Lock) → IsKept m → CommittedKeepsSize → (c : ℕ) → Contains (cells_of m.layout.cell_locks lock) c → c < length m.values
+cells_within : (m : Managed) (lock : Lock) → IsKept m → CommittedKeepsSize → (c : ℕ) →
+    Contains (cells_of m.layout.cell_locks lock) c → c < length m.values
 cells_within m lock k size c h =
     omega (arith, slice_get_within m.layout.cell_locks c lock (has_lock m.layout.cell_locks lock c h), as_many_values m k size)
 
-cell_by_lock : (m : Managed) (cell : ℕ) (lock : Lock) (p : Option LockPlace) → slice_get m.layout.cell_locks cell ≡ Some lock → place_of m lock ≡ p →
+cell_by_lock : (m : Managed) (cell : ℕ) (lock : Lock) (p : Option LockPlace) →
+    slice_get m.layout.cell_locks cell ≡ Some lock → place_of m lock ≡ p →
     cell_of m cell ≡ value_in m.layout.cell_locks lock p cell
 cell_by_lock m cell lock p at here =
     lookup_at (slice_get m.layout.cell_locks cell) lock (λ (l : Lock). value_in m.layout.cell_locks l (place_of m l) cell) at
     ∙ ap (λ q. value_in m.layout.cell_locks lock q cell) here
 
-free_cell : (m : Managed) (cell : ℕ) (lock : Lock) (values : List Value) → IsKept m → CommittedKeepsSize → slice_get m.layout.cell_locks cell ≡ Some lock →
+free_cell : (m : Managed) (cell : ℕ) (lock : Lock) (values : List Value) → IsKept m → CommittedKeepsSize →
+    slice_get m.layout.cell_locks cell ≡ Some lock →
     place_of m lock ≡ Some (Free values) → cell_of m cell ≡ slice_get m.values cell
 free_cell m cell lock values k size at here =
     let cells = cells_of m.layout.cell_locks lock in
@@ -109,7 +116,8 @@ taken_are heap cells (c ∷ cs) all =
     ∙ sym (ap (λ o. numbered (c ∷ cs) (if_there o (values_on heap cs))) v.1)
 
 -- the cells of a free lock are taken with the values that the manager has for them
-pub taken_from : (m : Managed) (lock : Lock) (values : List Value) → IsKept m → CommittedKeepsSize → place_of m lock ≡ Some (Free values) →
+pub taken_from : (m : Managed) (lock : Lock) (values : List Value) → IsKept m → CommittedKeepsSize →
+    place_of m lock ≡ Some (Free values) →
     taken (cells_seen m) (cells_of m.layout.cell_locks lock) ≡ numbered (cells_of m.layout.cell_locks lock) values
 taken_from m lock values k size here =
     let cells = cells_of m.layout.cell_locks lock in
@@ -131,7 +139,8 @@ pub record IsOne (plan : Plan) (w : World) (m : Managed) (states : List State) :
   pub sessions : (t : ℕ) → session_in m.slots t ≡ session_at states t
   pub listed : (cell : ℕ) (lock : Lock) → slice_get m.layout.cell_locks cell ≡ Some lock → Contains m.layout.locks lock
 
-has_place : (m : Managed) (lock : Lock) → IsKept m → Contains m.layout.locks lock → (p : LockPlace) × (place_of m lock ≡ Some p)
+has_place : (m : Managed) (lock : Lock) → IsKept m → Contains m.layout.locks lock →
+    (p : LockPlace) × (place_of m lock ≡ Some p)
 has_place m lock k c =
     let at = at_contained m.layout.locks lock c in
     let p = get_some m.places at.0 (omega (arith, slice_get_within m.layout.locks at.0 lock at.1, k.lock_count)) in
@@ -148,7 +157,8 @@ module _ (plan : Plan) (w : World) (m : Managed) (states : List State) (one : Is
       sym (cell_by_lock m cell lock (Some (Taken t)) here
       (one.kept.held lock t (open_holds w m.slots states one.threads one.sessions t a lock is_open (among_contains a.held lock held))))
 
-  present_cell : (cell : ℕ) (v : Value) (lock : Lock) (p : LockPlace) → slice_get w.cells cell ≡ Some (Some v) → slice_get m.layout.cell_locks cell ≡ Some lock →
+  present_cell : (cell : ℕ) (v : Value) (lock : Lock) (p : LockPlace) → slice_get w.cells cell ≡ Some (Some v) →
+      slice_get m.layout.cell_locks cell ≡ Some lock →
       place_of m lock ≡ Some p → Some v ≡ cell_of m cell
   present_cell cell v lock (Free values) e at here =
       let value : slice_get m.values cell ≡ Some v =
@@ -161,7 +171,8 @@ module _ (plan : Plan) (w : World) (m : Managed) (states : List State) (one : Is
       let gone : slice_get w.cells cell ≡ Some None = (one.sound.fit t o.section o.is_open).moved cell ((one.sound.well t o.section o.is_open).all cell has) in
       absurd (let bad : Some (Some v) ≡ Some None = sym e ∙ gone in cc)
 
-  each_cell : (cell : ℕ) (x : Option Value) → cell < length m.layout.cell_locks → slice_get w.cells cell ≡ Some x → x ≡ cell_of m cell
+  each_cell : (cell : ℕ) (x : Option Value) → cell < length m.layout.cell_locks → slice_get w.cells cell ≡ Some x →
+      x ≡ cell_of m cell
   each_cell cell None lt e = moved_cell cell e
   each_cell cell (Some v) lt e =
       let lock = get_some m.layout.cell_locks cell lt in

@@ -15,17 +15,20 @@ use Rattle.interleavings.specs.Coming.{section_comes, open_comes, thread_comes, 
 use Rattle.core_lang.specs.Theory.Items.{map_at}
 
 -- with a lock pending, and with an outcome
-comes_asking : (a : Activation) (locks : List Lock) (outcome : Option Outcome) → locks ≢ [] → section_comes a locks outcome ≡ coming.Other
+comes_asking : (a : Activation) (locks : List Lock) (outcome : Option Outcome) → locks ≢ [] →
+    section_comes a locks outcome ≡ coming.Other
 comes_asking a [] outcome some = absurd (some refl)
 comes_asking a (lock ∷ rest) outcome some = refl
 
-comes_ended : (a : Activation) (locks : List Lock) (outcome : Option Outcome) → outcome ≢ None → section_comes a locks outcome ≡ coming.Other
+comes_ended : (a : Activation) (locks : List Lock) (outcome : Option Outcome) → outcome ≢ None →
+    section_comes a locks outcome ≡ coming.Other
 comes_ended a [] None some = absurd (some refl)
 comes_ended a [] (Some outcome) some = refl
 comes_ended a (lock ∷ rest) outcome some = refl
 
 module _ (plan : Plan) (m : Managed) (states : List State) (t : ℕ) (tied : IsTied plan m states) where
-  coming_by_state : (y : State) → slice_get states t ≡ Some y → coming_at y ≡ open_comes (thread_of y).step (thread_of y).active
+  coming_by_state : (y : State) → slice_get states t ≡ Some y →
+      coming_at y ≡ open_comes (thread_of y).step (thread_of y).active
   coming_by_state state.Away h = absurd (tied.at t state.Away h)
   coming_by_state (state.Ready r) h = refl
   coming_by_state (state.Running o) h =

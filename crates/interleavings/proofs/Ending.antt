@@ -1,5 +1,6 @@
 -- When the section of a thread may be released.
-use Rattle.std.proofs.Common.{◌≡◌, ℕ, zero, suc, ◌<◌, ◌≤◌, List, [], ◌∷◌, ◌++◌, length, Option, Some, None, Bool, true, false, inl, inr, refl, sym, ap, ◌∙◌, subst, arith}
+use Rattle.std.proofs.Common.{◌≡◌, ℕ, zero, suc, ◌<◌, ◌≤◌, List, [], ◌∷◌, ◌++◌, length, Option, Some, None, Bool}
+use Rattle.std.proofs.Common.{true, false, inl, inr, refl, sym, ap, ◌∙◌, subst, arith}
 use Rattle.std.specs.Prelude.{slice_get}
 use Rattle.std.specs.Option.{option_map_or}
 use Rattle.std.specs.List.{All, Contains}
@@ -28,7 +29,8 @@ use Rattle.worlds.specs.Working.States.{IsWell, IsFit}
 use Rattle.interleavings.proofs.Numbers.{distinct_first, distinct_rest, has_lock}
 use Rattle.locks.specs.Theory.Order.{among_contains}
 use Rattle.interleavings.proofs.Cells.{first_is, first_is_not}
-use Rattle.core_lang.specs.Theory.Items.{contains_at, at_contained, some_same, all_contained, all_from, map_at, map_back, in_cases, in_rest}
+use Rattle.core_lang.specs.Theory.Items.{contains_at, at_contained, some_same, all_contained, all_from, map_at}
+use Rattle.core_lang.specs.Theory.Items.{map_back, in_cases, in_rest}
 
 -- ---- values of cells
 
@@ -40,7 +42,8 @@ value_more (x ∷ xs) ys c v h = elim (eqb_tells x.0 c) [
       ∙ value_more xs ys c v (sym (first_is_not x.0 c (Some x.1) (value_at xs c) e.1) ∙ h)
 ]
 
-value_behind : (xs ys : List (ℕ × Value)) (c : ℕ) → ((v : Value) → value_at xs c ≡ Some v → ⊥) → value_at (xs ++ ys) c ≡ value_at ys c
+value_behind : (xs ys : List (ℕ × Value)) (c : ℕ) → ((v : Value) → value_at xs c ≡ Some v → ⊥) →
+    value_at (xs ++ ys) c ≡ value_at ys c
 value_behind [] ys c h = refl
 value_behind (x ∷ xs) ys c h = elim (eqb_tells x.0 c) [
   | inl e ↦ absurd (h x.1 (first_is x.0 c (Some x.1) (value_at xs c) e.1))
@@ -59,7 +62,8 @@ has_value (y ∷ ys) x c = elim (eqb_tells y.0 x.0) [
   ]
 ]
 
-numbered_only : (cs : List ℕ) (vs : List Value) (c : ℕ) (v : Value) → value_at (numbered cs vs) c ≡ Some v → Contains cs c
+numbered_only : (cs : List ℕ) (vs : List Value) (c : ℕ) (v : Value) → value_at (numbered cs vs) c ≡ Some v →
+    Contains cs c
 numbered_only [] vs c v h = absurd (none-some v h)
 numbered_only (d ∷ ds) [] c v h = absurd (none-some v h)
 numbered_only (d ∷ ds) (w ∷ ws) c v h = elim (eqb_tells d c) [
@@ -70,7 +74,8 @@ numbered_only (d ∷ ds) (w ∷ ws) c v h = elim (eqb_tells d c) [
 -- ---- the cells of grants
 
 -- a cell's value in one of the grants is its value in all of them, where each lock stands once
-granted_value : (cell_locks : List Lock) (gs : List GrantOf) (g : GrantOf) (cell : ℕ) (v : Value) → AreDistinct (locks_of gs) → Contains gs g →
+granted_value : (cell_locks : List Lock) (gs : List GrantOf) (g : GrantOf) (cell : ℕ) (v : Value) →
+    AreDistinct (locks_of gs) → Contains gs g →
     slice_get cell_locks cell ≡ Some g.lock → value_at (cells_in cell_locks g) cell ≡ Some v → value_at (cells_granted cell_locks gs) cell ≡ Some v
 granted_value cell_locks [] g cell v d c at h = absurd (omega (arith, c.1))
 granted_value cell_locks (x ∷ gs) g cell v d c at h = elim (in_cases x g gs c) [
@@ -93,7 +98,8 @@ agrees_from heap (c ∷ cs) [] f = tt
 agrees_from heap (c ∷ cs) (v ∷ vs) f = (f 0 c v refl refl, agrees_from heap cs vs (λ k. f (suc k)))
 
 -- a heap that has what the grants have together agrees with each of them
-grant_agrees : (cell_locks : List Lock) (gs : List GrantOf) (g : GrantOf) (heap : List Value) → OffsetsFindValues → AreDistinct (locks_of gs) → All (IsWhole cell_locks) gs →
+grant_agrees : (cell_locks : List Lock) (gs : List GrantOf) (g : GrantOf) (heap : List Value) → OffsetsFindValues →
+    AreDistinct (locks_of gs) → All (IsWhole cell_locks) gs →
     ((cell : ℕ) (v : Value) → value_at (cells_granted cell_locks gs) cell ≡ Some v → slice_get heap cell ≡ Some v) → Contains gs g → Agrees heap (cells_in cell_locks g)
 grant_agrees cell_locks gs g heap find d whole now c =
     agrees_from heap (cells_of cell_locks g.lock) g.values (λ k cell v at is.
@@ -107,7 +113,8 @@ pub no_ask : (b : Bool) → first_if b [] ≡ None
 no_ask true = refl
 no_ask false = refl
 
-are_own : (cell_locks : List Lock) (held : List Lock) (grants : List GrantOf) → locks_of grants ≡ held → All (IsWhole cell_locks) grants → AreOf cell_locks held grants
+are_own : (cell_locks : List Lock) (held : List Lock) (grants : List GrantOf) → locks_of grants ≡ held →
+    All (IsWhole cell_locks) grants → AreOf cell_locks held grants
 are_own cell_locks held grants same whole = record {
   count = sym (length-map grants (λ (g : GrantOf). g.lock)) ∙ ap length same;
   all = all_from (Contains (locks_of grants)) held (λ lock c. subst (λ (ls : List Lock). Contains ls lock) (sym same) c);
@@ -118,14 +125,16 @@ are_own cell_locks held grants same whole = record {
 }
 
 -- what a section wrote is of cells of its locks
-own_writes : (plan : Plan) (a : Activation) → IsWell plan a → All (IsOwnWrite plan.layout.cell_locks a.held) a.machine.memory.writes
+own_writes : (plan : Plan) (a : Activation) → IsWell plan a →
+    All (IsOwnWrite plan.layout.cell_locks a.held) a.machine.memory.writes
 own_writes plan a well = all_from (IsOwnWrite plan.layout.cell_locks a.held) a.machine.memory.writes (λ w c.
     let v = has_value a.machine.memory.writes w c in
     let l = well.only w.0 (v.0, well.consistent.written w.0 v.0 v.1) in
     record { lock = l.0; lock_is = l.1; is_held = among_contains a.held l.0 l.2 })
 
 -- a section that is over may be released
-pub can_end : (plan : Plan) (m : Managed) (cells : List (Option Value)) (o : OpenOf) → OffsetsFindValues → IsKept m → m.layout ≡ plan.layout → o.plan ≡ plan →
+pub can_end : (plan : Plan) (m : Managed) (cells : List (Option Value)) (o : OpenOf) → OffsetsFindValues → IsKept m →
+    m.layout ≡ plan.layout → o.plan ≡ plan →
     Knows m (ticket_of o) → IsWell plan o.activation → IsFit cells (committed plan.layout.opening m.history) o.activation →
     AreDistinct o.activation.held → o.activation.pending ≡ [] → CanGiveBack m o
 can_end plan m cells o find kept layout of known well fit once none grants outcome its over =
@@ -151,7 +160,8 @@ can_end plan m cells o find kept layout of known well fit once none grants outco
 
 -- ---- the number of a call
 
-few_calls : (threads : List Thread) (t : ℕ) (thread : Thread) → slice_get threads t ≡ Some thread → length thread.calls.items ≤ calls_together threads
+few_calls : (threads : List Thread) (t : ℕ) (thread : Thread) → slice_get threads t ≡ Some thread →
+    length thread.calls.items ≤ calls_together threads
 few_calls [] t thread e = absurd (none-some thread e)
 few_calls (x ∷ xs) zero thread e = let same : x ≡ thread = cc in omega (arith, ap (λ (y : Thread). length y.calls.items) same)
 few_calls (x ∷ xs) (suc t) thread e = omega (arith, few_calls xs t thread e)
@@ -161,7 +171,8 @@ script_of_thread : (o : Option (List Invocation)) (step : ℕ) (call : Invocatio
 script_of_thread None step call e = absurd (none-some call e)
 script_of_thread (Some calls) step call e = (calls, refl, e)
 
-pub step_within : (plan : Plan) (t step : ℕ) (call : Invocation) → IsCompiled plan → call_at plan t step ≡ Some call → step < 100000
+pub step_within : (plan : Plan) (t step : ℕ) (call : Invocation) → IsCompiled plan → call_at plan t step ≡ Some call →
+    step < 100000
 step_within plan t step call compiled e =
     let s = script_of_thread (slice_get (scripts plan) t) step call e in
     let x = map_back script_of plan.program.threads.items t s.0 s.1 in

@@ -1,5 +1,6 @@
 -- Which thread holds a lock, as the manager knows it and as the world shows it.
-use Rattle.std.proofs.Common.{◌≡◌, ℕ, zero, suc, ◌+◌, true, false, if◌then◌else◌, List, [], ◌∷◌, map, Option, Some, None, inl, inr, refl, sym, ap, ◌∙◌, subst, arith, true≢false}
+use Rattle.std.proofs.Common.{◌≡◌, ℕ, zero, suc, ◌+◌, true, false, if◌then◌else◌, List, [], ◌∷◌, map, Option, Some}
+use Rattle.std.proofs.Common.{None, inl, inr, refl, sym, ap, ◌∙◌, subst, arith, true≢false}
 use Rattle.std.specs.Prelude.{slice_get}
 use Rattle.std.specs.Option.{option_map_or}
 use Rattle.std.specs.List.{Contains}
@@ -84,7 +85,8 @@ record Found (k : ℕ) (threads : List ThreadState) (lock : Lock) (u : ℕ) : Ty
   is : slice_get threads place ≡ Some thread
   has : holds lock thread ≡ true
 
-found : (k : ℕ) (threads : List ThreadState) (lock : Lock) (u : ℕ) → holder_from k threads lock ≡ Some u → Found k threads lock u
+found : (k : ℕ) (threads : List ThreadState) (lock : Lock) (u : ℕ) → holder_from k threads lock ≡ Some u →
+    Found k threads lock u
 found k [] lock u e = absurd (none-some u e)
 found k (x ∷ xs) lock u e = elim (cases_Bool (holds lock x)) [
   | inl h ↦ (
@@ -96,12 +98,14 @@ found k (x ∷ xs) lock u e = elim (cases_Bool (holds lock x)) [
       record { place = suc r.place; number = omega (arith, r.number); thread = r.thread; is = r.is; has = r.has })
 ]
 
-not_first : (x : ThreadState) (xs : List ThreadState) (lock : Lock) (i : ℕ) (thread : ThreadState) → slice_get (x ∷ xs) i ≡ Some thread → holds lock x ≡ false → holds lock thread ≡ true →
+not_first : (x : ThreadState) (xs : List ThreadState) (lock : Lock) (i : ℕ) (thread : ThreadState) →
+    slice_get (x ∷ xs) i ≡ Some thread → holds lock x ≡ false → holds lock thread ≡ true →
     ((j : ℕ) → slice_get xs j ≡ Some thread → ⊥) → ⊥
 not_first x xs lock zero thread at f h go = let same : x ≡ thread = cc in true≢false (sym h ∙ ap (holds lock) (sym same) ∙ f)
 not_first x xs lock (suc j) thread at f h go = go j at
 
-not_found : (k : ℕ) (threads : List ThreadState) (lock : Lock) (i : ℕ) (thread : ThreadState) → holder_from k threads lock ≡ None →
+not_found : (k : ℕ) (threads : List ThreadState) (lock : Lock) (i : ℕ) (thread : ThreadState) →
+    holder_from k threads lock ≡ None →
     slice_get threads i ≡ Some thread → holds lock thread ≡ true → ⊥
 not_found k [] lock i thread e at h = none-some thread at
 not_found k (x ∷ xs) lock i thread e at h = elim (cases_Bool (holds lock x)) [
@@ -129,7 +133,8 @@ module _ (m : Managed) (w : World) (states : List State) (kept : IsKept m) (thre
       let is_open : HasOpen w u a.0 = (r.thread, ap (slice_get w.threads) (sym same) ∙ r.is, a.1) in
       kept.held lock u (open_holds w m.slots states threads sessions u a.0 lock is_open (among_contains a.0.held lock a.2))
 
-  same_holder : (lock : Lock) (p : Option LockPlace) (q : Option ℕ) → place_of m lock ≡ p → holder w lock ≡ q → q ≡ taker p
+  same_holder : (lock : Lock) (p : Option LockPlace) (q : Option ℕ) → place_of m lock ≡ p → holder w lock ≡ q →
+      q ≡ taker p
   same_holder lock p (Some u) at h = ap taker (sym (found_takes lock u h) ∙ at)
   same_holder lock None None at h = refl
   same_holder lock (Some (Free values)) None at h = refl

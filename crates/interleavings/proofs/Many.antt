@@ -1,5 +1,6 @@
 -- Step after step.
-use Rattle.std.proofs.Common.{◌≡◌, ℕ, zero, suc, ◌+◌, ◌<◌, ◌-◌, ◌≤◌, List, [], ◌∷◌, ◌++◌, length, take, drop, get_or, replicate, Some, refl, sym, ap, ◌∙◌, arith, append_assoc}
+use Rattle.std.proofs.Common.{◌≡◌, ℕ, zero, suc, ◌+◌, ◌<◌, ◌-◌, ◌≤◌, List, [], ◌∷◌, ◌++◌, length, take, drop, get_or}
+use Rattle.std.proofs.Common.{replicate, Some, refl, sym, ap, ◌∙◌, arith, append_assoc}
 use Rattle.std.proofs.lemmas.List.{take_more}
 use Rattle.std.specs.Prelude.{slice_get, Result, Ok, Err, OnErr}
 use Rattle.lowering.specs.Plans.{Plan}
@@ -10,7 +11,8 @@ use Rattle.source_steps.specs.declared.turn.Turn.{Turn}
 use Rattle.interleavings.specs.Threads.{ThreadsOf, threads_of, with_steps, StopsAtBegin}
 use Rattle.source_steps.specs.Turns.{steps_of}
 
-pub steps_more : (plan : Plan) (w : World) (xs ys : List ℕ) → world_after plan w (xs ++ ys) ≡ world_after plan (world_after plan w xs) ys
+pub steps_more : (plan : Plan) (w : World) (xs ys : List ℕ) →
+    world_after plan w (xs ++ ys) ≡ world_after plan (world_after plan w xs) ys
 steps_more plan w [] ys = refl
 steps_more plan w (t ∷ xs) ys = steps_more plan (happens plan w t).1 xs ys
 
@@ -22,14 +24,16 @@ append_none : (xs : List ℕ) → xs ++ [] ≡ xs
 append_none [] = refl
 append_none (x ∷ xs) = ap (λ ys. x ∷ ys) (append_none xs)
 
-steps_of_push : (turns : List Turn) (turn : Turn) → steps_of (turns ++ turn ∷ []) ≡ steps_of turns ++ replicate turn.count turn.thread
+steps_of_push : (turns : List Turn) (turn : Turn) →
+    steps_of (turns ++ turn ∷ []) ≡ steps_of turns ++ replicate turn.count turn.thread
 steps_of_push [] turn = append_none (replicate turn.count turn.thread)
 steps_of_push (x ∷ turns) turn =
     ap (λ ys. replicate x.count x.thread ++ ys) (steps_of_push turns turn)
     ∙ sym (append_assoc (replicate x.count x.thread) (steps_of turns) (replicate turn.count turn.thread))
 
 -- one step more of a thread
-pub one_step_more : (first w next : ThreadsOf) (t i : ℕ) (e : Event) → w ≡ with_steps first (replicate i t) → happens w.plan w.world t ≡ (e, next.world) →
+pub one_step_more : (first w next : ThreadsOf) (t i : ℕ) (e : Event) → w ≡ with_steps first (replicate i t) →
+    happens w.plan w.world t ≡ (e, next.world) →
     next.plan ≡ w.plan → next ≡ with_steps first (replicate (i + 1) t)
 one_step_more first w next t i e so_far step same =
     let plan : next.plan ≡ first.plan = same ∙ ap (λ (x : ThreadsOf). x.plan) so_far in
@@ -88,14 +92,16 @@ take_first [] zs i t h = absurd cc
 take_first (y ∷ ys) zs zero t h = refl
 take_first (y ∷ ys) zs (suc i) t h = ap (λ l. y ∷ l) (take_first ys zs i t h)
 
-get_later : (xs ys zs : List ℕ) (i t : ℕ) → slice_get ys i ≡ Some t → slice_get (xs ++ ys ++ zs) (length xs + i) ≡ Some t
+get_later : (xs ys zs : List ℕ) (i t : ℕ) → slice_get ys i ≡ Some t →
+    slice_get (xs ++ ys ++ zs) (length xs + i) ≡ Some t
 get_later [] ys zs i t h =
     let number : 0 + i ≡ i = omega arith in ap (slice_get (ys ++ zs)) number ∙ get_first ys zs i t h
 get_later (x ∷ xs) ys zs i t h =
     let number : suc (length xs) + i ≡ suc (length xs + i) = omega arith in
     ap (slice_get (x ∷ xs ++ ys ++ zs)) number ∙ get_later xs ys zs i t h
 
-take_later : (xs ys zs : List ℕ) (i t : ℕ) → slice_get ys i ≡ Some t → take (length xs + i) (xs ++ ys ++ zs) ≡ xs ++ take i ys
+take_later : (xs ys zs : List ℕ) (i t : ℕ) → slice_get ys i ≡ Some t →
+    take (length xs + i) (xs ++ ys ++ zs) ≡ xs ++ take i ys
 take_later [] ys zs i t h =
     let number : 0 + i ≡ i = omega arith in ap (λ n. take n (ys ++ zs)) number ∙ take_first ys zs i t h
 take_later (x ∷ xs) ys zs i t h =

@@ -1,5 +1,6 @@
 -- Locks by number, and the cells of locks.
-use Rattle.std.proofs.Common.{◌≡◌, ◌≢◌, ℕ, zero, suc, ◌+◌, ◌<◌, Bool, true, false, if◌then◌else◌, List, [], ◌∷◌, ◌++◌, length, get_or, Some, ◌⊎◌, inl, inr, refl, sym, ap, ◌∙◌, subst, arith}
+use Rattle.std.proofs.Common.{◌≡◌, ◌≢◌, ℕ, zero, suc, ◌+◌, ◌<◌, Bool, true, false, if◌then◌else◌, List, [], ◌∷◌, ◌++◌}
+use Rattle.std.proofs.Common.{length, get_or, Some, ◌⊎◌, inl, inr, refl, sym, ap, ◌∙◌, subst, arith}
 use Rattle.std.specs.Prelude.{slice_get}
 use Rattle.std.specs.List.{Contains}
 use Rattle.std.proofs.lemmas.Option.{none-some, slice_get-get_or}
@@ -37,7 +38,8 @@ pushed (w ∷ ys) y z (suc k) e = elim (pushed ys y z k e) [
   | inr q ↦ inr q
 ]
 
-first_again : (x : Lock) (ls : List Lock) (l lock : Lock) (j : ℕ) → AreDistinct (x ∷ ls) → (Contains (x ∷ ls) l → ⊥) → x ≡ lock →
+first_again : (x : Lock) (ls : List Lock) (l lock : Lock) (j : ℕ) → AreDistinct (x ∷ ls) → (Contains (x ∷ ls) l → ⊥) →
+    x ≡ lock →
     slice_get (ls ++ l ∷ []) j ≡ Some lock → ⊥
 first_again x ls l lock j d new same e = elim (pushed ls l lock j e) [
   | inl c ↦ distinct_first x ls d (subst (Contains ls) (sym same) c)
@@ -61,7 +63,8 @@ later_number : (k : ℕ) (l : Lock) (ls : List Lock) (lock : Lock) (i : ℕ) →
 later_number k l ls lock zero e ne go = let same : l ≡ lock = cc in absurd (ne same)
 later_number k l ls lock (suc j) e ne go = go j e ∙ ap Some (let sum : (k + 1) + j ≡ k + suc j = omega arith in sum)
 
-pub number_found : (k : ℕ) (locks : List Lock) (lock : Lock) (i : ℕ) → AreDistinct locks → slice_get locks i ≡ Some lock → number_from k locks lock ≡ Some (k + i)
+pub number_found : (k : ℕ) (locks : List Lock) (lock : Lock) (i : ℕ) → AreDistinct locks →
+    slice_get locks i ≡ Some lock → number_from k locks lock ≡ Some (k + i)
 number_found k [] lock i d e = absurd (none-some lock e)
 number_found k (l ∷ ls) lock i d e = elim (lock_cases l lock) [
   | inl same ↦ (
@@ -75,12 +78,14 @@ number_found k (l ∷ ls) lock i d e = elim (lock_cases l lock) [
 
 -- ---- the cells of a lock
 
-first_or_later : (k : ℕ) (l : Lock) (ls : List Lock) (lock : Lock) (cell j : ℕ) (xs : List ℕ) → j < length (k ∷ xs) → get_or (k ∷ xs) j cell ≡ cell → l ≡ lock →
+first_or_later : (k : ℕ) (l : Lock) (ls : List Lock) (lock : Lock) (cell j : ℕ) (xs : List ℕ) → j < length (k ∷ xs) →
+    get_or (k ∷ xs) j cell ≡ cell → l ≡ lock →
     (Contains xs cell → (i : ℕ) × (cell ≡ (k + 1) + i) × (slice_get ls i ≡ Some lock)) → (i : ℕ) × (cell ≡ k + i) × (slice_get (l ∷ ls) i ≡ Some lock)
 first_or_later k l ls lock cell zero xs lt e same go = (0, omega (arith, e), ap Some same)
 first_or_later k l ls lock cell (suc j) xs lt e same go = let r = go (j, omega (arith, lt), e) in (suc r.0, omega (arith, r.1), r.2)
 
-cell_is_of : (k : ℕ) (ls : List Lock) (lock : Lock) (cell : ℕ) → Contains (cells_from k ls lock) cell → (i : ℕ) × (cell ≡ k + i) × (slice_get ls i ≡ Some lock)
+cell_is_of : (k : ℕ) (ls : List Lock) (lock : Lock) (cell : ℕ) → Contains (cells_from k ls lock) cell →
+    (i : ℕ) × (cell ≡ k + i) × (slice_get ls i ≡ Some lock)
 cell_is_of k [] lock cell c = absurd (omega (arith, c.1))
 cell_is_of k (l ∷ ls) lock cell c = elim (lock_cases l lock) [
   | inl same ↦ (
@@ -95,7 +100,8 @@ contains_front : (b : Bool) (k cell : ℕ) (xs : List ℕ) → Contains xs cell 
 contains_front true k cell xs c = (suc c.0, omega (arith, c.1), c.2)
 contains_front false k cell xs c = c
 
-cell_is_among : (k : ℕ) (ls : List Lock) (lock : Lock) (i : ℕ) → slice_get ls i ≡ Some lock → Contains (cells_from k ls lock) (k + i)
+cell_is_among : (k : ℕ) (ls : List Lock) (lock : Lock) (i : ℕ) → slice_get ls i ≡ Some lock →
+    Contains (cells_from k ls lock) (k + i)
 cell_is_among k [] lock i e = absurd (none-some lock e)
 cell_is_among k (l ∷ ls) lock zero e =
     let same : l ≡ lock = cc in
@@ -107,12 +113,14 @@ cell_is_among k (l ∷ ls) lock (suc i) e =
     contains_front (same_lock l lock) k (k + suc i) (cells_from (k + 1) ls lock) (subst (λ (n : ℕ). Contains (cells_from (k + 1) ls lock) n) sum (cell_is_among (k + 1) ls lock i e))
 
 -- a cell of a lock is among the lock's cells, and each of these has the lock
-pub cell_among : (cell_locks : List Lock) (lock : Lock) (cell : ℕ) → slice_get cell_locks cell ≡ Some lock → Contains (cells_of cell_locks lock) cell
+pub cell_among : (cell_locks : List Lock) (lock : Lock) (cell : ℕ) → slice_get cell_locks cell ≡ Some lock →
+    Contains (cells_of cell_locks lock) cell
 cell_among cell_locks lock cell e =
     let sum : 0 + cell ≡ cell = omega arith in
     subst (λ (n : ℕ). Contains (cells_of cell_locks lock) n) sum (cell_is_among 0 cell_locks lock cell e)
 
-pub has_lock : (cell_locks : List Lock) (lock : Lock) (cell : ℕ) → Contains (cells_of cell_locks lock) cell → slice_get cell_locks cell ≡ Some lock
+pub has_lock : (cell_locks : List Lock) (lock : Lock) (cell : ℕ) → Contains (cells_of cell_locks lock) cell →
+    slice_get cell_locks cell ≡ Some lock
 has_lock cell_locks lock cell c =
     let r = cell_is_of 0 cell_locks lock cell c in
     let e : cell ≡ r.0 = omega (arith, r.1) in

@@ -1,5 +1,6 @@
 -- Before any step.
-use Rattle.std.proofs.Common.{◌≡◌, ℕ, zero, suc, List, length, map, replicate, Some, None, inl, inr, refl, sym, ap, ◌∙◌, subst, arith}
+use Rattle.std.proofs.Common.{◌≡◌, ℕ, zero, suc, List, length, map, replicate, Some, None, inl, inr, refl, sym, ap}
+use Rattle.std.proofs.Common.{◌∙◌, subst, arith}
 use Rattle.std.specs.Prelude.{slice_get}
 use Rattle.std.specs.List.{Contains}
 use Rattle.std.proofs.lemmas.Bool.{cases_lt}
@@ -14,7 +15,8 @@ use Rattle.worlds.specs.Working.States.{IsSound, OpeningIsSound}
 use Rattle.worlds.specs.Working.Ahead.{IsReadyWorld, WorldsStayReady}
 use Rattle.interleavings.specs.declared.state.State.{State}
 use Rattle.interleavings.specs.declared.state.State.TheVariants as state
-use Rattle.interleavings.specs.Working.States.{thread_of, session_of_state, session_at, IsAt, AreReady, cells_seen, world_of, IsTied}
+use Rattle.interleavings.specs.Working.States.{thread_of, session_of_state, session_at, IsAt, AreReady, cells_seen}
+use Rattle.interleavings.specs.Working.States.{world_of, IsTied}
 use Rattle.interleavings.proofs.Lists.{same_everywhere}
 use Rattle.interleavings.proofs.Cells.{same_cells}
 use Rattle.core_lang.specs.Theory.Items.{some_same, get_some, map_at}

@@ -1,5 +1,6 @@
 -- One step of a thread's state is one step of the thread in the world, and keeps the manager and the states tied.
-use Rattle.std.proofs.Common.{◌≡◌, ◌≢◌, ℕ, ◌+◌, ◌<◌, ◌^◌, true, List, [], ◌∷◌, ◌++◌, length, map, set, Option, Some, None, inl, inr, refl, sym, ap, ◌∙◌, subst, arith}
+use Rattle.std.proofs.Common.{◌≡◌, ◌≢◌, ℕ, ◌+◌, ◌<◌, ◌^◌, true, List, [], ◌∷◌, ◌++◌, length, map, set, Option, Some}
+use Rattle.std.proofs.Common.{None, inl, inr, refl, sym, ap, ◌∙◌, subst, arith}
 use Rattle.std.specs.Prelude.{slice_get, Result, Ok, Err, IfOk, OnErr}
 use Rattle.std.specs.List.{Contains}
 use Rattle.std.proofs.lemmas.Bool.{cases_eq}
@@ -28,13 +29,17 @@ use Rattle.runner.specs.Working.Answers.{open_of, IsNamed}
 use Rattle.worlds.specs.declared.event.Event.{Event}
 use Rattle.worlds.specs.declared.event.Event.TheVariants as event
 use Rattle.worlds.specs.Waiting.{first_if}
-use Rattle.worlds.specs.Worlds.{World, ThreadState, Activation, HasOpen, activation, instructed, next_effect, granted, taken, commit, call_at, holder, begins, goes_on, asks, ends, steps_with, thread_steps, happens, with_active}
+use Rattle.worlds.specs.Worlds.{World, ThreadState, Activation, HasOpen, activation, instructed, next_effect, granted}
+use Rattle.worlds.specs.Worlds.{taken, commit, call_at, holder, begins, goes_on, asks, ends, steps_with, thread_steps}
+use Rattle.worlds.specs.Worlds.{happens, with_active}
 use Rattle.worlds.specs.Working.States.{IsSound, StepsKeepSound}
 use Rattle.worlds.specs.Working.Ahead.{IsReadyWorld, WorldsStayReady}
 use Rattle.interleavings.specs.declared.state.State.{State}
 use Rattle.interleavings.specs.declared.state.State.TheVariants as state
-use Rattle.interleavings.specs.Working.States.{state_of, open_thread, thread_of, session_of_state, session_at, IsOf, IsAt, cells_seen, world_of, IsTied}
-use Rattle.interleavings.specs.Working.Steps.{Begun, Moved, Got, Refused, Over, Stays, ReadySteps, RunningSteps, AskingSteps, EndedSteps, Steps, Refuses, Stepped, CanStep, status_at}
+use Rattle.interleavings.specs.Working.States.{state_of, open_thread, thread_of, session_of_state, session_at, IsOf}
+use Rattle.interleavings.specs.Working.States.{IsAt, cells_seen, world_of, IsTied}
+use Rattle.interleavings.specs.Working.Steps.{Begun, Moved, Got, Refused, Over, Stays, ReadySteps, RunningSteps}
+use Rattle.interleavings.specs.Working.Steps.{AskingSteps, EndedSteps, Steps, Refuses, Stepped, CanStep, status_at}
 use Rattle.interleavings.specs.Statuses.{calling, wanting, asking, section_status, thread_status, status_of}
 use Rattle.interleavings.specs.Threads.{ThreadsOf, threads_of}
 use Rattle.interleavings.proofs.Numbers.{distinct_none, distinct_push}
@@ -62,10 +67,12 @@ pub record Done (plan : Plan) (m : Managed) (states : List State) (t : ℕ) (e :
   pub step : happens plan (world_of m states) t ≡ (e, world_of m' (set states t x))
   pub tied : IsTied plan m' (set states t x)
 
-session_at_set : (states : List State) (t : ℕ) (x : State) → t < length states → session_at (set states t x) t ≡ session_of_state x
+session_at_set : (states : List State) (t : ℕ) (x : State) → t < length states →
+    session_at (set states t x) t ≡ session_of_state x
 session_at_set states t x lt = ap (λ o. lookup o session_of_state) (set_same states t x lt)
 
-session_at_other : (states : List State) (t u : ℕ) (x : State) → t ≢ u → session_at (set states t x) u ≡ session_at states u
+session_at_other : (states : List State) (t u : ℕ) (x : State) → t ≢ u →
+    session_at (set states t x) u ≡ session_at states u
 session_at_other states t u x ne = ap (λ o. lookup o session_of_state) (set_other states t u x ne)
 
 done_with : (plan : Plan) (m : Managed) (states : List State) (t : ℕ) (y : State) (e : Event) (x : State) (m' : Managed) →
@@ -139,13 +146,15 @@ record KeepsSession (a b : Activation) : Type 0 where
   held : b.held ≡ a.held
   ask : first_if b.asked b.pending ≡ first_if a.asked a.pending
 
-instructed_keeps : (plan : Plan) (a : Activation) (e : Effect HeldCells) → a.pending ≡ [] → KeepsSession a (instructed plan a e)
+instructed_keeps : (plan : Plan) (a : Activation) (e : Effect HeldCells) → a.pending ≡ [] →
+    KeepsSession a (instructed plan a e)
 instructed_keeps plan a (Moves m) none = record { call = refl; begun = refl; held = refl; ask = refl }
 instructed_keeps plan a (Asks point) none = record { call = refl; begun = refl; held = refl; ask = sym (ap (first_if a.asked) none ∙ no_ask a.asked) }
 instructed_keeps plan a (Finishes outcome) none = record { call = refl; begun = refl; held = refl; ask = refl }
 instructed_keeps plan a Undefined none = record { call = refl; begun = refl; held = refl; ask = refl }
 
-session_kept : (o : OpenOf) (b : Activation) → KeepsSession o.activation b → session_of_open (further o b) ≡ session_of_open o
+session_kept : (o : OpenOf) (b : Activation) → KeepsSession o.activation b →
+    session_of_open (further o b) ≡ session_of_open o
 session_kept o b k = λ i. record { begun = k.begun i; held = k.held i; ask = k.ask i; room = o.room }
 
 same_asking : (f g : Lock → Option ℕ) → ((lock : Lock) → f lock ≡ g lock) → (o : Option Lock) → asking f o ≡ asking g o
@@ -171,16 +180,19 @@ module _ (plan : Plan) (m : Managed) (states : List State) (t : ℕ) (tied : IsT
   slot_other : (s : Option SessionOf) (u v : ℕ) → u ≡ t → t ≢ v → session_in (set m.slots u s) v ≡ session_in m.slots v
   slot_other s u v e ne = ap (λ r. lookup r (λ x. x)) (set_other m.slots u v s (λ q. ne (sym e ∙ q)))
 
-  threads_set : (x : State) (thread : ThreadState) → thread ≡ thread_of x → set (map thread_of states) t thread ≡ map thread_of (set states t x)
+  threads_set : (x : State) (thread : ThreadState) → thread ≡ thread_of x →
+      set (map thread_of states) t thread ≡ map thread_of (set states t x)
   threads_set x thread e = ap (set (map thread_of states) t) e ∙ sym (map-set thread_of states t x)
 
-  open_in : (y : State) (o : OpenOf) → slice_get states t ≡ Some y → thread_of y ≡ open_thread o → HasOpen (world_of m states) t o.activation
+  open_in : (y : State) (o : OpenOf) → slice_get states t ≡ Some y → thread_of y ≡ open_thread o →
+      HasOpen (world_of m states) t o.activation
   open_in y o h e = (thread_of y, map_at thread_of states t y h, ap (λ (q : ThreadState). q.active) e)
 
   holder_there : (lock : Lock) → holder (world_of m states) lock ≡ holder_of m lock
   holder_there lock = holder_is m (world_of m states) states kept refl tied.sessions tied.sound.apart lock
 
-  stays : (y : State) → slice_get states t ≡ Some y → happens plan (world_of m states) t ≡ (event.Idle, world_of m states) → Turn plan m states t event.Idle y m
+  stays : (y : State) → slice_get states t ≡ Some y →
+      happens plan (world_of m states) t ≡ (event.Idle, world_of m states) → Turn plan m states t event.Idle y m
   stays y h step = record {
     after = world_of m states;
     step = step;
@@ -195,14 +207,16 @@ module _ (plan : Plan) (m : Managed) (states : List State) (t : ℕ) (tied : IsT
 
   -- ---- no section open
 
-  idles : (r : ReadyOf) → slice_get states t ≡ Some (state.Ready r) → call_at plan r.thread r.step ≡ None → Turn plan m states t event.Idle (state.Ready r) m
+  idles : (r : ReadyOf) → slice_get states t ≡ Some (state.Ready r) → call_at plan r.thread r.step ≡ None →
+      Turn plan m states t event.Idle (state.Ready r) m
   idles r h none =
       let here : r.thread ≡ t = tied.at t (state.Ready r) h in
       stays (state.Ready r) h
       (at_thread plan m states t (state.Ready r) h
       ∙ ap (begins plan (world_of m states) t (thread_of (state.Ready r))) (ap (λ u. call_at plan u r.step) (sym here) ∙ none))
 
-  begun : (r : ReadyOf) (x : State) (m' : Managed) → slice_get states t ≡ Some (state.Ready r) → Begun plan m r x m' → Turn plan m states t event.Began x m'
+  begun : (r : ReadyOf) (x : State) (m' : Managed) → slice_get states t ≡ Some (state.Ready r) → Begun plan m r x m' →
+      Turn plan m states t event.Began x m'
   begun r x m' h b =
       let here : r.thread ≡ t = tied.at t (state.Ready r) h in
       let lt : t < length states = slice_get_within states t (state.Ready r) h in
@@ -229,7 +243,8 @@ module _ (plan : Plan) (m : Managed) (states : List State) (t : ℕ) (tied : IsT
 
   -- ---- an instruction
 
-  moves : (o : OpenOf) (x : State) (m' : Managed) → slice_get states t ≡ Some (state.Running o) → Moved m o x m' → Turn plan m states t event.Moved x m'
+  moves : (o : OpenOf) (x : State) (m' : Managed) → slice_get states t ≡ Some (state.Running o) → Moved m o x m' →
+      Turn plan m states t event.Moved x m'
   moves o x m' h k =
       let here = tied.at t (state.Running o) h in
       let w = world_of m states in
@@ -261,13 +276,15 @@ module _ (plan : Plan) (m : Managed) (states : List State) (t : ℕ) (tied : IsT
   -- ---- a request
 
   -- the lock that is granted is none of those held
-  new_lock : (o : OpenOf) (lock : Lock) (rest : List Lock) → WorldsStayReady → PrecedesIsStrict → slice_get states t ≡ Some (state.Asking o) →
+  new_lock : (o : OpenOf) (lock : Lock) (rest : List Lock) → WorldsStayReady → PrecedesIsStrict →
+      slice_get states t ≡ Some (state.Asking o) →
       o.activation.pending ≡ lock ∷ rest → Contains o.activation.held lock → ⊥
   new_lock o lock rest ready strict h pending c =
       strict.not_itself plan.ranks lock
       (ready.rises plan (world_of m states) tied.ready t o.activation lock lock rest (open_in (state.Asking o) o h refl) pending c)
 
-  got : (o : OpenOf) (lock : Lock) (x : State) (m' : Managed) → CommittedKeepsSize → WorldsStayReady → PrecedesIsStrict → slice_get states t ≡ Some (state.Asking o) →
+  got : (o : OpenOf) (lock : Lock) (x : State) (m' : Managed) → CommittedKeepsSize → WorldsStayReady →
+      PrecedesIsStrict → slice_get states t ≡ Some (state.Asking o) →
       Got m o lock x m' → Turn plan m states t (event.Got lock) x m'
   got o lock x m' size ready strict h k =
       let here = tied.at t (state.Asking o) h in
@@ -372,27 +389,32 @@ module _ (plan : Plan) (m : Managed) (states : List State) (t : ℕ) (tied : IsT
 
   -- ---- any step
 
-  ready_turn : (r : ReadyOf) (e : Event) (x : State) (m' : Managed) → slice_get states t ≡ Some (state.Ready r) → ReadySteps plan m r e x m' → Turn plan m states t e x m'
+  ready_turn : (r : ReadyOf) (e : Event) (x : State) (m' : Managed) → slice_get states t ≡ Some (state.Ready r) →
+      ReadySteps plan m r e x m' → Turn plan m states t e x m'
   ready_turn r event.Idle x m' h (none, (is, same)) =
       subst (λ (z : State). Turn plan m states t event.Idle z m') (sym is) (subst (Turn plan m states t event.Idle (state.Ready r)) (sym same) (idles r h none))
   ready_turn r event.Began x m' h s = begun r x m' h s
   ready_turn r _ x m' h s = absurd s
 
-  running_turn : (o : OpenOf) (e : Event) (x : State) (m' : Managed) → slice_get states t ≡ Some (state.Running o) → RunningSteps m o e x m' → Turn plan m states t e x m'
+  running_turn : (o : OpenOf) (e : Event) (x : State) (m' : Managed) → slice_get states t ≡ Some (state.Running o) →
+      RunningSteps m o e x m' → Turn plan m states t e x m'
   running_turn o event.Moved x m' h s = moves o x m' h s
   running_turn o _ x m' h s = absurd s
 
-  asking_turn : (o : OpenOf) (e : Event) (x : State) (m' : Managed) → CommittedKeepsSize → WorldsStayReady → PrecedesIsStrict → slice_get states t ≡ Some (state.Asking o) →
+  asking_turn : (o : OpenOf) (e : Event) (x : State) (m' : Managed) → CommittedKeepsSize → WorldsStayReady →
+      PrecedesIsStrict → slice_get states t ≡ Some (state.Asking o) →
       AskingSteps m o e x m' → Turn plan m states t e x m'
   asking_turn o (event.Got lock) x m' size ready strict h s = got o lock x m' size ready strict h s
   asking_turn o (event.Waits lock holding) x m' size ready strict h s = refused o lock holding x m' h s
   asking_turn o _ x m' size ready strict h s = absurd s
 
-  ended_turn : (o : OpenOf) (e : Event) (x : State) (m' : Managed) → slice_get states t ≡ Some (state.Ended o) → EndedSteps m o e x m' → Turn plan m states t e x m'
+  ended_turn : (o : OpenOf) (e : Event) (x : State) (m' : Managed) → slice_get states t ≡ Some (state.Ended o) →
+      EndedSteps m o e x m' → Turn plan m states t e x m'
   ended_turn o (event.Ended position) x m' h s = over o position x m' h s
   ended_turn o _ x m' h s = absurd s
 
-  turn : (y : State) (e : Event) (x : State) (m' : Managed) → CommittedKeepsSize → WorldsStayReady → PrecedesIsStrict → slice_get states t ≡ Some y →
+  turn : (y : State) (e : Event) (x : State) (m' : Managed) → CommittedKeepsSize → WorldsStayReady →
+      PrecedesIsStrict → slice_get states t ≡ Some y →
       Steps plan m y e x m' → Turn plan m states t e x m'
   turn state.Away e x m' size ready strict h s = absurd s
   turn (state.Ready r) e x m' size ready strict h s = ready_turn r e x m' h s
@@ -400,13 +422,15 @@ module _ (plan : Plan) (m : Managed) (states : List State) (t : ℕ) (tied : IsT
   turn (state.Asking o) e x m' size ready strict h s = asking_turn o e x m' size ready strict h s
   turn (state.Ended o) e x m' size ready strict h s = ended_turn o e x m' h s
 
-  pub done : (y : State) (e : Event) (x : State) (m' : Managed) → CommittedKeepsSize → StepsKeepSound → WorldsStayReady → PrecedesIsStrict → IsKept m' →
+  pub done : (y : State) (e : Event) (x : State) (m' : Managed) → CommittedKeepsSize → StepsKeepSound →
+      WorldsStayReady → PrecedesIsStrict → IsKept m' →
       slice_get states t ≡ Some y → Steps plan m y e x m' → Done plan m states t e x m'
   done y e x m' size sound ready strict kept' h s = done_with plan m states t y e x m' size sound ready tied kept' h (turn y e x m' size ready strict h s)
 
   -- ---- what a step needs
 
-  knows : (y : State) (o : OpenOf) → slice_get states t ≡ Some y → session_of_state y ≡ Some (session_of_open o) → o.thread ≡ t →
+  knows : (y : State) (o : OpenOf) → slice_get states t ≡ Some y → session_of_state y ≡ Some (session_of_open o) →
+      o.thread ≡ t →
       session_of m o.thread ≡ Some (session_of_open o)
   knows y o h session here = ap (session_in m.slots) here ∙ session_here y h ∙ session
 
@@ -440,7 +464,8 @@ module _ (plan : Plan) (m : Managed) (states : List State) (t : ℕ) (tied : IsT
 
   -- ---- statuses
 
-  status_by_state : (y : State) → slice_get states t ≡ Some y → status_at plan m y ≡ section_status plan (world_of m states) t (thread_of y).step (thread_of y).active
+  status_by_state : (y : State) → slice_get states t ≡ Some y →
+      status_at plan m y ≡ section_status plan (world_of m states) t (thread_of y).step (thread_of y).active
   status_by_state state.Away h = absurd (tied.at t state.Away h)
   status_by_state (state.Ready r) h = ap (λ u. calling (call_at plan u r.step)) (tied.at t (state.Ready r) h)
   status_by_state (state.Running o) h =
@@ -467,7 +492,8 @@ only_stays plan m (state.Ended o) x m' s = absurd s
 module _ (plan : Plan) (m : Managed) (states last : List State) (t : ℕ) (y x : State) (m' : Managed) (now : ThreadsOf)
     (tied : IsTied plan m states) (kept : IsKept m) (kept' : IsKept m') (size : CommittedKeepsSize) (sound : StepsKeepSound) (ready : WorldsStayReady)
     (strict : PrecedesIsStrict) (here : slice_get states t ≡ Some y) (is : last ≡ set states t x) (view : threads_of plan (world_of m states) ≡ now) where
-  stayed : (e : NoMemory) → Stepped plan m y (Err e) x m' → threads_of plan (world_of m' last) ≡ threads_of plan (world_of m states)
+  stayed : (e : NoMemory) → Stepped plan m y (Err e) x m' →
+      threads_of plan (world_of m' last) ≡ threads_of plan (world_of m states)
   stayed e s =
       let same = only_stays plan m y x m' s in
       let states_are : last ≡ states = is ∙ ap (set states t) same.0 ∙ set_itself states t y here in
@@ -480,18 +506,21 @@ module _ (plan : Plan) (m : Managed) (states last : List State) (t : ℕ) (y x :
       let states_are : states ≡ last = sym (is ∙ ap (set states t) same.0 ∙ set_itself states t y here) in
       subst (IsTied plan m') states_are (subst (λ (q : Managed). IsTied plan q states) (sym same.1) tied)
 
-  pub stepped_ok : (r : Result Event NoMemory) → Stepped plan m y r x m' → IfOk r (λ e. happens now.plan now.world t ≡ (e, world_of m' last))
+  pub stepped_ok : (r : Result Event NoMemory) → Stepped plan m y r x m' →
+      IfOk r (λ e. happens now.plan now.world t ≡ (e, world_of m' last))
   stepped_ok (Ok e) s =
       sym (ap (λ (w : ThreadsOf). happens w.plan w.world t) view)
       ∙ (done plan m states t tied kept y e x m' size sound ready strict kept' here s).step
       ∙ ap (λ (ss : List State). (e, world_of m' ss)) (sym is)
   stepped_ok (Err e) s = tt
 
-  pub stepped_err : (r : Result Event NoMemory) → Stepped plan m y r x m' → OnErr r (threads_of plan (world_of m' last) ≡ now)
+  pub stepped_err : (r : Result Event NoMemory) → Stepped plan m y r x m' →
+      OnErr r (threads_of plan (world_of m' last) ≡ now)
   stepped_err (Ok e) s = tt
   stepped_err (Err e) s = stayed e s ∙ view
 
-  begins_now : (z : State) → slice_get states t ≡ Some z → Refuses plan m z x m' → (happens plan (world_of m states) t).0 ≡ event.Began
+  begins_now : (z : State) → slice_get states t ≡ Some z → Refuses plan m z x m' →
+      (happens plan (world_of m states) t).0 ≡ event.Began
   begins_now state.Away h s = absurd s
   begins_now (state.Ready r) h s =
       let call : call_at plan t r.step ≡ Some s.0.0 = ap (λ u. call_at plan u r.step) (sym (tied.at t (state.Ready r) h)) ∙ s.0.1 in
@@ -501,6 +530,7 @@ module _ (plan : Plan) (m : Managed) (states last : List State) (t : ℕ) (y x :
   begins_now (state.Asking o) h s = absurd s
   begins_now (state.Ended o) h s = absurd s
 
-  pub stepped_begins : (r : Result Event NoMemory) → Stepped plan m y r x m' → OnErr r ((happens now.plan now.world t).0 ≡ event.Began)
+  pub stepped_begins : (r : Result Event NoMemory) → Stepped plan m y r x m' →
+      OnErr r ((happens now.plan now.world t).0 ≡ event.Began)
   stepped_begins (Ok e) s = tt
   stepped_begins (Err e) s = sym (ap (λ (w : ThreadsOf). (happens w.plan w.world t).0) view) ∙ begins_now y here s

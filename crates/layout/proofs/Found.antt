@@ -52,13 +52,16 @@ module _ (program : Typed) (p : Protection) (o : ℕ) where
   pub no_class : slice_get program.classes.items p.class ≡ None → walked program p o ≡ None
   no_class e = lookup_none (slice_get program.classes.items p.class) (λ (c : LockClass). lock_of c p.class (led_to program.shape o p.through.items)) e
 
-  pub of_class : (c : LockClass) → slice_get program.classes.items p.class ≡ Some c → walked program p o ≡ lock_of c p.class (led_to program.shape o p.through.items)
+  pub of_class : (c : LockClass) → slice_get program.classes.items p.class ≡ Some c →
+      walked program p o ≡ lock_of c p.class (led_to program.shape o p.through.items)
   of_class c at = lookup_at (slice_get program.classes.items p.class) c (λ (x : LockClass). lock_of x p.class (led_to program.shape o p.through.items)) at
 
-  pub of_global_class : (c : LockClass) (name : _) → slice_get program.classes.items p.class ≡ Some c → c ≡ class.Global name → walked program p o ≡ Some (global_lock p.class)
+  pub of_global_class : (c : LockClass) (name : _) → slice_get program.classes.items p.class ≡ Some c →
+      c ≡ class.Global name → walked program p o ≡ Some (global_lock p.class)
   of_global_class c name at is = of_class c at ∙ ap (λ (x : LockClass). lock_of x p.class (led_to program.shape o p.through.items)) is
 
-  pub of_field_class : (c : LockClass) (s l : ℕ) (end : Option ℕ) → slice_get program.classes.items p.class ≡ Some c → c ≡ class.Field s l →
+  pub of_field_class : (c : LockClass) (s l : ℕ) (end : Option ℕ) → slice_get program.classes.items p.class ≡ Some c →
+      c ≡ class.Field s l →
       led_to program.shape o p.through.items ≡ end → walked program p o ≡ option_map (λ (x : ℕ). record { class = p.class; object = x }) end
   of_field_class c s l end at is ends =
       of_class c at ∙ ap (λ (x : LockClass). lock_of x p.class (led_to program.shape o p.through.items)) is
@@ -70,13 +73,16 @@ module _ (shape : Shape) (o : ℕ) where
   pub no_object : slice_get shape.objects.items o ≡ None → struct_of shape o ≡ None
   no_object e = lookup_none (slice_get shape.objects.items o) (λ (x : Object). lookup (slice_get shape.pools.items x.pool) (λ (pool : Pool). Some pool.structure)) e
 
-  pub of_object : (x : Object) → slice_get shape.objects.items o ≡ Some x → struct_of shape o ≡ lookup (slice_get shape.pools.items x.pool) (λ (pool : Pool). Some pool.structure)
+  pub of_object : (x : Object) → slice_get shape.objects.items o ≡ Some x →
+      struct_of shape o ≡ lookup (slice_get shape.pools.items x.pool) (λ (pool : Pool). Some pool.structure)
   of_object x at = lookup_at (slice_get shape.objects.items o) x (λ (y : Object). lookup (slice_get shape.pools.items y.pool) (λ (pool : Pool). Some pool.structure)) at
 
-  pub no_pool : (x : Object) → slice_get shape.objects.items o ≡ Some x → slice_get shape.pools.items x.pool ≡ None → struct_of shape o ≡ None
+  pub no_pool : (x : Object) → slice_get shape.objects.items o ≡ Some x → slice_get shape.pools.items x.pool ≡ None →
+      struct_of shape o ≡ None
   no_pool x at e = of_object x at ∙ lookup_none (slice_get shape.pools.items x.pool) (λ (pool : Pool). Some pool.structure) e
 
-  pub of_pool : (x : Object) (p : Pool) → slice_get shape.objects.items o ≡ Some x → slice_get shape.pools.items x.pool ≡ Some p → struct_of shape o ≡ Some p.structure
+  pub of_pool : (x : Object) (p : Pool) → slice_get shape.objects.items o ≡ Some x →
+      slice_get shape.pools.items x.pool ≡ Some p → struct_of shape o ≡ Some p.structure
   of_pool x p at there = of_object x at ∙ lookup_at (slice_get shape.pools.items x.pool) p (λ (pool : Pool). Some pool.structure) there
 
 -- ---- the lock of a field
@@ -85,28 +91,33 @@ module _ (program : Typed) (o f : ℕ) where
   pub no_struct : struct_of program.shape o ≡ None → protecting program (owner.Field o f) ≡ None
   no_struct e = lookup_none (struct_of program.shape o) (λ (s : ℕ). lookup (protection_of program s f) (λ (p : Protection). walked program p o)) e
 
-  pub of_struct : (s : ℕ) → struct_of program.shape o ≡ Some s → protecting program (owner.Field o f) ≡ lookup (protection_of program s f) (λ (p : Protection). walked program p o)
+  pub of_struct : (s : ℕ) → struct_of program.shape o ≡ Some s →
+      protecting program (owner.Field o f) ≡ lookup (protection_of program s f) (λ (p : Protection). walked program p o)
   of_struct s is = lookup_at (struct_of program.shape o) s (λ (k : ℕ). lookup (protection_of program k f) (λ (p : Protection). walked program p o)) is
 
-  pub struct_missing : (s : ℕ) → struct_of program.shape o ≡ Some s → slice_get program.structs.items s ≡ None → protecting program (owner.Field o f) ≡ None
+  pub struct_missing : (s : ℕ) → struct_of program.shape o ≡ Some s → slice_get program.structs.items s ≡ None →
+      protecting program (owner.Field o f) ≡ None
   struct_missing s is e =
       of_struct s is
       ∙ lookup_none (protection_of program s f) (λ (p : Protection). walked program p o)
       (lookup_none (slice_get program.structs.items s) (λ (x : Struct). lookup (slice_get x.fields.items f) (λ (field : Field). Some field.protection)) e)
 
-  pub of_fields : (s : ℕ) (x : Struct) → struct_of program.shape o ≡ Some s → slice_get program.structs.items s ≡ Some x →
+  pub of_fields : (s : ℕ) (x : Struct) → struct_of program.shape o ≡ Some s →
+      slice_get program.structs.items s ≡ Some x →
       protecting program (owner.Field o f) ≡ lookup (lookup (slice_get x.fields.items f) (λ (field : Field). Some field.protection)) (λ (p : Protection). walked program p o)
   of_fields s x is at =
       of_struct s is
       ∙ ap (λ (r : Option Protection). lookup r (λ (p : Protection). walked program p o))
       (lookup_at (slice_get program.structs.items s) x (λ (y : Struct). lookup (slice_get y.fields.items f) (λ (field : Field). Some field.protection)) at)
 
-  pub field_missing : (s : ℕ) (x : Struct) → struct_of program.shape o ≡ Some s → slice_get program.structs.items s ≡ Some x → slice_get x.fields.items f ≡ None →
+  pub field_missing : (s : ℕ) (x : Struct) → struct_of program.shape o ≡ Some s →
+      slice_get program.structs.items s ≡ Some x → slice_get x.fields.items f ≡ None →
       protecting program (owner.Field o f) ≡ None
   field_missing s x is at e =
       of_fields s x is at ∙ ap (λ (r : Option Field). lookup (lookup r (λ (field : Field). Some field.protection)) (λ (p : Protection). walked program p o)) e
 
-  pub field_here : (s : ℕ) (x : Struct) (field : Field) → struct_of program.shape o ≡ Some s → slice_get program.structs.items s ≡ Some x →
+  pub field_here : (s : ℕ) (x : Struct) (field : Field) → struct_of program.shape o ≡ Some s →
+      slice_get program.structs.items s ≡ Some x →
       slice_get x.fields.items f ≡ Some field → protecting program (owner.Field o f) ≡ walked program field.protection o
   field_here s x field is at e =
       of_fields s x is at ∙ ap (λ (r : Option Field). lookup (lookup r (λ (y : Field). Some y.protection)) (λ (p : Protection). walked program p o)) e
@@ -114,11 +125,13 @@ module _ (program : Typed) (o f : ℕ) where
 -- ---- the lock of a global or an element
 
 module _ (program : Typed) (whose : Owner) where
-  pub of_global : (g : ℕ) (found : Option GlobalVariable) → whose ≡ owner.Global g → slice_get program.globals.items g ≡ found →
+  pub of_global : (g : ℕ) (found : Option GlobalVariable) → whose ≡ owner.Global g →
+      slice_get program.globals.items g ≡ found →
       protecting program whose ≡ lookup found (λ (x : GlobalVariable). Some (global_lock x.class))
   of_global g found is e = ap (protecting program) is ∙ ap (λ (r : Option GlobalVariable). lookup r (λ (x : GlobalVariable). Some (global_lock x.class))) e
 
-  pub of_element : (array index : ℕ) (found : Option Array) → whose ≡ owner.Element array index → slice_get program.shape.arrays.items array ≡ found →
+  pub of_element : (array index : ℕ) (found : Option Array) → whose ≡ owner.Element array index →
+      slice_get program.shape.arrays.items array ≡ found →
       protecting program whose ≡ lookup found (λ (x : Array). Some (global_lock x.class))
   of_element array index found is e = ap (protecting program) is ∙ ap (λ (r : Option Array). lookup r (λ (x : Array). Some (global_lock x.class))) e
 
@@ -132,7 +145,8 @@ module _ (program : Typed) (laid : IsLaidOut program) (o : ℕ) (x : Object) (at
     pub structure_within : p.structure < length program.structs.items
     structure_within = laid.structure x.pool p there
 
-    pub fields_read : (s : Struct) → slice_get program.structs.items p.structure ≡ Some s → s.locks.items ≡ lock_fields (object_struct program o)
+    pub fields_read : (s : Struct) → slice_get program.structs.items p.structure ≡ Some s →
+        s.locks.items ≡ lock_fields (object_struct program o)
     fields_read s is =
         sym (ap lock_fields (lookup_at (struct_of program.shape o) p.structure (λ (k : ℕ). slice_get program.structs.items k) (of_pool program.shape o x p at there) ∙ is))
 

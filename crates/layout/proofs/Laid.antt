@@ -1,5 +1,6 @@
 -- The layout of a program, from what the code has put together.
-use Rattle.std.proofs.Common.{◌≡◌, ℕ, zero, suc, ◌+◌, ◌<◌, List, [], ◌∷◌, ◌++◌, length, Option, Some, inl, inr, refl, sym, ap, ◌∙◌, subst, arith}
+use Rattle.std.proofs.Common.{◌≡◌, ℕ, zero, suc, ◌+◌, ◌<◌, List, [], ◌∷◌, ◌++◌, length, Option, Some, inl, inr, refl}
+use Rattle.std.proofs.Common.{sym, ap, ◌∙◌, subst, arith}
 use Rattle.std.specs.Prelude.{slice_get}
 use Rattle.std.specs.List.{Contains}
 use Rattle.std.proofs.lemmas.Bool.{cases_lt}
@@ -20,7 +21,8 @@ use Rattle.core_lang.specs.Theory.Items.{lookup_some}
 abbrev pub AreLocked : Typed → ℕ → List Lock → Type 0
 AreLocked program n locks = (k : ℕ) → k < n → slice_get locks k ≡ lock_of_cell program k
 
-pub one_locked : (program : Typed) (n : ℕ) (locks grown : List Lock) (lock : Lock) → AreLocked program n locks → length locks ≡ n →
+pub one_locked : (program : Typed) (n : ℕ) (locks grown : List Lock) (lock : Lock) → AreLocked program n locks →
+    length locks ≡ n →
     lock_of_cell program n ≡ Some lock → grown ≡ locks ++ lock ∷ [] → AreLocked program (n + 1) grown
 one_locked program n locks grown lock are long is is_grown k lt =
     elim (cases_lt k n) [
@@ -41,7 +43,8 @@ one_locked program n locks grown lock are long is is_grown k lt =
     last (y ∷ xs) x = last xs x
 
 -- those of all cells, and of no others
-all_locked : (program : Typed) (locks : List Lock) → length locks ≡ length program.cells.items → AreLocked program (length program.cells.items) locks →
+all_locked : (program : Typed) (locks : List Lock) → length locks ≡ length program.cells.items →
+    AreLocked program (length program.cells.items) locks →
     (cell : ℕ) → slice_get locks cell ≡ lock_of_cell program cell
 all_locked program locks long are cell =
     elim (cases_lt cell (length program.cells.items)) [
@@ -52,7 +55,8 @@ all_locked program locks long are cell =
     ]
 
 -- the lock of a cell is listed
-locked_listed : (program : Typed) (cell : ℕ) (lock : Lock) → IsWellFormed program → lock_of_cell program cell ≡ Some lock → Contains (all_locks program) lock
+locked_listed : (program : Typed) (cell : ℕ) (lock : Lock) → IsWellFormed program →
+    lock_of_cell program cell ≡ Some lock → Contains (all_locks program) lock
 locked_listed program cell lock well is =
     let x = lookup_some (slice_get program.cells.items cell) (λ (c : Cell). protecting program c.owner) lock is in
     let r = cell_locked program cell x.0 well x.1 in

@@ -1,5 +1,6 @@
 -- The list of all locks has each lock of the program, and nothing else.
-use Rattle.std.proofs.Common.{◌≡◌, ℕ, zero, suc, ◌+◌, ◌<◌, List, [], ◌∷◌, ◌++◌, length, get_or, take, map, Option, Some, None, inl, inr, refl, sym, ap, ◌∙◌, subst, arith, add-one, append_assoc}
+use Rattle.std.proofs.Common.{◌≡◌, ℕ, zero, suc, ◌+◌, ◌<◌, List, [], ◌∷◌, ◌++◌, length, get_or, take, map, Option}
+use Rattle.std.proofs.Common.{Some, None, inl, inr, refl, sym, ap, ◌∙◌, subst, arith, add-one, append_assoc}
 use Rattle.std.specs.Prelude.{◌↔◌, slice_get}
 use Rattle.std.specs.List.{Contains}
 use Rattle.std.specs.Option.{option_map}
@@ -17,7 +18,8 @@ use Rattle.locks.specs.declared.lock.Lock.{Lock}
 use Rattle.locks.specs.Locks.{global_lock, IsLockOfClass, IsLock}
 use Rattle.layout.specs.declared.places.ClassPlace.{ClassPlace}
 use Rattle.layout.specs.declared.places.ClassPlace.TheVariants as place
-use Rattle.layout.specs.Layouts.{if_global_lock, global_locks, lock_fields, object_struct, locks_of_object, object_locks, all_locks}
+use Rattle.layout.specs.Layouts.{if_global_lock, global_locks, lock_fields, object_struct, locks_of_object}
+use Rattle.layout.specs.Layouts.{object_locks, all_locks}
 use Rattle.layout.specs.Working.Numbers.{KnowFields, AreFields, class_place, locks_at}
 use Rattle.layout.proofs.Lists.{still_at, last_at, map_at, take_one_more}
 use Rattle.std.proofs.lemmas.List.{map_push}
@@ -33,7 +35,8 @@ alone x y (suc k, lt, e) = absurd (omega (arith, lt))
 
 -- ---- what a list has is a lock
 
-global_is : (program : Typed) (n : ℕ) (o : Option LockClass) (lock : Lock) → slice_get program.classes.items n ≡ o → Contains (if_global_lock n o) lock → IsLock program lock
+global_is : (program : Typed) (n : ℕ) (o : Option LockClass) (lock : Lock) → slice_get program.classes.items n ≡ o →
+    Contains (if_global_lock n o) lock → IsLock program lock
 global_is program n None lock e c = absurd (not_in_none lock c)
 global_is program n (Some (class.Global name)) lock e c =
     subst (IsLock program) (alone (global_lock n) lock c) (subst (IsLockOfClass program (global_lock n)) (sym e) refl)
@@ -53,18 +56,21 @@ pub record IsFieldOf (program : Typed) (object l : ℕ) (field : LockField) : Ty
   pub of : struct_of program.shape object ≡ Some structure
   pub class_is : slice_get program.classes.items field.class ≡ Some (class.Field structure l)
 
-in_struct : (program : Typed) (object l : ℕ) (field : LockField) (x : Option Struct) → IsWellFormed program → object_struct program object ≡ x →
+in_struct : (program : Typed) (object l : ℕ) (field : LockField) (x : Option Struct) → IsWellFormed program →
+    object_struct program object ≡ x →
     slice_get (lock_fields x) l ≡ Some field → IsFieldOf program object l field
 in_struct program object l field None well is e = absurd (none-some field e)
 in_struct program object l field (Some x) well is e =
     let s = lookup_some (struct_of program.shape object) (λ (k : ℕ). slice_get program.structs.items k) x is in
     record { structure = s.0; of = s.1; class_is = well.protected.lock_field s.0 l x field s.2 e }
 
-pub field_of : (program : Typed) (object l : ℕ) (field : LockField) → IsWellFormed program → slice_get (lock_fields (object_struct program object)) l ≡ Some field →
+pub field_of : (program : Typed) (object l : ℕ) (field : LockField) → IsWellFormed program →
+    slice_get (lock_fields (object_struct program object)) l ≡ Some field →
     IsFieldOf program object l field
 field_of program object l field well e = in_struct program object l field (object_struct program object) well refl e
 
-object_lock_is : (program : Typed) (object : ℕ) (lock : Lock) → IsWellFormed program → Contains (locks_of_object program object) lock → IsLock program lock
+object_lock_is : (program : Typed) (object : ℕ) (lock : Lock) → IsWellFormed program →
+    Contains (locks_of_object program object) lock → IsLock program lock
 object_lock_is program object lock well c =
     let made : LockField → Lock = λ (x : LockField). record { class = x.class; object = object } in
     let fields = lock_fields (object_struct program object) in
@@ -73,7 +79,8 @@ object_lock_is program object lock well c =
     let f = field_of program object at.0 m.0 well m.1 in
     subst (IsLock program) m.2 (subst (IsLockOfClass program (made m.0)) (sym f.class_is) f.of)
 
-objects_are : (program : Typed) (n : ℕ) (lock : Lock) → IsWellFormed program → Contains (object_locks program n) lock → IsLock program lock
+objects_are : (program : Typed) (n : ℕ) (lock : Lock) → IsWellFormed program →
+    Contains (object_locks program n) lock → IsLock program lock
 objects_are program zero lock well c = absurd (not_in_none lock c)
 objects_are program (suc n) lock well c =
     elim (Contains-append_cases (object_locks program n) (locks_of_object program n) lock c) [
@@ -83,7 +90,8 @@ objects_are program (suc n) lock well c =
 
 -- ---- and each lock is there
 
-in_globals : (program : Typed) (n c : ℕ) (name : _) → c < n → slice_get program.classes.items c ≡ Some (class.Global name) → Contains (global_locks program n) (global_lock c)
+in_globals : (program : Typed) (n c : ℕ) (name : _) → c < n →
+    slice_get program.classes.items c ≡ Some (class.Global name) → Contains (global_locks program n) (global_lock c)
 in_globals program zero c name lt e = absurd (omega arith)
 in_globals program (suc n) c name lt e =
     elim (cases_lt c n) [
@@ -95,7 +103,8 @@ in_globals program (suc n) c name lt e =
           (subst (λ (o : Option LockClass). Contains (if_global_lock n o) (global_lock c)) (sym at_n) (0, omega arith, ap global_lock (sym same)))
     ]
 
-in_objects : (program : Typed) (n o : ℕ) (lock : Lock) → o < n → Contains (locks_of_object program o) lock → Contains (object_locks program n) lock
+in_objects : (program : Typed) (n o : ℕ) (lock : Lock) → o < n → Contains (locks_of_object program o) lock →
+    Contains (object_locks program n) lock
 in_objects program zero o lock lt c = absurd (omega arith)
 in_objects program (suc n) o lock lt c =
     elim (cases_lt o n) [
@@ -105,7 +114,8 @@ in_objects program (suc n) o lock lt c =
           Contains-append_right (object_locks program n) (locks_of_object program n) lock (subst (λ (k : ℕ). Contains (locks_of_object program k) lock) same c)
     ]
 
-is_there : (program : Typed) (lock : Lock) (o : Option LockClass) → IsWellFormed program → slice_get program.classes.items lock.class ≡ o → IsLockOfClass program lock o →
+is_there : (program : Typed) (lock : Lock) (o : Option LockClass) → IsWellFormed program →
+    slice_get program.classes.items lock.class ≡ o → IsLockOfClass program lock o →
     Contains (all_locks program) lock
 is_there program lock None well at h = absurd h
 is_there program lock (Some (class.Global name)) well at h =
@@ -131,7 +141,8 @@ is_there program lock (Some (class.Field s l)) well at h =
     Contains-append_right (global_locks program n) (object_locks program m) lock
     (in_objects program m lock.object lock (slice_get_within program.shape.objects.items lock.object o.0 o.1) there)
 
-pub listed : (program : Typed) → IsWellFormed program → (lock : Lock) → Contains (all_locks program) lock ↔ IsLock program lock
+pub listed : (program : Typed) → IsWellFormed program → (lock : Lock) →
+    Contains (all_locks program) lock ↔ IsLock program lock
 listed program well lock = (
   λ c. elim (Contains-append_cases (global_locks program (length program.classes.items)) (object_locks program (length program.shape.objects.items)) lock c) [
     | inl global ↦ globals_are program (length program.classes.items) lock global
@@ -142,7 +153,8 @@ listed program well lock = (
 
 -- ---- what the places of classes tell
 
-pub knows_more : (program : Typed) (n k : ℕ) (classes grown : List ClassPlace) (c : LockClass) → KnowFields program n classes → length classes ≡ n →
+pub knows_more : (program : Typed) (n k : ℕ) (classes grown : List ClassPlace) (c : LockClass) →
+    KnowFields program n classes → length classes ≡ n →
     slice_get program.classes.items n ≡ Some c → grown ≡ classes ++ class_place k c ∷ [] → KnowFields program (n + 1) grown
 knows_more program n k classes grown c know long at is number s l lt e =
     elim (cases_lt number n) [
@@ -156,7 +168,8 @@ knows_more program n k classes grown c know long at is number s l lt e =
           subst (λ (cs : List ClassPlace). slice_get cs number ≡ Some (place.Field l)) (sym is) (last ∙ ap (λ (x : LockClass). Some (class_place k x)) c_is)
     ]
 
-pub fields_known : (program : Typed) (object : ℕ) (classes : List ClassPlace) → IsWellFormed program → KnowFields program (length program.classes.items) classes →
+pub fields_known : (program : Typed) (object : ℕ) (classes : List ClassPlace) → IsWellFormed program →
+    KnowFields program (length program.classes.items) classes →
     AreFields classes (lock_fields (object_struct program object))
 fields_known program object classes well know l field e =
     let f = field_of program object l field well e in
@@ -164,14 +177,17 @@ fields_known program object classes well know l field e =
 
 -- ---- one class or object more
 
-pub one_class : (program : Typed) (n : ℕ) (c : LockClass) → slice_get program.classes.items n ≡ Some c → global_locks program (n + 1) ≡ global_locks program n ++ if_global_lock n (Some c)
+pub one_class : (program : Typed) (n : ℕ) (c : LockClass) → slice_get program.classes.items n ≡ Some c →
+    global_locks program (n + 1) ≡ global_locks program n ++ if_global_lock n (Some c)
 one_class program n c at = rw add-one (ap (λ (o : Option LockClass). global_locks program n ++ if_global_lock n o) at)
 
-pub one_object : (program : Typed) (locks : List Lock) (n : ℕ) → (locks ++ object_locks program n) ++ locks_of_object program n ≡ locks ++ object_locks program (n + 1)
+pub one_object : (program : Typed) (locks : List Lock) (n : ℕ) →
+    (locks ++ object_locks program n) ++ locks_of_object program n ≡ locks ++ object_locks program (n + 1)
 one_object program locks n = rw add-one (append_assoc locks (object_locks program n) (locks_of_object program n))
 
 -- one lock of an object more
-pub one_more_lock : (object i : ℕ) (fields : List LockField) (x : LockField) (old before after : List Lock) → i < length fields → x ≡ get_or fields i x →
+pub one_more_lock : (object i : ℕ) (fields : List LockField) (x : LockField) (old before after : List Lock) →
+    i < length fields → x ≡ get_or fields i x →
     before ≡ old ++ locks_at object (take i fields) → after ≡ before ++ record { class = x.class; object = object } ∷ [] → after ≡ old ++ locks_at object (take (i + 1) fields)
 one_more_lock object i fields x old before after lt is at more =
     let made : LockField → Lock = λ (y : LockField). record { class = y.class; object = object } in

@@ -18,17 +18,20 @@ use Rattle.core_lang.specs.declared.typed.Typed.{Typed}
 use Rattle.core_lang.specs.Typing.{lookup, struct_of}
 use Rattle.core_lang.specs.WellFormed.{IsWellFormed, IsLaidOut, IsCellOf, IsGlobalLock, FinalsLead, EndsAt}
 use Rattle.locks.specs.declared.lock.Lock.{Lock}
-use Rattle.locks.specs.Locks.{final_of, led_to, global_lock, IsLockOfClass, IsLock, lock_of, protection_of, walked, protecting, lock_of_cell}
+use Rattle.locks.specs.Locks.{final_of, led_to, global_lock, IsLockOfClass, IsLock, lock_of, protection_of, walked}
+use Rattle.locks.specs.Locks.{protecting, lock_of_cell}
 use Rattle.core_lang.specs.Theory.Items.{lookup_some, lookup_at}
 
 -- what an object's struct shows
-pub object_there : (program : Typed) (o s : ℕ) → struct_of program.shape o ≡ Some s → (x : Object) × (slice_get program.shape.objects.items o ≡ Some x)
+pub object_there : (program : Typed) (o s : ℕ) → struct_of program.shape o ≡ Some s →
+    (x : Object) × (slice_get program.shape.objects.items o ≡ Some x)
 object_there program o s e =
     let x = lookup_some (slice_get program.shape.objects.items o) (λ (object : Object). lookup (slice_get program.shape.pools.items object.pool) (λ (pool : Pool). Some pool.structure)) s e in
     (x.0, x.1)
 
 -- final references that lead from one struct to another lead from each object of the first to one of the other
-pub finals_lead : (program : Typed) → IsLaidOut program → (fs : List ℕ) (from to o : ℕ) → struct_of program.shape o ≡ Some from → FinalsLead program from fs to →
+pub finals_lead : (program : Typed) → IsLaidOut program → (fs : List ℕ) (from to o : ℕ) →
+    struct_of program.shape o ≡ Some from → FinalsLead program from fs to →
     (end : ℕ) × (led_to program.shape o fs ≡ Some end) × (struct_of program.shape end ≡ Some to)
 finals_lead program laid [] from to o is lead = (o, refl, is ∙ ap Some lead)
 finals_lead program laid (f ∷ fs) from to o is (next, target, lead) =
@@ -46,15 +49,18 @@ pub record IsLocked (program : Typed) (found : Option Lock) : Type 0 where
   pub listed : IsLock program lock
 
 -- a class's lock
-of_class : (program : Typed) (lock : Lock) (c : LockClass) → slice_get program.classes.items lock.class ≡ Some c → IsLockOfClass program lock (Some c) → IsLock program lock
+of_class : (program : Typed) (lock : Lock) (c : LockClass) → slice_get program.classes.items lock.class ≡ Some c →
+    IsLockOfClass program lock (Some c) → IsLock program lock
 of_class program lock c e h = subst (IsLockOfClass program lock) (sym e) h
 
-of_global : (program : Typed) (number : ℕ) (c : LockClass) → slice_get program.classes.items number ≡ Some c → IsGlobalLock c → IsLock program (global_lock number)
+of_global : (program : Typed) (number : ℕ) (c : LockClass) → slice_get program.classes.items number ≡ Some c →
+    IsGlobalLock c → IsLock program (global_lock number)
 of_global program number (class.Global name) e h = of_class program (global_lock number) (class.Global name) e refl
 of_global program number (class.Field s l) e h = absurd h
 
 -- the lock of an annotation
-walked_to : (program : Typed) (p : Protection) (s o : ℕ) (c : LockClass) → IsLaidOut program → slice_get program.classes.items p.class ≡ Some c →
+walked_to : (program : Typed) (p : Protection) (s o : ℕ) (c : LockClass) → IsLaidOut program →
+    slice_get program.classes.items p.class ≡ Some c →
     EndsAt program s p.through.items c → struct_of program.shape o ≡ Some s → IsLocked program (walked program p o)
 walked_to program p s o (class.Global name) laid at ends is = record {
   lock = global_lock p.class;
@@ -73,7 +79,8 @@ walked_to program p s o (class.Field structure l) laid at ends is =
     }
 
 -- the lock of a field whose annotation is this
-of_field : (program : Typed) (s o f : ℕ) (p : Protection) → struct_of program.shape o ≡ Some s → protection_of program s f ≡ Some p →
+of_field : (program : Typed) (s o f : ℕ) (p : Protection) → struct_of program.shape o ≡ Some s →
+    protection_of program s f ≡ Some p →
     IsLocked program (walked program p o) → IsLocked program (protecting program (owner.Field o f))
 of_field program s o f p is annotated w = record {
   lock = w.lock;
@@ -82,13 +89,15 @@ of_field program s o f p is annotated w = record {
   listed = w.listed;
 }
 
-annotation : (program : Typed) (s f : ℕ) (x : Struct) (field : Field) → slice_get program.structs.items s ≡ Some x → slice_get x.fields.items f ≡ Some field →
+annotation : (program : Typed) (s f : ℕ) (x : Struct) (field : Field) → slice_get program.structs.items s ≡ Some x →
+    slice_get x.fields.items f ≡ Some field →
     protection_of program s f ≡ Some field.protection
 annotation program s f x field at_s at_f =
     lookup_at (slice_get program.structs.items s) x (λ (z : Struct). lookup (slice_get z.fields.items f) (λ (y : Field). Some y.protection)) at_s
     ∙ lookup_at (slice_get x.fields.items f) field (λ (y : Field). Some y.protection) at_f
 
-locked : (program : Typed) (place : ℕ) (x : Owner) → IsWellFormed program → IsCellOf program place x → IsLocked program (protecting program x)
+locked : (program : Typed) (place : ℕ) (x : Owner) → IsWellFormed program → IsCellOf program place x →
+    IsLocked program (protecting program x)
 locked program place (owner.Global g) well (global, at, e) =
     let c = well.protected.global g global at in
     record {
@@ -110,8 +119,10 @@ locked program place (owner.Field o f) well (object, at, e, (s, t, is, type)) =
     let c = well.protected.field s f x.0 y.0 x.1 y.1 in
     of_field program s o f p is (annotation program s f x.0 y.0 x.1 y.1) (walked_to program p s o c.0 well.laid_out c.1 c.2 is)
 
-pub cell_locked : (program : Typed) (cell : ℕ) (x : Cell) → IsWellFormed program → slice_get program.cells.items cell ≡ Some x → IsLocked program (protecting program x.owner)
+pub cell_locked : (program : Typed) (cell : ℕ) (x : Cell) → IsWellFormed program →
+    slice_get program.cells.items cell ≡ Some x → IsLocked program (protecting program x.owner)
 cell_locked program cell x well at = locked program cell x.owner well (well.laid_out.owner cell x at)
 
-pub of_cell : (program : Typed) (cell : ℕ) (x : Cell) → slice_get program.cells.items cell ≡ Some x → lock_of_cell program cell ≡ protecting program x.owner
+pub of_cell : (program : Typed) (cell : ℕ) (x : Cell) → slice_get program.cells.items cell ≡ Some x →
+    lock_of_cell program cell ≡ protecting program x.owner
 of_cell program cell x at = lookup_at (slice_get program.cells.items cell) x (λ (c : Cell). protecting program c.owner) at

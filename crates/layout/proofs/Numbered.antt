@@ -1,5 +1,6 @@
 -- Locks found at their numbers.
-use Rattle.std.proofs.Common.{◌≡◌, ℕ, ◌+◌, Bool, true, false, if◌then◌else◌, List, [], ◌∷◌, ◌++◌, get_or, length, IsTrue, Option, Some, None, inl, inr, refl, sym, ap, ◌∙◌, subst}
+use Rattle.std.proofs.Common.{◌≡◌, ℕ, ◌+◌, Bool, true, false, if◌then◌else◌, List, [], ◌∷◌, ◌++◌, get_or, length}
+use Rattle.std.proofs.Common.{IsTrue, Option, Some, None, inl, inr, refl, sym, ap, ◌∙◌, subst}
 use Rattle.std.specs.Prelude.{slice_get}
 use Rattle.std.specs.List.{Contains}
 use Rattle.std.proofs.lemmas.Option.{none-some, same_Some, slice_get_within}
@@ -9,7 +10,8 @@ use Rattle.layout.specs.declared.places.ClassPlace.TheVariants as place
 use Rattle.layout.specs.Layouts.{AreDistinct}
 use Rattle.layout.specs.Working.Numbers.{number_at, number_of, AreNumbered}
 use Rattle.layout.proofs.Lists.{still_at}
-use Rattle.core_lang.specs.Theory.Items.{lookup_some, contains_at, at_contained, both_false, lookup_at, read_at, pushed_at}
+use Rattle.core_lang.specs.Theory.Items.{lookup_some, contains_at, at_contained, both_false, lookup_at, read_at}
+use Rattle.core_lang.specs.Theory.Items.{pushed_at}
 
 -- ---- what is found of a lock
 
@@ -20,13 +22,15 @@ pub record IsFound (classes : List ClassPlace) (objects : List ℕ) (locks : Lis
   pub class_is : slice_get classes lock.class ≡ Some class
   pub number_is : number_at class (slice_get objects lock.object) ≡ Some number
 
-pub found_at : (classes : List ClassPlace) (objects : List ℕ) (locks : List Lock) (lock : Lock) → AreNumbered classes objects locks →
+pub found_at : (classes : List ClassPlace) (objects : List ℕ) (locks : List Lock) (lock : Lock) →
+    AreNumbered classes objects locks →
     (n : ℕ) → slice_get locks n ≡ Some lock → IsFound classes objects locks lock
 found_at classes objects locks lock are n here =
     let l = lookup_some (slice_get classes lock.class) (λ (p : ClassPlace). number_at p (slice_get objects lock.object)) n (are n lock here) in
     record { number = n; here = here; class = l.0; class_is = l.1; number_is = l.2 }
 
-pub found : (classes : List ClassPlace) (objects : List ℕ) (locks : List Lock) (lock : Lock) → AreNumbered classes objects locks →
+pub found : (classes : List ClassPlace) (objects : List ℕ) (locks : List Lock) (lock : Lock) →
+    AreNumbered classes objects locks →
     Contains locks lock → IsFound classes objects locks lock
 found classes objects locks lock are c =
     let n = at_contained locks lock c in
@@ -38,7 +42,8 @@ pub record IsAt (objects : List ℕ) (object l number : ℕ) : Type 0 where
   pub here : slice_get objects object ≡ Some place
   pub sum : place + l ≡ number
 
-pub at_field : (objects : List ℕ) (object l number : ℕ) → number_at (place.Field l) (slice_get objects object) ≡ Some number →
+pub at_field : (objects : List ℕ) (object l number : ℕ) →
+    number_at (place.Field l) (slice_get objects object) ≡ Some number →
     IsAt objects object l number
 at_field objects object l number e =
     let x = lookup_some (slice_get objects object) (λ (p : ℕ). Some (p + l)) number e in
@@ -49,21 +54,24 @@ at_global object n number e = cc
 
 -- ---- growth
 
-pub more_classes : (b : Bool) (classes : List ClassPlace) (objects : List ℕ) (locks : List Lock) (p : ClassPlace) → AreNumbered classes objects locks →
+pub more_classes : (b : Bool) (classes : List ClassPlace) (objects : List ℕ) (locks : List Lock) (p : ClassPlace) →
+    AreNumbered classes objects locks →
     AreNumbered (if b then classes ++ p ∷ [] else classes) objects locks
 more_classes false classes objects locks p are = are
 more_classes true classes objects locks p are = λ n lock e.
     let x = lookup_some (slice_get classes lock.class) (λ (q : ClassPlace). number_at q (slice_get objects lock.object)) n (are n lock e) in
     lookup_at (slice_get (classes ++ p ∷ []) lock.class) x.0 (λ (q : ClassPlace). number_at q (slice_get objects lock.object)) (still_at classes (p ∷ []) lock.class x.0 x.1) ∙ x.2
 
-still_number : (objects : List ℕ) (x : ℕ) (object n : ℕ) (c : ClassPlace) → number_at c (slice_get objects object) ≡ Some n →
+still_number : (objects : List ℕ) (x : ℕ) (object n : ℕ) (c : ClassPlace) →
+    number_at c (slice_get objects object) ≡ Some n →
     number_at c (slice_get (objects ++ x ∷ []) object) ≡ Some n
 still_number objects x object n (place.Global number) e = e
 still_number objects x object n (place.Field l) e =
     let y = at_field objects object l n e in
     lookup_at (slice_get (objects ++ x ∷ []) object) y.place (λ (p : ℕ). Some (p + l)) (still_at objects (x ∷ []) object y.place y.here) ∙ ap Some y.sum
 
-pub more_objects : (b : Bool) (classes : List ClassPlace) (objects : List ℕ) (locks : List Lock) (p : ℕ) → AreNumbered classes objects locks →
+pub more_objects : (b : Bool) (classes : List ClassPlace) (objects : List ℕ) (locks : List Lock) (p : ℕ) →
+    AreNumbered classes objects locks →
     AreNumbered classes (if b then objects ++ p ∷ [] else objects) locks
 more_objects false classes objects locks p are = are
 more_objects true classes objects locks p are = λ n lock e.
@@ -71,7 +79,8 @@ more_objects true classes objects locks p are = λ n lock e.
     lookup_at (slice_get classes lock.class) x.0 (λ (q : ClassPlace). number_at q (slice_get (objects ++ p ∷ []) lock.object)) x.1
     ∙ still_number objects p lock.object n x.0 x.2
 
-pub more_locks : (b : Bool) (classes : List ClassPlace) (objects : List ℕ) (locks : List Lock) (more : Lock) → AreNumbered classes objects locks →
+pub more_locks : (b : Bool) (classes : List ClassPlace) (objects : List ℕ) (locks : List Lock) (more : Lock) →
+    AreNumbered classes objects locks →
     number_of classes objects more ≡ Some (length locks) → AreNumbered classes objects (if b then locks ++ more ∷ [] else locks)
 more_locks false classes objects locks more are e = are
 more_locks true classes objects locks more are e = λ n lock at.
@@ -90,7 +99,8 @@ global_number classes objects n =
     last_here [] c = refl
     last_here (x ∷ cs) c = last_here cs c
 
-pub field_number : (classes : List ClassPlace) (objects : List ℕ) (c l object : ℕ) (x : ℕ) → slice_get classes c ≡ Some (place.Field l) →
+pub field_number : (classes : List ClassPlace) (objects : List ℕ) (c l object : ℕ) (x : ℕ) →
+    slice_get classes c ≡ Some (place.Field l) →
     slice_get objects object ≡ Some x → number_of classes objects (record { class = c; object = object }) ≡ Some (x + l)
 field_number classes objects c l object x at_c at_o =
     lookup_at (slice_get classes c) (place.Field l) (λ (p : ClassPlace). number_at p (slice_get objects object)) at_c
@@ -98,7 +108,8 @@ field_number classes objects c l object x at_c at_o =
 
 -- ---- no lock has two numbers
 
-pub distinct : (classes : List ClassPlace) (objects : List ℕ) (locks : List Lock) → AreNumbered classes objects locks → AreDistinct locks
+pub distinct : (classes : List ClassPlace) (objects : List ℕ) (locks : List Lock) →
+    AreNumbered classes objects locks → AreDistinct locks
 distinct classes objects locks are i j lock at_i at_j = let e : Some i ≡ Some j = sym (are i lock at_i) ∙ are j lock at_j in cc
 
 -- ---- what the class of a found lock says
@@ -147,7 +158,8 @@ pub class_added : (b : Bool) (classes grown : List ClassPlace) (objects : List �
 class_added b classes grown objects locks p are is_grown =
     subst (λ (cs : List ClassPlace). AreNumbered cs objects locks) (sym is_grown) (more_classes b classes objects locks p are)
 
-pub object_added : (b : Bool) (classes : List ClassPlace) (objects grown : List ℕ) (locks : List Lock) (p : ℕ) → AreNumbered classes objects locks →
+pub object_added : (b : Bool) (classes : List ClassPlace) (objects grown : List ℕ) (locks : List Lock) (p : ℕ) →
+    AreNumbered classes objects locks →
     grown ≡ (if b then objects ++ p ∷ [] else objects) → AreNumbered classes grown locks
 object_added b classes objects grown locks p are is_grown =
     subst (λ (os : List ℕ). AreNumbered classes os locks) (sym is_grown) (more_objects b classes objects locks p are)
@@ -161,14 +173,17 @@ field_added b classes objects locks more c l object x are at_c at_o long is_more
 
 -- ---- whether a lock is one of the locks
 
-pub none_there : (locks : List Lock) (n : ℕ) (lock : Lock) → slice_get locks n ≡ None → (IsTrue false → slice_get locks n ≡ Some lock) × (slice_get locks n ≡ Some lock → IsTrue false)
+pub none_there : (locks : List Lock) (n : ℕ) (lock : Lock) → slice_get locks n ≡ None →
+    (IsTrue false → slice_get locks n ≡ Some lock) × (slice_get locks n ≡ Some lock → IsTrue false)
 none_there locks n lock none = both_false (λ at. none-some lock (sym none ∙ at))
 
-pub has_none : (locks : List Lock) (lock : Lock) → ((n : ℕ) → slice_get locks n ≡ Some lock → ◌≡◌ {A = Option ℕ} None (Some n)) →
+pub has_none : (locks : List Lock) (lock : Lock) →
+    ((n : ℕ) → slice_get locks n ≡ Some lock → ◌≡◌ {A = Option ℕ} None (Some n)) →
     (IsTrue false → Contains locks lock) × (Contains locks lock → IsTrue false)
 has_none locks lock nowhere = both_false (λ c. let n = at_contained locks lock c in none-some n.0 (nowhere n.0 n.1))
 
-pub has_found : (locks : List Lock) (lock : Lock) (k : ℕ) (b : Bool) → (IsTrue b → slice_get locks k ≡ Some lock) × (slice_get locks k ≡ Some lock → IsTrue b) →
+pub has_found : (locks : List Lock) (lock : Lock) (k : ℕ) (b : Bool) →
+    (IsTrue b → slice_get locks k ≡ Some lock) × (slice_get locks k ≡ Some lock → IsTrue b) →
     ((n : ℕ) → slice_get locks n ≡ Some lock → Some k ≡ Some n) → (IsTrue b → Contains locks lock) × (Contains locks lock → IsTrue b)
 has_found locks lock k b at only = (
   λ t. contains_at locks k lock (at.0 t),

@@ -1,5 +1,7 @@
 -- Cells placed behind those that their locks have.
-use Rattle.std.proofs.Common.{replicate, ◌≡◌, ◌≢◌, ℕ, zero, suc, ◌+◌, ◌<◌, ◌≤◌, Bool, true, false, if◌then◌else◌, ◌==◌, List, [], ◌∷◌, ◌++◌, length, get_or, set, IsTrue, Some, inl, inr, refl, sym, ap, ◌∙◌, subst, arith, add-zero, length-append}
+use Rattle.std.proofs.Common.{replicate, ◌≡◌, ◌≢◌, ℕ, zero, suc, ◌+◌, ◌<◌, ◌≤◌, Bool, true, false, if◌then◌else◌}
+use Rattle.std.proofs.Common.{◌==◌, List, [], ◌∷◌, ◌++◌, length, get_or, set, IsTrue, Some, inl, inr, refl, sym, ap}
+use Rattle.std.proofs.Common.{◌∙◌, subst, arith, add-zero, length-append}
 use Rattle.std.specs.Prelude.{slice_get}
 use Rattle.std.specs.List.{Contains}
 use Rattle.std.proofs.lemmas.Bool.{cases_Bool, both_ways, eqb-true, eq-eqb}
@@ -20,7 +22,8 @@ use Rattle.core_lang.specs.Theory.Items.{contains_at, read_at, pushed_at, set_sa
 
 -- ---- the same lock
 
-pub is_same_lock : (locks : List Lock) (n : ℕ) (other lock : Lock) (b : Bool) → slice_get locks n ≡ Some other → b ≡ same_lock other lock →
+pub is_same_lock : (locks : List Lock) (n : ℕ) (other lock : Lock) (b : Bool) → slice_get locks n ≡ Some other →
+    b ≡ same_lock other lock →
     (IsTrue b → slice_get locks n ≡ Some lock) × (slice_get locks n ≡ Some lock → IsTrue b)
 is_same_lock locks n other lock b at is = (
   λ t. at ∙ ap Some (same_is other lock (sym is ∙ t)),
@@ -58,7 +61,8 @@ other_cell ls l lock ne =
     append_none [] = refl
     append_none (x ∷ xs) = ap (λ ys. x ∷ ys) (append_none xs)
 
-still_cell : (ls : List Lock) (l lock : Lock) (offset cell : ℕ) → slice_get (cells_of ls lock) offset ≡ Some cell → slice_get (cells_of (ls ++ l ∷ []) lock) offset ≡ Some cell
+still_cell : (ls : List Lock) (l lock : Lock) (offset cell : ℕ) → slice_get (cells_of ls lock) offset ≡ Some cell →
+    slice_get (cells_of (ls ++ l ∷ []) lock) offset ≡ Some cell
 still_cell ls l lock offset cell e =
     subst (λ (xs : List ℕ). slice_get xs offset ≡ Some cell) (sym (one_cell_from 0 ls l lock))
     (still_at (cells_of ls lock) (if same_lock l lock then (0 + length ls) ∷ [] else []) offset cell e)
@@ -82,7 +86,8 @@ zero_at zero k lt = absurd (omega arith)
 zero_at (suc n) zero lt = refl
 zero_at (suc n) (suc k) lt = zero_at n k (omega arith)
 
-pub none_placed : (locks : List Lock) (cells : List CellPlace) (sizes : List ℕ) → cells ≡ [] → sizes ≡ replicate (length locks) 0 → ArePlaced locks cells sizes
+pub none_placed : (locks : List Lock) (cells : List CellPlace) (sizes : List ℕ) → cells ≡ [] →
+    sizes ≡ replicate (length locks) 0 → ArePlaced locks cells sizes
 none_placed locks cells sizes no_cells zeros = record {
   long = ap length zeros ∙ length-replicate (length locks) 0;
   each = λ cell x e. let none : slice_get {X = CellPlace} [] cell ≡ Some x = subst (λ (cs : List CellPlace). slice_get cs cell ≡ Some x) no_cells e in absurd cc;
@@ -126,21 +131,24 @@ module _ (locks : List Lock) (cells grown : List CellPlace) (sizes : List ℕ) (
         (still_cell (locks_in cells) x.lock y.lock y.offset cell old.offset);
   }
 
-  own_size : (lock : Lock) → x.lock ≡ lock → slice_get (set sizes number (x.offset + 1)) number ≡ Some (length (cells_of (locks_in grown) lock))
+  own_size : (lock : Lock) → x.lock ≡ lock →
+      slice_get (set sizes number (x.offset + 1)) number ≡ Some (length (cells_of (locks_in grown) lock))
   own_size lock same =
       let long : length (cells_of (locks_in cells ++ x.lock ∷ []) x.lock) ≡ x.offset + 1 =
       omega (arith, ap length (own_cell (locks_in cells) x.lock), length-append (cells_of (locks_in cells) x.lock) (length (locks_in cells) ∷ []), offset_is) in
       set_same sizes number (x.offset + 1) (slice_get_within sizes number x.offset size_is) ∙ ap Some (sym long)
       ∙ ap (λ (xs : List Lock). Some (length (cells_of xs x.lock))) (sym grown_locks) ∙ ap (λ (l : Lock). Some (length (cells_of (locks_in grown) l))) same
 
-  other_size : (k : ℕ) (lock : Lock) → k ≢ number → slice_get locks k ≡ Some lock → slice_get (set sizes number (x.offset + 1)) k ≡ Some (length (cells_of (locks_in grown) lock))
+  other_size : (k : ℕ) (lock : Lock) → k ≢ number → slice_get locks k ≡ Some lock →
+      slice_get (set sizes number (x.offset + 1)) k ≡ Some (length (cells_of (locks_in grown) lock))
   other_size k lock ne at =
       let other : x.lock ≡ lock → ⊥ = λ e. ne (once k number lock at (here ∙ ap Some e)) in
       still_other sizes number k (x.offset + 1) (length (cells_of (locks_in cells) lock)) ne (p.size k lock at)
       ∙ ap (λ (xs : List ℕ). Some (length xs)) (sym (other_cell (locks_in cells) x.lock lock other))
       ∙ ap (λ (xs : List Lock). Some (length (cells_of xs lock))) (sym grown_locks)
 
-  size_of : (k : ℕ) (lock : Lock) → slice_get locks k ≡ Some lock → slice_get (set sizes number (x.offset + 1)) k ≡ Some (length (cells_of (locks_in grown) lock))
+  size_of : (k : ℕ) (lock : Lock) → slice_get locks k ≡ Some lock →
+      slice_get (set sizes number (x.offset + 1)) k ≡ Some (length (cells_of (locks_in grown) lock))
   size_of k lock at =
       elim (cases_Bool (k == number)) [
         | inl same ↦
@@ -164,7 +172,8 @@ module _ (locks : List Lock) (cells grown : List CellPlace) (sizes : List ℕ) (
 
 -- ---- what a placed cell shows
 
-pub cell_listed : (locks : List Lock) (cells : List CellPlace) (cell : ℕ) (x : CellPlace) → IsPlaced locks cells cell x → Contains locks x.lock
+pub cell_listed : (locks : List Lock) (cells : List CellPlace) (cell : ℕ) (x : CellPlace) →
+    IsPlaced locks cells cell x → Contains locks x.lock
 cell_listed locks cells cell x p = contains_at locks p.number x.lock p.lock
 
 -- the cell that an index reads
@@ -203,13 +212,15 @@ one_longer l cells grown x locks is more =
     ∙ ap (λ (v : LayoutOf). with_cell v x.opening x.lock) is
 
 -- how many cells a lock has
-pub size_within : (locks : List Lock) (sizes : List ℕ) (n size : ℕ) (lock : Lock) → length sizes ≡ length locks → slice_get locks n ≡ Some lock → size ≡ length sizes → n < size
+pub size_within : (locks : List Lock) (sizes : List ℕ) (n size : ℕ) (lock : Lock) → length sizes ≡ length locks →
+    slice_get locks n ≡ Some lock → size ≡ length sizes → n < size
 size_within locks sizes n size lock long at is = let lt = slice_get_within locks n lock at in below n (length locks) (length sizes) size lt long is
   where
     below : (k a b d : ℕ) → k < a → b ≡ a → d ≡ b → k < d
     below k a b d lt e f = omega arith
 
-pub size_read : (locks : List Lock) (cells : List CellPlace) (sizes : List ℕ) (n size : ℕ) (lock : Lock) → ArePlaced locks cells sizes → slice_get locks n ≡ Some lock →
+pub size_read : (locks : List Lock) (cells : List CellPlace) (sizes : List ℕ) (n size : ℕ) (lock : Lock) →
+    ArePlaced locks cells sizes → slice_get locks n ≡ Some lock →
     size ≡ get_or sizes n size → size ≡ length (cells_of (locks_in cells) lock)
 size_read locks cells sizes n size lock placed at is =
     is ∙ get_or_from_slice_get sizes n (length (cells_of (locks_in cells) lock)) size (placed.size n lock at)

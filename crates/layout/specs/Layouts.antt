@@ -65,7 +65,8 @@ pub record IsLayoutOf (program : Typed) (layout : LayoutOf) : Type 0 where
   pub cells : length layout.cell_locks ≡ length program.cells.items
   pub cell_locks : (cell : ℕ) → slice_get layout.cell_locks cell ≡ lock_of_cell program cell
   -- the lock of each cell is one of the locks
-  pub cells_listed : (cell : ℕ) (lock : Lock) → slice_get layout.cell_locks cell ≡ Some lock → Contains layout.locks lock
+  pub cells_listed : (cell : ℕ) (lock : Lock) → slice_get layout.cell_locks cell ≡ Some lock →
+      Contains layout.locks lock
   -- which locks there are, each once, and in which order
   pub listed : (lock : Lock) → Contains layout.locks lock ↔ IsLock program lock
   pub distinct : AreDistinct layout.locks

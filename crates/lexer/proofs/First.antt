@@ -1,5 +1,6 @@
 -- The first byte of a text, and what is behind it.
-use Rattle.std.proofs.Common.{◌≡◌, ◌∙◌, ◌+◌, ◌-◌, ◌*◌, ◌<◌, ◌≤◌, ℕ, List, [], ◌∷◌, length, take, drop, get_or, Bool, true, false, Some, Ok, Option, refl, sym, ap, arith}
+use Rattle.std.proofs.Common.{◌≡◌, ◌∙◌, ◌+◌, ◌-◌, ◌*◌, ◌<◌, ◌≤◌, ℕ, List, [], ◌∷◌, length, take, drop, get_or, Bool}
+use Rattle.std.proofs.Common.{true, false, Some, Ok, Option, refl, sym, ap, arith}
 use Rattle.std.specs.Prelude.{◌==◌, ◌&&◌, ◌/◌}
 use Rattle.std.proofs.lemmas.Bool.{eqb-true}
 use Rattle.std.proofs.lemmas.Bool.Decides.{nat_tests}
@@ -7,7 +8,8 @@ use Rattle.std.proofs.lemmas.List.{take_all}
 use Rattle.source.specs.declared.token.Sign.{Sign}
 use Rattle.source.specs.Texts.{is_white, is_digit, is_letter, NUMBER_LIMIT}
 use Rattle.source.specs.Tokens.{Lexeme, mark}
-use Rattle.lexer.specs.Working.Reading.{after_line, skip, is_slash, double_of, sign_or, single_at, sign_at, unit_at, CanStand}
+use Rattle.lexer.specs.Working.Reading.{after_line, skip, is_slash, double_of, sign_or, single_at, sign_at, unit_at}
+use Rattle.lexer.specs.Working.Reading.{CanStand}
 use Rattle.lexer.proofs.Gaps.{line_bounds}
 use Rattle.lexer.proofs.Numbers.{number_on}
 use Rattle.lexer.proofs.Steps.{skip_le, unit_shortens, unit_stands}
@@ -42,11 +44,13 @@ module _ (rest text : List ℕ) (le : 1 ≤ length rest) where
   pub white_skipped : is_white (get_or rest 0 0) ≡ true → skip rest ≡ skip text → skip (behind_first rest) ≡ skip text
   white_skipped w so_far = sym (ap skip (in_front rest le) ∙ skip_white (get_or rest 0 0) (behind_first rest) w) ∙ so_far
 
-  pub nothing_skipped : is_white (get_or rest 0 0) ≡ false → ((get_or rest 0 0 == 47) && is_slash (behind_first rest)) ≡ false → skip rest ≡ skip text → rest ≡ skip text
+  pub nothing_skipped : is_white (get_or rest 0 0) ≡ false →
+      ((get_or rest 0 0 == 47) && is_slash (behind_first rest)) ≡ false → skip rest ≡ skip text → rest ≡ skip text
   nothing_skipped w s so_far =
       in_front rest le ∙ sym (ap skip (in_front rest le) ∙ skip_stays (get_or rest 0 0) (behind_first rest) w s) ∙ so_far
 
-pub comment_shorter : (rest after : List ℕ) → 1 ≤ length rest → after ≡ after_line (behind_first rest) → length after < length rest
+pub comment_shorter : (rest after : List ℕ) → 1 ≤ length rest → after ≡ after_line (behind_first rest) →
+    length after < length rest
 comment_shorter rest after le is = omega (arith, ap length is, line_bounds (behind_first rest), ap length (in_front rest le))
 
 -- ---- numbers and signs
@@ -54,16 +58,19 @@ comment_shorter rest after le is = omega (arith, ap length is, line_bounds (behi
 digit_read : (n b : ℕ) (bs : List ℕ) → is_digit b ≡ true → number_on n (b ∷ bs) ≡ number_on (n * 10 + (b - 48)) bs
 digit_read n b bs d = rw d refl
 
-pub one_digit : (n : ℕ) (rest : List ℕ) → 1 ≤ length rest → is_digit (get_or rest 0 0) ≡ true → number_on (n * 10 + (get_or rest 0 0 - 48)) (behind_first rest) ≡ number_on n rest
+pub one_digit : (n : ℕ) (rest : List ℕ) → 1 ≤ length rest → is_digit (get_or rest 0 0) ≡ true →
+    number_on (n * 10 + (get_or rest 0 0 - 48)) (behind_first rest) ≡ number_on n rest
 one_digit n rest le d = sym (ap (number_on n) (in_front rest le) ∙ digit_read n (get_or rest 0 0) (behind_first rest) d)
 
 digit_low : (b : ℕ) → is_digit b ≡ true → b < 58
 digit_low b d = grind (arith, nat_tests)
 
-pub stays_small : (n b : ℕ) → is_digit b ≡ true → n ≤ (9223372036854775807 - (b - 48)) / 10 → n * 10 + (b - 48) ≤ NUMBER_LIMIT
+pub stays_small : (n b : ℕ) → is_digit b ≡ true → n ≤ (9223372036854775807 - (b - 48)) / 10 →
+    n * 10 + (b - 48) ≤ NUMBER_LIMIT
 stays_small n b d le = omega (arith, le, digit_low b d)
 
-pub double_taken : (first : ℕ) (rest : List ℕ) (s : Sign) → 1 ≤ length rest → Some s ≡ double_of first (get_or rest 0 0) → sign_at first rest ≡ Ok (mark s, behind_first rest)
+pub double_taken : (first : ℕ) (rest : List ℕ) (s : Sign) → 1 ≤ length rest →
+    Some s ≡ double_of first (get_or rest 0 0) → sign_at first rest ≡ Ok (mark s, behind_first rest)
 double_taken first rest s le is =
     ap (sign_at first) (in_front rest le)
     ∙ ap (λ (o : Option Sign). sign_or o (behind_first rest) (single_at first (get_or rest 0 0 ∷ behind_first rest))) (sym is)
@@ -72,7 +79,8 @@ unit_else : (b : ℕ) (bs : List ℕ) → is_letter b ≡ false → is_digit b �
 unfolding unit_at
 unit_else b bs l d = rw (l, d) refl
 
-pub sign_first : (text : List ℕ) → 1 ≤ length text → is_letter (get_or text 0 0) ≡ false → is_digit (get_or text 0 0) ≡ false → unit_at text ≡ sign_at (get_or text 0 0) (behind_first text)
+pub sign_first : (text : List ℕ) → 1 ≤ length text → is_letter (get_or text 0 0) ≡ false →
+    is_digit (get_or text 0 0) ≡ false → unit_at text ≡ sign_at (get_or text 0 0) (behind_first text)
 sign_first text le l d = ap unit_at (in_front text le) ∙ unit_else (get_or text 0 0) (behind_first text) l d
 
 -- ---- a token within a text

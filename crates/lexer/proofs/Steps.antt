@@ -1,5 +1,6 @@
 -- One token after another.
-use Rattle.std.proofs.Common.{take, drop, ◌≡◌, ℕ, ◌+◌, ◌-◌, ◌^◌, ◌<◌, ◌≤◌, Bool, true, false, cond, List, [], ◌∷◌, ◌++◌, length, Ok, Err, refl, sym, ap, ◌∙◌, subst, arith, append_assoc, length-append}
+use Rattle.std.proofs.Common.{take, drop, ◌≡◌, ℕ, ◌+◌, ◌-◌, ◌^◌, ◌<◌, ◌≤◌, Bool, true, false, cond, List, [], ◌∷◌}
+use Rattle.std.proofs.Common.{◌++◌, length, Ok, Err, refl, sym, ap, ◌∙◌, subst, arith, append_assoc, length-append}
 use Rattle.std.specs.Prelude.{◌==◌, ◌&&◌, not, slice_range, IsTrue}
 use Rattle.std.specs.List.{list_all}
 use Rattle.std.proofs.lemmas.Bool.{eqb-true}
@@ -7,10 +8,14 @@ use Rattle.std.proofs.lemmas.List.{take_at, drop_at}
 use Rattle.source.specs.declared.fault.Code.{Code}
 use Rattle.source.specs.declared.fault.Code.TheVariants.{BadCharacter, NumberTooLarge, LimitExceeded}
 use Rattle.source.specs.Tokens.{Lexeme, name, int, word, mark, end, Tok}
-use Rattle.source.specs.Texts.{is_white, is_in_line, IsLineEnd, IsGap, no_gap, white, comment, BeginsComment, IsUnit, IsLongest, IsWithin, is_name, is_number, is_word, is_mark, IsNext, place, tok_at, end_at, AreTokens, at_end, token, HasTokens, DoRise, AreSlices, Leads, here, past, IsBadCharacter, IsOver, IsFaultFrom, bad_character, too_large, too_long}
+use Rattle.source.specs.Texts.{is_white, is_in_line, IsLineEnd, IsGap, no_gap, white, comment, BeginsComment, IsUnit}
+use Rattle.source.specs.Texts.{IsLongest, IsWithin, is_name, is_number, is_word, is_mark, IsNext, place, tok_at}
+use Rattle.source.specs.Texts.{end_at, AreTokens, at_end, token, HasTokens, DoRise, AreSlices, Leads, here, past}
+use Rattle.source.specs.Texts.{IsBadCharacter, IsOver, IsFaultFrom, bad_character, too_large, too_long}
 use Rattle.lexer.specs.Working.Reading.{after_line, is_slash, skip, CanStand, unit_at}
 use Rattle.lexer.proofs.Gaps.{and_parts, skip_comment, slash_is, Stands, skip_is}
-use Rattle.lexer.proofs.Units.{unit_begins, same_kind, same_unit, Over, Reads, over_code, Stuck, no_unit, over_unit, UnitAt, unit_law}
+use Rattle.lexer.proofs.Units.{unit_begins, same_kind, same_unit, Over, Reads, over_code, Stuck, no_unit, over_unit}
+use Rattle.lexer.proofs.Units.{UnitAt, unit_law}
 
 -- ---- a gap ends where skip ends
 
@@ -35,7 +40,8 @@ skip_stands : (text : List ℕ) → Stands text → skip text ≡ text
 skip_stands [] s = refl
 skip_stands (b ∷ bs) s = rw (s.0, s.1) refl
 
-no_slashes : (b : ℕ) (bs : List ℕ) (t : Bool) → ((b == 47) && is_slash bs) ≡ t → (BeginsComment (b ∷ bs) → ⊥) → t ≡ false
+no_slashes : (b : ℕ) (bs : List ℕ) (t : Bool) → ((b == 47) && is_slash bs) ≡ t → (BeginsComment (b ∷ bs) → ⊥) →
+    t ≡ false
 no_slashes b bs true e h =
     let p = and_parts (b == 47) (is_slash bs) e in
     let s = slash_is bs p.1 in
@@ -43,7 +49,8 @@ no_slashes b bs true e h =
 no_slashes b bs false e h = refl
 
 -- what is no white space and no comment stands
-pub gap_end : (text : List ℕ) (b : ℕ) (bs : List ℕ) → IsGap text (b ∷ bs) → is_white b ≡ false → (BeginsComment (b ∷ bs) → ⊥) → skip text ≡ b ∷ bs
+pub gap_end : (text : List ℕ) (b : ℕ) (bs : List ℕ) → IsGap text (b ∷ bs) → is_white b ≡ false →
+    (BeginsComment (b ∷ bs) → ⊥) → skip text ≡ b ∷ bs
 gap_end text b bs g w c = skip_through g ∙ skip_stands (b ∷ bs) (w, no_slashes b bs ((b == 47) && is_slash bs) refl c)
 
 next_skip : {text bytes rest : List ℕ} {k : Lexeme} → IsNext text bytes rest k → skip text ≡ bytes ++ rest
@@ -81,7 +88,8 @@ end_skip g = skip_through g
 
 -- ---- a text has one list of tokens at most
 
-tokens_same : (total : ℕ) {text text2 : List ℕ} {a b : List Tok} → AreTokens total text a → text ≡ text2 → AreTokens total text2 b → a ≡ b
+tokens_same : (total : ℕ) {text text2 : List ℕ} {a b : List Tok} → AreTokens total text a → text ≡ text2 →
+    AreTokens total text2 b → a ≡ b
 tokens_same total (at_end g) e (at_end h) = refl
 tokens_same total (at_end {text = text} g) e (token {text = text2} n w ts) = absurd (no_next (ap skip (sym e) ∙ end_skip g) n)
 tokens_same total (token n w ts) e (at_end h) = absurd (no_next (ap skip e ∙ end_skip h) n)
@@ -101,7 +109,8 @@ gap_le no_gap = omega arith
 gap_le (white {b} {text} {rest} w g) = let h = gap_le g in omega arith
 gap_le (comment line {text} {rest} all e g) = let h = gap_le g in omega (arith, length-append line text)
 
-rise_from : (total from : ℕ) {text : List ℕ} {ts : List Tok} → AreTokens total text ts → length text ≤ total → from ≤ place total text → DoRise from ts
+rise_from : (total from : ℕ) {text : List ℕ} {ts : List Tok} → AreTokens total text ts → length text ≤ total →
+    from ≤ place total text → DoRise from ts
 rise_from total from (at_end {text = text} g) l h = (omega arith, omega arith, tt)
 rise_from total from (token {text = text} {bytes = a} {rest = r} n w ts) l h =
     let g = gap_le n.gap in
@@ -118,14 +127,16 @@ gap_parts no_gap = ([], refl)
 gap_parts (white {b} w g) = let p = gap_parts g in (b ∷ p.0, ap (λ (l : List ℕ). b ∷ l) p.1)
 gap_parts (comment line {text} {rest} all e g) = let p = gap_parts g in (47 ∷ 47 ∷ line ++ p.0, ap (λ (l : List ℕ). 47 ∷ 47 ∷ line ++ l) p.1 ∙ ap (λ (l : List ℕ). 47 ∷ 47 ∷ l) (sym (append_assoc line p.0 rest)))
 
-sliced : (text a bytes rest : List ℕ) → text ≡ a ++ (bytes ++ rest) → slice_range text (length text - length (bytes ++ rest)) (length text - length rest) ≡ bytes
+sliced : (text a bytes rest : List ℕ) → text ≡ a ++ (bytes ++ rest) →
+    slice_range text (length text - length (bytes ++ rest)) (length text - length rest) ≡ bytes
 sliced text a bytes rest e =
     let i : length text - length (bytes ++ rest) ≡ length a = omega (arith, ap length e, length-append a (bytes ++ rest)) in
     let n : (length text - length rest) - (length text - length (bytes ++ rest)) ≡ length bytes = omega (arith, ap length e, length-append a (bytes ++ rest), length-append bytes rest) in
     let at : drop (length text - length (bytes ++ rest)) text ≡ bytes ++ rest = ap (λ k. drop k text) i ∙ ap (λ (l : List ℕ). drop (length a) l) e ∙ drop_at a (bytes ++ rest) (length a) refl in
     ap (λ k. take k (drop (length text - length (bytes ++ rest)) text)) n ∙ ap (λ (l : List ℕ). take (length bytes) l) at ∙ take_at bytes rest (length bytes) refl
 
-slices_from : (text front : List ℕ) {left : List ℕ} {ts : List Tok} → text ≡ front ++ left → AreTokens (length text) left ts → AreSlices text ts
+slices_from : (text front : List ℕ) {left : List ℕ} {ts : List Tok} → text ≡ front ++ left →
+    AreTokens (length text) left ts → AreSlices text ts
 slices_from text front e (at_end g) = (λ h. absurd (h refl), tt)
 slices_from text front e (token {text = left} {bytes = bytes} {rest = rest} {k = k} n w ts) =
     let p = gap_parts n.gap in
@@ -147,7 +158,8 @@ pub record State (total : ℕ) (text rest : List ℕ) (before : List Tok) : Type
 pub begun : (total : ℕ) (text : List ℕ) → State total text text []
 begun total text = record { leads = here; sound = λ us h. h; only = λ ts h. (ts, refl, h); faults = λ c start h. h }
 
-lead_on : {text from : List ℕ} → Leads text from → {bytes rest : List ℕ} {k : Lexeme} → IsNext from bytes rest k → IsWithin k → Leads text rest
+lead_on : {text from : List ℕ} → Leads text from → {bytes rest : List ℕ} {k : Lexeme} → IsNext from bytes rest k →
+    IsWithin k → Leads text rest
 lead_on here n w = past n w here
 lead_on (past m v l) n w = past m v (lead_on l n w)
 
@@ -166,11 +178,13 @@ false_of false h = refl
 
 -- ---- one token on
 
-lead_past : {text to bytes rest : List ℕ} {k : Lexeme} → Leads text to → IsNext text bytes rest k → (text ≡ to → ⊥) → Leads rest to
+lead_past : {text to bytes rest : List ℕ} {k : Lexeme} → Leads text to → IsNext text bytes rest k → (text ≡ to → ⊥) →
+    Leads rest to
 lead_past here n apart = absurd (apart refl)
 lead_past (past {here = at} m v l) n apart = subst (λ (t : List ℕ). Leads t at) (same_next m n).rest l
 
-tokens_past : (total : ℕ) {text bytes rest : List ℕ} {k : Lexeme} {ts : List Tok} → AreTokens total text ts → IsNext text bytes rest k → (us : List Tok) × (ts ≡ tok_at total bytes rest k ∷ us) × AreTokens total rest us
+tokens_past : (total : ℕ) {text bytes rest : List ℕ} {k : Lexeme} {ts : List Tok} → AreTokens total text ts →
+    IsNext text bytes rest k → (us : List Tok) × (ts ≡ tok_at total bytes rest k ∷ us) × AreTokens total rest us
 tokens_past total (at_end g) n = absurd (no_next (end_skip g) n)
 tokens_past total (token {bytes = b} {rest = s} {k = l} {ts = us} m v rs) n =
     let same = same_next m n in
@@ -209,15 +223,18 @@ module _ (total : ℕ) (from bytes rest : List ℕ) (k : Lexeme) (n : IsNext fro
   faults_on c start (too_long x h) = too_long x (over_on start (name x) h)
 
 -- the span of a token, as it is computed
-spanned : (total : ℕ) (at bytes rest : List ℕ) (k : Lexeme) → at ≡ bytes ++ rest → tok_at total bytes rest k ≡ record { kind = k; span = record { start = total - length at; end = total - length rest } }
+spanned : (total : ℕ) (at bytes rest : List ℕ) (k : Lexeme) → at ≡ bytes ++ rest →
+    tok_at total bytes rest k ≡ record { kind = k; span = record { start = total - length at; end = total - length rest } }
 spanned total at bytes rest k e = rw e refl
 
 -- ---- where no token can be read
 
-over_same : (t : List ℕ) (k l : Lexeme) → Over t k → (bytes rest : List ℕ) → t ≡ bytes ++ rest → IsUnit bytes l → IsLongest bytes rest → k ≡ l
+over_same : (t : List ℕ) (k l : Lexeme) → Over t k → (bytes rest : List ℕ) → t ≡ bytes ++ rest → IsUnit bytes l →
+    IsLongest bytes rest → k ≡ l
 over_same t k l o bytes rest e u m = same_kind o.bytes bytes k l o.unit u (same_unit o.bytes bytes o.rest rest k l (sym o.parts ∙ e) o.unit u o.longest m)
 
-stuck_next : {t : List ℕ} {c : Code} → Stuck t c → {left bytes behind : List ℕ} {k : Lexeme} → skip left ≡ t → IsNext left bytes behind k → IsWithin k → ⊥
+stuck_next : {t : List ℕ} {c : Code} → Stuck t c → {left bytes behind : List ℕ} {k : Lexeme} → skip left ≡ t →
+    IsNext left bytes behind k → IsWithin k → ⊥
 stuck_next (no_unit h) {bytes = bytes} {behind = behind} {k = k} e n w = h bytes behind k (sym e ∙ next_skip n) n.unit
 stuck_next {t = t} (over_unit l o i) {bytes = bytes} {behind = behind} {k = k} e n w = o.over (subst IsWithin (sym (over_same t l k o bytes behind (sym e ∙ next_skip n) n.unit n.longest)) w)
 
@@ -233,31 +250,40 @@ record StuckAt (total : ℕ) (left : List ℕ) (c : Code) (start : ℕ) : Type 0
   is_at : total - length (skip left) ≡ start
   some : skip left ≡ [] → ⊥
 
-lead_stays : {left to : List ℕ} → Leads left to → ((bytes behind : List ℕ) (k : Lexeme) → IsNext left bytes behind k → IsWithin k → ⊥) → to ≡ left
+lead_stays : {left to : List ℕ} → Leads left to →
+    ((bytes behind : List ℕ) (k : Lexeme) → IsNext left bytes behind k → IsWithin k → ⊥) → to ≡ left
 lead_stays here h = refl
 lead_stays (past {bytes = bytes} {rest = behind} {k = k} n w l) h = absurd (h bytes behind k n w)
 
-bad_stuck : (total : ℕ) (left : List ℕ) (start : ℕ) → IsBadCharacter total left start → ((bytes behind : List ℕ) (k : Lexeme) → IsNext left bytes behind k → IsWithin k → ⊥) → StuckAt total left BadCharacter start
+bad_stuck : (total : ℕ) (left : List ℕ) (start : ℕ) → IsBadCharacter total left start →
+    ((bytes behind : List ℕ) (k : Lexeme) → IsNext left bytes behind k → IsWithin k → ⊥) →
+    StuckAt total left BadCharacter start
 bad_stuck total left start h none =
     let at : skip left ≡ h.byte ∷ h.rest = gap_end left h.byte h.rest (subst (λ (t : List ℕ). IsGap t (h.byte ∷ h.rest)) (lead_stays h.before none) h.gap) (false_of (is_white h.byte) h.no_white) h.no_comment in
     record { stuck = subst (λ (t : List ℕ). Stuck t BadCharacter) (sym at) (no_unit h.no_token); is_at = ap (λ (t : List ℕ). total - length t) at ∙ h.is_at; some = λ e. absurd cc }
 
-over_stuck : (total : ℕ) (left : List ℕ) (c : Code) (start : ℕ) (k : Lexeme) → over_code k ≡ c → IsOver total left start k → ((bytes behind : List ℕ) (k : Lexeme) → IsNext left bytes behind k → IsWithin k → ⊥) → StuckAt total left c start
+over_stuck : (total : ℕ) (left : List ℕ) (c : Code) (start : ℕ) (k : Lexeme) → over_code k ≡ c →
+    IsOver total left start k → ((bytes behind : List ℕ) (k : Lexeme) → IsNext left bytes behind k → IsWithin k → ⊥) →
+    StuckAt total left c start
 over_stuck total left c start k i h none =
     let n : IsNext left h.bytes h.rest k = subst (λ (t : List ℕ). IsNext t h.bytes h.rest k) (lead_stays h.before none) h.next in
     let at : skip left ≡ h.bytes ++ h.rest = next_skip n in
     record { stuck = over_unit k (record { bytes = h.bytes; rest = h.rest; parts = at; unit = n.unit; longest = n.longest; over = h.over }) i; is_at = ap (λ (t : List ℕ). total - length t) at ∙ h.is_at; some = λ e. no_next e n }
 
-fault_stuck : (total : ℕ) (left : List ℕ) (c : Code) (start : ℕ) → IsFaultFrom total left c start → ((bytes behind : List ℕ) (k : Lexeme) → IsNext left bytes behind k → IsWithin k → ⊥) → StuckAt total left c start
+fault_stuck : (total : ℕ) (left : List ℕ) (c : Code) (start : ℕ) → IsFaultFrom total left c start →
+    ((bytes behind : List ℕ) (k : Lexeme) → IsNext left bytes behind k → IsWithin k → ⊥) → StuckAt total left c start
 fault_stuck total left c start (bad_character h) none = bad_stuck total left start h none
 fault_stuck total left c start (too_large value h) none = over_stuck total left NumberTooLarge start (int value) refl h none
 fault_stuck total left c start (too_long x h) none = over_stuck total left LimitExceeded start (name x) refl h none
 
-bad_of : (total : ℕ) (text left at : List ℕ) → Leads text left → IsGap left at → Stands at → ((bytes other : List ℕ) (k : Lexeme) → at ≡ bytes ++ other → IsUnit bytes k → ⊥) → (at ≡ [] → ⊥) → IsBadCharacter total text (total - length at)
+bad_of : (total : ℕ) (text left at : List ℕ) → Leads text left → IsGap left at → Stands at →
+    ((bytes other : List ℕ) (k : Lexeme) → at ≡ bytes ++ other → IsUnit bytes k → ⊥) → (at ≡ [] → ⊥) →
+    IsBadCharacter total text (total - length at)
 bad_of total text left [] l g s none some = absurd (some refl)
 bad_of total text left (b ∷ bs) l g s none some = record { from = left; byte = b; rest = bs; before = l; gap = g; is_at = refl; no_white = λ w. let f : is_white b ≡ false = s.0 in absurd cc; no_comment = λ c. stands_apart (b ∷ bs) s c; no_token = none }
 
-over_of : (total : ℕ) (text left : List ℕ) (k : Lexeme) → Leads text left → Over (skip left) k → IsOver total text (total - length (skip left)) k
+over_of : (total : ℕ) (text left : List ℕ) (k : Lexeme) → Leads text left → Over (skip left) k →
+    IsOver total text (total - length (skip left)) k
 over_of total text left k l o =
     let s = skip_is left in
     record {
@@ -270,7 +296,8 @@ over_of total text left k l o =
       over = o.over;
     }
 
-fault_of : (total : ℕ) (text left : List ℕ) (c : Code) → Leads text left → UnitAt (skip left) (Err c) → (skip left ≡ [] → ⊥) → IsFaultFrom total text c (total - length (skip left))
+fault_of : (total : ℕ) (text left : List ℕ) (c : Code) → Leads text left → UnitAt (skip left) (Err c) →
+    (skip left ≡ [] → ⊥) → IsFaultFrom total text c (total - length (skip left))
 fault_of total text left c l (no_unit h) some = let s = skip_is left in bad_character (bad_of total text left (skip left) l s.gap s.stands h some)
 fault_of total text left c l (over_unit (int n) o e) some = subst (λ (d : Code). IsFaultFrom total text d (total - length (skip left))) e (too_large n (over_of total text left (int n) l o))
 fault_of total text left c l (over_unit (name x) o e) some = subst (λ (d : Code). IsFaultFrom total text d (total - length (skip left))) e (too_long x (over_of total text left (name x) l o))
@@ -284,7 +311,8 @@ pub skip_le : (bs : List ℕ) → length (skip bs) ≤ length bs
 skip_le bs = let s = skip_is bs in gap_le s.gap
 
 -- a token's places fit, and a name is as long as its text
-unit_long : (bytes : List ℕ) (k : Lexeme) (from to : ℕ) → IsUnit bytes k → from < 2 ^ 32 → to < 2 ^ 32 → to ≡ from + length bytes → CanStand k from to
+unit_long : (bytes : List ℕ) (k : Lexeme) (from to : ℕ) → IsUnit bytes k → from < 2 ^ 32 → to < 2 ^ 32 →
+    to ≡ from + length bytes → CanStand k from to
 unit_long bytes (name x) from to (is_name h g w) s e l = (s, l)
 unit_long bytes (int x) from to (is_number h) s e l = (s, e)
 unit_long bytes (word x) from to (is_word w) s e l = (s, e)
@@ -292,7 +320,8 @@ unit_long bytes (mark x) from to (is_mark m) s e l = (s, e)
 unit_long bytes end from to u s e l = elim u [ ]
 
 -- the token that was read can stand where it was read
-pub unit_stands : (total : ℕ) (t : List ℕ) (k : Lexeme) (rest : List ℕ) → unit_at t ≡ Ok (k, rest) → length t ≤ total → total < 2 ^ 32 → CanStand k (total - length t) (total - length rest)
+pub unit_stands : (total : ℕ) (t : List ℕ) (k : Lexeme) (rest : List ℕ) → unit_at t ≡ Ok (k, rest) →
+    length t ≤ total → total < 2 ^ 32 → CanStand k (total - length t) (total - length rest)
 unit_stands total t k rest e short small =
     let u : Reads t k rest = subst (UnitAt t) e (unit_law t) in
     let len : length t ≡ length u.bytes + length rest = ap length u.parts ∙ length-append u.bytes rest in
@@ -307,7 +336,9 @@ unit_shortens t k rest e =
 -- ---- the turns of the loop
 
 module _ (total : ℕ) (text rest : List ℕ) (before : List Tok) (state : State total text rest before) where
-  pub token_on : (k : Lexeme) (behind : List ℕ) (t : Tok) → unit_at (skip rest) ≡ Ok (k, behind) → t ≡ record { kind = k; span = record { start = total - length (skip rest); end = total - length behind } } → State total text behind (before ++ t ∷ [])
+  pub token_on : (k : Lexeme) (behind : List ℕ) (t : Tok) → unit_at (skip rest) ≡ Ok (k, behind) →
+      t ≡ record { kind = k; span = record { start = total - length (skip rest); end = total - length behind } } →
+      State total text behind (before ++ t ∷ [])
   token_on k behind t e is =
       let u : Reads (skip rest) k behind = subst (UnitAt (skip rest)) e (unit_law (skip rest)) in
       let n = next_of rest k behind u in
@@ -354,11 +385,13 @@ module _ (total : ℕ) (text rest : List ℕ) (before : List Tok) (state : State
     pub no_tokens : (ts : List Tok) → AreTokens total text ts → ⊥
     no_tokens ts h = let p = state.only ts h in none p.2 some no_more
       where
-        none : {us : List Tok} {left : List ℕ} → AreTokens total left us → (skip left ≡ [] → ⊥) → ((bytes behind : List ℕ) (k : Lexeme) → IsNext left bytes behind k → IsWithin k → ⊥) → ⊥
+        none : {us : List Tok} {left : List ℕ} → AreTokens total left us → (skip left ≡ [] → ⊥) →
+            ((bytes behind : List ℕ) (k : Lexeme) → IsNext left bytes behind k → IsWithin k → ⊥) → ⊥
         none (at_end g) more h = more (end_skip g)
         none (token {bytes = bytes} {rest = behind} {k = k} n w ts) more h = h bytes behind k n w
 
-    pub one_fault : (c : Code) (start : ℕ) → IsFaultFrom total text c start → (code ≡ c) × (total - length (skip rest) ≡ start)
+    pub one_fault : (c : Code) (start : ℕ) → IsFaultFrom total text c start →
+        (code ≡ c) × (total - length (skip rest) ≡ start)
     one_fault c start h = let f = fault_stuck total rest c start (state.faults c start h) no_more in (stuck_same stuck f.stuck, f.is_at)
 
     pub is_fault : IsFaultFrom total text code (total - length (skip rest))

@@ -1,5 +1,6 @@
 -- Single tokens: what reading one answers is the longest unit at its place, and no other is.
-use Rattle.std.proofs.Common.{◌≡◌, ℕ, Bool, true, false, cond, List, [], ◌∷◌, ◌++◌, length, Option, Some, None, Result, Ok, Err, refl, sym, ap, ◌∙◌, subst, arith, append_assoc}
+use Rattle.std.proofs.Common.{◌≡◌, ℕ, Bool, true, false, cond, List, [], ◌∷◌, ◌++◌, length, Option, Some, None}
+use Rattle.std.proofs.Common.{Result, Ok, Err, refl, sym, ap, ◌∙◌, subst, arith, append_assoc}
 use Rattle.std.specs.Prelude.{not, nat_le}
 use Rattle.std.specs.List.{list_all}
 use Rattle.std.proofs.lemmas.Bool.Decides.{nat_tests}
@@ -10,11 +11,14 @@ use Rattle.source.specs.declared.fault.Code.TheVariants.{BadCharacter, NumberToo
 use Rattle.source.specs.declared.token.Keyword.{Keyword}
 use Rattle.source.specs.declared.token.Sign.{Sign}
 use Rattle.source.specs.Tokens.{Lexeme, name, int, word, mark}
-use Rattle.source.specs.Texts.{is_letter, is_digit, is_name_byte, is_white, keyword_text, sign_text, value_of, IsUnit, is_name, is_number, is_word, is_mark, IsLongest, IsWithin, NUMBER_LIMIT, NAME_LIMIT}
-use Rattle.lexer.specs.Working.Reading.{run_of, after_run, keyword_of, single_of, double_of, within, word_or_name, word_at, number_at, sign_or, single_at, sign_at, unit_at}
+use Rattle.source.specs.Texts.{is_letter, is_digit, is_name_byte, is_white, keyword_text, sign_text, value_of, IsUnit}
+use Rattle.source.specs.Texts.{is_name, is_number, is_word, is_mark, IsLongest, IsWithin, NUMBER_LIMIT, NAME_LIMIT}
+use Rattle.lexer.specs.Working.Reading.{run_of, after_run, keyword_of, single_of, double_of, within, word_or_name}
+use Rattle.lexer.specs.Working.Reading.{word_at, number_at, sign_or, single_at, sign_at, unit_at}
 use Rattle.lexer.proofs.Gaps.{and_parts}
 use Rattle.lexer.proofs.Runs.{run_parts, run_all, run_stops, run_head}
-use Rattle.lexer.proofs.Texts.{keyword_found, keyword_is, is_word_text, keyword_letters, sign_in, sign_again, is_sign_text, sign_bytes, single_is, double_is}
+use Rattle.lexer.proofs.Texts.{keyword_found, keyword_is, is_word_text, keyword_letters, sign_in, sign_again}
+use Rattle.lexer.proofs.Texts.{is_sign_text, sign_bytes, single_is, double_is}
 
 -- ---- bytes
 
@@ -42,7 +46,8 @@ not_true false e = refl
 
 -- ---- what a unit's first byte says of it
 
-word_parts : (b : ℕ) (bs : List ℕ) (w : Keyword) → keyword_text w ≡ b ∷ bs → (is_letter b ≡ true) × (list_all is_name_byte bs ≡ true)
+word_parts : (b : ℕ) (bs : List ℕ) (w : Keyword) → keyword_text w ≡ b ∷ bs →
+    (is_letter b ≡ true) × (list_all is_name_byte bs ≡ true)
 word_parts b bs w e = and_parts (is_letter b) (list_all is_name_byte bs) (ap is_word_text (sym e) ∙ keyword_letters w)
 
 sign_parts : (b : ℕ) (bs : List ℕ) (s : Sign) → sign_text s ≡ b ∷ bs → (is_name_byte b ≡ false) × (is_white b ≡ false)
@@ -51,7 +56,8 @@ sign_parts b bs s e =
     (not_true (is_name_byte b) p.0, not_true (is_white b) p.1)
 
 -- a unit that begins with a letter has letters and digits alone
-unit_named : {bytes : List ℕ} {k : Lexeme} → IsUnit bytes k → (b : ℕ) (bs : List ℕ) → bytes ≡ b ∷ bs → is_letter b ≡ true → list_all is_name_byte bytes ≡ true
+unit_named : {bytes : List ℕ} {k : Lexeme} → IsUnit bytes k → (b : ℕ) (bs : List ℕ) → bytes ≡ b ∷ bs →
+    is_letter b ≡ true → list_all is_name_byte bytes ≡ true
 unit_named (is_name {b = c} {bs = cs} letter all never) b bs e h = rw (letter_in_name c letter, all) refl
 unit_named (is_number {b = c} {bs = cs} all) b bs e h =
     let p = and_parts (is_digit c) (list_all is_digit cs) all in
@@ -63,7 +69,8 @@ unit_named (is_word w) b bs e h = let p = word_parts b bs w e in ap (list_all is
 unit_named (is_mark s) b bs e h = let p = sign_parts b bs s e in let n : is_name_byte b ≡ true = letter_in_name b h in let q = p.0 in absurd cc
 
 -- a unit that begins with a digit has digits alone
-unit_digits : {bytes : List ℕ} {k : Lexeme} → IsUnit bytes k → (b : ℕ) (bs : List ℕ) → bytes ≡ b ∷ bs → is_digit b ≡ true → list_all is_digit bytes ≡ true
+unit_digits : {bytes : List ℕ} {k : Lexeme} → IsUnit bytes k → (b : ℕ) (bs : List ℕ) → bytes ≡ b ∷ bs →
+    is_digit b ≡ true → list_all is_digit bytes ≡ true
 unit_digits (is_name {b = c} {bs = cs} letter all never) b bs e h =
     let same : c ≡ b = cc in
     let d : is_digit b ≡ false = ap is_digit (sym same) ∙ letter_no_digit c letter in
@@ -73,7 +80,8 @@ unit_digits (is_word w) b bs e h = let p = word_parts b bs w e in let d : is_let
 unit_digits (is_mark s) b bs e h = let p = sign_parts b bs s e in let n : is_name_byte b ≡ true = digit_in_name b h in let q = p.0 in absurd cc
 
 -- a unit that begins with neither is a sign
-unit_sign : {bytes : List ℕ} {k : Lexeme} → IsUnit bytes k → (b : ℕ) (bs : List ℕ) → bytes ≡ b ∷ bs → is_letter b ≡ false → is_digit b ≡ false → (s : Sign) × (bytes ≡ sign_text s)
+unit_sign : {bytes : List ℕ} {k : Lexeme} → IsUnit bytes k → (b : ℕ) (bs : List ℕ) → bytes ≡ b ∷ bs →
+    is_letter b ≡ false → is_digit b ≡ false → (s : Sign) × (bytes ≡ sign_text s)
 unit_sign (is_name {b = c} {bs = cs} letter all never) b bs e h g =
     let same : c ≡ b = cc in
     let d : is_letter b ≡ true = ap is_letter (sym same) ∙ letter in
@@ -121,7 +129,8 @@ abbrev kind_of : List ℕ → Option Lexeme
 kind_of [] = None
 kind_of (b ∷ bs) = cond (is_letter b) (word_kind (keyword_of (b ∷ bs)) (b ∷ bs)) (cond (is_digit b) (Some (int (value_of (b ∷ bs)))) (mark_kind (sign_in (b ∷ bs))))
 
-no_keyword : (bs : List ℕ) (o : Option Keyword) → keyword_of bs ≡ o → ((w : Keyword) → keyword_text w ≡ bs → ⊥) → o ≡ None
+no_keyword : (bs : List ℕ) (o : Option Keyword) → keyword_of bs ≡ o → ((w : Keyword) → keyword_text w ≡ bs → ⊥) →
+    o ≡ None
 no_keyword bs (Some w) e h = absurd (h w (keyword_is w bs e))
 no_keyword bs None e h = refl
 
@@ -148,7 +157,8 @@ same_kind a b k l h g e = let p : kind_of a ≡ Some k = kind_again h in let q :
 -- ---- two units at one place, both longest, are one
 
 -- the same, of what is behind a beginning that both have
-same_behind : (before a b r s : List ℕ) (k l : Lexeme) → a ++ r ≡ b ++ s → IsUnit (before ++ a) k → IsUnit (before ++ b) l → IsLongest (before ++ a) r → IsLongest (before ++ b) s → a ≡ b
+same_behind : (before a b r s : List ℕ) (k l : Lexeme) → a ++ r ≡ b ++ s → IsUnit (before ++ a) k →
+    IsUnit (before ++ b) l → IsLongest (before ++ a) r → IsLongest (before ++ b) s → a ≡ b
 same_behind before [] [] r s k l e u v m n = refl
 same_behind before [] (c ∷ b) r s k l e u v m n = absurd (m c b s l e (subst (λ (t : List ℕ). IsUnit (t ++ c ∷ b) l) (sym (append-nil before)) v))
 same_behind before (c ∷ a) [] r s k l e u v m n = absurd (n c a r k (sym e) (subst (λ (t : List ℕ). IsUnit (t ++ c ∷ a) k) (sym (append-nil before)) u))
@@ -160,7 +170,8 @@ same_behind before (c ∷ a) (d ∷ b) r s k l e u v m n =
     let ih = same_behind (before ++ c ∷ []) a b r s k l rest (subst (λ (t : List ℕ). IsUnit t k) (sym (on a)) u) (subst (λ (t : List ℕ). IsUnit t l) (sym (at b)) v) (subst (λ (t : List ℕ). IsLongest t r) (sym (on a)) m) (subst (λ (t : List ℕ). IsLongest t s) (sym (at b)) n) in
     ap (λ (z : ℕ). z ∷ a) (sym same) ∙ ap (λ (z : List ℕ). d ∷ z) ih
 
-pub same_unit : (a b r s : List ℕ) (k l : Lexeme) → a ++ r ≡ b ++ s → IsUnit a k → IsUnit b l → IsLongest a r → IsLongest b s → a ≡ b
+pub same_unit : (a b r s : List ℕ) (k l : Lexeme) → a ++ r ≡ b ++ s → IsUnit a k → IsUnit b l → IsLongest a r →
+    IsLongest b s → a ≡ b
 same_unit a b r s k l e u v m n = same_behind [] a b r s k l e u v m n
 
 -- ---- what reading answers
@@ -196,7 +207,9 @@ UnitAt t (Ok x) = Reads t x.0 x.1
 UnitAt t (Err c) = Stuck t c
 
 -- a run is longest where each unit that begins with it goes on by bytes that pass its test
-run_longest : (p : ℕ → Bool) (t : List ℕ) → ((more : List ℕ) (k : Lexeme) → IsUnit (run_of p t ++ more) k → list_all p (run_of p t ++ more) ≡ true) → IsLongest (run_of p t) (after_run p t)
+run_longest : (p : ℕ → Bool) (t : List ℕ) →
+    ((more : List ℕ) (k : Lexeme) → IsUnit (run_of p t ++ more) k → list_all p (run_of p t ++ more) ≡ true) →
+    IsLongest (run_of p t) (after_run p t)
 run_longest p t h = λ b more other k e u.
     let all = h (b ∷ more) k u in
     let parts = and_parts (list_all p (run_of p t)) (list_all p (b ∷ more)) (sym (list_all-append p (run_of p t) (b ∷ more)) ∙ all) in
@@ -226,7 +239,9 @@ module _ (b : ℕ) (bs : List ℕ) (h : is_letter b ≡ true) where
   name_unit : ((w : Keyword) → keyword_text w ≡ name_run → ⊥) → IsUnit name_run (name name_run)
   name_unit never = subst (λ (l : List ℕ). IsUnit l (name l)) (sym name_head) (is_name h (run_all is_name_byte bs) (λ w e. never w (e ∙ sym name_head)))
 
-  name_within : (t : Bool) → nat_le (length name_run) NAME_LIMIT ≡ t → ((w : Keyword) → keyword_text w ≡ name_run → ⊥) → UnitAt (b ∷ bs) (within t (name name_run) name_rest LimitExceeded)
+  name_within : (t : Bool) → nat_le (length name_run) NAME_LIMIT ≡ t →
+      ((w : Keyword) → keyword_text w ≡ name_run → ⊥) →
+      UnitAt (b ∷ bs) (within t (name name_run) name_rest LimitExceeded)
   name_within true e never = record { bytes = name_run; parts = sym (run_parts is_name_byte (b ∷ bs)); unit = name_unit never; longest = name_longest; small = grind (arith, nat_tests) }
   name_within false e never = over_unit (name name_run) (record { bytes = name_run; rest = name_rest; parts = sym (run_parts is_name_byte (b ∷ bs)); unit = name_unit never; longest = name_longest; over = λ l. absurd (grind (arith, nat_tests)) }) refl
 
@@ -255,7 +270,8 @@ module _ (b : ℕ) (bs : List ℕ) (h : is_digit b ≡ true) where
   digits_unit : IsUnit digits (int (value_of digits))
   digits_unit = subst (λ (l : List ℕ). IsUnit l (int (value_of l))) (sym digits_head) (is_number (ap (list_all is_digit) (sym digits_head) ∙ run_all is_digit (b ∷ bs)))
 
-  digits_turn : (t : Bool) → nat_le (value_of digits) NUMBER_LIMIT ≡ t → UnitAt (b ∷ bs) (within t (int (value_of digits)) digits_rest NumberTooLarge)
+  digits_turn : (t : Bool) → nat_le (value_of digits) NUMBER_LIMIT ≡ t →
+      UnitAt (b ∷ bs) (within t (int (value_of digits)) digits_rest NumberTooLarge)
   digits_turn true e = record { bytes = digits; parts = sym (run_parts is_digit (b ∷ bs)); unit = digits_unit; longest = digits_longest; small = grind (arith, nat_tests) }
   digits_turn false e = over_unit (int (value_of digits)) (record { bytes = digits; rest = digits_rest; parts = sym (run_parts is_digit (b ∷ bs)); unit = digits_unit; longest = digits_longest; over = λ l. absurd (grind (arith, nat_tests)) }) refl
 
@@ -266,12 +282,14 @@ module _ (b : ℕ) (bs : List ℕ) (h : is_digit b ≡ true) where
 
 module _ (a : ℕ) (letter : is_letter a ≡ false) (digit : is_digit a ≡ false) where
   -- a unit that begins here is one of the signs by their texts
-  sign_unit : (bytes more : List ℕ) (k : Lexeme) → IsUnit bytes k → bytes ≡ a ∷ more → (s : Sign) × (sign_in (a ∷ more) ≡ Some s)
+  sign_unit : (bytes more : List ℕ) (k : Lexeme) → IsUnit bytes k → bytes ≡ a ∷ more →
+      (s : Sign) × (sign_in (a ∷ more) ≡ Some s)
   sign_unit bytes more k u e =
       let p = unit_sign u a more e letter digit in
       (p.0, subst (λ (t : List ℕ). sign_in t ≡ Some p.0) (sym p.1 ∙ e) (sign_again p.0))
 
-  no_single : (bs : List ℕ) → single_of a ≡ None → ((b : ℕ) (rest : List ℕ) → bs ≡ b ∷ rest → double_of a b ≡ None) → UnitAt (a ∷ bs) (Err BadCharacter)
+  no_single : (bs : List ℕ) → single_of a ≡ None → ((b : ℕ) (rest : List ℕ) → bs ≡ b ∷ rest → double_of a b ≡ None) →
+      UnitAt (a ∷ bs) (Err BadCharacter)
   no_single bs none never = no_unit (λ bytes other k e u. let s = unit_begins u in
       let h = s.is in
       let same : s.first ≡ a = let q : a ∷ bs ≡ s.first ∷ (s.more ++ other) = e ∙ ap (λ (l : List ℕ). l ++ other) h in cc in
@@ -283,21 +301,26 @@ module _ (a : ℕ) (letter : is_letter a ≡ false) (digit : is_digit a ≡ fals
       by_more (b ∷ []) other e g = let p = g.1 in let q : double_of a b ≡ None = never b other e in absurd cc
       by_more (b ∷ c ∷ more) other e g = let p = g.1 in absurd cc
 
-  single_longest : (bs : List ℕ) → ((b : ℕ) (rest : List ℕ) → bs ≡ b ∷ rest → double_of a b ≡ None) → IsLongest (a ∷ []) bs
+  single_longest : (bs : List ℕ) → ((b : ℕ) (rest : List ℕ) → bs ≡ b ∷ rest → double_of a b ≡ None) →
+      IsLongest (a ∷ []) bs
   single_longest bs never = λ b more other k e u. by_more b more other e (sign_unit (a ∷ b ∷ more) (b ∷ more) k u refl)
     where
-      by_more : (b : ℕ) (more other : List ℕ) → bs ≡ (b ∷ more) ++ other → (s : Sign) × (sign_in (a ∷ b ∷ more) ≡ Some s) → ⊥
+      by_more : (b : ℕ) (more other : List ℕ) → bs ≡ (b ∷ more) ++ other →
+          (s : Sign) × (sign_in (a ∷ b ∷ more) ≡ Some s) → ⊥
       by_more b [] other e g = let p = g.1 in let q : double_of a b ≡ None = never b other e in absurd cc
       by_more b (c ∷ more) other e g = let p = g.1 in absurd cc
 
-  single_turn : (bs : List ℕ) (o : Option Sign) → single_of a ≡ o → ((b : ℕ) (rest : List ℕ) → bs ≡ b ∷ rest → double_of a b ≡ None) → UnitAt (a ∷ bs) (sign_or o bs (Err BadCharacter))
+  single_turn : (bs : List ℕ) (o : Option Sign) → single_of a ≡ o →
+      ((b : ℕ) (rest : List ℕ) → bs ≡ b ∷ rest → double_of a b ≡ None) →
+      UnitAt (a ∷ bs) (sign_or o bs (Err BadCharacter))
   single_turn bs (Some s) e never = record { bytes = a ∷ []; parts = refl; unit = subst (λ (l : List ℕ). IsUnit l (mark s)) (single_is a s e) (is_mark s); longest = single_longest bs never; small = tt }
   single_turn bs None e never = no_single bs e never
 
   double_longest : (b : ℕ) (rest : List ℕ) → IsLongest (a ∷ b ∷ []) rest
   double_longest b rest = λ c more other k e u. let g = sign_unit (a ∷ b ∷ c ∷ more) (b ∷ c ∷ more) k u refl in let p = g.1 in absurd cc
 
-  double_turn : (b : ℕ) (rest : List ℕ) (o : Option Sign) → double_of a b ≡ o → UnitAt (a ∷ b ∷ rest) (sign_or o rest (single_at a (b ∷ rest)))
+  double_turn : (b : ℕ) (rest : List ℕ) (o : Option Sign) → double_of a b ≡ o →
+      UnitAt (a ∷ b ∷ rest) (sign_or o rest (single_at a (b ∷ rest)))
   double_turn b rest (Some s) e = record { bytes = a ∷ b ∷ []; parts = refl; unit = subst (λ (l : List ℕ). IsUnit l (mark s)) (double_is a b s e) (is_mark s); longest = double_longest b rest; small = tt }
   double_turn b rest None e = single_turn (b ∷ rest) (single_of a) refl (λ c more h. let same : b ≡ c = cc in ap (double_of a) (sym same) ∙ e)
 
@@ -307,11 +330,13 @@ module _ (a : ℕ) (letter : is_letter a ≡ false) (digit : is_digit a ≡ fals
 
 -- ---- all
 
-digit_turn : (b : ℕ) (bs : List ℕ) (t : Bool) → is_digit b ≡ t → is_letter b ≡ false → UnitAt (b ∷ bs) (cond t (number_at (b ∷ bs)) (sign_at b bs))
+digit_turn : (b : ℕ) (bs : List ℕ) (t : Bool) → is_digit b ≡ t → is_letter b ≡ false →
+    UnitAt (b ∷ bs) (cond t (number_at (b ∷ bs)) (sign_at b bs))
 digit_turn b bs true e h = number_law b bs e
 digit_turn b bs false e h = sign_law b h e bs
 
-letter_turn : (b : ℕ) (bs : List ℕ) (t : Bool) → is_letter b ≡ t → UnitAt (b ∷ bs) (cond t (word_at (b ∷ bs)) (cond (is_digit b) (number_at (b ∷ bs)) (sign_at b bs)))
+letter_turn : (b : ℕ) (bs : List ℕ) (t : Bool) → is_letter b ≡ t →
+    UnitAt (b ∷ bs) (cond t (word_at (b ∷ bs)) (cond (is_digit b) (number_at (b ∷ bs)) (sign_at b bs)))
 letter_turn b bs true e = word_law b bs e
 letter_turn b bs false e = digit_turn b bs (is_digit b) refl e
 

@@ -1,5 +1,6 @@
 -- Where the cells of locks are, after grants came back.
-use Rattle.std.proofs.Common.{◌≡◌, ◌≢◌, ℕ, ◌+◌, ◌<◌, ◌≤◌, List, [], ◌∷◌, ◌++◌, length, take, map, set, Option, Some, None, ◌⊎◌, inl, inr, refl, sym, ap, ◌∙◌, arith}
+use Rattle.std.proofs.Common.{◌≡◌, ◌≢◌, ℕ, ◌+◌, ◌<◌, ◌≤◌, List, [], ◌∷◌, ◌++◌, length, take, map, set, Option, Some}
+use Rattle.std.proofs.Common.{None, ◌⊎◌, inl, inr, refl, sym, ap, ◌∙◌, arith}
 use Rattle.std.specs.Prelude.{slice_get}
 use Rattle.std.specs.List.{Contains}
 use Rattle.std.proofs.Math.ListN.{length-set}
@@ -20,7 +21,8 @@ use Rattle.lock_manager.proofs.Numbers.{number_at}
 use Rattle.locks.specs.Theory.Order.{lock_cases}
 use Rattle.core_lang.specs.Theory.Items.{set_same, contains_at, lookup_some, set_other, some_same, in_cases, in_rest}
 
-pub put_at : (locks : List Lock) (places : List LockPlace) (lock : Lock) (place : LockPlace) (n : ℕ) → number_from 0 locks lock ≡ Some n → put_for locks places lock place ≡ set places n place
+pub put_at : (locks : List Lock) (places : List LockPlace) (lock : Lock) (place : LockPlace) (n : ℕ) →
+    number_from 0 locks lock ≡ Some n → put_for locks places lock place ≡ set places n place
 put_at locks places lock place n e = ap (λ o. put_number o places place) e
 
 pub given_back-push : (locks : List Lock) (places : List LockPlace) (gs : List GrantOf) (g : GrantOf) →
@@ -50,7 +52,8 @@ one_restored c places all gs g lock values n is same_lock same_values e =
 
 -- ---- all places at first
 
-pub one_place_more : (f : List ℕ → LockPlace) (xs : List (List ℕ)) (k : ℕ) (x : List ℕ) (places : List LockPlace) (place : LockPlace) → slice_get xs k ≡ Some x →
+pub one_place_more : (f : List ℕ →
+    LockPlace) (xs : List (List ℕ)) (k : ℕ) (x : List ℕ) (places : List LockPlace) (place : LockPlace) → slice_get xs k ≡ Some x →
     places ≡ map f (take k xs) → place ≡ f x → places ++ place ∷ [] ≡ map f (take (k + 1) xs)
 one_place_more f xs k x places place at so_far is =
     ap (λ (p : LockPlace). places ++ p ∷ []) is
@@ -74,21 +77,25 @@ all_places layout values numbers places n are le is =
 abbrev pub place_in : List Lock → List LockPlace → Lock → Option LockPlace
 place_in locks places lock = lookup (number_from 0 locks lock) (λ n. slice_get places n)
 
-pub numbered_place : (locks : List Lock) (places : List LockPlace) (lock : Lock) (p : LockPlace) → place_in locks places lock ≡ Some p →
+pub numbered_place : (locks : List Lock) (places : List LockPlace) (lock : Lock) (p : LockPlace) →
+    place_in locks places lock ≡ Some p →
     (n : ℕ) × (number_from 0 locks lock ≡ Some n) × (slice_get places n ≡ Some p)
 numbered_place locks places lock p e = lookup_some (number_from 0 locks lock) (λ n. slice_get places n) p e
 
-pub place_listed : (locks : List Lock) (places : List LockPlace) (lock : Lock) (p : LockPlace) → place_in locks places lock ≡ Some p → Contains locks lock
+pub place_listed : (locks : List Lock) (places : List LockPlace) (lock : Lock) (p : LockPlace) →
+    place_in locks places lock ≡ Some p → Contains locks lock
 place_listed locks places lock p e =
     let n = numbered_place locks places lock p e in
     let i = number_at 0 locks lock n.0 n.1 in
     contains_at locks i.0 lock i.2
 
-pub place_at : (locks : List Lock) (places : List LockPlace) (lock : Lock) (n : ℕ) → number_from 0 locks lock ≡ Some n → place_in locks places lock ≡ slice_get places n
+pub place_at : (locks : List Lock) (places : List LockPlace) (lock : Lock) (n : ℕ) →
+    number_from 0 locks lock ≡ Some n → place_in locks places lock ≡ slice_get places n
 place_at locks places lock n e = ap (λ o. lookup o (λ k. slice_get places k)) e
 
 -- something put at the lock
-pub put_same : (locks : List Lock) (places : List LockPlace) (lock : Lock) (old p : LockPlace) → place_in locks places lock ≡ Some old → place_in locks (put_for locks places lock p) lock ≡ Some p
+pub put_same : (locks : List Lock) (places : List LockPlace) (lock : Lock) (old p : LockPlace) →
+    place_in locks places lock ≡ Some old → place_in locks (put_for locks places lock p) lock ≡ Some p
 put_same locks places lock old p e =
     let n = numbered_place locks places lock old e in
     place_at locks (put_for locks places lock p) lock n.0 n.1
@@ -96,7 +103,8 @@ put_same locks places lock old p e =
     ∙ set_same places n.0 p (slice_get_within places n.0 old n.2)
 
 -- and at another
-put_other_at : (locks : List Lock) (places : List LockPlace) (lock other : Lock) (p : LockPlace) (o q : Option ℕ) → number_from 0 locks lock ≡ o → number_from 0 locks other ≡ q → lock ≢ other →
+put_other_at : (locks : List Lock) (places : List LockPlace) (lock other : Lock) (p : LockPlace) (o q : Option ℕ) →
+    number_from 0 locks lock ≡ o → number_from 0 locks other ≡ q → lock ≢ other →
     lookup q (λ n. slice_get (put_number o places p) n) ≡ lookup q (λ n. slice_get places n)
 put_other_at locks places lock other p None q a b ne = refl
 put_other_at locks places lock other p (Some n) None a b ne = refl
@@ -107,24 +115,29 @@ put_other_at locks places lock other p (Some n) (Some k) a b ne =
     let at : i.0 ≡ j.0 = omega (arith, i.1, j.1, same) in
     ne (some_same lock other (sym i.2 ∙ ap (slice_get locks) at ∙ j.2)))
 
-pub put_other : (locks : List Lock) (places : List LockPlace) (lock other : Lock) (p : LockPlace) → lock ≢ other → place_in locks (put_for locks places lock p) other ≡ place_in locks places other
+pub put_other : (locks : List Lock) (places : List LockPlace) (lock other : Lock) (p : LockPlace) → lock ≢ other →
+    place_in locks (put_for locks places lock p) other ≡ place_in locks places other
 put_other locks places lock other p ne = put_other_at locks places lock other p (number_from 0 locks lock) (number_from 0 locks other) refl refl ne
 
-length_put : (locks : List Lock) (places : List LockPlace) (lock : Lock) (p : LockPlace) (o : Option ℕ) → length (put_number o places p) ≡ length places
+length_put : (locks : List Lock) (places : List LockPlace) (lock : Lock) (p : LockPlace) (o : Option ℕ) →
+    length (put_number o places p) ≡ length places
 length_put locks places lock p None = refl
 length_put locks places lock p (Some n) = length-set places n p
 
-pub length-put : (locks : List Lock) (places : List LockPlace) (lock : Lock) (p : LockPlace) → length (put_for locks places lock p) ≡ length places
+pub length-put : (locks : List Lock) (places : List LockPlace) (lock : Lock) (p : LockPlace) →
+    length (put_for locks places lock p) ≡ length places
 length-put locks places lock p = length_put locks places lock p (number_from 0 locks lock)
 
 -- ---- after grants came back
 
-pub length-given_back : (locks : List Lock) (places : List LockPlace) (gs : List GrantOf) → length (given_back locks places gs) ≡ length places
+pub length-given_back : (locks : List Lock) (places : List LockPlace) (gs : List GrantOf) →
+    length (given_back locks places gs) ≡ length places
 length-given_back locks places [] = refl
 length-given_back locks places (g ∷ gs) = length-put locks (given_back locks places gs) g.lock (Free g.values) ∙ length-given_back locks places gs
 
 -- a place is free by one of the grants, or as it was before
-pub back_cases : (locks : List Lock) (places : List LockPlace) (gs : List GrantOf) (lock : Lock) (p : LockPlace) → place_in locks (given_back locks places gs) lock ≡ Some p →
+pub back_cases : (locks : List Lock) (places : List LockPlace) (gs : List GrantOf) (lock : Lock) (p : LockPlace) →
+    place_in locks (given_back locks places gs) lock ≡ Some p →
     ((g : GrantOf) × Contains gs g × (g.lock ≡ lock) × (Free g.values ≡ p)) ⊎ (((g : GrantOf) → Contains gs g → g.lock ≢ lock) × (place_in locks places lock ≡ Some p))
 back_cases locks places [] lock p e = inr (λ g c. absurd (omega (arith, c.1)), e)
 back_cases locks places (g ∷ gs) lock p e = elim (lock_cases g.lock lock) [
@@ -142,7 +155,8 @@ back_cases locks places (g ∷ gs) lock p e = elim (lock_cases g.lock lock) [
 ]
 
 -- and as it was where none is of its lock
-pub back_kept : (locks : List Lock) (places : List LockPlace) (gs : List GrantOf) (lock : Lock) → ((g : GrantOf) → Contains gs g → g.lock ≢ lock) →
+pub back_kept : (locks : List Lock) (places : List LockPlace) (gs : List GrantOf) (lock : Lock) →
+    ((g : GrantOf) → Contains gs g → g.lock ≢ lock) →
     place_in locks (given_back locks places gs) lock ≡ place_in locks places lock
 back_kept locks places [] lock none = refl
 back_kept locks places (g ∷ gs) lock none =

@@ -1,5 +1,6 @@
 -- Each call keeps the manager's rules.
-use Rattle.std.proofs.Common.{◌≡◌, ◌≢◌, ℕ, suc, ◌<◌, List, [], ◌∷◌, ◌++◌, length, map, set, Option, Some, None, ◌⊎◌, inl, inr, refl, sym, ap, ◌∙◌, subst, arith}
+use Rattle.std.proofs.Common.{◌≡◌, ◌≢◌, ℕ, suc, ◌<◌, List, [], ◌∷◌, ◌++◌, length, map, set, Option, Some, None, ◌⊎◌}
+use Rattle.std.proofs.Common.{inl, inr, refl, sym, ap, ◌∙◌, subst, arith}
 use Rattle.std.specs.Prelude.{slice_get}
 use Rattle.std.specs.List.{All, Contains}
 use Rattle.std.proofs.Math.ListN.{length-set}
@@ -19,14 +20,18 @@ use Rattle.lock_manager.specs.declared.places.LockPlace.TheVariants.{Free, Taken
 use Rattle.lock_manager.specs.declared.queue.Waiter.{Waiter}
 use Rattle.lock_manager.specs.Working.Sessions.{SessionOf, TicketOf, fresh, with_lock, with_ask}
 use Rattle.lock_manager.specs.Working.Queues.{leaving, joining}
-use Rattle.lock_manager.specs.Working.Managers.{Managed, IsKept, Holds, Asks, place_of, session_of, session_in, given_back, as_committed, ComesAfter, threads}
-use Rattle.lock_manager.specs.Working.Calls.{Knows, CanAsk, IsOwnWrite, Fits, AreItsGrants, with_session, after_grant, after_refusal, after_release, after_give_up}
+use Rattle.lock_manager.specs.Working.Managers.{Managed, IsKept, Holds, Asks, place_of, session_of, session_in}
+use Rattle.lock_manager.specs.Working.Managers.{given_back, as_committed, ComesAfter, threads}
+use Rattle.lock_manager.specs.Working.Calls.{Knows, CanAsk, IsOwnWrite, Fits, AreItsGrants, with_session, after_grant}
+use Rattle.lock_manager.specs.Working.Calls.{after_refusal, after_release, after_give_up}
 use Rattle.lock_manager.proofs.Lists.{mapped, unmapped}
 use Rattle.lock_manager.proofs.Numbers.{cell_is_of, distinct_none, distinct_push}
 use Rattle.locks.specs.Theory.Order.{lock_cases}
 use Rattle.lock_manager.proofs.Heaps.{values_agree, values_same}
 use Rattle.lock_manager.proofs.Queued.{still_waits, waited}
-use Rattle.lock_manager.proofs.Slots.{slot_within, holds_cases, holds_other, holds_same, asks_cases, asks_other, asks_same, asks_back, as_it_asked, asked_session, session_same, once_set, closed_asks_nothing}
+use Rattle.lock_manager.proofs.Slots.{slot_within, holds_cases, holds_other, holds_same, asks_cases, asks_other}
+use Rattle.lock_manager.proofs.Slots.{asks_same, asks_back, as_it_asked, asked_session, session_same, once_set}
+use Rattle.lock_manager.proofs.Slots.{closed_asks_nothing}
 use Rattle.lock_manager.proofs.GivenBack.{put_same, put_other, length-put, length-given_back, back_cases, back_kept}
 use Rattle.core_lang.specs.Theory.Items.{all_contained, some_same, push_cases}
 
@@ -76,7 +81,9 @@ keep_begin m t room k lt closed =
       thread_count = length-set m.slots t s ∙ k.thread_count;
     }
   where
-    new_asks_nothing : (u : ℕ) (lock : Lock) → t ≡ u → (a : Asks (set m.slots t (Some (fresh (length m.history) room))) u lock) → t < length m.slots → None ≡ Some lock
+    new_asks_nothing : (u : ℕ) (lock : Lock) → t ≡ u →
+        (a : Asks (set m.slots t (Some (fresh (length m.history) room))) u lock) → t < length m.slots →
+        None ≡ Some lock
     new_asks_nothing u lock e a within =
         let q = asked_session m.slots t (Some (fresh (length m.history) room)) within (fresh (length m.history) room) u lock e refl a in
         ap (λ (x : SessionOf). x.ask) q ∙ a.ask
@@ -89,7 +96,8 @@ pub record CanBeAsked (m : Managed) (ticket : TicketOf) (lock : Lock) : Type 0 w
   pub known : Knows m ticket
   pub asks : CanAsk m ticket lock
 
-pub keep_grant : (m : Managed) (ticket : TicketOf) (lock : Lock) (values : List Value) → CanBeAsked m ticket lock → place_of m lock ≡ Some (Free values) → IsKept (after_grant m ticket lock)
+pub keep_grant : (m : Managed) (ticket : TicketOf) (lock : Lock) (values : List Value) → CanBeAsked m ticket lock →
+    place_of m lock ≡ Some (Free values) → IsKept (after_grant m ticket lock)
 keep_grant m ticket lock values c here =
     let k = c.kept in
     let t = ticket.thread in
@@ -137,7 +145,8 @@ keep_grant m ticket lock values c here =
       thread_count = length-set m.slots t s ∙ k.thread_count;
     }
   where
-    taken_still : (other : Lock) (u : ℕ) → Holds m.slots u other → ticket.thread < length m.slots → Holds (set m.slots ticket.thread (Some (with_lock ticket.session lock))) u other
+    taken_still : (other : Lock) (u : ℕ) → Holds m.slots u other → ticket.thread < length m.slots →
+        Holds (set m.slots ticket.thread (Some (with_lock ticket.session lock))) u other
     taken_still other u h within = elim (cases_eq ticket.thread u) [
       | inl e ↦ holds_same m.slots ticket.thread (Some (with_lock ticket.session lock)) within (with_lock ticket.session lock) u other e refl
           (let q = some_same ticket.session h.session (sym c.known ∙ ap (session_in m.slots) e ∙ h.is) in
@@ -150,15 +159,18 @@ joined None w x ws c = Contains-append_left ws (w ∷ []) x c
 joined (Some l) w x ws c = c
 
 -- the one that asks waits then
-joins : (o : Option Lock) (w : Waiter) (ws : List Waiter) → ((l : Lock) → o ≡ Some l → Contains ws w) → Contains (joining o w ws) w
+joins : (o : Option Lock) (w : Waiter) (ws : List Waiter) → ((l : Lock) → o ≡ Some l → Contains ws w) →
+    Contains (joining o w ws) w
 joins None w ws f = Contains-push ws w
 joins (Some l) w ws f = f l refl
 
-joined_cases : (o : Option Lock) (w x : Waiter) (ws : List Waiter) → Contains (joining o w ws) x → Contains ws x ⊎ (w ≡ x)
+joined_cases : (o : Option Lock) (w x : Waiter) (ws : List Waiter) → Contains (joining o w ws) x →
+    Contains ws x ⊎ (w ≡ x)
 joined_cases None w x ws c = push_cases ws w x c
 joined_cases (Some l) w x ws c = inl c
 
-pub keep_refusal : (m : Managed) (ticket : TicketOf) (lock : Lock) → CanBeAsked m ticket lock → IsKept (after_refusal m ticket lock)
+pub keep_refusal : (m : Managed) (ticket : TicketOf) (lock : Lock) → CanBeAsked m ticket lock →
+    IsKept (after_refusal m ticket lock)
 keep_refusal m ticket lock c =
     let k = c.kept in
     let t = ticket.thread in
@@ -206,7 +218,8 @@ keep_refusal m ticket lock c =
       thread_count = length-set m.slots t s ∙ k.thread_count;
     }
   where
-    still_holds : (other : Lock) (u : ℕ) → Holds m.slots u other → ticket.thread < length m.slots → Holds (set m.slots ticket.thread (Some (with_ask ticket.session lock))) u other
+    still_holds : (other : Lock) (u : ℕ) → Holds m.slots u other → ticket.thread < length m.slots →
+        Holds (set m.slots ticket.thread (Some (with_ask ticket.session lock))) u other
     still_holds other u h within = elim (cases_eq ticket.thread u) [
       | inl e ↦ holds_same m.slots ticket.thread (Some (with_ask ticket.session lock)) within (with_ask ticket.session lock) u other e refl
           (let q = some_same ticket.session h.session (sym c.known ∙ ap (session_in m.slots) e ∙ h.is) in
@@ -222,7 +235,8 @@ pub record Leaves (m : Managed) (t : ℕ) (s : SessionOf) (gs : List GrantOf) (v
   pub all : (lock : Lock) → Contains s.held lock → (g : GrantOf) × Contains gs g × (g.lock ≡ lock)
   pub only : (g : GrantOf) → Contains gs g → Contains s.held g.lock
   pub own : (g : GrantOf) → Contains gs g → g.values ≡ values_on values (cells_of m.layout.cell_locks g.lock)
-  pub others : (lock : Lock) → (Contains s.held lock → ⊥) → values_on m.values (cells_of m.layout.cell_locks lock) ≡ values_on values (cells_of m.layout.cell_locks lock)
+  pub others : (lock : Lock) → (Contains s.held lock → ⊥) →
+      values_on m.values (cells_of m.layout.cell_locks lock) ≡ values_on values (cells_of m.layout.cell_locks lock)
   pub waits : (w : Waiter) → Contains m.waiters w → w.thread ≢ t → Contains waiters w
   pub waited : (w : Waiter) → Contains waiters w → Contains m.waiters w × (w.thread ≢ t)
 
@@ -287,7 +301,8 @@ keep_left m t s gs values waiters history k l legal is =
 -- ---- release
 
 -- the writes of an entry are of its own locks, so they leave the cells of the others
-writes_not : (cell_locks : List Lock) (held : List Lock) (ws : List (ℕ × Value)) (lock : Lock) (cell : ℕ) → All (IsOwnWrite cell_locks held) ws → (Contains held lock → ⊥) →
+writes_not : (cell_locks : List Lock) (held : List Lock) (ws : List (ℕ × Value)) (lock : Lock) (cell : ℕ) →
+    All (IsOwnWrite cell_locks held) ws → (Contains held lock → ⊥) →
     slice_get cell_locks cell ≡ Some lock → WritesNot cell ws
 writes_not cell_locks held [] lock cell all ne at = tt
 writes_not cell_locks held (w ∷ ws) lock cell all ne at =
@@ -296,7 +311,8 @@ writes_not cell_locks held (w ∷ ws) lock cell all ne at =
       writes_not cell_locks held ws lock cell (λ j d lt. all (suc j) d (omega (arith, lt))) ne at,
     )
 
-pub keep_release : (m : Managed) (ticket : TicketOf) (grants : List GrantOf) (entry : Commit) → IsKept m → Knows m ticket → Fits m ticket grants entry →
+pub keep_release : (m : Managed) (ticket : TicketOf) (grants : List GrantOf) (entry : Commit) → IsKept m →
+    Knows m ticket → Fits m ticket grants entry →
     WritesSpareOthers → CommittedOfOneMore → LegalOfOneMore → IsKept (after_release m ticket grants entry)
 keep_release m ticket grants entry k known f spare one legal =
     let locks = m.layout.cell_locks in
@@ -320,7 +336,8 @@ keep_release m ticket grants entry k known f spare one legal =
 
 -- ---- give_up
 
-pub keep_give_up : (m : Managed) (t : ℕ) (grants : List GrantOf) → IsKept m → AreItsGrants m t grants → IsKept (after_give_up m t grants)
+pub keep_give_up : (m : Managed) (t : ℕ) (grants : List GrantOf) → IsKept m → AreItsGrants m t grants →
+    IsKept (after_give_up m t grants)
 keep_give_up m t grants k its =
     let back = map (as_committed m) (locks_of grants) in
     keep_left m t its.session back m.values (leaving t m.waiters) m.history k
@@ -336,7 +353,8 @@ keep_give_up m t grants k its =
     })
     k.legal k.values
   where
-    only_held : (g : GrantOf) → (lock : Lock) × Contains (locks_of grants) lock × (as_committed m lock ≡ g) → Contains its.session.held g.lock
+    only_held : (g : GrantOf) → (lock : Lock) × Contains (locks_of grants) lock × (as_committed m lock ≡ g) →
+        Contains its.session.held g.lock
     only_held g r =
         let x = unmapped (λ (y : GrantOf). y.lock) grants r.0 r.1 in
         subst (Contains its.session.held) (x.2 ∙ ap (λ (y : GrantOf). y.lock) r.2) (all_contained (λ (y : GrantOf). Contains its.session.held y.lock) grants x.0 its.own.only x.1)

@@ -1,11 +1,13 @@
 -- Lists that a loop goes along.
-use Rattle.std.proofs.Common.{◌≡◌, ◌≢◌, ℕ, zero, suc, ◌+◌, ◌<◌, ◌≤◌, Bool, true, false, List, [], ◌∷◌, ◌++◌, length, take, get_or, map, set, Some, refl, sym, ap, ◌∙◌, subst, arith, IsTrue, inl, inr}
+use Rattle.std.proofs.Common.{◌≡◌, ◌≢◌, ℕ, zero, suc, ◌+◌, ◌<◌, ◌≤◌, Bool, true, false, List, [], ◌∷◌, ◌++◌, length}
+use Rattle.std.proofs.Common.{take, get_or, map, set, Some, refl, sym, ap, ◌∙◌, subst, arith, IsTrue, inl, inr}
 use Rattle.std.specs.Prelude.{slice_get}
 use Rattle.std.specs.List.{All, Contains}
 use Rattle.std.proofs.lemmas.List.{take_all, take_more, map_push}
 use Rattle.std.proofs.lemmas.List.Elements.{All-more, Contains-append_left, Contains-push}
 use Rattle.std.proofs.lemmas.Option.{slice_get_within, slice_get-get_or, get_or_from_slice_get}
-use Rattle.core_lang.specs.Theory.Items.{at_contained, contains_at, map_at, map_back, some_same, all_contained, all_from, push_cases, read_at, both_false}
+use Rattle.core_lang.specs.Theory.Items.{at_contained, contains_at, map_at, map_back, some_same, all_contained}
+use Rattle.core_lang.specs.Theory.Items.{all_from, push_cases, read_at, both_false}
 
 -- ---- tests of all
 
@@ -20,20 +22,24 @@ pub all_whole : {X : Type 0} (P : X → Type 0) (xs : List X) (i : ℕ) → All 
     (IsTrue true → All P xs) × (All P xs → IsTrue true)
 all_whole P xs i all le = (λ e. subst (All P) (take_all i xs le) all, λ a. refl)
 
-pub item_fails : {X : Type 0} (P : X → Type 0) (xs : List X) (i : ℕ) (x : X) → i < length xs → x ≡ get_or xs i x → (P x → ⊥) →
+pub item_fails : {X : Type 0} (P : X → Type 0) (xs : List X) (i : ℕ) (x : X) → i < length xs → x ≡ get_or xs i x →
+    (P x → ⊥) →
     (IsTrue false → All P xs) × (All P xs → IsTrue false)
 item_fails P xs i x lt is fails = all_fails P xs i x lt (λ p. fails (subst P (sym is) p))
 
-pub item_more : {X : Type 0} (P : X → Type 0) (xs : List X) (i : ℕ) (x : X) → i < length xs → x ≡ get_or xs i x → All P (take i xs) → P x →
+pub item_more : {X : Type 0} (P : X → Type 0) (xs : List X) (i : ℕ) (x : X) → i < length xs → x ≡ get_or xs i x →
+    All P (take i xs) → P x →
     All P (take (i + 1) xs)
 item_more P xs i x lt is all p = All-more P xs i x lt all (subst P is p)
 
-pub item_at : {X : Type 0} (P : X → Type 0) (xs : List X) (i : ℕ) (x : X) → i < length xs → x ≡ get_or xs i x → All P xs → P x
+pub item_at : {X : Type 0} (P : X → Type 0) (xs : List X) (i : ℕ) (x : X) → i < length xs → x ≡ get_or xs i x →
+    All P xs → P x
 item_at P xs i x lt is all = subst P (sym is) (all i x lt)
 
 -- ---- what stands where
 
-pub one_more_taken : {X : Type 0} (xs : List X) (k : ℕ) (x : X) (ys more : List X) → slice_get xs k ≡ Some x → ys ≡ take k xs → more ≡ ys ++ x ∷ [] → more ≡ take (k + 1) xs
+pub one_more_taken : {X : Type 0} (xs : List X) (k : ℕ) (x : X) (ys more : List X) → slice_get xs k ≡ Some x →
+    ys ≡ take k xs → more ≡ ys ++ x ∷ [] → more ≡ take (k + 1) xs
 one_more_taken xs k x ys more at so_far next =
     next ∙ ap (λ zs. zs ++ x ∷ []) so_far ∙ ap (λ y. take k xs ++ y ∷ []) (sym (get_or_from_slice_get xs k x x at)) ∙ sym (take_more xs k x (slice_get_within xs k x at))
 
@@ -58,7 +64,8 @@ first y ys x e = (0, omega arith, e)
 pub mapped : {A B : Type 0} (f : A → B) (xs : List A) (x : A) → Contains xs x → Contains (map f xs) (f x)
 mapped f xs x c = let at = at_contained xs x c in contains_at (map f xs) at.0 (f x) (map_at f xs at.0 x at.1)
 
-pub unmapped : {A B : Type 0} (f : A → B) (xs : List A) (y : B) → Contains (map f xs) y → (x : A) × Contains xs x × (f x ≡ y)
+pub unmapped : {A B : Type 0} (f : A → B) (xs : List A) (y : B) → Contains (map f xs) y →
+    (x : A) × Contains xs x × (f x ≡ y)
 unmapped f xs y c =
     let at = at_contained (map f xs) y c in
     let r = map_back f xs at.0 y at.1 in
@@ -69,20 +76,25 @@ one_place xs i x y a b = some_same x y (sym a ∙ b)
 
 -- ---- a search
 
-pub is_among : {X : Type 0} (xs : List X) (i : ℕ) (x d : X) → i < length xs → get_or xs i d ≡ x → (IsTrue true → Contains xs x) × (Contains xs x → IsTrue true)
+pub is_among : {X : Type 0} (xs : List X) (i : ℕ) (x d : X) → i < length xs → get_or xs i d ≡ x →
+    (IsTrue true → Contains xs x) × (Contains xs x → IsTrue true)
 is_among xs i x d lt e = (λ t. contains_at xs i x (slice_get-get_or xs i d lt ∙ ap Some e), λ c. refl)
 
-pub not_among_more : {X : Type 0} (xs : List X) (i : ℕ) (x d : X) → i < length xs → (Contains (take i xs) x → ⊥) → get_or xs i d ≢ x → Contains (take (i + 1) xs) x → ⊥
+pub not_among_more : {X : Type 0} (xs : List X) (i : ℕ) (x d : X) → i < length xs → (Contains (take i xs) x → ⊥) →
+    get_or xs i d ≢ x → Contains (take (i + 1) xs) x → ⊥
 not_among_more xs i x d lt none ne c = elim (push_cases (take i xs) (get_or xs i d) x (subst (λ ys. Contains ys x) (take_more xs i d lt) c)) [ inl h ↦ none h | inr e ↦ ne e ]
 
-pub not_among : {X : Type 0} (xs : List X) (i : ℕ) (x : X) → (Contains (take i xs) x → ⊥) → length xs ≤ i → (IsTrue false → Contains xs x) × (Contains xs x → IsTrue false)
+pub not_among : {X : Type 0} (xs : List X) (i : ℕ) (x : X) → (Contains (take i xs) x → ⊥) → length xs ≤ i →
+    (IsTrue false → Contains xs x) × (Contains xs x → IsTrue false)
 not_among xs i x none le = both_false (λ c. none (subst (λ ys. Contains ys x) (sym (take_all i xs le)) c))
 
-pub is_mapped : {X Y : Type 0} (f : X → Y) (xs : List X) (i : ℕ) (x : X) (y : Y) → i < length xs → x ≡ get_or xs i x → f x ≡ y →
+pub is_mapped : {X Y : Type 0} (f : X → Y) (xs : List X) (i : ℕ) (x : X) (y : Y) → i < length xs → x ≡ get_or xs i x →
+    f x ≡ y →
     (IsTrue true → Contains (map f xs) y) × (Contains (map f xs) y → IsTrue true)
 is_mapped f xs i x y lt is e = (λ t. contains_at (map f xs) i y (map_at f xs i x (read_at xs i x lt is) ∙ ap Some e), λ c. refl)
 
-pub not_mapped_more : {X Y : Type 0} (f : X → Y) (xs : List X) (i : ℕ) (x : X) (y : Y) → i < length xs → x ≡ get_or xs i x → (Contains (map f (take i xs)) y → ⊥) → f x ≢ y →
+pub not_mapped_more : {X Y : Type 0} (f : X → Y) (xs : List X) (i : ℕ) (x : X) (y : Y) → i < length xs →
+    x ≡ get_or xs i x → (Contains (map f (take i xs)) y → ⊥) → f x ≢ y →
     Contains (map f (take (i + 1) xs)) y → ⊥
 not_mapped_more f xs i x y lt is none ne c =
     elim (push_cases (map f (take i xs)) (f (get_or xs i x)) y (subst (λ ys. Contains ys y) (ap (map f) (take_more xs i x lt) ∙ map_push f (take i xs) (get_or xs i x)) c)) [
@@ -90,7 +102,8 @@ not_mapped_more f xs i x y lt is none ne c =
       | inr e ↦ ne (ap f is ∙ e)
     ]
 
-pub not_mapped : {X Y : Type 0} (f : X → Y) (xs : List X) (i : ℕ) (y : Y) → (Contains (map f (take i xs)) y → ⊥) → length xs ≤ i →
+pub not_mapped : {X Y : Type 0} (f : X → Y) (xs : List X) (i : ℕ) (y : Y) → (Contains (map f (take i xs)) y → ⊥) →
+    length xs ≤ i →
     (IsTrue false → Contains (map f xs) y) × (Contains (map f xs) y → IsTrue false)
 not_mapped f xs i y none le = both_false (λ c. none (subst (λ ys. Contains (map f ys) y) (sym (take_all i xs le)) c))
 

@@ -1,5 +1,6 @@
 -- The cells of each lock, by the lock's number.
-use Rattle.std.proofs.Common.{◌≡◌, ◌≢◌, ℕ, zero, suc, ◌+◌, ◌<◌, ◌≤◌, List, [], ◌∷◌, ◌++◌, length, take, get_or, map, set, replicate, Some, Vec, Global, refl, sym, ap, ◌∙◌, subst, arith}
+use Rattle.std.proofs.Common.{◌≡◌, ◌≢◌, ℕ, zero, suc, ◌+◌, ◌<◌, ◌≤◌, List, [], ◌∷◌, ◌++◌, length, take, get_or, map}
+use Rattle.std.proofs.Common.{set, replicate, Some, Vec, Global, refl, sym, ap, ◌∙◌, subst, arith}
 use Rattle.std.specs.Prelude.{slice_get}
 use Rattle.std.specs.List.{All, Contains}
 use Rattle.std.proofs.lemmas.List.{length-map, take_more, take_all}
@@ -17,24 +18,28 @@ module _ (layout : LayoutOf) (vectors : List (Vec ℕ Global)) (are : rows vecto
   pub rows_count : length vectors ≡ length layout.locks
   rows_count = sym (length-map vectors (λ (v : Vec ℕ Global). v.items)) ∙ ap length are ∙ length-map layout.locks (λ (l : Lock). cells_of layout.cell_locks l)
 
-  pub row_is : (n : ℕ) (lock : Lock) (row : Vec ℕ Global) → slice_get layout.locks n ≡ Some lock → slice_get vectors n ≡ Some row → row.items ≡ cells_of layout.cell_locks lock
+  pub row_is : (n : ℕ) (lock : Lock) (row : Vec ℕ Global) → slice_get layout.locks n ≡ Some lock →
+      slice_get vectors n ≡ Some row → row.items ≡ cells_of layout.cell_locks lock
   row_is n lock row at there =
       some_same row.items (cells_of layout.cell_locks lock)
       (sym (map_at (λ (v : Vec ℕ Global). v.items) vectors n row there) ∙ ap (λ rs. slice_get rs n) are ∙ map_at (λ (l : Lock). cells_of layout.cell_locks l) layout.locks n lock at)
 
 -- each cell of a lock is a cell
-pub cells_within : (cell_locks : List Lock) (lock : Lock) → All (λ (cell : ℕ). cell < length cell_locks) (cells_of cell_locks lock)
+pub cells_within : (cell_locks : List Lock) (lock : Lock) →
+    All (λ (cell : ℕ). cell < length cell_locks) (cells_of cell_locks lock)
 cells_within cell_locks lock k d lt =
     let r = cell_is_of 0 cell_locks lock (get_or (cells_of cell_locks lock) k d) (contains_at (cells_of cell_locks lock) k (get_or (cells_of cell_locks lock) k d) (slice_get-get_or (cells_of cell_locks lock) k d lt)) in
     omega (arith, r.1, slice_get_within cell_locks r.0 lock r.2)
 
-pub within_same : (cells : List ℕ) (n m : ℕ) → n ≡ m → All (λ (cell : ℕ). cell < n) cells → All (λ (cell : ℕ). cell < m) cells
+pub within_same : (cells : List ℕ) (n m : ℕ) → n ≡ m → All (λ (cell : ℕ). cell < n) cells →
+    All (λ (cell : ℕ). cell < m) cells
 within_same cells n m e all k d lt = omega (arith, e, all k d lt)
 
 pub rows_long : (vectors : List (Vec ℕ Global)) → length (rows vectors) ≡ length vectors
 rows_long vectors = length-map vectors (λ (v : Vec ℕ Global). v.items)
 
-pub row_within : (layout : LayoutOf) (vectors : List (Vec ℕ Global)) → rows vectors ≡ members_of layout → (k : ℕ) (row : Vec ℕ Global) (n : ℕ) → length layout.cell_locks ≡ n →
+pub row_within : (layout : LayoutOf) (vectors : List (Vec ℕ Global)) → rows vectors ≡ members_of layout →
+    (k : ℕ) (row : Vec ℕ Global) (n : ℕ) → length layout.cell_locks ≡ n →
     slice_get vectors k ≡ Some row → All (λ (cell : ℕ). cell < n) row.items
 row_within layout vectors are k row n count at =
     let r = map_back (λ (l : Lock). cells_of layout.cell_locks l) layout.locks k row.items
@@ -47,7 +52,8 @@ pub none_yet : (locks : List Lock) → map (λ (l : Lock). cells_of [] l) locks 
 none_yet [] = refl
 none_yet (l ∷ ls) = ap (λ (rs : List (List ℕ)). [] ∷ rs) (none_yet ls)
 
-others : (cell_locks locks : List Lock) (l : Lock) → ((k : ℕ) (other : Lock) → slice_get locks k ≡ Some other → l ≢ other) →
+others : (cell_locks locks : List Lock) (l : Lock) →
+    ((k : ℕ) (other : Lock) → slice_get locks k ≡ Some other → l ≢ other) →
     map (λ (x : Lock). cells_of cell_locks x) locks ≡ map (λ (x : Lock). cells_of (cell_locks ++ l ∷ []) x) locks
 others cell_locks [] l ne = refl
 others cell_locks (x ∷ xs) l ne =
@@ -67,7 +73,8 @@ one_more cell_locks (x ∷ xs) l (suc n) d at =
     ap (λ (c : List ℕ). c ∷ set (map (λ (y : Lock). cells_of cell_locks y) xs) n (cells_of cell_locks l ++ length cell_locks ∷ [])) (sym (other_cell cell_locks l x ne))
     ∙ ap (λ (rs : List (List ℕ)). cells_of (cell_locks ++ l ∷ []) x ∷ rs) (one_more cell_locks xs l n (distinct_rest x xs d) at)
 
-map_set : (vectors : List (Vec ℕ Global)) (n : ℕ) (v : Vec ℕ Global) → rows (set vectors n v) ≡ set (rows vectors) n v.items
+map_set : (vectors : List (Vec ℕ Global)) (n : ℕ) (v : Vec ℕ Global) →
+    rows (set vectors n v) ≡ set (rows vectors) n v.items
 map_set [] n v = refl
 map_set (x ∷ xs) zero v = refl
 map_set (x ∷ xs) (suc n) v = ap (λ (rs : List (List ℕ)). x.items ∷ rs) (map_set xs n v)
@@ -97,15 +104,18 @@ cell_added locks cell_locks vectors old more cell n lock d are at numbered there
     ∙ one_more (take cell cell_locks) locks lock n d numbered
     ∙ ap (λ (ls : List Lock). map (λ (x : Lock). cells_of ls x) locks) (sym longer)
 
-pub all_cells : (locks cell_locks : List Lock) (n : ℕ) → length cell_locks ≤ n → map (λ (x : Lock). cells_of (take n cell_locks) x) locks ≡ map (λ (x : Lock). cells_of cell_locks x) locks
+pub all_cells : (locks cell_locks : List Lock) (n : ℕ) → length cell_locks ≤ n →
+    map (λ (x : Lock). cells_of (take n cell_locks) x) locks ≡ map (λ (x : Lock). cells_of cell_locks x) locks
 all_cells locks cell_locks n le = ap (λ (ls : List Lock). map (λ (x : Lock). cells_of ls x) locks) (take_all n cell_locks le)
 
-pub as_many : (vectors : List (Vec ℕ Global)) (cell_locks locks : List Lock) → rows vectors ≡ map (λ (x : Lock). cells_of cell_locks x) locks → length vectors ≡ length locks
+pub as_many : (vectors : List (Vec ℕ Global)) (cell_locks locks : List Lock) →
+    rows vectors ≡ map (λ (x : Lock). cells_of cell_locks x) locks → length vectors ≡ length locks
 as_many vectors cell_locks locks are =
     sym (length-map vectors (λ (v : Vec ℕ Global). v.items)) ∙ ap length are ∙ length-map locks (λ (x : Lock). cells_of cell_locks x)
 
 -- a cell is among those of its lock
-pub cell_among : (cell_locks : List Lock) (lock : Lock) (cell : ℕ) → slice_get cell_locks cell ≡ Some lock → Contains (cells_of cell_locks lock) cell
+pub cell_among : (cell_locks : List Lock) (lock : Lock) (cell : ℕ) → slice_get cell_locks cell ≡ Some lock →
+    Contains (cells_of cell_locks lock) cell
 cell_among cell_locks lock cell at =
     let sum : 0 + cell ≡ cell = omega arith in
     subst (Contains (cells_of cell_locks lock)) sum (cell_is_among 0 cell_locks lock cell at)

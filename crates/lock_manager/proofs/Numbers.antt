@@ -1,5 +1,6 @@
 -- Locks by number, and the cells of locks.
-use Rattle.std.proofs.Common.{◌≡◌, ◌≢◌, ℕ, zero, suc, ◌+◌, ◌<◌, Bool, true, false, if◌then◌else◌, List, [], ◌∷◌, ◌++◌, length, get_or, Some, ◌⊎◌, inl, inr, refl, sym, ap, ◌∙◌, subst, arith}
+use Rattle.std.proofs.Common.{◌≡◌, ◌≢◌, ℕ, zero, suc, ◌+◌, ◌<◌, Bool, true, false, if◌then◌else◌, List, [], ◌∷◌, ◌++◌}
+use Rattle.std.proofs.Common.{length, get_or, Some, ◌⊎◌, inl, inr, refl, sym, ap, ◌∙◌, subst, arith}
 use Rattle.std.specs.Prelude.{slice_get}
 use Rattle.std.specs.List.{Contains}
 use Rattle.std.proofs.lemmas.Option.{none-some}
@@ -46,7 +47,8 @@ distinct_push ls l d new i j lock a b = elim (push_at ls l i lock a) [
   ]
 ]
 
-pub number_found : (k : ℕ) (locks : List Lock) (lock : Lock) (i : ℕ) → AreDistinct locks → slice_get locks i ≡ Some lock → number_from k locks lock ≡ Some (k + i)
+pub number_found : (k : ℕ) (locks : List Lock) (lock : Lock) (i : ℕ) → AreDistinct locks →
+    slice_get locks i ≡ Some lock → number_from k locks lock ≡ Some (k + i)
 number_found k [] lock i d e = absurd (none-some lock e)
 number_found k (l ∷ ls) lock i d e = elim (lock_cases l lock) [
   | inl same ↦ (
@@ -58,7 +60,8 @@ number_found k (l ∷ ls) lock i d e = elim (lock_cases l lock) [
       ∙ later_number k l ls lock i e other.1 (λ j at. number_found (k + 1) ls lock j (distinct_rest l ls d) at)
 ]
 
-pub number_at : (k : ℕ) (locks : List Lock) (lock : Lock) (n : ℕ) → number_from k locks lock ≡ Some n → (i : ℕ) × (n ≡ k + i) × (slice_get locks i ≡ Some lock)
+pub number_at : (k : ℕ) (locks : List Lock) (lock : Lock) (n : ℕ) → number_from k locks lock ≡ Some n →
+    (i : ℕ) × (n ≡ k + i) × (slice_get locks i ≡ Some lock)
 number_at k [] lock n e = absurd (none-some n e)
 number_at k (l ∷ ls) lock n e = elim (lock_cases l lock) [
   | inl same ↦ (
@@ -101,13 +104,15 @@ other_cell ls l lock ne = elim (lock_cases l lock) [
   | inr other ↦ cells_push_from 0 ls l lock ∙ ap (λ (b : Bool). cells_of ls lock ++ (if b then (0 + length ls) ∷ [] else [])) other.0 ∙ append_none (cells_of ls lock)
 ]
 
-first_or_later : (k : ℕ) (l : Lock) (ls : List Lock) (lock : Lock) (cell j : ℕ) (xs : List ℕ) → j < length (k ∷ xs) → get_or (k ∷ xs) j cell ≡ cell → l ≡ lock →
+first_or_later : (k : ℕ) (l : Lock) (ls : List Lock) (lock : Lock) (cell j : ℕ) (xs : List ℕ) → j < length (k ∷ xs) →
+    get_or (k ∷ xs) j cell ≡ cell → l ≡ lock →
     (Contains xs cell → (i : ℕ) × (cell ≡ (k + 1) + i) × (slice_get ls i ≡ Some lock)) → (i : ℕ) × (cell ≡ k + i) × (slice_get (l ∷ ls) i ≡ Some lock)
 first_or_later k l ls lock cell zero xs lt e same go = (0, omega (arith, e), ap Some same)
 first_or_later k l ls lock cell (suc j) xs lt e same go = let r = go (j, omega (arith, lt), e) in (suc r.0, omega (arith, r.1), r.2)
 
 -- a cell of the lock is among the lock's cells, and each of these has the lock
-pub cell_is_of : (k : ℕ) (ls : List Lock) (lock : Lock) (cell : ℕ) → Contains (cells_from k ls lock) cell → (i : ℕ) × (cell ≡ k + i) × (slice_get ls i ≡ Some lock)
+pub cell_is_of : (k : ℕ) (ls : List Lock) (lock : Lock) (cell : ℕ) → Contains (cells_from k ls lock) cell →
+    (i : ℕ) × (cell ≡ k + i) × (slice_get ls i ≡ Some lock)
 cell_is_of k [] lock cell c = absurd (omega (arith, c.1))
 cell_is_of k (l ∷ ls) lock cell c = elim (lock_cases l lock) [
   | inl same ↦ (
@@ -122,7 +127,8 @@ contains_front : (b : Bool) (k cell : ℕ) (xs : List ℕ) → Contains xs cell 
 contains_front true k cell xs c = (suc c.0, omega (arith, c.1), c.2)
 contains_front false k cell xs c = c
 
-pub cell_is_among : (k : ℕ) (ls : List Lock) (lock : Lock) (i : ℕ) → slice_get ls i ≡ Some lock → Contains (cells_from k ls lock) (k + i)
+pub cell_is_among : (k : ℕ) (ls : List Lock) (lock : Lock) (i : ℕ) → slice_get ls i ≡ Some lock →
+    Contains (cells_from k ls lock) (k + i)
 cell_is_among k [] lock i e = absurd (none-some lock e)
 cell_is_among k (l ∷ ls) lock zero e =
     let same : l ≡ lock = cc in

@@ -1,5 +1,6 @@
 -- Who waits, with some gone and some come.
-use Rattle.std.proofs.Common.{◌≡◌, ◌≢◌, ℕ, zero, suc, ◌+◌, ◌<◌, ◌≤◌, List, [], ◌∷◌, ◌++◌, length, take, drop, get_or, inl, inr, refl, sym, ap, ◌∙◌, subst, arith, true, false, Some, None, append_assoc, Bool}
+use Rattle.std.proofs.Common.{◌≡◌, ◌≢◌, ℕ, zero, suc, ◌+◌, ◌<◌, ◌≤◌, List, [], ◌∷◌, ◌++◌, length, take, drop, get_or}
+use Rattle.std.proofs.Common.{inl, inr, refl, sym, ap, ◌∙◌, subst, arith, true, false, Some, None, append_assoc, Bool}
 use Rattle.std.specs.Prelude.{nat_eq, if◌then◌else◌, slice_get}
 use Rattle.std.specs.List.{All, Contains}
 use Rattle.std.proofs.lemmas.Bool.Decides.{eqb_tells}
@@ -19,12 +20,14 @@ goes t w ws e = elim (eqb_tells w.thread t) [ inl h ↦ ap (λ b. if b then leav
 stays : (t : ℕ) (w : Waiter) (ws : List Waiter) → w.thread ≢ t → leaving t (w ∷ ws) ≡ w ∷ leaving t ws
 stays t w ws ne = elim (eqb_tells w.thread t) [ inl h ↦ absurd (ne h.1) | inr h ↦ ap (λ b. if b then leaving t ws else w ∷ leaving t ws) h.0 ]
 
-leaving-removed_suc : (t : ℕ) (ws : List Waiter) (i : ℕ) (d : Waiter) → i < length ws → (get_or ws i d).thread ≡ t → leaving t (take i ws ++ drop (suc i) ws) ≡ leaving t ws
+leaving-removed_suc : (t : ℕ) (ws : List Waiter) (i : ℕ) (d : Waiter) → i < length ws → (get_or ws i d).thread ≡ t →
+    leaving t (take i ws ++ drop (suc i) ws) ≡ leaving t ws
 leaving-removed_suc t [] i d lt e = absurd (omega (arith, lt))
 leaving-removed_suc t (w ∷ ws) zero d lt e = sym (goes t w ws e)
 leaving-removed_suc t (w ∷ ws) (suc i) d lt e = ap (λ xs. if nat_eq w.thread t then xs else w ∷ xs) (leaving-removed_suc t ws i d (omega (arith, lt)) e)
 
-pub leaving-removed : (t : ℕ) (ws : List Waiter) (i : ℕ) (d : Waiter) → i < length ws → (get_or ws i d).thread ≡ t → leaving t (take i ws ++ drop (i + 1) ws) ≡ leaving t ws
+pub leaving-removed : (t : ℕ) (ws : List Waiter) (i : ℕ) (d : Waiter) → i < length ws → (get_or ws i d).thread ≡ t →
+    leaving t (take i ws ++ drop (i + 1) ws) ≡ leaving t ws
 leaving-removed t ws i d lt e =
     let sum : suc i ≡ i + 1 = omega arith in
     subst (λ (n : ℕ). leaving t (take i ws ++ drop n ws) ≡ leaving t ws) sum (leaving-removed_suc t ws i d lt e)
@@ -70,7 +73,8 @@ no_longer t (x ∷ ws) = elim (eqb_tells x.thread t) [
   | inr h ↦ omega (arith, ap length (stays t x ws h.1), no_longer t ws)
 ]
 
-pub one_less : (t : ℕ) (ws : List Waiter) (w : Waiter) → Contains ws w → w.thread ≡ t → length (leaving t ws) + 1 ≤ length ws
+pub one_less : (t : ℕ) (ws : List Waiter) (w : Waiter) → Contains ws w → w.thread ≡ t →
+    length (leaving t ws) + 1 ≤ length ws
 one_less t [] w c e = absurd (omega (arith, c.1))
 one_less t (x ∷ ws) w c e = elim (eqb_tells x.thread t) [
   | inl h ↦ omega (arith, ap length (goes t x ws h.1), no_longer t ws)
@@ -94,14 +98,16 @@ module _ (ws : List Waiter) (ls : List Lock) (i : ℕ) (d : Lock) (wake : List �
   next_lock : first_waiters ws ls ≡ wake ++ first_and (waiting_in ws (get_or ls i d)) (first_waiters ws (drop (i + 1) ls))
   next_lock = so_far ∙ ap (λ xs. wake ++ first_waiters ws xs) (drop_more ls i d lt)
 
-  pub one_woken : (now : List ℕ) (t : ℕ) → Some t ≡ slice_get (waiting_in ws (get_or ls i d)) 0 → now ≡ wake ++ t ∷ [] → first_waiters ws ls ≡ now ++ first_waiters ws (drop (i + 1) ls)
+  pub one_woken : (now : List ℕ) (t : ℕ) → Some t ≡ slice_get (waiting_in ws (get_or ls i d)) 0 →
+      now ≡ wake ++ t ∷ [] → first_waiters ws ls ≡ now ++ first_waiters ws (drop (i + 1) ls)
   one_woken now t e is =
       next_lock
       ∙ ap (λ (xs : List ℕ). wake ++ xs) (first_there (waiting_in ws (get_or ls i d)) (first_waiters ws (drop (i + 1) ls)) t e)
       ∙ sym (append_assoc wake (t ∷ []) (first_waiters ws (drop (i + 1) ls)))
       ∙ ap (λ (xs : List ℕ). xs ++ first_waiters ws (drop (i + 1) ls)) (sym is)
 
-  pub none_woken : (now : List ℕ) → None ≡ slice_get (waiting_in ws (get_or ls i d)) 0 → now ≡ wake → first_waiters ws ls ≡ now ++ first_waiters ws (drop (i + 1) ls)
+  pub none_woken : (now : List ℕ) → None ≡ slice_get (waiting_in ws (get_or ls i d)) 0 → now ≡ wake →
+      first_waiters ws ls ≡ now ++ first_waiters ws (drop (i + 1) ls)
   none_woken now e is =
       next_lock
       ∙ ap (λ (xs : List ℕ). wake ++ xs) (none_first (waiting_in ws (get_or ls i d)) (first_waiters ws (drop (i + 1) ls)) e)
@@ -112,7 +118,8 @@ one_longer true n m e = omega (arith, e)
 one_longer false n m e = omega (arith, e)
 
 -- the waiter that is looked for
-pub nth_found : (items queue : List Waiter) (i left n : ℕ) (d : Waiter) (lock : Lock) → items ≡ queue → i < length items → same_lock (get_or items i d).lock lock ≡ true → left ≡ 0 →
+pub nth_found : (items queue : List Waiter) (i left n : ℕ) (d : Waiter) (lock : Lock) → items ≡ queue →
+    i < length items → same_lock (get_or items i d).lock lock ≡ true → left ≡ 0 →
     slice_get (waiting_in queue lock) n ≡ slice_get (waiting_in (drop i queue) lock) left → Some (get_or items i d).thread ≡ slice_get (waiting_in queue lock) n
 nth_found items queue i left n d lock same lt its first so_far =
     let w = get_or items i d in

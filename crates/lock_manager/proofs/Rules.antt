@@ -1,5 +1,6 @@
 -- What follows from the manager's rules.
-use Rattle.std.proofs.Common.{◌≡◌, ◌≢◌, ℕ, zero, suc, ◌<◌, List, [], length, map, replicate, Option, Some, None, refl, sym, ap, ◌∙◌, subst, arith}
+use Rattle.std.proofs.Common.{◌≡◌, ◌≢◌, ℕ, zero, suc, ◌<◌, List, [], length, map, replicate, Option, Some, None, refl}
+use Rattle.std.proofs.Common.{sym, ap, ◌∙◌, subst, arith}
 use Rattle.std.specs.Prelude.{slice_get}
 use Rattle.std.specs.List.{All, Contains}
 use Rattle.std.proofs.lemmas.List.{length-map, length-replicate}
@@ -21,7 +22,9 @@ use Rattle.lock_manager.specs.declared.places.LockPlace.TheVariants.{Free, Taken
 use Rattle.lock_manager.specs.declared.queue.Waiter.{Waiter}
 use Rattle.lock_manager.specs.Working.Committed.{CommittedOf, at_opening, lock_values}
 use Rattle.lock_manager.specs.Working.Sessions.{SessionOf, TicketOf}
-use Rattle.lock_manager.specs.Working.Managers.{Managed, managed, IsKept, IsLayout, Holds, place_of, session_of, session_in, holder_of, taker, cell_of, value_in, number_from, ComesAfter, asker_of, askers_of, opened, threads}
+use Rattle.lock_manager.specs.Working.Managers.{Managed, managed, IsKept, IsLayout, Holds, place_of, session_of}
+use Rattle.lock_manager.specs.Working.Managers.{session_in, holder_of, taker, cell_of, value_in, number_from}
+use Rattle.lock_manager.specs.Working.Managers.{ComesAfter, asker_of, askers_of, opened, threads}
 use Rattle.lock_manager.specs.Working.Calls.{AreOf, IsOwnWrite, Knows}
 use Rattle.lock_manager.specs.Working.Ties.{sum_over, one_if_open, cells_if_open}
 use Rattle.lock_manager.proofs.Numbers.{number_at}
@@ -34,11 +37,13 @@ use Rattle.core_lang.specs.Theory.Items.{all_contained, all_from, map_at, map_ba
 
 -- ---- locks
 
-pub listed_held : (m : Managed) (t : ℕ) (s : SessionOf) → IsKept m → session_of m t ≡ Some s → All (Contains m.layout.locks) s.held
+pub listed_held : (m : Managed) (t : ℕ) (s : SessionOf) → IsKept m → session_of m t ≡ Some s →
+    All (Contains m.layout.locks) s.held
 listed_held m t s k known =
     all_from (Contains m.layout.locks) s.held (λ lock c. place_listed m.layout.locks m.places lock (Taken t) (k.held lock t (record { session = s; is = known; held = c })))
 
-pub listed_grants : (m : Managed) (held : List Lock) (grants : List GrantOf) → All (Contains m.layout.locks) held → AreOf m.layout.cell_locks held grants →
+pub listed_grants : (m : Managed) (held : List Lock) (grants : List GrantOf) → All (Contains m.layout.locks) held →
+    AreOf m.layout.cell_locks held grants →
     All (λ (g : GrantOf). Contains m.layout.locks g.lock) grants
 listed_grants m held grants listed own =
     all_from (λ (g : GrantOf). Contains m.layout.locks g.lock) grants (λ g c.
@@ -47,7 +52,8 @@ listed_grants m held grants listed own =
 pub thread_within : (m : Managed) (t : ℕ) (s : SessionOf) → IsKept m → session_of m t ≡ Some s → t < threads
 thread_within m t s k known = omega (arith, slot_within m.slots t s known, k.thread_count)
 
-pub place_within : (m : Managed) (n : ℕ) (lock : Lock) → IsKept m → slice_get m.layout.locks n ≡ Some lock → n < length m.places
+pub place_within : (m : Managed) (n : ℕ) (lock : Lock) → IsKept m → slice_get m.layout.locks n ≡ Some lock →
+    n < length m.places
 place_within m n lock k at = omega (arith, slice_get_within m.layout.locks n lock at, k.lock_count)
 
 -- ---- cells
@@ -55,12 +61,14 @@ place_within m n lock k at = omega (arith, slice_get_within m.layout.locks n loc
 pub as_many_values : (m : Managed) → IsKept m → CommittedKeepsSize → length m.values ≡ length m.layout.cell_locks
 as_many_values m k size = ap length k.values ∙ size m.layout.opening m.history ∙ k.cell_count
 
-pub writes_within : (m : Managed) (held : List Lock) (ws : List (ℕ × Value)) → IsKept m → CommittedKeepsSize → All (IsOwnWrite m.layout.cell_locks held) ws →
+pub writes_within : (m : Managed) (held : List Lock) (ws : List (ℕ × Value)) → IsKept m → CommittedKeepsSize →
+    All (IsOwnWrite m.layout.cell_locks held) ws →
     All (λ (w : ℕ × Value). w.0 < length m.values) ws
 writes_within m held ws k size all j d lt =
     let o = all j d lt in omega (arith, slice_get_within m.layout.cell_locks _ o.lock o.lock_is, as_many_values m k size)
 
-pub free_cell : (m : Managed) (cell : ℕ) (lock : Lock) (n : ℕ) (values : List Value) (v : Value) → IsKept m → CommittedKeepsSize → slice_get m.layout.cell_locks cell ≡ Some lock →
+pub free_cell : (m : Managed) (cell : ℕ) (lock : Lock) (n : ℕ) (values : List Value) (v : Value) → IsKept m →
+    CommittedKeepsSize → slice_get m.layout.cell_locks cell ≡ Some lock →
     number_from 0 m.layout.locks lock ≡ Some n → slice_get m.places n ≡ Some (Free values) → slice_get m.values cell ≡ Some v → Some v ≡ cell_of m cell
 free_cell m cell lock n values v k size at found here is =
     let cells = cells_of m.layout.cell_locks lock in
@@ -72,7 +80,8 @@ free_cell m cell lock n values v k size at found here is =
     ∙ value_among m.values cells cell within (cell_among m.layout.cell_locks lock cell at)
     ∙ is)
 
-pub taken_cell : (m : Managed) (cell : ℕ) (lock : Lock) (n t : ℕ) → slice_get m.layout.cell_locks cell ≡ Some lock → number_from 0 m.layout.locks lock ≡ Some n →
+pub taken_cell : (m : Managed) (cell : ℕ) (lock : Lock) (n t : ℕ) → slice_get m.layout.cell_locks cell ≡ Some lock →
+    number_from 0 m.layout.locks lock ≡ Some n →
     slice_get m.places n ≡ Some (Taken t) → None ≡ cell_of m cell
 taken_cell m cell lock n t at found here =
     sym (ap (λ o. lookup o (λ l. value_in m.layout.cell_locks l (place_of m l) cell)) at
@@ -83,7 +92,8 @@ taken_cell m cell lock n t at found here =
 pub held_by : (m : Managed) (lock : Lock) (t : ℕ) → IsKept m → Holds m.slots t lock → Some t ≡ holder_of m lock
 held_by m lock t k h = sym (ap taker (k.held lock t h))
 
-pub held_by_none : (m : Managed) (lock : Lock) → IsKept m → ((t : ℕ) → Holds m.slots t lock → ⊥) → None ≡ holder_of m lock
+pub held_by_none : (m : Managed) (lock : Lock) → IsKept m → ((t : ℕ) → Holds m.slots t lock → ⊥) →
+    None ≡ holder_of m lock
 held_by_none m lock k none = by_place (place_of m lock) refl
   where
     by_place : (o : Option LockPlace) → place_of m lock ≡ o → None ≡ taker o
@@ -93,7 +103,8 @@ held_by_none m lock k none = by_place (place_of m lock) refl
 
 -- ---- nobody waits in a circle
 
-slot_rises : (m : Managed) → IsKept m → (t : ℕ) (lock held : Lock) (o : Option SessionOf) → slice_get m.slots t ≡ Some o → (asker_of o).ask ≡ Some lock → Contains (asker_of o).held held →
+slot_rises : (m : Managed) → IsKept m → (t : ℕ) (lock held : Lock) (o : Option SessionOf) →
+    slice_get m.slots t ≡ Some o → (asker_of o).ask ≡ Some lock → Contains (asker_of o).held held →
     Precedes m.ranks held lock
 slot_rises m k t lock held None e ask c = absurd (none-some lock ask)
 slot_rises m k t lock held (Some s) e ask c = k.rising t lock (record { session = s; is = ap (λ x. lookup x (λ y. y)) e; ask = ask }) held c
@@ -104,7 +115,8 @@ asks_rise m k t asker lock at ask held c =
     slot_rises m k t lock held r.0 r.1 (ap (λ (a : Asker). a.ask) r.2 ∙ ask) (subst (λ (a : Asker). Contains a.held held) (sym r.2) c)
 
 -- who holds a lock is another than the one that may ask for it
-pub held_by_another : (m : Managed) (ticket : TicketOf) (lock : Lock) (h : ℕ) → IsKept m → Knows m ticket → ComesAfter m.ranks ticket.session.held lock → PrecedesIsStrict →
+pub held_by_another : (m : Managed) (ticket : TicketOf) (lock : Lock) (h : ℕ) → IsKept m → Knows m ticket →
+    ComesAfter m.ranks ticket.session.held lock → PrecedesIsStrict →
     place_of m lock ≡ Some (Taken h) → ticket.thread ≢ h
 held_by_another m ticket lock h k known rises strict here e =
     let own = k.taken lock h here in
@@ -126,7 +138,9 @@ cells_none : (n : ℕ) → sum_over cells_if_open (replicate n None) ≡ 0
 cells_none zero = refl
 cells_none (suc n) = omega (arith, cells_none n)
 
-first_place : (layout : LayoutOf) (ranks : List ℕ) (lock : Lock) (p : LockPlace) → place_of (opened layout ranks) lock ≡ Some p → Free (values_on layout.opening (cells_of layout.cell_locks lock)) ≡ p
+first_place : (layout : LayoutOf) (ranks : List ℕ) (lock : Lock) (p : LockPlace) →
+    place_of (opened layout ranks) lock ≡ Some p →
+    Free (values_on layout.opening (cells_of layout.cell_locks lock)) ≡ p
 first_place layout ranks lock p e =
     let f : Lock → LockPlace = λ l. Free (values_on layout.opening (cells_of layout.cell_locks l)) in
     let n = numbered_place layout.locks (map f layout.locks) lock p e in

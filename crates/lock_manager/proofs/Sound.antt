@@ -1,5 +1,6 @@
 -- Each call keeps the manager's rules and ties, by what its steps did.
-use Rattle.std.proofs.Common.{◌≡◌, ℕ, ◌+◌, ◌<◌, ◌≤◌, List, [], ◌∷◌, ◌++◌, length, map, set, Option, Some, None, refl, sym, ap, ◌∙◌, subst, arith, length-append}
+use Rattle.std.proofs.Common.{◌≡◌, ℕ, ◌+◌, ◌<◌, ◌≤◌, List, [], ◌∷◌, ◌++◌, length, map, set, Option, Some, None, refl}
+use Rattle.std.proofs.Common.{sym, ap, ◌∙◌, subst, arith, length-append}
 use Rattle.std.specs.Prelude.{slice_get}
 use Rattle.std.specs.List.{Contains}
 use Rattle.std.proofs.Math.ListN.{length-set}
@@ -16,8 +17,10 @@ use Rattle.lock_manager.specs.declared.places.LockPlace.TheVariants.{Free, Taken
 use Rattle.lock_manager.specs.declared.queue.Waiter.{Waiter}
 use Rattle.lock_manager.specs.Working.Sessions.{SessionOf, TicketOf, fresh, with_lock, with_ask}
 use Rattle.lock_manager.specs.Working.Queues.{leaving, joining}
-use Rattle.lock_manager.specs.Working.Managers.{Managed, IsKept, session_of, given_back, as_committed, number_from, put_for, threads}
-use Rattle.lock_manager.specs.Working.Calls.{Knows, CanAsk, Fits, AreItsGrants, after_grant, after_refusal, after_release, after_give_up}
+use Rattle.lock_manager.specs.Working.Managers.{Managed, IsKept, session_of, given_back, as_committed, number_from}
+use Rattle.lock_manager.specs.Working.Managers.{put_for, threads}
+use Rattle.lock_manager.specs.Working.Calls.{Knows, CanAsk, Fits, AreItsGrants, after_grant, after_refusal}
+use Rattle.lock_manager.specs.Working.Calls.{after_release, after_give_up}
 use Rattle.lock_manager.specs.Working.Ties.{IsTied, sum_over, one_if_open, cells_if_open, one_if_asking, one_if_some}
 use Rattle.lock_manager.proofs.Queued.{no_longer, one_less}
 use Rattle.lock_manager.proofs.Slots.{slot_of, closed_slot, sum_set, few_ask}
@@ -47,7 +50,8 @@ sound_begin m promised t room slots history more s lt closed slots_are history_i
 
 -- ---- request
 
-fewer : (ws : List Waiter) (t asking after : ℕ) (o : Option Lock) → length ws ≤ asking → one_if_some o + after ≡ asking →
+fewer : (ws : List Waiter) (t asking after : ℕ) (o : Option Lock) → length ws ≤ asking →
+    one_if_some o + after ≡ asking →
     ((l : Lock) → o ≡ Some l → Contains ws (record { thread = t; lock = l })) → length (leaving t ws) ≤ after
 fewer ws t asking after None le e f = omega (arith, le, e, no_longer t ws)
 fewer ws t asking after (Some l) le e f = omega (arith, le, e, one_less t ws (record { thread = t; lock = l }) (f l refl) refl)
@@ -80,7 +84,8 @@ sound_grant m promised ticket lock values n places waiters slots s known asks fo
     )
 
 -- where it asks for the first time there is room in the queue
-pub room_to_wait : (m : Managed) (promised : PromisedOf) (ticket : TicketOf) → Sound m promised → Knows m ticket → ticket.session.ask ≡ None → length m.waiters < threads
+pub room_to_wait : (m : Managed) (promised : PromisedOf) (ticket : TicketOf) → Sound m promised → Knows m ticket →
+    ticket.session.ask ≡ None → length m.waiters < threads
 room_to_wait m promised ticket s known free =
     let l : Lock = record { class = 0; object = 0 } in
     let at = slot_of m.slots ticket.thread ticket.session known in
@@ -96,7 +101,8 @@ room_to_wait m promised ticket s known free =
       s.0.thread_count,
     )
 
-joined_few : (o : Option Lock) (w : Waiter) (ws : List Waiter) (asking after : ℕ) → length ws ≤ asking → one_if_some o + after ≡ 1 + asking → length (joining o w ws) ≤ after
+joined_few : (o : Option Lock) (w : Waiter) (ws : List Waiter) (asking after : ℕ) → length ws ≤ asking →
+    one_if_some o + after ≡ 1 + asking → length (joining o w ws) ≤ after
 joined_few None w ws asking after le e = omega (arith, le, e, length-append ws (w ∷ []))
 joined_few (Some l) w ws asking after le e = omega (arith, le, e)
 
@@ -128,7 +134,8 @@ sound_refusal m promised ticket lock places waiters slots s known asks places_ar
 -- ---- release and give_up
 
 -- an open section has its promise
-pub promised_one : (m : Managed) (promised : PromisedOf) (t cells : ℕ) (x : SessionOf) → Sound m promised → session_of m t ≡ Some x → cells ≡ cells_if_open (session_of m t) → IsPromised promised cells
+pub promised_one : (m : Managed) (promised : PromisedOf) (t cells : ℕ) (x : SessionOf) → Sound m promised →
+    session_of m t ≡ Some x → cells ≡ cells_if_open (session_of m t) → IsPromised promised cells
 promised_one m promised t cells x s known cells_are = record {
   entry = omega (arith, s.1.promised, sum_set one_if_open m.slots t (Some x) None (slot_of m.slots t x known));
   within =

@@ -1,8 +1,11 @@
 -- What is added to a table, and what a loop over points or paths has found at its end.
-use Rattle.std.proofs.Common.{◌≡◌, ◌≢◌, ◌∙◌, ℕ, zero, suc, ◌+◌, ◌<◌, ◌≤◌, Bool, true, false, ◌||◌, ◌&&◌, List, [], ◌∷◌, ◌++◌, length, drop, get_or, set, Some, None, inl, inr, append-nil, refl, sym, ap, subst, arith}
+use Rattle.std.proofs.Common.{◌≡◌, ◌≢◌, ◌∙◌, ℕ, zero, suc, ◌+◌, ◌<◌, ◌≤◌, Bool, true, false, ◌||◌, ◌&&◌, List, []}
+use Rattle.std.proofs.Common.{◌∷◌, ◌++◌, length, drop, get_or, set, Some, None, inl, inr, append-nil, refl, sym, ap}
+use Rattle.std.proofs.Common.{subst, arith}
 use Rattle.std.specs.Prelude.{◌==◌, slice_get}
 use Rattle.std.specs.Bool.{Decides}
-use Rattle.std.proofs.lemmas.Bool.{and_parts, cases_eq, eq-eqb, eqb-true, false_from_ne_true, or_cases, or_left, or_right}
+use Rattle.std.proofs.lemmas.Bool.{and_parts, cases_eq, eq-eqb, eqb-true, false_from_ne_true, or_cases, or_left}
+use Rattle.std.proofs.lemmas.Bool.{or_right}
 use Rattle.std.proofs.lemmas.List.{get_or-set_same, get_or-set_other, get_or_read}
 use Rattle.std.proofs.lemmas.Option.{none-some, same_Some, slice_get_within}
 use Rattle.std.proofs.Math.ListN.{length-set}
@@ -51,7 +54,8 @@ other a b lt ne = omega arith
 
 module _ (before : List BitSet) (to : ℕ) (from old union : BitSet) (lt : to < length before) (is : old ≡ get_or before to old)
     (unites : (c : ℕ) → has_number union c ≡ (has_number old c || has_number from c)) where
-  pub each_added : (c d : ℕ) → has_edge (set before to union) c d ≡ (has_edge before c d || (d == to && has_number from c))
+  pub each_added : (c d : ℕ) →
+      has_edge (set before to union) c d ≡ (has_edge before c d || (d == to && has_number from c))
   each_added c d = elim (cases_eq d to) [
     | inl e ↦
         ap (λ (k : ℕ). has_number (get_or (set before to union) k no_classes) c) e
@@ -66,7 +70,8 @@ module _ (before : List BitSet) (to : ℕ) (from old union : BitSet) (lt : to < 
   pub still_few : length before ≤ 128 → length (set before to union) ≤ 128
   still_few le = subst (λ (n : ℕ). n ≤ 128) (sym (length-set before to union)) le
 
-  pub still_within : LeadsWithin before → ((c : ℕ) → InSet from c → c < length before) → (c d : ℕ) → InTable (set before to union) c d → c < length (set before to union)
+  pub still_within : LeadsWithin before → ((c : ℕ) → InSet from c → c < length before) → (c d : ℕ) →
+      InTable (set before to union) c d → c < length (set before to union)
   still_within within new c d h =
       subst (λ (n : ℕ). c < n) (sym (length-set before to union)) (elim (or_cases (has_edge before c d) (d == to && has_number from c) (sym (each_added c d) ∙ h)) [
         | inl there ↦ within c d there
@@ -76,7 +81,8 @@ module _ (before : List BitSet) (to : ℕ) (from old union : BitSet) (lt : to < 
 -- ---- the paths of a class, path by path
 
 module _ (x : Points) (class n here i : ℕ) (at : IsOfClass x here n) (old : PathSet) (so_far : Decides (has old i) ((i < n) × IsOfClass x class i)) where
-  pub path_with : (new : PathSet) → here ≡ class → has new i ≡ (has old i || (i == n)) → Decides (has new i) ((i < n + 1) × IsOfClass x class i)
+  pub path_with : (new : PathSet) → here ≡ class → has new i ≡ (has old i || (i == n)) →
+      Decides (has new i) ((i < n + 1) × IsOfClass x class i)
   path_with new same more = (
     λ h. elim (or_cases (has old i) (i == n) (sym more ∙ h)) [
       | inl o ↦ (let p = so_far.0 o in (less i n p.0, p.1))
@@ -97,7 +103,8 @@ module _ (x : Points) (class n here i : ℕ) (at : IsOfClass x here n) (old : Pa
     ],
   )
 
-pub each_path : (x : Points) (class n i : ℕ) (paths : PathSet) → length x.classes.items ≤ n → Decides (has paths i) ((i < n) × IsOfClass x class i) →
+pub each_path : (x : Points) (class n i : ℕ) (paths : PathSet) → length x.classes.items ≤ n →
+    Decides (has paths i) ((i < n) × IsOfClass x class i) →
     Decides (has paths i) (IsOfClass x class i)
 each_path x class n i paths past d = (
   λ h. (d.0 h).1,
@@ -106,7 +113,8 @@ each_path x class n i paths past d = (
 
 -- ---- no point makes an edge
 
-pub none_makes : (x : Points) (from to n : ℕ) → length x.bound.items ≤ n → (Below (λ p. UsesSoFar x p from × BindsAt x p to) n → ⊥) →
+pub none_makes : (x : Points) (from to n : ℕ) → length x.bound.items ≤ n →
+    (Below (λ p. UsesSoFar x p from × BindsAt x p to) n → ⊥) →
     (false ≡ true → MakesSomewhere x from to) × (MakesSomewhere x from to → false ≡ true)
 none_makes x from to n past none = (
   λ e. absurd (let bad : false ≡ true = e in cc),
@@ -116,17 +124,20 @@ none_makes x from to n past none = (
 -- ---- the text of a cycle
 
 module _ (program : Typed) (was : List ℕ) where
-  pub all_arrows : (edges : List Edge) (i : ℕ) → length edges ≤ i → was ++ arrows program (classes_of (drop i edges)) ≡ arrows program (classes_of edges) →
+  pub all_arrows : (edges : List Edge) (i : ℕ) → length edges ≤ i →
+      was ++ arrows program (classes_of (drop i edges)) ≡ arrows program (classes_of edges) →
       was ≡ arrows program (classes_of edges)
   all_arrows edges i past e = sym (append-nil was) ∙ ap (λ (es : List Edge). was ++ arrows program (classes_of es)) (sym (drop_past edges i past)) ∙ e
 
-  pub with_first : (edges : List Edge) (x : Edge) (now : List ℕ) → Some x ≡ slice_get edges 0 → was ≡ arrows program (classes_of edges) → now ≡ was ++ class_name program x.class →
+  pub with_first : (edges : List Edge) (x : Edge) (now : List ℕ) → Some x ≡ slice_get edges 0 →
+      was ≡ arrows program (classes_of edges) → now ≡ was ++ class_name program x.class →
       now ≡ cycle_text program (classes_of edges)
   with_first [] x now at all e = absurd (none-some x (sym at))
   with_first (y ∷ ys) x now at all e =
       e ∙ ap (λ (t : List ℕ). t ++ class_name program x.class) all
       ∙ ap (λ (z : Edge). arrows program (classes_of (y ∷ ys)) ++ class_name program z.class) (same_Some x y at)
 
-  pub with_none : (edges : List Edge) → None ≡ slice_get edges 0 → was ≡ arrows program (classes_of edges) → was ≡ cycle_text program (classes_of edges)
+  pub with_none : (edges : List Edge) → None ≡ slice_get edges 0 → was ≡ arrows program (classes_of edges) →
+      was ≡ cycle_text program (classes_of edges)
   with_none [] at all = all
   with_none (y ∷ ys) at all = absurd (none-some y at)

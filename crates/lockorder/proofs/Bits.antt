@@ -1,11 +1,14 @@
 -- The bits of sets, one at a time.
-use Rattle.std.proofs.Common.{◌≡◌, ℕ, ◌*◌, ◌%◌, ◌^◌, ◌<◌, max, Bool, true, false, not, ◌||◌, ◌&&◌, inl, inr, refl, sym, ap, ◌∙◌, arith, w64}
+use Rattle.std.proofs.Common.{◌≡◌, ℕ, ◌*◌, ◌%◌, ◌^◌, ◌<◌, max, Bool, true, false, not, ◌||◌, ◌&&◌, inl, inr, refl}
+use Rattle.std.proofs.Common.{sym, ap, ◌∙◌, arith, w64}
 use Rattle.std.specs.Prelude.{◌==◌, bit_or}
 use Rattle.std.specs.Int.{bit_at, trailing_zeros, Width}
 use Rattle.std.specs.Bool.{Decides}
 use mir.Val.{bits}
-use Rattle.std.proofs.lemmas.Nat.Bits.{bit_at_or, bit_at-lt, bit_at-zero, bit_at_set_same, bit_at_set_other, bit_at-trailing_zeros}
-use Rattle.std.proofs.lemmas.Bool.{cases_eq, cases_lt, and_parts, and_from, or_right, eq-eqb, ne_eqb, both_ways, not-true, not_from_false}
+use Rattle.std.proofs.lemmas.Nat.Bits.{bit_at_or, bit_at-lt, bit_at-zero, bit_at_set_same, bit_at_set_other}
+use Rattle.std.proofs.lemmas.Nat.Bits.{bit_at-trailing_zeros}
+use Rattle.std.proofs.lemmas.Bool.{cases_eq, cases_lt, and_parts, and_from, or_right, eq-eqb, ne_eqb, both_ways}
+use Rattle.std.proofs.lemmas.Bool.{not-true, not_from_false}
 use Rattle.std.proofs.lemmas.Bool.Decides.{nat_tests}
 use Rattle.locks.specs.declared.path_set.PathSet.{PathSet}
 use Rattle.locks.specs.Sets.{has}
@@ -20,7 +23,8 @@ has_some s some fits =
 pub has_none : (s : PathSet) (i : ℕ) → s.bits ≡ 0 → has s i ≡ false
 has_none s i e = let z : bit_at s.bits i ≡ 0 = ap (λ n. bit_at n i) e ∙ bit_at-zero i in ap (λ x. x == 1) z
 
-pub share_decides : (a b m : PathSet) → ((i : ℕ) → has m i ≡ (has a i && has b i)) → m.bits < 2 ^ 64 → Decides (not (m.bits == 0)) (Share a b)
+pub share_decides : (a b m : PathSet) → ((i : ℕ) → has m i ≡ (has a i && has b i)) → m.bits < 2 ^ 64 →
+    Decides (not (m.bits == 0)) (Share a b)
 share_decides a b m both fits = (
   λ e.
       let ne : m.bits ≡ 0 → ⊥ = λ z. both_ways (m.bits == 0) (not-true (m.bits == 0) e) (eq-eqb m.bits 0 z) in

@@ -16,39 +16,46 @@ use Rattle.locks.specs.Working.Laws.{PathsHaveClasses}
 use Rattle.lockorder.specs.declared.ranks.Edge as written
 use Rattle.lockorder.specs.Edges.{Makes, MakesFirst, Edge}
 use Rattle.lockorder.specs.Ranks.{AreRanks, LeadTo}
-use Rattle.lockorder.specs.Faults.{cycle_text, second, StartsAt, cycle, HasNoFault, IsFaultAtFirst, at_first, classes_of, AllMakeFirst, IsCycleOf}
+use Rattle.lockorder.specs.Faults.{cycle_text, second, StartsAt, cycle, HasNoFault, IsFaultAtFirst, at_first}
+use Rattle.lockorder.specs.Faults.{classes_of, AllMakeFirst, IsCycleOf}
 use Rattle.lockorder.proofs.Rising.{ranks_rise, no_cycle}
 use Rattle.lockorder.proofs.Bridge.{edge_within}
 
-pub no_fault : (program : Typed) (ranks : List ℕ) → IsWellFormed program → PathsHaveClasses → AreRanks (Edge program) (length program.classes.items) ranks → HasNoFault program
+pub no_fault : (program : Typed) (ranks : List ℕ) → IsWellFormed program → PathsHaveClasses →
+    AreRanks (Edge program) (length program.classes.items) ranks → HasNoFault program
 no_fault program ranks well classes are fault (cycle c rest number used bound h made starts code detail) =
     no_cycle (Edge program) (length program.classes.items) ranks (ranks_rise (Edge program) (length program.classes.items) ranks are)
     (λ b d e. let w = edge_within program well classes b d e in (omega (arith, w.0, are.long), omega (arith, w.1, are.long))) (c ∷ rest) h
 
 module _ (program : Typed) where
-  leads : (first : ℕ) (edges : List written.Edge) → AllMakeFirst program first edges → LeadTo (Edge program) first (classes_of edges)
+  leads : (first : ℕ) (edges : List written.Edge) → AllMakeFirst program first edges →
+      LeadTo (Edge program) first (classes_of edges)
   leads first [] m = tt
   leads first (e ∷ []) m = (e.section, e.used, e.bound, m.makes)
   leads first (e ∷ f ∷ rest) m = ((e.section, e.used, e.bound, m.0.makes), leads first (f ∷ rest) m.1)
 
-  head_makes : (e : written.Edge) (rest : List written.Edge) → AllMakeFirst program e.class (e ∷ rest) → MakesFirst program e.section e.used e.bound e.class (second e.class (classes_of rest))
+  head_makes : (e : written.Edge) (rest : List written.Edge) → AllMakeFirst program e.class (e ∷ rest) →
+      MakesFirst program e.section e.used e.bound e.class (second e.class (classes_of rest))
   head_makes e [] m = m
   head_makes e (f ∷ rest) m = m.0
 
-  pub first_makes : (edges : List written.Edge) (first : written.Edge) → IsCycleOf program edges → first ≡ get_or edges 0 first →
+  pub first_makes : (edges : List written.Edge) (first : written.Edge) → IsCycleOf program edges →
+      first ≡ get_or edges 0 first →
       (d : ℕ) × Makes program first.section first.used first.bound first.class d
   first_makes [] first h e = absurd h
   first_makes (x ∷ rest) first h e =
       subst (λ (y : written.Edge). (d : ℕ) × Makes program y.section y.used y.bound y.class d) (sym e) (second x.class (classes_of rest), (head_makes x rest h.1).makes)
 
-  pub is_fault : (edges : List written.Edge) (first : written.Edge) (fault : Fault) → IsCycleOf program edges → first ≡ get_or edges 0 first →
+  pub is_fault : (edges : List written.Edge) (first : written.Edge) (fault : Fault) → IsCycleOf program edges →
+      first ≡ get_or edges 0 first →
       StartsAt program first.section first.used fault.start → fault.code ≡ LockOrderCycle → string_bytes fault.detail ≡ cycle_text program (classes_of edges) → IsFaultAtFirst program fault
   is_fault [] first fault h e starts code detail = absurd h
   is_fault (x ∷ rest) first fault h e starts code detail =
       at_first x.class (classes_of rest) x.section x.used x.bound (h.0, leads x.class (x ∷ rest) h.1) (head_makes x rest h.1)
       (subst (λ (y : written.Edge). StartsAt program y.section y.used fault.start) e starts) code detail
 
-  pub used_within : (number used bound c d : ℕ) (s : Section) (items : List PointRef) → Makes program number used bound c d → s ≡ get_or program.sections.items number s →
+  pub used_within : (number used bound c d : ℕ) (s : Section) (items : List PointRef) →
+      Makes program number used bound c d → s ≡ get_or program.sections.items number s →
       map point_at items ≡ points s → used < length items
   used_within number used bound c d s items m is listed =
       let here : slice_get program.sections.items number ≡ Some s =
@@ -57,7 +64,8 @@ module _ (program : Typed) where
       let lt : used < length (points s) = subst (λ (x : Section). used < length (points x)) same (slice_get_within (points m.section) used m.uses.1.0 m.uses.1.1) in
       omega (arith, lt, ap length listed, length-map items point_at)
 
-  pub starts_at : (number used bound c d : ℕ) (s : Section) (items : List PointRef) (r : PointRef) (start : ℕ) → Makes program number used bound c d →
+  pub starts_at : (number used bound c d : ℕ) (s : Section) (items : List PointRef) (r : PointRef) (start : ℕ) →
+      Makes program number used bound c d →
       s ≡ get_or program.sections.items number s → map point_at items ≡ points s → r ≡ get_or items used r → start ≡ start_of (point_at r) → StartsAt program number used start
   starts_at number used bound c d s items r start m is listed read starts =
       let here : slice_get program.sections.items number ≡ Some s =

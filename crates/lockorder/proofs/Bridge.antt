@@ -1,5 +1,6 @@
 -- What the sets of a section's points say of the edges that the section makes.
-use Rattle.std.proofs.Common.{◌≡◌, ℕ, ◌<◌, List, length, get_or, Option, Some, None, ◌⊎◌, inl, inr, refl, sym, ap, ◌∙◌, subst, arith}
+use Rattle.std.proofs.Common.{◌≡◌, ℕ, ◌<◌, List, length, get_or, Option, Some, None, ◌⊎◌, inl, inr, refl, sym, ap}
+use Rattle.std.proofs.Common.{◌∙◌, subst, arith}
 use Rattle.std.specs.Prelude.{slice_get}
 use Rattle.std.specs.Option.{option_map}
 use Rattle.std.specs.List.{All, Contains}
@@ -19,7 +20,8 @@ use Rattle.points.specs.declared.table.Points.{Points}
 use Rattle.points.specs.Working.Points.{ArePoints}
 use Rattle.points.specs.Used.{IsUsedBefore}
 use Rattle.lockorder.specs.Edges.{Makes, Edge}
-use Rattle.lockorder.specs.Working.Sections.{set_at, no_paths, IsOfClass, HasClass, BindsAt, UsesAt, MakesSomewhere, MakesAt}
+use Rattle.lockorder.specs.Working.Sections.{set_at, no_paths, IsOfClass, HasClass, BindsAt, UsesAt, MakesSomewhere}
+use Rattle.lockorder.specs.Working.Sections.{MakesAt}
 use Rattle.lockorder.specs.Working.Tellings.{AreBetween, AreEdges}
 use Rattle.lockorder.proofs.InSection.{set_within}
 use Rattle.core_lang.specs.Theory.Items.{contains_at, at_contained}
@@ -28,7 +30,8 @@ use Rattle.core_lang.specs.Theory.Items.{contains_at, at_contained}
 abbrev pub MakesIn : Typed → ℕ → ℕ → ℕ → Type 0
 MakesIn program k c d = (used bound : ℕ) × Makes program k used bound c d
 
-map_some : {A B : Type 0} (f : A → B) (o : Option A) (y : B) → option_map f o ≡ Some y → (x : A) × (o ≡ Some x) × (f x ≡ y)
+map_some : {A B : Type 0} (f : A → B) (o : Option A) (y : B) → option_map f o ≡ Some y →
+    (x : A) × (o ≡ Some x) × (f x ≡ y)
 map_some f None y e = absurd (none-some y e)
 map_some f (Some x) y e = (x, refl, same_Some (f x) y e)
 
@@ -56,12 +59,14 @@ module _ (program : Typed) (well : IsWellFormed program) (listed : UsedAreListed
     there : (p : ℕ) → p < length sets → slice_get sets p ≡ Some (set_at sets p)
     there p lt = slice_get-get_or sets p no_paths lt
 
-    from_set : (p c : ℕ) → HasClass x (set_at sets p) c → (path : LockPath) × R p path × (path.class ≡ c) × ((u : ℕ) × Uses program section u path)
+    from_set : (p c : ℕ) → HasClass x (set_at sets p) c →
+        (path : LockPath) × R p path × (path.class ≡ c) × ((u : ℕ) × Uses program section u path)
     from_set p c h =
         let path = path_of c h.0 h.2 in
         (path.0, (a.1 p h.0 (set_at sets p) path.0 (there p (set_within sets p h.0 h.1)) path.1).0 h.1, path.2, used_somewhere h.0 path.0 path.1)
 
-    to_set : (p i : ℕ) (path : LockPath) → p < length (points section) → slice_get paths i ≡ Some path → R p path → HasClass x (set_at sets p) path.class
+    to_set : (p i : ℕ) (path : LockPath) → p < length (points section) → slice_get paths i ≡ Some path → R p path →
+        HasClass x (set_at sets p) path.class
     to_set p i path lt e r = (i, (a.1 p i (set_at sets p) path (there p (omega (arith, lt, a.0))) e).1 r, class_of i path e)
 
   uses_point : (p : ℕ) (path : LockPath) → Uses program section p path → p < length (points section)
@@ -107,12 +112,14 @@ module _ (program : Typed) (well : IsWellFormed program) (listed : UsedAreListed
       let i = number_of used path u in
       subst (HasClass x (set_at x.used.items used)) e (to_set (Uses program section) x.used.items are.used used i.0 path (uses_point used path u) i.1 u)
 
-  binds_at : (bound user d : ℕ) (path : LockPath) → Uses program section user path → BindsRoot section bound path → path.class ≡ d → BindsAt x bound d
+  binds_at : (bound user d : ℕ) (path : LockPath) → Uses program section user path → BindsRoot section bound path →
+      path.class ≡ d → BindsAt x bound d
   binds_at bound user d path u b e =
       let i = number_of user path u in
       subst (HasClass x (set_at x.bound.items bound)) e (to_set (BindsRoot section) x.bound.items are.bound bound i.0 path (binds_point bound path b) i.1 b)
 
-  pub makes_at : (used bound c d : ℕ) (s : Section) (uses : LockPath) (binds : LockPath) (user : ℕ) → Uses program section used uses → uses.class ≡ c → Uses program section user binds →
+  pub makes_at : (used bound c d : ℕ) (s : Section) (uses : LockPath) (binds : LockPath) (user : ℕ) →
+      Uses program section used uses → uses.class ≡ c → Uses program section user binds →
       BindsRoot section bound binds → binds.class ≡ d → (used ≡ bound) ⊎ Before (skeleton section) used bound → MakesAt x c d used bound
   makes_at used bound c d s uses binds user u uc v b bd order = (
     (
@@ -125,7 +132,8 @@ module _ (program : Typed) (well : IsWellFormed program) (listed : UsedAreListed
     binds_at bound user d binds v b bd,
   )
 
-  pub makes_somewhere_by : (used bound c d : ℕ) (uses binds : LockPath) (user : ℕ) → Uses program section used uses → uses.class ≡ c → Uses program section user binds →
+  pub makes_somewhere_by : (used bound c d : ℕ) (uses binds : LockPath) (user : ℕ) → Uses program section used uses →
+      uses.class ≡ c → Uses program section user binds →
       BindsRoot section bound binds → binds.class ≡ d → (used ≡ bound) ⊎ Before (skeleton section) used bound → MakesSomewhere x c d
   makes_somewhere_by used bound c d uses binds user u uc v b bd order = (
     bound,
@@ -168,7 +176,8 @@ module _ (program : Typed) (well : IsWellFormed program) (listed : UsedAreListed
       subst (λ n. n < length program.classes.items) path.2 (slice_get_within program.classes.items path.0.class has_number.0 has_number.1)) x.classes.items (All-contains_itself x.classes.items)
 
 -- the classes of an edge are the program's
-pub edge_within : (program : Typed) → IsWellFormed program → PathsHaveClasses → (c d : ℕ) → Edge program c d → (c < length program.classes.items) × (d < length program.classes.items)
+pub edge_within : (program : Typed) → IsWellFormed program → PathsHaveClasses → (c d : ℕ) → Edge program c d →
+    (c < length program.classes.items) × (d < length program.classes.items)
 edge_within program well classes c d (k, used, bound, m) =
     let u = classes program m.section used m.uses.0 well m.uses.1 in
     let b = classes program m.section m.binds.1 m.binds.0 well m.binds.2 in (
@@ -176,5 +185,6 @@ edge_within program well classes c d (k, used, bound, m) =
       subst (λ n. n < length program.classes.items) m.binds.4 (slice_get_within program.classes.items m.binds.0.class b.0 b.1),
     )
 
-pub edges_between : (program : Typed) → IsWellFormed program → PathsHaveClasses → (pairs : List (ℕ × ℕ)) → AreEdges program pairs → AreBetween (length program.classes.items) pairs
+pub edges_between : (program : Typed) → IsWellFormed program → PathsHaveClasses → (pairs : List (ℕ × ℕ)) →
+    AreEdges program pairs → AreBetween (length program.classes.items) pairs
 edges_between program well classes pairs h k d lt = let pair = get_or pairs k d in edge_within program well classes pair.0 pair.1 (h k d lt)

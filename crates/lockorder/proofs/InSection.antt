@@ -1,5 +1,6 @@
 -- Sets of paths and of classes, path by path and point by point.
-use Rattle.std.proofs.Common.{◌≡◌, ℕ, ◌+◌, ◌<◌, Bool, true, false, ◌||◌, List, length, get_or, Some, ◌⊎◌, inl, inr, refl, sym, ap, ◌∙◌, subst, arith}
+use Rattle.std.proofs.Common.{◌≡◌, ℕ, ◌+◌, ◌<◌, Bool, true, false, ◌||◌, List, length, get_or, Some, ◌⊎◌, inl, inr}
+use Rattle.std.proofs.Common.{refl, sym, ap, ◌∙◌, subst, arith}
 use Rattle.std.specs.Prelude.{◌==◌}
 use Rattle.std.specs.Bool.{Decides}
 use Rattle.std.specs.Int.{bit_at}
@@ -53,7 +54,8 @@ module _ (P : ℕ → Type 0) (n : ℕ) (Q : Type 0) (old new t : Bool) where
   )
 
 -- the same of a test that is true of what was there before, and of what holds of the next number
-pub joined_by : (P : ℕ → Type 0) (n : ℕ) (Q R : Type 0) (old new : Bool) → Decides old (Q ⊎ Below P n) → Decides new ((old ≡ true) ⊎ R) → (R → P n) → (P n → R) →
+pub joined_by : (P : ℕ → Type 0) (n : ℕ) (Q R : Type 0) (old new : Bool) → Decides old (Q ⊎ Below P n) →
+    Decides new ((old ≡ true) ⊎ R) → (R → P n) → (P n → R) →
     Decides new (Q ⊎ Below P (n + 1))
 joined_by P n Q R old new d e to from = (
   λ h. elim (e.0 h) [

@@ -1,5 +1,6 @@
 -- The pairs of a table, listed class by class.
-use Rattle.std.proofs.Common.{◌≡◌, ℕ, ◌+◌, ◌<◌, ◌≤◌, true, false, List, [], ◌∷◌, ◌++◌, length, ◌⊎◌, inl, inr, refl, ap, ◌∙◌, subst, arith}
+use Rattle.std.proofs.Common.{◌≡◌, ℕ, ◌+◌, ◌<◌, ◌≤◌, true, false, List, [], ◌∷◌, ◌++◌, length, ◌⊎◌, inl, inr, refl}
+use Rattle.std.proofs.Common.{ap, ◌∙◌, subst, arith}
 use Rattle.std.specs.Prelude.{◌==◌}
 use Rattle.std.specs.List.{All, AllPairs, Contains}
 use Rattle.std.proofs.lemmas.Bool.{cases_lt, both_ways}
@@ -38,7 +39,8 @@ module _ (before : List BitSet) where
   more from to pair (inl less) = inl less
   more from to pair (inr (same, lt)) = inr (same, omega (arith, lt))
 
-  pub listed_more : (from to : ℕ) (pairs : List (ℕ × ℕ)) → AreListed before from to pairs → has_edge before from to ≡ true → AreListed before from (to + 1) (pairs ++ (from, to) ∷ [])
+  pub listed_more : (from to : ℕ) (pairs : List (ℕ × ℕ)) → AreListed before from to pairs →
+      has_edge before from to ≡ true → AreListed before from (to + 1) (pairs ++ (from, to) ∷ [])
   listed_more from to pairs l e = record {
     true = All-append (λ (pair : ℕ × ℕ). InTable before pair.0 pair.1) pairs ((from, to) ∷ []) l.true
         (All-cons (λ (pair : ℕ × ℕ). InTable before pair.0 pair.1) (from, to) [] e (λ k d lt. absurd (omega arith)));
@@ -51,7 +53,8 @@ module _ (before : List BitSet) where
     ];
   }
 
-  pub listed_same : (from to : ℕ) (pairs : List (ℕ × ℕ)) → AreListed before from to pairs → has_edge before from to ≡ false → AreListed before from (to + 1) pairs
+  pub listed_same : (from to : ℕ) (pairs : List (ℕ × ℕ)) → AreListed before from to pairs →
+      has_edge before from to ≡ false → AreListed before from (to + 1) pairs
   listed_same from to pairs l e = record {
     true = l.true;
     rising = l.rising;
@@ -62,7 +65,8 @@ module _ (before : List BitSet) where
     ];
   }
 
-  pub next_row : (from : ℕ) (pairs : List (ℕ × ℕ)) (to : ℕ) → length before ≤ to → AreListed before from to pairs → AreListed before (from + 1) 0 pairs
+  pub next_row : (from : ℕ) (pairs : List (ℕ × ℕ)) (to : ℕ) → length before ≤ to → AreListed before from to pairs →
+      AreListed before (from + 1) 0 pairs
   next_row from pairs to past l = record {
     true = l.true;
     rising = l.rising;
@@ -80,7 +84,8 @@ module _ (before : List BitSet) where
     | inr ge ↦ absurd (both_ways (has_edge before c d) (ap (λ (s : BitSet). has_number s c) (get_or_past before d no_classes ge) ∙ ap (λ x. x == 1) (bit_at-zero c)) e)
   ]
 
-  pub all_listed : (from : ℕ) (pairs : List (ℕ × ℕ)) → length before ≤ from → LeadsWithin before → AreListed before from 0 pairs → ArePairsOf before pairs
+  pub all_listed : (from : ℕ) (pairs : List (ℕ × ℕ)) → length before ≤ from → LeadsWithin before →
+      AreListed before from 0 pairs → ArePairsOf before pairs
   all_listed from pairs past leads l = record {
     true = l.true;
     rising = l.rising;

@@ -1,5 +1,6 @@
 -- Lists of numbers, and what they contain.
-use Rattle.std.proofs.Common.{◌≡◌, ℕ, zero, suc, ◌≤◌, ◌<◌, Bool, true, false, List, [], ◌∷◌, ◌++◌, take, length, get_or, set, Option, Some, None, ◌⊎◌, inl, inr, refl, sym, ap, ◌∙◌, arith}
+use Rattle.std.proofs.Common.{◌≡◌, ℕ, zero, suc, ◌≤◌, ◌<◌, Bool, true, false, List, [], ◌∷◌, ◌++◌, take, length}
+use Rattle.std.proofs.Common.{get_or, set, Option, Some, None, ◌⊎◌, inl, inr, refl, sym, ap, ◌∙◌, arith}
 use Rattle.std.specs.Prelude.{◌≢◌, ◌==◌, slice_get}
 use Rattle.std.specs.List.{All, AllPairs, Contains, list_any}
 use Rattle.std.proofs.lemmas.Bool.{or_cases, or_left, or_right, eqb-true, eq-eqb, cases_lt, cases_Bool, both_ways}
@@ -16,7 +17,8 @@ use Rattle.core_lang.specs.Theory.Items.{in_cases, in_rest, not_in_none}
 
 -- ---- what a list contains
 
-pub in_take : {X : Type 0} (k : ℕ) (xs : List X) (x : X) → Contains (take k xs) x → (j : ℕ) × (j < k) × (slice_get xs j ≡ Some x)
+pub in_take : {X : Type 0} (k : ℕ) (xs : List X) (x : X) → Contains (take k xs) x →
+    (j : ℕ) × (j < k) × (slice_get xs j ≡ Some x)
 in_take zero xs x c = absurd (not_in_none x c)
 in_take (suc k) [] x c = absurd (not_in_none x c)
 in_take (suc k) (y ∷ xs) x c =

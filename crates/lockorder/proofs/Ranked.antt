@@ -1,10 +1,12 @@
 -- Ranks given class after class.
-use Rattle.std.proofs.Common.{◌≡◌, ℕ, ◌+◌, ◌<◌, false, not, ◌||◌, List, [], ◌∷◌, ◌++◌, set, length, Some, inl, inr, refl, sym, ap, ◌∙◌, subst, arith, length-append}
+use Rattle.std.proofs.Common.{◌≡◌, ℕ, ◌+◌, ◌<◌, false, not, ◌||◌, List, [], ◌∷◌, ◌++◌, set, length, Some, inl, inr}
+use Rattle.std.proofs.Common.{refl, sym, ap, ◌∙◌, subst, arith, length-append}
 use Rattle.std.specs.Prelude.{◌≢◌, ◌==◌, slice_get}
 use Rattle.std.specs.Bool.{Decides}
 use Rattle.std.specs.List.{All, AllPairs, Contains}
 use Rattle.std.proofs.Math.ListN.{length-set}
-use Rattle.std.proofs.lemmas.Bool.{or_cases, or_left, or_right, both_ways, eqb-true, eq-eqb, cases_Bool, not-true, not-false}
+use Rattle.std.proofs.lemmas.Bool.{or_cases, or_left, or_right, both_ways, eqb-true, eq-eqb, cases_Bool, not-true}
+use Rattle.std.proofs.lemmas.Bool.{not-false}
 use Rattle.std.proofs.lemmas.Option.{none-some}
 use Rattle.std.proofs.lemmas.List.Elements.{All-nil, All-push, Contains-append_left, Contains-push, Contains-push_cases}
 use Rattle.bit_set.specs.declared.set.BitSet.{BitSet}
@@ -27,7 +29,8 @@ pub record AreRanked (before : List BitSet) (listed : BitSet) (ranks : List ℕ)
   pub each : EachIsNext (InTable before) (length before) [] list
   pub places : (k c : ℕ) → slice_get list k ≡ Some c → slice_get ranks c ≡ Some k
 
-pub none_ranked : (before : List BitSet) (listed : BitSet) (ranks : List ℕ) → ((c : ℕ) → has_number listed c ≡ false) → length ranks ≡ length before →
+pub none_ranked : (before : List BitSet) (listed : BitSet) (ranks : List ℕ) →
+    ((c : ℕ) → has_number listed c ≡ false) → length ranks ≡ length before →
     AreRanked before listed ranks 0
 none_ranked before listed ranks none size = record {
   list = [];
@@ -42,7 +45,8 @@ none_ranked before listed ranks none size = record {
 
 module _ (before : List BitSet) (listed : BitSet) (ranks : List ℕ) (count : ℕ) (r : AreRanked before listed ranks count) where
   -- one more class
-  pub one_ranked : (c : ℕ) (more : BitSet) → ((d : ℕ) → has_number more d ≡ (has_number listed d || d == c)) → IsNextIn before listed c →
+  pub one_ranked : (c : ℕ) (more : BitSet) → ((d : ℕ) → has_number more d ≡ (has_number listed d || d == c)) →
+      IsNextIn before listed c →
       AreRanked before more (set ranks c count) (count + 1)
   one_ranked c more with next =
       let new : Contains r.list c → ⊥ = λ h. next.ready.new ((r.same c).1 h) in
@@ -93,7 +97,8 @@ module _ (before : List BitSet) (listed : BitSet) (ranks : List ℕ) (count : �
           ]
 
   -- some class isn't listed, and none is ready
-  pub cycle_of_ranked : LeadsWithin before → count < length before → ((c : ℕ) → IsReadyIn before listed c → ⊥) → HasCycle before
+  pub cycle_of_ranked : LeadsWithin before → count < length before → ((c : ℕ) → IsReadyIn before listed c → ⊥) →
+      HasCycle before
   cycle_of_ranked within lt stuck =
       elim (found_below (λ c. not (has_number listed c)) (length before)) [
         | inl x ↦ cycle_of_stuck before listed within stuck x.0 x.1 (not-true (has_number listed x.0) x.2)

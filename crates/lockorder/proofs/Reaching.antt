@@ -1,5 +1,7 @@
 -- Reaching classes one after another, and the way back.
-use Rattle.std.proofs.Common.{◌≡◌, ℕ, zero, suc, ◌+◌, ◌≤◌, ◌<◌, true, false, List, [], ◌∷◌, ◌++◌, set, replicate, length, get_or, Option, Some, None, ◌⊎◌, inl, inr, refl, sym, ap, ◌∙◌, subst, arith, length-append}
+use Rattle.std.proofs.Common.{◌≡◌, ℕ, zero, suc, ◌+◌, ◌≤◌, ◌<◌, true, false, List, [], ◌∷◌, ◌++◌, set, replicate}
+use Rattle.std.proofs.Common.{length, get_or, Option, Some, None, ◌⊎◌, inl, inr, refl, sym, ap, ◌∙◌, subst, arith}
+use Rattle.std.proofs.Common.{length-append}
 use Rattle.std.specs.Prelude.{◌≢◌, slice_get, slice_index, nat_le}
 use Rattle.std.specs.List.{All, AllPairs, Contains}
 use Rattle.std.specs.Option.{is_some}
@@ -7,13 +9,15 @@ use Rattle.std.proofs.Math.ListN.{length-set, length-replicate}
 use Rattle.std.proofs.lemmas.Bool.{cases_eq, cases_lt, cases_Bool, leb-true, leb-false}
 use Rattle.std.proofs.lemmas.Option.{none-some, same_Some, slice_get_within, slice_get-get_or}
 use Rattle.std.proofs.lemmas.List.{get_or-set_same, get_or-set_other, get_or_past, get_or_read}
-use Rattle.std.proofs.lemmas.List.Elements.{All-nil, All-cons, All-push, All-weaker, All-contains, Contains-append_left, Contains-push, Contains-push_cases}
+use Rattle.std.proofs.lemmas.List.Elements.{All-nil, All-cons, All-push, All-weaker, All-contains}
+use Rattle.std.proofs.lemmas.List.Elements.{Contains-append_left, Contains-push, Contains-push_cases}
 use Rattle.flow.specs.Flow.{Plus, one, more as further}
 use Rattle.bit_set.specs.declared.set.BitSet.{BitSet}
 use Rattle.lockorder.specs.declared.cycles.Reached.{Reached}
 use Rattle.lockorder.specs.Ranks.{LeadTo, IsCycle}
 use Rattle.lockorder.specs.Working.Tables.{InTable, IsOnCycle}
-use Rattle.lockorder.specs.Working.Reached.{distance_of, HasDistance, LeadsNearer, IsDone, AreReached, KeepsReached, AreDistances, IsNearestBelow, nearer}
+use Rattle.lockorder.specs.Working.Reached.{distance_of, HasDistance, LeadsNearer, IsDone, AreReached, KeepsReached}
+use Rattle.lockorder.specs.Working.Reached.{AreDistances, IsNearestBelow, nearer}
 use Rattle.lockorder.proofs.Lists.{no_more, distinct_push}
 use Rattle.core_lang.specs.Theory.Items.{not_in_none, in_first, in_cases, contains_at, at_contained}
 
@@ -89,7 +93,8 @@ module _ (before : List BitSet) (old new : Reached) (class distance b : ℕ) (r 
   stays c k e =
       in_new c k (set_there old.distances.items b (distance + 1) c (λ same. not_both _ k unknown (ap (distance_of old.distances.items) (sym same) ∙ e)) ∙ e)
 
-  new_or_old : (c k : ℕ) → distance_of new.distances.items c ≡ Some k → ((c ≡ b) × (k ≡ distance + 1)) ⊎ (distance_of old.distances.items c ≡ Some k)
+  new_or_old : (c k : ℕ) → distance_of new.distances.items c ≡ Some k →
+      ((c ≡ b) × (k ≡ distance + 1)) ⊎ (distance_of old.distances.items c ≡ Some k)
   new_or_old c k e =
       elim (cases_eq c b) [
         | inl same ↦ inl (same, some_is_some _ k (distance + 1) e (ap (distance_of new.distances.items) same ∙ here))
@@ -99,7 +104,8 @@ module _ (before : List BitSet) (old new : Reached) (class distance b : ℕ) (r 
   longer_by_one : length new.classes.items ≡ length old.classes.items + 1
   longer_by_one = ap length cs ∙ length-append old.classes.items (b ∷ [])
 
-  nearer_still : (c k : ℕ) → (c ≡ old.target) ⊎ LeadsNearer before old.distances.items c k → (c ≡ new.target) ⊎ LeadsNearer before new.distances.items c k
+  nearer_still : (c k : ℕ) → (c ≡ old.target) ⊎ LeadsNearer before old.distances.items c k →
+      (c ≡ new.target) ⊎ LeadsNearer before new.distances.items c k
   nearer_still c k (inl e) = inl (e ∙ sym target)
   nearer_still c k (inr (d, m, e, f, g)) = inr (d, m, e, stays d m f, g)
 
@@ -157,7 +163,8 @@ pub record IsReaching (before : List BitSet) (old r : Reached) (class bound : �
   pub kept : KeepsReached old r
   pub done : (b : ℕ) → b < bound → InTable before b class → HasDistance r.distances.items b
 
-reaching_next : (before : List BitSet) (old r new : Reached) (class bound : ℕ) → IsReaching before old r class bound → AreReached before new → KeepsReached r new →
+reaching_next : (before : List BitSet) (old r new : Reached) (class bound : ℕ) → IsReaching before old r class bound →
+    AreReached before new → KeepsReached r new →
     (InTable before bound class → HasDistance new.distances.items bound) → IsReaching before old new class (bound + 1)
 reaching_next before old r new class bound i reached kept here = record {
   reached = reached;
@@ -169,13 +176,15 @@ reaching_next before old r new class bound i reached kept here = record {
 }
 
 -- the class at the bound has no edge to it, or has a distance already
-pub reaching_skip : (before : List BitSet) (old r new : Reached) (class bound : ℕ) → IsReaching before old r class bound → new ≡ r →
+pub reaching_skip : (before : List BitSet) (old r new : Reached) (class bound : ℕ) →
+    IsReaching before old r class bound → new ≡ r →
     (InTable before bound class → HasDistance r.distances.items bound) → IsReaching before old new class (bound + 1)
 reaching_skip before old r new class bound i same here =
     subst (λ (x : Reached). IsReaching before old x class (bound + 1)) (sym same) (reaching_next before old r r class bound i i.reached (all_kept r) here)
 
 -- it is reached now
-pub reaching_take : (before : List BitSet) (old r new : Reached) (class bound distance : ℕ) → IsReaching before old r class bound → bound < length before →
+pub reaching_take : (before : List BitSet) (old r new : Reached) (class bound distance : ℕ) →
+    IsReaching before old r class bound → bound < length before →
     distance_of old.distances.items class ≡ Some distance → InTable before bound class → distance_of r.distances.items bound ≡ None →
     new.target ≡ r.target → new.distances.items ≡ set r.distances.items bound (Some (distance + 1)) → new.classes.items ≡ r.classes.items ++ bound ∷ [] →
     IsReaching before old new class (bound + 1)
@@ -201,7 +210,8 @@ module _ (before : List BitSet) (r : Reached) (a : AreReached before r) where
   pub known_at : (i c : ℕ) → slice_get r.classes.items i ≡ Some c → HasDistance r.distances.items c
   known_at i c e = All-contains (HasDistance r.distances.items) r.classes.items c a.known (contains_at r.classes.items i c e)
 
-pub done_next : (before : List BitSet) (old new : Reached) (bound class : ℕ) → AreDoneBelow before old bound → slice_get old.classes.items bound ≡ Some class →
+pub done_next : (before : List BitSet) (old new : Reached) (bound class : ℕ) → AreDoneBelow before old bound →
+    slice_get old.classes.items bound ≡ Some class →
     AreReached before new → KeepsReached old new → IsDone before new.distances.items class → AreDoneBelow before new (bound + 1)
 done_next before old new bound class d here reached kept done = record {
   reached = reached;
@@ -221,7 +231,8 @@ done_next before old new bound class d here reached kept done = record {
     old_at : (i : ℕ) → i < bound → (c : ℕ) × (slice_get old.classes.items i ≡ Some c)
     old_at i less = let lt = slice_get_within old.classes.items bound class here in (get_or old.classes.items i 0, slice_get-get_or old.classes.items i 0 (omega (arith, lt, less)))
 
-pub all_done : (before : List BitSet) (r : Reached) (bound : ℕ) → AreDoneBelow before r bound → length r.classes.items ≤ bound → AreDistances before r
+pub all_done : (before : List BitSet) (r : Reached) (bound : ℕ) → AreDoneBelow before r bound →
+    length r.classes.items ≤ bound → AreDistances before r
 all_done before r bound d le = record {
   reached = d.reached;
   all = λ c h.
@@ -231,21 +242,26 @@ all_done before r bound d le = record {
 
 -- ---- what is read
 
-pub distance_read : (ds : List (Option ℕ)) (c : ℕ) (o : Option ℕ) (k : ℕ) → c < length ds → o ≡ get_or ds c o → o ≡ Some k → distance_of ds c ≡ Some k
+pub distance_read : (ds : List (Option ℕ)) (c : ℕ) (o : Option ℕ) (k : ℕ) → c < length ds → o ≡ get_or ds c o →
+    o ≡ Some k → distance_of ds c ≡ Some k
 distance_read ds c o k lt e is = sym (get_or_read ds c o lt e None) ∙ is
 
-pub distance_unread : (ds : List (Option ℕ)) (c : ℕ) (o : Option ℕ) → c < length ds → o ≡ get_or ds c o → ((k : ℕ) → o ≡ Some k → ⊥) → (k : ℕ) → distance_of ds c ≡ Some k → ⊥
+pub distance_unread : (ds : List (Option ℕ)) (c : ℕ) (o : Option ℕ) → c < length ds → o ≡ get_or ds c o →
+    ((k : ℕ) → o ≡ Some k → ⊥) → (k : ℕ) → distance_of ds c ≡ Some k → ⊥
 distance_unread ds c o lt e none k is = none k (get_or_read ds c o lt e None ∙ is)
 
-pub distance_none : (ds : List (Option ℕ)) (c : ℕ) (o : Option ℕ) → c < length ds → o ≡ get_or ds c o → is_some o ≡ false → distance_of ds c ≡ None
+pub distance_none : (ds : List (Option ℕ)) (c : ℕ) (o : Option ℕ) → c < length ds → o ≡ get_or ds c o →
+    is_some o ≡ false → distance_of ds c ≡ None
 distance_none ds c None lt e is = sym (get_or_read ds c None lt e None)
 distance_none ds c (Some k) lt e is = absurd cc
 
-pub distance_some : (ds : List (Option ℕ)) (c : ℕ) (o : Option ℕ) → c < length ds → o ≡ get_or ds c o → is_some o ≡ true → HasDistance ds c
+pub distance_some : (ds : List (Option ℕ)) (c : ℕ) (o : Option ℕ) → c < length ds → o ≡ get_or ds c o →
+    is_some o ≡ true → HasDistance ds c
 distance_some ds c None lt e is = absurd cc
 distance_some ds c (Some k) lt e is = (k, sym (get_or_read ds c (Some k) lt e None))
 
-pub none_if_not_some : (before : List BitSet) (ds : List (Option ℕ)) (c bound : ℕ) (o : Option (ℕ × ℕ)) → IsNearestBelow before ds c bound o → ((x : ℕ × ℕ) → o ≡ Some x → ⊥) →
+pub none_if_not_some : (before : List BitSet) (ds : List (Option ℕ)) (c bound : ℕ) (o : Option (ℕ × ℕ)) →
+    IsNearestBelow before ds c bound o → ((x : ℕ × ℕ) → o ≡ Some x → ⊥) →
     IsNearestBelow before ds c bound None
 none_if_not_some before ds c bound None h never = h
 none_if_not_some before ds c bound (Some x) h never = absurd (never x refl)
@@ -253,7 +269,8 @@ none_if_not_some before ds c bound (Some x) h never = absurd (never x refl)
 -- ---- the nearest
 
 module _ (before : List BitSet) (ds : List (Option ℕ)) (c b : ℕ) where
-  pub nearest_skip : (o : Option (ℕ × ℕ)) → IsNearestBelow before ds c b o → ((k : ℕ) → InTable before c b → distance_of ds b ≡ Some k → ⊥) → IsNearestBelow before ds c (b + 1) o
+  pub nearest_skip : (o : Option (ℕ × ℕ)) → IsNearestBelow before ds c b o →
+      ((k : ℕ) → InTable before c b → distance_of ds b ≡ Some k → ⊥) → IsNearestBelow before ds c (b + 1) o
   nearest_skip None h never = λ d k lt edge e. elim (cases_lt d b) [
     | inl less ↦ h d k less edge e
     | inr ge ↦ let same : d ≡ b = omega arith in never k (subst (InTable before c) same edge) (ap (distance_of ds) (sym same) ∙ e)
@@ -271,7 +288,8 @@ module _ (before : List BitSet) (ds : List (Option ℕ)) (c b : ℕ) where
     is_here : (d m : ℕ) → b ≤ d → d < b + 1 → distance_of ds d ≡ Some m → m ≡ k
     is_here d m ge lt e = let same : d ≡ b = omega arith in some_is_some _ m k (ap (distance_of ds) (sym same) ∙ e) at
 
-    pub nearest_take : (o : Option (ℕ × ℕ)) → IsNearestBelow before ds c b o → IsNearestBelow before ds c (b + 1) (nearer o b k)
+    pub nearest_take : (o : Option (ℕ × ℕ)) → IsNearestBelow before ds c b o →
+        IsNearestBelow before ds c (b + 1) (nearer o b k)
     nearest_take None h = (
       edge,
       at,
@@ -319,10 +337,12 @@ pub record IsWay (before : List BitSet) (r : Reached) (cycle : List ℕ) (class 
   pub first : slice_index cycle 0 ≡ r.target
   pub some : 0 < length cycle
   pub distinct : AllPairs ◌≢◌ cycle
-  pub ahead : (x : ℕ) → Contains cycle x → (x ≡ r.target) ⊎ ((k : ℕ) × (distance_of r.distances.items x ≡ Some k) × (distance < k))
+  pub ahead : (x : ℕ) → Contains cycle x →
+      (x ≡ r.target) ⊎ ((k : ℕ) × (distance_of r.distances.items x ≡ Some k) × (distance < k))
   pub at : distance_of r.distances.items class ≡ Some distance
 
-lead_on : (E : ℕ → ℕ → Type 0) (cycle : List ℕ) (class next : ℕ) → LeadTo E class cycle → E class next → LeadTo E next (cycle ++ class ∷ [])
+lead_on : (E : ℕ → ℕ → Type 0) (cycle : List ℕ) (class next : ℕ) → LeadTo E class cycle → E class next →
+    LeadTo E next (cycle ++ class ∷ [])
 lead_on E [] class next l e = e
 lead_on E (c ∷ []) class next l e = (l, e)
 lead_on E (c ∷ d ∷ rest) class next l e = (l.0, lead_on E (d ∷ rest) class next l.1 e)
@@ -332,7 +352,8 @@ first_still [] c h = absurd (omega arith)
 first_still (x ∷ cycle) c h = refl
 
 module _ (before : List BitSet) (r : Reached) (all : AreDistances before r) where
-  pub way_starts : (class distance : ℕ) (cycle : List ℕ) → InTable before r.target class → distance_of r.distances.items class ≡ Some distance → cycle ≡ r.target ∷ [] →
+  pub way_starts : (class distance : ℕ) (cycle : List ℕ) → InTable before r.target class →
+      distance_of r.distances.items class ≡ Some distance → cycle ≡ r.target ∷ [] →
       IsWay before r cycle class distance
   way_starts class distance cycle edge at e = record {
     lead = subst (LeadTo (InTable before) class) (sym e) edge;
@@ -344,7 +365,8 @@ module _ (before : List BitSet) (r : Reached) (all : AreDistances before r) wher
   }
 
   -- a class that isn't the target leads nearer
-  leads_nearer : (class distance : ℕ) → 0 < distance → distance_of r.distances.items class ≡ Some distance → LeadsNearer before r.distances.items class distance
+  leads_nearer : (class distance : ℕ) → 0 < distance → distance_of r.distances.items class ≡ Some distance →
+      LeadsNearer before r.distances.items class distance
   leads_nearer class distance some at =
       elim (all.reached.nearer class distance at) [
         | inl e ↦ absurd (omega (arith, some_is_some _ distance 0 at (ap (distance_of r.distances.items) e ∙ all.reached.target)))
@@ -357,12 +379,14 @@ module _ (before : List BitSet) (r : Reached) (all : AreDistances before r) wher
         let n = leads_nearer class distance some at in
         h n.0 n.1 (reached_within before r all.reached n.0 (n.1, n.3)) n.2 n.3
 
-    pub nearest_is_nearer : (x : ℕ × ℕ) → IsNearestBelow before r.distances.items class (length before) (Some x) → x.1 < distance
+    pub nearest_is_nearer : (x : ℕ × ℕ) → IsNearestBelow before r.distances.items class (length before) (Some x) →
+        x.1 < distance
     nearest_is_nearer x h =
         let n = leads_nearer class distance some at in
         omega (arith, n.4, h.2 n.0 n.1 (reached_within before r all.reached n.0 (n.1, n.3)) n.2 n.3)
 
-  pub way_goes_on : (cycle after : List ℕ) (class distance next left : ℕ) → IsWay before r cycle class distance → 0 < distance → InTable before class next →
+  pub way_goes_on : (cycle after : List ℕ) (class distance next left : ℕ) → IsWay before r cycle class distance →
+      0 < distance → InTable before class next →
       distance_of r.distances.items next ≡ Some left → left < distance → after ≡ cycle ++ class ∷ [] → IsWay before r after next left
   way_goes_on cycle after class distance next left w some edge at less e = record {
     lead = subst (LeadTo (InTable before) next) (sym e) (lead_on (InTable before) cycle class next w.lead edge);
@@ -382,11 +406,13 @@ module _ (before : List BitSet) (r : Reached) (all : AreDistances before r) wher
   pub way_within : (cycle : List ℕ) (class distance : ℕ) → IsWay before r cycle class distance → class < length before
   way_within cycle class distance w = reached_within before r all.reached class (distance, w.at)
 
-  closed : (cycle : List ℕ) → slice_index cycle 0 ≡ r.target → 0 < length cycle → AllPairs ◌≢◌ cycle → LeadTo (InTable before) r.target cycle → IsCycle (InTable before) cycle
+  closed : (cycle : List ℕ) → slice_index cycle 0 ≡ r.target → 0 < length cycle → AllPairs ◌≢◌ cycle →
+      LeadTo (InTable before) r.target cycle → IsCycle (InTable before) cycle
   closed [] f h d l = absurd (omega arith)
   closed (c ∷ rest) f h d l = (d, subst (λ x. LeadTo (InTable before) x (c ∷ rest)) (sym f) l)
 
-  pub way_closes : (cycle : List ℕ) (class distance : ℕ) → IsWay before r cycle class distance → distance ≤ 0 → IsCycle (InTable before) cycle
+  pub way_closes : (cycle : List ℕ) (class distance : ℕ) → IsWay before r cycle class distance → distance ≤ 0 →
+      IsCycle (InTable before) cycle
   way_closes cycle class distance w none =
       elim (all.reached.nearer class distance w.at) [
         | inl is ↦ closed cycle w.first w.some w.distinct (subst (λ x. LeadTo (InTable before) x cycle) is w.lead)
@@ -397,9 +423,11 @@ module _ (before : List BitSet) (r : Reached) (all : AreDistances before r) wher
   leads_there {c} {d} (one e) is = all.all d (0, ap (distance_of r.distances.items) is ∙ all.reached.target) c e
   leads_there {c} (further {q} e p) is = all.all q (leads_there p is) c e
 
-  first_step : {c d : ℕ} → Plus (InTable before) c d → d ≡ r.target → (e : ℕ) × InTable before c e × HasDistance r.distances.items e
+  first_step : {c d : ℕ} → Plus (InTable before) c d → d ≡ r.target →
+      (e : ℕ) × InTable before c e × HasDistance r.distances.items e
   first_step {c} {d} (one e) is = (d, e, (0, ap (distance_of r.distances.items) is ∙ all.reached.target))
   first_step {c} (further {q} e p) is = (q, e, leads_there p is)
 
-  pub on_no_cycle : IsNearestBelow before r.distances.items r.target (length before) None → IsOnCycle before r.target → ⊥
+  pub on_no_cycle : IsNearestBelow before r.distances.items r.target (length before) None →
+      IsOnCycle before r.target → ⊥
   on_no_cycle h p = let s = first_step p refl in h s.0 s.2.0 (reached_within before r all.reached s.0 s.2) s.1 s.2.1

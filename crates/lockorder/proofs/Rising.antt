@@ -1,5 +1,6 @@
 -- Rank lists: how they grow, and that every edge rises in them.
-use Rattle.std.proofs.Common.{◌≡◌, ℕ, zero, suc, ◌<◌, List, [], ◌∷◌, ◌++◌, take, length, Some, sym, ◌∙◌, subst, arith, append-nil, append_assoc}
+use Rattle.std.proofs.Common.{◌≡◌, ℕ, zero, suc, ◌<◌, List, [], ◌∷◌, ◌++◌, take, length, Some, sym, ◌∙◌, subst, arith}
+use Rattle.std.proofs.Common.{append-nil, append_assoc}
 use Rattle.std.specs.Prelude.{slice_get, slice_index}
 use Rattle.std.specs.List.{Contains}
 use Rattle.std.proofs.lemmas.Option.{none-some, slice_get_within, slice_get-get_or}
@@ -18,17 +19,20 @@ module _ (E : ℕ → ℕ → Type 0) (n : ℕ) where
     ready_listed : (c : ℕ) → IsReady E n L c → IsReady E n M c
     ready_listed c r = record { class = r.class; new = λ m. r.new (from c m); listed_before = λ b e. to b (r.listed_before b e) }
 
-  pub next_listed : (L M : ℕ → Type 0) (c : ℕ) → ((d : ℕ) → L d → M d) → ((d : ℕ) → M d → L d) → IsNext E n L c → IsNext E n M c
+  pub next_listed : (L M : ℕ → Type 0) (c : ℕ) → ((d : ℕ) → L d → M d) → ((d : ℕ) → M d → L d) → IsNext E n L c →
+      IsNext E n M c
   next_listed L M c to from x = record { ready = ready_listed L M to from c x.ready; lowest = λ d r. x.lowest d (ready_listed M L from to d r) }
 
-  pub each_push : (listed list : List ℕ) (c : ℕ) → EachIsNext E n listed list → IsNext E n (Contains (listed ++ list)) c → EachIsNext E n listed (list ++ c ∷ [])
+  pub each_push : (listed list : List ℕ) (c : ℕ) → EachIsNext E n listed list →
+      IsNext E n (Contains (listed ++ list)) c → EachIsNext E n listed (list ++ c ∷ [])
   each_push listed [] c e h = (subst (λ (l : List ℕ). IsNext E n (Contains l) c) (append-nil listed) h, tt)
   each_push listed (x ∷ list) c e h =
       (e.0, each_push (listed ++ x ∷ []) list c e.1 (subst (λ (l : List ℕ). IsNext E n (Contains l) c) (sym (append_assoc listed (x ∷ []) list)) h))
 
   -- ---- each edge rises
 
-  next_at : (listed list : List ℕ) (k d : ℕ) → EachIsNext E n listed list → slice_get list k ≡ Some d → IsNext E n (Contains (listed ++ take k list)) d
+  next_at : (listed list : List ℕ) (k d : ℕ) → EachIsNext E n listed list → slice_get list k ≡ Some d →
+      IsNext E n (Contains (listed ++ take k list)) d
   next_at listed [] k d e at = absurd (none-some d at)
   next_at listed (x ∷ list) zero d e at =
       let same : x ≡ d = same_some x d at in
@@ -37,7 +41,8 @@ module _ (E : ℕ → ℕ → Type 0) (n : ℕ) where
       subst (λ (l : List ℕ). IsNext E n (Contains l) d) (append_assoc listed (x ∷ []) (take k list)) (next_at (listed ++ x ∷ []) list k d e.1 at)
 
   -- what has to come before a listed class stands before it
-  stands_before : (list : List ℕ) (k c d : ℕ) → EachIsNext E n [] list → slice_get list k ≡ Some d → E c d → (j : ℕ) × (j < k) × (slice_get list j ≡ Some c)
+  stands_before : (list : List ℕ) (k c d : ℕ) → EachIsNext E n [] list → slice_get list k ≡ Some d → E c d →
+      (j : ℕ) × (j < k) × (slice_get list j ≡ Some c)
   stands_before list k c d e at edge = in_take k list c ((next_at [] list k d e at).ready.listed_before c edge)
 
   pub ranks_rise : (ranks : List ℕ) → AreRanks E n ranks → Rise E ranks
@@ -57,7 +62,8 @@ module _ (E : ℕ → ℕ → Type 0) (n : ℕ) where
         let w = within c d e in
         rise c d (slice_index ranks c) (slice_index ranks d) e (slice_get-get_or ranks c 0 w.0) (slice_get-get_or ranks d 0 w.1)
 
-    rises_along : (first c : ℕ) (rest : List ℕ) → LeadTo E first (c ∷ rest) → slice_index ranks c < slice_index ranks first
+    rises_along : (first c : ℕ) (rest : List ℕ) → LeadTo E first (c ∷ rest) →
+        slice_index ranks c < slice_index ranks first
     rises_along first c [] l = rank_rises c first l
     rises_along first c (d ∷ rest) l = omega (arith, rank_rises c d l.0, rises_along first d rest l.1)
 

@@ -1,5 +1,6 @@
 -- Finding the points that come before a target.
-use Rattle.std.proofs.Common.{◌≡◌, ℕ, zero, suc, ◌+◌, ◌≤◌, ◌<◌, Bool, true, false, List, [], ◌∷◌, ◌++◌, take, drop, append-nil, set, replicate, length, get_or, inl, inr, refl, sym, ap, ◌∙◌, subst, arith}
+use Rattle.std.proofs.Common.{◌≡◌, ℕ, zero, suc, ◌+◌, ◌≤◌, ◌<◌, Bool, true, false, List, [], ◌∷◌, ◌++◌, take, drop}
+use Rattle.std.proofs.Common.{append-nil, set, replicate, length, get_or, inl, inr, refl, sym, ap, ◌∙◌, subst, arith}
 use Rattle.std.specs.List.{Contains}
 use Rattle.std.proofs.lemmas.Bool.{cases_eq, cases_lt, cases_Bool}
 use Rattle.std.proofs.lemmas.List.{get_or-set_other, get_or_default, drop_all, take_all}
@@ -12,7 +13,8 @@ none_found zero p = refl
 none_found (suc n) zero = refl
 none_found (suc n) (suc p) = none_found n p
 
-pub one_fewer : (found : List Bool) (p : ℕ) → p < length found → is_found found p ≡ false → unfound (set found p true) + 1 ≡ unfound found
+pub one_fewer : (found : List Bool) (p : ℕ) → p < length found → is_found found p ≡ false →
+    unfound (set found p true) + 1 ≡ unfound found
 one_fewer [] p lt e = absurd (omega arith)
 one_fewer (true ∷ found) zero lt e = absurd cc
 one_fewer (false ∷ found) zero lt e = omega arith
@@ -24,11 +26,13 @@ pub record IsTurn (pairs : List (ℕ × ℕ)) (target : ℕ) (old found : List B
   pub sound : AreBefore pairs target found
   pub long : length found ≡ length old
   pub further : grew ≡ true → unfound found < unfound old
-  pub all : grew ≡ false → (k : ℕ) (p q : ℕ) → from ≤ k → k < length pairs → get_or pairs k (p, q) ≡ (p, q) → LeadsOn target found q → is_found found p ≡ true
+  pub all : grew ≡ false → (k : ℕ) (p q : ℕ) → from ≤ k → k < length pairs → get_or pairs k (p, q) ≡ (p, q) →
+      LeadsOn target found q → is_found found p ≡ true
   pub no_more : unfound found ≤ unfound old
 
 -- the pair that is read
-pub pair_read : (pairs : List (ℕ × ℕ)) (i : ℕ) (d : ℕ × ℕ) → i < length pairs → get_or pairs i ((get_or pairs i d).0, (get_or pairs i d).1) ≡ ((get_or pairs i d).0, (get_or pairs i d).1)
+pub pair_read : (pairs : List (ℕ × ℕ)) (i : ℕ) (d : ℕ × ℕ) → i < length pairs →
+    get_or pairs i ((get_or pairs i d).0, (get_or pairs i d).1) ≡ ((get_or pairs i d).0, (get_or pairs i d).1)
 pair_read pairs i d lt = get_or_default pairs i ((get_or pairs i d).0, (get_or pairs i d).1) d lt
 
 module _ (pairs : List (ℕ × ℕ)) (target : ℕ) (old found : List Bool) (grew : Bool) (i : ℕ) (turn : IsTurn pairs target old found grew (i + 1)) (p q : ℕ) (lt : i < length pairs)
@@ -41,7 +45,8 @@ module _ (pairs : List (ℕ × ℕ)) (target : ℕ) (old found : List Bool) (gre
   leads_to (inr e) = more there (turn.sound q e)
 
   -- the pair leads on from a point that isn't found yet
-  pub turn_takes : p < length found → is_found found p ≡ false → LeadsOn target found q → IsTurn pairs target old (set found p true) true i
+  pub turn_takes : p < length found → is_found found p ≡ false → LeadsOn target found q →
+      IsTurn pairs target old (set found p true) true i
   turn_takes within new on =
       let less = one_fewer found p within new in
       record {
@@ -79,7 +84,8 @@ module _ (pairs : List (ℕ × ℕ)) (target : ℕ) (old found : List Bool) (gre
       same_item : (k a b : ℕ) → k < length pairs → get_or pairs k (a, b) ≡ get_or pairs k (p, q)
       same_item k a b hi = get_or_default pairs k (a, b) (p, q) hi
 
-pub all_before : (pairs : List (ℕ × ℕ)) (target : ℕ) (found : List Bool) → AreAllBefore pairs target found → (p : ℕ) → ComesBefore pairs p target → is_found found p ≡ true
+pub all_before : (pairs : List (ℕ × ℕ)) (target : ℕ) (found : List Bool) → AreAllBefore pairs target found → (p : ℕ) →
+    ComesBefore pairs p target → is_found found p ≡ true
 all_before pairs target found all p c = go c refl
   where
     go : {a b : ℕ} → ComesBefore pairs a b → b ≡ target → is_found found a ≡ true
@@ -87,7 +93,8 @@ all_before pairs target found all p c = go c refl
     go {a} (more {q} e c) is = all a q e (inr (go c is))
 
 -- a slice of the whole is written back
-pub put_back : (xs ys : List Bool) (n : ℕ) → length ys ≡ length xs → n ≡ length xs → take n (ys ++ drop (length ys) xs) ≡ ys
+pub put_back : (xs ys : List Bool) (n : ℕ) → length ys ≡ length xs → n ≡ length xs →
+    take n (ys ++ drop (length ys) xs) ≡ ys
 put_back xs ys n e f =
     let none : drop (length ys) xs ≡ [] = drop_all (length ys) xs (omega (arith, e)) in
     ap (λ l. take n (ys ++ l)) none ∙ ap (take n) (append-nil ys) ∙ take_all n ys (omega (arith, e, f))

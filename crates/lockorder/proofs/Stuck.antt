@@ -1,5 +1,6 @@
 -- Where no class is ready and not all are listed, edges lead from some class round to itself.
-use Rattle.std.proofs.Common.{◌≡◌, ℕ, zero, suc, ◌+◌, ◌<◌, Bool, false, not, ◌&&◌, List, [], ◌∷◌, length, inl, inr, refl, sym, subst, arith}
+use Rattle.std.proofs.Common.{◌≡◌, ℕ, zero, suc, ◌+◌, ◌<◌, Bool, false, not, ◌&&◌, List, [], ◌∷◌, length, inl, inr}
+use Rattle.std.proofs.Common.{refl, sym, subst, arith}
 use Rattle.std.specs.Prelude.{◌≢◌}
 use Rattle.std.specs.List.{All, AllPairs, Contains}
 use Rattle.std.proofs.lemmas.Bool.{and_parts, and_cases, both_ways, not-true, not-false}
@@ -31,7 +32,8 @@ module _ (before : List BitSet) (listed : BitSet) (within : LeadsWithin before) 
         }))
       ]
     where
-      is_listed : (b : ℕ) → InTable before b c → (has_edge before b c && not (has_number listed b)) ≡ false → InSet listed b
+      is_listed : (b : ℕ) → InTable before b c → (has_edge before b c && not (has_number listed b)) ≡ false →
+          InSet listed b
       is_listed b e h =
           elim (and_cases (has_edge before b c) (not (has_number listed b)) h) [
             | inl not_so ↦ absurd (both_ways (has_edge before b c) not_so e)
@@ -59,7 +61,8 @@ module _ (before : List BitSet) (listed : BitSet) (within : LeadsWithin before) 
       then_edge (one f) g = more f (one g)
       then_edge (more f p) g = more f (then_edge p g)
 
-  longer : (b c : ℕ) (cs : List ℕ) → IsTrail c cs → b < length before → InTable before b c → IsNew b → (Contains (c ∷ cs) b → ⊥) → IsTrail b (c ∷ cs)
+  longer : (b c : ℕ) (cs : List ℕ) → IsTrail c cs → b < length before → InTable before b c → IsNew b →
+      (Contains (c ∷ cs) b → ⊥) → IsTrail b (c ∷ cs)
   longer b c cs t lt e new apart = record {
     new = new;
     below = All-cons (λ x. x < length before) b (c ∷ cs) lt t.below;

@@ -1,6 +1,8 @@
 -- What is gathered behind accesses: their lock paths, each once, and the least of their faults; behind a fault of the limit only the
 -- latter.
-use Rattle.std.proofs.Common.{◌≡◌, ℕ, zero, suc, ◌+◌, ◌≤◌, ◌<◌, Bool, true, false, List, [], ◌∷◌, ◌++◌, length, map, Option, Some, None, ◌⊎◌, inl, inr, refl, sym, ap, ◌∙◌, subst, arith, append-nil, append_assoc, length-append}
+use Rattle.std.proofs.Common.{◌≡◌, ℕ, zero, suc, ◌+◌, ◌≤◌, ◌<◌, Bool, true, false, List, [], ◌∷◌, ◌++◌, length, map}
+use Rattle.std.proofs.Common.{Option, Some, None, ◌⊎◌, inl, inr, refl, sym, ap, ◌∙◌, subst, arith, append-nil}
+use Rattle.std.proofs.Common.{append_assoc, length-append}
 use Rattle.std.specs.Prelude.{slice_get, nat_lt, ◌==◌, if◌then◌else◌}
 use Rattle.std.specs.List.{cons_option, flat_map}
 use Rattle.std.proofs.lemmas.Bool.{ltb-true, ltb-false, le-ltb, eq-eqb, ne_eqb}
@@ -18,7 +20,9 @@ use Rattle.locks.specs.Faults.{Named, where_at}
 use Rattle.locks.specs.LockPaths.{StablePath, LockPath, stable, each_once, lock_path, paths_of}
 use Rattle.locks.specs.Working.Laws.{SamePathDecides}
 use Rattle.lockpaths_forms.specs.Working.Forms.{replacements_at}
-use Rattle.lockpaths.specs.Working.Gathering.{Gathered, is_in, place_from, with_new, with_path, with_known, blamed, met, ended, gathered, gathered_at, with_access, blamed_unless, with_where, with_owner, with_owners}
+use Rattle.lockpaths.specs.Working.Gathering.{Gathered, is_in, place_from, with_new, with_path, with_known, blamed}
+use Rattle.lockpaths.specs.Working.Gathering.{met, ended, gathered, gathered_at, with_access, blamed_unless}
+use Rattle.lockpaths.specs.Working.Gathering.{with_where, with_owner, with_owners}
 use Rattle.lockpaths.specs.Working.Faulted.{fault_of, faults_behind, fault_unless, where_fault, owner_fault}
 use Rattle.lockpaths.proofs.Once.{place_in, place_none, once_in, once_new, once_known}
 use Rattle.lockpaths.proofs.Formed.{path_is_right}
@@ -34,7 +38,8 @@ get_last : {A : Type 0} (xs : List A) (x : A) → slice_get (xs ++ x ∷ []) (le
 get_last [] x = refl
 get_last (y ∷ xs) x = get_last xs x
 
-map_more : (xs ys : List LockPath) (ns : List ℕ) (ps : List LockPath) → map (slice_get xs) ns ≡ map Some ps → map (slice_get (xs ++ ys)) ns ≡ map Some ps
+map_more : (xs ys : List LockPath) (ns : List ℕ) (ps : List LockPath) → map (slice_get xs) ns ≡ map Some ps →
+    map (slice_get (xs ++ ys)) ns ≡ map Some ps
 map_more xs ys [] [] e = refl
 map_more xs ys [] (p ∷ ps) e = absurd cc
 map_more xs ys (n ∷ ns) [] e = absurd cc
@@ -87,7 +92,8 @@ module _ (g : Gathered) (start : ℕ) (path : LockPath) where
       ap (λ b. if b then [] else if length (each_once ps) == 64 then record { code = LimitExceeded; start = start } ∷ [] else []) e
       ∙ ap (λ b. if t then [] else if b then record { code = LimitExceeded; start = start } ∷ [] else []) f
 
-none_met : (ps : List LockPath) (ends : List ℕ) (g : Gathered) (start : ℕ) → IsState ps ends g → IsNext ps [] ends g (fault_of ps start None) (met g start None)
+none_met : (ps : List LockPath) (ends : List ℕ) (g : Gathered) (start : ℕ) → IsState ps ends g →
+    IsNext ps [] ends g (fault_of ps start None) (met g start None)
 none_met ps ends g start (inl w) =
     record {
       state = subst (λ (l : List LockPath). IsState l ends (blamed g UnstableBase start)) (sym (append-nil ps)) (inl (record { paths = w.paths; limit = w.limit; numbers = w.numbers; ends_are = w.ends_are }));
@@ -135,7 +141,8 @@ module _ (decides : SamePathDecides) (ps : List LockPath) (ends : List ℕ) (g :
   same_length : length g.paths ≡ length (each_once ps)
   same_length = ap length w.paths
 
-  new_met : (t : Bool) → nat_lt (length g.paths) 64 ≡ t → IsNext ps (path ∷ []) ends g (fault_of ps start (Some path)) (met g start (Some path))
+  new_met : (t : Bool) → nat_lt (length g.paths) 64 ≡ t →
+      IsNext ps (path ∷ []) ends g (fault_of ps start (Some path)) (met g start (Some path))
   new_met true lt =
       let less : length g.paths < 64 = ltb-true (length g.paths) 64 lt in
       let not_yet : (length (each_once ps) == 64) ≡ false = ne_eqb (length (each_once ps)) 64 (λ h. omega (arith, less, same_length, h)) in
@@ -211,7 +218,8 @@ module _ (program : Typed) (section : Section) where
   ends_from before [] = []
   ends_from before (p ∷ ps) = length (paths_of program section (before ++ accesses_at p)) ∷ ends_from (before ++ accesses_at p) ps
 
-  paths_append : (xs ys : List Access) → paths_of program section (xs ++ ys) ≡ paths_of program section xs ++ paths_of program section ys
+  paths_append : (xs ys : List Access) →
+      paths_of program section (xs ++ ys) ≡ paths_of program section xs ++ paths_of program section ys
   paths_append xs ys = filter_map-append (lock_path program section) xs ys
 
   pub faults_append : (before xs ys : List Access) →
@@ -229,7 +237,8 @@ module _ (program : Typed) (section : Section) where
     pub least : g'.least ≡ least_of g.least (faults_behind program section before rest)
 
   module _ (decides : SamePathDecides) where
-    one_access : (before : List Access) (ends : List ℕ) (g : Gathered) (a : Access) → IsState (paths_of program section before) ends g →
+    one_access : (before : List Access) (ends : List ℕ) (g : Gathered) (a : Access) →
+        IsState (paths_of program section before) ends g →
         IsNext (paths_of program section before) (cons_option (lock_path program section a) []) ends g
         (fault_of (paths_of program section before) a.start (lock_path program section a)) (with_access program section (replacements_at section (points section)) g a)
     one_access before ends g a s =
@@ -237,7 +246,8 @@ module _ (program : Typed) (section : Section) where
         (fault_of (paths_of program section before) a.start (lock_path program section a)) (met g a.start o)) (sym (path_is_right program section a.target))
         (next_met decides (paths_of program section before) ends g a.start (lock_path program section a) s)
 
-    all_accesses : (before rest : List Access) (ends : List ℕ) (g : Gathered) → IsState (paths_of program section before) ends g →
+    all_accesses : (before rest : List Access) (ends : List ℕ) (g : Gathered) →
+        IsState (paths_of program section before) ends g →
         IsBehind before rest ends g (gathered program section (replacements_at section (points section)) g rest)
     all_accesses before [] ends g s =
         record { state = subst (λ (l : List Access). IsState (paths_of program section l) ends g) (sym (append-nil before)) s; least = refl }
@@ -255,13 +265,15 @@ module _ (program : Typed) (section : Section) where
               ∙ sym (least_append g.least (fault_of (paths_of program section before) a.start (lock_path program section a)) (faults_behind program section (before ++ a ∷ []) rest));
         }
 
-    ended_at : (ps : List LockPath) (ends : List ℕ) (g : Gathered) → IsState ps ends g → IsState ps (ends ++ length ps ∷ []) (ended g)
+    ended_at : (ps : List LockPath) (ends : List ℕ) (g : Gathered) → IsState ps ends g →
+        IsState ps (ends ++ length ps ∷ []) (ended g)
     ended_at ps ends g (inl w) =
         let count : length g.numbers ≡ length ps = sym (length-map g.numbers (slice_get g.paths)) ∙ ap length w.numbers ∙ length-map ps Some in
         inl (record { paths = w.paths; limit = w.limit; numbers = w.numbers; ends_are = ap (λ l. l ++ length g.numbers ∷ []) w.ends_are ∙ ap (λ n. ends ++ n ∷ []) count })
     ended_at ps ends g (inr o) = inr (record { full = o.full; over = o.over; fault = o.fault })
 
-    pub all_points_met : (before : List Access) (ps : List Point) (ends : List ℕ) (g : Gathered) → IsState (paths_of program section before) ends g →
+    pub all_points_met : (before : List Access) (ps : List Point) (ends : List ℕ) (g : Gathered) →
+        IsState (paths_of program section before) ends g →
         IsBehind before (flat_map accesses_at ps) (ends ++ ends_from before ps) g (gathered_at program section (replacements_at section (points section)) g ps)
     all_points_met before [] ends g s =
         record {
@@ -298,15 +310,18 @@ module _ (section : Section) (ps : List LockPath) (ends : List ℕ) where
   blamed_state g start (inl w) = inl (record { paths = w.paths; limit = w.limit; numbers = w.numbers; ends_are = w.ends_are })
   blamed_state g start (inr o) = inr (record { full = o.full; over = o.over; fault = lesser_is g.least _ })
 
-  unless_met : (g : Gathered) (start : ℕ) (o : Option StablePath) → IsState ps ends g → IsAfter ps ends g (fault_unless start o) (blamed_unless g start o)
+  unless_met : (g : Gathered) (start : ℕ) (o : Option StablePath) → IsState ps ends g →
+      IsAfter ps ends g (fault_unless start o) (blamed_unless g start o)
   unless_met g start None s = record { state = blamed_state g start s; least = refl }
   unless_met g start (Some path) s = record { state = s; least = refl }
 
-  where_met : (g : Gathered) (o : Option Named) → IsState ps ends g → IsAfter ps ends g (where_fault section o) (with_where section g o)
+  where_met : (g : Gathered) (o : Option Named) → IsState ps ends g →
+      IsAfter ps ends g (where_fault section o) (with_where section g o)
   where_met g None s = record { state = s; least = refl }
   where_met g (Some owner) s = unless_met g owner.start (stable section owner.local []) s
 
-  pub owners_met : (list : List Point) (g : Gathered) → IsState ps ends g → IsAfter ps ends g (flat_map (owner_fault section) list) (with_owners section g list)
+  pub owners_met : (list : List Point) (g : Gathered) → IsState ps ends g →
+      IsAfter ps ends g (flat_map (owner_fault section) list) (with_owners section g list)
   owners_met [] g s = record { state = s; least = refl }
   owners_met (p ∷ rest) g s =
       let one = where_met g (where_at p) s in

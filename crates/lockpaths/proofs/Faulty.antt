@@ -1,5 +1,6 @@
 -- The faults that are noted are those of the program.
-use Rattle.std.proofs.Common.{◌≡◌, ℕ, zero, suc, Bool, true, false, List, [], ◌∷◌, ◌++◌, length, map, Option, Some, None, ◌⊎◌, inl, inr, refl, sym, ap, ◌∙◌, subst, append-nil, append_assoc, arith}
+use Rattle.std.proofs.Common.{◌≡◌, ℕ, zero, suc, Bool, true, false, List, [], ◌∷◌, ◌++◌, length, map, Option, Some}
+use Rattle.std.proofs.Common.{None, ◌⊎◌, inl, inr, refl, sym, ap, ◌∙◌, subst, append-nil, append_assoc, arith}
 use Rattle.std.specs.Prelude.{slice_get, ◌==◌, if◌then◌else◌}
 use Rattle.std.specs.List.{Contains, cons_option, flat_map}
 use Rattle.std.proofs.lemmas.Bool.{eqb-true, eq-eqb, both_ways, false_from_ne_true}
@@ -14,10 +15,13 @@ use Rattle.core_lang.specs.declared.typed.Typed.{Typed}
 use Rattle.locks.specs.Accesses.{Access, accesses}
 use Rattle.flow.specs.Points.{Point, points}
 use Rattle.locks.specs.LockPaths.{StablePath, LockPath, stable, each_once, lock_path, paths_of}
-use Rattle.locks.specs.Faults.{HasSection, Named, where_at, IsUnstable, unstable, IsUnstableOwner, unstable_owner, IsOverLimit, one_too_many, IsFault, unstable_base, unstable_owner_base, over_limit, HasNoFault}
+use Rattle.locks.specs.Faults.{HasSection, Named, where_at, IsUnstable, unstable, IsUnstableOwner, unstable_owner}
+use Rattle.locks.specs.Faults.{IsOverLimit, one_too_many, IsFault, unstable_base, unstable_owner_base, over_limit}
+use Rattle.locks.specs.Faults.{HasNoFault}
 use Rattle.locks.specs.Working.Laws.{SamePathDecides}
 use Rattle.lockpaths.specs.Working.Gathering.{is_in}
-use Rattle.lockpaths.specs.Working.Faulted.{fault_of, faults_behind, fault_unless, where_fault, owner_fault, faults_in, faults_of}
+use Rattle.lockpaths.specs.Working.Faulted.{fault_of, faults_behind, fault_unless, where_fault, owner_fault}
+use Rattle.lockpaths.specs.Working.Faulted.{faults_in, faults_of}
 use Rattle.lockpaths.proofs.Contained.{in_middle, around}
 use Rattle.lockpaths.proofs.Once.{is_in_contains, contains_is_in}
 use Rattle.lockpaths.proofs.Accessed.{lesser_is}
@@ -39,7 +43,8 @@ among_right : (f : Mistake) (xs ys : List Mistake) → IsAmong f ys → IsAmong 
 among_right f [] ys i = i
 among_right f (x ∷ xs) ys i = inr (among_right f xs ys i)
 
-from_each : {A : Type 0} (f : Mistake) (h : A → List Mistake) (xs : List A) → IsAmong f (flat_map h xs) → (k : ℕ) × (x : A) × (slice_get xs k ≡ Some x) × IsAmong f (h x)
+from_each : {A : Type 0} (f : Mistake) (h : A → List Mistake) (xs : List A) → IsAmong f (flat_map h xs) →
+    (k : ℕ) × (x : A) × (slice_get xs k ≡ Some x) × IsAmong f (h x)
 from_each f h [] i = absurd i
 from_each f h (x ∷ xs) i =
     elim (among_cases f (h x) (flat_map h xs) i) [
@@ -47,7 +52,8 @@ from_each f h (x ∷ xs) i =
       | inr r ↦ let d = from_each f h xs r in (suc d.0, d.1, d.2, d.3)
     ]
 
-to_each : {A : Type 0} (f : Mistake) (h : A → List Mistake) (xs : List A) (k : ℕ) (x : A) → slice_get xs k ≡ Some x → IsAmong f (h x) → IsAmong f (flat_map h xs)
+to_each : {A : Type 0} (f : Mistake) (h : A → List Mistake) (xs : List A) (k : ℕ) (x : A) → slice_get xs k ≡ Some x →
+    IsAmong f (h x) → IsAmong f (flat_map h xs)
 to_each f h [] k x e i = absurd (none-some x e)
 to_each {A = A} f h (y ∷ xs) zero x e i =
     let same : y ≡ x = cc in among_left f (h y) (flat_map h xs) (subst (λ (z : A). IsAmong f (h z)) (sym same) i)
@@ -59,7 +65,8 @@ read_in [] k x e = absurd (none-some x e)
 read_in (y ∷ xs) zero x e = let same : y ≡ x = cc in (0, omega arith, same)
 read_in (y ∷ xs) (suc k) x e = in_rest y x xs (read_in xs k x e)
 
-to_contained : {A : Type 0} (f : Mistake) (h : A → List Mistake) (xs : List A) (x : A) → Contains xs x → IsAmong f (h x) → IsAmong f (flat_map h xs)
+to_contained : {A : Type 0} (f : Mistake) (h : A → List Mistake) (xs : List A) (x : A) → Contains xs x →
+    IsAmong f (h x) → IsAmong f (flat_map h xs)
 to_contained f h [] x c i = absurd (not_in_none x c)
 to_contained {A = A} f h (y ∷ xs) x c i =
     elim (in_cases y x xs c) [
@@ -110,7 +117,8 @@ module _ (program : Typed) (section : Section) where
       among_left f (faults_behind program section [] (accesses section)) (flat_map (owner_fault section) (points section))
       (subst (λ (l : List Access). IsAmong f (faults_behind program section [] l)) (sym e) (to_behind f [] front back a i))
 
-  to_owner : (f : Mistake) (point : Point) → Contains (points section) point → IsAmong f (owner_fault section point) → IsAmong f (faults_in program section)
+  to_owner : (f : Mistake) (point : Point) → Contains (points section) point → IsAmong f (owner_fault section point) →
+      IsAmong f (faults_in program section)
   to_owner f point c i =
       among_right f (faults_behind program section [] (accesses section)) (flat_map (owner_fault section) (points section))
       (to_contained f (owner_fault section) (points section) point c i)
@@ -123,18 +131,21 @@ module _ (program : Typed) (section : Section) where
   no_parts [] ys e = e
   no_parts (x ∷ xs) ys e = absurd cc
 
-  each_has : (before rest : List Access) → faults_behind program section before rest ≡ [] → map Some (paths_of program section rest) ≡ map (lock_path program section) rest
+  each_has : (before rest : List Access) → faults_behind program section before rest ≡ [] →
+      map Some (paths_of program section rest) ≡ map (lock_path program section) rest
   each_has before [] e = refl
   each_has before (a ∷ rest) e =
       one_has (lock_path program section a) e (each_has (before ++ a ∷ []) rest)
     where
-      one_has : (o : Option LockPath) → fault_of (paths_of program section before) a.start o ++ faults_behind program section (before ++ a ∷ []) rest ≡ [] →
+      one_has : (o : Option LockPath) →
+          fault_of (paths_of program section before) a.start o ++ faults_behind program section (before ++ a ∷ []) rest ≡ [] →
           (faults_behind program section (before ++ a ∷ []) rest ≡ [] → map Some (paths_of program section rest) ≡ map (lock_path program section) rest) →
           map Some (cons_option o (paths_of program section rest)) ≡ o ∷ map (lock_path program section) rest
       one_has None e more = absurd cc
       one_has (Some path) e more = ap (λ l. Some path ∷ l) (more (no_parts (fault_of (paths_of program section before) a.start (Some path)) (faults_behind program section (before ++ a ∷ []) rest) e))
 
-  pub all_have : faults_in program section ≡ [] → map Some (paths_of program section (accesses section)) ≡ map (lock_path program section) (accesses section)
+  pub all_have : faults_in program section ≡ [] →
+      map Some (paths_of program section (accesses section)) ≡ map (lock_path program section) (accesses section)
   all_have e = each_has [] (accesses section) (no_first (faults_behind program section [] (accesses section)) (flat_map (owner_fault section) (points section)) e)
 
 -- ---- of the program
@@ -151,7 +162,8 @@ module _ (decides : SamePathDecides) (program : Typed) where
       (over_limit (one_too_many front back a has e (eqb-true (length (each_once (paths_of program section front))) 64 i) is
       (λ c. both_ways (is_in path (paths_of program section front)) t (contains_is_in decides path (paths_of program section front) c))))
 
-  access_fault : (f : Mistake) (section : Section) (front back : List Access) (a : Access) (o : Option LockPath) → HasSection program section → accesses section ≡ front ++ a ∷ back →
+  access_fault : (f : Mistake) (section : Section) (front back : List Access) (a : Access) (o : Option LockPath) →
+      HasSection program section → accesses section ≡ front ++ a ∷ back →
       lock_path program section a ≡ o → IsAmong f (fault_of (paths_of program section front) a.start o) → IsFault program f.code f.start
   access_fault f section front back a None has e is (inl same) =
       subst (λ (m : Mistake). IsFault program m.code m.start) (sym same)
@@ -160,19 +172,22 @@ module _ (decides : SamePathDecides) (program : Typed) where
   access_fault f section front back a (Some path) has e is among =
       limit_fault f section front back a path (is_in path (paths_of program section front)) (length (each_once (paths_of program section front)) == 64) has e is refl refl among
 
-  unless_fault : (f : Mistake) (section : Section) (point : Point) (owner : Named) (o : Option StablePath) → HasSection program section → Contains (points section) point →
+  unless_fault : (f : Mistake) (section : Section) (point : Point) (owner : Named) (o : Option StablePath) →
+      HasSection program section → Contains (points section) point →
       where_at point ≡ Some owner → stable section owner.local [] ≡ o → IsAmong f (fault_unless owner.start o) → IsFault program f.code f.start
   unless_fault f section point owner None has c at is (inl same) =
       subst (λ (m : Mistake). IsFault program m.code m.start) (sym same) (unstable_owner_base (unstable_owner has c at is))
   unless_fault f section point owner None has c at is (inr none) = absurd none
   unless_fault f section point owner (Some path) has c at is among = absurd among
 
-  where_true : (f : Mistake) (section : Section) (point : Point) (o : Option Named) → HasSection program section → Contains (points section) point → where_at point ≡ o →
+  where_true : (f : Mistake) (section : Section) (point : Point) (o : Option Named) → HasSection program section →
+      Contains (points section) point → where_at point ≡ o →
       IsAmong f (where_fault section o) → IsFault program f.code f.start
   where_true f section point None has c at among = absurd among
   where_true f section point (Some owner) has c at among = unless_fault f section point owner (stable section owner.local []) has c at refl among
 
-  in_section : (f : Mistake) (section : Section) → HasSection program section → IsAmong f (faults_in program section) → IsFault program f.code f.start
+  in_section : (f : Mistake) (section : Section) → HasSection program section →
+      IsAmong f (faults_in program section) → IsFault program f.code f.start
   in_section f section has i =
       elim (among_cases f (faults_behind program section [] (accesses section)) (flat_map (owner_fault section) (points section)) i) [
         | inl l ↦
@@ -186,21 +201,24 @@ module _ (decides : SamePathDecides) (program : Typed) where
   pub faults_true : (f : Mistake) → IsAmong f (faults_of program) → IsFault program f.code f.start
   faults_true f i = let d = from_each f (faults_in program) program.sections.items i in in_section f d.1 (d.0, d.2) d.3
 
-  owner_all : (start : ℕ) → IsUnstableOwner program start → IsAmong (record { code = UnstableBase; start = start }) (faults_of program)
+  owner_all : (start : ℕ) → IsUnstableOwner program start →
+      IsAmong (record { code = UnstableBase; start = start }) (faults_of program)
   owner_all start (unstable_owner {section} {point} {owner} has c at is) =
       let m : Mistake = record { code = UnstableBase; start = owner.start } in
       to_each m (faults_in program) program.sections.items has.0 section has.1
       (to_owner program section m point c (subst (λ (o : Option Named). IsAmong m (where_fault section o)) (sym at)
       (subst (λ (o : Option StablePath). IsAmong m (fault_unless owner.start o)) (sym is) (inl refl))))
 
-  unstable_all : (start : ℕ) → IsUnstable program start → IsAmong (record { code = UnstableBase; start = start }) (faults_of program)
+  unstable_all : (start : ℕ) → IsUnstable program start →
+      IsAmong (record { code = UnstableBase; start = start }) (faults_of program)
   unstable_all start (unstable {section} {a} has c is) =
       let m : Mistake = record { code = UnstableBase; start = a.start } in
       let r = around (accesses section) a c in
       to_each m (faults_in program) program.sections.items has.0 section has.1
       (to_section program section m r.0 r.1 a r.2 (subst (λ (o : Option LockPath). IsAmong m (fault_of (paths_of program section r.0) a.start o)) (sym is) (inl refl)))
 
-  limit_all : (start : ℕ) → IsOverLimit program start → IsAmong (record { code = LimitExceeded; start = start }) (faults_of program)
+  limit_all : (start : ℕ) → IsOverLimit program start →
+      IsAmong (record { code = LimitExceeded; start = start }) (faults_of program)
   limit_all start (one_too_many {section} before back a {path} has e count is new) =
       let m : Mistake = record { code = LimitExceeded; start = a.start } in
       let ps = paths_of program section before in
@@ -210,13 +228,15 @@ module _ (decides : SamePathDecides) (program : Typed) where
       (to_section program section m before back a e (subst (λ (o : Option LockPath). IsAmong m (fault_of ps a.start o)) (sym is)
       (subst (λ (l : List Mistake). IsAmong m l) (sym (no_more a.start path ps absent full)) (inl refl))))
     where
-      no_more : (start : ℕ) (path : LockPath) (ps : List LockPath) → is_in path ps ≡ false → (length (each_once ps) == 64) ≡ true →
+      no_more : (start : ℕ) (path : LockPath) (ps : List LockPath) → is_in path ps ≡ false →
+          (length (each_once ps) == 64) ≡ true →
           fault_of ps start (Some path) ≡ record { code = LimitExceeded; start = start } ∷ []
       no_more start path ps absent full =
           ap (λ b. if b then [] else if length (each_once ps) == 64 then record { code = LimitExceeded; start = start } ∷ [] else []) absent
           ∙ ap (λ b. if b then record { code = LimitExceeded; start = start } ∷ [] else []) full
 
-  pub faults_all : (code : Code) (start : ℕ) → IsFault program code start → IsAmong (record { code = code; start = start }) (faults_of program)
+  pub faults_all : (code : Code) (start : ℕ) → IsFault program code start →
+      IsAmong (record { code = code; start = start }) (faults_of program)
   faults_all code start (unstable_base u) = unstable_all start u
   faults_all code start (unstable_owner_base u) = owner_all start u
   faults_all code start (over_limit o) = limit_all start o
@@ -225,7 +245,8 @@ module _ (decides : SamePathDecides) (program : Typed) where
   pub least_is_fault : (f : Mistake) → least_of None (faults_of program) ≡ Some f → IsFault program f.code f.start
   least_is_fault f e = faults_true f (least_in f (faults_of program) e)
 
-  pub least_is_least : (f : Mistake) → least_of None (faults_of program) ≡ Some f → (code : Code) (start : ℕ) → IsFault program code start →
+  pub least_is_least : (f : Mistake) → least_of None (faults_of program) ≡ Some f → (code : Code) (start : ℕ) →
+      IsFault program code start →
       goes_before (record { code = code; start = start }) f ≡ false
   least_is_least f e code start h = none_before f (record { code = code; start = start }) (faults_of program) (faults_all code start h) e
 

@@ -11,11 +11,13 @@ use Rattle.core_lang.specs.Typing.{lookup}
 use Rattle.flow.specs.Points.{points}
 use Rattle.locks.specs.Accesses.{Target, global, element, field}
 use Rattle.locks.specs.Locks.{protection_of}
-use Rattle.locks.specs.LockPaths.{StablePath, Binding, bindings, all_replaced, extended, normal_base, stable, under, target_path}
+use Rattle.locks.specs.LockPaths.{StablePath, Binding, bindings, all_replaced, extended, normal_base, stable, under}
+use Rattle.locks.specs.LockPaths.{target_path}
 use Rattle.lockpaths_forms.specs.Working.Forms.{of_binding, replaced_by, all_replaced_by, form_by, replacements_at}
 use Rattle.lockpaths.specs.Working.Gathering.{path_by, through_of}
 
-all_same : (section : Section) (bs : List Binding) (path : StablePath) → all_replaced_by (map (of_binding section) bs) path ≡ all_replaced section bs path
+all_same : (section : Section) (bs : List Binding) (path : StablePath) →
+    all_replaced_by (map (of_binding section) bs) path ≡ all_replaced section bs path
 all_same section [] path = refl
 all_same section (b ∷ bs) path = ap (replaced_by (of_binding section b)) (all_same section bs path)
 

@@ -1,5 +1,7 @@
 -- Going over the accesses of the parts of a tree.
-use Rattle.std.proofs.Common.{◌≡◌, ◌⊎◌, inl, inr, ℕ, zero, suc, ◌+◌, ◌<◌, ◌≤◌, arith, List, [], ◌∷◌, ◌++◌, length, map, drop, take, get_or, Option, Some, None, Bool, true, false, refl, sym, ap, ◌∙◌, add-one, Vec, Box, Global}
+use Rattle.std.proofs.Common.{◌≡◌, ◌⊎◌, inl, inr, ℕ, zero, suc, ◌+◌, ◌<◌, ◌≤◌, arith, List, [], ◌∷◌, ◌++◌, length}
+use Rattle.std.proofs.Common.{map, drop, take, get_or, Option, Some, None, Bool, true, false, refl, sym, ap, ◌∙◌}
+use Rattle.std.proofs.Common.{add-one, Vec, Box, Global}
 use Rattle.std.proofs.Math.Seq.{drop-cons, take-suc}
 use Rattle.std.proofs.lemmas.List.Sums.{fold-append}
 use Rattle.std.specs.Prelude.{if◌then◌else◌}
@@ -40,7 +42,8 @@ lookup_none : {A B : Type 0} (o : Option A) (f : A → Option B) → ((a : A) �
 lookup_none (Some a) f h = h a
 lookup_none None f h = refl
 
-pub stable_none : (section : Section) (k : ℕ) (fields : List FieldStep) → all_final fields ≡ None → stable section k fields ≡ None
+pub stable_none : (section : Section) (k : ℕ) (fields : List FieldStep) → all_final fields ≡ None →
+    stable section k fields ≡ None
 stable_none section k fields e = lookup_none _ _ (λ (local : Local). if_none (is_fixed local.kind) _ (all_final fields) e)
 
 pub none_behind : (before : List FieldStep) (s f : ℕ) → all_final (before ++ Field s f ∷ []) ≡ None
@@ -130,41 +133,48 @@ module _ (f : Finder) (g g' : Told) (start local : ℕ) (fields : List FieldStep
 -- ---- one part more of a list
 
 module _ {A : Type 0} (f : Finder) (h k : Told) where
-  pub over_next : (part : A → List Access) (xs : List A) (i : ℕ) (x : A) → i < length xs → x ≡ get_or xs i x → k ≡ over f h (part x) →
+  pub over_next : (part : A → List Access) (xs : List A) (i : ℕ) (x : A) → i < length xs → x ≡ get_or xs i x →
+      k ≡ over f h (part x) →
       over f k (flat_map part (drop (i + 1) xs)) ≡ over f h (flat_map part (drop i xs))
   over_next part xs i x lt is all =
       ap (λ (g : Told). over f g (flat_map part (drop (i + 1) xs))) all
       ∙ sym (over_append f h (part x) (flat_map part (drop (i + 1) xs)))
       ∙ sym (ap (λ (ys : List A). over f h (flat_map part ys)) (next_of xs i x lt is))
 
-  pub points_next : (at : A → Point) (xs : List A) (i : ℕ) (x : A) → i < length xs → x ≡ get_or xs i x → k ≡ over_point f h (at x) →
+  pub points_next : (at : A → Point) (xs : List A) (i : ℕ) (x : A) → i < length xs → x ≡ get_or xs i x →
+      k ≡ over_point f h (at x) →
       over_points f k (map at (drop (i + 1) xs)) ≡ over_points f h (map at (drop i xs))
   points_next at xs i x lt is all =
       ap (λ (g : Told). over_points f g (map at (drop (i + 1) xs))) all
       ∙ sym (ap (λ (ys : List A). over_points f h (map at ys)) (next_of xs i x lt is))
 
   -- and past the last
-  pub points_past : (at : A → Point) (xs : List A) (i : ℕ) → length xs ≤ i → over_points f h (map at (drop i xs)) ≡ k → h ≡ k
+  pub points_past : (at : A → Point) (xs : List A) (i : ℕ) → length xs ≤ i →
+      over_points f h (map at (drop i xs)) ≡ k → h ≡ k
   points_past at xs i past all = sym (ap (λ (ys : List A). over_points f h (map at ys)) (drop_past xs i past)) ∙ all
 
-  pub owners_next : (at : A → Point) (xs : List A) (i : ℕ) (x : A) → i < length xs → x ≡ get_or xs i x → k ≡ over_owner f h (at x) →
+  pub owners_next : (at : A → Point) (xs : List A) (i : ℕ) (x : A) → i < length xs → x ≡ get_or xs i x →
+      k ≡ over_owner f h (at x) →
       over_owners f k (map at (drop (i + 1) xs)) ≡ over_owners f h (map at (drop i xs))
   owners_next at xs i x lt is all =
       ap (λ (g : Told). over_owners f g (map at (drop (i + 1) xs))) all
       ∙ sym (ap (λ (ys : List A). over_owners f h (map at ys)) (next_of xs i x lt is))
 
-  pub owners_past : (at : A → Point) (xs : List A) (i : ℕ) → length xs ≤ i → over_owners f h (map at (drop i xs)) ≡ k → h ≡ k
+  pub owners_past : (at : A → Point) (xs : List A) (i : ℕ) → length xs ≤ i →
+      over_owners f h (map at (drop i xs)) ≡ k → h ≡ k
   owners_past at xs i past all = sym (ap (λ (ys : List A). over_owners f h (map at ys)) (drop_past xs i past)) ∙ all
 
 -- ---- the parts of a comparison and of an assignment
 
-pub over_compare : (f : Finder) (g h k : Told) (x : Condition) (sign : Comparison) (a b : Expr) → x ≡ Compare sign a b → h ≡ over f g (in_expr a) → k ≡ over f h (in_expr b) →
+pub over_compare : (f : Finder) (g h k : Told) (x : Condition) (sign : Comparison) (a b : Expr) →
+    x ≡ Compare sign a b → h ≡ over f g (in_expr a) → k ≡ over f h (in_expr b) →
     k ≡ over f g (in_condition x)
 over_compare f g h k x sign a b is one all =
     all ∙ ap (λ (y : Told). over f y (in_expr b)) one ∙ sym (over_append f g (in_expr a) (in_expr b)) ∙ sym (ap (λ (y : Condition). over f g (in_condition y)) is)
 
 module _ (f : Finder) (g h m k : Told) (start : ℕ) (action : Action) where
-  pub over_element : (array : ℕ) (index value : Expr) → action ≡ SetElement array index value → h ≡ over f g (access start (target.element array) ∷ []) → m ≡ over f h (in_expr index) →
+  pub over_element : (array : ℕ) (index value : Expr) → action ≡ SetElement array index value →
+      h ≡ over f g (access start (target.element array) ∷ []) → m ≡ over f h (in_expr index) →
       k ≡ over f m (in_expr value) → k ≡ over f g (in_action start action)
   over_element array index value is one two all =
       let first = access start (target.element array) in
@@ -172,7 +182,8 @@ module _ (f : Finder) (g h m k : Told) (start : ℕ) (action : Action) where
       ∙ sym (over_append f (over f g (first ∷ [])) (in_expr index) (in_expr value))
       ∙ sym (ap (λ (y : Action). over f g (in_action start y)) is)
 
-  pub over_field : (base : Path) (s n : ℕ) (value : Expr) → action ≡ SetField base s n value → (given : List FieldStep) → h ≡ over f g (in_path base) → given ≡ base.fields.items →
+  pub over_field : (base : Path) (s n : ℕ) (value : Expr) → action ≡ SetField base s n value →
+      (given : List FieldStep) → h ≡ over f g (in_path base) → given ≡ base.fields.items →
       m ≡ over f h (access base.start (target.field base.local given s n) ∷ []) → k ≡ over f m (in_expr value) → k ≡ over f g (in_action start action)
   over_field base s n value is given one same two all =
       let here = access base.start (target.field base.local base.fields.items s n) in

@@ -1,5 +1,6 @@
 -- Lock paths each once, as they are met one after another.
-use Rattle.std.proofs.Common.{◌≡◌, ℕ, suc, ◌+◌, Bool, true, false, not, ◌||◌, cond, List, [], ◌∷◌, ◌++◌, Some, None, inl, inr, refl, sym, ap, ◌∙◌, subst, arith, append-nil}
+use Rattle.std.proofs.Common.{◌≡◌, ℕ, suc, ◌+◌, Bool, true, false, not, ◌||◌, cond, List, [], ◌∷◌, ◌++◌, Some, None}
+use Rattle.std.proofs.Common.{inl, inr, refl, sym, ap, ◌∙◌, subst, arith, append-nil}
 use Rattle.std.specs.Prelude.{slice_get, if◌then◌else◌}
 use Rattle.std.specs.List.{Contains, filter}
 use Rattle.std.proofs.lemmas.Bool.{both_ways, false_from_ne_true}
@@ -19,17 +20,20 @@ module _ (decides : SamePathDecides) where
 
   -- ---- the place of a path
 
-  at_place : (path x : LockPath) (xs : List LockPath) (k : ℕ) (b : Bool) → same_path path x ≡ b → (b || is_in path xs) ≡ true →
+  at_place : (path x : LockPath) (xs : List LockPath) (k : ℕ) (b : Bool) → same_path path x ≡ b →
+      (b || is_in path xs) ≡ true →
       (is_in path xs ≡ true → (i : ℕ) × (place_from path (k + 1) xs ≡ Some (k + 1 + i)) × (slice_get xs i ≡ Some path)) →
       (i : ℕ) × ((if b then Some k else place_from path (k + 1) xs) ≡ Some (k + i)) × (slice_get (x ∷ xs) i ≡ Some path)
   at_place path x xs k true s t rest = (0, ap Some (omega arith), ap Some (sym ((decides path x).0 s)))
   at_place path x xs k false s t rest = let r = rest t in (suc r.0, r.1 ∙ ap Some (omega arith), r.2)
 
-  pub place_in : (path : LockPath) (k : ℕ) (xs : List LockPath) → is_in path xs ≡ true → (i : ℕ) × (place_from path k xs ≡ Some (k + i)) × (slice_get xs i ≡ Some path)
+  pub place_in : (path : LockPath) (k : ℕ) (xs : List LockPath) → is_in path xs ≡ true →
+      (i : ℕ) × (place_from path k xs ≡ Some (k + i)) × (slice_get xs i ≡ Some path)
   place_in path k [] e = absurd cc
   place_in path k (x ∷ xs) e = at_place path x xs k (same_path path x) refl e (place_in path (k + 1) xs)
 
-  no_place : (path : LockPath) (xs : List LockPath) (k : ℕ) (b : Bool) → (b || is_in path xs) ≡ false → (is_in path xs ≡ false → place_from path (k + 1) xs ≡ None) →
+  no_place : (path : LockPath) (xs : List LockPath) (k : ℕ) (b : Bool) → (b || is_in path xs) ≡ false →
+      (is_in path xs ≡ false → place_from path (k + 1) xs ≡ None) →
       (if b then Some k else place_from path (k + 1) xs) ≡ None
   no_place path xs k true e rest = absurd cc
   no_place path xs k false e rest = rest e
@@ -40,7 +44,8 @@ module _ (decides : SamePathDecides) where
 
   -- ---- being one of them
 
-  contained : (path x : LockPath) (xs : List LockPath) (b : Bool) → same_path path x ≡ b → (b || is_in path xs) ≡ true → (is_in path xs ≡ true → Contains xs path) → Contains (x ∷ xs) path
+  contained : (path x : LockPath) (xs : List LockPath) (b : Bool) → same_path path x ≡ b →
+      (b || is_in path xs) ≡ true → (is_in path xs ≡ true → Contains xs path) → Contains (x ∷ xs) path
   contained path x xs true s e rest = subst (λ z. Contains (z ∷ xs) path) ((decides path x).0 s) (in_first path xs)
   contained path x xs false s e rest = in_rest x path xs (rest e)
 
@@ -62,18 +67,21 @@ module _ (decides : SamePathDecides) where
 
   -- ---- one path more
 
-  passed : (path x y : LockPath) (ys : List LockPath) (b : Bool) → same_path x y ≡ b → same_path path x ≡ false → is_in path (filter (others x) ys) ≡ is_in path ys →
+  passed : (path x y : LockPath) (ys : List LockPath) (b : Bool) → same_path x y ≡ b → same_path path x ≡ false →
+      is_in path (filter (others x) ys) ≡ is_in path ys →
       is_in path (cond (not b) (y ∷ filter (others x) ys) (filter (others x) ys)) ≡ (same_path path y || is_in path ys)
   passed path x y ys true s e rest =
       let other : same_path path y ≡ false = subst (λ z. same_path path z ≡ false) ((decides x y).0 s) e in
       rest ∙ sym (ap (λ b. b || is_in path ys) other)
   passed path x y ys false s e rest = ap (λ b. same_path path y || b) rest
 
-  in_filter : (path x : LockPath) (xs : List LockPath) → same_path path x ≡ false → is_in path (filter (others x) xs) ≡ is_in path xs
+  in_filter : (path x : LockPath) (xs : List LockPath) → same_path path x ≡ false →
+      is_in path (filter (others x) xs) ≡ is_in path xs
   in_filter path x [] e = refl
   in_filter path x (y ∷ ys) e = passed path x y ys (same_path x y) refl e (in_filter path x ys e)
 
-  once_step : (path x : LockPath) (ps : List LockPath) (b : Bool) → same_path path x ≡ b → is_in path (each_once ps) ≡ is_in path ps →
+  once_step : (path x : LockPath) (ps : List LockPath) (b : Bool) → same_path path x ≡ b →
+      is_in path (each_once ps) ≡ is_in path ps →
       (b || is_in path (filter (others x) (each_once ps))) ≡ (b || is_in path ps)
   once_step path x ps true s rest = refl
   once_step path x ps false s rest = in_filter path x (each_once ps) s ∙ rest
@@ -83,7 +91,8 @@ module _ (decides : SamePathDecides) where
   once_in path (x ∷ ps) = once_step path x ps (same_path path x) refl (once_in path ps)
 
   -- the paths with one that was met before are the same, and another one comes last
-  known_step : (path x : LockPath) (ps : List LockPath) (b : Bool) → same_path path x ≡ b → (b || is_in path ps) ≡ true →
+  known_step : (path x : LockPath) (ps : List LockPath) (b : Bool) → same_path path x ≡ b →
+      (b || is_in path ps) ≡ true →
       (is_in path ps ≡ true → each_once (ps ++ path ∷ []) ≡ each_once ps) →
       (c : Bool) → is_in path ps ≡ c → (is_in path ps ≡ false → each_once (ps ++ path ∷ []) ≡ each_once ps ++ path ∷ []) →
       filter (others x) (each_once (ps ++ path ∷ [])) ≡ filter (others x) (each_once ps)
@@ -103,11 +112,13 @@ module _ (decides : SamePathDecides) where
       ap (filter (others x)) (rest e) ∙ filter-append (others x) (each_once ps) (path ∷ [])
       ∙ ap (λ b. filter (others x) (each_once ps) ++ cond b (path ∷ []) []) stays
 
-  pub once_new : (path : LockPath) (ps : List LockPath) → is_in path ps ≡ false → each_once (ps ++ path ∷ []) ≡ each_once ps ++ path ∷ []
+  pub once_new : (path : LockPath) (ps : List LockPath) → is_in path ps ≡ false →
+      each_once (ps ++ path ∷ []) ≡ each_once ps ++ path ∷ []
   once_new path [] e = refl
   once_new path (x ∷ ps) e = ap (λ l. x ∷ l) (new_step path x ps (same_path path x) refl e (once_new path ps))
 
-  pub once_known : (path : LockPath) (ps : List LockPath) → is_in path ps ≡ true → each_once (ps ++ path ∷ []) ≡ each_once ps
+  pub once_known : (path : LockPath) (ps : List LockPath) → is_in path ps ≡ true →
+      each_once (ps ++ path ∷ []) ≡ each_once ps
   once_known path [] e = absurd cc
   once_known path (x ∷ ps) e =
       ap (λ l. x ∷ l) (known_step path x ps (same_path path x) refl e (once_known path ps) (is_in path ps) refl (once_new path ps))

@@ -1,5 +1,6 @@
 -- Lock paths by the numbers of their normal forms, with more of these.
-use Rattle.std.proofs.Common.{◌≡◌, ◌∙◌, ℕ, ◌+◌, ◌<◌, List, [], ◌∷◌, ◌++◌, length, map, get_or, take, Option, Some, None, refl, sym, ap}
+use Rattle.std.proofs.Common.{◌≡◌, ◌∙◌, ℕ, ◌+◌, ◌<◌, List, [], ◌∷◌, ◌++◌, length, map, get_or, take, Option, Some}
+use Rattle.std.proofs.Common.{None, refl, sym, ap}
 use Rattle.std.specs.List.{All}
 use Rattle.std.proofs.lemmas.List.{get_or_append_left, map_push, take_more}
 use Rattle.std.proofs.lemmas.List.Elements.{All-head, All-tail}
@@ -39,7 +40,8 @@ module _ (old new : List StablePath) (grown : IsGrown old new) where
       ap (λ (x : LockPath). x ∷ map (path_at new) ps) (path_same p (All-head (IsPlace old) p ps all))
       ∙ ap (λ (xs : List LockPath). path_at old p ∷ xs) (paths_same ps (All-tail (IsPlace old) p ps all))
 
-pub told_same : (s t : List Replacement) (g h : Gathered) → s ≡ t → g ≡ h → ◌≡◌ {A = Told} (record { table = s; gathered = g }) (record { table = t; gathered = h })
+pub told_same : (s t : List Replacement) (g h : Gathered) → s ≡ t → g ≡ h →
+    ◌≡◌ {A = Told} (record { table = s; gathered = g }) (record { table = t; gathered = h })
 told_same s t g h a b = ap (λ (x : List Replacement). record { table = x; gathered = g }) a ∙ ap (λ (x : Gathered). record { table = t; gathered = x }) b
 
 -- what is found stays as it is when there are more normal forms

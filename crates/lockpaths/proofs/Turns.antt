@@ -1,5 +1,6 @@
 -- One section more.
-use Rattle.std.proofs.Common.{◌≡◌, ℕ, ◌+◌, ◌<◌, true, false, List, [], ◌∷◌, ◌++◌, length, take, get_or, Option, Some, None, is_some, refl, sym, ap, ◌∙◌, subst, append-nil}
+use Rattle.std.proofs.Common.{◌≡◌, ℕ, ◌+◌, ◌<◌, true, false, List, [], ◌∷◌, ◌++◌, length, take, get_or, Option, Some}
+use Rattle.std.proofs.Common.{None, is_some, refl, sym, ap, ◌∙◌, subst, append-nil}
 use Rattle.std.specs.List.{AllZip, flat_map}
 use Rattle.std.proofs.lemmas.List.{take_more}
 use Rattle.std.proofs.lemmas.Grind.{flat_map-append}
@@ -25,7 +26,8 @@ pub not_none : (o : Option Mistake) → is_some o ≡ true → o ≡ None → �
 not_none None e h = cc
 not_none (Some f) e h = cc
 
-zip_push : {A B : Type 0} (R : A → B → Type 0) (xs : List A) (ys : List B) (x : A) (y : B) → AllZip R xs ys → R x y → AllZip R (xs ++ x ∷ []) (ys ++ y ∷ [])
+zip_push : {A B : Type 0} (R : A → B → Type 0) (xs : List A) (ys : List B) (x : A) (y : B) → AllZip R xs ys → R x y →
+    AllZip R (xs ++ x ∷ []) (ys ++ y ∷ [])
 zip_push R [] [] x y z r = (r, tt)
 zip_push R [] (w ∷ ys) x y z r = absurd z
 zip_push R (v ∷ xs) [] x y z r = absurd z
@@ -35,7 +37,8 @@ module _ (program : Typed) (xs : List Section) (i : ℕ) (x : Section) (is : x �
   one_more : take (i + 1) xs ≡ take i xs ++ x ∷ []
   one_more = take_more xs i x h ∙ ap (λ y. take i xs ++ y ∷ []) (sym is)
 
-  least_turn : (least next : Option Mistake) → least ≡ least_of None (flat_map (faults_in program) (take i xs)) → next ≡ least_of least (faults_in program x) →
+  least_turn : (least next : Option Mistake) → least ≡ least_of None (flat_map (faults_in program) (take i xs)) →
+      next ≡ least_of least (faults_in program x) →
       next ≡ least_of None (flat_map (faults_in program) (take (i + 1) xs))
   least_turn least next before now =
       let all = flat_map (faults_in program) (take i xs) in
@@ -43,7 +46,8 @@ module _ (program : Typed) (xs : List Section) (i : ℕ) (x : Section) (is : x �
       ∙ ap (λ l. least_of None (all ++ l)) (sym (append-nil (faults_in program x)))
       ∙ ap (least_of None) (sym (flat_map-append (faults_in program) (take i xs) (x ∷ [])) ∙ ap (flat_map (faults_in program)) (sym one_more))
 
-  each_turn : (found : List SectionPaths) (y : SectionPaths) → AreEach program (take i xs) found → AreSectionPaths program x y → AreEach program (take (i + 1) xs) (found ++ y ∷ [])
+  each_turn : (found : List SectionPaths) (y : SectionPaths) → AreEach program (take i xs) found →
+      AreSectionPaths program x y → AreEach program (take (i + 1) xs) (found ++ y ∷ [])
   each_turn found y before now =
       subst (λ (l : List Section). AreEach program l (found ++ y ∷ [])) (sym one_more) (zip_push (AreSectionPaths program) (take i xs) found x y before now)
 
@@ -51,10 +55,12 @@ module _ (program : Typed) (xs : List Section) (i : ℕ) (x : Section) (is : x �
     noted : next ≡ least_of least (faults_in program x)
     noted = told ∙ ap (λ (y : Gathered). y.least) got ∙ least_after decides once program x least
 
-    pub least_next : least ≡ least_of None (flat_map (faults_in program) (take i xs)) → next ≡ least_of None (flat_map (faults_in program) (take (i + 1) xs))
+    pub least_next : least ≡ least_of None (flat_map (faults_in program) (take i xs)) →
+        next ≡ least_of None (flat_map (faults_in program) (take (i + 1) xs))
     least_next before = least_turn least next before noted
 
-    pub each_next : (found more : List SectionPaths) (y : SectionPaths) → (least ≡ None → AreEach program (take i xs) found) → IsFinished g y → more ≡ found ++ y ∷ [] → next ≡ None →
+    pub each_next : (found more : List SectionPaths) (y : SectionPaths) →
+        (least ≡ None → AreEach program (take i xs) found) → IsFinished g y → more ≡ found ++ y ∷ [] → next ≡ None →
         AreEach program (take (i + 1) xs) more
     each_next found more y before finished is none =
         let here : IsFound program x g = found_none decides once program x least g got (sym told ∙ none) in

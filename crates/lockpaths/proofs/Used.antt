@@ -1,5 +1,7 @@
 -- From what is gathered of a section without a fault: its lock paths, and those that each point uses.
-use Rattle.std.proofs.Common.{◌≡◌, ℕ, zero, suc, ◌+◌, ◌-◌, ◌≤◌, ◌<◌, true, List, [], ◌∷◌, ◌++◌, length, map, take, drop, Option, Some, None, inl, inr, refl, sym, ap, ◌∙◌, subst, arith, append_assoc, length-append}
+use Rattle.std.proofs.Common.{◌≡◌, ℕ, zero, suc, ◌+◌, ◌-◌, ◌≤◌, ◌<◌, true, List, [], ◌∷◌, ◌++◌, length, map, take}
+use Rattle.std.proofs.Common.{drop, Option, Some, None, inl, inr, refl, sym, ap, ◌∙◌, subst, arith, append_assoc}
+use Rattle.std.proofs.Common.{length-append}
 use Rattle.std.specs.Prelude.{slice_get, ◌==◌}
 use Rattle.std.specs.List.{Contains, All, AllZip, flat_map}
 use Rattle.std.proofs.lemmas.Bool.{eqb-true, eq-eqb, or_cases, or_left, or_right}
@@ -41,13 +43,15 @@ zip_length R [] (y ∷ ys) z = absurd z
 zip_length R (x ∷ xs) [] z = absurd z
 zip_length R (x ∷ xs) (y ∷ ys) z = ap suc (zip_length R xs ys z.1)
 
-zip_at : {A B : Type 0} (R : A → B → Type 0) (xs : List A) (ys : List B) (k : ℕ) (x : A) → AllZip R xs ys → slice_get xs k ≡ Some x → (y : B) × (slice_get ys k ≡ Some y) × R x y
+zip_at : {A B : Type 0} (R : A → B → Type 0) (xs : List A) (ys : List B) (k : ℕ) (x : A) → AllZip R xs ys →
+    slice_get xs k ≡ Some x → (y : B) × (slice_get ys k ≡ Some y) × R x y
 zip_at R [] ys k x z e = absurd (none-some x e)
 zip_at R (x ∷ xs) [] k w z e = absurd z
 zip_at R (x ∷ xs) (y ∷ ys) zero w z e = let same : x ≡ w = cc in (y, refl, subst (λ v. R v y) same z.0)
 zip_at R (x ∷ xs) (y ∷ ys) (suc k) w z e = zip_at R xs ys k w z.1 e
 
-zip_both : {A B : Type 0} (R : A → B → Type 0) (xs : List A) (ys : List B) (k : ℕ) (x : A) (y : B) → AllZip R xs ys → slice_get xs k ≡ Some x → slice_get ys k ≡ Some y → R x y
+zip_both : {A B : Type 0} (R : A → B → Type 0) (xs : List A) (ys : List B) (k : ℕ) (x : A) (y : B) → AllZip R xs ys →
+    slice_get xs k ≡ Some x → slice_get ys k ≡ Some y → R x y
 zip_both R [] ys k x y z e f = absurd (none-some x e)
 zip_both R (v ∷ xs) [] k x y z e f = absurd z
 zip_both R (v ∷ xs) (w ∷ ys) zero x y z e f =
@@ -86,7 +90,8 @@ module _ (f : ℕ → Option LockPath) (i : ℕ) (path : LockPath) (is : f i ≡
         | inr more ↦ or_right (i == n) (is_number i ns) (to_number ns zs rest more)
       ]
 
-small_all : (xs : List LockPath) (ns : List ℕ) (zs : List LockPath) → map (slice_get xs) ns ≡ map Some zs → length xs ≤ 64 → All (λ n. n < 64) ns
+small_all : (xs : List LockPath) (ns : List ℕ) (zs : List LockPath) → map (slice_get xs) ns ≡ map Some zs →
+    length xs ≤ 64 → All (λ n. n < 64) ns
 small_all xs [] zs e h = All-nil (λ n. n < 64)
 small_all xs (n ∷ ns) [] e h = absurd cc
 small_all xs (n ∷ ns) (z ∷ zs) e h =
@@ -98,13 +103,16 @@ small_all xs (n ∷ ns) (z ∷ zs) e h =
 -- ---- the numbers of each point
 
 module _ (program : Typed) (section : Section) where
-  parts : (xs ys : List Access) → paths_of program section (xs ++ ys) ≡ paths_of program section xs ++ paths_of program section ys
+  parts : (xs ys : List Access) →
+      paths_of program section (xs ++ ys) ≡ paths_of program section xs ++ paths_of program section ys
   parts xs ys = filter_map-append (lock_path program section) xs ys
 
-  longer : (xs ys : List Access) → length (paths_of program section (xs ++ ys)) ≡ length (paths_of program section xs) + length (paths_of program section ys)
+  longer : (xs ys : List Access) →
+      length (paths_of program section (xs ++ ys)) ≡ length (paths_of program section xs) + length (paths_of program section ys)
   longer xs ys = ap length (parts xs ys) ∙ length-append (paths_of program section xs) (paths_of program section ys)
 
-  rising_from : (before : List Access) (ps : List Point) (limit : ℕ) → limit ≡ length (paths_of program section (before ++ flat_map accesses_at ps)) →
+  rising_from : (before : List Access) (ps : List Point) (limit : ℕ) →
+      limit ≡ length (paths_of program section (before ++ flat_map accesses_at ps)) →
       AreRising (length (paths_of program section before)) limit (ends_from program section before ps)
   rising_from before [] limit e = tt
   rising_from before (p ∷ ps) limit e =
@@ -116,7 +124,8 @@ module _ (program : Typed) (section : Section) where
       (omega (arith, a), omega (arith, b, same), rising_from (before ++ here) ps limit same)
 
   module _ (f : ℕ → Option LockPath) where
-    first_part : (before here rest : List Access) (ns : List ℕ) → map f ns ≡ map Some (paths_of program section (before ++ (here ++ rest))) →
+    first_part : (before here rest : List Access) (ns : List ℕ) →
+        map f ns ≡ map Some (paths_of program section (before ++ (here ++ rest))) →
         map f (take (length (paths_of program section (before ++ here)) - length (paths_of program section before)) (drop (length (paths_of program section before)) ns))
         ≡ map Some (paths_of program section here)
     first_part before here rest ns e =
@@ -132,7 +141,8 @@ module _ (program : Typed) (section : Section) where
         sym (take-map f m (drop n ns)) ∙ ap (take m) (sym (drop-map f n ns) ∙ ap (drop n) (e ∙ whole) ∙ drop_at b (h ++ r) n (length-map (paths_of program section before) Some))
         ∙ take_at h r m count
 
-    chunk_at : (before : List Access) (ps : List Point) (ns : List ℕ) → map f ns ≡ map Some (paths_of program section (before ++ flat_map accesses_at ps)) →
+    chunk_at : (before : List Access) (ps : List Point) (ns : List ℕ) →
+        map f ns ≡ map Some (paths_of program section (before ++ flat_map accesses_at ps)) →
         (k : ℕ) (chunk : List ℕ) → slice_get (cut (length (paths_of program section before)) ns (ends_from program section before ps)) k ≡ Some chunk →
         (point : Point) × (slice_get ps k ≡ Some point) × (map f chunk ≡ map Some (paths_of program section (accesses_at point)))
     chunk_at before [] ns e k chunk at = absurd (none-some chunk at)
@@ -151,10 +161,12 @@ module _ (program : Typed) (section : Section) where
   ends_length before [] = refl
   ends_length before (p ∷ ps) = ap suc (ends_length (before ++ accesses_at p) ps)
 
-  same_point : (p : ℕ) (a b : Point) → slice_get (points section) p ≡ Some a → slice_get (points section) p ≡ Some b → a ≡ b
+  same_point : (p : ℕ) (a b : Point) → slice_get (points section) p ≡ Some a → slice_get (points section) p ≡ Some b →
+      a ≡ b
   same_point p a b e f = let both : Some a ≡ Some b = sym e ∙ f in cc
 
-  sets_right : (once : EachPathOnce) (ns : List ℕ) (sets : List PathSet) → map (slice_get (lock_paths program section)) ns ≡ map Some (paths_of program section (accesses section)) →
+  sets_right : (once : EachPathOnce) (ns : List ℕ) (sets : List PathSet) →
+      map (slice_get (lock_paths program section)) ns ≡ map Some (paths_of program section (accesses section)) →
       AllZip IsSetOf sets (cut 0 ns (ends_from program section [] (points section))) → AreSets program section (Uses program section) sets
   sets_right once ns sets e z = (
     zip_length IsSetOf sets (cut 0 ns (ends_from program section [] (points section))) z ∙ cut_length 0 ns (ends_from program section [] (points section)) ∙ ends_length [] (points section),
@@ -196,7 +208,9 @@ module _ (decides : SamePathDecides) (once : EachPathOnce) (program : Typed) (se
       after_all.least ∙ ap (λ o. least_of o owner_faults) behind_all.least
       ∙ sym (least_append least (faults_behind program section [] (accesses section)) owner_faults)
 
-  found_within : (g : Gathered) → IsWithin (paths_of program section (accesses section)) (ends_from program section [] (points section)) g → faults_in program section ≡ [] →
+  found_within : (g : Gathered) →
+      IsWithin (paths_of program section (accesses section)) (ends_from program section [] (points section)) g →
+      faults_in program section ≡ [] →
       IsFound program section g
   found_within g w none =
       let all = paths_of program section (accesses section) in
@@ -215,12 +229,15 @@ module _ (decides : SamePathDecides) (once : EachPathOnce) (program : Typed) (se
         };
       }
 
-  found_state : (g : Gathered) → IsState (paths_of program section (accesses section)) (ends_from program section [] (points section)) g → faults_in program section ≡ [] → g.least ≡ None →
+  found_state : (g : Gathered) →
+      IsState (paths_of program section (accesses section)) (ends_from program section [] (points section)) g →
+      faults_in program section ≡ [] → g.least ≡ None →
       IsFound program section g
   found_state g (inl w) none e = found_within g w none
   found_state g (inr o) none e = absurd (o.fault e)
 
-  pub found_all : (gathered_in program section least).least ≡ None → IsFound program section (gathered_in program section least)
+  pub found_all : (gathered_in program section least).least ≡ None →
+      IsFound program section (gathered_in program section least)
   found_all e = found_state (gathered_in program section least) after_all.state (none_found least (faults_in program section) (sym least_after ∙ e)) e
 
   pub found_none : (g : Gathered) → g ≡ gathered_in program section least → g.least ≡ None → IsFound program section g
@@ -228,7 +245,8 @@ module _ (decides : SamePathDecides) (once : EachPathOnce) (program : Typed) (se
 
 -- ---- the program
 
-pub are_paths : (program : Typed) (x : Paths) → AreEach program program.sections.items x.sections.items → ArePaths program x
+pub are_paths : (program : Typed) (x : Paths) → AreEach program program.sections.items x.sections.items →
+    ArePaths program x
 are_paths program x z =
     record {
       sections = sym (zip_length (AreSectionPaths program) program.sections.items x.sections.items z);

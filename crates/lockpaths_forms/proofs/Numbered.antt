@@ -1,5 +1,7 @@
 -- Paths that are numbered by the steps that lead to them.
-use Rattle.std.proofs.Common.{◌≡◌, ◌⊎◌, inl, inr, ℕ, zero, suc, ◌+◌, ◌<◌, ◌≤◌, Bool, true, false, true≢false, List, [], ◌∷◌, ◌++◌, length, get_or, Some, None, refl, sym, ap, subst, ◌∙◌, append_assoc, append-nil, length-append, arith}
+use Rattle.std.proofs.Common.{◌≡◌, ◌⊎◌, inl, inr, ℕ, zero, suc, ◌+◌, ◌<◌, ◌≤◌, Bool, true, false, true≢false, List}
+use Rattle.std.proofs.Common.{[], ◌∷◌, ◌++◌, length, get_or, Some, None, refl, sym, ap, subst, ◌∙◌, append_assoc}
+use Rattle.std.proofs.Common.{append-nil, length-append, arith}
 use Rattle.std.specs.Prelude.{fold, slice_get, if◌then◌else◌, ◌==◌, ◌&&◌}
 use Rattle.std.specs.List.{list_any, IsDistinct}
 use Rattle.std.proofs.lemmas.Bool.{eq-eqb}
@@ -12,7 +14,8 @@ use Rattle.indexmap.specs.IndexSet.{insert_key}
 use Rattle.locks.specs.LockPaths.{StablePath, same_numbers}
 use Rattle.lockpaths_forms.specs.declared.nodes.Step.{Step}
 use Rattle.lockpaths_forms.specs.declared.nodes.Step.TheVariants.{Local, Final}
-use Rattle.lockpaths_forms.specs.Working.Nodes.{local_path, nowhere, onto, longer, path_by, with_step, paths_of, IsAfter, AreSteps, IsGrown, IsNodeOf, same_stable}
+use Rattle.lockpaths_forms.specs.Working.Nodes.{local_path, nowhere, onto, longer, path_by, with_step, paths_of}
+use Rattle.lockpaths_forms.specs.Working.Nodes.{IsAfter, AreSteps, IsGrown, IsNodeOf, same_stable}
 use Rattle.lockpaths_forms.proofs.Places.{stood_or_last}
 
 -- ---- the paths of steps behind others
@@ -23,7 +26,8 @@ kept acc (s ∷ ss) =
     let rest = kept (with_step acc s) ss in
     (path_by acc s ∷ rest.0, rest.1 ∙ append_assoc acc (path_by acc s ∷ []) rest.0)
 
-path_kept : (old new : List StablePath) (step : Step) → IsGrown old new → IsAfter (length old) step → path_by new step ≡ path_by old step
+path_kept : (old new : List StablePath) (step : Step) → IsGrown old new → IsAfter (length old) step →
+    path_by new step ≡ path_by old step
 path_kept old new (Local local) grown after = refl
 path_kept old new (Final node number) grown after =
     ap (λ (p : StablePath). longer p number)
@@ -32,7 +36,8 @@ path_kept old new (Final node number) grown after =
 length_push : (acc : List StablePath) (s : Step) → length (with_step acc s) ≡ length acc + 1
 length_push acc s = length-append acc (path_by acc s ∷ [])
 
-pub length_of : (acc : List StablePath) (steps : List Step) → length (fold with_step acc steps) ≡ length acc + length steps
+pub length_of : (acc : List StablePath) (steps : List Step) →
+    length (fold with_step acc steps) ≡ length acc + length steps
 length_of acc [] = omega arith
 length_of acc (s ∷ ss) = let rest = length_of (with_step acc s) ss in let one = length_push acc s in omega (arith, rest, one)
 
@@ -40,7 +45,8 @@ after_more : (j k : ℕ) (step : Step) → j ≤ k → IsAfter j step → IsAfte
 after_more j k (Local local) le a = tt
 after_more j k (Final node number) le a = omega (arith, le, a)
 
-place_from : (acc : List StablePath) (steps : List Step) (k j : ℕ) (step : Step) → j ≡ length acc + k → slice_get steps k ≡ Some step → IsAfter j step →
+place_from : (acc : List StablePath) (steps : List Step) (k j : ℕ) (step : Step) → j ≡ length acc + k →
+    slice_get steps k ≡ Some step → IsAfter j step →
     slice_get (fold with_step acc steps) j ≡ Some (path_by (fold with_step acc steps) step)
 place_from acc [] k j step at is after = absurd (none-some step is)
 place_from acc (s ∷ ss) zero j step at is after =
@@ -62,7 +68,8 @@ place_from acc (s ∷ ss) (suc k) j step at is after =
     place_from (with_step acc s) ss k j step (omega (arith, at, more)) is after
 
 module _ (steps : List Step) (are : AreSteps steps) where
-  pub place : (k : ℕ) (step : Step) → slice_get steps k ≡ Some step → slice_get (paths_of steps) k ≡ Some (path_by (paths_of steps) step)
+  pub place : (k : ℕ) (step : Step) → slice_get steps k ≡ Some step →
+      slice_get (paths_of steps) k ≡ Some (path_by (paths_of steps) step)
   place k step is = place_from [] steps k k step (omega arith) is (are.after k step is)
 
   -- ---- equal paths have one number
@@ -77,21 +84,24 @@ module _ (steps : List Step) (are : AreSteps steps) where
   two_of : (i j : ℕ) (s t : Step) → slice_get steps i ≡ Some s → slice_get steps j ≡ Some t → s ≡ t → i ≡ j
   two_of i j s t a b e = are.once i j t (a ∙ ap Some e) b
 
-  here : (k : ℕ) → k < length (paths_of steps) → (s : Step) × (slice_get steps k ≡ Some s) × (get_or (paths_of steps) k nowhere ≡ path_by (paths_of steps) s) × IsAfter k s
+  here : (k : ℕ) → k < length (paths_of steps) →
+      (s : Step) × (slice_get steps k ≡ Some s) × (get_or (paths_of steps) k nowhere ≡ path_by (paths_of steps) s) × IsAfter k s
   here k lt =
       let long = length_of [] steps in
       let s = get_or steps k (Local 0) in
       let is : slice_get steps k ≡ Some s = slice_get-get_or steps k (Local 0) (omega (arith, lt, long)) in
       (s, is, get_or_from_slice_get (paths_of steps) k _ nowhere (place k s is), are.after k s is)
 
-  apart : (n i j : ℕ) → i < n → i < length (paths_of steps) → j < length (paths_of steps) → get_or (paths_of steps) i nowhere ≡ get_or (paths_of steps) j nowhere → i ≡ j
+  apart : (n i j : ℕ) → i < n → i < length (paths_of steps) → j < length (paths_of steps) →
+      get_or (paths_of steps) i nowhere ≡ get_or (paths_of steps) j nowhere → i ≡ j
   apart zero i j lt a b e = absurd (omega (arith, lt))
   apart (suc n) i j lt a b e =
       let x = here i a in
       let y = here j b in
       by (apart n) x.0 y.0 x.1 y.1 x.3 y.3 (sym x.2 ∙ e ∙ y.2)
     where
-      by : ((x y : ℕ) → x < n → x < length (paths_of steps) → y < length (paths_of steps) → get_or (paths_of steps) x nowhere ≡ get_or (paths_of steps) y nowhere → x ≡ y) →
+      by : ((x y : ℕ) → x < n → x < length (paths_of steps) → y < length (paths_of steps) →
+          get_or (paths_of steps) x nowhere ≡ get_or (paths_of steps) y nowhere → x ≡ y) →
           (s t : Step) → slice_get steps i ≡ Some s → slice_get steps j ≡ Some t → IsAfter i s → IsAfter j t → path_by (paths_of steps) s ≡ path_by (paths_of steps) t → i ≡ j
       by below (Local l) (Local m) p q u v same = two_of i j (Local l) (Local m) p q (ap (λ (z : StablePath). Local z.root) same)
       by below (Local l) (Final node number) p q u v same = absurd (cut_local l 0 (get_or (paths_of steps) node nowhere) number same)
@@ -106,21 +116,25 @@ module _ (steps : List Step) (are : AreSteps steps) where
 
 -- ---- one step more
 
-inserted : (eq : Step → Step → Bool) (keys : List Step) (s : Step) → (insert_key eq keys s ≡ keys) ⊎ (insert_key eq keys s ≡ keys ++ s ∷ [])
+inserted : (eq : Step → Step → Bool) (keys : List Step) (s : Step) →
+    (insert_key eq keys s ≡ keys) ⊎ (insert_key eq keys s ≡ keys ++ s ∷ [])
 inserted eq keys s = by (list_any (eq s) keys)
   where
-    by : (b : Bool) → ((if b then keys else keys ++ s ∷ []) ≡ keys) ⊎ ((if b then keys else keys ++ s ∷ []) ≡ keys ++ s ∷ [])
+    by : (b : Bool) →
+        ((if b then keys else keys ++ s ∷ []) ≡ keys) ⊎ ((if b then keys else keys ++ s ∷ []) ≡ keys ++ s ∷ [])
     by true = inl refl
     by false = inr refl
 
 module _ (eq : Step → Step → Bool) (self : (s : Step) → eq s s ≡ true) where
-  before : (keys : List Step) → IsDistinct eq keys → (i j : ℕ) (s : Step) → slice_get keys i ≡ Some s → slice_get keys j ≡ Some s → i < j → ⊥
+  before : (keys : List Step) → IsDistinct eq keys → (i j : ℕ) (s : Step) → slice_get keys i ≡ Some s →
+      slice_get keys j ≡ Some s → i < j → ⊥
   before keys distinct i j s a b lt =
       let other : eq (get_or keys i s) (get_or keys j s) ≡ false = apart_from_distinct eq keys i j s distinct lt (slice_get_within keys j s b) in
       true≢false (sym (self s) ∙ sym (ap (λ (x : Step). eq x s) (get_or_from_slice_get keys i s s a) ∙ ap (eq s) refl)
       ∙ sym (ap (eq (get_or keys i s)) (get_or_from_slice_get keys j s s b)) ∙ other)
 
-  once_of : (keys : List Step) → IsDistinct eq keys → (i j : ℕ) (s : Step) → slice_get keys i ≡ Some s → slice_get keys j ≡ Some s → i ≡ j
+  once_of : (keys : List Step) → IsDistinct eq keys → (i j : ℕ) (s : Step) → slice_get keys i ≡ Some s →
+      slice_get keys j ≡ Some s → i ≡ j
   once_of keys distinct i j s a b =
       let x : i < j → ⊥ = before keys distinct i j s a b in
       let y : j < i → ⊥ = before keys distinct j i s b a in
@@ -149,7 +163,8 @@ module _ (eq : Step → Step → Bool) (self : (s : Step) → eq s s ≡ true) w
       once = once_of new distinct;
     }
 
-    pub numbered : (same : (x y : Step) → eq x y ≡ true → x ≡ y) → IsDistinct eq new → (node : ℕ) → ((k : Step) × (slice_get new node ≡ Some k) × (eq s k ≡ true)) →
+    pub numbered : (same : (x y : Step) → eq x y ≡ true → x ≡ y) → IsDistinct eq new → (node : ℕ) →
+        ((k : Step) × (slice_get new node ≡ Some k) × (eq s k ≡ true)) →
         IsNodeOf (paths_of new) (path_by paths s) node
     numbered same distinct node stored =
         place new (are_more distinct) node s (stored.1 ∙ ap Some (sym (same s stored.0 stored.2))) ∙ ap Some (path_kept paths (paths_of new) s grown after)
@@ -182,11 +197,13 @@ stable_one p q h =
     let one : p.root ≡ q.root = grind (arith, nat_tests, parts.0) in
     ap (λ (r : ℕ). record { root = r; finals = p.finals }) one ∙ ap (λ (fs : List ℕ). record { root = q.root; finals = fs }) (numbers_one p.finals q.finals parts.1)
 
-pub same_node : (steps : List Step) → AreSteps steps → (paths : List StablePath) → paths_of steps ≡ paths → (i j : ℕ) → i < length paths → j < length paths →
+pub same_node : (steps : List Step) → AreSteps steps → (paths : List StablePath) → paths_of steps ≡ paths →
+    (i j : ℕ) → i < length paths → j < length paths →
     (i == j) ≡ same_stable (get_or paths i nowhere) (get_or paths j nowhere)
 same_node steps are paths seen i j a b = by (same_stable (get_or paths i nowhere) (get_or paths j nowhere)) refl
   where
-    by : (r : Bool) → same_stable (get_or paths i nowhere) (get_or paths j nowhere) ≡ r → (i == j) ≡ same_stable (get_or paths i nowhere) (get_or paths j nowhere)
+    by : (r : Bool) → same_stable (get_or paths i nowhere) (get_or paths j nowhere) ≡ r →
+        (i == j) ≡ same_stable (get_or paths i nowhere) (get_or paths j nowhere)
     by true e =
         let all = ap length seen in
         let one : i ≡ j = apart steps are (i + 1) i j (omega arith) (omega (arith, a, all)) (omega (arith, b, all))
@@ -222,17 +239,20 @@ after_below j k s lt a = after_more j k s (omega (arith, lt)) a
 
 -- ---- the step to a node
 
-pub no_step : (steps : List Step) (paths : List StablePath) → paths_of steps ≡ paths → (node : ℕ) → node < length paths → slice_get steps node ≡ None → ⊥
+pub no_step : (steps : List Step) (paths : List StablePath) → paths_of steps ≡ paths → (node : ℕ) →
+    node < length paths → slice_get steps node ≡ None → ⊥
 no_step steps paths seen node lt none =
     let long = length_of [] steps in
     let all = ap length seen in
     none-some _ (sym none ∙ slice_get-get_or steps node (Local 0) (omega (arith, lt, long, all)))
 
-pub step_here : (steps : List Step) → AreSteps steps → (paths : List StablePath) → paths_of steps ≡ paths → (node : ℕ) (step : Step) → Some step ≡ slice_get steps node →
+pub step_here : (steps : List Step) → AreSteps steps → (paths : List StablePath) → paths_of steps ≡ paths →
+    (node : ℕ) (step : Step) → Some step ≡ slice_get steps node →
     path_by paths step ≡ get_or paths node nowhere
 step_here steps are paths seen node step is =
     sym (get_or_from_slice_get paths node (path_by paths step) nowhere
     (sym (ap (λ (ps : List StablePath). slice_get ps node) seen) ∙ place steps are node step (sym is) ∙ ap (λ (ps : List StablePath). Some (path_by ps step)) seen))
 
-pub step_after : (steps : List Step) → AreSteps steps → (node : ℕ) (step : Step) → Some step ≡ slice_get steps node → IsAfter node step
+pub step_after : (steps : List Step) → AreSteps steps → (node : ℕ) (step : Step) → Some step ≡ slice_get steps node →
+    IsAfter node step
 step_after steps are node step is = are.after node step (sym is)

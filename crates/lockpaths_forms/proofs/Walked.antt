@@ -1,11 +1,14 @@
 -- Walks along stable paths, by what is known.
-use Rattle.std.proofs.Common.{◌≡◌, ◌≢◌, inl, inr, ℕ, ◌+◌, ◌<◌, Bool, true, false, List, [], ◌∷◌, ◌++◌, length, map, take, get_or, Option, Some, None, refl, sym, ap, subst, ◌∙◌, append_assoc, append-nil, length-append, arith}
+use Rattle.std.proofs.Common.{◌≡◌, ◌≢◌, inl, inr, ℕ, ◌+◌, ◌<◌, Bool, true, false, List, [], ◌∷◌, ◌++◌, length, map}
+use Rattle.std.proofs.Common.{take, get_or, Option, Some, None, refl, sym, ap, subst, ◌∙◌, append_assoc, append-nil}
+use Rattle.std.proofs.Common.{length-append, arith}
 use Rattle.std.specs.Prelude.{slice_get, if◌then◌else◌, ◌==◌, cond}
 use Rattle.std.specs.Option.{option_map}
 use Rattle.std.proofs.lemmas.Bool.{eq-eqb, ne_eqb}
 use Rattle.std.proofs.lemmas.Bool.Decides.{nat_tests}
 use Rattle.std.proofs.lemmas.List.{get_or_append_left, get_or_push, map_push, take_all, take-append-le, length_push}
-use Rattle.std.proofs.lemmas.Option.{none-some, same_Some, slice_get-map, slice_get-get_or, slice_get_within, get_or_from_slice_get}
+use Rattle.std.proofs.lemmas.Option.{none-some, same_Some, slice_get-map, slice_get-get_or, slice_get_within}
+use Rattle.std.proofs.lemmas.Option.{get_or_from_slice_get}
 use Rattle.locks.specs.LockPaths.{StablePath, or_behind, owned_path, past_final}
 use Rattle.lockpaths_forms.specs.declared.form.Form.{Form}
 use Rattle.lockpaths_forms.specs.declared.form.Owner.{Owner}
@@ -13,9 +16,12 @@ use Rattle.lockpaths_forms.specs.declared.form.State.{State}
 use Rattle.lockpaths_forms.specs.declared.form.State.TheVariants.{Node, Where}
 use Rattle.lockpaths_forms.specs.declared.form.Branch.{Branch}
 use Rattle.lockpaths_forms.specs.declared.forms.Bound.{Bound}
-use Rattle.lockpaths_forms.specs.Working.Forms.{Replacement, stable_path_of, owner_path_of, replacement_of, bound_as, put_in, all_replaced_by}
+use Rattle.lockpaths_forms.specs.Working.Forms.{Replacement, stable_path_of, owner_path_of, replacement_of, bound_as}
+use Rattle.lockpaths_forms.specs.Working.Forms.{put_in, all_replaced_by}
 use Rattle.lockpaths_forms.specs.Working.Nodes.{local_path, longer, nowhere, onto, IsGrown, IsNodeOf}
-use Rattle.lockpaths_forms.specs.Working.States.{Known, known, nothing_bound, reads, IsState, IsBefore, begins, IsBranch, IsReadAs, IsOfLocal, AreForms, IsKept, IsReached, or_local, IsBranchOf, IsStateOf, IsBoundIn}
+use Rattle.lockpaths_forms.specs.Working.States.{Known, known, nothing_bound, reads, IsState, IsBefore, begins}
+use Rattle.lockpaths_forms.specs.Working.States.{IsBranch, IsReadAs, IsOfLocal, AreForms, IsKept, IsReached, or_local}
+use Rattle.lockpaths_forms.specs.Working.States.{IsBranchOf, IsStateOf, IsBoundIn}
 use Rattle.lockpaths_forms.proofs.Places.{stands_left, stands_last, stood_or_last}
 use Rattle.lockpaths_forms.proofs.Replaced.{behind_last}
 use Rattle.lockpaths_forms.proofs.Numbered.{onto_nothing, onto_longer}
@@ -93,14 +99,16 @@ behind_value : (local : ℕ) (value : Option Form) (ns : List ℕ) →
 behind_value local None ns = refl
 behind_value local (Some form) ns = refl
 
-not_owned : (owner : Owner) (path : StablePath) → begins owner.number path.finals ≡ false → owned_path (Some (owner_path_of owner)) path ≡ None
+not_owned : (owner : Owner) (path : StablePath) → begins owner.number path.finals ≡ false →
+    owned_path (Some (owner_path_of owner)) path ≡ None
 not_owned owner path other = by path.finals other
   where
     by : (fs : List ℕ) → begins owner.number fs ≡ false → past_final (owner_path_of owner) fs ≡ None
     by [] e = refl
     by (f ∷ fs) e = ap (λ (b : Bool). if b then Some (record { root = owner.local; finals = fs }) else None) e
 
-is_owned : (owner : Owner) (local : ℕ) (ns : List ℕ) → owned_path (Some (owner_path_of owner)) (record { root = local; finals = owner.number ∷ ns }) ≡ Some (onto (local_path owner.local) ns)
+is_owned : (owner : Owner) (local : ℕ) (ns : List ℕ) →
+    owned_path (Some (owner_path_of owner)) (record { root = local; finals = owner.number ∷ ns }) ≡ Some (onto (local_path owner.local) ns)
 is_owned owner local ns = ap (λ (b : Bool). if b then Some (record { root = owner.local; finals = ns }) else None) (eq-eqb owner.number owner.number refl)
 
 module _ (f : Known) (even : length f.branches ≡ length f.table) (r : Replacement) (o : Option Branch) where
@@ -133,14 +141,16 @@ module _ (f : Known) (even : length f.branches ≡ length f.table) (r : Replacem
   }
 
   -- what is read from the binding itself on
-  reads_last : (k : ℕ) → k ≡ length f.table → (ns : List ℕ) → reads with_one (Where k) ns ≡ all_replaced_by (f.table ++ r ∷ []) (record { root = r.local; finals = ns })
+  reads_last : (k : ℕ) → k ≡ length f.table → (ns : List ℕ) →
+      reads with_one (Where k) ns ≡ all_replaced_by (f.table ++ r ∷ []) (record { root = r.local; finals = ns })
   reads_last k at ns =
       let long = length_push f.table r in
       ap (λ (t : List Replacement). all_replaced_by t (record { root = (get_or (f.table ++ r ∷ []) k nothing_bound).local; finals = ns }))
       (take_all (k + 1) (f.table ++ r ∷ []) (omega (arith, long, at)))
       ∙ ap (λ (x : Replacement). all_replaced_by (f.table ++ r ∷ []) (record { root = x.local; finals = ns })) (get_or_push f.table r nothing_bound k (sym at))
 
-before_last : (f : Known) → length f.branches ≡ length f.table → (k : ℕ) → k ≡ length f.table → (s : State) → IsState f s → IsBefore k s
+before_last : (f : Known) → length f.branches ≡ length f.table → (k : ℕ) → k ≡ length f.table → (s : State) →
+    IsState f s → IsBefore k s
 before_last f even k at (Node n) is = tt
 before_last f even k at (Where j) is = let lt = slice_get_within f.branches j (Some is.0) is.1 in omega (arith, lt, even, at)
 
@@ -149,7 +159,8 @@ module _ (f : Known) (even : length f.branches ≡ length f.table) (local : ℕ)
   bound = bound_as local owner value
 
   -- where the owner says nothing
-  reads_other : (ns : List ℕ) → owned_path (option_map owner_path_of owner) (record { root = local; finals = ns }) ≡ None →
+  reads_other : (ns : List ℕ) →
+      owned_path (option_map owner_path_of owner) (record { root = local; finals = ns }) ≡ None →
       reads f other ns ≡ all_replaced_by (f.table ++ bound ∷ []) (record { root = local; finals = ns })
   reads_other ns none =
       is.same ns
@@ -164,7 +175,8 @@ module _ (f : Known) (even : length f.branches ≡ length f.table) (local : ℕ)
   abbrev g : Known
   g = with_one f even r (Some t)
 
-  new_stays : (k : ℕ) → k ≡ length f.table → (ns : List ℕ) → begins t.number ns ≡ false → reads f other ns ≡ reads g (Where k) ns
+  new_stays : (k : ℕ) → k ≡ length f.table → (ns : List ℕ) → begins t.number ns ≡ false →
+      reads f other ns ≡ reads g (Where k) ns
   new_stays k at ns differs =
       reads_other f even local (Some owner) value other is ns (not_owned owner (record { root = local; finals = ns }) (sym (ap (λ (n : ℕ). begins n ns) number) ∙ differs))
       ∙ sym (reads_last f even r (Some t) k at ns)
@@ -195,14 +207,17 @@ module _ (f : Known) (even : length f.branches ≡ length f.table) (local : ℕ)
       }
 
 module _ (f : Known) (even : length f.branches ≡ length f.table) (local : ℕ) (value : Option Form) (other : State) (is : IsReadAs f other (or_local local value)) (branch : Option Branch) where
-  branch_last : (owner : Option Owner) → IsBranchOf f owner other branch → (k : ℕ) → k ≡ length f.table → (t : Branch) → branch ≡ Some t → IsBranch (with_one f even (bound_as local owner value) branch) k t
+  branch_last : (owner : Option Owner) → IsBranchOf f owner other branch → (k : ℕ) → k ≡ length f.table →
+      (t : Branch) → branch ≡ Some t → IsBranch (with_one f even (bound_as local owner value) branch) k t
   branch_last None none k at t some = absurd (none-some t (sym none ∙ some))
   branch_last (Some owner) of k at t some =
       let made = new_branch f even local owner value other is of.0 of.2 of.3 of.4 of.5 k at in
       subst (λ (u : Option Branch). IsBranch (with_one f even (bound_as local (Some owner) value) u) k t) (sym of.1)
       (subst (IsBranch (with_one f even (bound_as local (Some owner) value) (Some of.0)) k) (same_Some of.0 t (sym of.1 ∙ some)) made)
 
-  state_last : (owner : Option Owner) → IsBranchOf f owner other branch → (state : State) → IsStateOf f other state branch → IsReadAs (with_one f even (bound_as local owner value) branch) state (local_path local)
+  state_last : (owner : Option Owner) → IsBranchOf f owner other branch → (state : State) →
+      IsStateOf f other state branch →
+      IsReadAs (with_one f even (bound_as local owner value) branch) state (local_path local)
   state_last None none state of =
       let here : state ≡ other = subst (IsStateOf f other state) none of in
       subst (λ (s : State). IsReadAs (with_one f even (bound_as local None value) branch) s (local_path local)) (sym here)
@@ -244,7 +259,8 @@ module _ (f : Known) (states new : ℕ → Option State) (are : AreForms f state
     locals = λ q. subst (IsOfLocal one_more q) (sym (put_there q ∙ ap (λ (c : Bool). cond c (Some state) (states q)) refl)) (local_more q (b.local == q) refl);
   }
 
-pub bound_forms : (bounds more : List Bound) (b : Bound) (paths : List StablePath) (states new : ℕ → Option State) (state : State) → more ≡ bounds ++ b ∷ [] →
+pub bound_forms : (bounds more : List Bound) (b : Bound) (paths : List StablePath) (states new : ℕ →
+    Option State) (state : State) → more ≡ bounds ++ b ∷ [] →
     AreForms (known bounds paths) states → IsBoundIn (known bounds paths) b state → ((q : ℕ) → new q ≡ cond (b.local == q) (Some state) (states q)) → AreForms (known more paths) new
 bound_forms bounds more b paths states new state grown are is put_there =
     let same : known more paths ≡ one_more (known bounds paths) states new are b state is put_there =
@@ -269,10 +285,12 @@ number_other n m ns other = ne_eqb n m other
 
 -- ---- a local by itself, a step, and the node at a state
 
-pub more_nodes : (bounds : List Bound) (old new : List StablePath) → IsGrown old new → IsKept (known bounds old) (known bounds new)
+pub more_nodes : (bounds : List Bound) (old new : List StablePath) → IsGrown old new →
+    IsKept (known bounds old) (known bounds new)
 more_nodes bounds old new grown = record { table = refl; branches = refl; paths = grown }
 
-pub fresh : (f : Known) (states : ℕ → Option State) → AreForms f states → (local n : ℕ) → states local ≡ None → IsNodeOf f.paths (local_path local) n → IsReadAs f (Node n) (local_path local)
+pub fresh : (f : Known) (states : ℕ → Option State) → AreForms f states → (local n : ℕ) → states local ≡ None →
+    IsNodeOf f.paths (local_path local) n → IsReadAs f (Node n) (local_path local)
 fresh f states are local n none is = record {
   is = slice_get_within f.paths n (local_path local) is;
   same = λ ns.
@@ -280,7 +298,8 @@ fresh f states are local n none is = record {
       ∙ subst (IsOfLocal f local) none (are.locals local) ns;
 }
 
-pub known_local : (f : Known) (states : ℕ → Option State) → AreForms f states → (local : ℕ) (s : State) → states local ≡ Some s → IsReadAs f s (local_path local)
+pub known_local : (f : Known) (states : ℕ → Option State) → AreForms f states → (local : ℕ) (s : State) →
+    states local ≡ Some s → IsReadAs f s (local_path local)
 known_local f states are local s some = subst (IsOfLocal f local) some (are.locals local)
 
 pub stepped : (old new : Known) (nodes : List StablePath) (state : State) (node number m : ℕ) → nodes ≡ old.paths →
@@ -298,7 +317,8 @@ stepped old new nodes state node number m same next is = record {
 pub node_here : (f : Known) (n : ℕ) → n < length f.paths → IsNodeOf f.paths (reads f (Node n) []) n
 node_here f n lt = slice_get-get_or f.paths n nowhere lt ∙ ap Some (sym (onto_nothing (get_or f.paths n nowhere)))
 
-pub branch_here : (bounds : List Bound) (paths : List StablePath) (k : ℕ) (b : Bound) (t : Branch) → k < length bounds → b ≡ get_or bounds k b → b.branch ≡ Some t →
+pub branch_here : (bounds : List Bound) (paths : List StablePath) (k : ℕ) (b : Bound) (t : Branch) →
+    k < length bounds → b ≡ get_or bounds k b → b.branch ≡ Some t →
     slice_get (known bounds paths).branches k ≡ Some (Some t)
 branch_here bounds paths k b t lt is some =
     slice_get-map (λ (x : Bound). x.branch) bounds k

@@ -7,9 +7,11 @@ use Rattle.core_lang.specs.declared.tree.Section.{Section}
 use Rattle.core_lang.specs.Typing.{lookup}
 use Rattle.core_lang.specs.Scopes.{NamesOnly, IsWellScoped}
 use Rattle.locks.specs.Locks.{led_to}
-use Rattle.locks.specs.LockPaths.{StablePath, Binding, bindings, replaced, all_replaced, normal_form, object_at, IsLet, LetsAgree}
+use Rattle.locks.specs.LockPaths.{StablePath, Binding, bindings, replaced, all_replaced, normal_form, object_at}
+use Rattle.locks.specs.LockPaths.{IsLet, LetsAgree}
 use Rattle.locks.proofs.Scoped.{bound_behind}
-use Rattle.locks.proofs.Normal.{IsFixed, IsRoot, Replaces, other, by_owner, no_path, by_path, past_parts, replaces, all_roots, fixed_kinds}
+use Rattle.locks.proofs.Normal.{IsFixed, IsRoot, Replaces, other, by_owner, no_path, by_path, past_parts, replaces}
+use Rattle.locks.proofs.Normal.{all_roots, fixed_kinds}
 use Rattle.locks.proofs.Finals.{object_append}
 use Rattle.core_lang.specs.Theory.Items.{in_first, in_rest, lookup_some}
 
@@ -25,7 +27,8 @@ module _ (section : Section) (well : IsWellScoped section) (scope : List ℕ) (s
       let kind = well.kinds b.local fixed.0 fixed.1 in
       (fixed.0, fixed.1, elim (fixed_kinds fixed.0.kind fixed.2) [ inl is ↦ absurd (kind.1 (bound_behind section well b among) is) | inr is ↦ is ])
 
-  one_same : (b : Binding) (path path' : StablePath) (o : ℕ) → Contains (bindings section) b → IsRoot section scope path.root → Replaces section b path path' → ends path ≡ Some o → ends path' ≡ Some o
+  one_same : (b : Binding) (path path' : StablePath) (o : ℕ) → Contains (bindings section) b →
+      IsRoot section scope path.root → Replaces section b path path' → ends path ≡ Some o → ends path' ≡ Some o
   one_same b path path' o among root (other n) end = end
   one_same b path path' o among root (no_path same n none) end = end
   one_same b path path' o among root (by_owner owner q same is past) end =
@@ -48,7 +51,8 @@ module _ (section : Section) (well : IsWellScoped section) (scope : List ℕ) (s
       object_append shape locals q.root q.finals path.finals ∙ ap (λ r. lookup r go) (sym agrees)
       ∙ sym (object_append shape locals b.local [] path.finals) ∙ ap (λ k. object_at shape locals k path.finals) same ∙ end
 
-  all_same : (bs : List Binding) (path : StablePath) (o : ℕ) → ((b : Binding) → Contains bs b → Contains (bindings section) b) → IsRoot section scope path.root →
+  all_same : (bs : List Binding) (path : StablePath) (o : ℕ) →
+      ((b : Binding) → Contains bs b → Contains (bindings section) b) → IsRoot section scope path.root →
       ends path ≡ Some o → ends (all_replaced section bs path) ≡ Some o
   all_same [] path o sub root end = end
   all_same (x ∷ bs) path o sub root end =
@@ -57,5 +61,6 @@ module _ (section : Section) (well : IsWellScoped section) (scope : List ℕ) (s
       one_same x path' (replaced section x path') o (sub x (in_first x bs)) (all_roots section scope (bindings section) closed bs path rest root) (replaces section x path')
       (all_same bs path o rest root end)
 
-  pub normal_same : (path : StablePath) (o : ℕ) → IsRoot section scope path.root → ends path ≡ Some o → ends (normal_form section path) ≡ Some o
+  pub normal_same : (path : StablePath) (o : ℕ) → IsRoot section scope path.root → ends path ≡ Some o →
+      ends (normal_form section path) ≡ Some o
   normal_same path o root end = all_same (bindings section) path o (λ b c. c) root end

@@ -1,13 +1,16 @@
 -- The normal form of a path that begins at a `let` of a stable path is that path's, with the finals behind; any other path is its own.
-use Rattle.std.proofs.Common.{◌≡◌, ℕ, ◌+◌, ◌<◌, Bool, true, false, List, [], ◌∷◌, Option, Some, None, inl, inr, refl, sym, ap, ◌∙◌, arith}
+use Rattle.std.proofs.Common.{◌≡◌, ℕ, ◌+◌, ◌<◌, Bool, true, false, List, [], ◌∷◌, Option, Some, None, inl, inr, refl}
+use Rattle.std.proofs.Common.{sym, ap, ◌∙◌, arith}
 use Rattle.std.specs.Prelude.{◌==◌, if◌then◌else◌}
 use Rattle.std.specs.List.{Contains}
 use Rattle.std.proofs.lemmas.Option.{none-some}
 use Rattle.core_lang.specs.declared.tree.Section.{Section}
 use Rattle.std.proofs.lemmas.Bool.{eq-eqb}
-use Rattle.locks.specs.LockPaths.{StablePath, OwnerPath, Binding, stable_value, owner_of, owned_path, or_behind, bindings, behind, replaced, all_replaced}
+use Rattle.locks.specs.LockPaths.{StablePath, OwnerPath, Binding, stable_value, owner_of, owned_path, or_behind}
+use Rattle.locks.specs.LockPaths.{bindings, behind, replaced, all_replaced}
 use Rattle.locks.specs.Working.Laws.{NormalFormOfOwned, NormalFormOfLet, NormalFormOfOther}
-use Rattle.locks.proofs.Normal.{Replaces, other, by_owner, no_path, by_path, past_parts, IsOrdered, from_next, unchanged, bindings_ordered}
+use Rattle.locks.proofs.Normal.{Replaces, other, by_owner, no_path, by_path, past_parts, IsOrdered, from_next}
+use Rattle.locks.proofs.Normal.{unchanged, bindings_ordered}
 use Rattle.core_lang.specs.Theory.Items.{not_in_none, in_cases}
 
 module _ (section : Section) where
@@ -15,24 +18,28 @@ module _ (section : Section) where
   abbrev Step : Binding → StablePath → StablePath
   Step b path = or_behind (owned_path (owner_of section b.value) path) (stable_value section b.value) path
 
-  by_it : (x : Binding) (path : StablePath) (t : Bool) → (x.local == path.root) ≡ t → x.local ≡ path.root → (if t then Step x path else path) ≡ Step x path
+  by_it : (x : Binding) (path : StablePath) (t : Bool) → (x.local == path.root) ≡ t → x.local ≡ path.root →
+      (if t then Step x path else path) ≡ Step x path
   by_it x path true e same = refl
   by_it x path false e same = absurd (no (sym (eq-eqb x.local path.root same) ∙ e))
     where
       no : true ≡ false → ⊥
       no h = cc
 
-  not_it : (x : Binding) (path path' : StablePath) → (x.local ≡ path.root → ⊥) → Replaces section x path path' → path' ≡ path
+  not_it : (x : Binding) (path path' : StablePath) → (x.local ≡ path.root → ⊥) → Replaces section x path path' →
+      path' ≡ path
   not_it x path path' n (other m) = refl
   not_it x path path' n (by_owner o q e is past) = absurd (n e)
   not_it x path path' n (no_path e m none) = refl
   not_it x path path' n (by_path r e m some) = absurd (n e)
 
   -- a path that begins below all that is bound
-  low_stays : (bs : List Binding) (next : ℕ) (path : StablePath) → IsOrdered section next bs → path.root < next → all_replaced section bs path ≡ path
+  low_stays : (bs : List Binding) (next : ℕ) (path : StablePath) → IsOrdered section next bs → path.root < next →
+      all_replaced section bs path ≡ path
   low_stays bs next path o low = unchanged section bs path (λ d k f. absurd (omega (arith, from_next section bs next d o k, low, f)))
 
-  of_step : (bs : List Binding) (next : ℕ) (b : Binding) (path q : StablePath) → IsOrdered section next bs → Contains bs b → b.local ≡ path.root →
+  of_step : (bs : List Binding) (next : ℕ) (b : Binding) (path q : StablePath) → IsOrdered section next bs →
+      Contains bs b → b.local ≡ path.root →
       Step b path ≡ q → q.root < b.local → all_replaced section bs path ≡ all_replaced section bs q
   of_step [] next b path q o c same is low = absurd (not_in_none b c)
   of_step (x ∷ bs) next b path q o c same is low =
@@ -59,7 +66,8 @@ module _ (section : Section) where
         | inr d ↦ below_it bs (next + 1) b o.3 d
       ]
 
-  past_root : (o : Option OwnerPath) (path from : StablePath) (k : ℕ) → owned_path o path ≡ Some from → ((w : OwnerPath) → o ≡ Some w → w.path.root < k) → from.root < k
+  past_root : (o : Option OwnerPath) (path from : StablePath) (k : ℕ) → owned_path o path ≡ Some from →
+      ((w : OwnerPath) → o ≡ Some w → w.path.root < k) → from.root < k
   past_root None path from k is low = absurd (none-some from is)
   past_root (Some w) path from k is low =
       let e = ap (λ (z : StablePath). z.root) (past_parts w path.finals from is).path_is in

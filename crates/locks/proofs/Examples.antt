@@ -1,5 +1,6 @@
 -- Worked sections, written by hand, and what the definitions compute of them. Nothing rests on these: they show the definitions at work.
-use Rattle.std.specs.Prelude.{Option, Ok, Err, ◌+◌, ◌≡◌, ℕ, ◌<◌, ◌^◌, length, List, [], ◌∷◌, map, Some, None, pos, Bool, true, false, String, ◌++◌, codes, string_bytes}
+use Rattle.std.specs.Prelude.{Option, Ok, Err, ◌+◌, ◌≡◌, ℕ, ◌<◌, ◌^◌, length, List, [], ◌∷◌, map, Some, None, pos}
+use Rattle.std.specs.Prelude.{Bool, true, false, String, ◌++◌, codes, string_bytes}
 use Rattle.std.proofs.Common.{refl, Vec, Global, arith}
 use denote.RawPtr.{null_ptr}
 use Rattle.core_lang.specs.declared.value.Value.TheVariants.{Int}
@@ -15,15 +16,18 @@ use Rattle.core_lang.specs.declared.value.Trap.TheVariants.{NotOwned, ZeroDiviso
 use Rattle.core_lang.specs.declared.value.Outcome.TheVariants.{Ends, Returns, Traps}
 use Rattle.core_lang.specs.Cells.{owned}
 use Rattle.core_lang.specs.Whole.{Over, Beyond_turns, Gone_astray, run_of}
-use Rattle.core_lang.specs.Expansion.{Pair, pair, At, RenamesPath, parameters_at, entered, Writes, HelpersWritten, IsWrittenOut}
+use Rattle.core_lang.specs.Expansion.{Pair, pair, At, RenamesPath, parameters_at, entered, Writes, HelpersWritten}
+use Rattle.core_lang.specs.Expansion.{IsWrittenOut}
 use Rattle.std.specs.List.{Contains}
 use Rattle.core_lang.specs.declared.tree.Path.{Path}
 use Rattle.core_lang.specs.declared.tree.FieldStep.{FieldStep}
 use Rattle.core_lang.specs.declared.tree.FieldStep.TheVariants as step
-use Rattle.core_lang.specs.declared.tree.Expr.{Element', Expr, Number, Null, Place, Global as GlobalExpr, Member', Owned', Chain', end_of-Operation, more_of-Operation}
+use Rattle.core_lang.specs.declared.tree.Expr.{Element', Expr, Number, Null, Place, Global as GlobalExpr, Member'}
+use Rattle.core_lang.specs.declared.tree.Expr.{Owned', Chain', end_of-Operation, more_of-Operation}
 use Rattle.std.proofs.Common.{Box}
 use Rattle.core_lang.specs.declared.tree.Condition.{Compare}
-use Rattle.core_lang.specs.declared.tree.Action.{Bind, SetGlobal, SetElement, SetField, Call, Print, If', IfElse', While', end_of-Stmt, more_of-Stmt}
+use Rattle.core_lang.specs.declared.tree.Action.{Bind, SetGlobal, SetElement, SetField, Call, Print, If', IfElse'}
+use Rattle.core_lang.specs.declared.tree.Action.{While', end_of-Stmt, more_of-Stmt}
 use Rattle.core_lang.specs.declared.tree.Local.{Local}
 use Rattle.core_lang.specs.declared.tree.Section.{Section}
 use Rattle.flow.specs.Skeletons.{count, skeleton}
@@ -601,14 +605,16 @@ module _ (alloc : Global) (name : String Global) where
   written_out_runs : run_of written_out no_shape 0 [] (Int (pos 0) ∷ []) ≡ Over (record { outcome = Returns (Int (pos 5)); prints = []; heap = Int (pos 5) ∷ [] })
   written_out_runs = refl
 
-  abbrev lone_renamed : (scope : List Pair) (start k j : ℕ) → Contains scope (pair k j) → RenamesPath scope (a_path start k [] (omega arith)) (a_path start j [] (omega arith))
+  abbrev lone_renamed : (scope : List Pair) (start k j : ℕ) → Contains scope (pair k j) →
+      RenamesPath scope (a_path start k [] (omega arith)) (a_path start j [] (omega arith))
   lone_renamed scope start k j c = record { start = refl; local = c; fields = refl; in_parentheses = refl }
 
   -- the body of `add`, with its parameter at a number
   abbrev added : ℕ → List Stmt
   added j = record { start = 10; action = SetGlobal 0 (plus (n_at 14) (lone 18 j)) } ∷ []
 
-  add_written : (j : ℕ) → HelpersWritten helping 8 0 1 j (added j) (Some (record { start = 20; value = n_at 27 })) (j + 1)
+  add_written : (j : ℕ) →
+      HelpersWritten helping 8 0 1 j (added j) (Some (record { start = 20; value = n_at 27 })) (j + 1)
   add_written j =
       let here : Contains (parameters_at 1 j) (pair 0 j) = let z : j + 0 ≡ j = omega arith in (0, omega arith, λ i. pair 0 (z i)) in (
         add,

@@ -22,7 +22,8 @@ use Rattle.locks.specs.declared.path.Root.{Root}
 use Rattle.locks.specs.declared.path.Root.TheVariants.{GlobalLock, Local as AtLocal}
 use Rattle.locks.specs.Accesses.{Target, global, element, field, accesses_at}
 use Rattle.locks.specs.Locks.{protection_of}
-use Rattle.locks.specs.LockPaths.{LockPath, StablePath, Binding, stable, normal_base, extended, bindings, under, global_path, protected_path, class_if_global, target_path, lock_path, IsRootInScope}
+use Rattle.locks.specs.LockPaths.{LockPath, StablePath, Binding, stable, normal_base, extended, bindings, under}
+use Rattle.locks.specs.LockPaths.{global_path, protected_path, class_if_global, target_path, lock_path, IsRootInScope}
 use Rattle.locks.specs.Working.Laws.{UsedAreInScope, ScopeOfPathsGoesBack}
 use Rattle.locks.proofs.Lists.{each_at, from_filter_map}
 use Rattle.locks.proofs.Scoped.{sound_point}
@@ -34,13 +35,16 @@ use Rattle.core_lang.specs.Theory.Items.{lookup_some, map_some}
 
 -- the path of a field: the global lock of its protection, or its protection behind the normal form of its base
 pub data IsFieldPath (program : Typed) (section : Section) (local : ℕ) (base : List FieldStep) (p : Protection) (path : LockPath) : Type 0 where
-  of_global : (c : LockClass) → slice_get program.classes.items p.class ≡ Some c → IsGlobalLock c → path ≡ global_path p.class →
+  of_global : (c : LockClass) → slice_get program.classes.items p.class ≡ Some c → IsGlobalLock c →
+      path ≡ global_path p.class →
       IsFieldPath program section local base p path
-  of_object : (s l : ℕ) (q : StablePath) → slice_get program.classes.items p.class ≡ Some (class.Field s l) → stable section local base ≡ Some q →
+  of_object : (s l : ℕ) (q : StablePath) → slice_get program.classes.items p.class ≡ Some (class.Field s l) →
+      stable section local base ≡ Some q →
       path ≡ protected_path p (normal_base section p q) → IsFieldPath program section local base p path
 
 module _ (program : Typed) (section : Section) where
-  by_class : (local : ℕ) (base : List FieldStep) (p : Protection) (path : LockPath) (c : LockClass) → slice_get program.classes.items p.class ≡ Some c →
+  by_class : (local : ℕ) (base : List FieldStep) (p : Protection) (path : LockPath) (c : LockClass) →
+      slice_get program.classes.items p.class ≡ Some c →
       under c p (option_map (normal_base section p) (stable section local base)) ≡ Some path → IsFieldPath program section local base p path
   by_class local base p path (class.Global name) is e =
       of_global (class.Global name) is tt (let same : global_path p.class ≡ path = cc in sym same)
@@ -49,7 +53,8 @@ module _ (program : Typed) (section : Section) where
       let q = map_some (normal_base section p) (stable section local base) o.0 o.1 in
       of_object s l q.0 is q.1 (sym o.2 ∙ ap (protected_path p) (sym q.2))
 
-  pub field_path : (local s f : ℕ) (base : List FieldStep) (path : LockPath) → target_path program section (field local base s f) ≡ Some path →
+  pub field_path : (local s f : ℕ) (base : List FieldStep) (path : LockPath) →
+      target_path program section (field local base s f) ≡ Some path →
       (p : Protection) × (protection_of program s f ≡ Some p) × IsFieldPath program section local base p path
   field_path local s f base path e =
       let normal : Protection → Option StablePath = λ p. option_map (normal_base section p) (stable section local base) in
@@ -64,7 +69,8 @@ module _ (program : Typed) (section : Section) where
     global_root : (path : LockPath) (number : ℕ) → path ≡ global_path number → IsRootInScope section i path.root
     global_root path number e = subst (λ (x : LockPath). IsRootInScope section i x.root) (sym e) tt
 
-    field_root : (local : ℕ) (base : List FieldStep) (p : Protection) (path : LockPath) → Contains scope local → IsFieldPath program section local base p path →
+    field_root : (local : ℕ) (base : List FieldStep) (p : Protection) (path : LockPath) → Contains scope local →
+        IsFieldPath program section local base p path →
         IsRootInScope section i path.root
     field_root local base p path c (of_global g is single e) = global_root path p.class e
     field_root local base p path c (of_object s l q is stable_is e) =
@@ -76,7 +82,8 @@ module _ (program : Typed) (section : Section) where
         let last = all_roots section scope (bindings section) closed (bindings section) (extended q p) (λ b d. d) first in
         subst (λ (x : LockPath). IsRootInScope section i x.root) (sym e) (scope, at, last.in_scope)
 
-    pub target_root : (target : Target) (path : LockPath) → IsTargetNamed scope target → target_path program section target ≡ Some path →
+    pub target_root : (target : Target) (path : LockPath) → IsTargetNamed scope target →
+        target_path program section target ≡ Some path →
         IsRootInScope section i path.root
     target_root (global cell) path c e =
         let x = lookup_some (slice_get program.cells.items cell) (λ (y : Cell). option_map global_path (class_if_global program y.owner)) path e in
@@ -96,7 +103,8 @@ used_are_in_scope program section p path well has (point, here, c) =
     let named = each_at (IsNamed sound.0) (accesses_at point) a.0 (accesses_named sound.0 point sound.2.scoped) a.1 in
     target_root program section scoped p sound.0 sound.1 sound.2.closed a.0.target path named a.2
 
-root_back : ScopeGoesBack → (section : Section) (p q : ℕ) (root : Root) → Follows (skeleton section) p q → IsRootInScope section q root →
+root_back : ScopeGoesBack → (section : Section) (p q : ℕ) (root : Root) → Follows (skeleton section) p q →
+    IsRootInScope section q root →
     IsRootInScope section p root ⊎ ((k : ℕ) × (root ≡ AtLocal k) × Binds section p k)
 root_back law section p q GlobalLock f s = inl tt
 root_back law section p q (AtLocal k) f s = elim (law section p q k f s) [ inl x ↦ inl x | inr y ↦ inr (k, refl, y) ]

@@ -30,7 +30,8 @@ use Rattle.flow.specs.Points.{points}
 use Rattle.locks.specs.declared.lock.Lock.{Lock}
 use Rattle.locks.specs.Accesses.{Target, global, element, field, accesses_at}
 use Rattle.locks.specs.Locks.{led_to, global_lock, lock_of, protection_of, walked, protecting, lock_of_cell}
-use Rattle.locks.specs.LockPaths.{LockPath, bindings, normal_form, extended, global_path, class_if_global, target_path, lock_named, object_at, LetsAgree}
+use Rattle.locks.specs.LockPaths.{LockPath, bindings, normal_form, extended, global_path, class_if_global}
+use Rattle.locks.specs.LockPaths.{target_path, lock_named, object_at, LetsAgree}
 use Rattle.locks.specs.Working.Reached.{Reaches, to_global, to_element, to_field}
 use Rattle.locks.specs.Working.Laws.{PathsNameTheLocks}
 use Rattle.flow.specs.Theory.Each.{each_there}
@@ -41,7 +42,8 @@ use Rattle.locks.proofs.Named.{IsTargetNamed, IsNamed, accesses_named}
 use Rattle.locks.proofs.Normal.{stable_parts, IsFixed, IsRoot}
 use Rattle.locks.proofs.InScope.{IsFieldPath, of_global, of_object, field_path}
 use Rattle.locks.proofs.TypedAccesses.{IsTypedTarget, IsTyped, accesses_typed}
-use Rattle.locks.proofs.Finals.{with_ok, found_ok, field_at, led_from, along_named, object_append, value_there, along_sound, led_there, index_at}
+use Rattle.locks.proofs.Finals.{with_ok, found_ok, field_at, led_from, along_named, object_append, value_there}
+use Rattle.locks.proofs.Finals.{along_sound, led_there, index_at}
 use Rattle.locks.proofs.Agreeing.{normal_same}
 use Rattle.core_lang.specs.Theory.Items.{lookup_some, map_some}
 
@@ -50,20 +52,24 @@ abbrev Names : Typed → List Value → LockPath → ℕ → Type 0
 Names program locals path cell = (lock : Lock) × (lock_named path program.shape locals ≡ Some lock) × (lock_of_cell program cell ≡ Some lock)
 
 module _ (program : Typed) (section : Section) (locals heap : List Value) where
-  cell_lock : (cell : ℕ) (c : Cell) (o : Owner) (lock : Lock) → slice_get program.cells.items cell ≡ Some c → c.owner ≡ o → protecting program o ≡ Some lock →
+  cell_lock : (cell : ℕ) (c : Cell) (o : Owner) (lock : Lock) → slice_get program.cells.items cell ≡ Some c →
+      c.owner ≡ o → protecting program o ≡ Some lock →
       lock_of_cell program cell ≡ Some lock
   cell_lock cell c o lock here is e =
       ap (λ (r : Option Cell). lookup r (λ (x : Cell). protecting program x.owner)) here ∙ ap (protecting program) is ∙ e
 
-  at_cell : (cell place : ℕ) (c : Cell) → cell ≡ place → slice_get program.cells.items place ≡ Some c → slice_get program.cells.items cell ≡ Some c
+  at_cell : (cell place : ℕ) (c : Cell) → cell ≡ place → slice_get program.cells.items place ≡ Some c →
+      slice_get program.cells.items cell ≡ Some c
   at_cell cell place c e here = ap (slice_get program.cells.items) e ∙ here
 
-  named_global : (path : LockPath) (number : ℕ) → path ≡ global_path number → lock_named path program.shape locals ≡ Some (global_lock number)
+  named_global : (path : LockPath) (number : ℕ) → path ≡ global_path number →
+      lock_named path program.shape locals ≡ Some (global_lock number)
   named_global path number e = ap (λ (x : LockPath). lock_named x program.shape locals) e
 
   -- ---- globals and elements
 
-  global_protected : (o : Owner) (number : ℕ) → class_if_global program o ≡ Some number → protecting program o ≡ Some (global_lock number)
+  global_protected : (o : Owner) (number : ℕ) → class_if_global program o ≡ Some number →
+      protecting program o ≡ Some (global_lock number)
   global_protected (owner.Global g) number e =
       let x = lookup_some (slice_get program.globals.items g) (λ (y : GlobalVariable). Some y.class) number e in
       let same : x.0.class ≡ number = let s : Some x.0.class ≡ Some number = x.2 in cc in
@@ -71,13 +77,15 @@ module _ (program : Typed) (section : Section) (locals heap : List Value) where
   global_protected (owner.Element array index) number e = absurd (none-some number e)
   global_protected (owner.Field o f) number e = absurd (none-some number e)
 
-  global_named : (cell : ℕ) (path : LockPath) → target_path program section (global cell) ≡ Some path → Names program locals path cell
+  global_named : (cell : ℕ) (path : LockPath) → target_path program section (global cell) ≡ Some path →
+      Names program locals path cell
   global_named cell path e =
       let x = lookup_some (slice_get program.cells.items cell) (λ (y : Cell). option_map global_path (class_if_global program y.owner)) path e in
       let y = map_some global_path (class_if_global program x.0.owner) path x.2 in
       (global_lock y.0, named_global path y.0 (sym y.2), cell_lock cell x.0 x.0.owner (global_lock y.0) x.1 refl (global_protected x.0.owner y.0 y.1))
 
-  element_named : IsWellFormed program → (array cell : ℕ) (index : Value) (path : LockPath) → element_cell program.shape array index ≡ Ok cell →
+  element_named : IsWellFormed program → (array cell : ℕ) (index : Value) (path : LockPath) →
+      element_cell program.shape array index ≡ Ok cell →
       target_path program section (element array) ≡ Some path → Names program locals path cell
   element_named well array cell index path at e =
       let x = lookup_some (slice_get program.shape.arrays.items array) (λ (y : Array). Some (global_path y.class)) path e in
@@ -93,7 +101,8 @@ module _ (program : Typed) (section : Section) (locals heap : List Value) where
 
   -- ---- fields
 
-  global_of : (c : LockClass) (number : ℕ) (object : Option ℕ) → IsGlobalLock c → lock_of c number object ≡ Some (global_lock number)
+  global_of : (c : LockClass) (number : ℕ) (object : Option ℕ) → IsGlobalLock c →
+      lock_of c number object ≡ Some (global_lock number)
   global_of (class.Global name) number object g = refl
   global_of (class.Field s l) number object g = absurd g
 
@@ -102,14 +111,16 @@ module _ (program : Typed) (section : Section) (locals heap : List Value) where
       walked program p o ≡ lock_of c p.class (led_to program.shape o p.through.items)
   of_class p o c is = ap (λ (r : Option LockClass). lookup r (λ (x : LockClass). lock_of x p.class (led_to program.shape o p.through.items))) is
 
-  field_protected : (s f o : ℕ) (p : Protection) (lock : Lock) → struct_of program.shape o ≡ Some s → protection_of program s f ≡ Some p →
+  field_protected : (s f o : ℕ) (p : Protection) (lock : Lock) → struct_of program.shape o ≡ Some s →
+      protection_of program s f ≡ Some p →
       walked program p o ≡ Some lock → protecting program (owner.Field o f) ≡ Some lock
   field_protected s f o p lock struct_is has e =
       ap (λ (r : Option ℕ). lookup r (λ n. lookup (protection_of program n f) (λ (q : Protection). walked program q o))) struct_is
       ∙ ap (λ (r : Option Protection). lookup r (λ (q : Protection). walked program q o)) has ∙ e
 
   -- a field's protection leads from its object to one with the lock
-  ends_there : IsWellFormed program → (s f o : ℕ) (p : Protection) (s' l : ℕ) → protection_of program s f ≡ Some p → struct_of program.shape o ≡ Some s →
+  ends_there : IsWellFormed program → (s f o : ℕ) (p : Protection) (s' l : ℕ) → protection_of program s f ≡ Some p →
+      struct_of program.shape o ≡ Some s →
       slice_get program.classes.items p.class ≡ Some (class.Field s' l) → (n : ℕ) × (led_to program.shape o p.through.items ≡ Some n)
   ends_there well s f o p s' l has struct_is is =
       let x = lookup_some (slice_get program.structs.items s) (λ (y : Struct). lookup (slice_get y.fields.items f) (λ (z : Field). Some z.protection)) p has in
@@ -126,7 +137,8 @@ module _ (program : Typed) (section : Section) (locals heap : List Value) where
   module _ (well : IsWellFormed program) (scoped : IsWellScoped section) (scope : List ℕ) (agree : LetsAgree section scope program.shape locals)
       (closed : Closed (bindings section) (bound_once section scoped) scope) where
     -- what the path of a field names, where its base leads to the object
-    field_path_named : (local s f o : ℕ) (base : List FieldStep) (v : Value) (p : Protection) (path : LockPath) → Contains scope local →
+    field_path_named : (local s f o : ℕ) (base : List FieldStep) (v : Value) (p : Protection) (path : LockPath) →
+        Contains scope local →
         slice_get locals local ≡ Some v → along program.shape heap v base ≡ Ok (Ref (Some o)) → struct_of program.shape o ≡ Some s →
         protection_of program s f ≡ Some p → IsFieldPath program section local base p path →
         (lock : Lock) × (lock_named path program.shape locals ≡ Some lock) × (walked program p o ≡ Some lock)
@@ -156,7 +168,8 @@ module _ (program : Typed) (section : Section) (locals heap : List Value) where
           of_class p o (class.Field s' l) is ∙ ap (option_map made) end.1,
         )
 
-    field_named : (local s f cell : ℕ) (base : List FieldStep) (path : LockPath) → HaveTypes program.shape (local_types section.locals.items) locals → IsHeap program heap →
+    field_named : (local s f cell : ℕ) (base : List FieldStep) (path : LockPath) →
+        HaveTypes program.shape (local_types section.locals.items) locals → IsHeap program heap →
         Contains scope local → IsTypedTarget program (local_types section.locals.items) (field local base s f) →
         target_path program section (field local base s f) ≡ Some path →
         with (found (slice_get locals local)) (λ v. with (along program.shape heap v base) (λ o. field_cell program.shape o f)) ≡ Ok cell →
@@ -179,7 +192,8 @@ module _ (program : Typed) (section : Section) (locals heap : List Value) where
         let protected = field_protected s f at.number p.0 named.0 struct_is p.1 named.2 in
         (named.0, named.1, cell_lock cell owned.cell (owner.Field at.number f) named.0 here owned.owned protected)
 
-    target_named : (target : Target) (cell : ℕ) (path : LockPath) → HaveTypes program.shape (local_types section.locals.items) locals → IsHeap program heap →
+    target_named : (target : Target) (cell : ℕ) (path : LockPath) →
+        HaveTypes program.shape (local_types section.locals.items) locals → IsHeap program heap →
         IsTargetNamed scope target → IsTypedTarget program (local_types section.locals.items) target → target_path program section target ≡ Some path →
         Reaches program.shape locals heap target cell → Names program locals path cell
     target_named (global cell) cell' path types is_heap c typed e to_global = global_named cell path e

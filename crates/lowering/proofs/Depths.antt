@@ -7,7 +7,8 @@ use Rattle.core_lang.specs.declared.tree.Stmt.{Stmt}
 use Rattle.core_lang.specs.declared.tree.Action.{Action, If, IfElse, While}
 use Rattle.code.specs.Needs.{expr_need, test_need, stmt_need, body_need}
 use Rattle.lowering.specs.Working.NeedLists.{operations_need, conditions_need}
-use Rattle.lowering.proofs.NeedViews.{expr_need-Chain, test_need-And, test_need-Or, stmt_need-If, stmt_need-IfElse, stmt_need-While}
+use Rattle.lowering.proofs.NeedViews.{expr_need-Chain, test_need-And, test_need-Or, stmt_need-If, stmt_need-IfElse}
+use Rattle.lowering.proofs.NeedViews.{stmt_need-While}
 
 pub chain_needs : (e : Expr) (first : Box Expr Global) (rest : Vec Operation Global) (items : List Operation) (left : Expr) (n : ℕ) →
     e ≡ Chain first rest → items ≡ rest.items → left ≡ first.value → n ≡ expr_need left → max n (operations_need items) ≡ expr_need e

@@ -1,5 +1,6 @@
 -- The most cells that a lock of a class protects, and sums of them.
-use Rattle.std.proofs.Common.{◌≡◌, ℕ, ◌+◌, ◌<◌, max, Bool, true, false, List, [], ◌∷◌, ◌++◌, length, take, get_or, set, map, slice_index, Option, Some, None, inl, inr, refl, sym, ap, subst, ◌∙◌, arith}
+use Rattle.std.proofs.Common.{◌≡◌, ℕ, ◌+◌, ◌<◌, max, Bool, true, false, List, [], ◌∷◌, ◌++◌, length, take, get_or}
+use Rattle.std.proofs.Common.{set, map, slice_index, Option, Some, None, inl, inr, refl, sym, ap, subst, ◌∙◌, arith}
 use Rattle.std.specs.Prelude.{slice_get, ◌==◌, if◌then◌else◌}
 use Rattle.std.specs.List.{Contains, sum_by}
 use Rattle.std.proofs.lemmas.Bool.{cases_eq, eq-eqb, ne_eqb}
@@ -18,12 +19,14 @@ use Rattle.layout.specs.Layouts.{LayoutOf, IsLayoutOf}
 use Rattle.lowering.specs.Working.Rooms.{most_among, most_cells}
 
 -- a lock of the program has one of its classes
-listed_class : (program : Typed) (lock : Lock) (found : Option LockClass) → slice_get program.classes.items lock.class ≡ found → IsLockOfClass program lock found →
+listed_class : (program : Typed) (lock : Lock) (found : Option LockClass) →
+    slice_get program.classes.items lock.class ≡ found → IsLockOfClass program lock found →
     lock.class < length program.classes.items
 listed_class program lock None e h = absurd h
 listed_class program lock (Some x) e h = slice_get_within program.classes.items lock.class x e
 
-pub class_within : (program : Typed) (layout : LayoutOf) (locks : List Lock) (i : ℕ) (d : Lock) → IsLayoutOf program layout → locks ≡ layout.locks → i < length locks →
+pub class_within : (program : Typed) (layout : LayoutOf) (locks : List Lock) (i : ℕ) (d : Lock) →
+    IsLayoutOf program layout → locks ≡ layout.locks → i < length locks →
     (get_or locks i d).class < length program.classes.items
 class_within program layout locks i d is same lt =
     let lock = get_or locks i d in
@@ -43,7 +46,8 @@ most-append cells (x ∷ locks) lock class =
     let here = counted (x.class == class) (length (cells_of cells x)) in
     omega (arith, here (most_among cells (locks ++ lock ∷ []) class), here (most_among cells locks class), most-append cells locks lock class)
 
-pub most_turn : (cells locks : List Lock) (i : ℕ) (d : Lock) (table : List ℕ) (old n : ℕ) → ((class : ℕ) → slice_index table class ≡ most_among cells (take i locks) class) →
+pub most_turn : (cells locks : List Lock) (i : ℕ) (d : Lock) (table : List ℕ) (old n : ℕ) →
+    ((class : ℕ) → slice_index table class ≡ most_among cells (take i locks) class) →
     i < length locks → (get_or locks i d).class < length table → old ≡ get_or table (get_or locks i d).class old → n ≡ max old (length (cells_of cells (get_or locks i d))) →
     (class : ℕ) → slice_index (set table (get_or locks i d).class n) class ≡ most_among cells (take (i + 1) locks) class
 most_turn cells locks i d table old n each lt within was is class =
@@ -65,7 +69,8 @@ most_turn cells locks i d table old n each lt within was is class =
 
 -- ---- sums
 
-pub cells_same : (layout : LayoutOf) (table : List ℕ) → ((class : ℕ) → slice_index table class ≡ most_cells layout class) → (paths : List written.LockPath) →
+pub cells_same : (layout : LayoutOf) (table : List ℕ) →
+    ((class : ℕ) → slice_index table class ≡ most_cells layout class) → (paths : List written.LockPath) →
     sum_by (λ (path : written.LockPath). slice_index table path.class) paths ≡ sum_by (λ (path : LockPath). most_cells layout path.class) (map lock_path_of paths)
 cells_same layout table each [] = refl
 cells_same layout table each (x ∷ paths) =

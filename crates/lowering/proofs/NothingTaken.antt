@@ -26,7 +26,8 @@ right_none [] ys e = e
 right_none (x ∷ xs) ys e = absurd (let f : ⊥ = cc in f)
 
 -- where nothing is joined, nothing is of any item
-nothing_of_each : {X Y : Type 0} (f : X → List Y) (xs : List X) (k : ℕ) (x : X) → flat_map f xs ≡ [] → slice_get xs k ≡ Some x →
+nothing_of_each : {X Y : Type 0} (f : X → List Y) (xs : List X) (k : ℕ) (x : X) → flat_map f xs ≡ [] →
+    slice_get xs k ≡ Some x →
     f x ≡ []
 nothing_of_each f [] k x e is = none_is_some x is
 nothing_of_each f (y ∷ ys) zero x e is = ap f (sym (some_same y x is)) ∙ left_none (f y) (flat_map f ys) e
@@ -35,16 +36,19 @@ nothing_of_each f (y ∷ ys) (suc k) x e is = nothing_of_each f ys k x (right_no
 -- ---- lists before points
 
 -- a point of a section without accesses has none, and so uses no lock path
-uses_nothing : (program : Typed) (section : Section) (p : ℕ) (path : LockPath) → accesses section ≡ [] → Uses program section p path → ⊥
+uses_nothing : (program : Typed) (section : Section) (p : ℕ) (path : LockPath) → accesses section ≡ [] →
+    Uses program section p path → ⊥
 uses_nothing program section p path e (point, here, c) =
     let none = nothing_of_each accesses_at (points section) p point e here in
     not_in_none path (subst (λ xs. Contains (paths_of program section xs) path) none c)
 
-due_is_used : (program : Typed) (section : Section) (ranks : List ℕ) (p : ℕ) (path : LockPath) → IsDue program section ranks p path →
+due_is_used : (program : Typed) (section : Section) (ranks : List ℕ) (p : ℕ) (path : LockPath) →
+    IsDue program section ranks p path →
     (other : LockPath) × Uses program section p other
 due_is_used program section ranks p path due = let below = due.wanted.below in (below.0, below.1)
 
-none_taken : (plan : Plan) (k p : ℕ) (section : Section) (lists : List (List ℕ)) → IsCompiled plan → HasLists plan k section lists →
+none_taken : (plan : Plan) (k p : ℕ) (section : Section) (lists : List (List ℕ)) → IsCompiled plan →
+    HasLists plan k section lists →
     accesses section ≡ [] → (list : List ℕ) → slice_get lists p ≡ Some list → list ≡ []
 none_taken plan k p section lists compiled has e [] is = refl
 none_taken plan k p section lists compiled has e (i ∷ rest) is =

@@ -1,5 +1,6 @@
 -- A choice and a loop, by the lists of their statements.
-use Rattle.std.proofs.Common.{◌≡◌, ◌≢◌, ℕ, zero, suc, ◌-◌, List, Vec, Global, refl, sym, ap, ◌∙◌, Result, Ok, Bool, true, false, sub-one}
+use Rattle.std.proofs.Common.{◌≡◌, ◌≢◌, ℕ, zero, suc, ◌-◌, List, Vec, Global, refl, sym, ap, ◌∙◌, Result, Ok, Bool}
+use Rattle.std.proofs.Common.{true, false, sub-one}
 use Rattle.core_lang.specs.declared.value.Value.{Value}
 use Rattle.core_lang.specs.declared.value.Failure.{Failure}
 use Rattle.core_lang.specs.declared.shape.Shape.{Shape}
@@ -7,7 +8,8 @@ use Rattle.core_lang.specs.declared.tree.Condition.{Condition}
 use Rattle.core_lang.specs.declared.tree.Stmt.{Stmt}
 use Rattle.core_lang.specs.declared.tree.Action.{Action, If, IfElse, While}
 use Rattle.meaning_trees.proofs.Rows.{effect_if, effect_if_else, effect_while}
-use Rattle.core_lang.specs.Meaning.{State, Flow, GoesOn, Helpers, given, choose, after, turns, truth_of, effect_by, sequence_by}
+use Rattle.core_lang.specs.Meaning.{State, Flow, GoesOn, Helpers, given, choose, after, turns, truth_of, effect_by}
+use Rattle.core_lang.specs.Meaning.{sequence_by}
 
 -- the truth that the code found is the one at the state
 found_truth : (c : Condition) (shape : Shape) (s : State) (locals heap : List Value) (t b : Bool) →
@@ -57,7 +59,8 @@ while_is call x c body items shape n s is all =
     ∙ sym (effect_while call c body shape n s)
     ∙ ap (λ y. effect_by call y shape n s) (sym is)
 
-pub turn : (left : ℕ) (test : State → Result Bool Failure) (body : State → Flow) (s s' : State) → left ≢ 0 → test s ≡ Ok true → body s ≡ GoesOn s' →
+pub turn : (left : ℕ) (test : State → Result Bool Failure) (body : State → Flow) (s s' : State) → left ≢ 0 →
+    test s ≡ Ok true → body s ≡ GoesOn s' →
     turns (left - 1) test body s' ≡ turns left test body s
 turn zero test body s s' some holds goes = absurd (some refl)
 turn (suc left) test body s s' some holds goes =

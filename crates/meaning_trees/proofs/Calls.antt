@@ -1,5 +1,6 @@
 -- Calls of helpers: the values of the arguments, and the helper's run.
-use Rattle.std.proofs.Common.{◌≡◌, ◌≢◌, ◌∙◌, ℕ, zero, suc, ◌-◌, ◌<◌, ℤ, List, ◌∷◌, ◌++◌, Result, Ok, Err, Some, Vec, Global, length, map, get_or, drop, drop-cons, refl, sym, ap, subst, sub-one}
+use Rattle.std.proofs.Common.{◌≡◌, ◌≢◌, ◌∙◌, ℕ, zero, suc, ◌-◌, ◌<◌, ℤ, List, ◌∷◌, ◌++◌, Result, Ok, Err, Some, Vec}
+use Rattle.std.proofs.Common.{Global, length, map, get_or, drop, drop-cons, refl, sym, ap, subst, sub-one}
 use Rattle.std.specs.Prelude.{IsErrAnd, slice_get}
 use Rattle.core_lang.specs.declared.value.Value.{Value}
 use Rattle.core_lang.specs.declared.value.Outcome.{Outcome}
@@ -25,14 +26,16 @@ argument_fails items i item shape locals heap front whole f lt is fails e =
     ∙ ap (λ es. with (values_of es shape locals heap) (λ vs. Ok (front ++ vs))) here
     ∙ ap (λ r. with (with r (λ v. with (values_of (drop (suc i) items) shape locals heap) (λ vs. Ok (v ∷ vs)))) (λ vs. Ok (front ++ vs))) fails
 
-pub gives_none : (r : Result (Vec Value Global) Halt) (f : Failure) (whole : Result (List Value) Failure) → IsErrAnd r (λ y. y ≡ halt_of f) →
+pub gives_none : (r : Result (Vec Value Global) Halt) (f : Failure) (whole : Result (List Value) Failure) →
+    IsErrAnd r (λ y. y ≡ halt_of f) →
     whole ≡ Err f → Gives r whole
 gives_none (Ok values) f whole is e = absurd is
 gives_none (Err y) (Trap t) whole is e = subst (λ z. Gives (Err z) whole) (sym is) e
 gives_none (Err y) Wrong whole is e = subst (λ z. Gives (Err z) whole) (sym is) e
 
 -- how a run ends does not depend on the locals that are left
-pub concludes_with : (r : Result Outcome Halt) (s : State) (locals : List Value) (run run' : Run) → run ≡ run' → Concludes r s run →
+pub concludes_with : (r : Result Outcome Halt) (s : State) (locals : List Value) (run run' : Run) → run ≡ run' →
+    Concludes r s run →
     Concludes r (record s { locals = locals }) run'
 concludes_with (Ok outcome) s locals run run' same e = sym same ∙ e
 concludes_with (Err (halt.Trap t)) s locals run run' same e = sym same ∙ e

@@ -25,7 +25,8 @@ fits (y ∷ ys) zero x e = let same : y ≡ x = cc in let z = ap size_of same in
 fits (y ∷ ys) (suc k) x e = let r = fits ys k x e in omega (arith, r)
 
 -- a helper's body is less than the room of a call
-pub helper_fits : (shape : Shape) (k : ℕ) (x : Section) → slice_get shape.helpers.items k ≡ Some x → size_of x + 3 ≤ room shape
+pub helper_fits : (shape : Shape) (k : ℕ) (x : Section) → slice_get shape.helpers.items k ≡ Some x →
+    size_of x + 3 ≤ room shape
 helper_fits shape k x e = let r = fits shape.helpers.items k x e in omega (arith, r)
 
 pub one_less : (d w : ℕ) → d ≢ 0 → d * w ≡ (d - 1) * w + w

@@ -1,5 +1,6 @@
 -- The conditions of `&&` and `||`, one after another, and the end of a chain.
-use Rattle.std.proofs.Common.{◌≡◌, ℕ, ◌<◌, ◌≤◌, ◌+◌, List, ◌∷◌, length, get_or, drop, suc, drop-cons, sym, ap, ◌∙◌, Result, Bool}
+use Rattle.std.proofs.Common.{◌≡◌, ℕ, ◌<◌, ◌≤◌, ◌+◌, List, ◌∷◌, length, get_or, drop, suc, drop-cons, sym, ap, ◌∙◌}
+use Rattle.std.proofs.Common.{Result, Bool}
 use Rattle.std.proofs.lemmas.List.{drop_all}
 use Rattle.std.proofs.Math.Numerals.{add-one}
 use Rattle.core_lang.specs.declared.tree.Condition.{Condition}
@@ -25,13 +26,15 @@ module _ (items : List Condition) (i : ℕ) (shape : Shape) (locals heap : List 
     here : drop i items ≡ item ∷ drop (suc i) items
     here = drop-cons items i item lt ∙ ap (λ x. x ∷ drop (suc i) items) (sym is)
 
-    pub and_more : all_of (drop i items) shape locals heap last ≡ whole → and_then truth (all_of (drop (i + 1) items) shape locals heap last) ≡ whole
+    pub and_more : all_of (drop i items) shape locals heap last ≡ whole →
+        and_then truth (all_of (drop (i + 1) items) shape locals heap last) ≡ whole
     and_more e =
         ap (λ k. and_then truth (all_of (drop k items) shape locals heap last)) (add-one i)
         ∙ ap (λ t. and_then t (all_of (drop (suc i) items) shape locals heap last)) told
         ∙ sym (ap (λ cs. all_of cs shape locals heap last) here) ∙ e
 
-    pub or_more : any_of (drop i items) shape locals heap last ≡ whole → or_else truth (any_of (drop (i + 1) items) shape locals heap last) ≡ whole
+    pub or_more : any_of (drop i items) shape locals heap last ≡ whole →
+        or_else truth (any_of (drop (i + 1) items) shape locals heap last) ≡ whole
     or_more e =
         ap (λ k. or_else truth (any_of (drop k items) shape locals heap last)) (add-one i)
         ∙ ap (λ t. or_else t (any_of (drop (suc i) items) shape locals heap last)) told

@@ -1,5 +1,7 @@
 -- What is kept of the cells that were written.
-use Rattle.std.proofs.Common.{◌≡◌, ◌≢◌, ℕ, zero, suc, ◌<◌, inl, inr, ◌⊎◌, List, [], ◌∷◌, ◌++◌, length, get_or, set-set, replicate, Bool, true, false, Some, refl, sym, ap, ◌∙◌, subst, ⊎_elim, arith, length-set, get_or-set_other, get_or-set_same, drop, drop-cons, ◌+◌}
+use Rattle.std.proofs.Common.{◌≡◌, ◌≢◌, ℕ, zero, suc, ◌<◌, inl, inr, ◌⊎◌, List, [], ◌∷◌, ◌++◌, length, get_or}
+use Rattle.std.proofs.Common.{set-set, replicate, Bool, true, false, Some, refl, sym, ap, ◌∙◌, subst, ⊎_elim, arith}
+use Rattle.std.proofs.Common.{length-set, get_or-set_other, get_or-set_same, drop, drop-cons, ◌+◌}
 use Rattle.std.proofs.Math.Dec.{eqb}
 use Rattle.std.specs.Prelude.{slice_get, slice_set}
 use Rattle.std.proofs.Math.ListN.{length-replicate}
@@ -10,7 +12,8 @@ use Rattle.core_lang.specs.declared.value.Value.{Value}
 use Rattle.meaning_trees.specs.Working.Undo.{undone, IsAmong, IsOnce, IsKept}
 
 -- a later write to the cell hides an earlier one, whatever is undone in between
-hidden : (ws : List (ℕ × Value)) (cell : ℕ) (v x : Value) (heap : List Value) → slice_set (undone ws (slice_set heap cell v)) cell x ≡ slice_set (undone ws heap) cell x
+hidden : (ws : List (ℕ × Value)) (cell : ℕ) (v x : Value) (heap : List Value) →
+    slice_set (undone ws (slice_set heap cell v)) cell x ≡ slice_set (undone ws heap) cell x
 hidden [] cell v x heap = set-set heap cell v x
 hidden (w ∷ ws) cell v x heap =
     ⊎_elim
@@ -22,7 +25,8 @@ hidden (w ∷ ws) cell v x heap =
     set_comm (undone ws (slice_set heap cell v)) w.0 cell w.1 x h.1 ∙ ap (λ l. slice_set l w.0 w.1) (hidden ws cell v x heap) ∙ sym (set_comm (undone ws heap) w.0 cell w.1 x h.1))
     (eqb_tells w.0 cell)
 
-pub undone-absorbs : (ws : List (ℕ × Value)) (cell : ℕ) (v : Value) (heap : List Value) → IsAmong cell ws → undone ws (slice_set heap cell v) ≡ undone ws heap
+pub undone-absorbs : (ws : List (ℕ × Value)) (cell : ℕ) (v : Value) (heap : List Value) → IsAmong cell ws →
+    undone ws (slice_set heap cell v) ≡ undone ws heap
 undone-absorbs [] cell v heap h = absurd h
 undone-absorbs (w ∷ ws) cell v heap h =
     ⊎_elim
@@ -38,7 +42,8 @@ among_last : (ws : List (ℕ × Value)) (w : ℕ × Value) → IsAmong w.0 (ws +
 among_last [] w = inl refl
 among_last (x ∷ ws) w = inr (among_last ws w)
 
-among_split : (ws : List (ℕ × Value)) (w : ℕ × Value) (cell : ℕ) → IsAmong cell (ws ++ w ∷ []) → IsAmong cell ws ⊎ (w.0 ≡ cell)
+among_split : (ws : List (ℕ × Value)) (w : ℕ × Value) (cell : ℕ) → IsAmong cell (ws ++ w ∷ []) →
+    IsAmong cell ws ⊎ (w.0 ≡ cell)
 among_split [] w cell h = ⊎_elim (λ (e : w.0 ≡ cell). inr e) (λ none. absurd none) h
 among_split (x ∷ ws) w cell h =
     ⊎_elim (λ (e : x.0 ≡ cell). inl (inl e))
@@ -53,7 +58,8 @@ once_more (x ∷ ws) w once none = (
 )
 
 -- a cell that is marked stays so where another, or this one, is marked
-still_marked : (marks : List Bool) (cell c : ℕ) → slice_get marks c ≡ Some true → slice_get (slice_set marks cell true) c ≡ Some true
+still_marked : (marks : List Bool) (cell c : ℕ) → slice_get marks c ≡ Some true →
+    slice_get (slice_set marks cell true) c ≡ Some true
 still_marked marks cell c is =
     let within : c < length marks = slice_get_within marks c true is in
     let within' : c < length (slice_set marks cell true) = omega (arith, within, length-set marks cell true) in
@@ -64,7 +70,8 @@ still_marked marks cell c is =
     (eqb_tells cell c) in
     slice_get-get_or (slice_set marks cell true) c true within' ∙ ap Some same
 
-now_marked : (marks : List Bool) (cell : ℕ) → cell < length marks → slice_get (slice_set marks cell true) cell ≡ Some true
+now_marked : (marks : List Bool) (cell : ℕ) → cell < length marks →
+    slice_get (slice_set marks cell true) cell ≡ Some true
 now_marked marks cell within =
     let within' : cell < length (slice_set marks cell true) = omega (arith, within, length-set marks cell true) in
     slice_get-get_or (slice_set marks cell true) cell true within' ∙ ap Some (get_or-set_same marks cell true true within)
@@ -72,13 +79,16 @@ now_marked marks cell within =
 differ : false ≡ true → ⊥
 differ e = cc
 
-pub is_unmarked : (marks : List Bool) (cell : ℕ) (b : Bool) → b ≡ get_or marks cell b → b ≡ false → slice_get marks cell ≡ Some true → ⊥
+pub is_unmarked : (marks : List Bool) (cell : ℕ) (b : Bool) → b ≡ get_or marks cell b → b ≡ false →
+    slice_get marks cell ≡ Some true → ⊥
 is_unmarked marks cell b is no' e = differ (sym no' ∙ is ∙ get_or_from_slice_get marks cell true b e)
 
-pub is_marked : (marks : List Bool) (cell : ℕ) (b : Bool) → b ≡ get_or marks cell b → b ≡ true → cell < length marks → slice_get marks cell ≡ Some true
+pub is_marked : (marks : List Bool) (cell : ℕ) (b : Bool) → b ≡ get_or marks cell b → b ≡ true → cell < length marks →
+    slice_get marks cell ≡ Some true
 is_marked marks cell b is yes' lt = slice_get-get_or marks cell b lt ∙ ap Some (sym is ∙ yes')
 
-pub kept_more : (marks : List Bool) (ws ws' : List (ℕ × Value)) (n cell : ℕ) (v : Value) → IsKept marks ws n → cell < n → (slice_get marks cell ≡ Some true → ⊥)
+pub kept_more : (marks : List Bool) (ws ws' : List (ℕ × Value)) (n cell : ℕ) (v : Value) → IsKept marks ws n →
+    cell < n → (slice_get marks cell ≡ Some true → ⊥)
     → ws' ≡ ws ++ (cell, v) ∷ [] → IsKept (slice_set marks cell true) ws' n
 kept_more marks ws ws' n cell v kept lt off e = record {
   long = length-set marks cell true ∙ kept.long;
@@ -104,7 +114,8 @@ never_true zero c e = cc
 never_true (suc n) zero e = let b : false ≡ true = cc in cc
 never_true (suc n) (suc c) e = never_true n c e
 
-pub kept_none : (marks : List Bool) (n : ℕ) → marks ≡ replicate n false → length (replicate n false) ≡ n → IsKept marks [] n
+pub kept_none : (marks : List Bool) (n : ℕ) → marks ≡ replicate n false → length (replicate n false) ≡ n →
+    IsKept marks [] n
 kept_none marks n e l = record {
   long = ap length e ∙ l;
   marked = λ c is. never_true n c (ap (λ m. slice_get m c) (sym e) ∙ is);
@@ -116,7 +127,8 @@ pub own_default : (xs : List Value) (i : ℕ) (d : Value) → i < length xs → 
 own_default xs i d lt = sym (get_or_from_slice_get xs i (get_or xs i d) (get_or xs i d) (slice_get-get_or xs i d lt))
 
 -- a mark less, and what was kept of its cell
-pub kept_less : (marks : List Bool) (w : ℕ × Value) (ws : List (ℕ × Value)) (n : ℕ) → IsKept marks (w ∷ ws) n → IsKept (slice_set marks w.0 false) ws n
+pub kept_less : (marks : List Bool) (w : ℕ × Value) (ws : List (ℕ × Value)) (n : ℕ) → IsKept marks (w ∷ ws) n →
+    IsKept (slice_set marks w.0 false) ws n
 kept_less marks w ws n kept = record {
   long = length-set marks w.0 false ∙ kept.long;
   marked = λ c (is : slice_get (slice_set marks w.0 false) c ≡ Some true).
@@ -145,7 +157,8 @@ none_true (false ∷ ms) h = ap (λ l. false ∷ l) (none_true ms (λ c e. h (su
 pub all_clear : (marks : List Bool) (n : ℕ) → IsKept marks [] n → marks ≡ replicate n false
 all_clear marks n kept = none_true marks (λ c e. kept.marked c e) ∙ ap (λ k. replicate k false) kept.long
 
-pub kept_after : (marks marks' : List Bool) (ws : List (ℕ × Value)) (i : ℕ) (d : ℕ × Value) (n : ℕ) → i < length ws → IsKept marks (drop i ws) n →
+pub kept_after : (marks marks' : List Bool) (ws : List (ℕ × Value)) (i : ℕ) (d : ℕ × Value) (n : ℕ) → i < length ws →
+    IsKept marks (drop i ws) n →
     marks' ≡ slice_set marks (get_or ws i d).0 false → IsKept marks' (drop (i + 1) ws) n
 kept_after marks marks' ws i d n lt kept is =
     let one : i + 1 ≡ suc i = omega arith in
@@ -153,12 +166,15 @@ kept_after marks marks' ws i d n lt kept is =
     (subst (λ k. IsKept (slice_set marks (get_or ws i d).0 false) (drop k ws) n) (sym one)
     (kept_less marks (get_or ws i d) (drop (suc i) ws) n (subst (λ l. IsKept marks l n) (drop-cons ws i d lt) kept)))
 
-pub kept_at_first : (marks : List Bool) (cells : List Value) (ws : List (ℕ × Value)) → marks ≡ replicate (length cells) false → ws ≡ [] → IsKept marks ws (length cells)
+pub kept_at_first : (marks : List Bool) (cells : List Value) (ws : List (ℕ × Value)) →
+    marks ≡ replicate (length cells) false → ws ≡ [] → IsKept marks ws (length cells)
 kept_at_first marks cells ws clear none = subst (λ l. IsKept marks l (length cells)) (sym none) (kept_none marks (length cells) clear (length-replicate (length cells) false))
 
 -- of lists that are as long, or the same
-pub kept_as : (marks : List Bool) (ws : List (ℕ × Value)) (xs ys : List Value) → length xs ≡ length ys → IsKept marks ws (length xs) → IsKept marks ws (length ys)
+pub kept_as : (marks : List Bool) (ws : List (ℕ × Value)) (xs ys : List Value) → length xs ≡ length ys →
+    IsKept marks ws (length xs) → IsKept marks ws (length ys)
 kept_as marks ws xs ys e kept = subst (IsKept marks ws) e kept
 
-pub kept_of : (marks : List Bool) (ws ws' : List (ℕ × Value)) (xs ys : List Value) → ws' ≡ ws → ys ≡ xs → IsKept marks ws (length xs) → IsKept marks ws' (length ys)
+pub kept_of : (marks : List Bool) (ws ws' : List (ℕ × Value)) (xs ys : List Value) → ws' ≡ ws → ys ≡ xs →
+    IsKept marks ws (length xs) → IsKept marks ws' (length ys)
 kept_of marks ws ws' xs ys e same kept = subst (λ l. IsKept marks l (length ys)) (sym e) (subst (λ l. IsKept marks ws (length l)) (sym same) kept)

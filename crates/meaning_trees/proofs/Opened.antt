@@ -1,11 +1,13 @@
 -- The heap that a program opens with, cell by cell.
-use Rattle.std.proofs.Common.{◌≡◌, ℕ, ◌<◌, ◌≤◌, ◌+◌, List, [], ◌∷◌, ◌++◌, length, get_or, map, take, subst, sym, ap, ◌∙◌}
+use Rattle.std.proofs.Common.{◌≡◌, ℕ, ◌<◌, ◌≤◌, ◌+◌, List, [], ◌∷◌, ◌++◌, length, get_or, map, take, subst, sym, ap}
+use Rattle.std.proofs.Common.{◌∙◌}
 use Rattle.std.proofs.lemmas.List.{map_more}
 use lib.Seq.{take_all}
 use Rattle.core_lang.specs.declared.typed.Cell.{Cell}
 use Rattle.core_lang.specs.declared.value.Value.{Value}
 
-pub opened_more : (cells items : List Cell) (i : ℕ) (d : Cell) (old new : List Value) → items ≡ cells → i < length items →
+pub opened_more : (cells items : List Cell) (i : ℕ) (d : Cell) (old new : List Value) → items ≡ cells →
+    i < length items →
     old ≡ map (λ (cell : Cell). cell.opening) (take i cells) → new ≡ old ++ (get_or items i d).opening ∷ [] →
     new ≡ map (λ (cell : Cell). cell.opening) (take (i + 1) cells)
 opened_more cells items i d old new same lt before pushed =

@@ -4,9 +4,11 @@ use mathlib.Core.Former.{Count}
 use Rattle.core_lang.specs.declared.shape.Shape.{Shape}
 use Rattle.core_lang.specs.declared.tree.Condition.{Condition}
 use Rattle.core_lang.specs.declared.tree.Stmt.{Stmt}
-use Rattle.core_lang.specs.declared.tree.Action.{If, IfElse, While, Row_of-Stmt, end_of-Stmt, more_of-Stmt, items-the_row-Stmt, items_hidden-the_row-Stmt-0}
+use Rattle.core_lang.specs.declared.tree.Action.{If, IfElse, While, Row_of-Stmt, end_of-Stmt, more_of-Stmt}
+use Rattle.core_lang.specs.declared.tree.Action.{items-the_row-Stmt, items_hidden-the_row-Stmt-0}
 use Rattle.core_lang.specs.Theory.Lists.{after-same, given-same, choose-same, turns-same, block_of, else_of}
-use Rattle.core_lang.specs.Meaning.{State, GoesOn, Helpers, given, choose, turns, truth_of, effect_by, effects_by, sequence_by}
+use Rattle.core_lang.specs.Meaning.{State, GoesOn, Helpers, given, choose, turns, truth_of, effect_by, effects_by}
+use Rattle.core_lang.specs.Meaning.{sequence_by}
 
 module _ (call : Helpers) where
   effects_items : (k : Count) (row : Row_of-Stmt k) (shape : Shape) (n : ℕ) (s : State) →

@@ -1,5 +1,6 @@
 -- A heap that is put back, and what stays failed.
-use Rattle.std.proofs.Common.{◌≡◌, ℕ, ◌<◌, List, [], ◌∷◌, ◌++◌, length, get_or, set, set-set, length-set, drop, suc, drop-cons, Vec, Box, Global, refl, sym, ap, ◌∙◌, Result, Err}
+use Rattle.std.proofs.Common.{◌≡◌, ℕ, ◌<◌, List, [], ◌∷◌, ◌++◌, length, get_or, set, set-set, length-set, drop, suc}
+use Rattle.std.proofs.Common.{drop-cons, Vec, Box, Global, refl, sym, ap, ◌∙◌, Result, Err}
 use Rattle.std.proofs.lemmas.List.{set-get_or}
 use Rattle.core_lang.specs.declared.tree.Expr.{Expr, Chain}
 use Rattle.core_lang.specs.declared.tree.Condition.{Condition, And, Or}
@@ -12,22 +13,26 @@ use Rattle.core_lang.specs.Theory.Lists.{operations, all_of, any_of, value_of-Ch
 use Rattle.core_lang.specs.Meaning.{joined, value_of, truth_of}
 use Rattle.meaning_trees.specs.Working.Undo.{undone}
 
-pub undone-push : (ws : List (ℕ × Value)) (cell : ℕ) (value : Value) (heap : List Value) → undone (ws ++ (cell, value) ∷ []) heap ≡ undone ws (slice_set heap cell value)
+pub undone-push : (ws : List (ℕ × Value)) (cell : ℕ) (value : Value) (heap : List Value) →
+    undone (ws ++ (cell, value) ∷ []) heap ≡ undone ws (slice_set heap cell value)
 undone-push [] cell value heap = refl
 undone-push (w ∷ ws) cell value heap = ap (λ h. slice_set h w.0 w.1) (undone-push ws cell value heap)
 
-pub operations-failed : (os : List Operation) (shape : Shape) (locals heap : List Value) (f : Failure) → operations os shape locals heap (Err f) ≡ Err f
+pub operations-failed : (os : List Operation) (shape : Shape) (locals heap : List Value) (f : Failure) →
+    operations os shape locals heap (Err f) ≡ Err f
 operations-failed [] shape locals heap f = refl
 operations-failed (o ∷ os) shape locals heap f = operations-failed os shape locals heap f
 
-pub undone-written : (ws ws' : List (ℕ × Value)) (cell : ℕ) (old value : Value) (heap : List Value) → ws' ≡ ws ++ (cell, old) ∷ [] → old ≡ slice_index_or heap cell old → cell < length heap →
+pub undone-written : (ws ws' : List (ℕ × Value)) (cell : ℕ) (old value : Value) (heap : List Value) →
+    ws' ≡ ws ++ (cell, old) ∷ [] → old ≡ slice_index_or heap cell old → cell < length heap →
     undone ws' (slice_set heap cell value) ≡ undone ws heap
 undone-written ws ws' cell old value heap e is within =
     ap (λ w. undone w (slice_set heap cell value)) e
     ∙ undone-push ws cell old (slice_set heap cell value)
     ∙ ap (undone ws) (set-set heap cell value old ∙ ap (set heap cell) is ∙ set-get_or heap cell old)
 
-pub undone-popped : (ws ws' : List (ℕ × Value)) (cell : ℕ) (value : Value) (heap : List Value) → ws ≡ ws' ++ (cell, value) ∷ [] →
+pub undone-popped : (ws ws' : List (ℕ × Value)) (cell : ℕ) (value : Value) (heap : List Value) →
+    ws ≡ ws' ++ (cell, value) ∷ [] →
     undone ws' (slice_set heap cell value) ≡ undone ws heap
 undone-popped ws ws' cell value heap e = sym (ap (λ w. undone w heap) e ∙ undone-push ws' cell value heap)
 

@@ -1,5 +1,6 @@
 -- Cells in order of their numbers, each beside its value.
-use Rattle.std.proofs.Common.{Option, ◌≡◌, ◌<◌, ◌≢◌, ◌≤◌, ◌+◌, ℕ, zero, suc, List, [], ◌∷◌, length, map, set, Some, Bool, true, false, inl, inr, refl, sym, ap, ◌∙◌, subst, arith}
+use Rattle.std.proofs.Common.{Option, ◌≡◌, ◌<◌, ◌≢◌, ◌≤◌, ◌+◌, ℕ, zero, suc, List, [], ◌∷◌, length, map, set, Some}
+use Rattle.std.proofs.Common.{Bool, true, false, inl, inr, refl, sym, ap, ◌∙◌, subst, arith}
 use Rattle.std.specs.Prelude.{slice_get, nat_eq, if◌then◌else◌, ⊤}
 use Rattle.std.proofs.lemmas.Bool.Decides.{eqb_tells}
 use Rattle.std.proofs.lemmas.Option.{none-some}
@@ -38,12 +39,14 @@ first_is a k x rest e = elim (eqb_tells a k) [ inl h ↦ ap (λ b. if b then x e
 first_is_not : {A : Type 0} (a k : ℕ) (x rest : A) → a ≢ k → (if nat_eq a k then x else rest) ≡ rest
 first_is_not a k x rest ne = elim (eqb_tells a k) [ inl h ↦ absurd (ne h.1) | inr h ↦ ap (λ b. if b then x else rest) h.0 ]
 
-pub numbered_cells : (cs : List ℕ) (vs : List Value) → length vs ≡ length cs → map (λ (x : ℕ × Value). x.0) (numbered cs vs) ≡ cs
+pub numbered_cells : (cs : List ℕ) (vs : List Value) → length vs ≡ length cs →
+    map (λ (x : ℕ × Value). x.0) (numbered cs vs) ≡ cs
 numbered_cells [] vs e = refl
 numbered_cells (c ∷ cs) [] e = absurd (omega (arith, e))
 numbered_cells (c ∷ cs) (v ∷ vs) e = ap (λ xs. c ∷ xs) (numbered_cells cs vs (omega (arith, e)))
 
-pub found_at : (n : ℕ) (cs : List ℕ) (vs : List Value) (cell offset : ℕ) → Rise n cs → length vs ≡ length cs → slice_get cs offset ≡ Some cell →
+pub found_at : (n : ℕ) (cs : List ℕ) (vs : List Value) (cell offset : ℕ) → Rise n cs → length vs ≡ length cs →
+    slice_get cs offset ≡ Some cell →
     value_at (numbered cs vs) cell ≡ slice_get vs offset
 found_at n [] vs cell offset r e at = absurd (none-some cell at)
 found_at n (c ∷ cs) [] cell offset r e at = absurd (omega (arith, e))
@@ -53,7 +56,8 @@ found_at n (c ∷ cs) (v ∷ vs) cell (suc offset) r e at =
     first_is_not c cell (Some v) (value_at (numbered cs vs) cell) (λ q. absurd (omega (arith, later, q)))
     ∙ found_at (c + 1) cs vs cell offset r.1 (omega (arith, e)) at
 
-pub changed_at : (n : ℕ) (cs : List ℕ) (vs : List Value) (cell offset : ℕ) (v : Value) → Rise n cs → length vs ≡ length cs → slice_get cs offset ≡ Some cell →
+pub changed_at : (n : ℕ) (cs : List ℕ) (vs : List Value) (cell offset : ℕ) (v : Value) → Rise n cs →
+    length vs ≡ length cs → slice_get cs offset ≡ Some cell →
     numbered cs (set vs offset v) ≡ with_changed (numbered cs vs) cell v
 changed_at n [] vs cell offset v r e at = absurd (none-some cell at)
 changed_at n (c ∷ cs) [] cell offset v r e at = absurd (omega (arith, e))
@@ -73,7 +77,8 @@ item_there [] c lt = absurd (omega (arith, lt))
 item_there (v ∷ heap) zero lt = (v, refl)
 item_there (v ∷ heap) (suc c) lt = item_there heap c (omega (arith, lt))
 
-one_more_whole : (b : Bool) (k : ℕ) (cs : List ℕ) (heap : List Value) → k < length heap → length (values_on heap cs) ≡ length cs →
+one_more_whole : (b : Bool) (k : ℕ) (cs : List ℕ) (heap : List Value) → k < length heap →
+    length (values_on heap cs) ≡ length cs →
     length (values_on heap (if b then k ∷ cs else cs)) ≡ length (if b then k ∷ cs else cs)
 one_more_whole true k cs heap lt e = let v = item_there heap k lt in ap (λ o. length (if_there o (values_on heap cs))) v.1 ∙ ap suc e
 one_more_whole false k cs heap lt e = e
@@ -84,7 +89,8 @@ values_whole k [] lock heap le = refl
 values_whole k (l ∷ ls) lock heap le =
     one_more_whole (same_lock l lock) k (cells_from (k + 1) ls lock) heap (omega (arith, le)) (values_whole (k + 1) ls lock heap (omega (arith, le)))
 
-one_more_agrees : (b : Bool) (k : ℕ) (cs : List ℕ) (heap : List Value) → k < length heap → Agrees heap (numbered cs (values_on heap cs)) →
+one_more_agrees : (b : Bool) (k : ℕ) (cs : List ℕ) (heap : List Value) → k < length heap →
+    Agrees heap (numbered cs (values_on heap cs)) →
     Agrees heap (numbered (if b then k ∷ cs else cs) (values_on heap (if b then k ∷ cs else cs)))
 one_more_agrees true k cs heap lt a =
     let v = item_there heap k lt in

@@ -1,5 +1,7 @@
 -- Where the orders' calls lead.
-use Rattle.std.proofs.Common.{◌≡◌, ◌∙◌, ◌≢◌, ℕ, ◌+◌, ◌-◌, ◌*◌, ◌<◌, ◌≤◌, zero, suc, Bool, true, false, cond, List, [], ◌∷◌, ◌++◌, length, map, get_or, Option, Some, None, sum_by, nat_eq, ap, sym, subst, refl, arith, ◌⊎◌, inl, inr, length-append}
+use Rattle.std.proofs.Common.{◌≡◌, ◌∙◌, ◌≢◌, ℕ, ◌+◌, ◌-◌, ◌*◌, ◌<◌, ◌≤◌, zero, suc, Bool, true, false, cond, List, []}
+use Rattle.std.proofs.Common.{◌∷◌, ◌++◌, length, map, get_or, Option, Some, None, sum_by, nat_eq, ap, sym, subst}
+use Rattle.std.proofs.Common.{refl, arith, ◌⊎◌, inl, inr, length-append}
 use Rattle.std.specs.List.{All, AllPairs, Contains}
 use Rattle.std.proofs.lemmas.Bool.{cases_eq}
 use Rattle.std.proofs.lemmas.Bool.Decides.{Decides-eqb}
@@ -23,7 +25,8 @@ use Rattle.outcomes.specs.Working.States.{Reached, at, nowhere}
 use Rattle.outcomes.specs.Working.Searching.{Leads, Summand, order_at, IsGood, AreGood, weight, total}
 use Rattle.outcomes.proofs.Leading.{leads_serially, leads_made}
 use Rattle.outcomes.proofs.Full.{sums, fits, fits_made, made_few, made_in_order, leads_done}
-use Rattle.outcomes.proofs.Whole.{counted, unsettled_end, ends_as, no_end, settled_heap, some_term, passed, both_true, same_cells, cells_are, cells_same}
+use Rattle.outcomes.proofs.Whole.{counted, unsettled_end, ends_as, no_end, settled_heap, some_term, passed, both_true}
+use Rattle.outcomes.proofs.Whole.{same_cells, cells_are, cells_same}
 
 -- ---- a layer has all configurations of its depth
 
@@ -63,7 +66,8 @@ total_here program n test (s ∷ layer) =
     sum_by-cons g s layer ∙ ap (λ x. x + sum_by g layer) (counted (test s.done (Some s.cells)) s.orders)
     ∙ ap (λ x. passing test s + x) (total_here program n test layer) ∙ sym (sum_by-cons (passing test) s layer)
 
-none_pass : (test : List ℕ → Option (List Value) → Bool) (layer : List Reached) → ((d : List ℕ) (heap : List Value) → test d (Some heap) ≡ false) →
+none_pass : (test : List ℕ → Option (List Value) → Bool) (layer : List Reached) →
+    ((d : List ℕ) (heap : List Value) → test d (Some heap) ≡ false) →
     sum_by (passing test) layer ≡ 0
 unfolding passing
 none_pass test [] none = refl
@@ -72,7 +76,8 @@ none_pass test (s ∷ layer) none =
     ∙ ap (λ x. 0 + x) (none_pass test layer none)
 
 -- an order is in the sum where its end passes
-order_passes : (program : Typed) (n depth : ℕ) (test : List ℕ → Option (List Value) → Bool) (order : List ℕ) → Contains (orders_of program depth (none_done program)) order →
+order_passes : (program : Typed) (n depth : ℕ) (test : List ℕ → Option (List Value) → Bool) (order : List ℕ) →
+    Contains (orders_of program depth (none_done program)) order →
     test (done_after (none_done program) order) (end_in program n order) ≡ true →
     0 < weight program n (tested test) depth (none_done program) (opening_heap program)
 unfolding tested
@@ -129,7 +134,8 @@ IsLedBelow program n depth configuration =
 pub record AreConfigurationsBelow (program : Typed) (n depth : ℕ) (configurations : List Configuration) : Type 0 where
   pub each : All (IsLedBelow program n depth) configurations
   pub apart : AllPairs (λ (a b : Configuration). a ≢ b) configurations
-  pub all : (order : List ℕ) (ends : List Ended) (heap : List Value) → length order < depth → length (calls_in program order) ≡ length order →
+  pub all : (order : List ℕ) (ends : List Ended) (heap : List Value) → length order < depth →
+      length (calls_in program order) ≡ length order →
       SerialFromOpening program (calls_in program order) ends heap → Contains configurations (record { done = done_after (none_done program) order; cells = heap })
 
 pub no_places : (program : Typed) (n : ℕ) → AreConfigurationsBelow program n 0 []
@@ -157,15 +163,18 @@ stands_in xs ys k d within =
     ]
 
 -- the configurations of a layer
-layer_place : (layer : List Reached) (k : ℕ) (d : Configuration) → k < length (map configuration_of layer) → get_or (map configuration_of layer) k d ≡ configuration_of (at layer k)
+layer_place : (layer : List Reached) (k : ℕ) (d : Configuration) → k < length (map configuration_of layer) →
+    get_or (map configuration_of layer) k d ≡ configuration_of (at layer k)
 layer_place layer k d within = get_or-map configuration_of layer k nowhere d (rw length-map at within)
 
-led_further : (program : Typed) (n depth : ℕ) (configurations : List Configuration) → All (IsLedBelow program n depth) configurations → All (IsLedBelow program n (depth + 1)) configurations
+led_further : (program : Typed) (n depth : ℕ) (configurations : List Configuration) →
+    All (IsLedBelow program n depth) configurations → All (IsLedBelow program n (depth + 1)) configurations
 unfolding IsLedBelow
 led_further program n depth configurations each k d within =
     let led = each k d within in (led.0, (let short = led.1 in omega arith), led.2)
 
-layer_led : (program : Typed) (n depth : ℕ) (trail : List (List ℕ)) (layer : List Reached) → AreGood program n depth trail layer →
+layer_led : (program : Typed) (n depth : ℕ) (trail : List (List ℕ)) (layer : List Reached) →
+    AreGood program n depth trail layer →
     All (IsLedBelow program n (depth + 1)) (map configuration_of layer)
 unfolding IsLedBelow
 layer_led program n depth trail layer good k d within =
@@ -186,7 +195,8 @@ earlier_apart program n depth trail s configuration led good same =
     let sum : sums configuration.done ≡ sums s.done = ap (λ (p : Configuration). sums p.done) same in
     omega arith
 
-layer_apart : (program : Typed) (n depth : ℕ) (trail : List (List ℕ)) (layer : List Reached) → AreGood program n depth trail layer →
+layer_apart : (program : Typed) (n depth : ℕ) (trail : List (List ℕ)) (layer : List Reached) →
+    AreGood program n depth trail layer →
     AllPairs (λ (a b : Configuration). a ≢ b) (map configuration_of layer)
 layer_apart program n depth trail layer good j k d below within same =
     let inside : k < length layer = rw length-map at within in
@@ -219,7 +229,8 @@ configuration_at done cells = record { done = done; cells = cells }
 place_is : (a b : List ℕ) (c d : List Value) → a ≡ b → c ≡ d → configuration_at a c ≡ configuration_at b d
 place_is a b c d first second = ap (λ (x : List ℕ). configuration_at x c) first ∙ ap (configuration_at b) second
 
-pub places_more : SettledAreSerial → HaveAtMostOneSerial → (program : Typed) (n depth : ℕ) (trail : List (List ℕ)) (layer : List Reached) (configurations : List Configuration) →
+pub places_more : SettledAreSerial → HaveAtMostOneSerial →
+    (program : Typed) (n depth : ℕ) (trail : List (List ℕ)) (layer : List Reached) (configurations : List Configuration) →
     AreGood program n depth trail layer →
     ((f : Summand) → total program n f 0 layer ≡ weight program n f depth (none_done program) (opening_heap program)) →
     AreConfigurationsBelow program n depth configurations → AreConfigurationsBelow program n (depth + 1) (configurations ++ map configuration_of layer)
@@ -238,7 +249,8 @@ places_more settled once program n depth trail layer configurations good sums be
       ];
     }
 
-pub all_places : OverIsWhole → (program : Typed) (n depth : ℕ) (configurations : List Configuration) → depth ≡ calls_together program.threads.items →
+pub all_places : OverIsWhole → (program : Typed) (n depth : ℕ) (configurations : List Configuration) →
+    depth ≡ calls_together program.threads.items →
     AreConfigurationsBelow program n (depth + 1) configurations → AreAllConfigurations program configurations
 unfolding IsLedBelow
 all_places law program n depth configurations all below =
@@ -259,7 +271,8 @@ all_places law program n depth configurations all below =
           (below.all there.order there.ends configuration.cells (omega arith) there.made there.serial));
     }
 
-pub has_places : OverIsWhole → SettledAreSerial → HaveAtMostOneSerial → (program : Typed) (n depth count : ℕ) (trail : List (List ℕ)) (layer : List Reached) (configurations : List Configuration) →
+pub has_places : OverIsWhole → SettledAreSerial → HaveAtMostOneSerial →
+    (program : Typed) (n depth count : ℕ) (trail : List (List ℕ)) (layer : List Reached) (configurations : List Configuration) →
     depth ≡ calls_together program.threads.items → AreGood program n depth trail layer →
     ((f : Summand) → total program n f 0 layer ≡ weight program n f depth (none_done program) (opening_heap program)) →
     AreConfigurationsBelow program n depth configurations → length configurations + length layer ≡ count → HasConfigurations program count
@@ -269,7 +282,8 @@ has_places law settled once program n depth count trail layer configurations all
     let same : length ys ≡ length layer = length-map layer configuration_of in
     (configurations ++ ys, all_places law program n depth (configurations ++ ys) all (places_more settled once program n depth trail layer configurations good sums before), omega arith)
 
-pub before_more : (search : Search) (old new : Work) (configurations : List Configuration) (layer : List Reached) → GoesOn search old new (made_from_all search layer) → old.next ≡ [] →
+pub before_more : (search : Search) (old new : Work) (configurations : List Configuration) (layer : List Reached) →
+    GoesOn search old new (made_from_all search layer) → old.next ≡ [] →
     length configurations + length layer ≡ length old.trail → length (configurations ++ map configuration_of layer) + length new.next ≡ length new.trail
 before_more search old new configurations layer goes empty before =
     let grown = goes.grown in

@@ -1,5 +1,7 @@
 -- Orders that are drawn.
-use Rattle.std.proofs.Common.{◌≡◌, ◌∙◌, ℕ, ◌+◌, ◌-◌, ◌<◌, ◌≤◌, zero, suc, List, [], ◌∷◌, ◌++◌, length, map, drop, get_or, slice_get, slice_set, Option, Some, None, ◌⊎◌, inl, inr, sum_by, ap, sym, subst, refl, arith, length-append}
+use Rattle.std.proofs.Common.{◌≡◌, ◌∙◌, ℕ, ◌+◌, ◌-◌, ◌<◌, ◌≤◌, zero, suc, List, [], ◌∷◌, ◌++◌, length, map, drop}
+use Rattle.std.proofs.Common.{get_or, slice_get, slice_set, Option, Some, None, ◌⊎◌, inl, inr, sum_by, ap, sym, subst}
+use Rattle.std.proofs.Common.{refl, arith, length-append}
 use Rattle.std.proofs.lemmas.List.Sums.{sum_by_push, sum_by-set}
 use Rattle.std.proofs.Math.ListN.{get_or-append}
 use Rattle.core_lang.specs.declared.value.Value.{Value}
@@ -47,7 +49,8 @@ some_within (x ∷ xs) zero more = omega arith
 some_within (x ∷ xs) (suc k) more = let rest = some_within xs k more in omega arith
 
 -- the thread of a number has as many calls
-pub calls_of_one : (ts : List Thread) (k : ℕ) (t : Thread) → slice_get ts k ≡ Some t → calls_of_thread ts k ≡ length t.calls.items
+pub calls_of_one : (ts : List Thread) (k : ℕ) (t : Thread) → slice_get ts k ≡ Some t →
+    calls_of_thread ts k ≡ length t.calls.items
 calls_of_one [] k t is = cc
 calls_of_one (x ∷ ts) zero t is = let same : x ≡ t = cc in ap (λ (y : Thread). length y.calls.items) same
 calls_of_one (x ∷ ts) (suc k) t is = calls_of_one ts k t is
@@ -69,7 +72,8 @@ from_first search walk number is below =
     let sum : sums (lengths search.program.now.threads.items) ≡ calls_together search.program.now.threads.items = sums-lengths search.program.now.threads.items in
     omega (arith, all.2, sum, below)
 
-pub from_within : (threads : List Thread) (done : List ℕ) (thread number : ℕ) → IsFrom threads done thread number → thread < length threads
+pub from_within : (threads : List Thread) (done : List ℕ) (thread number : ℕ) → IsFrom threads done thread number →
+    thread < length threads
 from_within threads done thread number from =
     let inside : thread < length (lengths threads) = some_within (lengths threads) thread (omega arith) in
     let same : length (lengths threads) ≡ length threads = length-lengths threads in
@@ -115,7 +119,8 @@ is_left search walk thread number left is of few =
 
 -- ---- one call more
 
-pub walks_further : (search : Search) (old new : Walk) (thread : ℕ) (call : Invocation) (heap : List Value) → IsWalk search old →
+pub walks_further : (search : Search) (old new : Walk) (thread : ℕ) (call : Invocation) (heap : List Value) →
+    IsWalk search old →
     next_call search.program.now old.done.items thread ≡ Some call → IsOver search.program.now search.turns call old.heap heap →
     new.heap ≡ heap → new.done.items ≡ one_more old.done.items thread → new.order.items ≡ old.order.items ++ thread ∷ [] →
     IsWalk search new × (length new.order.items ≡ suc (length old.order.items))

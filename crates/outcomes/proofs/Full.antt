@@ -1,5 +1,7 @@
 -- Where all calls are done.
-use Rattle.std.proofs.Common.{◌≡◌, ◌∙◌, ℕ, ◌+◌, ◌<◌, ◌≤◌, zero, suc, List, [], ◌∷◌, ◌++◌, length, replicate, get_or, get_or-set_same, get_or-set_other, slice_get, slice_set, Option, Some, None, ap, sym, subst, refl, arith, ◌⊎◌, inl, inr}
+use Rattle.std.proofs.Common.{◌≡◌, ◌∙◌, ℕ, ◌+◌, ◌<◌, ◌≤◌, zero, suc, List, [], ◌∷◌, ◌++◌, length, replicate, get_or}
+use Rattle.std.proofs.Common.{get_or-set_same, get_or-set_other, slice_get, slice_set, Option, Some, None, ap, sym}
+use Rattle.std.proofs.Common.{subst, refl, arith, ◌⊎◌, inl, inr}
 use Rattle.std.specs.Prelude.{option_map, option_to_list}
 use Rattle.std.specs.List.{Contains}
 use Rattle.std.proofs.lemmas.Bool.{cases_eq}
@@ -73,7 +75,8 @@ same_sums (x ∷ xs) (y ∷ ys) long few sum =
     let tail : xs ≡ ys = same_sums xs ys (omega arith) (λ k. few (suc k)) (omega arith) in
     ap (λ z. z ∷ xs) head ∙ ap (λ zs. y ∷ zs) tail
 
-call_within : (calls : List Call) (k : ℕ) (call : Invocation) → option_map invocation (slice_get calls k) ≡ Some call → k < length calls
+call_within : (calls : List Call) (k : ℕ) (call : Invocation) →
+    option_map invocation (slice_get calls k) ≡ Some call → k < length calls
 call_within [] k call is = cc
 call_within (c ∷ calls) zero call is = omega arith
 call_within (c ∷ calls) (suc k) call is = let rest = call_within calls k call is in omega arith
@@ -88,7 +91,8 @@ some_call (t ∷ ts) done zero call is = call_within t.calls.items (get_or done 
 some_call (t ∷ ts) [] (suc k) call is = some_call ts [] k call is
 some_call (t ∷ ts) (d ∷ done) (suc k) call is = some_call ts done k call is
 
-one_more_within : (program : Typed) (done : List ℕ) (t : ℕ) (call : Invocation) → length done ≡ length program.threads.items → next_call program done t ≡ Some call →
+one_more_within : (program : Typed) (done : List ℕ) (t : ℕ) (call : Invocation) →
+    length done ≡ length program.threads.items → next_call program done t ≡ Some call →
     Within done (lengths program.threads.items) → Within (one_more done t) (lengths program.threads.items)
 unfolding Within
 one_more_within program done t call long next few k =
@@ -102,7 +106,8 @@ one_more_within program done t call long next few k =
       | inr other ↦ (let at = get_or-set_other done t k (get_or done t 0 + 1) 0 other in let f = few k in omega (arith, at, f))
     ]
 
-few_behind : (program : Typed) (done : List ℕ) (t : ℕ) (order : List ℕ) (o : Option Invocation) → length (calls_of program (one_more done t) order) ≤ length order →
+few_behind : (program : Typed) (done : List ℕ) (t : ℕ) (order : List ℕ) (o : Option Invocation) →
+    length (calls_of program (one_more done t) order) ≤ length order →
     length (option_to_list o ++ calls_of program (one_more done t) order) ≤ suc (length order)
 few_behind program done t order None few = omega arith
 few_behind program done t order (Some call) few = omega arith
@@ -112,13 +117,15 @@ few_calls : (program : Typed) (done order : List ℕ) → length (calls_of progr
 few_calls program done [] = omega arith
 few_calls program done (t ∷ order) = few_behind program done t order (next_call program done t) (few_calls program (one_more done t) order)
 
-first_made : (program : Typed) (done : List ℕ) (t : ℕ) (order : List ℕ) (o : Option Invocation) → next_call program done t ≡ o →
+first_made : (program : Typed) (done : List ℕ) (t : ℕ) (order : List ℕ) (o : Option Invocation) →
+    next_call program done t ≡ o →
     length (option_to_list o ++ calls_of program (one_more done t) order) ≡ suc (length order) →
     (call : Invocation) × (next_call program done t ≡ Some call) × (length (calls_of program (one_more done t) order) ≡ length order)
 first_made program done t order None next made = absurd (let few = few_calls program (one_more done t) order in omega arith)
 first_made program done t order (Some call) next made = (call, next, omega arith)
 
-pub made_first : (program : Typed) (done : List ℕ) (t : ℕ) (order : List ℕ) → length (calls_of program done (t ∷ order)) ≡ length (t ∷ order) →
+pub made_first : (program : Typed) (done : List ℕ) (t : ℕ) (order : List ℕ) →
+    length (calls_of program done (t ∷ order)) ≡ length (t ∷ order) →
     (call : Invocation) × (next_call program done t ≡ Some call) × (length (calls_of program (one_more done t) order) ≡ length order)
 made_first program done t order made = first_made program done t order (next_call program done t) refl made
 
@@ -162,7 +169,8 @@ fits_made program order made =
     (all.0, all.1, omega (arith, all.2, zero_sum))
 
 -- so an order is no longer than there are calls
-pub made_few : (program : Typed) (order : List ℕ) → length (calls_in program order) ≡ length order → length order ≤ calls_together program.threads.items
+pub made_few : (program : Typed) (order : List ℕ) → length (calls_in program order) ≡ length order →
+    length order ≤ calls_together program.threads.items
 made_few program order made =
     let all = fits_made program order made in
     let same : length (lengths program.threads.items) ≡ length program.threads.items = length-lengths program.threads.items in
@@ -176,7 +184,8 @@ pub leads_done : (program : Typed) (n : ℕ) (done : List ℕ) (heap : List Valu
 leads_done program n done heap [] done' heap' there = there.0
 leads_done program n done heap (t ∷ order) done' heap' there = leads_done program n (one_more done t) there.1.heap order done' heap' there.4
 
-pub fits : (program : Typed) (n : ℕ) (heap : List Value) (order done' : List ℕ) (heap' : List Value) → Leads program n (none_done program) heap order done' heap' →
+pub fits : (program : Typed) (n : ℕ) (heap : List Value) (order done' : List ℕ) (heap' : List Value) →
+    Leads program n (none_done program) heap order done' heap' →
     (length done' ≡ length program.threads.items) × Within done' (lengths program.threads.items) × (sums done' ≡ length order)
 fits program n heap order done' heap' there =
     subst (λ (d : List ℕ). (length d ≡ length program.threads.items) × Within d (lengths program.threads.items) × (sums d ≡ length order))
@@ -184,7 +193,8 @@ fits program n heap order done' heap' there =
     (fits_made program order (leads_made program n (none_done program) heap order done' heap' there))
 
 -- where all calls are done, each thread's are
-pub full : (program : Typed) (n : ℕ) (heap : List Value) (order done' : List ℕ) (heap' : List Value) → Leads program n (none_done program) heap order done' heap' →
+pub full : (program : Typed) (n : ℕ) (heap : List Value) (order done' : List ℕ) (heap' : List Value) →
+    Leads program n (none_done program) heap order done' heap' →
     length order ≡ calls_together program.threads.items → done' ≡ lengths program.threads.items
 full program n heap order done' heap' there long =
     let all = fits program n heap order done' heap' there in
@@ -198,7 +208,8 @@ less_or_same : (x y : ℕ) → x ≤ y → (x < y) ⊎ (x ≡ y)
 less_or_same x y few = elim (cases_eq x y) [ inl same ↦ inr same | inr apart ↦ inl (omega arith) ]
 
 -- where some calls are left, some thread has one
-some_left : (xs ys : List ℕ) → length xs ≡ length ys → Within xs ys → sums xs < sums ys → (k : ℕ) × (k < length xs) × (get_or xs k 0 < get_or ys k 0)
+some_left : (xs ys : List ℕ) → length xs ≡ length ys → Within xs ys → sums xs < sums ys →
+    (k : ℕ) × (k < length xs) × (get_or xs k 0 < get_or ys k 0)
 unfolding sums Within
 some_left [] [] long few less = absurd (omega arith)
 some_left [] (y ∷ ys) long few less = cc
@@ -209,7 +220,8 @@ some_left (x ∷ xs) (y ∷ ys) long few less =
       | inr same ↦ (let rest = some_left xs ys (omega arith) (λ k. few (suc k)) (omega arith) in (suc rest.0, (let w = rest.1 in omega arith), rest.2))
     ]
 
-call_there : (calls : List Call) (k : ℕ) → k < length calls → (call : Invocation) × (option_map invocation (slice_get calls k) ≡ Some call)
+call_there : (calls : List Call) (k : ℕ) → k < length calls →
+    (call : Invocation) × (option_map invocation (slice_get calls k) ≡ Some call)
 call_there [] k within = absurd (omega arith)
 call_there (c ∷ calls) zero within = (invocation c, refl)
 call_there (c ∷ calls) (suc k) within = call_there calls k (omega arith)
@@ -222,7 +234,8 @@ call_left (t ∷ ts) done zero less = call_there t.calls.items (get_or done 0 0)
 call_left (t ∷ ts) [] (suc k) less = call_left ts [] k less
 call_left (t ∷ ts) (d ∷ done) (suc k) less = call_left ts done k less
 
-some_order : (program : Typed) (left : ℕ) (done : List ℕ) → length done ≡ length program.threads.items → Within done (lengths program.threads.items) →
+some_order : (program : Typed) (left : ℕ) (done : List ℕ) → length done ≡ length program.threads.items →
+    Within done (lengths program.threads.items) →
     sums done + left ≡ calls_together program.threads.items → (order : List ℕ) × Contains (orders_of program left done) order
 some_order program zero done long few sum = ([], (0, omega arith, refl))
 some_order program (suc left) done long few sum =
@@ -239,7 +252,8 @@ some_order program (suc left) done long few sum =
     )
 
 -- so each state has one
-pub has_order : (program : Typed) (n left : ℕ) (heap : List Value) (order done' : List ℕ) (heap' : List Value) → Leads program n (none_done program) heap order done' heap' →
+pub has_order : (program : Typed) (n left : ℕ) (heap : List Value) (order done' : List ℕ) (heap' : List Value) →
+    Leads program n (none_done program) heap order done' heap' →
     length order + left ≡ calls_together program.threads.items → (o : List ℕ) × Contains (orders_of program left done') o
 has_order program n left heap order done' heap' there long =
     let all = fits program n heap order done' heap' there in

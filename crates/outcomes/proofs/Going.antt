@@ -1,5 +1,7 @@
 -- The work goes on.
-use Rattle.std.proofs.Common.{◌≡◌, ◌∙◌, ℕ, ◌+◌, ◌-◌, ◌*◌, ◌<◌, ◌≤◌, zero, suc, List, [], ◌∷◌, ◌++◌, length, take, Option, Some, None, inl, inr, sum_by, ap, sym, subst, refl, arith, append-nil, add-one, length-append}
+use Rattle.std.proofs.Common.{◌≡◌, ◌∙◌, ℕ, ◌+◌, ◌-◌, ◌*◌, ◌<◌, ◌≤◌, zero, suc, List, [], ◌∷◌, ◌++◌, length, take}
+use Rattle.std.proofs.Common.{Option, Some, None, inl, inr, sum_by, ap, sym, subst, refl, arith, append-nil, add-one}
+use Rattle.std.proofs.Common.{length-append}
 use Rattle.std.proofs.Math.ListN.{length-set}
 use Rattle.std.proofs.lemmas.List.Sums.{sum_by_more, sum_by-cons, sum_by-take-le, get_or-le-sum_by}
 use Rattle.core_lang.specs.declared.value.Value.{Value}
@@ -16,7 +18,8 @@ use Rattle.outcomes.specs.Orders.{next_call, one_more, orders_of}
 use Rattle.outcomes.specs.Working.States.{Reached, at, nowhere, reached_of, with_more, orders_to}
 use Rattle.outcomes.specs.Working.Trails.{longer}
 use Rattle.outcomes.specs.Working.Searching.{order_at, IsGood, AreGood, weight, total, Summand, IsFound, IsAdded}
-use Rattle.outcomes.specs.Working.Steps.{IsOver, Puts, IsAtWork, IsReached, Growth, made_by, made_below, made_from, made_from_all, GoesOn, IsStop, HasTooMany, one}
+use Rattle.outcomes.specs.Working.Steps.{IsOver, Puts, IsAtWork, IsReached, Growth, made_by, made_below, made_from}
+use Rattle.outcomes.specs.Working.Steps.{made_from_all, GoesOn, IsStop, HasTooMany, one}
 use Rattle.outcomes.proofs.Sums.{sum_with, sum_without, sum_more, total_found, total_added}
 use Rattle.outcomes.proofs.Full.{has_order}
 use Rattle.outcomes.proofs.Leading.{good_longer, longer_again, good_child, good_found, good_added}
@@ -46,7 +49,8 @@ goes_again search a b c g h both first second sum =
     }
 
 -- no work
-pub goes_nowhere : (search : Search) (a : Work) (g : Growth) → IsAtWork search a → ((f : Summand) (left : ℕ) → g f left ≡ 0) → GoesOn search a a g
+pub goes_nowhere : (search : Search) (a : Work) (g : Growth) → IsAtWork search a →
+    ((f : Summand) (left : ℕ) → g f left ≡ 0) → GoesOn search a a g
 goes_nowhere search a g work none =
     record {
       depth = refl;
@@ -57,12 +61,14 @@ goes_nowhere search a g work none =
     }
 
 -- a state of the layer before stays one
-pub reached_still : (search : Search) (a b : Work) (g : Growth) (from : State) → GoesOn search a b g → IsReached search a from → IsReached search b from
+pub reached_still : (search : Search) (a b : Work) (g : Growth) (from : State) → GoesOn search a b g →
+    IsReached search a from → IsReached search b from
 reached_still search a b g from goes reached =
     subst (λ (d : ℕ). IsGood search.program.now search.turns d b.trail (reached_of from)) (sym goes.depth)
     (good_longer search.program.now search.turns a.depth a.trail b.trail (reached_of from) goes.longer reached)
 
-grown_found : (old new : List Reached) (trail trail' : List (List ℕ)) (done : List ℕ) (heap : List Value) (more : ℕ) → IsFound old new trail trail' done heap more →
+grown_found : (old new : List Reached) (trail trail' : List (List ℕ)) (done : List ℕ) (heap : List Value) (more : ℕ) →
+    IsFound old new trail trail' done heap more →
     length trail' + length old ≡ length trail + length new
 grown_found old new trail trail' done heap more found =
     let states : length new ≡ length old = ap length found.states ∙ length-set old found.number (with_more (at old found.number) more) in
@@ -122,7 +128,8 @@ goes_step search old new heap from t call work reached next over puts =
     }
 
 -- where a thread has no call left
-pub goes_past : (search : Search) (work : Work) (from : State) (t : ℕ) → IsAtWork search work → next_call search.program.now from.done.items t ≡ None →
+pub goes_past : (search : Search) (work : Work) (from : State) (t : ℕ) → IsAtWork search work →
+    next_call search.program.now from.done.items t ≡ None →
     GoesOn search work work (made_by search from t)
 goes_past search work from t at_work none =
     goes_nowhere search work (made_by search from t) at_work
@@ -136,7 +143,8 @@ below_more search from t f left =
     ∙ times_both from.orders _ _ _ (sum_more search.program.now search.turns left f from.done.items from.cells.items t)
 
 -- one state further
-pub all_more : (search : Search) (states : List Reached) (k : ℕ) (from : State) → k < length states → at states k ≡ reached_of from →
+pub all_more : (search : Search) (states : List Reached) (k : ℕ) (from : State) → k < length states →
+    at states k ≡ reached_of from →
     (f : Summand) (left : ℕ) →
     made_from_all search (take (k + 1) states) f left ≡ made_from_all search (take k states) f left + made_from search from f left
 all_more search states k from within is f left =
@@ -150,7 +158,8 @@ times_least a zero some = absurd (omega arith)
 times_least a (suc w) some = omega arith
 
 -- of a good state there is an order
-weighs : (program : Typed) (n depth left : ℕ) (trail : List (List ℕ)) (s : Reached) → IsGood program n depth trail s → depth + left ≡ calls_together program.threads.items →
+weighs : (program : Typed) (n depth left : ℕ) (trail : List (List ℕ)) (s : Reached) → IsGood program n depth trail s →
+    depth + left ≡ calls_together program.threads.items →
     1 ≤ weight program n one left s.done s.cells
 weighs program n depth left trail s good all =
     let there = has_order program n left (opening_heap program) (order_at trail s.first) s.done s.cells good.leads (ap (λ (k : ℕ). k + left) good.long ∙ all) in
@@ -159,7 +168,8 @@ weighs program n depth left trail s good all =
 both_least : (a b c d : ℕ) → a ≤ b → c ≤ d → a + c ≤ b + d
 both_least a b c d first second = omega arith
 
-sum_least : (w : Reached → ℕ) (states : List Reached) → ((k : ℕ) → k < length states → 1 ≤ w (at states k)) → orders_to states ≤ sum_by (λ (s : Reached). s.orders * w s) states
+sum_least : (w : Reached → ℕ) (states : List Reached) → ((k : ℕ) → k < length states → 1 ≤ w (at states k)) →
+    orders_to states ≤ sum_by (λ (s : Reached). s.orders * w s) states
 sum_least w [] each = omega arith
 sum_least w (s ∷ states) each =
     rw (sum_by-cons (λ (s : Reached). s.orders) s states, sum_by-cons (λ (s : Reached). s.orders * w s) s states)
@@ -190,7 +200,8 @@ in_whole : (m a b c g w : ℕ) → m < a + g → a ≡ b + c → c + g ≤ w →
 in_whole m a b c g w many is few = omega arith
 
 -- a stop after some work
-pub stop_further : (search : Search) (old mid new : Work) (before g whole : Growth) (stop : EarlyEnd) → GoesOn search old mid before →
+pub stop_further : (search : Search) (old mid new : Work) (before g whole : Growth) (stop : EarlyEnd) →
+    GoesOn search old mid before →
     ((left : ℕ) → before one left + g one left ≤ whole one left) → IsStop search mid new g stop → IsStop search old new whole stop
 stop_further search old mid new before g whole TooMany goes most is =
     λ left all. (let d : mid.depth ≡ old.depth = goes.depth in
@@ -201,7 +212,8 @@ zero_plus : (t : ℕ) → 0 + t ≡ t
 zero_plus t = omega arith
 
 -- the first threads have no more orders than all
-below_least : (search : Search) (from : State) (t : ℕ) (left more : ℕ) → made_below search from t one left ≤ made_below search from (more + t) one left
+below_least : (search : Search) (from : State) (t : ℕ) (left more : ℕ) →
+    made_below search from t one left ≤ made_below search from (more + t) one left
 below_least search from t left zero = rw zero_plus (omega arith)
 below_least search from t left (suc more) =
     let rest = below_least search from t left more in
@@ -220,7 +232,8 @@ below_all search from t left within =
     let next = below_more search from t one left in
     omega (arith, least, whole, next)
 
-pub states_all : (search : Search) (states : List Reached) (k : ℕ) (from : State) (left : ℕ) → k < length states → at states k ≡ reached_of from →
+pub states_all : (search : Search) (states : List Reached) (k : ℕ) (from : State) (left : ℕ) → k < length states →
+    at states k ≡ reached_of from →
     made_from_all search (take k states) one left + made_from search from one left ≤ made_from_all search states one left
 states_all search states k from left within is =
     let next = all_more search states k from within is one left in

@@ -1,5 +1,7 @@
 -- Calls lead from state to state.
-use Rattle.std.proofs.Common.{◌≡◌, ◌∙◌, ℕ, ◌+◌, ◌<◌, zero, suc, List, [], ◌∷◌, ◌++◌, length, map, get_or, slice_get, Option, Some, None, ◌⊎◌, inl, inr, ap, sym, subst, refl, arith, length-append, append_assoc, slice_set, get_or-set_same, get_or-set_other}
+use Rattle.std.proofs.Common.{◌≡◌, ◌∙◌, ℕ, ◌+◌, ◌<◌, zero, suc, List, [], ◌∷◌, ◌++◌, length, map, get_or, slice_get}
+use Rattle.std.proofs.Common.{Option, Some, None, ◌⊎◌, inl, inr, ap, sym, subst, refl, arith, length-append}
+use Rattle.std.proofs.Common.{append_assoc, slice_set, get_or-set_same, get_or-set_other}
 use Rattle.std.specs.List.{Contains}
 use Rattle.std.proofs.lemmas.List.Elements.{Contains-append_left, Contains-append_right}
 use Rattle.std.proofs.lemmas.List.{length-map}
@@ -28,7 +30,8 @@ leads_further program n done heap (x ∷ order) done' heap' t call finished ther
     (there.0, there.1, there.2, there.3, leads_further program n (one_more done x) there.1.heap order done' heap' t call finished there.4 next over)
 
 -- calls that lead to a heap are run serially
-pub leads_serially : OverIsWhole → (program : Typed) (n : ℕ) (done : List ℕ) (heap : List Value) (order done' : List ℕ) (heap' : List Value) →
+pub leads_serially : OverIsWhole →
+    (program : Typed) (n : ℕ) (done : List ℕ) (heap : List Value) (order done' : List ℕ) (heap' : List Value) →
     Leads program n done heap order done' heap' → (ends : List Ended) × Serial program heap (calls_of program done order) ends heap'
 leads_serially law program n done heap [] done' heap' there = ([], there.1)
 leads_serially law program n done heap (t ∷ order) done' heap' there =
@@ -48,24 +51,28 @@ leads_made program n done heap (t ∷ order) done' heap' there =
 
 -- ---- they are orders
 
-some_of_lookup : {A B : Type 0} (o : Option A) (go : A → Option B) (b : B) → lookup o go ≡ Some b → (a : A) × (o ≡ Some a)
+some_of_lookup : {A B : Type 0} (o : Option A) (go : A → Option B) (b : B) → lookup o go ≡ Some b →
+    (a : A) × (o ≡ Some a)
 some_of_lookup None go b is = cc
 some_of_lookup (Some a) go b is = (a, refl)
 
 -- who has a call is a thread
-pub next_within : (program : Typed) (done : List ℕ) (t : ℕ) (call : Invocation) → next_call program done t ≡ Some call → t < length program.threads.items
+pub next_within : (program : Typed) (done : List ℕ) (t : ℕ) (call : Invocation) →
+    next_call program done t ≡ Some call → t < length program.threads.items
 next_within program done t call next =
     let there = some_of_lookup (slice_get program.threads.items t) _ call next in
     slice_get_within program.threads.items t there.0 there.1
 
-among_behind : (t : ℕ) (orders : List (List ℕ)) (order : List ℕ) → Contains orders order → Contains (map (λ (o : List ℕ). t ∷ o) orders) (t ∷ order)
+among_behind : (t : ℕ) (orders : List (List ℕ)) (order : List ℕ) → Contains orders order →
+    Contains (map (λ (o : List ℕ). t ∷ o) orders) (t ∷ order)
 among_behind t orders order there =
     (there.0, (let within = there.1 in rw length-map within), get_or-map (λ (o : List ℕ). t ∷ o) orders there.0 order ∙ ap (λ (o : List ℕ). t ∷ o) there.2)
 
 below_other : (t c : ℕ) → t < suc c → (t ≡ c → ⊥) → t < c
 below_other t c within other = omega arith
 
-pub among_begun : (program : Typed) (following : List ℕ → List (List ℕ)) (done : List ℕ) (count t : ℕ) (call : Invocation) (order : List ℕ) → t < count →
+pub among_begun : (program : Typed) (following : List ℕ →
+    List (List ℕ)) (done : List ℕ) (count t : ℕ) (call : Invocation) (order : List ℕ) → t < count →
     next_call program done t ≡ Some call → Contains (following (one_more done t)) order → Contains (begun_by program following done count) (t ∷ order)
 among_begun program following done zero t call order within next there = absurd (omega arith)
 among_begun program following done (suc c) t call order within next there =
@@ -109,7 +116,8 @@ pub longer_again : (a b c : List (List ℕ)) → IsLonger a b → IsLonger b c �
 longer_again a b c ab bc = (ab.0 ++ bc.0, bc.1 ∙ ap (λ (x : List (List ℕ)). x ++ bc.0) ab.1 ∙ append_assoc a ab.0 bc.0)
 
 -- where more orders lead to one of them
-good_more : (program : Typed) (n depth more : ℕ) (trail : List (List ℕ)) (s : Reached) → IsGood program n depth trail s → IsGood program n depth trail (with_more s more)
+good_more : (program : Typed) (n depth more : ℕ) (trail : List (List ℕ)) (s : Reached) →
+    IsGood program n depth trail s → IsGood program n depth trail (with_more s more)
 good_more program n depth more trail s good =
     record { threads = good.threads; cells = good.cells; typed = good.typed; first = good.first; long = good.long; leads = good.leads }
 
@@ -135,7 +143,8 @@ still_cells : (s s' : Reached) (more : ℕ) → IsStill s s' more → s'.cells �
 unfolding IsStill
 still_cells s s' more still = elim still [ inl same ↦ ap (λ (x : Reached). x.cells) same | inr same ↦ ap (λ (x : Reached). x.cells) same ]
 
-still_good : (program : Typed) (n depth more : ℕ) (trail : List (List ℕ)) (s s' : Reached) → IsStill s s' more → IsGood program n depth trail s → IsGood program n depth trail s'
+still_good : (program : Typed) (n depth more : ℕ) (trail : List (List ℕ)) (s s' : Reached) → IsStill s s' more →
+    IsGood program n depth trail s → IsGood program n depth trail s'
 unfolding IsStill
 still_good program n depth more trail s s' still good =
     elim still [
@@ -189,7 +198,8 @@ good_child program n depth trail trail' s t call finished more good next over ce
           (leads_further program n (none_done program) (opening_heap program) (order_at trail s.first) s.done s.cells t call finished good.leads next over);
     }
 
-pub all_longer : (program : Typed) (n depth : ℕ) (trail trail' : List (List ℕ)) (states : List Reached) → IsLonger trail trail' →
+pub all_longer : (program : Typed) (n depth : ℕ) (trail trail' : List (List ℕ)) (states : List Reached) →
+    IsLonger trail trail' →
     AreGood program n depth trail states → AreGood program n depth trail' states
 all_longer program n depth trail trail' states longer good =
     record { each = λ k within. good_longer program n depth trail trail' (at states k) longer (good.each k within); apart = good.apart }

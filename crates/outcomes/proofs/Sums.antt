@@ -1,5 +1,6 @@
 -- Sums over orders.
-use Rattle.std.proofs.Common.{◌≡◌, ◌∙◌, ℕ, ◌+◌, ◌*◌, suc, List, [], ◌∷◌, ◌++◌, length, map, Option, Some, None, sum_by, ap, sym, refl, arith}
+use Rattle.std.proofs.Common.{◌≡◌, ◌∙◌, ℕ, ◌+◌, ◌*◌, suc, List, [], ◌∷◌, ◌++◌, length, map, Option, Some, None}
+use Rattle.std.proofs.Common.{sum_by, ap, sym, refl, arith}
 use Rattle.std.proofs.lemmas.List.Sums.{sum_by-append, sum_by_push, sum_by-cons, sum_by-set}
 use Rattle.core_lang.specs.declared.value.Value.{Value}
 use Rattle.core_lang.specs.declared.typed.Typed.{Typed}
@@ -62,7 +63,8 @@ after : (a b c d x y : ℕ) → a + b ≡ c + d → d ≡ b + x → x ≡ y → 
 after a b c d x y p q r = omega arith
 
 -- orders that lead to a state that is there
-pub total_found : (w : List ℕ → List Value → ℕ) (old new : List Reached) (trail trail' : List (List ℕ)) (done : List ℕ) (heap : List Value) (more : ℕ) →
+pub total_found : (w : List ℕ → List Value →
+    ℕ) (old new : List Reached) (trail trail' : List (List ℕ)) (done : List ℕ) (heap : List Value) (more : ℕ) →
     IsFound old new trail trail' done heap more →
     sum_by (λ (s : Reached). s.orders * w s.done s.cells) new ≡ sum_by (λ (s : Reached). s.orders * w s.done s.cells) old + more * w done heap
 total_found w old new trail trail' done heap more found =
@@ -75,7 +77,8 @@ total_found w old new trail trail' done heap more found =
     ap (sum_by g) found.states ∙ after _ _ _ _ _ _ sums more_is times
 
 -- and to a new one
-pub total_added : (w : List ℕ → List Value → ℕ) (old new : List Reached) (trail trail' : List (List ℕ)) (done : List ℕ) (heap : List Value) (more from thread : ℕ) →
+pub total_added : (w : List ℕ → List Value →
+    ℕ) (old new : List Reached) (trail trail' : List (List ℕ)) (done : List ℕ) (heap : List Value) (more from thread : ℕ) →
     IsAdded old new trail trail' done heap more from thread →
     sum_by (λ (s : Reached). s.orders * w s.done s.cells) new ≡ sum_by (λ (s : Reached). s.orders * w s.done s.cells) old + more * w done heap
 total_added w old new trail trail' done heap more from thread added =

@@ -1,5 +1,7 @@
 -- How states are found.
-use Rattle.std.proofs.Common.{◌≡◌, ◌∙◌, ℕ, ◌+◌, ◌<◌, ◌≤◌, zero, suc, List, [], ◌∷◌, ◌++◌, length, map, get_or, slice_get, slice_set, Option, Some, None, cond, nat_eq, inl, inr, ap, sym, subst, refl, arith, eq-eqb, ne_eqb, length-append}
+use Rattle.std.proofs.Common.{◌≡◌, ◌∙◌, ℕ, ◌+◌, ◌<◌, ◌≤◌, zero, suc, List, [], ◌∷◌, ◌++◌, length, map, get_or}
+use Rattle.std.proofs.Common.{slice_get, slice_set, Option, Some, None, cond, nat_eq, inl, inr, ap, sym, subst, refl}
+use Rattle.std.proofs.Common.{arith, eq-eqb, ne_eqb, length-append}
 use Rattle.std.proofs.lemmas.Bool.{cases_eq}
 use Rattle.std.proofs.lemmas.List.{map-append, map-set, get_or-map, length-map}
 use Rattle.std.proofs.lemmas.List.Sums.{sum_by_push, sum_by-set}
@@ -21,14 +23,16 @@ abbrev HaveSame : List Entry → List Entry → ℕ → Type 0
 HaveSame entries others n =
     (h k : ℕ) → k < n → (HasHash entries h k → HasHash others h k) × (HasHash others h k → HasHash entries h k)
 
-last_along : (entries others : List Entry) (h n : ℕ) (o : Option ℕ) → HaveSame entries others n → IsLast entries h n o → IsLast others h n o
+last_along : (entries others : List Entry) (h n : ℕ) (o : Option ℕ) → HaveSame entries others n →
+    IsLast entries h n o → IsLast others h n o
 last_along entries others h n None same none = λ k within has. none k within ((same h k within).1 has)
 last_along entries others h n (Some last) same is =
     (is.0, (same h last is.0).0 is.1, λ k above within has. is.2 k above within ((same h k within).1 has))
 
 -- ---- one more
 
-same_with_more : (entries : List Entry) (e : Entry) (n : ℕ) → n ≤ length entries → HaveSame entries (entries ++ e ∷ []) n
+same_with_more : (entries : List Entry) (e : Entry) (n : ℕ) → n ≤ length entries →
+    HaveSame entries (entries ++ e ∷ []) n
 same_with_more entries e n few h k within = (
   λ has. (has.0, still_at entries (e ∷ []) k has.0 has.1, has.2),
   λ has. elim (pushed_at entries e k has.0 has.1) [
@@ -54,7 +58,8 @@ last_of_others entries e h (Some last) other is = (
   ],
 )
 
-last_of_own : (entries : List Entry) (e : Entry) → IsLast (entries ++ e ∷ []) (hash_of e) (suc (length entries)) (Some (length entries))
+last_of_own : (entries : List Entry) (e : Entry) →
+    IsLast (entries ++ e ∷ []) (hash_of e) (suc (length entries)) (Some (length entries))
 last_of_own entries e = (omega arith, (e, last_at entries e, refl), λ k above within has. omega arith)
 
 pub table_push : (entries : List Entry) (places more : HashMap ℕ ℕ (BuildHasherDefault FoldHasher)) (total : ℕ) (e : Entry) →
@@ -94,7 +99,8 @@ table_push entries places more total e is link there =
 
 -- ---- one replaced, by one like it
 
-same_with_other : (entries : List Entry) (i : ℕ) (e other : Entry) (n : ℕ) → slice_get entries i ≡ Some e → hash_of other ≡ hash_of e →
+same_with_other : (entries : List Entry) (i : ℕ) (e other : Entry) (n : ℕ) → slice_get entries i ≡ Some e →
+    hash_of other ≡ hash_of e →
     HaveSame entries (slice_set entries i other) n
 same_with_other entries i e other n is same h k within = (
   λ has. elim (replaced_at entries i other k has.0 has.1) [
@@ -141,7 +147,8 @@ table_set entries places total i more e other is here same link orders =
 -- ---- finding
 
 -- what is such a state has the hash
-has_hash : (entries : List Entry) (done : List ℕ) (cells : List Value) (k : ℕ) → HasAlike entries done cells k → HasHash entries (hash done cells) k
+has_hash : (entries : List Entry) (done : List ℕ) (cells : List Value) (k : ℕ) → HasAlike entries done cells k →
+    HasHash entries (hash done cells) k
 has_hash entries done cells k has = (has.0, has.1, ap (λ d. hash d has.0.state.cells.items) has.2.0 ∙ ap (hash done) has.2.1)
 
 -- where such states stand below n, the last with the hash is next
@@ -176,15 +183,18 @@ left_next entries places total done cells k e is left here not =
 
 -- ---- what the list of states has
 
-pub within_states : (entries : List Entry) (k : ℕ) (e : Entry) → slice_get entries k ≡ Some e → k < length (map entry_state entries)
+pub within_states : (entries : List Entry) (k : ℕ) (e : Entry) → slice_get entries k ≡ Some e →
+    k < length (map entry_state entries)
 within_states entries k e is = let within : k < length entries = slice_get_within entries k e is in rw length-map within
 
-pub at_entry : (entries : List Entry) (k : ℕ) (e : Entry) → slice_get entries k ≡ Some e → at (map entry_state entries) k ≡ entry_state e
+pub at_entry : (entries : List Entry) (k : ℕ) (e : Entry) → slice_get entries k ≡ Some e →
+    at (map entry_state entries) k ≡ entry_state e
 at_entry entries k e is =
     get_or-map entry_state entries k e nowhere (slice_get_within entries k e is) ∙ ap entry_state (get_or_from_slice_get entries k e e is)
 
 -- a number that is left is one of a state
-pub left_within : (entries : List Entry) (done : List ℕ) (cells : List Value) (o : Option ℕ) (k : ℕ) → IsLeft entries done cells o → o ≡ Some k →
+pub left_within : (entries : List Entry) (done : List ℕ) (cells : List Value) (o : Option ℕ) (k : ℕ) →
+    IsLeft entries done cells o → o ≡ Some k →
     k < length (map entry_state entries)
 left_within entries done cells o k left is =
     let here = subst (IsLeft entries done cells) is left in within_states entries k here.0.0 here.0.1
@@ -198,7 +208,8 @@ pub left_smaller : (entries : List Entry) (places : HashMap ℕ ℕ (BuildHasher
 left_smaller entries places total k e is here = count_below entries (hash_of e) k e.before (is.before k e here)
 
 -- where nothing is left, there is no such state
-pub none_alike : (entries : List Entry) (done : List ℕ) (cells : List Value) (o : Option ℕ) → IsLeft entries done cells o → o ≡ None →
+pub none_alike : (entries : List Entry) (done : List ℕ) (cells : List Value) (o : Option ℕ) →
+    IsLeft entries done cells o → o ≡ None →
     NoneIsAlike done cells (map entry_state entries)
 none_alike entries done cells o left is k within alike =
     let none = subst (IsLeft entries done cells) is left in

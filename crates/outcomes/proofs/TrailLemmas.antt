@@ -1,5 +1,6 @@
 -- Orders that share their beginnings.
-use Rattle.std.proofs.Common.{◌≡◌, ◌∙◌, ℕ, ◌+◌, ◌-◌, ◌<◌, ◌≤◌, zero, suc, List, [], ◌∷◌, ◌++◌, length, reverse, get_or, slice_get, Some, inl, inr, ap, sym, refl, arith, append_assoc, length-append}
+use Rattle.std.proofs.Common.{◌≡◌, ◌∙◌, ℕ, ◌+◌, ◌-◌, ◌<◌, ◌≤◌, zero, suc, List, [], ◌∷◌, ◌++◌, length, reverse}
+use Rattle.std.proofs.Common.{get_or, slice_get, Some, inl, inr, ap, sym, refl, arith, append_assoc, length-append}
 use Rattle.std.proofs.lemmas.List.{reverse-append}
 use Rattle.std.proofs.Math.ListN.{get_or-append}
 use Rattle.std.proofs.Math.Seq.{get_or-append_seam}
@@ -19,7 +20,8 @@ length-grown orders (x ∷ ss) =
     length-grown (orders ++ longer orders x.before x.thread ∷ []) ss ∙ omega (arith, length-append orders (longer orders x.before x.thread ∷ []))
 
 -- what is there stays
-pub grown_keeps : (orders : List (List ℕ)) (ss : List Step) (k : ℕ) → k < length orders → get_or (grown orders ss) k [] ≡ get_or orders k []
+pub grown_keeps : (orders : List (List ℕ)) (ss : List Step) (k : ℕ) → k < length orders →
+    get_or (grown orders ss) k [] ≡ get_or orders k []
 grown_keeps orders [] k within = refl
 grown_keeps orders (x ∷ ss) k within =
     let more = longer orders x.before x.thread ∷ [] in
@@ -27,7 +29,8 @@ grown_keeps orders (x ∷ ss) k within =
     grown_keeps (orders ++ more) ss k within' ∙ get_or-append orders more [] k within
 
 -- and each step's order is that of the one before with its thread
-pub grown_at : (orders : List (List ℕ)) (ss : List Step) (k : ℕ) (s : Step) → slice_get ss k ≡ Some s → s.before < length orders + k →
+pub grown_at : (orders : List (List ℕ)) (ss : List Step) (k : ℕ) (s : Step) → slice_get ss k ≡ Some s →
+    s.before < length orders + k →
     get_or (grown orders ss) (length orders + k) [] ≡ longer (grown orders ss) s.before s.thread
 grown_at orders [] k s is before = cc
 grown_at orders (x ∷ ss) zero s is before =
@@ -71,7 +74,8 @@ order_at ss at s back some is =
     (omega arith, ap (λ (k : ℕ). get_or (orders_of ss) k []) (sym place) ∙ grown_at ([] ∷ []) ss (at - 1) s is early)
 
 -- one thread more is found of an order
-pub found_more : (whole left before : List ℕ) (thread : ℕ) (found : List ℕ) → whole ≡ left ++ reverse found → left ≡ before ++ thread ∷ [] →
+pub found_more : (whole left before : List ℕ) (thread : ℕ) (found : List ℕ) → whole ≡ left ++ reverse found →
+    left ≡ before ++ thread ∷ [] →
     whole ≡ before ++ reverse (found ++ thread ∷ [])
 found_more whole left before thread found is more =
     is ∙ ap (λ (l : List ℕ). l ++ reverse found) more ∙ append_assoc before (thread ∷ []) (reverse found)

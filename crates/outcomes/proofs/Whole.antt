@@ -1,5 +1,7 @@
 -- The search from its begin to its end.
-use Rattle.std.proofs.Common.{◌≡◌, ◌∙◌, ◌≢◌, ℕ, ◌+◌, ◌-◌, ◌*◌, ◌<◌, zero, suc, Bool, true, false, cond, List, [], ◌∷◌, ◌++◌, length, map, get_or, Option, Some, None, sum_by, nat_eq, ap, sym, subst, refl, arith, ◌⊎◌, inl, inr, append-nil}
+use Rattle.std.proofs.Common.{◌≡◌, ◌∙◌, ◌≢◌, ℕ, ◌+◌, ◌-◌, ◌*◌, ◌<◌, zero, suc, Bool, true, false, cond, List, [], ◌∷◌}
+use Rattle.std.proofs.Common.{◌++◌, length, map, get_or, Option, Some, None, sum_by, nat_eq, ap, sym, subst, refl}
+use Rattle.std.proofs.Common.{arith, ◌⊎◌, inl, inr, append-nil}
 use Rattle.std.specs.Ordering.{int_eq}
 use Rattle.std.proofs.lemmas.Bool.Decides.{Decides-int_eq, Decides-eqb}
 use Rattle.std.specs.Bool.{Decides}
@@ -35,11 +37,13 @@ good_opening program n checked =
       leads = (refl, refl);
     }
 
-first_good : (program : Typed) (n k : ℕ) → IsChecked program → k < 1 → IsGood program n 0 ([] ∷ []) (at (opening_state program ∷ []) k)
+first_good : (program : Typed) (n k : ℕ) → IsChecked program → k < 1 →
+    IsGood program n 0 ([] ∷ []) (at (opening_state program ∷ []) k)
 first_good program n zero checked within = good_opening program n checked
 first_good program n (suc k) checked within = absurd (omega arith)
 
-pub good_at_first : (program : Typed) (n : ℕ) (trail : List (List ℕ)) (layer : List Reached) → IsChecked program → trail ≡ [] ∷ [] → layer ≡ opening_state program ∷ [] →
+pub good_at_first : (program : Typed) (n : ℕ) (trail : List (List ℕ)) (layer : List Reached) → IsChecked program →
+    trail ≡ [] ∷ [] → layer ≡ opening_state program ∷ [] →
     AreGood program n 0 trail layer
 good_at_first program n trail layer checked trail_is layer_is =
     rw (trail_is, layer_is) (record {
@@ -53,7 +57,8 @@ once w = omega arith
 none_made : (k : ℕ) → k ≡ 0 + k
 none_made k = omega arith
 
-pub sums_at_first : (program : Typed) (n : ℕ) (layer : List Reached) → layer ≡ opening_state program ∷ [] → (f : Summand) (left : ℕ) →
+pub sums_at_first : (program : Typed) (n : ℕ) (layer : List Reached) → layer ≡ opening_state program ∷ [] →
+    (f : Summand) (left : ℕ) →
     total program n f left layer ≡ weight program n f (0 + left) (none_done program) (opening_heap program)
 sums_at_first program n layer layer_is f left =
     ap (total program n f left) layer_is ∙ once (weight program n f left (none_done program) (opening_heap program))
@@ -70,7 +75,8 @@ from_nothing a b c is none = omega arith
 one_made : (depth left : ℕ) → depth + suc left ≡ depth + 1 + left
 one_made depth left = omega arith
 
-pub sums_of_more : (search : Search) (old new : Work) (layer : List Reached) (depth : ℕ) → GoesOn search old new (made_from_all search layer) → old.next ≡ [] →
+pub sums_of_more : (search : Search) (old new : Work) (layer : List Reached) (depth : ℕ) →
+    GoesOn search old new (made_from_all search layer) → old.next ≡ [] →
     ((f : Summand) (left : ℕ) → total search.program.now search.turns f left layer
     ≡ weight search.program.now search.turns f (depth + left) (none_done search.program.now) (opening_heap search.program.now)) →
     (f : Summand) (left : ℕ) → total search.program.now search.turns f left new.next
@@ -88,7 +94,8 @@ good_of_more search old new layer depth goes is =
 
 -- ---- a call past its turns
 
-pub stops_after : OverIsWhole → (program : Typed) (n : ℕ) (order : List ℕ) (thread : ℕ) → IsBeyond program n order thread → StopsAfter program n order thread
+pub stops_after : OverIsWhole → (program : Typed) (n : ℕ) (order : List ℕ) (thread : ℕ) →
+    IsBeyond program n order thread → StopsAfter program n order thread
 stops_after law program n order thread beyond =
     let serial = leads_serially law program n (none_done program) (opening_heap program) order beyond.done beyond.cells beyond.leads in
     record {
@@ -107,7 +114,8 @@ told_at : (trail : List (List ℕ)) (layer : List Reached) (k : ℕ) (d : Told) 
     get_or (map (as_told trail) layer) k d ≡ as_told trail (at layer k)
 told_at trail layer k d within = get_or-map (as_told trail) layer k nowhere d (rw length-map at within)
 
-each_ends : OverIsWhole → (program : Typed) (n calls : ℕ) (trail : List (List ℕ)) (s : Reached) → calls ≡ calls_together program.threads.items →
+each_ends : OverIsWhole → (program : Typed) (n calls : ℕ) (trail : List (List ℕ)) (s : Reached) →
+    calls ≡ calls_together program.threads.items →
     IsGood program n calls trail s → EndsIn program (order_at trail s.first) s.cells
 each_ends law program n calls trail s all good =
     let serial = leads_serially law program n (none_done program) (opening_heap program) (order_at trail s.first) s.done s.cells good.leads in
@@ -118,13 +126,15 @@ each_ends law program n calls trail s all good =
       serial = serial.1;
     }
 
-pub all_end : OverIsWhole → (program : Typed) (n calls : ℕ) (trail : List (List ℕ)) (layer : List Reached) → calls ≡ calls_together program.threads.items →
+pub all_end : OverIsWhole → (program : Typed) (n calls : ℕ) (trail : List (List ℕ)) (layer : List Reached) →
+    calls ≡ calls_together program.threads.items →
     AreGood program n calls trail layer → All (λ (e : Told). EndsIn program e.order e.cells) (map (as_told trail) layer)
 all_end law program n calls trail layer all good k d within =
     let inside : k < length layer = rw length-map at within in
     subst (λ (e : Told). EndsIn program e.order e.cells) (sym (told_at trail layer k d within)) (each_ends law program n calls trail (at layer k) all (good.each k inside))
 
-pub ends_apart : (program : Typed) (n calls : ℕ) (trail : List (List ℕ)) (layer : List Reached) → calls ≡ calls_together program.threads.items →
+pub ends_apart : (program : Typed) (n calls : ℕ) (trail : List (List ℕ)) (layer : List Reached) →
+    calls ≡ calls_together program.threads.items →
     AreGood program n calls trail layer → AllPairs (λ (a b : Told). a.cells ≢ b.cells) (map (as_told trail) layer)
 ends_apart program n calls trail layer all good j k d below within same =
     let inside : k < length layer = rw length-map at within in
@@ -140,7 +150,8 @@ ends_apart program n calls trail layer all good j k d below within same =
     )
 
 -- the same sum over the states and over what is told of them
-pub sum_told : (g : Reached → ℕ) (h : Told → ℕ) (trail : List (List ℕ)) (layer : List Reached) → ((s : Reached) → g s ≡ h (as_told trail s)) →
+pub sum_told : (g : Reached → ℕ) (h : Told → ℕ) (trail : List (List ℕ)) (layer : List Reached) →
+    ((s : Reached) → g s ≡ h (as_told trail s)) →
     sum_by g layer ≡ sum_by h (map (as_told trail) layer)
 sum_told g h trail [] same = refl
 sum_told g h trail (s ∷ layer) same =
@@ -151,7 +162,8 @@ pub counted : (b : Bool) (k : ℕ) → k * (0 + cond b 1 0) ≡ cond b k 0
 counted true k = omega arith
 counted false k = omega arith
 
-pub counts_told : (program : Typed) (n calls : ℕ) (trail : List (List ℕ)) (layer : List Reached) → calls ≡ calls_together program.threads.items →
+pub counts_told : (program : Typed) (n calls : ℕ) (trail : List (List ℕ)) (layer : List Reached) →
+    calls ≡ calls_together program.threads.items →
     ((f : Summand) → total program n f 0 layer ≡ weight program n f calls (none_done program) (opening_heap program)) →
     (test : Option (List Value) → Bool) → count_by (λ (order : List ℕ). test (end_in program n order)) (orders program) ≡ told_count test (map (as_told trail) layer)
 counts_told program n calls trail layer all sums test =
@@ -225,7 +237,8 @@ some_first zero b more = inr (omega arith)
 some_first (suc a) b more = inl (omega arith)
 
 -- a sum that is not nothing has a term that is not
-pub some_term : {X : Type 0} (g : X → ℕ) (told : List X) → 0 < sum_by g told → (k : ℕ) × (e : X) × (k < length told) × (get_or told k e ≡ e) × (0 < g e)
+pub some_term : {X : Type 0} (g : X → ℕ) (told : List X) → 0 < sum_by g told →
+    (k : ℕ) × (e : X) × (k < length told) × (get_or told k e ≡ e) × (0 < g e)
 some_term g [] more = absurd (omega arith)
 some_term g (e ∷ told) more =
     elim (some_first (g e) (sum_by g told) (rw sum_by-cons at more)) [
@@ -233,7 +246,8 @@ some_term g (e ∷ told) more =
       | inr there ↦ (let rest = some_term g told there in (suc rest.0, rest.1, (let w = rest.2 in omega arith), rest.3, rest.4))
     ]
 
-none_counted : (test : Option (List Value) → Bool) (told : List Told) → ((heap : List Value) → test (Some heap) ≡ false) → told_count test told ≡ 0
+none_counted : (test : Option (List Value) → Bool) (told : List Told) →
+    ((heap : List Value) → test (Some heap) ≡ false) → told_count test told ≡ 0
 none_counted test [] none = refl
 none_counted test (e ∷ told) none =
     sum_by-cons (λ (e : Told). cond (test (Some e.cells)) e.count 0) e told
@@ -244,7 +258,8 @@ passed true k more = refl
 passed false k more = absurd (omega arith)
 
 -- an order is counted where its end passes
-counted_once : (program : Typed) (n : ℕ) (order : List ℕ) (test : Option (List Value) → Bool) → Contains (orders program) order → test (end_in program n order) ≡ true →
+counted_once : (program : Typed) (n : ℕ) (order : List ℕ) (test : Option (List Value) → Bool) →
+    Contains (orders program) order → test (end_in program n order) ≡ true →
     0 < count_by (λ (o : List ℕ). test (end_in program n o)) (orders program)
 counted_once program n order test there passes =
     let p : List ℕ → ℕ = λ o. cond (test (end_in program n o)) 1 0 in
@@ -252,12 +267,14 @@ counted_once program n order test there passes =
     let one : p (get_or (orders program) there.0 order) ≡ 1 = ap p there.2 ∙ ap (λ (b : Bool). cond b 1 0) passes in
     omega (arith, most, one)
 
-none_left : (calls : List Invocation) (heap cells : List Value) → heap_if_settled calls heap ≡ Some cells → (calls ≡ []) × (heap ≡ cells)
+none_left : (calls : List Invocation) (heap cells : List Value) → heap_if_settled calls heap ≡ Some cells →
+    (calls ≡ []) × (heap ≡ cells)
 none_left [] heap cells is = (refl, cc)
 none_left (c ∷ calls) heap cells is = cc
 
 -- where the turns settle an order's calls, its end is the heap that they leave
-pub settled_heap : SettledAreSerial → HaveAtMostOneSerial → (program : Typed) (n : ℕ) (start heap cells : List Value) (calls : List Invocation) (ends : List Ended) →
+pub settled_heap : SettledAreSerial → HaveAtMostOneSerial →
+    (program : Typed) (n : ℕ) (start heap cells : List Value) (calls : List Invocation) (ends : List Ended) →
     Serial program start calls ends heap → heap_left (serial_with program n start calls) ≡ Some cells → cells ≡ heap
 settled_heap settled once program n start heap cells calls ends serial is =
     let p = serial_with program n start calls in
@@ -288,7 +305,8 @@ every_end settled once program n told counts order heap ends =
 
 -- ---- all together
 
-pub are_all_ends : OverIsWhole → SettledAreSerial → HaveAtMostOneSerial → (program : Typed) (n calls : ℕ) (trail : List (List ℕ)) (layer : List Reached) (told : List Told) →
+pub are_all_ends : OverIsWhole → SettledAreSerial → HaveAtMostOneSerial →
+    (program : Typed) (n calls : ℕ) (trail : List (List ℕ)) (layer : List Reached) (told : List Told) →
     calls ≡ calls_together program.threads.items → AreGood program n calls trail layer →
     ((f : Summand) → total program n f 0 layer ≡ weight program n f calls (none_done program) (opening_heap program)) →
     told ≡ map (as_told trail) layer → AreAllEnds program n told
@@ -307,7 +325,8 @@ count_ones : (orders : List (List ℕ)) → sum_by (λ (order : List ℕ). 1) or
 count_ones [] = refl
 count_ones (o ∷ os) = sum_by-cons (λ (order : List ℕ). 1) o os ∙ ap (λ (k : ℕ). 1 + k) (count_ones os) ∙ omega arith
 
-pub too_many : (search : Search) (old : Work) (layer : List Reached) (calls depth : ℕ) → HasTooMany search old (made_from_all search layer) → old.next ≡ [] → old.depth ≡ depth →
+pub too_many : (search : Search) (old : Work) (layer : List Reached) (calls depth : ℕ) →
+    HasTooMany search old (made_from_all search layer) → old.next ≡ [] → old.depth ≡ depth →
     depth < calls → calls ≡ calls_together search.program.now.threads.items →
     ((f : Summand) → total search.program.now search.turns f (calls - depth) layer
     ≡ weight search.program.now search.turns f calls (none_done search.program.now) (opening_heap search.program.now)) →

@@ -1,5 +1,6 @@
 -- How the cells can end.
-use Rattle.std.specs.Prelude.{◌≡◌, ◌≢◌, ℕ, ◌<◌, Bool, List, [], ◌∷◌, if◌then◌else◌, length, map, All, AllPairs, Any, Contains, count_by, sum_by, Option, Some, None}
+use Rattle.std.specs.Prelude.{◌≡◌, ◌≢◌, ℕ, ◌<◌, Bool, List, [], ◌∷◌, if◌then◌else◌, length, map, All, AllPairs, Any}
+use Rattle.std.specs.Prelude.{Contains, count_by, sum_by, Option, Some, None}
 use Rattle.core_lang.specs.declared.value.Value.{Value}
 use Rattle.core_lang.specs.declared.typed.Typed.{Typed}
 use Rattle.core_lang.specs.Serial.{Invocation, Ended, Progress, SerialFromOpening, opening_heap, run_call, serial_with}
@@ -53,7 +54,8 @@ pub record AreAllEnds (program : Typed) (n : ℕ) (told : List Told) : Type 0 wh
   -- no two have the same cells
   pub apart : AllPairs (λ (a b : Told). a.cells ≢ b.cells) told
   -- of all orders, as many end in cells that pass a test as is told
-  pub counts : (test : Option (List Value) → Bool) → count_by (λ (order : List ℕ). test (end_in program n order)) (orders program) ≡ told_count test told
+  pub counts : (test : Option (List Value) → Bool) →
+      count_by (λ (order : List ℕ). test (end_in program n order)) (orders program) ≡ told_count test told
   -- and whatever order the calls are run in, its end is among them
   pub all : (order : List ℕ) (heap : List Value) → EndsIn program order heap → Any (λ (e : Told). e.cells ≡ heap) told
 

@@ -1,5 +1,6 @@
 -- How many calls are done, and how many there are.
-use Rattle.std.proofs.Common.{◌≡◌, ◌∙◌, ℕ, ◌+◌, ◌<◌, ◌≤◌, zero, suc, List, [], ◌∷◌, length, replicate, get_or, slice_get, slice_set, Some, ap, refl, arith}
+use Rattle.std.proofs.Common.{◌≡◌, ◌∙◌, ℕ, ◌+◌, ◌<◌, ◌≤◌, zero, suc, List, [], ◌∷◌, length, replicate, get_or}
+use Rattle.std.proofs.Common.{slice_get, slice_set, Some, ap, refl, arith}
 use Rattle.core_lang.specs.declared.typed.Thread.{Thread}
 use Rattle.core_lang.specs.WellFormed.{calls_together}
 
@@ -31,7 +32,8 @@ sums_zero zero = refl
 sums_zero (suc n) = ap (λ k. 0 + k) (sums_zero n)
 
 -- the same at each place
-pub same_at : (xs ys : List ℕ) → length xs ≡ length ys → ((k : ℕ) → k < length xs → get_or xs k 0 ≡ get_or ys k 0) → sums xs ≡ sums ys
+pub same_at : (xs ys : List ℕ) → length xs ≡ length ys → ((k : ℕ) → k < length xs → get_or xs k 0 ≡ get_or ys k 0) →
+    sums xs ≡ sums ys
 same_at [] [] long same = refl
 same_at [] (y ∷ ys) long same = cc
 same_at (x ∷ xs) [] long same = cc

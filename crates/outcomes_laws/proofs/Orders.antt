@@ -1,5 +1,7 @@
 -- The threads of a history that has each thread's script are an order of all calls.
-use Rattle.std.proofs.Common.{◌≡◌, ◌∙◌, ℕ, ◌+◌, ◌<◌, ◌≤◌, ◌==◌, zero, suc, List, [], ◌∷◌, ◌++◌, length, map, drop, get_or, get_or-set_same, get_or-set_other, slice_get, slice_set, Option, Some, None, ap, sym, subst, refl, arith, inl, inr, if◌then◌else◌}
+use Rattle.std.proofs.Common.{◌≡◌, ◌∙◌, ℕ, ◌+◌, ◌<◌, ◌≤◌, ◌==◌, zero, suc, List, [], ◌∷◌, ◌++◌, length, map, drop}
+use Rattle.std.proofs.Common.{get_or, get_or-set_same, get_or-set_other, slice_get, slice_set, Option, Some, None, ap}
+use Rattle.std.proofs.Common.{sym, subst, refl, arith, inl, inr, if◌then◌else◌}
 use Rattle.std.specs.Option.{option_map, option_to_list}
 use Rattle.std.specs.List.{Contains}
 use Rattle.std.proofs.lemmas.Bool.{cases_eq, cond-true, cond-false, eq-eqb, ne_eqb}
@@ -57,7 +59,8 @@ record IsNumbered (t s : ℕ) (xs : List Invocation) (first : Scheduled) (rest :
   is : first ≡ record { thread = t; step = s; call = call }
   behind : rest ≡ numbered t (s + 1) calls
 
-numbered_first : (t s : ℕ) (xs : List Invocation) (first : Scheduled) (rest : List Scheduled) → first ∷ rest ≡ numbered t s xs → IsNumbered t s xs first rest
+numbered_first : (t s : ℕ) (xs : List Invocation) (first : Scheduled) (rest : List Scheduled) →
+    first ∷ rest ≡ numbered t s xs → IsNumbered t s xs first rest
 numbered_first t s [] first rest is = cc
 numbered_first t s (x ∷ xs) first rest is = record { call = x; calls = xs; parts = refl; is = cc; behind = cc }
 
@@ -77,7 +80,8 @@ abbrev pub AreOf : ℕ → List Commit → Type 0
 AreOf n [] = Unit {0}
 AreOf n (c ∷ cs) = (c.thread < n) × AreOf n cs
 
-pub all_of : (n : ℕ) (h : List Commit) → ((position : ℕ) (c : Commit) → slice_get h position ≡ Some c → c.thread < n) → AreOf n h
+pub all_of : (n : ℕ) (h : List Commit) →
+    ((position : ℕ) (c : Commit) → slice_get h position ≡ Some c → c.thread < n) → AreOf n h
 all_of n [] each = tt
 all_of n (c ∷ cs) each = (each 0 c refl, all_of n cs (λ position x there. each (suc position) x there))
 
@@ -86,7 +90,8 @@ script thread = map invocation thread.calls.items
 
 pub record Follows (program : Typed) (done : List ℕ) (h : List Commit) : Type 0 where
   pub threads : length done ≡ length program.threads.items
-  pub few : (t : ℕ) (thread : Thread) → slice_get program.threads.items t ≡ Some thread → get_or done t 0 ≤ length thread.calls.items
+  pub few : (t : ℕ) (thread : Thread) → slice_get program.threads.items t ≡ Some thread →
+      get_or done t 0 ≤ length thread.calls.items
   pub calls : (t : ℕ) (thread : Thread) → slice_get program.threads.items t ≡ Some thread →
       calls_by t h ≡ numbered t (get_or done t 0) (drop (get_or done t 0) (script thread))
   pub nobody : AreOf (length program.threads.items) h
@@ -101,7 +106,8 @@ record IsFirst (done : List ℕ) (c : Commit) (cs : List Commit) (thread : Threa
   within : get_or done c.thread 0 < length thread.calls.items
   behind : calls_by c.thread cs ≡ numbered c.thread (get_or done c.thread 0 + 1) (drop (suc (get_or done c.thread 0)) (script thread))
 
-first_call : (program : Typed) (done : List ℕ) (c : Commit) (cs : List Commit) (thread : Thread) → Follows program done (c ∷ cs) →
+first_call : (program : Typed) (done : List ℕ) (c : Commit) (cs : List Commit) (thread : Thread) →
+    Follows program done (c ∷ cs) →
     slice_get program.threads.items c.thread ≡ Some thread → IsFirst done c cs thread
 first_call program done c cs thread follows there =
     let t = c.thread in
@@ -120,7 +126,8 @@ one_thread : (ts : List Thread) (t : ℕ) (a b : Thread) → slice_get ts t ≡ 
 one_thread ts t a b is_a is_b = let same : Some a ≡ Some b = sym is_a ∙ is_b in cc
 
 -- of the thread itself
-own_left : (program : Typed) (done : List ℕ) (c : Commit) (cs : List Commit) (thread : Thread) → IsFirst done c cs thread → c.thread < length done →
+own_left : (program : Typed) (done : List ℕ) (c : Commit) (cs : List Commit) (thread : Thread) →
+    IsFirst done c cs thread → c.thread < length done →
     (calls_by c.thread cs ≡ numbered c.thread (get_or (one_more done c.thread) c.thread 0) (drop (get_or (one_more done c.thread) c.thread 0) (script thread)))
     × (get_or (one_more done c.thread) c.thread 0 ≤ length thread.calls.items)
 own_left program done c cs thread first within =
@@ -133,7 +140,8 @@ own_left program done c cs thread first within =
       omega (arith, at, w),
     )
 
-goes_on : (program : Typed) (done : List ℕ) (c : Commit) (cs : List Commit) → Follows program done (c ∷ cs) → GoesOn program done c cs
+goes_on : (program : Typed) (done : List ℕ) (c : Commit) (cs : List Commit) → Follows program done (c ∷ cs) →
+    GoesOn program done c cs
 goes_on program done c cs follows =
     let t = c.thread in
     let d = get_or done t 0 in
@@ -168,14 +176,16 @@ goes_on program done c cs follows =
 
 -- ---- among all orders
 
-among_behind : (t : ℕ) (orders : List (List ℕ)) (order : List ℕ) → Contains orders order → Contains (map (λ (o : List ℕ). t ∷ o) orders) (t ∷ order)
+among_behind : (t : ℕ) (orders : List (List ℕ)) (order : List ℕ) → Contains orders order →
+    Contains (map (λ (o : List ℕ). t ∷ o) orders) (t ∷ order)
 among_behind t orders order there =
     (there.0, (let within = there.1 in rw length-map within), get_or-map (λ (o : List ℕ). t ∷ o) orders there.0 order ∙ ap (λ (o : List ℕ). t ∷ o) there.2)
 
 below_other : (t c : ℕ) → t < suc c → (t ≡ c → ⊥) → t < c
 below_other t c within other = omega arith
 
-among_begun : (program : Typed) (following : List ℕ → List (List ℕ)) (done : List ℕ) (count t : ℕ) (call : Invocation) (order : List ℕ) → t < count →
+among_begun : (program : Typed) (following : List ℕ →
+    List (List ℕ)) (done : List ℕ) (count t : ℕ) (call : Invocation) (order : List ℕ) → t < count →
     next_call program done t ≡ Some call → Contains (following (one_more done t)) order → Contains (begun_by program following done count) (t ∷ order)
 among_begun program following done zero t call order within next there = absurd (omega arith)
 among_begun program following done (suc c) t call order within next there =
@@ -194,7 +204,8 @@ pub record IsWhole (program : Typed) (done : List ℕ) (h : List Commit) : Type 
   pub calls : calls_of program done (order_of h) ≡ map call_of h
   pub sum : sums done + length h ≡ sums (lengths program.threads.items)
 
-none_left : (program : Typed) (done : List ℕ) → Follows program done [] → (k : ℕ) → k < length done → get_or done k 0 ≡ get_or (lengths program.threads.items) k 0
+none_left : (program : Typed) (done : List ℕ) → Follows program done [] → (k : ℕ) → k < length done →
+    get_or done k 0 ≡ get_or (lengths program.threads.items) k 0
 none_left program done follows k within =
     let long = follows.threads in
     let found = thread_at program.threads.items k (omega (arith, within, long)) in

@@ -1,5 +1,6 @@
 -- A run in which all calls end has an end that is told.
-use Rattle.std.proofs.Common.{◌≡◌, ◌∙◌, ℕ, ◌+◌, ◌<◌, ◌≤◌, zero, suc, List, [], ◌∷◌, length, map, take, drop, replicate, get_or, slice_get, Option, Some, None, ap, sym, subst, refl, arith}
+use Rattle.std.proofs.Common.{◌≡◌, ◌∙◌, ℕ, ◌+◌, ◌<◌, ◌≤◌, zero, suc, List, [], ◌∷◌, length, map, take, drop}
+use Rattle.std.proofs.Common.{replicate, get_or, slice_get, Option, Some, None, ap, sym, subst, refl, arith}
 use Rattle.std.specs.Option.{option_map_or}
 use Rattle.std.specs.List.{Contains}
 use Rattle.std.proofs.lemmas.List.{length-map, length-replicate}
@@ -67,14 +68,16 @@ same_scripts (t ∷ ts) (u ∷ us) same =
     let calls : map invocation t.calls.items ≡ map invocation u.calls.items = same_calls t.calls.items u.calls.items (ap (λ (d : ThreadData). d.calls) first) in
     ap (λ (cs : List Invocation). cs ∷ map script_of ts) calls ∙ ap (λ (css : List (List Invocation)). script_of u ∷ css) (same_scripts ts us rest)
 
-script_at : (ts : List Thread) (t : ℕ) (x : Thread) → slice_get ts t ≡ Some x → slice_get (map script_of ts) t ≡ Some (script_of x)
+script_at : (ts : List Thread) (t : ℕ) (x : Thread) → slice_get ts t ≡ Some x →
+    slice_get (map script_of ts) t ≡ Some (script_of x)
 script_at [] t x there = cc
 script_at (y ∷ ts) zero x there = cc
 script_at (y ∷ ts) (suc t) x there = script_at ts t x there
 
 -- ---- the history has them
 
-whole_script : (plan : Plan) (w : World) (accepted : List Thread) → map script_of accepted ≡ scripts plan → FollowsScripts plan w → AllHaveEnded plan w →
+whole_script : (plan : Plan) (w : World) (accepted : List Thread) → map script_of accepted ≡ scripts plan →
+    FollowsScripts plan w → AllHaveEnded plan w →
     (t : ℕ) (x : Thread) → slice_get accepted t ≡ Some x → calls_by t w.history ≡ numbered t 0 (script_of x)
 whole_script plan w accepted same follows ended t x there =
     let script : slice_get (scripts plan) t ≡ Some (script_of x) = ap (λ (ss : List (List Invocation)). slice_get ss t) (sym same) ∙ script_at accepted t x there in
@@ -88,7 +91,8 @@ whole_script plan w accepted same follows ended t x there =
     follows.calls t state.0 (script_of x) state.1 script
     ∙ take_all state.0.step (numbered t 0 (script_of x)) (omega (arith, most, long))
 
-follows_all : (plan : Plan) (w : World) → IsCompiled plan → FollowsScripts plan w → AllHaveEnded plan w → Follows plan.accepted (none_done plan.accepted) w.history
+follows_all : (plan : Plan) (w : World) → IsCompiled plan → FollowsScripts plan w → AllHaveEnded plan w →
+    Follows plan.accepted (none_done plan.accepted) w.history
 follows_all plan w compiled follows ended =
     let threads = plan.accepted.threads.items in
     let same : map script_of threads ≡ scripts plan = same_scripts threads plan.program.threads.items (sym compiled.expanded.besides.threads) in
@@ -104,13 +108,15 @@ follows_all plan w compiled follows ended =
 
 -- ---- its cells
 
-not_away : (plan : Plan) (w : World) (cell : ℕ) (lock : Lock) (heap : List Value) (o : Option Value) → HeldCellsAre plan w → FreeCellsAre w heap → AllHaveEnded plan w →
+not_away : (plan : Plan) (w : World) (cell : ℕ) (lock : Lock) (heap : List Value) (o : Option Value) →
+    HeldCellsAre plan w → FreeCellsAre w heap → AllHaveEnded plan w →
     lock_of_cell plan.program cell ≡ Some lock → slice_get w.cells cell ≡ Some o → (v : Value) × (slice_get w.cells cell ≡ Some (Some v)) × (slice_get heap cell ≡ Some v)
 not_away plan w cell lock heap None held free ended is there =
     let by = (held cell lock is).0 there in absurd (ended.none_open by.by by.section by.is_open)
 not_away plan w cell lock heap (Some v) held free ended is there = (v, there, free cell v there)
 
-holds_heap : (plan : Plan) (w : World) (heap : List Value) → IsCompiled plan → HeldCellsAre plan w → FreeCellsAre w heap → AllHaveEnded plan w →
+holds_heap : (plan : Plan) (w : World) (heap : List Value) → IsCompiled plan → HeldCellsAre plan w →
+    FreeCellsAre w heap → AllHaveEnded plan w →
     length w.cells ≡ length plan.program.cells.items → HoldsHeap plan w heap
 holds_heap plan w heap compiled held free ended all cell within =
     let here = compiled.laid_out.cells in

@@ -11,7 +11,8 @@ use Rattle.worlds.specs.Worlds.{World, ThreadState, Activation, HasOpen, call_at
 -- all calls have ended: no section is open, and no thread has a call left
 pub record AllHaveEnded (plan : Plan) (w : World) : Type 0 where
   pub none_open : (t : ℕ) (a : Activation) → HasOpen w t a → ⊥
-  pub none_left : (t : ℕ) (thread : ThreadState) → slice_get w.threads t ≡ Some thread → call_at plan t thread.step ≡ None
+  pub none_left : (t : ℕ) (thread : ThreadState) → slice_get w.threads t ≡ Some thread →
+      call_at plan t thread.step ≡ None
 
 -- each cell holds what the heap has there
 abbrev pub HoldsHeap : Plan → World → List Value → Type 0

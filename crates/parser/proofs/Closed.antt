@@ -5,8 +5,10 @@ use Rattle.source.specs.declared.token.Sign.TheVariants.{OpenParen, CloseParen, 
 use Rattle.source.specs.Tokens.{mark, Tok}
 use Rattle.syntax.specs.Trees.{Ident, element, path, Expr, paren}
 use Rattle.parser.specs.declared.stop.Stop.{Stop}
-use Rattle.parser.specs.Working.Reading.{◌>>=◌, Fails, Reader, turn, many_at, is_sign, sign_at, open_at, name_at, is_next, skip_at, next_after, after_each, choose, chosen, closed_at}
-use Rattle.parser.specs.Working.Expressions.{place_at, path_at, alone_at, element_at, fields_at, parens_at, inside_at, condition_at, expr_at}
+use Rattle.parser.specs.Working.Reading.{◌>>=◌, Fails, Reader, turn, many_at, is_sign, sign_at, open_at, name_at}
+use Rattle.parser.specs.Working.Reading.{is_next, skip_at, next_after, after_each, choose, chosen, closed_at}
+use Rattle.parser.specs.Working.Expressions.{place_at, path_at, alone_at, element_at, fields_at, parens_at, inside_at}
+use Rattle.parser.specs.Working.Expressions.{condition_at, expr_at}
 use Rattle.parser.specs.Theory.Readers.{fails_on}
 use Rattle.parser.specs.Theory.Many.{many_at-turn}
 use Rattle.parser.proofs.Rooms.{inside_at_some, parens_at_some}
@@ -20,21 +22,26 @@ module _ (room : ℕ) (x : Ident) (ts inner : List Tok) (at : Span) (opens : ope
   unfolding element_at
   element_is = rw (opens, inside_at_some room some) (closed_then (λ e us. Ok (element x e, us)) CloseBracket (expr_at (room - 1)) inner)
 
-  pub element_done : (e : Expr) (rest : List Tok) → closed_at CloseBracket (expr_at (room - 1)) inner ≡ Ok (e, rest) → element_at room (inside_at room) x ts ≡ Ok (element x e, rest)
+  pub element_done : (e : Expr) (rest : List Tok) → closed_at CloseBracket (expr_at (room - 1)) inner ≡ Ok (e, rest) →
+      element_at room (inside_at room) x ts ≡ Ok (element x e, rest)
   element_done e rest read = element_is ∙ ap (λ (r : Result (Expr × List Tok) Stop). r >>= λ e. Ok (element x e.0, e.1)) read
 
-  pub element_stops : (e : Stop) → Fails e (closed_at CloseBracket (expr_at (room - 1)) inner) → Fails e (element_at room (inside_at room) x ts)
+  pub element_stops : (e : Stop) → Fails e (closed_at CloseBracket (expr_at (room - 1)) inner) →
+      Fails e (element_at room (inside_at room) x ts)
   element_stops e fails = subst (Fails e) (sym element_is) (fails_on e (closed_at CloseBracket (expr_at (room - 1)) inner) (λ e. Ok (element x e.0, e.1)) fails)
 
-pub condition_is : (room : ℕ) (ts inner : List Tok) (at : Span) → open_at OpenParen room ts ≡ Ok (at, inner) → 0 < room → condition_at room ts ≡ closed_at CloseParen (expr_at (room - 1)) inner
+pub condition_is : (room : ℕ) (ts inner : List Tok) (at : Span) → open_at OpenParen room ts ≡ Ok (at, inner) →
+    0 < room → condition_at room ts ≡ closed_at CloseParen (expr_at (room - 1)) inner
 unfolding condition_at
 condition_is room ts inner at opens some = rw (opens, inside_at_some room some) refl
 
-pub element_unopened : (room : ℕ) (x : Ident) (ts : List Tok) (e : Stop) → Fails e (open_at OpenBracket room ts) → Fails e (element_at room (inside_at room) x ts)
+pub element_unopened : (room : ℕ) (x : Ident) (ts : List Tok) (e : Stop) → Fails e (open_at OpenBracket room ts) →
+    Fails e (element_at room (inside_at room) x ts)
 unfolding element_at
 element_unopened room x ts e fails = fails_on e (open_at OpenBracket room ts) _ fails
 
-pub condition_unopened : (room : ℕ) (ts : List Tok) (e : Stop) → Fails e (open_at OpenParen room ts) → Fails e (condition_at room ts)
+pub condition_unopened : (room : ℕ) (ts : List Tok) (e : Stop) → Fails e (open_at OpenParen room ts) →
+    Fails e (condition_at room ts)
 unfolding condition_at
 condition_unopened room ts e fails = fails_on e (open_at OpenParen room ts) _ fails
 
@@ -42,10 +49,12 @@ module _ (room : ℕ) (at : Span) (ts : List Tok) (some : 0 < room) where
   parens_is : parens_at room (inside_at room) at ts ≡ (closed_at CloseParen (expr_at (room - 1)) ts >>= λ e. Ok (paren at e.0, e.1))
   parens_is = rw (parens_at_some room (inside_at room) at ts some, inside_at_some room some) (closed_then (λ e us. Ok (paren at e, us)) CloseParen (expr_at (room - 1)) ts)
 
-  pub parens_done : (e : Expr) (rest : List Tok) → closed_at CloseParen (expr_at (room - 1)) ts ≡ Ok (e, rest) → parens_at room (inside_at room) at ts ≡ Ok (paren at e, rest)
+  pub parens_done : (e : Expr) (rest : List Tok) → closed_at CloseParen (expr_at (room - 1)) ts ≡ Ok (e, rest) →
+      parens_at room (inside_at room) at ts ≡ Ok (paren at e, rest)
   parens_done e rest read = parens_is ∙ ap (λ (r : Result (Expr × List Tok) Stop). r >>= λ e. Ok (paren at e.0, e.1)) read
 
-  pub parens_stop : (e : Stop) → Fails e (closed_at CloseParen (expr_at (room - 1)) ts) → Fails e (parens_at room (inside_at room) at ts)
+  pub parens_stop : (e : Stop) → Fails e (closed_at CloseParen (expr_at (room - 1)) ts) →
+      Fails e (parens_at room (inside_at room) at ts)
   parens_stop e fails = subst (Fails e) (sym parens_is) (fails_on e (closed_at CloseParen (expr_at (room - 1)) ts) (λ e. Ok (paren at e.0, e.1)) fails)
 
 -- ---- fields, which a dot begins
@@ -70,7 +79,8 @@ module _ (room : ℕ) (inner : Reader Expr) (x : Ident) (ts : List Tok) (other :
     unfolding choose
     path_is = no_element ∙ ap (λ b. chosen (path_at x) (alone_at x) b ts) dot ∙ ap (λ (r : Result (List Ident × List Tok) Stop). r >>= λ fs. Ok (path x fs.0, fs.1)) (fields_are ts dot)
 
-    pub path_done : (fs : List Ident) (rest : List Tok) → after_each Dot name_at ts ≡ Ok (fs, rest) → place_at room inner x ts ≡ Ok (path x fs, rest)
+    pub path_done : (fs : List Ident) (rest : List Tok) → after_each Dot name_at ts ≡ Ok (fs, rest) →
+        place_at room inner x ts ≡ Ok (path x fs, rest)
     path_done fs rest read = path_is ∙ ap (λ (r : Result (List Ident × List Tok) Stop). r >>= λ fs. Ok (path x fs.0, fs.1)) read
 
     pub path_stops : (e : Stop) → Fails e (after_each Dot name_at ts) → Fails e (place_at room inner x ts)

@@ -2,92 +2,132 @@
 use Rattle.std.proofs.Common.{◌≡◌, ℕ, zero, suc, ◌+◌, ◌<◌, List, [], ◌∷◌, None, refl, subst, arith}
 use Rattle.source.specs.declared.span.Span.{Span}
 use Rattle.source.specs.declared.token.Keyword.TheVariants as keyword
-use Rattle.source.specs.declared.token.Sign.TheVariants.{OpenBrace, CloseBrace, OpenParen, CloseParen, OpenBracket, CloseBracket, Semicolon, Colon, Dot, Equals}
+use Rattle.source.specs.declared.token.Sign.TheVariants.{OpenBrace, CloseBrace, OpenParen, CloseParen, OpenBracket}
+use Rattle.source.specs.declared.token.Sign.TheVariants.{CloseBracket, Semicolon, Colon, Dot, Equals}
 use Rattle.source.specs.Tokens.{Lexeme, word, mark, end, Tok}
 use Rattle.syntax.specs.Trees as tree
-use Rattle.syntax.specs.Trees.{Ident, ValueType, int_type, no_stmts, Member, lock_member, final_member, field_member, Section, Items, no_items, Decl, lock, struct, global, array, pool, init, atomic, helper, thread}
-use Rattle.syntax.specs.Grammar.{tok, name_tok, IsOptional, left_out, AreMany, no_more, one_more, IsAfter, AreListed, none_listed, IsName, is_name, IsType, is_int_type, IsConst, is_int_const, are_no_stmts, is_braced, is_block, IsIndex, is_index, IsProtection, is_variable, is_array, is_final, is_field, IsMember, is_lock_member, is_final_member, is_field_member, IsStruct, is_struct, IsPool, is_pool, IsInit, is_init, IsSection, is_section, IsCall, is_call, IsItem, is_call_item, is_repeat, IsItems, are_no_items, are_items, IsThread, is_thread, IsDecl, is_lock, is_struct_decl, is_global, is_array_decl, is_pool_decl, is_init_decl, is_atomic, is_helper, is_thread_decl}
+use Rattle.syntax.specs.Trees.{Ident, ValueType, int_type, no_stmts, Member, lock_member, final_member, field_member}
+use Rattle.syntax.specs.Trees.{Section, Items, no_items, Decl, lock, struct, global, array, pool, init, atomic}
+use Rattle.syntax.specs.Trees.{helper, thread}
+use Rattle.syntax.specs.Grammar.{tok, name_tok, IsOptional, left_out, AreMany, no_more, one_more, IsAfter, AreListed}
+use Rattle.syntax.specs.Grammar.{none_listed, IsName, is_name, IsType, is_int_type, IsConst, is_int_const}
+use Rattle.syntax.specs.Grammar.{are_no_stmts, is_braced, is_block, IsIndex, is_index, IsProtection, is_variable}
+use Rattle.syntax.specs.Grammar.{is_array, is_final, is_field, IsMember, is_lock_member, is_final_member}
+use Rattle.syntax.specs.Grammar.{is_field_member, IsStruct, is_struct, IsPool, is_pool, IsInit, is_init, IsSection}
+use Rattle.syntax.specs.Grammar.{is_section, IsCall, is_call, IsItem, is_call_item, is_repeat, IsItems, are_no_items}
+use Rattle.syntax.specs.Grammar.{are_items, IsThread, is_thread, IsDecl, is_lock, is_struct_decl, is_global}
+use Rattle.syntax.specs.Grammar.{is_array_decl, is_pool_decl, is_init_decl, is_atomic, is_helper, is_thread_decl}
 use Rattle.parser.specs.Working.Reading.{Reader, next_until, choose}
-use Rattle.parser.specs.Working.Declarations.{array_at, variable_at, global_at, section_at, consts_in, call_at, call_item, repeat_with, item_with, item_at, items_with, items_in, thread_at, lock_at, field_at, final_at, lock_member_at, member_at, members_with, members_in, struct_at, pool_at, init_at, decl_from, decl_at, decls_at}
-use Rattle.parser.specs.Theory.Law.{implies, Says, Law, at_rest, Head, refuses, takes, first_law, IsTok, is_tok, IsInt, is_int_tok}
+use Rattle.parser.specs.Working.Declarations.{array_at, variable_at, global_at, section_at, consts_in, call_at}
+use Rattle.parser.specs.Working.Declarations.{call_item, repeat_with, item_with, item_at, items_with, items_in}
+use Rattle.parser.specs.Working.Declarations.{thread_at, lock_at, field_at, final_at, lock_member_at, member_at}
+use Rattle.parser.specs.Working.Declarations.{members_with, members_in, struct_at, pool_at, init_at, decl_from}
+use Rattle.parser.specs.Working.Declarations.{decl_at, decls_at}
+use Rattle.parser.specs.Theory.Law.{implies, Says, Law, at_rest, Head, refuses, takes, first_law, IsTok, is_tok}
+use Rattle.parser.specs.Theory.Law.{IsInt, is_int_tok}
 use Rattle.parser.specs.Theory.Laws.{many_law}
-use Rattle.parser.specs.Theory.Joined.{Done, done, Both, both, nowhere, Part, Rest, ends_with, then_part, then_open, production, sign_part, word_part, name_part, int_part, until_law, maybe_part, listed_part, choose_law, weaken_law, either}
+use Rattle.parser.specs.Theory.Joined.{Done, done, Both, both, nowhere, Part, Rest, ends_with, then_part, then_open}
+use Rattle.parser.specs.Theory.Joined.{production, sign_part, word_part, name_part, int_part, until_law, maybe_part}
+use Rattle.parser.specs.Theory.Joined.{listed_part, choose_law, weaken_law, either}
 use Rattle.parser.specs.Theory.StatementLaws.{IsBracedPair, block_part}
-use Rattle.parser.specs.Theory.PartLaws.{IsParams, is_params, one_is, no_name, zero_const, zero_tok, no_count, type_part, after_part, index_part, const_part, maybe_protection_part, params_part}
+use Rattle.parser.specs.Theory.PartLaws.{IsParams, is_params, one_is, no_name, zero_const, zero_tok, no_count}
+use Rattle.parser.specs.Theory.PartLaws.{type_part, after_part, index_part, const_part, maybe_protection_part}
+use Rattle.parser.specs.Theory.PartLaws.{params_part}
 
 -- ---- what the parts of each production make
 
 -- what stands behind the type and the name of a global
 pub data IsGlobalRest (t : ValueType) (x : Ident) : Decl → List Tok → List Tok → Type 0 where
-  is_global_rest : {d : Decl} {ts2 rest : List Tok} → ((start : Span) (ts : List Tok) → IsType t ts (name_tok x ∷ ts2) → IsDecl d (tok (word keyword.Global) start ∷ ts) rest) → IsGlobalRest t x d ts2 rest
+  is_global_rest : {d : Decl} {ts2 rest : List Tok} →
+      ((start : Span) (ts : List Tok) → IsType t ts (name_tok x ∷ ts2) →
+      IsDecl d (tok (word keyword.Global) start ∷ ts) rest) → IsGlobalRest t x d ts2 rest
 
-array_is : {t : ValueType} {x : Ident} {y : Decl} {ts rest : List Tok} → Both IsIndex (λ n. Both (IsOptional IsProtection) (λ p. Both (IsTok (mark Semicolon)) (λ s. Done (array (record { name = x; value_type = t; length = n; protection = p }))))) y ts rest → IsGlobalRest t x y ts rest
+array_is : {t : ValueType} {x : Ident} {y : Decl} {ts rest : List Tok} →
+    Both IsIndex (λ n. Both (IsOptional IsProtection) (λ p. Both (IsTok (mark Semicolon)) (λ s. Done (array (record { name = x; value_type = t; length = n; protection = p }))))) y ts rest → IsGlobalRest t x y ts rest
 array_is (both n (both p (both is_tok done))) = is_global_rest (λ start ts t. is_array_decl (is_array t n p))
 
-variable_is : {t : ValueType} {x : Ident} {y : Decl} {ts rest : List Tok} → Both (IsOptional IsProtection) (λ p. Both (IsOptional (IsAfter Equals IsConst)) (λ v. Both (IsTok (mark Semicolon)) (λ s. Done (global (record { name = x; value_type = t; protection = p; value = v }))))) y ts rest → IsGlobalRest t x y ts rest
+variable_is : {t : ValueType} {x : Ident} {y : Decl} {ts rest : List Tok} →
+    Both (IsOptional IsProtection) (λ p. Both (IsOptional (IsAfter Equals IsConst)) (λ v. Both (IsTok (mark Semicolon)) (λ s. Done (global (record { name = x; value_type = t; protection = p; value = v }))))) y ts rest → IsGlobalRest t x y ts rest
 variable_is (both p (both v (both is_tok done))) = is_global_rest (λ start ts t. is_global (is_variable t p v))
 
 -- a global behind its first word
 pub data IsGlobal (d : Decl) (ts rest : List Tok) : Type 0 where
   is_any_global : ((start : Span) → IsDecl d (tok (word keyword.Global) start ∷ ts) rest) → IsGlobal d ts rest
 
-global_is : {y : Decl} {ts rest : List Tok} → Both IsType (λ t. Both IsName (λ x. IsGlobalRest t x)) y ts rest → IsGlobal y ts rest
+global_is : {y : Decl} {ts rest : List Tok} → Both IsType (λ t. Both IsName (λ x. IsGlobalRest t x)) y ts rest →
+    IsGlobal y ts rest
 global_is {ts = ts} (both t (both is_name (is_global_rest d))) = is_any_global (λ start. d start ts t)
 
-any_global_is : {y : Decl} {ts rest : List Tok} (start : Span) → IsGlobal y ts rest → IsDecl y (tok (word keyword.Global) start ∷ ts) rest
+any_global_is : {y : Decl} {ts rest : List Tok} (start : Span) → IsGlobal y ts rest →
+    IsDecl y (tok (word keyword.Global) start ∷ ts) rest
 any_global_is start (is_any_global d) = d start
 
-field_is : {y : Member} {ts rest : List Tok} → Both IsType (λ t. Both IsName (λ x. Both (IsOptional IsProtection) (λ p. Both (IsTok (mark Semicolon)) (λ s. Done (field_member (record { name = x; value_type = t; protection = p })))))) y ts rest → IsMember y ts rest
+field_is : {y : Member} {ts rest : List Tok} →
+    Both IsType (λ t. Both IsName (λ x. Both (IsOptional IsProtection) (λ p. Both (IsTok (mark Semicolon)) (λ s. Done (field_member (record { name = x; value_type = t; protection = p })))))) y ts rest → IsMember y ts rest
 field_is (both t (both is_name (both p (both is_tok done)))) = is_field_member (is_field t p)
 
-final_is : {y : Member} {ts rest : List Tok} → Both (IsTok (word keyword.Final)) (λ w. Both (IsTok (word keyword.Ref)) (λ r. Both IsName (λ target. Both IsName (λ x. Both (IsTok (mark Semicolon)) (λ s. Done (final_member (record { name = x; target = target }))))))) y ts rest → IsMember y ts rest
+final_is : {y : Member} {ts rest : List Tok} →
+    Both (IsTok (word keyword.Final)) (λ w. Both (IsTok (word keyword.Ref)) (λ r. Both IsName (λ target. Both IsName (λ x. Both (IsTok (mark Semicolon)) (λ s. Done (final_member (record { name = x; target = target }))))))) y ts rest → IsMember y ts rest
 final_is (both is_tok (both is_tok (both is_name (both is_name (both is_tok done))))) = is_final_member is_final
 
-struct_is : {y : tree.Struct} {ts rest : List Tok} → Both IsName (λ x. Both (IsTok (mark OpenBrace)) (λ b. Both (AreMany IsMember) (λ ms. Both (IsTok (mark CloseBrace)) (λ c. Done (record { name = x; members = ms }))))) y ts rest → IsStruct y ts rest
+struct_is : {y : tree.Struct} {ts rest : List Tok} →
+    Both IsName (λ x. Both (IsTok (mark OpenBrace)) (λ b. Both (AreMany IsMember) (λ ms. Both (IsTok (mark CloseBrace)) (λ c. Done (record { name = x; members = ms }))))) y ts rest → IsStruct y ts rest
 struct_is (both is_name (both is_tok (both ms (both is_tok done)))) = is_struct ms
 
-pool_is : {y : tree.Pool} {ts rest : List Tok} → Both IsName (λ target. Both IsName (λ x. Both IsIndex (λ n. Both (IsTok (mark Semicolon)) (λ s. Done (record { name = x; target = target; length = n }))))) y ts rest → IsPool y ts rest
+pool_is : {y : tree.Pool} {ts rest : List Tok} →
+    Both IsName (λ target. Both IsName (λ x. Both IsIndex (λ n. Both (IsTok (mark Semicolon)) (λ s. Done (record { name = x; target = target; length = n }))))) y ts rest → IsPool y ts rest
 pool_is (both is_name (both is_name (both n (both is_tok done)))) = is_pool n
 
-init_is : {start : Span} {y : tree.Init} {ts rest : List Tok} → Both IsName (λ p. Both IsIndex (λ n. Both (IsTok (mark Dot)) (λ d. Both IsName (λ x. Both (IsTok (mark Equals)) (λ q. Both IsConst (λ c. Both (IsTok (mark Semicolon)) (λ s. Done (record { start = start; pool = p; index = n; field = x; value = c })))))))) y ts rest → (y.start ≡ start) × IsInit y ts rest
+init_is : {start : Span} {y : tree.Init} {ts rest : List Tok} →
+    Both IsName (λ p. Both IsIndex (λ n. Both (IsTok (mark Dot)) (λ d. Both IsName (λ x. Both (IsTok (mark Equals)) (λ q. Both IsConst (λ c. Both (IsTok (mark Semicolon)) (λ s. Done (record { start = start; pool = p; index = n; field = x; value = c })))))))) y ts rest → (y.start ≡ start) × IsInit y ts rest
 init_is (both is_name (both n (both is_tok (both is_name (both is_tok (both c (both is_tok done))))))) = (refl, is_init n c)
 
 -- one whose first word stands there
 pub data IsInitFrom (start : Span) : tree.Init → List Tok → List Tok → Type 0 where
   init_there : {i : tree.Init} {ts rest : List Tok} → i.start ≡ start → IsInit i ts rest → IsInitFrom start i ts rest
 
-init_from_is : {start : Span} {y : tree.Init} {ts rest : List Tok} → (y.start ≡ start) × IsInit y ts rest → IsInitFrom start y ts rest
+init_from_is : {start : Span} {y : tree.Init} {ts rest : List Tok} → (y.start ≡ start) × IsInit y ts rest →
+    IsInitFrom start y ts rest
 init_from_is h = init_there h.0 h.1
 
-init_decl_is : {start : Span} {i : tree.Init} {ts rest : List Tok} → IsInitFrom start i ts rest → IsDecl (init i) (tok (word keyword.Init) start ∷ ts) rest
+init_decl_is : {start : Span} {i : tree.Init} {ts rest : List Tok} → IsInitFrom start i ts rest →
+    IsDecl (init i) (tok (word keyword.Init) start ∷ ts) rest
 init_decl_is {i = i} {ts = ts} {rest = rest} (init_there e h) = subst (λ (s : Span). IsDecl (init i) (tok (word keyword.Init) s ∷ ts) rest) e (is_init_decl h)
 
-section_is : {y : Section} {ts rest : List Tok} → Both IsName (λ x. Both IsParams (λ ps. Both (IsOptional (IsAfter Colon IsType)) (λ r. Both IsBracedPair (λ b. Done (record { name = x; params = ps; result = r; body = record { stmts = b.0; close = b.1 } }))))) y ts rest → IsSection y ts rest
+section_is : {y : Section} {ts rest : List Tok} →
+    Both IsName (λ x. Both IsParams (λ ps. Both (IsOptional (IsAfter Colon IsType)) (λ r. Both IsBracedPair (λ b. Done (record { name = x; params = ps; result = r; body = record { stmts = b.0; close = b.1 } }))))) y ts rest → IsSection y ts rest
 section_is (both is_name (both (is_params ps) (both r (both b done)))) = is_section ps r (is_block b)
 
-call_is : {y : tree.Call} {ts rest : List Tok} → Both IsName (λ x. Both (IsTok (mark OpenParen)) (λ b. Both (AreListed IsConst) (λ cs. Both (IsTok (mark CloseParen)) (λ c. Both (IsTok (mark Semicolon)) (λ s. Done (record { section = x; arguments = cs })))))) y ts rest → IsCall y ts rest
+call_is : {y : tree.Call} {ts rest : List Tok} →
+    Both IsName (λ x. Both (IsTok (mark OpenParen)) (λ b. Both (AreListed IsConst) (λ cs. Both (IsTok (mark CloseParen)) (λ c. Both (IsTok (mark Semicolon)) (λ s. Done (record { section = x; arguments = cs })))))) y ts rest → IsCall y ts rest
 call_is (both is_name (both is_tok (both cs (both is_tok (both is_tok done))))) = is_call cs
 
 item_is : {y : tree.Item} {ts rest : List Tok} → Both IsCall (λ c. Done (tree.Item.call c)) y ts rest → IsItem y ts rest
 item_is (both c done) = is_call_item c
 
-repeat_is : {y : tree.Item} {ts rest : List Tok} → Both (IsTok (word keyword.Repeat)) (λ w. Both IsInt (λ n. Both (IsTok (mark OpenBrace)) (λ b. Both IsItems (λ is. Both (IsTok (mark CloseBrace)) (λ c. Done (tree.repeat n is)))))) y ts rest → IsItem y ts rest
+repeat_is : {y : tree.Item} {ts rest : List Tok} →
+    Both (IsTok (word keyword.Repeat)) (λ w. Both IsInt (λ n. Both (IsTok (mark OpenBrace)) (λ b. Both IsItems (λ is. Both (IsTok (mark CloseBrace)) (λ c. Done (tree.repeat n is)))))) y ts rest → IsItem y ts rest
 repeat_is (both is_tok (both is_int_tok (both is_tok (both is (both is_tok done))))) = is_repeat is
 
-thread_is : {y : tree.Thread} {ts rest : List Tok} → Both IsName (λ x. Both (IsTok (mark OpenBrace)) (λ b. Both IsItems (λ is. Both (IsTok (mark CloseBrace)) (λ c. Done (record { name = x; items = is }))))) y ts rest → IsThread y ts rest
+thread_is : {y : tree.Thread} {ts rest : List Tok} →
+    Both IsName (λ x. Both (IsTok (mark OpenBrace)) (λ b. Both IsItems (λ is. Both (IsTok (mark CloseBrace)) (λ c. Done (record { name = x; items = is }))))) y ts rest → IsThread y ts rest
 thread_is (both is_name (both is_tok (both is (both is_tok done)))) = is_thread is
 
 -- a lock behind its first word
 pub data IsLock (x : Ident) : List Tok → List Tok → Type 0 where
-  is_lock_name : {semicolon : Span} {rest : List Tok} → IsLock x (name_tok x ∷ tok (mark Semicolon) semicolon ∷ rest) rest
+  is_lock_name : {semicolon : Span} {rest : List Tok} →
+      IsLock x (name_tok x ∷ tok (mark Semicolon) semicolon ∷ rest) rest
 
-lock_is : {y : Ident} {ts rest : List Tok} → Both IsName (λ x. Both (IsTok (mark Semicolon)) (λ s. Done x)) y ts rest → IsLock y ts rest
+lock_is : {y : Ident} {ts rest : List Tok} →
+    Both IsName (λ x. Both (IsTok (mark Semicolon)) (λ s. Done x)) y ts rest → IsLock y ts rest
 lock_is (both is_name (both is_tok done)) = is_lock_name
 
-lock_member_is : {y : Member} {ts rest : List Tok} → Both (IsTok (word keyword.Lock)) (λ w. Both IsLock (λ x. Done (lock_member x))) y ts rest → IsMember y ts rest
+lock_member_is : {y : Member} {ts rest : List Tok} →
+    Both (IsTok (word keyword.Lock)) (λ w. Both IsLock (λ x. Done (lock_member x))) y ts rest → IsMember y ts rest
 lock_member_is (both is_tok (both is_lock_name done)) = is_lock_member
 
-lock_decl_is : {x : Ident} {start : Span} {ts rest : List Tok} → IsLock x ts rest → IsDecl (lock x) (tok (word keyword.Lock) start ∷ ts) rest
+lock_decl_is : {x : Ident} {start : Span} {ts rest : List Tok} → IsLock x ts rest →
+    IsDecl (lock x) (tok (word keyword.Lock) start ∷ ts) rest
 lock_decl_is is_lock_name = is_lock
 
 module _ (limit : ℕ) where
@@ -113,13 +153,16 @@ module _ (limit : ℕ) where
         (then_part limit (maybe_protection_part limit room d sum) (then_part limit (maybe_part limit (mark Equals) d (after_part limit Equals d (λ o. o) (const_part limit room d sum))) (then_part limit (sign_part limit Semicolon d (λ o. o)) (ends_with limit (λ y. global (record { name = x; value_type = t; protection = y.0.0.1; value = y.0.1 }))))))
         (λ y ts rest r. variable_is r)
 
-    global_can : (rest : List Tok) → (ts : List Tok) × ((x : (Unit {0} × ValueType) × Ident) → (y : Decl) × IsGlobalRest x.0.1 x.1 y ts rest)
+    global_can : (rest : List Tok) →
+        (ts : List Tok) × ((x : (Unit {0} × ValueType) × Ident) → (y : Decl) × IsGlobalRest x.0.1 x.1 y ts rest)
     global_can rest = (tok (mark Semicolon) nowhere ∷ rest, λ x. (global (record { name = x.1; value_type = x.0.1; protection = None; value = None }), variable_is (both left_out (both left_out (both is_tok done)))))
 
-    array_rest : {P : Type 0} → Rest limit P (λ (x : (Unit {0} × ValueType) × Ident). IsGlobalRest x.0.1 x.1) (λ x. array_at room x.0.1 x.1) 0 d d
+    array_rest : {P : Type 0} →
+        Rest limit P (λ (x : (Unit {0} × ValueType) × Ident). IsGlobalRest x.0.1 x.1) (λ x. array_at room x.0.1 x.1) 0 d d
     array_rest = record { law = λ p x. weaken_law limit (IsGlobalRest x.0.1 x.1) (array_at room x.0.1 x.1) d d (array_law x.0.1 x.1); can = global_can }
 
-    variable_rest : {P : Type 0} → Rest limit P (λ (x : (Unit {0} × ValueType) × Ident). IsGlobalRest x.0.1 x.1) (λ x. variable_at room x.0.1 x.1) 0 d d
+    variable_rest : {P : Type 0} →
+        Rest limit P (λ (x : (Unit {0} × ValueType) × Ident). IsGlobalRest x.0.1 x.1) (λ x. variable_at room x.0.1 x.1) 0 d d
     variable_rest = record { law = λ p x. variable_law x.0.1 x.1; can = global_can }
 
     global_law : Law limit IsGlobal (global_at room) 1 d d
@@ -153,24 +196,29 @@ module _ (limit : ℕ) where
     pub member_law : Law limit IsMember (member_at room) 1 d d
     member_law = choose_law limit IsMember (word keyword.Lock) lock_member_at (choose (word keyword.Final) final_at (field_at room)) 1 d d lock_member_law (choose_law limit IsMember (word keyword.Final) final_at (field_at room) 1 d d final_law field_law)
 
-  pub members_law : (f : Reader Member) (d : ℕ) → Law limit IsMember f 1 d d → Law limit (AreMany IsMember) (members_with f) 0 d d
+  pub members_law : (f : Reader Member) (d : ℕ) → Law limit IsMember f 1 d d →
+      Law limit (AreMany IsMember) (members_with f) 0 d d
   unfolding members_with
   members_law f d law = many_law limit IsMember (AreMany IsMember) [] ◌∷◌ (next_until (mark CloseBrace) f) d (until_law limit IsMember (mark CloseBrace) f d law) (λ ts. no_more) (λ x l ts mid rest a b. one_more a b)
 
-  members_in_law : (room d : ℕ) → d + room ≡ limit → 0 < room → Law limit (AreMany IsMember) (members_in room) 0 (suc d) (suc d)
+  members_in_law : (room d : ℕ) → d + room ≡ limit → 0 < room →
+      Law limit (AreMany IsMember) (members_in room) 0 (suc d) (suc d)
   unfolding members_in
   members_in_law zero d sum some = absurd (omega arith)
   members_in_law (suc room) d sum some = members_law (member_at room) (suc d) (member_law room (suc d) (omega arith))
 
-  members_in_part : (room d : ℕ) → d + room ≡ limit → Part limit (0 < room) (AreMany IsMember) (members_in room) 0 (suc d) (suc d)
+  members_in_part : (room d : ℕ) → d + room ≡ limit →
+      Part limit (0 < room) (AreMany IsMember) (members_in room) 0 (suc d) (suc d)
   members_in_part room d sum = record { law = members_in_law room d sum; can = λ rest. ([], rest, no_more) }
 
-  consts_in_law : (room d : ℕ) → d + room ≡ limit → 0 < room → Law limit (AreListed IsConst) (consts_in room) 0 (suc d) (suc d)
+  consts_in_law : (room d : ℕ) → d + room ≡ limit → 0 < room →
+      Law limit (AreListed IsConst) (consts_in room) 0 (suc d) (suc d)
   unfolding consts_in
   consts_in_law zero d sum some = absurd (omega arith)
   consts_in_law (suc room) d sum some = (listed_part limit (suc d) (const_part limit room (suc d) (omega arith))).law (tt {0})
 
-  consts_in_part : (room d : ℕ) → d + room ≡ limit → Part limit (0 < room) (AreListed IsConst) (consts_in room) 0 (suc d) (suc d)
+  consts_in_part : (room d : ℕ) → d + room ≡ limit →
+      Part limit (0 < room) (AreListed IsConst) (consts_in room) 0 (suc d) (suc d)
   consts_in_part room d sum = record { law = consts_in_law room d sum; can = λ rest. ([], rest, none_listed) }
 
   module _ (room d : ℕ) (sum : d + room ≡ limit) where

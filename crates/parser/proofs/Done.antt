@@ -4,11 +4,15 @@ use Rattle.source.specs.declared.span.Span.{Span}
 use Rattle.source.specs.Tokens.{Tok, mark}
 use Rattle.parser.specs.Working.Reading.{listed_at, sign_at, open_at, word_at, name_at, maybe_at, after_at, int_at}
 use Rattle.parser.specs.Working.Parts.{const_at, type_at, index_at, maybe_protection, params_at}
-use Rattle.parser.specs.Working.Declarations.{consts_in, items_with, item_at, items_in, members_with, member_at, members_in, pool_at, init_at, section_at, array_at, variable_at, field_at, final_at, call_at, repeat_with}
+use Rattle.parser.specs.Working.Declarations.{consts_in, items_with, item_at, items_in, members_with, member_at}
+use Rattle.parser.specs.Working.Declarations.{members_in, pool_at, init_at, section_at, array_at, variable_at}
+use Rattle.parser.specs.Working.Declarations.{field_at, final_at, call_at, repeat_with}
 use Rattle.source.specs.declared.token.Keyword.TheVariants as keyword
 use Rattle.source.specs.declared.token.Number.{Number}
-use Rattle.source.specs.declared.token.Sign.TheVariants.{Colon, Dot, Equals, Semicolon, OpenParen, CloseParen, OpenBrace, CloseBrace}
-use Rattle.syntax.specs.Trees.{Ident, ValueType, Const, Protection, Param, Stmts, pool, init, array, global, field_member, final_member, Items}
+use Rattle.source.specs.declared.token.Sign.TheVariants.{Colon, Dot, Equals, Semicolon, OpenParen, CloseParen}
+use Rattle.source.specs.declared.token.Sign.TheVariants.{OpenBrace, CloseBrace}
+use Rattle.syntax.specs.Trees.{Ident, ValueType, Const, Protection, Param, Stmts, pool, init, array, global}
+use Rattle.syntax.specs.Trees.{field_member, final_member, Items}
 use Rattle.parser.specs.Working.Statements.{braced_at}
 use Rattle.parser.specs.Working.Rests.{pool_decl, init_decl}
 use Rattle.syntax.specs.Trees as tree
@@ -34,7 +38,9 @@ members_in_some (suc room) h = rw sub-one refl
 
 module _ (ts : List Tok) where
   module _ {t1 : List Tok} {x : Ident} (first : name_at ts ≡ Ok (x, t1)) where
-    pub pool_done : {t2 t3 t4 : List Tok} {y : Ident} {n : Number} {s : Span} (room : ℕ) → name_at t1 ≡ Ok (y, t2) → index_at room t2 ≡ Ok (n, t3) → sign_at Semicolon t3 ≡ Ok (s, t4) → pool_decl room ts ≡ Ok (pool (record { name = y; target = x; length = n }), t4)
+    pub pool_done : {t2 t3 t4 : List Tok} {y : Ident} {n : Number} {s : Span} (room : ℕ) → name_at t1 ≡ Ok (y, t2) →
+        index_at room t2 ≡ Ok (n, t3) → sign_at Semicolon t3 ≡ Ok (s, t4) →
+        pool_decl room ts ≡ Ok (pool (record { name = y; target = x; length = n }), t4)
     unfolding pool_at
     pool_done room h2 h3 h4 = rw (first, h2, h3, h4) refl
 
@@ -43,18 +49,24 @@ module _ (ts : List Tok) where
     unfolding init_at
     init_done room start h2 h3 h4 h5 h6 h7 = rw (first, h2, h3, h4, h5, h6, h7) refl
 
-    pub section_done : {t2 t3 t4 : List Tok} {ps : List Param} {r : Option ValueType} {b : Stmts × Span} (room : ℕ) → params_at room t1 ≡ Ok (ps, t2) → maybe_at (mark Colon) (after_at Colon type_at) t2 ≡ Ok (r, t3) → braced_at room t3 ≡ Ok (b, t4) →
+    pub section_done : {t2 t3 t4 : List Tok} {ps : List Param} {r : Option ValueType} {b : Stmts × Span} (room : ℕ) →
+        params_at room t1 ≡ Ok (ps, t2) → maybe_at (mark Colon) (after_at Colon type_at) t2 ≡ Ok (r, t3) →
+        braced_at room t3 ≡ Ok (b, t4) →
         section_at room ts ≡ Ok (record { name = x; params = ps; result = r; body = record { stmts = b.0; close = b.1 } }, t4)
     unfolding section_at
     section_done room h2 h3 h4 = rw (first, h2, h3, h4) refl
 
-    pub call_done : {t2 t3 t4 t5 : List Tok} {cs : List Const} {s1 s3 s4 : Span} (room : ℕ) → open_at OpenParen room t1 ≡ Ok (s1, t2) → 0 < room → listed_at (const_at (room - 1)) t2 ≡ Ok (cs, t3) → sign_at CloseParen t3 ≡ Ok (s3, t4) → sign_at Semicolon t4 ≡ Ok (s4, t5) →
+    pub call_done : {t2 t3 t4 t5 : List Tok} {cs : List Const} {s1 s3 s4 : Span} (room : ℕ) →
+        open_at OpenParen room t1 ≡ Ok (s1, t2) → 0 < room → listed_at (const_at (room - 1)) t2 ≡ Ok (cs, t3) →
+        sign_at CloseParen t3 ≡ Ok (s3, t4) → sign_at Semicolon t4 ≡ Ok (s4, t5) →
         call_at room ts ≡ Ok (record { section = x; arguments = cs }, t5)
     unfolding call_at
     call_done room h2 some h3 h4 h5 = rw (first, h2, consts_in_some room some, h3, h4, h5) refl
 
   module _ {t1 : List Tok} {t : ValueType} (first : type_at ts ≡ Ok (t, t1)) where
-    pub field_done : {t2 t3 t4 : List Tok} {x : Ident} {p : Option Protection} {s : Span} (room : ℕ) → name_at t1 ≡ Ok (x, t2) → maybe_protection room t2 ≡ Ok (p, t3) → sign_at Semicolon t3 ≡ Ok (s, t4) → field_at room ts ≡ Ok (field_member (record { name = x; value_type = t; protection = p }), t4)
+    pub field_done : {t2 t3 t4 : List Tok} {x : Ident} {p : Option Protection} {s : Span} (room : ℕ) →
+        name_at t1 ≡ Ok (x, t2) → maybe_protection room t2 ≡ Ok (p, t3) → sign_at Semicolon t3 ≡ Ok (s, t4) →
+        field_at room ts ≡ Ok (field_member (record { name = x; value_type = t; protection = p }), t4)
     unfolding field_at
     field_done room h2 h3 h4 = rw (first, h2, h3, h4) refl
 
@@ -68,11 +80,16 @@ module _ (ts : List Tok) where
   unfolding variable_at
   variable_done room t x h1 h2 h3 = rw (h1, h2, h3) refl
 
-  pub final_done : {t1 t2 t3 t4 t5 : List Tok} {x y : Ident} {s1 s2 s5 : Span} → word_at keyword.Final ts ≡ Ok (s1, t1) → word_at keyword.Ref t1 ≡ Ok (s2, t2) → name_at t2 ≡ Ok (x, t3) → name_at t3 ≡ Ok (y, t4) → sign_at Semicolon t4 ≡ Ok (s5, t5) →
+  pub final_done : {t1 t2 t3 t4 t5 : List Tok} {x y : Ident} {s1 s2 s5 : Span} →
+      word_at keyword.Final ts ≡ Ok (s1, t1) → word_at keyword.Ref t1 ≡ Ok (s2, t2) → name_at t2 ≡ Ok (x, t3) →
+      name_at t3 ≡ Ok (y, t4) → sign_at Semicolon t4 ≡ Ok (s5, t5) →
       final_at ts ≡ Ok (final_member (record { name = y; target = x }), t5)
   unfolding final_at
   final_done h1 h2 h3 h4 h5 = rw (h1, h2, h3, h4, h5) refl
 
-pub repeat_done : (room : ℕ) (ts t1 t2 t3 t4 t5 : List Tok) (w o c : Span) (n : Number) (is : Items) → word_at keyword.Repeat ts ≡ Ok (w, t1) → int_at t1 ≡ Ok (n, t2) → open_at OpenBrace room t2 ≡ Ok (o, t3) → 0 < room → items_with (item_at (room - 1)) t3 ≡ Ok (is, t4) → sign_at CloseBrace t4 ≡ Ok (c, t5) → repeat_with room (items_in room) ts ≡ Ok (tree.repeat n is, t5)
+pub repeat_done : (room : ℕ) (ts t1 t2 t3 t4 t5 : List Tok) (w o c : Span) (n : Number) (is : Items) →
+    word_at keyword.Repeat ts ≡ Ok (w, t1) → int_at t1 ≡ Ok (n, t2) → open_at OpenBrace room t2 ≡ Ok (o, t3) →
+    0 < room → items_with (item_at (room - 1)) t3 ≡ Ok (is, t4) → sign_at CloseBrace t4 ≡ Ok (c, t5) →
+    repeat_with room (items_in room) ts ≡ Ok (tree.repeat n is, t5)
 unfolding repeat_with
 repeat_done room ts t1 t2 t3 t4 t5 w o c n is h1 h2 h3 some h4 h5 = rw (h1, h2, h3, items_in_some room some, h4, h5) refl

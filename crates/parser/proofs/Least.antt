@@ -1,5 +1,6 @@
 -- The least place of a fault of returns.
-use Rattle.std.proofs.Common.{◌≡◌, Global, ℕ, suc, ◌-◌, ◌<◌, ◌≤◌, Bool, true, false, List, [], ◌∷◌, length, take, Option, Some, None, refl, sym, ap, ◌∙◌, subst, arith, get_or, min, inl, inr}
+use Rattle.std.proofs.Common.{◌≡◌, Global, ℕ, suc, ◌-◌, ◌<◌, ◌≤◌, Bool, true, false, List, [], ◌∷◌, length, take}
+use Rattle.std.proofs.Common.{Option, Some, None, refl, sym, ap, ◌∙◌, subst, arith, get_or, min, inl, inr}
 use Rattle.std.specs.Prelude.{Box, ◌⊎◌}
 use Rattle.std.proofs.lemmas.Bool.{cases_lt}
 use Rattle.source.specs.declared.span.Span.{Span}
@@ -9,11 +10,20 @@ use Rattle.syntax.specs.declared.tree.Stmt.{While, If, Return}
 use Rattle.syntax.specs.declared.tree.If as the_if
 use Rattle.syntax.specs.declared.tree.If.{out-If}
 use Rattle.syntax.specs.declared.tree.While as the_while
-use Rattle.syntax.specs.Returns.{IsReturn, is_return, HasReturn, this_returns, returns_inside, later_returns, HasReturnInside, in_then, in_else, in_while, HasStrayReturn, this_early, stray_inside, later_stray, EndsInReturn, last_returns, ends_later, IsSectionFault, no_result, stray, missing, IsReturnFault, this_section, this_helper, later_section, ReturnsRight, IsFirstReturnFault}
-use Rattle.syntax.specs.Trees.{Ident, ValueType, Expr, Variable, Array, Struct, Pool, Init, Thread, Stmt, let_local, let_owned, let_call, var_local, assign, if_then, while, print, return_value, Stmts, no_stmts, stmt, Otherwise, no_else, else_do, Section, Decl, lock, struct, global, array, pool, init, atomic, helper, thread}
+use Rattle.syntax.specs.Returns.{IsReturn, is_return, HasReturn, this_returns, returns_inside, later_returns}
+use Rattle.syntax.specs.Returns.{HasReturnInside, in_then, in_else, in_while, HasStrayReturn, this_early}
+use Rattle.syntax.specs.Returns.{stray_inside, later_stray, EndsInReturn, last_returns, ends_later, IsSectionFault}
+use Rattle.syntax.specs.Returns.{no_result, stray, missing, IsReturnFault, this_section, this_helper, later_section}
+use Rattle.syntax.specs.Returns.{ReturnsRight, IsFirstReturnFault}
+use Rattle.syntax.specs.Trees.{Ident, ValueType, Expr, Variable, Array, Struct, Pool, Init, Thread, Stmt, let_local}
+use Rattle.syntax.specs.Trees.{let_owned, let_call, var_local, assign, if_then, while, print, return_value, Stmts}
+use Rattle.syntax.specs.Trees.{no_stmts, stmt, Otherwise, no_else, else_do, Section, Decl, lock, struct, global}
+use Rattle.syntax.specs.Trees.{array, pool, init, atomic, helper, thread}
 use Rattle.syntax.specs.Views.{stmt_of, stmts_of, else_of}
 use Rattle.syntax.specs.Theory.Rows.{stmt_of-While, if_of-out}
-use Rattle.parser.specs.Working.Returning.{earlier, own_return, least_return, inner_return, other_return, least_stray, is_return as returns, does_end, missing_at, section_fault_of, section_fault, least_fault}
+use Rattle.parser.specs.Working.Returning.{earlier, own_return, least_return, inner_return, other_return, least_stray}
+use Rattle.parser.specs.Working.Returning.{is_return as returns, does_end, missing_at, section_fault_of}
+use Rattle.parser.specs.Working.Returning.{section_fault, least_fault}
 
 -- ---- the lesser of places
 
@@ -30,7 +40,8 @@ earlier-assoc (Some a) (Some b) (Some c) = ap Some (omega arith)
 -- ---- the statements of a `Vec`
 
 -- the statements but the last, and the blocks of the last
-pub stray_of : (xs : List the_stmt.Stmt) (x : the_stmt.Stmt) → 1 ≤ length xs → x ≡ get_or xs (length xs - 1) x → earlier (least_return (stmts_of (take (length xs - 1) xs))) (inner_return (stmt_of x)) ≡ least_stray (stmts_of xs)
+pub stray_of : (xs : List the_stmt.Stmt) (x : the_stmt.Stmt) → 1 ≤ length xs → x ≡ get_or xs (length xs - 1) x →
+    earlier (least_return (stmts_of (take (length xs - 1) xs))) (inner_return (stmt_of x)) ≡ least_stray (stmts_of xs)
 stray_of [] x some e = absurd (omega arith)
 stray_of (y ∷ []) x some e = ap (λ (z : the_stmt.Stmt). inner_return (stmt_of z)) e
 stray_of (y ∷ z ∷ zs) x some e =
@@ -77,7 +88,8 @@ other_own (the_stmt.Call at c) h = refl
 other_own (the_stmt.Return at e) h = absurd (h at e refl)
 
 -- the last statement
-pub ends_of : (xs : List the_stmt.Stmt) (x : the_stmt.Stmt) → 1 ≤ length xs → x ≡ get_or xs (length xs - 1) x → returns (stmt_of x) ≡ does_end (stmts_of xs)
+pub ends_of : (xs : List the_stmt.Stmt) (x : the_stmt.Stmt) → 1 ≤ length xs → x ≡ get_or xs (length xs - 1) x →
+    returns (stmt_of x) ≡ does_end (stmts_of xs)
 ends_of [] x some e = absurd (omega arith)
 ends_of (y ∷ []) x some e = ap (λ (z : the_stmt.Stmt). returns (stmt_of z)) e
 ends_of (y ∷ z ∷ zs) x some e =
@@ -105,7 +117,8 @@ module _ (P Q R : ℕ → Type 0) (from_left : (n : ℕ) → P n → R n) (from_
       lesser (inr h) = subst R (omega (arith, h)) (from_right b q.0)
 
 -- of numbers that are P's and no others
-pub least_same : (P R : ℕ → Type 0) (o : Option ℕ) → ((n : ℕ) → P n → R n) → ((n : ℕ) → R n → P n) → IsLeast P o → IsLeast R o
+pub least_same : (P R : ℕ → Type 0) (o : Option ℕ) → ((n : ℕ) → P n → R n) → ((n : ℕ) → R n → P n) → IsLeast P o →
+    IsLeast R o
 least_same P R None there back p = λ n r. p n (back n r)
 least_same P R (Some a) there back p = (there a p.0, λ n r. p.1 n (back n r))
 
@@ -130,7 +143,8 @@ own_least (Stmt.call at c) = λ n h. elim h [ ]
 abbrev IsHere : Stmt → ℕ → Type 0
 IsHere s n = IsReturn s n ⊎ HasReturnInside s n
 
-here_by : (s : Stmt) → IsLeast (HasReturnInside s) (inner_return s) → IsLeast (IsHere s) (earlier (own_return s) (inner_return s))
+here_by : (s : Stmt) → IsLeast (HasReturnInside s) (inner_return s) →
+    IsLeast (IsHere s) (earlier (own_return s) (inner_return s))
 here_by s inside = least_of_both (IsReturn s) (HasReturnInside s) (IsHere s) (λ n h. inl h) (λ n h. inr h) (λ n h. h) (own_return s) (inner_return s) (own_least s) inside
 
 split_return : {s : Stmt} {more : Stmts} (n : ℕ) → HasReturn (stmt s more) n → IsHere s n ⊎ HasReturn more n
@@ -149,14 +163,17 @@ data HasElse : Otherwise → ℕ → Type 0 where
 else_back : {ss : Stmts} {close : Span} (n : ℕ) → HasElse (else_do ss close) n → HasReturn ss n
 else_back n (else_returns h) = h
 
-split_if : {start close : Span} {e : Expr} {body : Stmts} {other : Otherwise} (n : ℕ) → HasReturnInside (if_then start e body close other) n → HasReturn body n ⊎ HasElse other n
+split_if : {start close : Span} {e : Expr} {body : Stmts} {other : Otherwise} (n : ℕ) →
+    HasReturnInside (if_then start e body close other) n → HasReturn body n ⊎ HasElse other n
 split_if n (in_then h) = inl h
 split_if n (in_else h) = inr (else_returns h)
 
-in_other : {start close : Span} {e : Expr} {body : Stmts} {other : Otherwise} (n : ℕ) → HasElse other n → HasReturnInside (if_then start e body close other) n
+in_other : {start close : Span} {e : Expr} {body : Stmts} {other : Otherwise} (n : ℕ) → HasElse other n →
+    HasReturnInside (if_then start e body close other) n
 in_other n (else_returns h) = in_else h
 
-while_back : {start close : Span} {e : Expr} {body : Stmts} (n : ℕ) → HasReturnInside (while start e body close) n → HasReturn body n
+while_back : {start close : Span} {e : Expr} {body : Stmts} (n : ℕ) → HasReturnInside (while start e body close) n →
+    HasReturn body n
 while_back n (in_while h) = h
 
 mutual
@@ -184,7 +201,8 @@ stray_one : {s : Stmt} (n : ℕ) → HasStrayReturn (stmt s no_stmts) n → HasR
 stray_one n (stray_inside h) = h
 stray_one n (later_stray h) = elim h [ ]
 
-split_stray : {s next : Stmt} {more : Stmts} (n : ℕ) → HasStrayReturn (stmt s (stmt next more)) n → IsHere s n ⊎ HasStrayReturn (stmt next more) n
+split_stray : {s next : Stmt} {more : Stmts} (n : ℕ) → HasStrayReturn (stmt s (stmt next more)) n →
+    IsHere s n ⊎ HasStrayReturn (stmt next more) n
 split_stray n (this_early h) = inl (inl h)
 split_stray n (stray_inside h) = inl (inr h)
 split_stray n (later_stray h) = inr h
@@ -233,7 +251,8 @@ true_ends (ends_later {more = stmt next more} h) = true_ends h
 abbrev IsMissing : Stmts → ℕ → ℕ → Type 0
 IsMissing ss close n = (EndsInReturn ss → ⊥) × (n ≡ close)
 
-missing_least : (ss : Stmts) (close : ℕ) (b : Bool) → does_end ss ≡ b → IsLeast (IsMissing ss close) (missing_at b close)
+missing_least : (ss : Stmts) (close : ℕ) (b : Bool) → does_end ss ≡ b →
+    IsLeast (IsMissing ss close) (missing_at b close)
 missing_least ss close true e = λ n h. h.0 (ends_true ss e)
 missing_least ss close false e = ((λ h. let t = true_ends h in absurd cc, refl), λ n h. omega (arith, h.1))
 
@@ -243,26 +262,31 @@ module _ (s : Section) where
   no_result_back e n (stray r h) = absurd cc
   no_result_back e n (missing r h) = absurd cc
 
-  split_fault : {t : ValueType} → s.result ≡ Some t → (n : ℕ) → IsSectionFault s n → HasStrayReturn s.body.stmts n ⊎ IsMissing s.body.stmts s.body.close.start n
+  split_fault : {t : ValueType} → s.result ≡ Some t → (n : ℕ) → IsSectionFault s n →
+      HasStrayReturn s.body.stmts n ⊎ IsMissing s.body.stmts s.body.close.start n
   split_fault e n (no_result r h) = absurd cc
   split_fault e n (stray r h) = inl h
   split_fault e n (missing r h) = inr (h, refl)
 
-  missing_there : {t : ValueType} → s.result ≡ Some t → (n : ℕ) → IsMissing s.body.stmts s.body.close.start n → IsSectionFault s n
+  missing_there : {t : ValueType} → s.result ≡ Some t → (n : ℕ) → IsMissing s.body.stmts s.body.close.start n →
+      IsSectionFault s n
   missing_there e n h = subst (IsSectionFault s) (sym h.1) (missing e h.0)
 
-  section_by : (r : Option ValueType) → s.result ≡ r → IsLeast (IsSectionFault s) (section_fault_of r s.body.stmts s.body.close.start)
+  section_by : (r : Option ValueType) → s.result ≡ r →
+      IsLeast (IsSectionFault s) (section_fault_of r s.body.stmts s.body.close.start)
   section_by None e = least_same (HasReturn s.body.stmts) (IsSectionFault s) (least_return s.body.stmts) (λ n h. no_result e h) (no_result_back e) (return_least s.body.stmts)
   section_by (Some t) e =
       least_of_both (HasStrayReturn s.body.stmts) (IsMissing s.body.stmts s.body.close.start) (IsSectionFault s) (λ n h. stray e h) (missing_there e) (split_fault e) (least_stray s.body.stmts) (missing_at (does_end s.body.stmts) s.body.close.start) (stray_least s.body.stmts) (missing_least s.body.stmts s.body.close.start (does_end s.body.stmts) refl)
 
 -- ---- programs
 
-split_section : {s : Section} {ds : List Decl} (n : ℕ) → IsReturnFault (atomic s ∷ ds) n → IsSectionFault s n ⊎ IsReturnFault ds n
+split_section : {s : Section} {ds : List Decl} (n : ℕ) → IsReturnFault (atomic s ∷ ds) n →
+    IsSectionFault s n ⊎ IsReturnFault ds n
 split_section n (this_section h) = inl h
 split_section n (later_section h) = inr h
 
-split_helper : {s : Section} {ds : List Decl} (n : ℕ) → IsReturnFault (helper s ∷ ds) n → IsSectionFault s n ⊎ IsReturnFault ds n
+split_helper : {s : Section} {ds : List Decl} (n : ℕ) → IsReturnFault (helper s ∷ ds) n →
+    IsSectionFault s n ⊎ IsReturnFault ds n
 split_helper n (this_helper h) = inl h
 split_helper n (later_section h) = inr h
 

@@ -1,17 +1,21 @@
 -- What reading says of a whole program.
-use Rattle.std.proofs.Common.{◌≡◌, ℕ, zero, suc, ◌-◌, ◌<◌, ◌≤◌, Bool, true, false, List, [], ◌∷◌, ◌++◌, length, drop, Option, Some, None, Result, Ok, Err, refl, sym, ap, ◌∙◌, subst, append_assoc, length-append, arith}
+use Rattle.std.proofs.Common.{◌≡◌, ℕ, zero, suc, ◌-◌, ◌<◌, ◌≤◌, Bool, true, false, List, [], ◌∷◌, ◌++◌, length, drop}
+use Rattle.std.proofs.Common.{Option, Some, None, Result, Ok, Err, refl, sym, ap, ◌∙◌, subst, append_assoc}
+use Rattle.std.proofs.Common.{length-append, arith}
 use Rattle.std.specs.Prelude.{IfSome}
 use Rattle.std.proofs.lemmas.List.{drop_at, drop-map, length-map}
 use Rattle.source.specs.declared.span.Span.{Span}
 use Rattle.source.specs.declared.token.Token.{Token}
 use Rattle.source.specs.Tokens.{Lexeme, name, int, word, mark, end, Tok, seen_token, seen}
 use Rattle.syntax.specs.Trees.{Decl}
-use Rattle.syntax.specs.Grammar.{tok, AreMany, IsDecl, Spells, spells, open_after, nesting, IsOpening, LIMIT, IsShallow, HasTree}
+use Rattle.syntax.specs.Grammar.{tok, AreMany, IsDecl, Spells, spells, open_after, nesting, IsOpening, LIMIT}
+use Rattle.syntax.specs.Grammar.{IsShallow, HasTree}
 use Rattle.syntax.specs.Returns.{IsFirstReturnFault}
 use Rattle.syntax.specs.Faults.{IsUnexpected, IsTooDeep, IsMisplaced, NoEnd}
 use Rattle.parser.specs.declared.stop.Stop.{Stop}
 use Rattle.parser.specs.declared.stop.Stop.TheVariants.{Unexpected, TooDeep, NoMemory}
-use Rattle.parser.specs.Working.Reading.{◌>>=◌, Reader, Next, turn, many_at, same_kind, is_next, next_unless, next_until}
+use Rattle.parser.specs.Working.Reading.{◌>>=◌, Reader, Next, turn, many_at, same_kind, is_next, next_unless}
+use Rattle.parser.specs.Working.Reading.{next_until}
 use Rattle.parser.specs.Working.Declarations.{decl_at, decls_at, end_from, program_at, first_start}
 use Rattle.parser.specs.Theory.Readers.{OnValue, on_then, on_weaker}
 use Rattle.parser.specs.Theory.Many.{NextShortens, many_at-turn}
@@ -23,7 +27,8 @@ use Rattle.parser.proofs.Spelled.{program_found}
 
 -- ---- nesting
 
-pub shallow_from : (d : ℕ) (ts before after : List Tok) (t : Tok) → ShallowFrom LIMIT d ts → ts ≡ before ++ t ∷ after → IsOpening t.kind → nesting d before < LIMIT
+pub shallow_from : (d : ℕ) (ts before after : List Tok) (t : Tok) → ShallowFrom LIMIT d ts →
+    ts ≡ before ++ t ∷ after → IsOpening t.kind → nesting d before < LIMIT
 shallow_from d ts [] after t h e opens = (subst (ShallowFrom LIMIT d) e h).0 opens
 shallow_from d ts (u ∷ before) after t h e opens = shallow_from (open_after d u.kind) (before ++ t ∷ after) before after t (subst (ShallowFrom LIMIT d) e h).1 refl opens
 
@@ -33,7 +38,10 @@ is_shallow ts h = λ before after t e opens. shallow_from 0 ts before after t h 
 -- ---- where items end
 
 module _ {A L : Type 0} (nil : L) (cons : A → L → L) (next : Next A) (shorter : NextShortens next) where
-  turn_ends : (f : Reader L) (ts : List Tok) (o : Option (Result (A × List Tok) Stop)) → next ts ≡ o → IfSome o (λ r. OnValue r (λ x. length x.1 < length ts)) → ((rest : List Tok) → length rest < length ts → OnValue (f rest) (λ l. next l.1 ≡ None)) → OnValue (turn nil cons f o ts) (λ l. next l.1 ≡ None)
+  turn_ends : (f : Reader L) (ts : List Tok) (o : Option (Result (A × List Tok) Stop)) → next ts ≡ o →
+      IfSome o (λ r. OnValue r (λ x. length x.1 < length ts)) →
+      ((rest : List Tok) → length rest < length ts → OnValue (f rest) (λ l. next l.1 ≡ None)) →
+      OnValue (turn nil cons f o ts) (λ l. next l.1 ≡ None)
   turn_ends f ts None e less h = e
   turn_ends f ts (Some r) e less h = on_then r _ (λ x. length x.1 < length ts) _ less (λ x lt. on_then (f x.1) _ (λ l. next l.1 ≡ None) _ (h x.1 lt) (λ l n. n))
 
@@ -89,7 +97,9 @@ abbrev finish : List Decl × List Tok → Result (List Decl) Stop
 finish ds = end_from ds.0 ds.1
 
 -- after the declarations
-finished : (ts : List Tok) (ds : List Decl) (rest : List Tok) → Took LIMIT (AreMany IsDecl) (Says (decls_at LIMIT)) 0 0 0 ts ds rest → is_next end rest ≡ true → WholeAt ts (finish (ds, rest))
+finished : (ts : List Tok) (ds : List Decl) (rest : List Tok) →
+    Took LIMIT (AreMany IsDecl) (Says (decls_at LIMIT)) 0 0 0 ts ds rest → is_next end rest ≡ true →
+    WholeAt ts (finish (ds, rest))
 unfolding program_at
 finished ts ds [] took e = absurd cc
 finished ts ds (t ∷ []) took e =
@@ -113,7 +123,9 @@ finished ts ds (t ∷ u ∷ us) took e =
       begun = (ds, [], subst (λ (l : List Tok). Spells ds l) (sym (append_assoc took.taken (t ∷ []) [])) (spells (subst (λ (l : List Tok). AreMany IsDecl ds (took.taken ++ t ∷ []) l) last (took.is (t ∷ [])))));
     }
 
-whole : (ts : List Tok) (r : Result (List Decl × List Tok) Stop) → LawAt LIMIT (AreMany IsDecl) (Says (decls_at LIMIT)) 0 0 0 ts r → OnValue r (λ l. is_next end l.1 ≡ true) → WholeAt ts (r >>= finish)
+whole : (ts : List Tok) (r : Result (List Decl × List Tok) Stop) →
+    LawAt LIMIT (AreMany IsDecl) (Says (decls_at LIMIT)) 0 0 0 ts r → OnValue r (λ l. is_next end l.1 ≡ true) →
+    WholeAt ts (r >>= finish)
 unfolding program_at
 whole ts (Ok x) law e = finished ts x.0 x.1 law e
 whole ts (Err (Unexpected zero)) law e = law
@@ -141,12 +153,14 @@ settled ts ds shallow (deep n e) = absurd (not_deep ts n shallow e)
 pub program_again : (ts : List Tok) (ds : List Decl) → HasTree ts ds → program_at LIMIT ts ≡ Ok ds
 program_again ts ds h = settled ts ds h.1 (program_found h.0 LIMIT)
 
-met_none : (ts : List Tok) (n : ℕ) (ds : List Decl) → program_at LIMIT ts ≡ Err (Unexpected n) → Finds (program_at LIMIT ts) ds → ⊥
+met_none : (ts : List Tok) (n : ℕ) (ds : List Decl) → program_at LIMIT ts ≡ Err (Unexpected n) →
+    Finds (program_at LIMIT ts) ds → ⊥
 met_none ts n ds e (found f) = cc
 met_none ts n ds e (deep m f) = cc
 
 -- where the token stands from which on so many are left
-start_is : (ts before after : List Tok) (t : Tok) (left : ℕ) → ts ≡ before ++ t ∷ after → suc (length after) ≡ left → t.span.start ≡ first_start (drop (length ts - left) ts)
+start_is : (ts before after : List Tok) (t : Tok) (left : ℕ) → ts ≡ before ++ t ∷ after → suc (length after) ≡ left →
+    t.span.start ≡ first_start (drop (length ts - left) ts)
 start_is ts before after t left e place =
     let n : length ts - left ≡ length before = omega (arith, ap length e, length-append before (t ∷ after)) in
     let at : drop (length ts - left) ts ≡ t ∷ after = ap (λ (l : List Tok). drop (length ts - left) l) e ∙ ap (λ k. drop k (before ++ t ∷ after)) n ∙ drop_at before (t ∷ after) (length before) refl in
@@ -155,7 +169,8 @@ start_is ts before after t left e place =
 pub no_end_at : (ts : List Tok) → program_at LIMIT ts ≡ Err (Unexpected 0) → NoEnd ts
 no_end_at ts e = subst (WholeAt ts) e (whole_law ts)
 
-pub unexpected_at : (ts : List Tok) (n : ℕ) → program_at LIMIT ts ≡ Err (Unexpected (suc n)) → IsUnexpected ts (first_start (drop (length ts - suc n) ts))
+pub unexpected_at : (ts : List Tok) (n : ℕ) → program_at LIMIT ts ≡ Err (Unexpected (suc n)) →
+    IsUnexpected ts (first_start (drop (length ts - suc n) ts))
 unexpected_at ts n e =
     let w = subst (WholeAt ts) e (whole_law ts) in record {
       before = w.before;
@@ -168,7 +183,8 @@ unexpected_at ts n e =
       no_program = λ ds other h. met_none (w.before ++ w.token ∷ other) (suc (length other)) ds (w.again other) (program_found h LIMIT);
     }
 
-pub too_deep_at : (ts : List Tok) (left : ℕ) → program_at LIMIT ts ≡ Err (TooDeep left) → IsTooDeep ts (first_start (drop (length ts - left) ts))
+pub too_deep_at : (ts : List Tok) (left : ℕ) → program_at LIMIT ts ≡ Err (TooDeep left) →
+    IsTooDeep ts (first_start (drop (length ts - left) ts))
 too_deep_at ts left e =
     let w = subst (WholeAt ts) e (whole_law ts) in record {
       before = w.before;
@@ -189,11 +205,13 @@ pub no_answer : (ts : List Tok) (ds : List Decl) (e : Stop) → HasTree ts ds �
 no_answer ts ds e h f = let g = program_again ts ds h in cc
 
 -- in the program's own tokens
-pub start_seen : (ts : List Token) (n : ℕ) → first_start (seen (drop (length ts - n) ts)) ≡ first_start (drop (length (seen ts) - n) (seen ts))
+pub start_seen : (ts : List Token) (n : ℕ) →
+    first_start (seen (drop (length ts - n) ts)) ≡ first_start (drop (length (seen ts) - n) (seen ts))
 start_seen ts n = ap first_start (sym (drop-map seen_token (length ts - n) ts) ∙ ap (λ k. drop (k - n) (seen ts)) (sym (length-map ts seen_token)))
 
 -- of two places neither of which is behind the other, both hold the same token
-one_place : (b c : List Tok) (t u : Tok) (x y : List Tok) → b ++ t ∷ x ≡ c ++ u ∷ y → ((mid : List Tok) → c ≡ b ++ t ∷ mid → ⊥) → ((mid : List Tok) → b ≡ c ++ u ∷ mid → ⊥) → t ≡ u
+one_place : (b c : List Tok) (t u : Tok) (x y : List Tok) → b ++ t ∷ x ≡ c ++ u ∷ y →
+    ((mid : List Tok) → c ≡ b ++ t ∷ mid → ⊥) → ((mid : List Tok) → b ≡ c ++ u ∷ mid → ⊥) → t ≡ u
 one_place [] [] t u x y e h g = cc
 one_place [] (v ∷ c) t u x y e h g = let same : v ≡ t = cc in absurd (h c (ap (λ (s : Tok). s ∷ c) same))
 one_place (w ∷ b) [] t u x y e h g = let same : w ≡ u = cc in absurd (g b (ap (λ (s : Tok). s ∷ b) same))
@@ -203,7 +221,8 @@ one_place (w ∷ b) (v ∷ c) t u x y e h g =
     one_place b c t u x y rest (λ mid p. h mid (ap (λ (s : Tok). s ∷ c) (sym same) ∙ ap (λ (l : List Tok). w ∷ l) p)) (λ mid p. g mid (ap (λ (s : Tok). s ∷ b) same ∙ ap (λ (l : List Tok). v ∷ l) p))
 
 -- tokens have one place with the token of which no program begins, and with those ahead of it one does
-begun_too : (ts : List Tok) (a b : ℕ) (m : IsUnexpected ts a) (n : IsUnexpected ts b) (mid : List Tok) → n.before ≡ m.before ++ m.token ∷ mid → ⊥
+begun_too : (ts : List Tok) (a b : ℕ) (m : IsUnexpected ts a) (n : IsUnexpected ts b) (mid : List Tok) →
+    n.before ≡ m.before ++ m.token ∷ mid → ⊥
 begun_too ts a b m n mid e =
     let p = n.begun in
     m.no_program p.0 (mid ++ p.1) (subst (λ (l : List Tok). Spells p.0 l) (ap (λ (l : List Tok). l ++ p.1) e ∙ append_assoc m.before (m.token ∷ mid) p.1) p.2)
@@ -213,7 +232,8 @@ only_unexpected ts a b m n =
     let same : m.token ≡ n.token = one_place m.before n.before m.token n.token m.after n.after (sym m.parts ∙ n.parts) (begun_too ts a b m n) (begun_too ts b a n m) in
     sym m.place ∙ ap (λ (t : Tok). t.span.start) same ∙ n.place
 
-one_end : (b c : List Tok) (t u : Tok) (x y : List Tok) → b ++ t ∷ x ≡ c ++ u ∷ y → ((mid : List Tok) → c ≡ b ++ t ∷ mid → ⊥) → ((mid : List Tok) → b ≡ c ++ u ∷ mid → ⊥) → b ++ t ∷ [] ≡ c ++ u ∷ []
+one_end : (b c : List Tok) (t u : Tok) (x y : List Tok) → b ++ t ∷ x ≡ c ++ u ∷ y →
+    ((mid : List Tok) → c ≡ b ++ t ∷ mid → ⊥) → ((mid : List Tok) → b ≡ c ++ u ∷ mid → ⊥) → b ++ t ∷ [] ≡ c ++ u ∷ []
 one_end [] [] t u x y e h g = let same : t ≡ u = cc in ap (λ (s : Tok). s ∷ []) same
 one_end [] (v ∷ c) t u x y e h g = let same : v ≡ t = cc in absurd (h c (ap (λ (s : Tok). s ∷ c) same))
 one_end (w ∷ b) [] t u x y e h g = let same : w ≡ u = cc in absurd (g b (ap (λ (s : Tok). s ∷ b) same))
@@ -224,7 +244,8 @@ one_end (w ∷ b) (v ∷ c) t u x y e h g =
     ap (λ (s : Tok). s ∷ b ++ t ∷ []) same ∙ ap (λ (l : List Tok). v ∷ l) ends
 
 -- an opening sign at the limit has none ahead of it
-too_deep_ahead : (ts : List Tok) (a b : ℕ) (m : IsTooDeep ts a) (n : IsTooDeep ts b) (mid : List Tok) → n.before ≡ m.before ++ m.token ∷ mid → ⊥
+too_deep_ahead : (ts : List Tok) (a b : ℕ) (m : IsTooDeep ts a) (n : IsTooDeep ts b) (mid : List Tok) →
+    n.before ≡ m.before ++ m.token ∷ mid → ⊥
 too_deep_ahead ts a b m n mid e = let low : nesting 0 m.before < LIMIT = n.first m.before mid m.token e m.opens in omega (arith, m.deep, low)
 
 pub only_too_deep : (ts : List Tok) (a b : ℕ) → IsTooDeep ts a → IsTooDeep ts b → a ≡ b

@@ -12,6 +12,7 @@ unfolding inside_at
 inside_at_some zero h = absurd (omega arith)
 inside_at_some (suc room) h = rw sub-one refl
 
-pub parens_at_some : (room : ℕ) (inner : Reader Expr) (at : Span) (ts : List Tok) → 0 < room → parens_at room inner at ts ≡ in_parens inner at ts
+pub parens_at_some : (room : ℕ) (inner : Reader Expr) (at : Span) (ts : List Tok) → 0 < room →
+    parens_at room inner at ts ≡ in_parens inner at ts
 parens_at_some zero inner at ts h = absurd (omega arith)
 parens_at_some (suc room) inner at ts h = refl

@@ -2,15 +2,30 @@
 use Rattle.std.proofs.Common.{◌≡◌, ℕ, zero, suc, List, [], ◌∷◌, length, Option, Ok, refl, sym, subst}
 use Rattle.source.specs.declared.span.Span.{Span}
 use Rattle.source.specs.declared.token.Keyword.TheVariants as keyword
-use Rattle.source.specs.declared.token.Sign.TheVariants.{OpenBrace, CloseBrace, OpenParen, CloseParen, OpenBracket, Semicolon, Colon, Dot, Equals}
+use Rattle.source.specs.declared.token.Sign.TheVariants.{OpenBrace, CloseBrace, OpenParen, CloseParen, OpenBracket}
+use Rattle.source.specs.declared.token.Sign.TheVariants.{Semicolon, Colon, Dot, Equals}
 use Rattle.source.specs.Tokens.{word, mark, end, Tok}
 use Rattle.source.specs.declared.token.Number.{Number}
 use Rattle.syntax.specs.Trees as tree
-use Rattle.syntax.specs.Trees.{Ident, ValueType, Const, Stmts, Member, lock_member, final_member, field_member, Section, Items, no_items, Decl, lock, struct, global, array, pool, init, atomic, helper, thread}
-use Rattle.syntax.specs.Grammar.{tok, name_tok, int_tok, IsOptional, left_out, given, AreMany, no_more, one_more, IsAfter, after, AreListed, IsName, is_name, IsType, is_int_type, is_ref_type, IsConst, is_braced, is_block, IsIndex, is_index, IsProtection, is_protection, is_variable, is_array, is_final, is_field, IsMember, is_lock_member, is_final_member, is_field_member, IsStruct, is_struct, IsPool, is_pool, IsInit, is_init, IsSection, is_section, IsCall, is_call, IsItem, is_call_item, is_repeat, IsItems, are_no_items, are_items, IsThread, is_thread, IsDecl, is_lock, is_struct_decl, is_global, is_array_decl, is_pool_decl, is_init_decl, is_atomic, is_helper, is_thread_decl, Spells, spells}
+use Rattle.syntax.specs.Trees.{Ident, ValueType, Const, Stmts, Member, lock_member, final_member, field_member}
+use Rattle.syntax.specs.Trees.{Section, Items, no_items, Decl, lock, struct, global, array, pool, init, atomic}
+use Rattle.syntax.specs.Trees.{helper, thread}
+use Rattle.syntax.specs.Grammar.{tok, name_tok, int_tok, IsOptional, left_out, given, AreMany, no_more, one_more}
+use Rattle.syntax.specs.Grammar.{IsAfter, after, AreListed, IsName, is_name, IsType, is_int_type, is_ref_type}
+use Rattle.syntax.specs.Grammar.{IsConst, is_braced, is_block, IsIndex, is_index, IsProtection, is_protection}
+use Rattle.syntax.specs.Grammar.{is_variable, is_array, is_final, is_field, IsMember, is_lock_member, is_final_member}
+use Rattle.syntax.specs.Grammar.{is_field_member, IsStruct, is_struct, IsPool, is_pool, IsInit, is_init, IsSection}
+use Rattle.syntax.specs.Grammar.{is_section, IsCall, is_call, IsItem, is_call_item, is_repeat, IsItems, are_no_items}
+use Rattle.syntax.specs.Grammar.{are_items, IsThread, is_thread, IsDecl, is_lock, is_struct_decl, is_global}
+use Rattle.syntax.specs.Grammar.{is_array_decl, is_pool_decl, is_init_decl, is_atomic, is_helper, is_thread_decl}
+use Rattle.syntax.specs.Grammar.{Spells, spells}
 use Rattle.parser.specs.Working.Reading.{◌>>=◌, sign_at, open_at, word_at, name_at, int_at, choose}
 use Rattle.parser.specs.Working.Parts.{type_at, const_at}
-use Rattle.parser.specs.Working.Declarations.{array_at, variable_at, global_at, section_at, consts_in, call_at, call_item, repeat_with, item_with, item_at, items_with, items_in, thread_at, lock_at, field_at, final_at, lock_member_at, member_at, members_with, members_in, struct_at, pool_at, init_at, decl_at, decls_at, end_from, program_at}
+use Rattle.parser.specs.Working.Declarations.{array_at, variable_at, global_at, section_at, consts_in, call_at}
+use Rattle.parser.specs.Working.Declarations.{call_item, repeat_with, item_with, item_at, items_with, items_in}
+use Rattle.parser.specs.Working.Declarations.{thread_at, lock_at, field_at, final_at, lock_member_at, member_at}
+use Rattle.parser.specs.Working.Declarations.{members_with, members_in, struct_at, pool_at, init_at, decl_at}
+use Rattle.parser.specs.Working.Declarations.{decls_at, end_from, program_at}
 use Rattle.parser.specs.Theory.Law.{IsTok, is_tok}
 use Rattle.parser.specs.Theory.Joined.{Done, done, Both, both}
 use Rattle.parser.specs.Theory.PartLaws.{IsParams, is_params}
@@ -18,12 +33,17 @@ use Rattle.parser.proofs.DeclarationLaws.{IsLock, is_lock_name}
 use Rattle.parser.specs.Theory.StatementLaws.{IsBracedPair}
 use Rattle.parser.specs.Theory.Shorter.{next_const_shortens}
 use Rattle.parser.proofs.Turns.{next_item_shortens, next_decl_shortens, next_member_shortens}
-use Rattle.parser.specs.Theory.Finding.{Finds, found, deep, finds_then, FindsPart, Anything, ends_found, then_found, and_found, production_found, sign_found, open_then, name_found, NotNext, IsNext, maybe_found, Closes, listed_found, until_none, until_found, choose_left, choose_right}
-use Rattle.parser.specs.Theory.PartsFound.{type_found, index_found, const_found, close_closes, after_found, maybe_protection_found, const_begins, params_found}
+use Rattle.parser.specs.Theory.Finding.{Finds, found, deep, finds_then, FindsPart, Anything, ends_found, then_found}
+use Rattle.parser.specs.Theory.Finding.{and_found, production_found, sign_found, open_then, name_found, NotNext}
+use Rattle.parser.specs.Theory.Finding.{IsNext, maybe_found, Closes, listed_found, until_none, until_found}
+use Rattle.parser.specs.Theory.Finding.{choose_left, choose_right}
+use Rattle.parser.specs.Theory.PartsFound.{type_found, index_found, const_found, close_closes, after_found}
+use Rattle.parser.specs.Theory.PartsFound.{maybe_protection_found, const_begins, params_found}
 use Rattle.parser.specs.Theory.StatementsFound.{block_found}
 
 -- a closing brace comes next
-brace_next : {A : Type 0} {R : Span → A → List Tok → List Tok → Type 0} {y : A} {ts rest : List Tok} → Both (IsTok (mark CloseBrace)) R y ts rest → IsNext (mark CloseBrace) ts
+brace_next : {A : Type 0} {R : Span → A → List Tok → List Tok → Type 0} {y : A} {ts rest : List Tok} →
+    Both (IsTok (mark CloseBrace)) R y ts rest → IsNext (mark CloseBrace) ts
 brace_next (both is_tok r) = refl
 
 value_begins : (y : Const) (ts rest : List Tok) → IsAfter Equals IsConst y ts rest → IsNext (mark Equals) ts
@@ -32,14 +52,17 @@ value_begins y ts rest (after h) = refl
 result_begins : (y : ValueType) (ts rest : List Tok) → IsAfter Colon IsType y ts rest → IsNext (mark Colon) ts
 result_begins y ts rest (after h) = refl
 
-semicolon_no_value : {A : Type 0} {R : Span → A → List Tok → List Tok → Type 0} {y : A} {ts rest : List Tok} → Both (IsTok (mark Semicolon)) R y ts rest → NotNext (mark Equals) ts
+semicolon_no_value : {A : Type 0} {R : Span → A → List Tok → List Tok → Type 0} {y : A} {ts rest : List Tok} →
+    Both (IsTok (mark Semicolon)) R y ts rest → NotNext (mark Equals) ts
 semicolon_no_value (both is_tok r) = refl
 
-value_no_protection : {A : Type 0} {R : Option Const → Span → A → List Tok → List Tok → Type 0} {y : A} {ts rest : List Tok} → Both (IsOptional (IsAfter Equals IsConst)) (λ v. Both (IsTok (mark Semicolon)) (R v)) y ts rest → NotNext (word keyword.ProtectedBy) ts
+value_no_protection : {A : Type 0} {R : Option Const → Span → A → List Tok → List Tok →
+    Type 0} {y : A} {ts rest : List Tok} → Both (IsOptional (IsAfter Equals IsConst)) (λ v. Both (IsTok (mark Semicolon)) (R v)) y ts rest → NotNext (word keyword.ProtectedBy) ts
 value_no_protection (both left_out (both is_tok r)) = refl
 value_no_protection (both (given (after c)) r) = refl
 
-semicolon_no_protection : {A : Type 0} {R : Span → A → List Tok → List Tok → Type 0} {y : A} {ts rest : List Tok} → Both (IsTok (mark Semicolon)) R y ts rest → NotNext (word keyword.ProtectedBy) ts
+semicolon_no_protection : {A : Type 0} {R : Span → A → List Tok → List Tok → Type 0} {y : A} {ts rest : List Tok} →
+    Both (IsTok (mark Semicolon)) R y ts rest → NotNext (word keyword.ProtectedBy) ts
 semicolon_no_protection (both is_tok r) = refl
 
 abbrev IsVariableRest : ValueType → Ident → Decl → List Tok → List Tok → Type 0
@@ -64,21 +87,27 @@ array_found room t x =
     (ends_found (λ y. array (record { name = x; value_type = t; length = y.0.0.1; protection = y.0.1 }))))))
     (λ y ts rest h. h)
 
-global_found : (room : ℕ) (t : ValueType) (x : Ident) (d : Decl) (ts mid rest : List Tok) → IsType t ts (name_tok x ∷ mid) → Finds (choose (mark OpenBracket) (array_at room t x) (variable_at room t x) mid) (d, rest) → Finds (global_at room ts) (d, rest)
+global_found : (room : ℕ) (t : ValueType) (x : Ident) (d : Decl) (ts mid rest : List Tok) →
+    IsType t ts (name_tok x ∷ mid) →
+    Finds (choose (mark OpenBracket) (array_at room t x) (variable_at room t x) mid) (d, rest) →
+    Finds (global_at room ts) (d, rest)
 unfolding global_at name_at
 global_found room t x d ts mid rest h g = finds_then (type_at ts) (λ t. name_at t.1 >>= λ x. choose (mark OpenBracket) (array_at room t.0 x.0) (variable_at room t.0 x.0) x.1) (t, name_tok x ∷ mid) (d, rest) (type_found t ts (name_tok x ∷ mid) h tt) g
 
-variable_no_bracket : {t : ValueType} {x : Ident} {y : Decl} {ts rest : List Tok} → IsVariableRest t x y ts rest → NotNext (mark OpenBracket) ts
+variable_no_bracket : {t : ValueType} {x : Ident} {y : Decl} {ts rest : List Tok} → IsVariableRest t x y ts rest →
+    NotNext (mark OpenBracket) ts
 variable_no_bracket (both left_out (both left_out (both is_tok r))) = refl
 variable_no_bracket (both left_out (both (given (after c)) r)) = refl
 variable_no_bracket (both (given (is_protection i)) r) = refl
 
-index_bracket : {t : ValueType} {x : Ident} {y : Decl} {ts rest : List Tok} → IsArrayRest t x y ts rest → IsNext (mark OpenBracket) ts
+index_bracket : {t : ValueType} {x : Ident} {y : Decl} {ts rest : List Tok} → IsArrayRest t x y ts rest →
+    IsNext (mark OpenBracket) ts
 index_bracket (both is_index r) = refl
 
 -- ---- structs, pools and opening values
 
-type_begins : {t : ValueType} {ts rest : List Tok} → IsType t ts rest → NotNext (word keyword.Lock) ts × NotNext (word keyword.Final) ts × NotNext (mark CloseBrace) ts
+type_begins : {t : ValueType} {ts rest : List Tok} → IsType t ts rest →
+    NotNext (word keyword.Lock) ts × NotNext (word keyword.Final) ts × NotNext (mark CloseBrace) ts
 type_begins is_int_type = (refl, refl, refl)
 type_begins is_ref_type = (refl, refl, refl)
 
@@ -93,11 +122,13 @@ field_found room =
     (ends_found (λ x. field_member (record { name = x.0.0.1; value_type = x.0.0.0.1; protection = x.0.1 })))))))
     (λ y ts rest h. h)
 
-lock_member_found : (room : ℕ) (x : Ident) (start semicolon : Span) (rest : List Tok) → Finds (member_at room (tok (word keyword.Lock) start ∷ name_tok x ∷ tok (mark Semicolon) semicolon ∷ rest)) (lock_member x, rest)
+lock_member_found : (room : ℕ) (x : Ident) (start semicolon : Span) (rest : List Tok) →
+    Finds (member_at room (tok (word keyword.Lock) start ∷ name_tok x ∷ tok (mark Semicolon) semicolon ∷ rest)) (lock_member x, rest)
 unfolding choose lock_member_at lock_at word_at name_at sign_at
 lock_member_found room x start semicolon rest = found refl
 
-final_found : (room : ℕ) (f : tree.Final) (start ref semicolon : Span) (rest : List Tok) → Finds (member_at room (tok (word keyword.Final) start ∷ tok (word keyword.Ref) ref ∷ name_tok f.target ∷ name_tok f.name ∷ tok (mark Semicolon) semicolon ∷ rest)) (final_member f, rest)
+final_found : (room : ℕ) (f : tree.Final) (start ref semicolon : Span) (rest : List Tok) →
+    Finds (member_at room (tok (word keyword.Final) start ∷ tok (word keyword.Ref) ref ∷ name_tok f.target ∷ name_tok f.name ∷ tok (mark Semicolon) semicolon ∷ rest)) (final_member f, rest)
 unfolding choose final_at word_at name_at sign_at
 final_found room f start ref semicolon rest = found refl
 
@@ -118,11 +149,13 @@ unfolding members_with
 members_found room _ ts rest no_more follow = until_none [] ◌∷◌ (mark CloseBrace) (member_at room) (next_member_shortens room) ts follow
 members_found room _ ts rest (one_more {x = m} {xs = ms} {mid = mid} h g) follow = until_found [] ◌∷◌ (mark CloseBrace) (member_at room) (next_member_shortens room) m ms ts mid rest (member_begins h) (member_found room m ts mid h tt) (members_found room ms mid rest g follow)
 
-members_in_found : (room r : ℕ) → room ≡ suc r → FindsPart (IsNext (mark CloseBrace)) (AreMany IsMember) (members_in room)
+members_in_found : (room r : ℕ) → room ≡ suc r →
+    FindsPart (IsNext (mark CloseBrace)) (AreMany IsMember) (members_in room)
 unfolding members_in
 members_in_found room r e = subst (λ (n : ℕ). FindsPart (IsNext (mark CloseBrace)) (AreMany IsMember) (members_in n)) (sym e) (members_found r)
 
-struct_back : {y : tree.Struct} {ts rest : List Tok} → IsStruct y ts rest → Both IsName (λ x. Both (IsTok (mark OpenBrace)) (λ b. Both (AreMany IsMember) (λ ms. Both (IsTok (mark CloseBrace)) (λ c. Done (record { name = x; members = ms }))))) y ts rest
+struct_back : {y : tree.Struct} {ts rest : List Tok} → IsStruct y ts rest →
+    Both IsName (λ x. Both (IsTok (mark OpenBrace)) (λ b. Both (AreMany IsMember) (λ ms. Both (IsTok (mark CloseBrace)) (λ c. Done (record { name = x; members = ms }))))) y ts rest
 struct_back (is_struct ms) = both is_name (both is_tok (both ms (both is_tok done)))
 
 struct_found : (room : ℕ) → FindsPart Anything IsStruct (struct_at room)
@@ -133,7 +166,8 @@ struct_found room =
     (ends_found (λ x. record { name = x.0.0.0.1; members = x.0.1 }))))))
     (λ y ts rest h. struct_back h)
 
-pool_back : {y : tree.Pool} {ts rest : List Tok} → IsPool y ts rest → Both IsName (λ target. Both IsName (λ x. Both IsIndex (λ n. Both (IsTok (mark Semicolon)) (λ s. Done (record { name = x; target = target; length = n }))))) y ts rest
+pool_back : {y : tree.Pool} {ts rest : List Tok} → IsPool y ts rest →
+    Both IsName (λ target. Both IsName (λ x. Both IsIndex (λ n. Both (IsTok (mark Semicolon)) (λ s. Done (record { name = x; target = target; length = n }))))) y ts rest
 pool_back (is_pool n) = both is_name (both is_name (both n (both is_tok done)))
 
 pool_found : (room : ℕ) → FindsPart Anything IsPool (pool_at room)
@@ -157,10 +191,12 @@ init_found room start =
 init_back : {i : tree.Init} {ts rest : List Tok} → IsInit i ts rest → IsInitParts i.start i ts rest
 init_back (is_init n c) = both is_name (both n (both is_tok (both is_name (both is_tok (both c (both is_tok done))))))
 
-section_back : {y : Section} {ts rest : List Tok} → IsSection y ts rest → Both IsName (λ x. Both IsParams (λ ps. Both (IsOptional (IsAfter Colon IsType)) (λ r. Both IsBracedPair (λ b. Done (record { name = x; params = ps; result = r; body = record { stmts = b.0; close = b.1 } }))))) y ts rest
+section_back : {y : Section} {ts rest : List Tok} → IsSection y ts rest →
+    Both IsName (λ x. Both IsParams (λ ps. Both (IsOptional (IsAfter Colon IsType)) (λ r. Both IsBracedPair (λ b. Done (record { name = x; params = ps; result = r; body = record { stmts = b.0; close = b.1 } }))))) y ts rest
 section_back (is_section ps r (is_block b)) = both is_name (both (is_params ps) (both r (both b done)))
 
-block_no_result : {A : Type 0} {R : Stmts × Span → A → List Tok → List Tok → Type 0} {y : A} {ts rest : List Tok} → Both IsBracedPair R y ts rest → NotNext (mark Colon) ts
+block_no_result : {A : Type 0} {R : Stmts × Span → A → List Tok → List Tok → Type 0} {y : A} {ts rest : List Tok} →
+    Both IsBracedPair R y ts rest → NotNext (mark Colon) ts
 block_no_result (both (is_braced h) r) = refl
 
 section_found : (room : ℕ) → FindsPart Anything IsSection (section_at room)
@@ -171,7 +207,8 @@ section_found room =
     (ends_found (λ x. record { name = x.0.0.0.1; params = x.0.0.1; result = x.0.1; body = record { stmts = x.1.0; close = x.1.1 } }))))))
     (λ y ts rest h. section_back h)
 
-call_back : {y : tree.Call} {ts rest : List Tok} → IsCall y ts rest → Both IsName (λ x. Both (IsTok (mark OpenParen)) (λ b. Both (AreListed IsConst) (λ cs. Both (IsTok (mark CloseParen)) (λ c. Both (IsTok (mark Semicolon)) (λ s. Done (record { section = x; arguments = cs })))))) y ts rest
+call_back : {y : tree.Call} {ts rest : List Tok} → IsCall y ts rest →
+    Both IsName (λ x. Both (IsTok (mark OpenParen)) (λ b. Both (AreListed IsConst) (λ cs. Both (IsTok (mark CloseParen)) (λ c. Both (IsTok (mark Semicolon)) (λ s. Done (record { section = x; arguments = cs })))))) y ts rest
 call_back (is_call h) = both is_name (both is_tok (both h (both is_tok (both is_tok done))))
 
 consts_in_found : (room r : ℕ) → room ≡ suc r → FindsPart Closes (AreListed IsConst) (consts_in room)
@@ -186,17 +223,21 @@ call_found room =
     (ends_found (λ x. record { section = x.0.0.0.0.1; arguments = x.0.0.1 })))))))
     (λ y ts rest h. call_back h)
 
-call_item_found : (room : ℕ) (c : tree.Call) (ts rest : List Tok) → IsCall c ts rest → Finds (call_item room ts) (tree.Item.call c, rest)
+call_item_found : (room : ℕ) (c : tree.Call) (ts rest : List Tok) → IsCall c ts rest →
+    Finds (call_item room ts) (tree.Item.call c, rest)
 call_item_found room c ts rest h = finds_then (call_at room ts) (λ c. Ok (tree.Item.call c.0, c.1)) (c, rest) (tree.Item.call c, rest) (call_found room c ts rest h tt) (found refl)
 
 call_no_repeat : {c : tree.Call} {ts rest : List Tok} → IsCall c ts rest → NotNext (word keyword.Repeat) ts
 call_no_repeat (is_call h) = refl
 
-item_of_call : (room : ℕ) (c : tree.Call) (ts rest : List Tok) → IsCall c ts rest → Finds (item_at room ts) (tree.Item.call c, rest)
+item_of_call : (room : ℕ) (c : tree.Call) (ts rest : List Tok) → IsCall c ts rest →
+    Finds (item_at room ts) (tree.Item.call c, rest)
 unfolding item_with
 item_of_call room c ts rest h = choose_right (word keyword.Repeat) (repeat_with room (items_in room)) (call_item room) ts (tree.Item.call c, rest) (call_no_repeat h) (call_item_found room c ts rest h)
 
-repeat_found : (room : ℕ) (n : Number) (is : Items) (start begin close : Span) (ts rest : List Tok) → ((r : ℕ) → Finds (items_with (item_at r) ts) (is, tok (mark CloseBrace) close ∷ rest)) → Finds (item_at room (tok (word keyword.Repeat) start ∷ int_tok n ∷ tok (mark OpenBrace) begin ∷ ts)) (tree.repeat n is, rest)
+repeat_found : (room : ℕ) (n : Number) (is : Items) (start begin close : Span) (ts rest : List Tok) →
+    ((r : ℕ) → Finds (items_with (item_at r) ts) (is, tok (mark CloseBrace) close ∷ rest)) →
+    Finds (item_at room (tok (word keyword.Repeat) start ∷ int_tok n ∷ tok (mark OpenBrace) begin ∷ ts)) (tree.repeat n is, rest)
 unfolding item_with choose repeat_with word_at int_at open_at items_in sign_at
 repeat_found zero n is start begin close ts rest h = deep (suc (length ts)) refl
 repeat_found (suc room) n is start begin close ts rest h = finds_then (items_with (item_at room) ts) (λ is. sign_at CloseBrace is.1 >>= λ c. Ok (tree.repeat n is.0, c.1)) (is, tok (mark CloseBrace) close ∷ rest) (tree.repeat n is, rest) (h room) (found refl)
@@ -205,11 +246,14 @@ item_begins : {i : tree.Item} {ts rest : List Tok} → IsItem i ts rest → NotN
 item_begins (is_call_item (is_call h)) = refl
 item_begins (is_repeat h) = refl
 
-no_items_found : (room : ℕ) (ts : List Tok) → IsNext (mark CloseBrace) ts → Finds (items_with (item_at room) ts) (no_items, ts)
+no_items_found : (room : ℕ) (ts : List Tok) → IsNext (mark CloseBrace) ts →
+    Finds (items_with (item_at room) ts) (no_items, ts)
 unfolding items_with
 no_items_found room ts e = until_none no_items tree.item (mark CloseBrace) (item_at room) (next_item_shortens room) ts e
 
-more_items_found : (room : ℕ) (i : tree.Item) (more : Items) (ts mid rest : List Tok) → NotNext (mark CloseBrace) ts → Finds (item_at room ts) (i, mid) → Finds (items_with (item_at room) mid) (more, rest) → Finds (items_with (item_at room) ts) (tree.item i more, rest)
+more_items_found : (room : ℕ) (i : tree.Item) (more : Items) (ts mid rest : List Tok) → NotNext (mark CloseBrace) ts →
+    Finds (item_at room ts) (i, mid) → Finds (items_with (item_at room) mid) (more, rest) →
+    Finds (items_with (item_at room) ts) (tree.item i more, rest)
 unfolding items_with
 more_items_found room i more ts mid rest e h g = until_found no_items tree.item (mark CloseBrace) (item_at room) (next_item_shortens room) i more ts mid rest e h g
 
@@ -218,7 +262,8 @@ mutual
   item_found (is_call_item {c = c} {ts = ts} {rest = rest} h) room = item_of_call room c ts rest h
   item_found (is_repeat {n = n} {is = is} {start = start} {begin = begin} {close = close} {ts = ts} {rest = rest} h) room = repeat_found room n is start begin close ts rest (λ r. items_found h r refl)
 
-  items_found : {is : Items} {ts rest : List Tok} → IsItems is ts rest → (room : ℕ) → IsNext (mark CloseBrace) rest → Finds (items_with (item_at room) ts) (is, rest)
+  items_found : {is : Items} {ts rest : List Tok} → IsItems is ts rest → (room : ℕ) → IsNext (mark CloseBrace) rest →
+      Finds (items_with (item_at room) ts) (is, rest)
   items_found (are_no_items {ts = ts}) room follow = no_items_found room ts follow
   items_found (are_items {i = i} {more = more} {ts = ts} {mid = mid} {rest = rest} h g) room follow = more_items_found room i more ts mid rest (item_begins h) (item_found h room) (items_found g room follow)
 
@@ -226,7 +271,8 @@ items_in_found : (room r : ℕ) → room ≡ suc r → FindsPart (IsNext (mark C
 unfolding items_in
 items_in_found room r e = subst (λ (n : ℕ). FindsPart (IsNext (mark CloseBrace)) IsItems (items_in n)) (sym e) (λ is ts rest h follow. items_found h r follow)
 
-thread_back : {y : tree.Thread} {ts rest : List Tok} → IsThread y ts rest → Both IsName (λ x. Both (IsTok (mark OpenBrace)) (λ b. Both IsItems (λ is. Both (IsTok (mark CloseBrace)) (λ c. Done (record { name = x; items = is }))))) y ts rest
+thread_back : {y : tree.Thread} {ts rest : List Tok} → IsThread y ts rest →
+    Both IsName (λ x. Both (IsTok (mark OpenBrace)) (λ b. Both IsItems (λ is. Both (IsTok (mark CloseBrace)) (λ c. Done (record { name = x; items = is }))))) y ts rest
 thread_back (is_thread h) = both is_name (both is_tok (both h (both is_tok done)))
 
 thread_found : (room : ℕ) → FindsPart Anything IsThread (thread_at room)
@@ -237,7 +283,8 @@ thread_found room =
     (ends_found (λ x. record { name = x.0.0.0.1; items = x.0.1 }))))))
     (λ y ts rest h. thread_back h)
 
-lock_back : {y : Ident} {ts rest : List Tok} → IsLock y ts rest → Both IsName (λ x. Both (IsTok (mark Semicolon)) (λ s. Done x)) y ts rest
+lock_back : {y : Ident} {ts rest : List Tok} → IsLock y ts rest →
+    Both IsName (λ x. Both (IsTok (mark Semicolon)) (λ s. Done x)) y ts rest
 lock_back is_lock_name = both is_name (both is_tok done)
 
 lock_found : FindsPart Anything IsLock lock_at

@@ -41,40 +41,55 @@ before-items [] = refl
 before-items (x ∷ xs) = ap (item (item_of x)) (before-items xs)
 
 module _ (room : ℕ) (xs : List the_item.Item) (ts : List Tok) (total : Result (Items × List Tok) Stop) where
-  pub items_go_on : (x : the_item.Item) (rest : List Tok) → is_next (mark CloseBrace) ts ≡ false → item_at room ts ≡ Ok (item_of x, rest) → with_front (before item item_of xs) (items_with (item_at room) ts) ≡ total → with_front (before item item_of (xs ++ x ∷ [])) (items_with (item_at room) rest) ≡ total
+  pub items_go_on : (x : the_item.Item) (rest : List Tok) → is_next (mark CloseBrace) ts ≡ false →
+      item_at room ts ≡ Ok (item_of x, rest) →
+      with_front (before item item_of xs) (items_with (item_at room) ts) ≡ total →
+      with_front (before item item_of (xs ++ x ∷ [])) (items_with (item_at room) rest) ≡ total
   unfolding items_with
   items_go_on x rest more read so_far = until_goes_on no_items item item_of (mark CloseBrace) (item_at room) (next_item_shortens room) xs ts total x rest more read so_far
 
-  pub items_end : is_next (mark CloseBrace) ts ≡ true → with_front (before item item_of xs) (items_with (item_at room) ts) ≡ total → total ≡ Ok (items_of xs, ts)
+  pub items_end : is_next (mark CloseBrace) ts ≡ true →
+      with_front (before item item_of xs) (items_with (item_at room) ts) ≡ total → total ≡ Ok (items_of xs, ts)
   unfolding items_with
   items_end over so_far = until_ends no_items item item_of (mark CloseBrace) (item_at room) (next_item_shortens room) xs ts total over so_far ∙ ap (λ (l : Items). Ok (l, ts)) (before-items xs)
 
-  pub items_stop : (e : Stop) → is_next (mark CloseBrace) ts ≡ false → Fails e (item_at room ts) → with_front (before item item_of xs) (items_with (item_at room) ts) ≡ total → Fails e total
+  pub items_stop : (e : Stop) → is_next (mark CloseBrace) ts ≡ false → Fails e (item_at room ts) →
+      with_front (before item item_of xs) (items_with (item_at room) ts) ≡ total → Fails e total
   unfolding items_with
   items_stop e more fails so_far = until_stops no_items item item_of (mark CloseBrace) (item_at room) (next_item_shortens room) xs ts total e more fails so_far
 
 module _ (room : ℕ) (xs : List the_decl.Decl) (ts : List Tok) (total : Result (List Decl × List Tok) Stop) where
-  pub decls_go_on : (x : the_decl.Decl) (rest : List Tok) → is_next end ts ≡ false → decl_at room ts ≡ Ok (decl_of x, rest) → with_front (before ◌∷◌ decl_of xs) (decls_at room ts) ≡ total → with_front (before ◌∷◌ decl_of (xs ++ x ∷ [])) (decls_at room rest) ≡ total
+  pub decls_go_on : (x : the_decl.Decl) (rest : List Tok) → is_next end ts ≡ false →
+      decl_at room ts ≡ Ok (decl_of x, rest) → with_front (before ◌∷◌ decl_of xs) (decls_at room ts) ≡ total →
+      with_front (before ◌∷◌ decl_of (xs ++ x ∷ [])) (decls_at room rest) ≡ total
   unfolding decls_at
   decls_go_on x rest more read so_far = until_goes_on [] ◌∷◌ decl_of end (decl_at room) (next_decl_shortens room) xs ts total x rest more read so_far
 
-  pub decls_end : is_next end ts ≡ true → with_front (before ◌∷◌ decl_of xs) (decls_at room ts) ≡ total → total ≡ Ok (map decl_of xs, ts)
+  pub decls_end : is_next end ts ≡ true → with_front (before ◌∷◌ decl_of xs) (decls_at room ts) ≡ total →
+      total ≡ Ok (map decl_of xs, ts)
   unfolding decls_at
   decls_end over so_far = until_ends [] ◌∷◌ decl_of end (decl_at room) (next_decl_shortens room) xs ts total over so_far ∙ ap (λ (l : List Decl). Ok (l, ts)) (before-map decl_of xs)
 
-  pub decls_stop : (e : Stop) → is_next end ts ≡ false → Fails e (decl_at room ts) → with_front (before ◌∷◌ decl_of xs) (decls_at room ts) ≡ total → Fails e total
+  pub decls_stop : (e : Stop) → is_next end ts ≡ false → Fails e (decl_at room ts) →
+      with_front (before ◌∷◌ decl_of xs) (decls_at room ts) ≡ total → Fails e total
   unfolding decls_at
   decls_stop e more fails so_far = until_stops [] ◌∷◌ decl_of end (decl_at room) (next_decl_shortens room) xs ts total e more fails so_far
 
 module _ (room : ℕ) (xs : List the_member.Member) (ts : List Tok) (total : Result (List Member × List Tok) Stop) where
-  pub members_go_on : (x : the_member.Member) (rest : List Tok) → is_next (mark CloseBrace) ts ≡ false → member_at room ts ≡ Ok (member_of x, rest) → with_front (before ◌∷◌ member_of xs) (members_with (member_at room) ts) ≡ total → with_front (before ◌∷◌ member_of (xs ++ x ∷ [])) (members_with (member_at room) rest) ≡ total
+  pub members_go_on : (x : the_member.Member) (rest : List Tok) → is_next (mark CloseBrace) ts ≡ false →
+      member_at room ts ≡ Ok (member_of x, rest) →
+      with_front (before ◌∷◌ member_of xs) (members_with (member_at room) ts) ≡ total →
+      with_front (before ◌∷◌ member_of (xs ++ x ∷ [])) (members_with (member_at room) rest) ≡ total
   unfolding members_with
   members_go_on x rest more read so_far = until_goes_on [] ◌∷◌ member_of (mark CloseBrace) (member_at room) (next_member_shortens room) xs ts total x rest more read so_far
 
-  pub members_end : is_next (mark CloseBrace) ts ≡ true → with_front (before ◌∷◌ member_of xs) (members_with (member_at room) ts) ≡ total → total ≡ Ok (map member_of xs, ts)
+  pub members_end : is_next (mark CloseBrace) ts ≡ true →
+      with_front (before ◌∷◌ member_of xs) (members_with (member_at room) ts) ≡ total →
+      total ≡ Ok (map member_of xs, ts)
   unfolding members_with
   members_end over so_far = until_ends [] ◌∷◌ member_of (mark CloseBrace) (member_at room) (next_member_shortens room) xs ts total over so_far ∙ ap (λ (l : List Member). Ok (l, ts)) (before-map member_of xs)
 
-  pub members_stop : (e : Stop) → is_next (mark CloseBrace) ts ≡ false → Fails e (member_at room ts) → with_front (before ◌∷◌ member_of xs) (members_with (member_at room) ts) ≡ total → Fails e total
+  pub members_stop : (e : Stop) → is_next (mark CloseBrace) ts ≡ false → Fails e (member_at room ts) →
+      with_front (before ◌∷◌ member_of xs) (members_with (member_at room) ts) ≡ total → Fails e total
   unfolding members_with
   members_stop e more fails so_far = until_stops [] ◌∷◌ member_of (mark CloseBrace) (member_at room) (next_member_shortens room) xs ts total e more fails so_far

@@ -1,5 +1,6 @@
 -- What reading says of a program and of its returns.
-use Rattle.std.proofs.Common.{◌≡◌, ℕ, zero, suc, ◌-◌, List, [], ◌∷◌, length, drop, Some, None, Ok, Err, refl, sym, ap, ◌∙◌, subst, arith}
+use Rattle.std.proofs.Common.{◌≡◌, ℕ, zero, suc, ◌-◌, List, [], ◌∷◌, length, drop, Some, None, Ok, Err, refl, sym, ap}
+use Rattle.std.proofs.Common.{◌∙◌, subst, arith}
 use Rattle.source.specs.declared.fault.Code.TheVariants.{UnexpectedToken, NestedTooDeep, MisplacedReturn}
 use Rattle.source.specs.Tokens.{Tok}
 use Rattle.syntax.specs.Trees.{Decl}
@@ -55,9 +56,11 @@ module _ (ts : List Tok) where
     pub never_misplaced : (start : ℕ) → IsMisplaced ts start → ⊥
     never_misplaced start m = no_answer ts m.tree e m.has_tree read
 
-  pub is_unexpected : (left : ℕ) → program_at LIMIT ts ≡ Err (Unexpected left) → IsFault ts UnexpectedToken (first_start (drop (length ts - left) ts))
+  pub is_unexpected : (left : ℕ) → program_at LIMIT ts ≡ Err (Unexpected left) →
+      IsFault ts UnexpectedToken (first_start (drop (length ts - left) ts))
   is_unexpected zero e = subst (IsFault ts UnexpectedToken) (sym (no_place ts)) (unended (no_end_at ts e))
   is_unexpected (suc n) e = unexpected (unexpected_at ts n e)
 
-  pub is_too_deep : (left : ℕ) → program_at LIMIT ts ≡ Err (TooDeep left) → IsFault ts NestedTooDeep (first_start (drop (length ts - left) ts))
+  pub is_too_deep : (left : ℕ) → program_at LIMIT ts ≡ Err (TooDeep left) →
+      IsFault ts NestedTooDeep (first_start (drop (length ts - left) ts))
   is_too_deep left e = too_deep (too_deep_at ts left e)

@@ -9,7 +9,8 @@ pub use Rattle.syntax.specs.Grammar.{HasTree}
 pub use Rattle.parser.specs.Working.TreesFound.{IsTreeOf}
 pub use Rattle.syntax.specs.Faults.{HasRightTree, IsMisplaced, IsRefusal, IsTooDeep, IsUnexpected}
 pub use Rattle.parser.specs.Working.Reading.{Gives, same_sign, is_next, closing}
-unfoldable pub use Rattle.parser.specs.Working.Reading.{sign_at, open_at, word_at, name_at, int_at, skip_at, listed_at, after_each}
+unfoldable pub use Rattle.parser.specs.Working.Reading.{sign_at, open_at, word_at, name_at, int_at, skip_at}
+unfoldable pub use Rattle.parser.specs.Working.Reading.{listed_at, after_each}
 pub use Rattle.parser.specs.Working.Parts.{maybe_protection, maybe_value, maybe_result}
 unfoldable pub use Rattle.parser.specs.Working.Parts.{type_at, index_at, const_at, params_at}
 pub use Rattle.parser.specs.Working.Statements.{braced_at}

@@ -26,7 +26,8 @@ as_if part a b fs gs is first second =
     front_if part a b Nil is
     ∙ ap (λ x. Fork (skeleton_of x) (skeleton_of b.items) Nil) (sym first) ∙ ap (λ x. Fork (skeleton_of fs) (skeleton_of x) Nil) (sym second)
 
-pub as_while : (part : Part) (a : Vec Part Global) (fs : List Part) → part ≡ While a → fs ≡ a.items → part_in_front part Nil ≡ Loop (skeleton_of fs) Nil
+pub as_while : (part : Part) (a : Vec Part Global) (fs : List Part) → part ≡ While a → fs ≡ a.items →
+    part_in_front part Nil ≡ Loop (skeleton_of fs) Nil
 as_while part a fs is first = front_while part a Nil is ∙ ap (λ x. Loop (skeleton_of x) Nil) (sym first)
 
 module _ (u : Uses) (n : ℕ) where
@@ -37,15 +38,18 @@ module _ (u : Uses) (n : ℕ) where
   abbrev pub IsUnion : PathSet → PathSet → PathSet → Type 0
   IsUnion one two set = (i : ℕ) → has set i ≡ (has one i || has two i)
 
-  pub with_point : (m : ℕ) (other at here : PathSet) → m ≡ n → ((i : ℕ) → has at i ≡ uses u i m) → IsUnion other at here → IsWith other here
+  pub with_point : (m : ℕ) (other at here : PathSet) → m ≡ n → ((i : ℕ) → has at i ≡ uses u i m) →
+      IsUnion other at here → IsWith other here
   with_point m other at here same is joined i = joined i ∙ ap (λ b. has other i || b) (is i ∙ ap (uses u i) same)
 
   -- ---- all that is used
 
-  pub gathered_step : (c : Skeleton) (other here : PathSet) → c ≡ Step Nil → IsWith other here → IsGathered u c n other here
+  pub gathered_step : (c : Skeleton) (other here : PathSet) → c ≡ Step Nil → IsWith other here →
+      IsGathered u c n other here
   gathered_step c other here is with_n i = with_n i ∙ ap (λ x. gather or (uses u i) x n (has other i)) (sym is)
 
-  pub gathered_fork : (c a b : Skeleton) (k m : ℕ) (other here one two set : PathSet) → c ≡ Fork a b Nil → k ≡ n + 1 → m ≡ k + count a → IsWith other here →
+  pub gathered_fork : (c a b : Skeleton) (k m : ℕ) (other here one two set : PathSet) → c ≡ Fork a b Nil → k ≡ n + 1 →
+      m ≡ k + count a → IsWith other here →
       IsGathered u a k here one → IsGathered u b m here two → IsUnion one two set → IsGathered u c n other set
   gathered_fork c a b k m other here one two set is ek em with_n first second joined i =
       let w = uses u i in
@@ -56,7 +60,8 @@ module _ (u : Uses) (n : ℕ) where
       ∙ ap (λ x. gather or w a (n + 1) e || x) (second i ∙ ap (λ x. gather or w b m x) (with_n i) ∙ ap (λ x. gather or w b x e) em')
       ∙ ap (λ x. gather or w x n (has other i)) (sym is)
 
-  pub gathered_loop : (c a : Skeleton) (k : ℕ) (other here set : PathSet) → c ≡ Loop a Nil → k ≡ n + 1 → IsWith other here → IsGathered u a k here set →
+  pub gathered_loop : (c a : Skeleton) (k : ℕ) (other here set : PathSet) → c ≡ Loop a Nil → k ≡ n + 1 →
+      IsWith other here → IsGathered u a k here set →
       IsGathered u c n other set
   gathered_loop c a k other here set is ek with_n all i =
       let w = uses u i in
@@ -65,12 +70,14 @@ module _ (u : Uses) (n : ℕ) where
 
   -- ---- what is used before
 
-  pub before_step : (c : Skeleton) (earlier : PathSet) (was sets : Vec PathSet Global) → c ≡ Step Nil → sets.items ≡ was.items ++ earlier ∷ [] →
+  pub before_step : (c : Skeleton) (earlier : PathSet) (was sets : Vec PathSet Global) → c ≡ Step Nil →
+      sets.items ≡ was.items ++ earlier ∷ [] →
       AreBefore u c earlier was sets
   before_step c earlier was sets is push i =
       column-push i was.items sets.items earlier push ∙ ap (λ x. column i was.items ++ befores or (uses u i) x was.len (has earlier i)) (sym is)
 
-  pub before_fork : (c a b : Skeleton) (earlier here : PathSet) (was one two sets : Vec PathSet Global) → c ≡ Fork a b Nil → was.len ≡ n →
+  pub before_fork : (c a b : Skeleton) (earlier here : PathSet) (was one two sets : Vec PathSet Global) →
+      c ≡ Fork a b Nil → was.len ≡ n →
       one.len ≡ n + 1 → two.len ≡ one.len + count a → IsWith earlier here → one.items ≡ was.items ++ earlier ∷ [] →
       AreBefore u a here one two → AreBefore u b here two sets → AreBefore u c earlier was sets
   before_fork c a b earlier here was one two sets is ew e1 e2 with_n push first second i =
@@ -90,7 +97,8 @@ module _ (u : Uses) (n : ℕ) where
       ∙ ap (λ x. o ++ befores or w (Fork a b Nil) x h) (sym ew)
       ∙ ap (λ x. o ++ befores or w x was.len h) (sym is)
 
-  pub before_loop : (c a : Skeleton) (k times : ℕ) (earlier here all : PathSet) (was sets : Vec PathSet Global) → c ≡ Loop a Nil → was.len ≡ n →
+  pub before_loop : (c a : Skeleton) (k times : ℕ) (earlier here all : PathSet) (was sets : Vec PathSet Global) →
+      c ≡ Loop a Nil → was.len ≡ n →
       k ≡ n + 1 → times ≡ count a + 1 → IsWith earlier here → IsGathered u a k here all → sets.items ≡ was.items ++ replicate times all → AreBefore u c earlier was sets
   before_loop c a k times earlier here all was sets is ew ek et with_n gathered push i =
       let w = uses u i in
@@ -110,7 +118,8 @@ module _ (u : Uses) (n : ℕ) where
   behind_step c other set is with_n i = with_n i ∙ ap (λ x. behind or (uses u i) x n (has other i)) (sym is)
 
   -- what is used behind the condition of an `if`
-  either : (a b : Skeleton) (k m : ℕ) (other one two set : PathSet) → k ≡ n + 1 → m ≡ k + count a → IsBehind u a k other one →
+  either : (a b : Skeleton) (k m : ℕ) (other one two set : PathSet) → k ≡ n + 1 → m ≡ k + count a →
+      IsBehind u a k other one →
       IsBehind u b m other two → IsUnion one two set → (i : ℕ) →
       has set i ≡ (behind or (uses u i) a (n + 1) (has other i) || behind or (uses u i) b (n + 1 + count a) (has other i))
   either a b k m other one two set ek em first second joined i =
@@ -121,20 +130,23 @@ module _ (u : Uses) (n : ℕ) where
       ∙ ap (λ x. x || has two i) (first i ∙ ap (λ x. behind or w a x l) ek)
       ∙ ap (λ x. behind or w a (n + 1) l || x) (second i ∙ ap (λ x. behind or w b x l) em')
 
-  pub behind_fork : (c a b : Skeleton) (k m : ℕ) (other one two set here : PathSet) → c ≡ Fork a b Nil → k ≡ n + 1 → m ≡ k + count a →
+  pub behind_fork : (c a b : Skeleton) (k m : ℕ) (other one two set here : PathSet) → c ≡ Fork a b Nil → k ≡ n + 1 →
+      m ≡ k + count a →
       IsBehind u a k other one → IsBehind u b m other two → IsUnion one two set → IsWith set here → IsBehind u c n other here
   behind_fork c a b k m other one two set here is ek em first second joined with_n i =
       with_n i ∙ ap (λ x. x || uses u i n) (either a b k m other one two set ek em first second joined i)
       ∙ ap (λ x. behind or (uses u i) x n (has other i)) (sym is)
 
-  pub behind_loop : (c a : Skeleton) (k : ℕ) (other here set : PathSet) → c ≡ Loop a Nil → k ≡ n + 1 → IsWith other here → IsGathered u a k here set →
+  pub behind_loop : (c a : Skeleton) (k : ℕ) (other here set : PathSet) → c ≡ Loop a Nil → k ≡ n + 1 →
+      IsWith other here → IsGathered u a k here set →
       IsBehind u c n other set
   behind_loop c a k other here set is ek with_n all i =
       let w = uses u i in
       all i ∙ ap (λ x. gather or w a k x) (with_n i) ∙ ap (λ x. gather or w a x (has other i || w n)) ek
       ∙ ap (λ x. behind or w x n (has other i)) (sym is)
 
-  pub later_step : (c : Skeleton) (other : PathSet) (was sets : Vec PathSet Global) → c ≡ Step Nil → sets.items ≡ was.items ++ other ∷ [] →
+  pub later_step : (c : Skeleton) (other : PathSet) (was sets : Vec PathSet Global) → c ≡ Step Nil →
+      sets.items ≡ was.items ++ other ∷ [] →
       AreLater u c n other was sets
   later_step c other was sets is push i =
       column-push i was.items sets.items other push ∙ ap (λ x. column i was.items ++ reverse (laters or (uses u i) x n (has other i))) (sym is)
@@ -160,7 +172,8 @@ module _ (u : Uses) (n : ℕ) where
       ∙ ap (λ z. o ++ z) (sym whole)
       ∙ ap (λ z. o ++ reverse (laters or w z n l)) (sym is)
 
-  pub later_loop_of : (c a : Skeleton) (k times : ℕ) (other here all : PathSet) (was sets : Vec PathSet Global) → c ≡ Loop a Nil → k ≡ n + 1 →
+  pub later_loop_of : (c a : Skeleton) (k times : ℕ) (other here all : PathSet) (was sets : Vec PathSet Global) →
+      c ≡ Loop a Nil → k ≡ n + 1 →
       times ≡ count a + 1 → IsWith other here → IsGathered u a k here all → sets.items ≡ was.items ++ replicate times all → AreLater u c n other was sets
   later_loop_of c a k times other here all was sets is ek et with_n gathered push i =
       let w = uses u i in

@@ -1,5 +1,6 @@
 -- Where the blocks of parts end: the list that is made of it, and what is read from it.
-use Rattle.std.proofs.Common.{◌≡◌, ℕ, ◌+◌, ◌<◌, List, [], ◌∷◌, ◌++◌, length, drop, get_or, set, refl, sym, ap, ◌∙◌, subst, arith, append_assoc, append-nil, length-append}
+use Rattle.std.proofs.Common.{◌≡◌, ℕ, ◌+◌, ◌<◌, List, [], ◌∷◌, ◌++◌, length, drop, get_or, set, refl, sym, ap, ◌∙◌}
+use Rattle.std.proofs.Common.{subst, arith, append_assoc, append-nil, length-append}
 use Rattle.std.proofs.Math.Seq.{set-append_seam, get_or-append_seam}
 use Rattle.flow.specs.declared.skeleton.Part.{Part}
 use Rattle.flow.specs.declared.skeleton.Part.TheOpen.{Part-F, Point, If, While}
@@ -85,7 +86,8 @@ module _ (a : Skeleton) (old l1 l2 : List Ends) (e0 : Ends) (e1 : l1 ≡ old ++ 
       ∙ ap (λ l. old ++ (record { middle = k + 1 + count a; end = k + 1 + count a } ∷ l)) (sym (append-nil A))
       ∙ ap (λ x. old ++ ends_from x k) (sym is)
 
-  pub fork_ends : (c b : Skeleton) (l3 l4 : List Ends) (n middle end : ℕ) → c ≡ Fork a b Nil → n ≡ length old → middle ≡ length l2 →
+  pub fork_ends : (c b : Skeleton) (l3 l4 : List Ends) (n middle end : ℕ) → c ≡ Fork a b Nil → n ≡ length old →
+      middle ≡ length l2 →
       l3 ≡ l2 ++ ends_from b (length l2) → end ≡ length l3 → l4 ≡ set l3 n (record { middle = middle; end = end }) → l4 ≡ old ++ ends_from c (length old)
   fork_ends c b l3 l4 n middle end is en em e3 ee e4 =
       let k = length old in
@@ -119,10 +121,12 @@ module _ (t : List Ends) where
   behind_some : (before some rest : List Ends) → t ≡ before ++ (some ++ rest) → t ≡ (before ++ some) ++ rest
   behind_some before some rest e = e ∙ sym (append_assoc before some rest)
 
-  behind_length : (before : List Ends) (c : Skeleton) (n m : ℕ) → n ≡ length before → n + count c ≡ m → m ≡ length (before ++ ends_from c n)
+  behind_length : (before : List Ends) (c : Skeleton) (n m : ℕ) → n ≡ length before → n + count c ≡ m →
+      m ≡ length (before ++ ends_from c n)
   behind_length before c n m en em = omega (arith, en, em, length-append before (ends_from c n), length_ends c n)
 
-  pub are_there : (c : Skeleton) (before after : List Ends) (n : ℕ) → n ≡ length before → t ≡ before ++ (ends_from c n ++ after) → AreEndsAt t c n
+  pub are_there : (c : Skeleton) (before after : List Ends) (n : ℕ) → n ≡ length before →
+      t ≡ before ++ (ends_from c n ++ after) → AreEndsAt t c n
   are_there Nil before after n en et = tt
   are_there (Step r) before after n en et =
       let e : Ends = record { middle = n + 1; end = n + 1 } in
@@ -163,7 +167,8 @@ module _ (t : List Ends) where
       )
 
 -- of a whole section
-pub are_all_there : (c : Skeleton) (none t : List Ends) → none ≡ [] → t ≡ none ++ ends_from c (length none) → AreEndsAt t c 0
+pub are_all_there : (c : Skeleton) (none t : List Ends) → none ≡ [] → t ≡ none ++ ends_from c (length none) →
+    AreEndsAt t c 0
 are_all_there c none t e et =
     are_there t c [] [] 0 refl (et ∙ ap (λ l. l ++ ends_from c (length l)) e ∙ sym (append-nil (ends_from c 0)))
 
@@ -187,23 +192,27 @@ module _ (t : List Ends) where
       let i = split_ends r d n2 h.2 in
       ((h.0, h.1, i.0), subst (AreEndsAt t d) e i.1)
 
-  front_read : (x : Part-F (Skeleton → Skeleton)) (n : ℕ) → AreEndsAt t (part_step x Nil) n → (middle : ℕ) × IsEndAt t n middle (n + count (part_step x Nil))
+  front_read : (x : Part-F (Skeleton → Skeleton)) (n : ℕ) → AreEndsAt t (part_step x Nil) n →
+      (middle : ℕ) × IsEndAt t n middle (n + count (part_step x Nil))
   front_read Point n h = (n + 1, h.0)
   front_read (If a b) n h = let e : n + 1 + count _ + count _ ≡ n + (1 + count _ + count _ + 0) = omega arith in (_, subst (IsEndAt t n _) e h.0)
   front_read (While a) n h = let e : n + 1 + count _ ≡ n + (1 + count _ + 0) = omega arith in (_, subst (IsEndAt t n _) e h.0)
 
   -- of a part whose points are numbered from n
-  pub part_read : (p : Part) (n : ℕ) → AreEndsAt t (part_in_front p Nil) n → (middle : ℕ) × IsEndAt t n middle (n + count (part_in_front p Nil))
+  pub part_read : (p : Part) (n : ℕ) → AreEndsAt t (part_in_front p Nil) n →
+      (middle : ℕ) × IsEndAt t n middle (n + count (part_in_front p Nil))
   part_read p n h =
       let e = fold_out-Part (Skeleton → Skeleton) part_step p in
       subst (λ f. (middle : ℕ) × IsEndAt t n middle (n + count (f Nil))) (sym e) (front_read _ n (subst (λ f. AreEndsAt t (f Nil) n) e h))
 
   -- of the first of some parts, and of the others
-  pub ends_split : (ps : List Part) (i n : ℕ) (p : Part) → p ≡ get_or ps i p → i < length ps → AreEndsAt t (skeleton_of (drop i ps)) n →
+  pub ends_split : (ps : List Part) (i n : ℕ) (p : Part) → p ≡ get_or ps i p → i < length ps →
+      AreEndsAt t (skeleton_of (drop i ps)) n →
       AreEndsAt t (part_in_front p Nil) n × AreEndsAt t (skeleton_of (drop (i + 1) ps)) (n + count (part_in_front p Nil))
   ends_split ps i n p is lt h =
       split_ends (part_in_front p Nil) (skeleton_of (drop (i + 1) ps)) n (subst (λ c. AreEndsAt t c n) (split_turn ps i p is lt) h)
 
   -- where a part ends
-  pub end_of : (p : Part) (n : ℕ) → AreEndsAt t (part_in_front p Nil) n → (get_or t n (record { middle = 0; end = 0 })).end ≡ n + count (part_in_front p Nil)
+  pub end_of : (p : Part) (n : ℕ) → AreEndsAt t (part_in_front p Nil) n →
+      (get_or t n (record { middle = 0; end = 0 })).end ≡ n + count (part_in_front p Nil)
   end_of p n h = let r = part_read p n h in ap (λ (e : Ends). e.end) (r.1.1 (record { middle = 0; end = 0 }))

@@ -7,7 +7,8 @@ use Rattle.std.proofs.lemmas.Bool.{eq-eqb, eqb-true, false≢true}
 use Rattle.std.proofs.lemmas.List.{length-map, get_or-map}
 use Rattle.std.proofs.lemmas.List.Folds.{list_any_at}
 use Rattle.std.proofs.lemmas.Map.Views.{Contains-from_any}
-use Rattle.std.proofs.lemmas.Option.{none-some, same_Some, slice_get-map, slice_get_within, slice_get_cases, get_or_from_slice_get}
+use Rattle.std.proofs.lemmas.Option.{none-some, same_Some, slice_get-map, slice_get_within, slice_get_cases}
+use Rattle.std.proofs.lemmas.Option.{get_or_from_slice_get}
 use Rattle.core_lang.specs.declared.tree.Section.{Section}
 use Rattle.core_lang.specs.declared.typed.Typed.{Typed}
 use Rattle.flow.specs.Skeletons.{Skeleton, skeleton, count}
@@ -40,7 +41,8 @@ named k scope = (
   (λ c. list_any_at (λ j. j == k) scope c.0 k c.1 (eq-eqb (get_or scope c.0 k) k c.2)),
 )
 
-bound_root : (o : Option ℕ) (root : Root) → Decides (elim o [ None ↦ false | Some k ↦ is_at k root ]) ((k : ℕ) × (root ≡ AtLocal k) × (o ≡ Some k))
+bound_root : (o : Option ℕ) (root : Root) →
+    Decides (elim o [ None ↦ false | Some k ↦ is_at k root ]) ((k : ℕ) × (root ≡ AtLocal k) × (o ≡ Some k))
 bound_root None root = decides_not false _ refl (λ h. none-some h.0 h.2)
 bound_root (Some k) GlobalLock = decides_not false _ refl (λ h. absurd cc)
 bound_root (Some k) (AtLocal j) = (
@@ -59,7 +61,8 @@ module _ (program : Typed) (section : Section) (counted : PointsAreCounted) wher
   )
 
   -- and back: at any number, where the relation holds of points alone
-  pub tell_all : (R : ℕ → LockPath → Type 0) (sets : List PathSet) → AreSets program section R sets → (i : ℕ) (path : LockPath) →
+  pub tell_all : (R : ℕ → LockPath → Type 0) (sets : List PathSet) → AreSets program section R sets →
+      (i : ℕ) (path : LockPath) →
       slice_get (lock_paths program section) i ≡ Some path → ((q : ℕ) → R q path → q < length (points section)) → (q : ℕ) → Decides (marks i sets q) (R q path)
   tell_all R sets are i path is within q =
       elim ((slice_get_cases sets q).1) [
@@ -70,10 +73,12 @@ module _ (program : Typed) (section : Section) (counted : PointsAreCounted) wher
   -- ---- what is used
 
   module _ (u : walk.Uses) (used : AreSets program section (Uses program section) u.used.now) where
-    uses_tell : (i : ℕ) (path : LockPath) → slice_get (lock_paths program section) i ≡ Some path → (q : ℕ) → Decides (uses u i q) (Uses program section q path)
+    uses_tell : (i : ℕ) (path : LockPath) → slice_get (lock_paths program section) i ≡ Some path → (q : ℕ) →
+        Decides (uses u i q) (Uses program section q path)
     uses_tell i path is q = tell_all (Uses program section) u.used.now used i path is (λ q x. slice_get_within (points section) q x.0 x.1) q
 
-    pub before_sets : (c : Skeleton) (sets : List PathSet) → c ≡ skeleton section → length sets ≡ count c → AreUsedBefore u c sets →
+    pub before_sets : (c : Skeleton) (sets : List PathSet) → c ≡ skeleton section → length sets ≡ count c →
+        AreUsedBefore u c sets →
         AreSets program section (IsUsedBefore program section) sets
     before_sets c sets same len exact =
         sets_by (IsUsedBefore program section) sets (len ∙ ap count same ∙ counted section)
@@ -82,7 +87,8 @@ module _ (program : Typed) (section : Section) (counted : PointsAreCounted) wher
         let d = subst (λ s. AreUsedBefore u s sets) same exact i p (omega (arith, lt, counted section)) in
         ((λ t. let h = d.0 t in (h.0, h.1, (tell h.0).0 h.2)), (λ h. d.1 (h.0, h.1, (tell h.0).1 h.2))))
 
-    pub later_sets : (c : Skeleton) (sets : List PathSet) → c ≡ skeleton section → length sets ≡ count c → AreUsedLater u c sets →
+    pub later_sets : (c : Skeleton) (sets : List PathSet) → c ≡ skeleton section → length sets ≡ count c →
+        AreUsedLater u c sets →
         AreSets program section (IsUsedLater program section) sets
     later_sets c sets same len exact =
         sets_by (IsUsedLater program section) sets (len ∙ ap count same ∙ counted section)
@@ -94,7 +100,8 @@ module _ (program : Typed) (section : Section) (counted : PointsAreCounted) wher
   -- ---- what is bound, and what is in scope
 
   module _ (r : List written.LockPath) (same : map lock_path_of r ≡ lock_paths program section) where
-    root_of : (test : Root → Bool) (i : ℕ) (path : LockPath) → slice_get (lock_paths program section) i ≡ Some path → test_root r test i ≡ test path.root
+    root_of : (test : Root → Bool) (i : ℕ) (path : LockPath) → slice_get (lock_paths program section) i ≡ Some path →
+        test_root r test i ≡ test path.root
     root_of test i path is =
         elim ((slice_get_cases r i).1) [
           | inl h ↦
@@ -107,14 +114,17 @@ module _ (program : Typed) (section : Section) (counted : PointsAreCounted) wher
         ]
 
     -- the column of a list of tests
-    column_at : {A : Type 0} (f : A → Bool) (xs : List A) (i : ℕ) (sets : List PathSet) (p : ℕ) (x : A) → column i sets ≡ map f xs → slice_get xs p ≡ Some x → marks i sets p ≡ f x
+    column_at : {A : Type 0} (f : A → Bool) (xs : List A) (i : ℕ) (sets : List PathSet) (p : ℕ) (x : A) →
+        column i sets ≡ map f xs → slice_get xs p ≡ Some x → marks i sets p ≡ f x
     column_at f xs i sets p x e at =
         ap (λ l. get_or l p false) e ∙ get_or-map f xs p x false (slice_get_within xs p x at) ∙ ap f (get_or_from_slice_get xs p x x at)
 
-    column_length : {A : Type 0} (f : A → Bool) (xs : List A) (sets : List PathSet) → column 0 sets ≡ map f xs → length sets ≡ length xs
+    column_length : {A : Type 0} (f : A → Bool) (xs : List A) (sets : List PathSet) → column 0 sets ≡ map f xs →
+        length sets ≡ length xs
     column_length f xs sets e = sym (length-map sets (λ (s : PathSet). has s 0)) ∙ ap length e ∙ length-map xs f
 
-    binds_tells : (i : ℕ) (path : LockPath) → slice_get (lock_paths program section) i ≡ Some path → (p : ℕ) (point : Point) → slice_get (points section) p ≡ Some point →
+    binds_tells : (i : ℕ) (path : LockPath) → slice_get (lock_paths program section) i ≡ Some path →
+        (p : ℕ) (point : Point) → slice_get (points section) p ≡ Some point →
         Decides (binds r i point) (BindsRoot section p path)
     binds_tells i path is p point at =
         let d = bound_root (bound_at point) path.root in
@@ -127,7 +137,8 @@ module _ (program : Typed) (section : Section) (counted : PointsAreCounted) wher
         by_bound None = refl
         by_bound (Some k) = root_of (is_at k) i path is
 
-    pub bound_sets : (sets : List PathSet) (ps : List Point) → ps ≡ points section → ((i : ℕ) → column i sets ≡ map (binds r i) ps) → AreSets program section (BindsRoot section) sets
+    pub bound_sets : (sets : List PathSet) (ps : List Point) → ps ≡ points section →
+        ((i : ℕ) → column i sets ≡ map (binds r i) ps) → AreSets program section (BindsRoot section) sets
     bound_sets sets ps listed columns =
         let all = λ (i : ℕ). columns i ∙ ap (map (binds r i)) listed in
         sets_by (BindsRoot section) sets (column_length (binds r 0) (points section) sets (all 0))
@@ -137,13 +148,16 @@ module _ (program : Typed) (section : Section) (counted : PointsAreCounted) wher
           | inr h ↦ absurd (omega (arith, lt, h.0))
         ])
 
-    among_tells : (root : Root) (p : ℕ) (scope : List ℕ) → IsScopeAt section p scope → Decides (is_among scope root) (IsRootInScope section p root)
+    among_tells : (root : Root) (p : ℕ) (scope : List ℕ) → IsScopeAt section p scope →
+        Decides (is_among scope root) (IsRootInScope section p root)
     among_tells GlobalLock p scope at = ((λ t. tt), (λ h. refl))
     among_tells (AtLocal k) p scope at =
         let d = named k scope in
         ((λ t. (scope, at, d.0 t)), (λ h. d.1 (subst (λ s. Contains s k) (same_Some h.0 scope (sym h.1 ∙ at)) h.2)))
 
-    pub scope_sets : (sets : List PathSet) → ScopesAreCounted → ((i : ℕ) → column i sets ≡ map (in_scope r i) (scopes section)) → AreSets program section (IsInScope section) sets
+    pub scope_sets : (sets : List PathSet) → ScopesAreCounted →
+        ((i : ℕ) → column i sets ≡ map (in_scope r i) (scopes section)) →
+        AreSets program section (IsInScope section) sets
     scope_sets sets each columns =
         sets_by (IsInScope section) sets (column_length (in_scope r 0) (scopes section) sets (columns 0) ∙ each section)
         (λ p i path lt is.
@@ -156,9 +170,11 @@ module _ (program : Typed) (section : Section) (counted : PointsAreCounted) wher
 
 -- ---- the whole
 
-pub classes_are : (ws : List written.LockPath) → map (λ (w : written.LockPath). w.class) ws ≡ map (λ (path : LockPath). path.class) (map lock_path_of ws)
+pub classes_are : (ws : List written.LockPath) →
+    map (λ (w : written.LockPath). w.class) ws ≡ map (λ (path : LockPath). path.class) (map lock_path_of ws)
 classes_are [] = refl
 classes_are (w ∷ ws) = ap (λ l. w.class ∷ l) (classes_are ws)
 
-pub points_of_same : (program : Typed) (section s : Section) (x : Points) → section ≡ s → ArePoints program section x → ArePoints program s x
+pub points_of_same : (program : Typed) (section s : Section) (x : Points) → section ≡ s →
+    ArePoints program section x → ArePoints program s x
 points_of_same program section s x e h = subst (λ (t : Section). ArePoints program t x) e h

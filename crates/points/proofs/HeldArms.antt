@@ -20,13 +20,16 @@ module _ (h : Held) (n : ℕ) where
   abbrev pub IsMeet : PathSet → PathSet → PathSet → Type 0
   IsMeet one two set = (i : ℕ) → has set i ≡ (has one i && has two i)
 
-  pub past_of : (m : ℕ) (set here : PathSet) → m ≡ n → ((i : ℕ) → has here i ≡ past_point h i m (has set i)) → IsPast set here
+  pub past_of : (m : ℕ) (set here : PathSet) → m ≡ n → ((i : ℕ) → has here i ≡ past_point h i m (has set i)) →
+      IsPast set here
   past_of m set here same is i = is i ∙ ap (λ k. past_point h i k (has set i)) same
 
-  pub through_step : (c : Skeleton) (first here : PathSet) → c ≡ Step Nil → IsPast first here → IsThrough h c n first here
+  pub through_step : (c : Skeleton) (first here : PathSet) → c ≡ Step Nil → IsPast first here →
+      IsThrough h c n first here
   through_step c first here is past i = past i ∙ ap (λ x. through (past_point h i) and x n (has first i)) (sym is)
 
-  pub through_fork : (c a b : Skeleton) (k m : ℕ) (first here one two set : PathSet) → c ≡ Fork a b Nil → k ≡ n + 1 → m ≡ k + count a → IsPast first here →
+  pub through_fork : (c a b : Skeleton) (k m : ℕ) (first here one two set : PathSet) → c ≡ Fork a b Nil → k ≡ n + 1 →
+      m ≡ k + count a → IsPast first here →
       IsThrough h a k here one → IsThrough h b m here two → IsMeet one two set → IsThrough h c n first set
   through_fork c a b k m first here one two set is ek em past in_a in_b met i =
       let P = past_point h i in
@@ -38,24 +41,28 @@ module _ (h : Held) (n : ℕ) where
       ∙ ap (λ x. through P and x n (has first i)) (sym is)
 
   -- what is held at a loop's condition
-  at_condition : (a : Skeleton) (k : ℕ) (first here round both : PathSet) → k ≡ n + 1 → IsPast first here → IsThrough h a k here round → IsMeet first round both → (i : ℕ) →
+  at_condition : (a : Skeleton) (k : ℕ) (first here round both : PathSet) → k ≡ n + 1 → IsPast first here →
+      IsThrough h a k here round → IsMeet first round both → (i : ℕ) →
       has both i ≡ (has first i && through (past_point h i) and a (n + 1) (past_point h i n (has first i)))
   at_condition a k first here round both ek past in_a met i =
       let P = past_point h i in
       met i ∙ ap (λ x. has first i && x) (in_a i ∙ ap (λ x. through P and a k x) (past i) ∙ ap (λ x. through P and a x (P n (has first i))) ek)
 
-  pub through_loop : (c a : Skeleton) (k : ℕ) (first here round both inner : PathSet) → c ≡ Loop a Nil → k ≡ n + 1 → IsPast first here →
+  pub through_loop : (c a : Skeleton) (k : ℕ) (first here round both inner : PathSet) → c ≡ Loop a Nil → k ≡ n + 1 →
+      IsPast first here →
       IsThrough h a k here round → IsMeet first round both → IsPast both inner → IsThrough h c n first inner
   through_loop c a k first here round both inner is ek past in_a met behind i =
       behind i ∙ ap (past_point h i n) (at_condition a k first here round both ek past in_a met i)
       ∙ ap (λ x. through (past_point h i) and x n (has first i)) (sym is)
 
-  pub held_step : (c : Skeleton) (first : PathSet) (was sets : Vec PathSet Global) → c ≡ Step Nil → sets.items ≡ was.items ++ first ∷ [] →
+  pub held_step : (c : Skeleton) (first : PathSet) (was sets : Vec PathSet Global) → c ≡ Step Nil →
+      sets.items ≡ was.items ++ first ∷ [] →
       AreHeld h c first was sets
   held_step c first was sets is push i =
       column-push i was.items sets.items first push ∙ ap (λ x. column i was.items ++ holds (past_point h i) and x was.len (has first i)) (sym is)
 
-  pub held_fork : (c a b : Skeleton) (first here : PathSet) (was one two sets : Vec PathSet Global) → c ≡ Fork a b Nil → was.len ≡ n → one.len ≡ n + 1 →
+  pub held_fork : (c a b : Skeleton) (first here : PathSet) (was one two sets : Vec PathSet Global) →
+      c ≡ Fork a b Nil → was.len ≡ n → one.len ≡ n + 1 →
       two.len ≡ one.len + count a → IsPast first here → one.items ≡ was.items ++ first ∷ [] → AreHeld h a here one two → AreHeld h b here two sets → AreHeld h c first was sets
   held_fork c a b first here was one two sets is ew e1 e2 past push in_a in_b i =
       let P = past_point h i in
@@ -90,7 +97,8 @@ module _ (h : Held) (n : ℕ) where
       ∙ ap (λ z. o ++ holds P and (Loop a Nil) z s) (sym ew)
       ∙ ap (λ z. o ++ holds P and z was.len s) (sym is)
 
-pub held_whole : (h : Held) (c : Skeleton) (empty : PathSet) (none : (i : ℕ) → has empty i ≡ false) (was sets : Vec PathSet Global) → was.items ≡ [] → was.len ≡ 0 →
+pub held_whole : (h : Held) (c : Skeleton) (empty : PathSet) (none : (i : ℕ) →
+    has empty i ≡ false) (was sets : Vec PathSet Global) → was.items ≡ [] → was.len ≡ 0 →
     AreHeld h c empty was sets → AreHeldAlong h c sets.items
 held_whole h c empty none was sets first len is i p lt =
     let P = past_point h i in

@@ -50,7 +50,8 @@ pairs_joined (Loop a r) d n k =
     ∙ sym (append_assoc (F (head r n2 next)) (pairs_from r n2 next) (pairs_from d (n + (1 + count a + count r)) k))
 
 -- one turn of the loop over parts
-pub pairs_turn : (ps : List Part) (i : ℕ) (p : Part) → p ≡ get_or ps i p → i < length ps → (list more : List (ℕ × ℕ)) (n end : ℕ) (k follower : Option ℕ) →
+pub pairs_turn : (ps : List Part) (i : ℕ) (p : Part) → p ≡ get_or ps i p → i < length ps →
+    (list more : List (ℕ × ℕ)) (n end : ℕ) (k follower : Option ℕ) →
     end ≡ n + count (part_in_front p Nil) → follower ≡ head (skeleton_of (drop (i + 1) ps)) end k → more ≡ list ++ pairs_from (part_in_front p Nil) n follower →
     more ++ pairs_from (skeleton_of (drop (i + 1) ps)) end k ≡ list ++ pairs_from (skeleton_of (drop i ps)) n k
 pairs_turn ps i p is h list more n end k follower ee ef em =
@@ -64,7 +65,8 @@ pairs_turn ps i p is h list more n end k follower ee ef em =
 
 -- ---- the first point
 
-head_of_front : (x : Part-F (Skeleton → Skeleton)) (r : Skeleton) (n : ℕ) (k : Option ℕ) → head (part_step x r) n k ≡ Some n
+head_of_front : (x : Part-F (Skeleton → Skeleton)) (r : Skeleton) (n : ℕ) (k : Option ℕ) →
+    head (part_step x r) n k ≡ Some n
 head_of_front Point r n k = refl
 head_of_front (If a b) r n k = refl
 head_of_front (While a) r n k = refl

@@ -1,21 +1,25 @@
 -- The greatest rank of a set's paths, and the paths of at most that rank.
-use Rattle.std.specs.Prelude.{◌≡◌, ◌<◌, ◌≤◌, ◌+◌, ◌↔◌, ◌⊎◌, ◌&&◌, ◌||◌, ℕ, true, false, not, nat_lt, List, length, slice_index, Option, Some, None}
+use Rattle.std.specs.Prelude.{◌≡◌, ◌<◌, ◌≤◌, ◌+◌, ◌↔◌, ◌⊎◌, ◌&&◌, ◌||◌, ℕ, true, false, not, nat_lt, List, length}
+use Rattle.std.specs.Prelude.{slice_index, Option, Some, None}
 use Rattle.std.specs.Bool.{Decides}
 use Rattle.std.proofs.Common.{sym, ap, ◌∙◌, subst, arith, inl, inr}
-use Rattle.std.proofs.lemmas.Bool.{cases_eq, and_parts, and_from, or_cases, or_left, or_right, not-true, not_from_false, ltb-false, lt-ltb, le-ltb, false≢true}
+use Rattle.std.proofs.lemmas.Bool.{cases_eq, and_parts, and_from, or_cases, or_left, or_right, not-true}
+use Rattle.std.proofs.lemmas.Bool.{not_from_false, ltb-false, lt-ltb, le-ltb, false≢true}
 use Rattle.locks.specs.declared.path_set.PathSet.{PathSet}
 use Rattle.locks.specs.Sets.{has}
 use Rattle.points.specs.Working.Ranks.{IsReached, IsWithin, IsGreatest, IsWantedBy}
 
 module _ (ranks : List ℕ) (used : PathSet) where
-  reached_before : (n j rank : ℕ) → j < n + 1 → (j ≡ n → ⊥) → has used j ≡ true → rank ≤ slice_index ranks j → IsReached ranks used n rank
+  reached_before : (n j rank : ℕ) → j < n + 1 → (j ≡ n → ⊥) → has used j ≡ true → rank ≤ slice_index ranks j →
+      IsReached ranks used n rank
   reached_before n j rank lt other is le = (j, below, is, le)
     where
       below : j < n
       below = omega (arith, lt, other)
 
   -- with a path more
-  pub greatest_more : (n g : ℕ) (o : Option ℕ) → IsGreatest ranks used n o → has used n ≡ true → ((rank : ℕ) → (rank ≤ g) ↔ (IsWithin rank o ⊎ (rank ≤ slice_index ranks n))) →
+  pub greatest_more : (n g : ℕ) (o : Option ℕ) → IsGreatest ranks used n o → has used n ≡ true →
+      ((rank : ℕ) → (rank ≤ g) ↔ (IsWithin rank o ⊎ (rank ≤ slice_index ranks n))) →
       IsGreatest ranks used (n + 1) (Some g)
   greatest_more n g o was is more rank = (
     (λ le. elim ((more rank).0 le) [ inl w ↦ let h = (was rank).0 w in (h.0, omega (arith, h.1), h.2, h.3) | inr here ↦ (n, omega arith, is, here) ]),
@@ -26,7 +30,8 @@ module _ (ranks : List ℕ) (used : PathSet) where
   )
 
   -- with a path that isn't in the set
-  pub greatest_same : (n : ℕ) (o : Option ℕ) → IsGreatest ranks used n o → has used n ≡ false → IsGreatest ranks used (n + 1) o
+  pub greatest_same : (n : ℕ) (o : Option ℕ) → IsGreatest ranks used n o → has used n ≡ false →
+      IsGreatest ranks used (n + 1) o
   greatest_same n o was no_path rank = (
     (λ w. let h = (was rank).0 w in (h.0, omega (arith, h.1), h.2, h.3)),
     (λ h. elim (cases_eq h.0 n) [
@@ -54,7 +59,8 @@ module _ (ranks : List ℕ) (used : PathSet) where
             of_set i ∙ and_from (has both i) (has either i) b e),
       )
 
-  pub wanted_none : (later scope empty : PathSet) → IsGreatest ranks used (length ranks) None → ((i : ℕ) → has empty i ≡ false) → (i : ℕ) → i < length ranks →
+  pub wanted_none : (later scope empty : PathSet) → IsGreatest ranks used (length ranks) None →
+      ((i : ℕ) → has empty i ≡ false) → (i : ℕ) → i < length ranks →
       Decides (has empty i) (IsWantedBy ranks used later scope i)
   wanted_none later scope empty greatest none i lt =
       ((λ t. absurd (false≢true (sym (none i) ∙ t))), (λ w. absurd ((greatest (slice_index ranks i)).1 w.2)))

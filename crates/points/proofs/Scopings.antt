@@ -1,6 +1,8 @@
 -- Going over statements with the paths in scope.
-use Rattle.std.specs.Prelude.{◌≡◌, ℕ, zero, suc, ◌+◌, ◌<◌, ◌≤◌, ◌==◌, ◌||◌, nat_lt, Bool, true, false, List, [], ◌∷◌, ◌++◌, map, slice_get, Option, Some, None}
-use Rattle.std.proofs.Common.{refl, sym, ap, ◌∙◌, arith, length, take, get_or, append_assoc, append-nil, Vec, Global, inl, inr}
+use Rattle.std.specs.Prelude.{◌≡◌, ℕ, zero, suc, ◌+◌, ◌<◌, ◌≤◌, ◌==◌, ◌||◌, nat_lt, Bool, true, false, List, [], ◌∷◌}
+use Rattle.std.specs.Prelude.{◌++◌, map, slice_get, Option, Some, None}
+use Rattle.std.proofs.Common.{refl, sym, ap, ◌∙◌, arith, length, take, get_or, append_assoc, append-nil, Vec, Global}
+use Rattle.std.proofs.Common.{inl, inr}
 use Rattle.std.proofs.lemmas.List.{map-append, take_more}
 use Rattle.std.proofs.lemmas.Bool.{cases_lt, lt-ltb, le-ltb, eq-eqb, ne_eqb}
 use Rattle.std.proofs.lemmas.Option.{slice_get_past, slice_get-get_or}
@@ -20,7 +22,8 @@ use Rattle.locks.specs.declared.path.LockPath as written
 use Rattle.locks.specs.declared.path_set.PathSet.{PathSet}
 use Rattle.locks.specs.Sets.{has}
 use Rattle.points.specs.Working.Passes.{column}
-use Rattle.points.specs.Working.Scoping.{is_at, is_among, test_at, test_root, AreThose, in_scope, binds, IsAfter, AreScopes, of_block, of_inner, behind_block, behind_action}
+use Rattle.points.specs.Working.Scoping.{is_at, is_among, test_at, test_root, AreThose, in_scope, binds, IsAfter}
+use Rattle.points.specs.Working.Scoping.{AreScopes, of_block, of_inner, behind_block, behind_action}
 use Rattle.points.proofs.Sets.{column-push}
 
 or_comm : (x y : Bool) → (x || y) ≡ (y || x)
@@ -57,13 +60,15 @@ among_parameters k n =
 -- ---- tests of roots
 
 module _ (r : List written.LockPath) where
-  pub test_here : (test : Root → Bool) (i : ℕ) (d : written.LockPath) → i < length r → test_root r test i ≡ test (get_or r i d).root
+  pub test_here : (test : Root → Bool) (i : ℕ) (d : written.LockPath) → i < length r →
+      test_root r test i ≡ test (get_or r i d).root
   test_here test i d lt = ap (test_at test) (slice_get-get_or r i d lt)
 
   pub test_past : (test : Root → Bool) (i : ℕ) → length r ≤ i → test_root r test i ≡ false
   test_past test i h = ap (test_at test) (slice_get_past r i h)
 
-  with_root : (local : ℕ) (locals : List ℕ) (o : Option written.LockPath) → (test_at (is_among locals) o || test_at (is_at local) o) ≡ test_at (is_among (local ∷ locals)) o
+  with_root : (local : ℕ) (locals : List ℕ) (o : Option written.LockPath) →
+      (test_at (is_among locals) o || test_at (is_at local) o) ≡ test_at (is_among (local ∷ locals)) o
   with_root local locals None = refl
   with_root local locals (Some path) = by_root path.root
     where
@@ -72,14 +77,16 @@ module _ (r : List written.LockPath) where
       by_root (AtLocal k) = or_comm (names k locals) (local == k)
 
   -- behind a statement that binds a local
-  pub behind_bind : (action : Action) (local : ℕ) (scope here set : PathSet) → ((locals : List ℕ) → behind_action action locals ≡ local ∷ locals) → AreThose r (is_at local) here →
+  pub behind_bind : (action : Action) (local : ℕ) (scope here set : PathSet) →
+      ((locals : List ℕ) → behind_action action locals ≡ local ∷ locals) → AreThose r (is_at local) here →
       ((i : ℕ) → has set i ≡ (has scope i || has here i)) → IsAfter r scope (behind_action action) set
   behind_bind action local scope here set is at joined locals was i =
       joined i ∙ ap (λ b. b || has here i) (was i) ∙ ap (λ b. test_root r (is_among locals) i || b) (at i)
       ∙ with_root local locals (slice_get r i) ∙ ap (λ ls. test_root r (is_among ls) i) (sym (is locals))
 
   -- the roots that one point more binds
-  pub bound_more : (ps : List PointRef) (k : ℕ) (p : PointRef) (sets more_sets : List PathSet) (set : PathSet) → p ≡ get_or ps k p → k < length ps →
+  pub bound_more : (ps : List PointRef) (k : ℕ) (p : PointRef) (sets more_sets : List PathSet) (set : PathSet) →
+      p ≡ get_or ps k p → k < length ps →
       ((i : ℕ) → column i sets ≡ map (binds r i) (map point_at (take k ps))) → ((i : ℕ) → has set i ≡ binds r i (point_at p)) → more_sets ≡ sets ++ set ∷ [] → (i : ℕ) →
       column i more_sets ≡ map (binds r i) (map point_at (take (k + 1) ps))
   bound_more ps k p sets more_sets set is lt was here push i =
@@ -90,13 +97,15 @@ module _ (r : List written.LockPath) where
 
   -- ---- the scopes of blocks
 
-  scopes_front : (locals : List ℕ) (xs ys : List Stmt) → scopes_of_all locals (xs ++ ys) ≡ scopes_of_all locals xs ++ scopes_of_all (scope_after_all locals xs) ys
+  scopes_front : (locals : List ℕ) (xs ys : List Stmt) →
+      scopes_of_all locals (xs ++ ys) ≡ scopes_of_all locals xs ++ scopes_of_all (scope_after_all locals xs) ys
   scopes_front locals [] ys = refl
   scopes_front locals (x ∷ xs) ys =
       ap (λ l. locals ∷ (inner_scopes locals x.action ++ l)) (scopes_front (scope_after locals x.action) xs ys)
       ∙ ap (λ l. locals ∷ l) (sym (append_assoc (inner_scopes locals x.action) (scopes_of_all (scope_after locals x.action) xs) (scopes_of_all (scope_after_all (scope_after locals x.action) xs) ys)))
 
-  after_front : (locals : List ℕ) (xs ys : List Stmt) → scope_after_all locals (xs ++ ys) ≡ scope_after_all (scope_after_all locals xs) ys
+  after_front : (locals : List ℕ) (xs ys : List Stmt) →
+      scope_after_all locals (xs ++ ys) ≡ scope_after_all (scope_after_all locals xs) ys
   after_front locals [] ys = refl
   after_front locals (x ∷ xs) ys = after_front (scope_after locals x.action) xs ys
 
@@ -104,7 +113,8 @@ module _ (r : List written.LockPath) where
   more ss k s is lt = take_more ss k s lt ∙ ap (λ x. take k ss ++ x ∷ []) (sym is)
 
   -- one turn of the loop over statements
-  pub behind_turn : (ss : List Stmt) (k : ℕ) (s : Stmt) (first scope next : PathSet) → s ≡ get_or ss k s → k < length ss →
+  pub behind_turn : (ss : List Stmt) (k : ℕ) (s : Stmt) (first scope next : PathSet) → s ≡ get_or ss k s →
+      k < length ss →
       IsAfter r first (behind_block (take k ss)) scope → IsAfter r scope (behind_action s.action) next → IsAfter r first (behind_block (take (k + 1) ss)) next
   behind_turn ss k s first scope next is lt was on locals opens i =
       on (scope_after_all locals (take k ss)) (was locals opens) i
@@ -156,14 +166,16 @@ module _ (r : List written.LockPath) where
       (ap (scopes_of_all locals) same ∙ sym (inner_scopes-While c a locals) ∙ ap (inner_scopes locals) (sym is))
 
   -- a whole section
-  section_scopes : (section : Section) (opening : PathSet) (ss : List Stmt) (was sets : Vec PathSet Global) → AreThose r (is_among (numbers_from 0 section.parameters)) opening →
+  section_scopes : (section : Section) (opening : PathSet) (ss : List Stmt) (was sets : Vec PathSet Global) →
+      AreThose r (is_among (numbers_from 0 section.parameters)) opening →
       was.items ≡ [] → ss ≡ section.body.items → AreScopes r opening (of_block ss) was sets → (i : ℕ) →
       column i sets.items ≡ map (in_scope r i) (scopes_of_all (numbers_from 0 section.parameters) section.body.items)
   section_scopes section opening ss was sets opens empty same h i =
       h (numbers_from 0 section.parameters) opens i ∙ ap (λ l. column i l ++ map (in_scope r i) (scopes_of_all (numbers_from 0 section.parameters) ss)) empty
       ∙ ap (λ l. map (in_scope r i) (scopes_of_all (numbers_from 0 section.parameters) l)) same
 
-  pub scopes_without : (section : Section) (opening : PathSet) (ss : List Stmt) (was sets : Vec PathSet Global) → AreThose r (is_among (numbers_from 0 section.parameters)) opening →
+  pub scopes_without : (section : Section) (opening : PathSet) (ss : List Stmt) (was sets : Vec PathSet Global) →
+      AreThose r (is_among (numbers_from 0 section.parameters)) opening →
       was.items ≡ [] → ss ≡ section.body.items → AreScopes r opening (of_block ss) was sets → section.result ≡ None → (i : ℕ) →
       column i sets.items ≡ map (in_scope r i) (scopes section)
   scopes_without section opening ss was sets opens empty same h none i =

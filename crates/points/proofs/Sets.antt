@@ -1,5 +1,6 @@
 -- Sets of paths for points, seen one path at a time.
-use Rattle.std.specs.Prelude.{◌≡◌, ℕ, zero, suc, ◌+◌, ◌≤◌, ◌==◌, ◌||◌, ◌&&◌, nat_lt, Bool, true, false, List, [], ◌∷◌, ◌++◌, replicate, reverse, slice_get, Some}
+use Rattle.std.specs.Prelude.{◌≡◌, ℕ, zero, suc, ◌+◌, ◌≤◌, ◌==◌, ◌||◌, ◌&&◌, nat_lt, Bool, true, false, List, [], ◌∷◌}
+use Rattle.std.specs.Prelude.{◌++◌, replicate, reverse, slice_get, Some}
 use Rattle.std.proofs.Common.{refl, sym, ap, ◌∙◌, arith, length, inl, inr}
 use Rattle.std.proofs.lemmas.List.{map-append, get_or-map, get_or_past, length-map, reverse-append}
 use Rattle.std.proofs.lemmas.Bool.{cases_lt, cases_eq, lt-ltb, le-ltb, eq-eqb, ne_eqb}
@@ -9,7 +10,8 @@ use Rattle.locks.specs.Sets.{has}
 use Rattle.points.specs.Working.Passes.{column, marks}
 
 -- one set more
-pub column-push : (i : ℕ) (was sets : List PathSet) (set : PathSet) → sets ≡ was ++ set ∷ [] → column i sets ≡ column i was ++ has set i ∷ []
+pub column-push : (i : ℕ) (was sets : List PathSet) (set : PathSet) → sets ≡ was ++ set ∷ [] →
+    column i sets ≡ column i was ++ has set i ∷ []
 column-push i was sets set e = ap (column i) e ∙ map-append (λ (s : PathSet). has s i) was (set ∷ [])
 
 -- the same set so many times
@@ -17,7 +19,8 @@ pub column-times : (i : ℕ) (n : ℕ) (set : PathSet) → column i (replicate n
 column-times i zero set = refl
 column-times i (suc n) set = ap (λ l. has set i ∷ l) (column-times i n set)
 
-pub column-more : (i : ℕ) (was sets : List PathSet) (n : ℕ) (set : PathSet) → sets ≡ was ++ replicate n set → column i sets ≡ column i was ++ replicate n (has set i)
+pub column-more : (i : ℕ) (was sets : List PathSet) (n : ℕ) (set : PathSet) → sets ≡ was ++ replicate n set →
+    column i sets ≡ column i was ++ replicate n (has set i)
 column-more i was sets n set e =
     ap (column i) e ∙ map-append (λ (s : PathSet). has s i) was (replicate n set) ∙ ap (λ l. column i was ++ l) (column-times i n set)
 
@@ -28,7 +31,8 @@ column-reverse i (s ∷ ss) =
     ∙ ap (λ l. l ++ has s i ∷ []) (column-reverse i ss) ∙ sym (reverse-append (has s i ∷ []) (column i ss))
 
 -- the set at a place
-pub marks_at : (i : ℕ) (sets : List PathSet) (p : ℕ) (set : PathSet) → slice_get sets p ≡ Some set → marks i sets p ≡ has set i
+pub marks_at : (i : ℕ) (sets : List PathSet) (p : ℕ) (set : PathSet) → slice_get sets p ≡ Some set →
+    marks i sets p ≡ has set i
 marks_at i sets p set e =
     get_or-map (λ (s : PathSet). has s i) sets p set false (slice_get_within sets p set e)
     ∙ ap (λ s. has s i) (get_or_from_slice_get sets p set set e)
@@ -64,7 +68,8 @@ same_below j n other =
     ]
 
 module _ (test : ℕ → Bool) where
-  pub up_to_yes : (n : ℕ) (set more : PathSet) → IsUpTo test n set → ((j : ℕ) → has more j ≡ (has set j || j == n)) → test n ≡ true → IsUpTo test (n + 1) more
+  pub up_to_yes : (n : ℕ) (set more : PathSet) → IsUpTo test n set → ((j : ℕ) → has more j ≡ (has set j || j == n)) →
+      test n ≡ true → IsUpTo test (n + 1) more
   up_to_yes n set more was added passes j =
       elim (cases_eq j n) [
         | inl same ↦
@@ -80,7 +85,8 @@ module _ (test : ℕ → Bool) where
         | inr other ↦ was j ∙ ap (λ b. b && test j) (same_below j n other)
       ]
 
-  pub up_to_all : (n : ℕ) (set : PathSet) → IsUpTo test n set → ((j : ℕ) → n ≤ j → test j ≡ false) → (j : ℕ) → has set j ≡ test j
+  pub up_to_all : (n : ℕ) (set : PathSet) → IsUpTo test n set → ((j : ℕ) → n ≤ j → test j ≡ false) → (j : ℕ) →
+      has set j ≡ test j
   up_to_all n set was none j =
       elim (cases_lt j n) [
         | inl lt ↦ was j ∙ ap (λ b. b && test j) (lt-ltb j n lt)

@@ -38,5 +38,6 @@ module _ (program : Typed) (section : Section) (ranks : List ℕ) (path : LockPa
       let free = λ (is : BindsRoot section p path). parts.1 ((b p).1 is) in
       elim (parts.0) [ inl x ↦ last ((w p).0 x) free | inr x ↦ earlier (covers_taken ps x) free ]
 
-  pub held_decided : (p : ℕ) (set : Bool) → Decides set (SurelyHeld wanted binds (skeleton section) p) → Decides set (IsSurelyHeld program section ranks p path)
+  pub held_decided : (p : ℕ) (set : Bool) → Decides set (SurelyHeld wanted binds (skeleton section) p) →
+      Decides set (IsSurelyHeld program section ranks p path)
   held_decided p set d = ((λ t ps walk. covers_taken ps (d.0 t ps walk)), (λ h. d.1 (λ ps walk. taken_covers ps (h ps walk))))

@@ -1,10 +1,12 @@
 -- From sets, path by path, to what is wanted and surely held.
-use Rattle.std.specs.Prelude.{◌≡◌, ◌<◌, ◌≤◌, ℕ, Bool, List, [], ◌∷◌, ◌++◌, ◌+◌, map, length, slice_index, slice_get, Some}
+use Rattle.std.specs.Prelude.{◌≡◌, ◌<◌, ◌≤◌, ℕ, Bool, List, [], ◌∷◌, ◌++◌, ◌+◌, map, length, slice_index, slice_get}
+use Rattle.std.specs.Prelude.{Some}
 use Rattle.std.specs.Bool.{Decides}
 use Rattle.std.proofs.Common.{refl, sym, ap, ◌∙◌, subst, arith, inl, inr}
 use Rattle.std.proofs.lemmas.List.{get_or-map, length-map, get_or_append_left, get_or_push}
 use Rattle.std.proofs.lemmas.Bool.{cases_lt}
-use Rattle.std.proofs.lemmas.Option.{slice_get_read, slice_get-get_or, slice_get_within, slice_get_cases, get_or_from_slice_get}
+use Rattle.std.proofs.lemmas.Option.{slice_get_read, slice_get-get_or, slice_get_within, slice_get_cases}
+use Rattle.std.proofs.lemmas.Option.{get_or_from_slice_get}
 use Rattle.core_lang.specs.declared.tree.Section.{Section}
 use Rattle.core_lang.specs.declared.typed.Typed.{Typed}
 use Rattle.flow.specs.Skeletons.{Skeleton, skeleton, count}
@@ -24,7 +26,8 @@ use Rattle.points.proofs.Exact.{sets_by, tell_all}
 use Rattle.points.proofs.Taken.{held_decided}
 
 -- the set of one point more
-pub wanted_more : (x : Points) (ranks : List ℕ) (n : ℕ) (sets more : List PathSet) (set used later scope : PathSet) → length sets ≡ n → more ≡ sets ++ set ∷ [] →
+pub wanted_more : (x : Points) (ranks : List ℕ) (n : ℕ) (sets more : List PathSet) (set used later scope : PathSet) →
+    length sets ≡ n → more ≡ sets ++ set ∷ [] →
     used ≡ set_at x.used.items n → later ≡ set_at x.used_later.items n → scope ≡ set_at x.in_scope.items n → AreWantedBy x ranks n sets →
     ((i : ℕ) → i < length ranks → Decides (has set i) (IsWantedBy ranks used later scope i)) → AreWantedBy x ranks (n + 1) more
 wanted_more x ranks n sets more set used later scope len push eu el es was is p i lt li =
@@ -41,7 +44,8 @@ wanted_more x ranks n sets more set used later scope len push eu el es was is p 
           subst (λ q. T q (set_at more q)) same (subst (T n) (sym (ap (λ l. set_at l n) push ∙ get_or_push sets set none n len)) here)
     ]
 
-ranks_twice : (ranks : List ℕ) (paths : List LockPath) → map (slice_index ranks) (map (λ (path : LockPath). path.class) paths) ≡ map (rank_of ranks) paths
+ranks_twice : (ranks : List ℕ) (paths : List LockPath) →
+    map (slice_index ranks) (map (λ (path : LockPath). path.class) paths) ≡ map (rank_of ranks) paths
 ranks_twice ranks [] = refl
 ranks_twice ranks (p ∷ ps) = ap (λ l. slice_index ranks p.class ∷ l) (ranks_twice ranks ps)
 
@@ -50,7 +54,8 @@ module _ (program : Typed) (section : Section) (counted : PointsAreCounted) (lis
   ranks_are : by_path ≡ map (rank_of ranks) (lock_paths program section)
   ranks_are = is_by ∙ ap (map (slice_index ranks)) are.classes ∙ ranks_twice ranks (lock_paths program section)
 
-  rank_at : (i : ℕ) (path : LockPath) → slice_get (lock_paths program section) i ≡ Some path → slice_index by_path i ≡ rank_of ranks path
+  rank_at : (i : ℕ) (path : LockPath) → slice_get (lock_paths program section) i ≡ Some path →
+      slice_index by_path i ≡ rank_of ranks path
   rank_at i path is =
       ap (λ l. slice_index l i) ranks_are ∙ get_or-map (rank_of ranks) (lock_paths program section) i path 0 (slice_get_within (lock_paths program section) i path is)
       ∙ ap (rank_of ranks) (get_or_from_slice_get (lock_paths program section) i path path is)
@@ -58,14 +63,17 @@ module _ (program : Typed) (section : Section) (counted : PointsAreCounted) (lis
   as_many : length by_path ≡ length (lock_paths program section)
   as_many = ap length ranks_are ∙ length-map (lock_paths program section) (rank_of ranks)
 
-  there : (sets : List PathSet) (p : ℕ) → length sets ≡ length (points section) → p < length (points section) → slice_get sets p ≡ Some (set_at sets p)
+  there : (sets : List PathSet) (p : ℕ) → length sets ≡ length (points section) → p < length (points section) →
+      slice_get sets p ≡ Some (set_at sets p)
   there sets p len lt = slice_get-get_or sets p (record { bits = 0 }) (omega (arith, len, lt))
 
-  used_tell : (p i : ℕ) (path : LockPath) → p < length (points section) → slice_get (lock_paths program section) i ≡ Some path →
+  used_tell : (p i : ℕ) (path : LockPath) → p < length (points section) →
+      slice_get (lock_paths program section) i ≡ Some path →
       Decides (has (set_at x.used.items p) i) (Uses program section p path)
   used_tell p i path lt is = are.used.1 p i (set_at x.used.items p) path (there x.used.items p are.used.0 lt) is
 
-  reached_to : (p rank : ℕ) → p < length (points section) → IsReached by_path (set_at x.used.items p) (length by_path) rank →
+  reached_to : (p rank : ℕ) → p < length (points section) →
+      IsReached by_path (set_at x.used.items p) (length by_path) rank →
       (other : LockPath) × Uses program section p other × (rank ≤ rank_of ranks other)
   reached_to p rank lt h =
       elim ((slice_get_cases (lock_paths program section) h.0).1) [
@@ -73,14 +81,16 @@ module _ (program : Typed) (section : Section) (counted : PointsAreCounted) (lis
         | inr c ↦ absurd (omega (arith, c.0, h.1, as_many))
       ]
 
-  reached_from : (p rank : ℕ) → p < length (points section) → (other : LockPath) → Uses program section p other → rank ≤ rank_of ranks other →
+  reached_from : (p rank : ℕ) → p < length (points section) → (other : LockPath) → Uses program section p other →
+      rank ≤ rank_of ranks other →
       IsReached by_path (set_at x.used.items p) (length by_path) rank
   reached_from p rank lt other u le =
       let c = (listed program section other).1 (p, u) in
       let at : slice_get (lock_paths program section) c.0 ≡ Some other = slice_get_read (lock_paths program section) (length (lock_paths program section)) c.0 other refl c.1 (sym c.2) in
       (c.0, omega (arith, c.1, as_many), (used_tell p c.0 other lt at).1 u, subst (λ r. rank ≤ r) (sym (rank_at c.0 other at)) le)
 
-  decided : (p i : ℕ) (path : LockPath) (set : Bool) → p < length (points section) → slice_get (lock_paths program section) i ≡ Some path →
+  decided : (p i : ℕ) (path : LockPath) (set : Bool) → p < length (points section) →
+      slice_get (lock_paths program section) i ≡ Some path →
       Decides set (IsWantedBy by_path (set_at x.used.items p) (set_at x.used_later.items p) (set_at x.in_scope.items p) i) → Decides set (IsWanted program section ranks p path)
   decided p i path set lt is d =
       let used = used_tell p i path lt is in
@@ -101,7 +111,8 @@ module _ (program : Typed) (section : Section) (counted : PointsAreCounted) (lis
         )),
       )
 
-  pub wanted_sets : (n : ℕ) (sets : List PathSet) → n ≡ length (points section) → length sets ≡ n → AreWantedBy x by_path n sets →
+  pub wanted_sets : (n : ℕ) (sets : List PathSet) → n ≡ length (points section) → length sets ≡ n →
+      AreWantedBy x by_path n sets →
       AreSets program section (IsWanted program section ranks) sets
   wanted_sets n sets count_is len exact = (
     len ∙ count_is,
@@ -112,7 +123,9 @@ module _ (program : Typed) (section : Section) (counted : PointsAreCounted) (lis
         (decided p i path (has (set_at sets p) i) lt is (exact p i (omega (arith, lt, count_is)) (omega (arith, as_many, slice_get_within (lock_paths program section) i path is)))),
   )
 
-  pub held_sets : (h : Held) (c : Skeleton) (sets : List PathSet) → AreSets program section (IsWanted program section ranks) h.wanted.now → h.bound.now ≡ x.bound.items → c ≡ skeleton section →
+  pub held_sets : (h : Held) (c : Skeleton) (sets : List PathSet) →
+      AreSets program section (IsWanted program section ranks) h.wanted.now → h.bound.now ≡ x.bound.items →
+      c ≡ skeleton section →
       length sets ≡ count c → AreHeldAlong h c sets → AreSets program section (IsSurelyHeld program section ranks) sets
   held_sets h c sets wanted bound same len exact =
       let binds : AreSets program section (BindsRoot section) h.bound.now = subst (AreSets program section (BindsRoot section)) (sym bound) are.bound in

@@ -22,7 +22,8 @@ module _ (u : Uses) (c : Skeleton) (empty : PathSet) (none : (i : ℕ) → has e
       ∙ ap (befores or w c 0) (none i) in
       before_column or false (λ (b : Bool). b) (λ a b. refl) refl w false (column i sets.items) c e p lt
 
-  pub later_whole : (n : ℕ) (back : List PathSet) → n ≡ 0 → back ≡ reverse sets.items → AreLater u c n empty was sets → AreUsedLater u c back
+  pub later_whole : (n : ℕ) (back : List PathSet) → n ≡ 0 → back ≡ reverse sets.items →
+      AreLater u c n empty was sets → AreUsedLater u c back
   later_whole n back start turned h i p lt =
       let w = uses u i in
       let e : column i back ≡ laters or w c 0 false =

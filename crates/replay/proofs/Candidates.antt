@@ -1,5 +1,6 @@
 -- Which call a line can be of.
-use Rattle.std.proofs.Common.{◌≡◌, ◌∙◌, ◌<◌, ◌≤◌, ◌^◌, ℕ, zero, suc, true, false, List, [], ◌∷◌, ◌++◌, length, slice_get, Option, Some, None, arith, sym, ap, refl, subst}
+use Rattle.std.proofs.Common.{◌≡◌, ◌∙◌, ◌<◌, ◌≤◌, ◌^◌, ℕ, zero, suc, true, false, List, [], ◌∷◌, ◌++◌, length}
+use Rattle.std.proofs.Common.{slice_get, Option, Some, None, arith, sym, ap, refl, subst}
 use Rattle.std.specs.Prelude.{option_map, drop}
 use Rattle.std.specs.Option.{option_map_or}
 use Rattle.std.proofs.lemmas.Bool.{le-leb, leb-true, and_from, and_parts}
@@ -41,15 +42,18 @@ get_none [] k none = omega arith
 get_none (x ∷ xs) zero none = absurd (cc)
 get_none (x ∷ xs) (suc k) none = let h = get_none xs k none in omega (arith, h)
 
-mapped : {A B : Type 0} (f : A → B) (o : Option A) (y : B) → option_map f o ≡ Some y → (x : A) × (o ≡ Some x) × (f x ≡ y)
+mapped : {A B : Type 0} (f : A → B) (o : Option A) (y : B) → option_map f o ≡ Some y →
+    (x : A) × (o ≡ Some x) × (f x ≡ y)
 mapped f None y is = absurd (cc)
 mapped f (Some x) y is = (x, refl, cc)
 
-short_begin : (format : Format) (order : List ℕ) (t begun : ℕ) → MayBegin format order t begun → length order < 2 ^ 63 → IsShort format begun
+short_begin : (format : Format) (order : List ℕ) (t begun : ℕ) → MayBegin format order t begun →
+    length order < 2 ^ 63 → IsShort format begun
 short_begin One order t begun may short = may
 short_begin Two order t begun may short = let h = may.0 in omega (arith, h)
 
-begins_told : (format : Format) (seats : List Seat) (order : List ℕ) (t begun position : ℕ) → AreSeats seats order → position ≡ length order →
+begins_told : (format : Format) (seats : List Seat) (order : List ℕ) (t begun position : ℕ) → AreSeats seats order →
+    position ≡ length order →
     MayBegin format order t begun → begins_at format (least_at seats t) position (shown format begun) ≡ true
 begins_told One seats order t begun position are is may = refl
 begins_told Two seats order t begun position are is may =
@@ -57,7 +61,8 @@ begins_told Two seats order t begun position are is may =
     let most = may.0 in
     and_from _ _ (le-leb _ _ least) (le-leb _ _ (omega (arith, most, is)))
 
-begins_allowed : (format : Format) (seats : List Seat) (order : List ℕ) (t begun position : ℕ) → AreSeats seats order → position ≡ length order →
+begins_allowed : (format : Format) (seats : List Seat) (order : List ℕ) (t begun position : ℕ) →
+    AreSeats seats order → position ≡ length order →
     begins_at format (least_at seats t) position begun ≡ true → MayBegin format order t begun
 begins_allowed One seats order t begun position are is may = tt
 begins_allowed Two seats order t begun position are is may =
@@ -147,7 +152,8 @@ module _ (format : Format) (program : Typed) (at : Progress) (text : List ℕ) (
 
     -- ---- the only call
 
-    same_heads : (f : Format) (call : Scheduled) (begun other : ℕ) → other ≡ shown f begun → call_head f program call begun ≡ call_head f program call other
+    same_heads : (f : Format) (call : Scheduled) (begun other : ℕ) → other ≡ shown f begun →
+        call_head f program call begun ≡ call_head f program call other
     same_heads One call begun other same = refl
     same_heads Two call begun other same = ap (call_head Two program call) (sym same)
 
@@ -204,7 +210,8 @@ pub begins_with : (word text rest : List ℕ) → text ≡ word ++ rest → begi
 begins_with word text rest is = (starts_is Decides-eqb text word (begins word text) refl).1 rest is
 
 -- a line that does not begin as the only call's is of no call
-pub no_head : (format : Format) (program : Typed) (at : Progress) (text written : List ℕ) (this : Called) → IsOnlyCall format program at text this →
+pub no_head : (format : Format) (program : Typed) (at : Progress) (text written : List ℕ) (this : Called) →
+    IsOnlyCall format program at text this →
     written ≡ call_head format program (scheduled_called this) this.begun → begins written text ≡ false → IsNoCall format program at text
 no_head format program at text written this only is not reader call begun end at_reader next =
     let same = only.only reader call begun end at_reader next in

@@ -19,13 +19,15 @@ module _ (turns : ℕ) (format : Format) (program : Typed) where
       Comes turns format program reader (record reader { due = more }) text
   due_comes reader text more is = due (record { more = more; is_due = is; leads = refl })
 
-  other_due_comes : (reader after : Reader) (text line : List ℕ) (more : List (List ℕ)) → reader.due ≡ line ∷ more → (text ≡ line → ⊥) →
+  other_due_comes : (reader after : Reader) (text line : List ℕ) (more : List (List ℕ)) → reader.due ≡ line ∷ more →
+      (text ≡ line → ⊥) →
       Comes turns format program reader after text → ⊥
   other_due_comes reader after text line more is apart (due d) = let e = sym d.is_due ∙ is in apart (cc)
   other_due_comes reader after text line more is apart (call c) = let e = sym c.among.none_due ∙ is in absurd (cc)
   other_due_comes reader after text line more is apart (cells c) = let e = sym c.among.none_due ∙ is in absurd (cc)
 
-  pub other_due : (reader : Reader) (text line : List ℕ) (more : List (List ℕ)) → reader.due ≡ line ∷ more → (text ≡ line → ⊥) →
+  pub other_due : (reader : Reader) (text line : List ℕ) (more : List (List ℕ)) → reader.due ≡ line ∷ more →
+      (text ≡ line → ⊥) →
       IsOther turns format program reader text
   other_due reader text line more is apart = record {
     not_coming = λ after comes. other_due_comes reader after text line more is apart comes;
@@ -34,12 +36,14 @@ module _ (turns : ℕ) (format : Format) (program : Typed) where
 
   -- ---- where nothing may come
 
-  over_comes : (reader after : Reader) (text : List ℕ) → reader.due ≡ [] → reader.closed ≡ true → Comes turns format program reader after text → ⊥
+  over_comes : (reader after : Reader) (text : List ℕ) → reader.due ≡ [] → reader.closed ≡ true →
+      Comes turns format program reader after text → ⊥
   over_comes reader after text none closed (due d) = let e = sym none ∙ d.is_due in absurd (cc)
   over_comes reader after text none closed (call c) = let e = sym closed ∙ c.among.still_open in absurd (cc)
   over_comes reader after text none closed (cells c) = let e = sym closed ∙ c.among.still_open in absurd (cc)
 
-  pub other_at_end : (reader : Reader) (text : List ℕ) → reader.due ≡ [] → reader.closed ≡ true → IsOther turns format program reader text
+  pub other_at_end : (reader : Reader) (text : List ℕ) → reader.due ≡ [] → reader.closed ≡ true →
+      IsOther turns format program reader text
   other_at_end reader text none closed = record {
     not_coming = λ after comes. over_comes reader after text none closed comes;
     not_unsettled = λ u. let e = sym closed ∙ u.among.still_open in absurd (cc);

@@ -1,5 +1,6 @@
 -- Calls that may come one after another, and histories.
-use Rattle.std.proofs.Common.{◌≡◌, ◌∙◌, ℕ, ◌+◌, zero, suc, List, [], ◌∷◌, ◌++◌, length, take, map, slice_get, Some, arith, sym, ap, refl, subst, inl, inr, append_assoc, append-nil, add-one}
+use Rattle.std.proofs.Common.{◌≡◌, ◌∙◌, ℕ, ◌+◌, zero, suc, List, [], ◌∷◌, ◌++◌, length, take, map, slice_get, Some}
+use Rattle.std.proofs.Common.{arith, sym, ap, refl, subst, inl, inr, append_assoc, append-nil, add-one}
 use Rattle.std.proofs.lemmas.Bool.{cases_eq, eq-eqb, ne_eqb}
 use Rattle.std.proofs.lemmas.List.{map-append, take_all, length-map}
 use Rattle.std.proofs.lemmas.List.Elements.{filter-append}
@@ -13,18 +14,21 @@ use Rattle.replay.proofs.Seating.{get_last, calls_by_one, calls_by_other}
 
 -- ---- lists
 
-pub take_next : {A : Type 0} (xs : List A) (n : ℕ) (x : A) → slice_get xs n ≡ Some x → take (n + 1) xs ≡ take n xs ++ x ∷ []
+pub take_next : {A : Type 0} (xs : List A) (n : ℕ) (x : A) → slice_get xs n ≡ Some x →
+    take (n + 1) xs ≡ take n xs ++ x ∷ []
 take_next [] n x is = absurd (cc)
 take_next (y ∷ xs) zero x is = let e : y ≡ x = cc in ap (λ z. z ∷ []) e
 take_next (y ∷ xs) (suc n) x is = let h = rw add-one at (take_next xs n x is) in rw add-one (ap (λ zs. y ∷ zs) h)
 
 -- the calls of a thread with one more
-own_pushed : (t : ℕ) (done : List Entry) (e : Entry) → e.thread ≡ t → of_thread t (done ++ e ∷ []) ≡ of_thread t done ++ e ∷ []
+own_pushed : (t : ℕ) (done : List Entry) (e : Entry) → e.thread ≡ t →
+    of_thread t (done ++ e ∷ []) ≡ of_thread t done ++ e ∷ []
 own_pushed t done e same =
     let test = eq-eqb e.thread t same in
     filter-append _ done (e ∷ []) ∙ rw test refl
 
-other_pushed : (t : ℕ) (done : List Entry) (e : Entry) → (e.thread ≡ t → ⊥) → of_thread t (done ++ e ∷ []) ≡ of_thread t done
+other_pushed : (t : ℕ) (done : List Entry) (e : Entry) → (e.thread ≡ t → ⊥) →
+    of_thread t (done ++ e ∷ []) ≡ of_thread t done
 other_pushed t done e apart =
     let test = ne_eqb e.thread t apart in
     filter-append _ done (e ∷ []) ∙ rw test (append-nil (of_thread t done))
@@ -63,7 +67,8 @@ module _ (format : Format) (program : Typed) where
   order_pushed : (done : List Entry) (e : Entry) → order_of done ++ e.thread ∷ [] ≡ order_of (done ++ e ∷ [])
   order_pushed done e = sym (map-append (λ (x : Entry). x.thread) done (e ∷ []))
 
-  first_pushed : (done : List Entry) (e : Entry) → AreFirst done → next_call program (order_of done) e.thread ≡ Some (scheduled_in e) →
+  first_pushed : (done : List Entry) (e : Entry) → AreFirst done →
+      next_call program (order_of done) e.thread ≡ Some (scheduled_in e) →
       AreFirst (done ++ e ∷ [])
   first_pushed done e first next t = elim (cases_eq e.thread t) [
     | inl same ↦

@@ -1,5 +1,6 @@
 -- What the head of a call's line tells.
-use Rattle.std.proofs.Common.{◌≡◌, ◌∙◌, ◌<◌, ◌^◌, ℕ, List, [], ◌∷◌, ◌++◌, drop, Some, ap, refl, append_assoc, true, false, get_or}
+use Rattle.std.proofs.Common.{◌≡◌, ◌∙◌, ◌<◌, ◌^◌, ℕ, List, [], ◌∷◌, ◌++◌, drop, Some, ap, refl, append_assoc, true}
+use Rattle.std.proofs.Common.{false, get_or}
 use Rattle.std.specs.Prelude.{codes, ◌==◌}
 use Rattle.std.specs.Bool.{⊤}
 use Rattle.std.proofs.lemmas.Bool.{false≢true}
@@ -41,7 +42,8 @@ begun_read Two begun rest short =
     ap (λ text. count_in (before 32 text)) (append_assoc (decimal begun) (32 ∷ []) rest)
     ∙ ap count_in (before-count begun rest short) ∙ count_in-decimal begun short
 
-told_words : (format : Format) (thread step begun : ℕ) (rest : List ℕ) → thread < 2 ^ 63 → step < 2 ^ 63 → IsShort format begun →
+told_words : (format : Format) (thread step begun : ℕ) (rest : List ℕ) → thread < 2 ^ 63 → step < 2 ^ 63 →
+    IsShort format begun →
     told_after format (decimal thread ++ 32 ∷ (decimal step ++ 32 ∷ (begun_text format begun ++ rest)))
     ≡ Some (record { thread = thread; begun = shown format begun })
 told_words format thread step begun rest small few short =
@@ -52,7 +54,8 @@ told_words format thread step begun rest small few short =
     ∙ ap (λ x. both (Some thread) x) (ap (begun_in format) past ∙ begun_read format begun rest short)
 
 -- a call's line tells its thread and its begin
-pub told_head : (format : Format) (program : Typed) (s : Scheduled) (begun : ℕ) (end : List ℕ) → s.thread < 2 ^ 63 → s.step < 2 ^ 63 →
+pub told_head : (format : Format) (program : Typed) (s : Scheduled) (begun : ℕ) (end : List ℕ) → s.thread < 2 ^ 63 →
+    s.step < 2 ^ 63 →
     IsShort format begun →
     told_in format (call_head format program s begun ++ end) ≡ Some (record { thread = s.thread; begun = shown format begun })
 told_head format program s begun end small few short =

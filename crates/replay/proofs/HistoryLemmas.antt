@@ -1,5 +1,6 @@
 -- Lines that come are those of a history, and the other way round.
-use Rattle.std.proofs.Common.{◌≡◌, ◌∙◌, ◌≤◌, ℕ, ◌+◌, true, false, List, [], ◌∷◌, ◌++◌, map, arith, sym, ap, refl, subst, append_assoc, append-nil}
+use Rattle.std.proofs.Common.{◌≡◌, ◌∙◌, ◌≤◌, ℕ, ◌+◌, true, false, List, [], ◌∷◌, ◌++◌, map, arith, sym, ap, refl}
+use Rattle.std.proofs.Common.{subst, append_assoc, append-nil}
 use Rattle.std.specs.Prelude.{codes}
 use Rattle.std.specs.List.{flat_map}
 use Rattle.core_lang.specs.declared.value.Value.{Value}
@@ -12,7 +13,8 @@ use Rattle.report.specs.Entry.{Entry}
 use Rattle.report.specs.History.{call_line}
 use Rattle.replay.specs.Readers.{Reader, opened, due, call, cells, Come, finished_as, print_lines, closing_lines}
 use Rattle.replay.specs.Verdicts.{HasEnded, IsSame}
-use Rattle.replay.specs.Working.Histories.{invocation_in, ended_in, entry_lines, history_lines, FollowScripts, BeginAsTheyMay}
+use Rattle.replay.specs.Working.Histories.{invocation_in, ended_in, entry_lines, history_lines, FollowScripts}
+use Rattle.replay.specs.Working.Histories.{BeginAsTheyMay}
 use Rattle.replay.specs.Working.Laws.{SameIsHistory, HistoryIsSame}
 use Rattle.replay.proofs.Following.{Follow, follow_scripts, follow_begins, scripts_follow}
 
@@ -35,7 +37,8 @@ module _ (turns : ℕ) (program : Typed) where
     settled_serial law settled.0 last es settled.2,
   )
 
-  with_run : (e : Entry) (es : List Entry) (heap : List Value) (run : Run) → run_call program turns (invocation_in e) heap ≡ run →
+  with_run : (e : Entry) (es : List Entry) (heap : List Value) (run : Run) →
+      run_call program turns (invocation_in e) heap ≡ run →
       ((next : List Value) → (serial_with program turns next (map invocation_in es)).unsettled ≡ [] →
       map ended_in es ≡ (serial_with program turns next (map invocation_in es)).ends →
       Settled next es (serial_with program turns next (map invocation_in es)).heap) →
@@ -51,7 +54,8 @@ module _ (turns : ℕ) (program : Typed) where
   with_run e es heap Gone_astray is rest none ends = absurd (cc)
 
   -- calls that the turns settle, as they run serially
-  pub serial_settled : (es : List Entry) (heap : List Value) → (serial_with program turns heap (map invocation_in es)).unsettled ≡ [] →
+  pub serial_settled : (es : List Entry) (heap : List Value) →
+      (serial_with program turns heap (map invocation_in es)).unsettled ≡ [] →
       map ended_in es ≡ (serial_with program turns heap (map invocation_in es)).ends →
       Settled heap es (serial_with program turns heap (map invocation_in es)).heap
   serial_settled [] heap none ends = refl
@@ -95,7 +99,8 @@ module _ (turns : ℕ) (format : Format) (program : Typed) where
     follow : Follow format program reader.order entries
     told : lines ≡ reader.due ++ lines_left entries last
 
-  closed_lines : (lines : List (List ℕ)) (reader final : Reader) → reader.closed ≡ true → Come turns format program reader lines final →
+  closed_lines : (lines : List (List ℕ)) (reader final : Reader) → reader.closed ≡ true →
+      Come turns format program reader lines final →
       HasEnded final → lines ≡ reader.due
   closed_lines [] reader final closed came ended = sym (ap (λ (r : Reader). r.due) came ∙ ended.none_due)
   closed_lines (text ∷ more) reader final closed came ended = elim came.1 [
@@ -106,7 +111,8 @@ module _ (turns : ℕ) (format : Format) (program : Typed) where
     | cells c ↦ absurd (let e = sym closed ∙ c.among.still_open in cc)
   ]
 
-  open_lines : (lines : List (List ℕ)) (reader final : Reader) → reader.closed ≡ false → Come turns format program reader lines final →
+  open_lines : (lines : List (List ℕ)) (reader final : Reader) → reader.closed ≡ false →
+      Come turns format program reader lines final →
       HasEnded final → AreLeft reader lines
   open_lines [] reader final unclosed came ended =
       absurd (let e = sym unclosed ∙ ap (λ (r : Reader). r.closed) came ∙ ended.closed in cc)
@@ -148,7 +154,8 @@ module _ (turns : ℕ) (format : Format) (program : Typed) where
   -- ---- and back
 
   -- lines that are due come
-  due_come : (dues more : List (List ℕ)) (reader final : Reader) → reader.due ≡ dues → Come turns format program (record reader { due = [] }) more final →
+  due_come : (dues more : List (List ℕ)) (reader final : Reader) → reader.due ≡ dues →
+      Come turns format program (record reader { due = [] }) more final →
       Come turns format program reader (dues ++ more) final
   due_come [] more reader final is came =
       let same : record reader { due = [] } ≡ reader = ap (λ d. record reader { due = d }) (sym is) in
@@ -164,7 +171,8 @@ module _ (turns : ℕ) (format : Format) (program : Typed) where
     came : Come turns format program reader lines final
     ended : HasEnded final
 
-  come_to_end : (es : List Entry) (order : List ℕ) (heap last : List Value) → Follow format program order es → Settled turns program heap es last →
+  come_to_end : (es : List Entry) (order : List ℕ) (heap last : List Value) → Follow format program order es →
+      Settled turns program heap es last →
       ComeToEnd (record { order = order; heap = heap; due = []; closed = false }) (lines_left es last)
   come_to_end [] order heap last follow settled =
       let before : Reader = record { order = order; heap = heap; due = []; closed = false } in

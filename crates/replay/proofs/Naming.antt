@@ -11,7 +11,8 @@ use Rattle.replay.proofs.Heads.{head_not_cells}
 
 module _ (format : Format) (program : Typed) (reader : Reader) where
   -- where a line is due
-  pub due_names_none : (text line : List ℕ) (more : List (List ℕ)) → reader.due ≡ line ∷ more → NamesNone format program reader (text ∷ [])
+  pub due_names_none : (text line : List ℕ) (more : List (List ℕ)) → reader.due ≡ line ∷ more →
+      NamesNone format program reader (text ∷ [])
   due_names_none text line more is call begun names = let e = sym names.0.none_due ∙ is in absurd (cc)
 
   -- after `cells`

@@ -1,5 +1,6 @@
 -- One verdict holds at most.
-use Rattle.std.proofs.Common.{◌≡◌, ◌∙◌, ℕ, suc, false, List, [], ◌∷◌, ◌++◌, length, drop, Some, arith, sym, ap, refl, subst, append-nil}
+use Rattle.std.proofs.Common.{◌≡◌, ◌∙◌, ℕ, suc, false, List, [], ◌∷◌, ◌++◌, length, drop, Some, arith, sym, ap, refl}
+use Rattle.std.proofs.Common.{subst, append-nil}
 use Rattle.core_lang.specs.declared.typed.Typed.{Typed}
 use Rattle.core_lang.specs.Serial.{Scheduled, run_call}
 use Rattle.core_lang.specs.Whole.{Finished, Over, Beyond_turns}
@@ -8,21 +9,24 @@ use Rattle.source_histories.specs.declared.format.Format.{Format}
 use Rattle.source_histories.specs.Pieces.{before, count_in}
 use Rattle.report.specs.Entry.{scheduled_in}
 use Rattle.replay.specs.declared.verdict.Verdict.TheVariants.{Same, Differs, Unsettled}
-use Rattle.replay.specs.Readers.{Reader, opened, Comes, due, call, cells, Come, CallComes, IsNextCall, IsUnsettled, next_call, finished_as, print_lines}
+use Rattle.replay.specs.Readers.{Reader, opened, Comes, due, call, cells, Come, CallComes, IsNextCall, IsUnsettled}
+use Rattle.replay.specs.Readers.{next_call, finished_as, print_lines}
 use Rattle.replay.specs.Verdicts.{HasEnded, Stops, IsSame, IsDiffering, IsBeyond}
 use Rattle.replay.specs.Working.Laws.{AtMostOneVerdict}
 use Rattle.replay.proofs.Heads.{thread_head, head_not_cells}
 use Rattle.replay.proofs.Scripts.{next_bounds}
 
 module _ (turns : ℕ) (format : Format) (program : Typed) (well : IsChecked program) where
-  thread_told : (order text : _) (s : Scheduled) (begun : ℕ) (end : List ℕ) → IsNextCall format program order text s begun end →
+  thread_told : (order text : _) (s : Scheduled) (begun : ℕ) (end : List ℕ) →
+      IsNextCall format program order text s begun end →
       count_in (before 32 (drop 5 text)) ≡ Some s.thread
   thread_told order text s begun end next =
       let few = (next_bounds program order s.thread s next.scripted well).0 in
       ap (λ x. count_in (before 32 (drop 5 x))) next.told ∙ thread_head format program s begun end (omega (arith, few))
 
   -- a line is of one call
-  same_call : (order text : _) (s t : Scheduled) (begun other : ℕ) (end tail : List ℕ) → IsNextCall format program order text s begun end →
+  same_call : (order text : _) (s t : Scheduled) (begun other : ℕ) (end tail : List ℕ) →
+      IsNextCall format program order text s begun end →
       IsNextCall format program order text t other tail → s ≡ t
   same_call order text s t begun other end tail p q =
       let e : Some s.thread ≡ Some t.thread = sym (thread_told order text s begun end p) ∙ thread_told order text t other tail q in
@@ -30,7 +34,8 @@ module _ (turns : ℕ) (format : Format) (program : Typed) (well : IsChecked pro
       let same : Some s ≡ Some t = sym p.scripted ∙ ap (next_call program order) thread ∙ q.scripted in
       cc
 
-  calls_are_one : (reader a b : Reader) (text : List ℕ) → CallComes turns format program reader a text → CallComes turns format program reader b text → a ≡ b
+  calls_are_one : (reader a b : Reader) (text : List ℕ) → CallComes turns format program reader a text →
+      CallComes turns format program reader b text → a ≡ b
   calls_are_one reader a b text p q =
       let same = same_call reader.order text (scheduled_in p.entry) (scheduled_in q.entry) p.entry.begun q.entry.begun _ _ p.next q.next in
       let e : Over (finished_as p.entry p.heap) ≡ Over (finished_as q.entry q.heap) =
@@ -44,7 +49,8 @@ module _ (turns : ℕ) (format : Format) (program : Typed) (well : IsChecked pro
       both : {A B : Type 0} {a a' : A} {b b' : B} → a ≡ a' → b ≡ b' → ◌≡◌ {A = A × B} (a, b) (a', b')
       both {A} {B} {a} {a'} {b} {b'} e f = ap (λ x. (x, b)) e ∙ ap (λ y. (a', y)) f
 
-  pub comes_is_one : (reader a b : Reader) (text : List ℕ) → Comes turns format program reader a text → Comes turns format program reader b text → a ≡ b
+  pub comes_is_one : (reader a b : Reader) (text : List ℕ) → Comes turns format program reader a text →
+      Comes turns format program reader b text → a ≡ b
   comes_is_one reader a b text (due p) (due q) =
       let e = sym p.is_due ∙ q.is_due in
       let same : p.more ≡ q.more = cc in
@@ -78,7 +84,8 @@ module _ (turns : ℕ) (format : Format) (program : Typed) (well : IsChecked pro
   IsBlocked reader [] = Unit {0}
   IsBlocked reader (text ∷ more) = (after : Reader) → Comes turns format program reader after text → ⊥
 
-  one_stop : (start : Reader) (lines first other rest tail : List (List ℕ)) (x y : Reader) → lines ≡ first ++ rest → lines ≡ other ++ tail →
+  one_stop : (start : Reader) (lines first other rest tail : List (List ℕ)) (x y : Reader) → lines ≡ first ++ rest →
+      lines ≡ other ++ tail →
       Come turns format program start first x → Come turns format program start other y → IsBlocked x rest → IsBlocked y tail →
       (length first ≡ length other) × (x ≡ y) × (rest ≡ tail)
   one_stop start lines [] [] rest tail x y p q came there blocked stuck = (refl, sym came ∙ there, sym p ∙ q)
@@ -97,13 +104,15 @@ module _ (turns : ℕ) (format : Format) (program : Typed) (well : IsChecked pro
       (subst (λ r. Come turns format program r first x) middle came.2) there.2 blocked stuck in
       (ap suc found.0, found.1, found.2)
 
-  other_blocks : (reader : Reader) (rest : List (List ℕ)) → Stops turns format program reader rest → IsBlocked reader rest
+  other_blocks : (reader : Reader) (rest : List (List ℕ)) → Stops turns format program reader rest →
+      IsBlocked reader rest
   other_blocks reader [] stops = tt
   other_blocks reader (text ∷ more) stops = stops.not_coming
 
   -- ---- verdicts
 
-  differ_once : (lines : List (List ℕ)) (m n : ℕ) → IsDiffering turns format program lines m → IsDiffering turns format program lines n → m ≡ n
+  differ_once : (lines : List (List ℕ)) (m n : ℕ) → IsDiffering turns format program lines m →
+      IsDiffering turns format program lines n → m ≡ n
   differ_once lines m n p q =
       let one = one_stop (opened program) lines p.reached.first q.reached.first p.rest q.rest p.reader q.reader p.reached.parts q.reached.parts
       p.reached.came q.reached.came (other_blocks p.reader p.rest p.stops) (other_blocks q.reader q.rest q.stops) in
@@ -112,7 +121,8 @@ module _ (turns : ℕ) (format : Format) (program : Typed) (well : IsChecked pro
       let there = q.reached.numbered in
       omega (arith, long, here, there)
 
-  beyond_once : (lines : List (List ℕ)) (m n : ℕ) → IsBeyond turns format program lines m → IsBeyond turns format program lines n → m ≡ n
+  beyond_once : (lines : List (List ℕ)) (m n : ℕ) → IsBeyond turns format program lines m →
+      IsBeyond turns format program lines n → m ≡ n
   beyond_once lines m n p q =
       let one = one_stop (opened program) lines p.reached.first q.reached.first (p.text ∷ p.more) (q.text ∷ q.more) p.reader q.reader p.reached.parts q.reached.parts
       p.reached.came q.reached.came (λ after. unsettled_comes p.reader after p.text p.unsettled) (λ after. unsettled_comes q.reader after q.text q.unsettled) in
@@ -121,7 +131,8 @@ module _ (turns : ℕ) (format : Format) (program : Typed) (well : IsChecked pro
       let there = q.reached.numbered in
       omega (arith, long, here, there)
 
-  differs_or_beyond : (lines : List (List ℕ)) (m n : ℕ) → IsDiffering turns format program lines m → IsBeyond turns format program lines n → ⊥
+  differs_or_beyond : (lines : List (List ℕ)) (m n : ℕ) → IsDiffering turns format program lines m →
+      IsBeyond turns format program lines n → ⊥
   differs_or_beyond lines m n p q =
       let one = one_stop (opened program) lines p.reached.first q.reached.first p.rest (q.text ∷ q.more) p.reader q.reader p.reached.parts q.reached.parts
       p.reached.came q.reached.came (other_blocks p.reader p.rest p.stops) (λ after. unsettled_comes q.reader after q.text q.unsettled) in
@@ -129,7 +140,8 @@ module _ (turns : ℕ) (format : Format) (program : Typed) (well : IsChecked pro
       subst (λ r. Stops turns format program r (q.text ∷ q.more)) one.1 (subst (Stops turns format program p.reader) one.2 p.stops) in
       stops.not_unsettled q.unsettled
 
-  same_or_differs : (lines : List (List ℕ)) (n : ℕ) → IsSame turns format program lines → IsDiffering turns format program lines n → ⊥
+  same_or_differs : (lines : List (List ℕ)) (n : ℕ) → IsSame turns format program lines →
+      IsDiffering turns format program lines n → ⊥
   same_or_differs lines n p q =
       let one = one_stop (opened program) lines lines q.reached.first [] q.rest p.reader q.reader (sym (append-nil lines)) q.reached.parts
       p.came q.reached.came tt (other_blocks q.reader q.rest q.stops) in
@@ -137,7 +149,8 @@ module _ (turns : ℕ) (format : Format) (program : Typed) (well : IsChecked pro
       subst (λ r. Stops turns format program r []) (sym one.1) (subst (Stops turns format program q.reader) (sym one.2) q.stops) in
       stops p.ended
 
-  same_or_beyond : (lines : List (List ℕ)) (n : ℕ) → IsSame turns format program lines → IsBeyond turns format program lines n → ⊥
+  same_or_beyond : (lines : List (List ℕ)) (n : ℕ) → IsSame turns format program lines →
+      IsBeyond turns format program lines n → ⊥
   same_or_beyond lines n p q =
       let one = one_stop (opened program) lines lines q.reached.first [] (q.text ∷ q.more) p.reader q.reader (sym (append-nil lines)) q.reached.parts
       p.came q.reached.came tt (λ after. unsettled_comes q.reader after q.text q.unsettled) in

@@ -1,8 +1,10 @@
 -- A history that was read up to one of its lines.
-use Rattle.std.proofs.Common.{◌≡◌, ◌∙◌, ◌<◌, ◌≤◌, ◌+◌, ℕ, zero, suc, List, [], ◌∷◌, ◌++◌, length, take, drop, map, get_or, arith, sym, ap, refl, subst, Option, Some}
+use Rattle.std.proofs.Common.{◌≡◌, ◌∙◌, ◌<◌, ◌≤◌, ◌+◌, ℕ, zero, suc, List, [], ◌∷◌, ◌++◌, length, take, drop, map}
+use Rattle.std.proofs.Common.{get_or, arith, sym, ap, refl, subst, Option, Some}
 use Rattle.std.specs.Prelude.{codes}
 use Rattle.std.proofs.lemmas.Bool.{false≢true}
-use Rattle.std.proofs.lemmas.List.{take_more, drop_more, take_all, get_or_default, take-append-drop, length-take-le, length-map, append-nil}
+use Rattle.std.proofs.lemmas.List.{take_more, drop_more, take_all, get_or_default, take-append-drop, length-take-le}
+use Rattle.std.proofs.lemmas.List.{length-map, append-nil}
 use Rattle.core_lang.specs.declared.typed.Typed.{Typed}
 use Rattle.source_histories.specs.declared.format.Format.{Format}
 use Rattle.replay.specs.declared.progress.Progress.{Progress}
@@ -33,12 +35,14 @@ line_is f (y ∷ items) zero x less is = ap f (sym is)
 line_is f (y ∷ items) (suc i) x less is = line_is f items i x (omega arith) is
 
 module _ (turns : ℕ) (format : Format) (program : Typed) where
-  come_push : (xs : List (List ℕ)) (x : List ℕ) (reader middle next : Reader) → Come turns format program reader xs middle →
+  come_push : (xs : List (List ℕ)) (x : List ℕ) (reader middle next : Reader) →
+      Come turns format program reader xs middle →
       Comes turns format program middle next x → Come turns format program reader (xs ++ x ∷ []) next
   come_push [] x reader middle next came comes = (next, subst (λ r. Comes turns format program r next x) (sym came) comes, refl)
   come_push (y ∷ xs) x reader middle next came comes = (came.0, came.1, come_push xs x came.0 middle next came.2 comes)
 
-  pub read_start : (lines : List (List ℕ)) (at : Progress) → IsAt program at (opened program) → IsSound program at → at.position ≡ 0 →
+  pub read_start : (lines : List (List ℕ)) (at : Progress) → IsAt program at (opened program) → IsSound program at →
+      at.position ≡ 0 →
       HasRead turns format program lines 0 at
   read_start lines at is sound none = record { reader = opened program; came = refl; is = is; sound = sound; short = omega (arith, none) }
 
@@ -56,7 +60,8 @@ module _ (turns : ℕ) (format : Format) (program : Typed) where
     numbered : i + 2 ≡ length (take i (map f items)) + 2
     numbered = let h = length-take-le i (map f items) (omega (arith, within)) in omega (arith, h)
 
-    pub read_more : (new : Progress) → Reads turns format program (f (get_or items i d)) old new Came → IsSound program new → new.position ≤ old.position + 1 →
+    pub read_more : (new : Progress) → Reads turns format program (f (get_or items i d)) old new Came →
+        IsSound program new → new.position ≤ old.position + 1 →
         HasRead turns format program (map f items) (i + 1) new
     read_more new reads sound more =
         let found = reads read.reader read.is in
@@ -74,7 +79,8 @@ module _ (turns : ℕ) (format : Format) (program : Typed) where
     reached_here : Reaches turns format program (map f items) (i + 2) read.reader (f (get_or items i d) ∷ drop (i + 1) (map f items))
     reached_here = record { first = take i (map f items); parts = parts; numbered = numbered; came = read.came }
 
-    pub read_other : IsOther turns format program read.reader (f (get_or items i d)) → IsDiffering turns format program (map f items) (i + 2)
+    pub read_other : IsOther turns format program read.reader (f (get_or items i d)) →
+        IsDiffering turns format program (map f items) (i + 2)
     read_other other = record {
       reader = read.reader;
       rest = f (get_or items i d) ∷ drop (i + 1) (map f items);
@@ -82,7 +88,8 @@ module _ (turns : ℕ) (format : Format) (program : Typed) where
       stops = other;
     }
 
-    pub wanted_here : (wanted : Wanted) → IsWanted turns format program read.reader (f (get_or items i d) ∷ drop (i + 1) (map f items)) wanted →
+    pub wanted_here : (wanted : Wanted) →
+        IsWanted turns format program read.reader (f (get_or items i d) ∷ drop (i + 1) (map f items)) wanted →
         IsWantedAt turns format program (map f items) (i + 2) wanted
     wanted_here wanted may = record {
       reader = read.reader;
@@ -91,7 +98,8 @@ module _ (turns : ℕ) (format : Format) (program : Typed) where
       may_come = may;
     }
 
-    pub read_beyond : (new : Progress) → Reads turns format program (f (get_or items i d)) old new Beyond → IsBeyond turns format program (map f items) (i + 2)
+    pub read_beyond : (new : Progress) → Reads turns format program (f (get_or items i d)) old new Beyond →
+        IsBeyond turns format program (map f items) (i + 2)
     read_beyond new reads = record {
       reader = read.reader;
       text = f (get_or items i d);
@@ -101,7 +109,8 @@ module _ (turns : ℕ) (format : Format) (program : Typed) where
     }
 
   -- a line differs, and this is told of it
-  pub explained : (lines : List (List ℕ)) (number : ℕ) (wanted : Wanted) (verdict : Verdict) (told : Option Wanted) → verdict ≡ Differs number →
+  pub explained : (lines : List (List ℕ)) (number : ℕ) (wanted : Wanted) (verdict : Verdict) (told : Option Wanted) →
+      verdict ≡ Differs number →
       told ≡ Some wanted → IsWantedAt turns format program lines number wanted → Explains turns format program lines verdict told
   explained lines number wanted verdict told is has at = rw (is, has) at
 
@@ -111,7 +120,8 @@ module _ (turns : ℕ) (format : Format) (program : Typed) where
   some_due [] x is = absurd (cc)
   some_due (y ∷ xs) x is = absurd (cc)
 
-  pub read_same : (lines : List (List ℕ)) (read : ℕ) (at : Progress) → HasRead turns format program lines read at → length lines ≤ read →
+  pub read_same : (lines : List (List ℕ)) (read : ℕ) (at : Progress) → HasRead turns format program lines read at →
+      length lines ≤ read →
       at.stage ≡ Ended → IsSame turns format program lines
   read_same lines read at has all ended = record {
     reader = has.reader;
@@ -122,7 +132,8 @@ module _ (turns : ℕ) (format : Format) (program : Typed) where
     };
   }
 
-  not_ended : (at : Progress) (reader : Reader) (stage : Stage) → IsAt program at reader → at.stage ≡ stage → (stage ≡ Ended → ⊥) → HasEnded reader → ⊥
+  not_ended : (at : Progress) (reader : Reader) (stage : Stage) → IsAt program at reader → at.stage ≡ stage →
+      (stage ≡ Ended → ⊥) → HasEnded reader → ⊥
   not_ended at reader Calls is here other ended = false≢true (sym (closed_at program at reader is Calls here) ∙ ended.closed)
   not_ended at reader (Cells number) is here other ended =
       some_due _ (codes "end") (sym (at_stage program at reader is (Cells number) here) ∙ ended.none_due)
@@ -146,7 +157,8 @@ module _ (turns : ℕ) (format : Format) (program : Typed) where
     may_come = may;
   }
 
-  pub read_short : (lines : List (List ℕ)) (read : ℕ) (at : Progress) → HasRead turns format program lines read at → read ≡ length lines →
+  pub read_short : (lines : List (List ℕ)) (read : ℕ) (at : Progress) → HasRead turns format program lines read at →
+      read ≡ length lines →
       (at.stage ≡ Ended → ⊥) → IsDiffering turns format program lines (length lines + 2)
   read_short lines read at has all other = record {
     reader = has.reader;

@@ -1,5 +1,6 @@
 -- The calls of scripts, by their numbers.
-use Rattle.std.proofs.Common.{◌≡◌, ◌∙◌, ◌<◌, ◌≤◌, ℕ, ◌+◌, zero, suc, List, [], ◌∷◌, length, slice_get, Option, Some, None, arith, sym, ap, refl, add-zero}
+use Rattle.std.proofs.Common.{◌≡◌, ◌∙◌, ◌<◌, ◌≤◌, ℕ, ◌+◌, zero, suc, List, [], ◌∷◌, length, slice_get, Option, Some}
+use Rattle.std.proofs.Common.{None, arith, sym, ap, refl, add-zero}
 use Rattle.std.specs.Prelude.{option_map}
 use Rattle.std.specs.Option.{option_map_or}
 use Rattle.std.proofs.lemmas.Option.{slice_get_within}
@@ -49,7 +50,8 @@ called_in t n calls (Some call) s here is =
     let step : 0 + n ≡ s.step = ap (λ (x : Scheduled). x.step) same in
     (omega arith, slice_get_within calls n call here)
 
-in_thread : (program : Typed) (t n : ℕ) (found : Option Thread) (s : Scheduled) → slice_get program.threads.items t ≡ found →
+in_thread : (program : Typed) (t n : ℕ) (found : Option Thread) (s : Scheduled) →
+    slice_get program.threads.items t ≡ found →
     slice_get (option_map_or (λ (thread : Thread). script_from t 0 thread.calls.items) found []) n ≡ Some s →
     IsChecked program → (t < 64) × (s.step < 100000)
 in_thread program t n None s here is well = absurd (cc)
@@ -82,7 +84,8 @@ pub next_call_in : (program : Typed) (order : List ℕ) (t : ℕ) →
 next_call_in program order t = call_found t (calls_by t order) (slice_get program.threads.items t)
 
 -- a call of a script: one of at most 100,000, and one that can be made
-call_bounds : (program : Typed) (t step : ℕ) (found : Option Thread) (call : Call) → slice_get program.threads.items t ≡ found →
+call_bounds : (program : Typed) (t step : ℕ) (found : Option Thread) (call : Call) →
+    slice_get program.threads.items t ≡ found →
     lookup found (λ (thread : Thread). slice_get thread.calls.items step) ≡ Some call → IsChecked program →
     (step < 100000) × CanCall program call.section call.arguments.items
 call_bounds program t step None call here is well = absurd (cc)
@@ -92,7 +95,8 @@ call_bounds program t step (Some thread) call here is well =
     let calls = well.within.calls in
     (omega (arith, within, most, calls), well.scripts t step thread call here is)
 
-pub call_in_bounds : (program : Typed) (t step : ℕ) (call : Call) → call_in program t step ≡ Some call → IsChecked program →
+pub call_in_bounds : (program : Typed) (t step : ℕ) (call : Call) → call_in program t step ≡ Some call →
+    IsChecked program →
     (step < 100000) × CanCall program call.section call.arguments.items
 call_in_bounds program t step call is well = call_bounds program t step (slice_get program.threads.items t) call refl is well
 

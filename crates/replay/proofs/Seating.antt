@@ -1,5 +1,6 @@
 -- Seats, as calls come.
-use Rattle.std.proofs.Common.{◌≡◌, ◌∙◌, ◌<◌, ◌≤◌, ℕ, ◌+◌, zero, suc, List, [], ◌∷◌, ◌++◌, length, slice_get, Some, arith, sym, ap, refl, subst, inl, inr, ◌⊎◌}
+use Rattle.std.proofs.Common.{◌≡◌, ◌∙◌, ◌<◌, ◌≤◌, ℕ, ◌+◌, zero, suc, List, [], ◌∷◌, ◌++◌, length, slice_get, Some}
+use Rattle.std.proofs.Common.{arith, sym, ap, refl, subst, inl, inr, ◌⊎◌}
 use Rattle.std.specs.Prelude.{◌↔◌, slice_set, replicate}
 use Rattle.std.proofs.lemmas.Bool.{cases_eq, eq-eqb, ne_eqb}
 use Rattle.std.proofs.lemmas.List.{length_push}
@@ -16,7 +17,8 @@ set_same [] i v within = absurd (omega arith)
 set_same (x ∷ xs) zero v within = refl
 set_same (x ∷ xs) (suc i) v within = set_same xs i v (omega arith)
 
-pub set_other : {A : Type 0} (xs : List A) (i j : ℕ) (v : A) → (j ≡ i → ⊥) → slice_get (slice_set xs i v) j ≡ slice_get xs j
+pub set_other : {A : Type 0} (xs : List A) (i j : ℕ) (v : A) → (j ≡ i → ⊥) →
+    slice_get (slice_set xs i v) j ≡ slice_get xs j
 set_other [] i j v apart = refl
 set_other (x ∷ xs) zero zero v apart = absurd (apart refl)
 set_other (x ∷ xs) zero (suc j) v apart = refl
@@ -67,7 +69,8 @@ after_own t order begun = (
       omega (arith, h, long, most),
 )
 
-after_other : (t u : ℕ) (order : List ℕ) (begun : ℕ) → (u ≡ t → ⊥) → IsAfter (order ++ u ∷ []) t begun ↔ IsAfter order t begun
+after_other : (t u : ℕ) (order : List ℕ) (begun : ℕ) → (u ≡ t → ⊥) →
+    IsAfter (order ++ u ∷ []) t begun ↔ IsAfter order t begun
 after_other t u order begun apart = (
   λ after k is. after k (get_left order (u ∷ []) k t is),
   λ after k is. elim (get_pushed order u k t is) [ inl h ↦ after k h | inr h ↦ absurd (apart h.1) ],
@@ -93,7 +96,8 @@ seats_start n seat called least = record {
 }
 
 module _ (seats : List Seat) (order : List ℕ) (t : ℕ) (seat : Seat) (are : AreSeats seats order) (within : t < length seats) where
-  called_next : seat.called ≡ called_at seats t + 1 → (u : ℕ) → called_at (slice_set seats t seat) u ≡ calls_by u (order ++ t ∷ [])
+  called_next : seat.called ≡ called_at seats t + 1 → (u : ℕ) →
+      called_at (slice_set seats t seat) u ≡ calls_by u (order ++ t ∷ [])
   called_next more u = elim (cases_eq t u) [
     | inl same ↦
         let here : called_at (slice_set seats t seat) t ≡ seat.called = rw (set_same seats t seat within) refl in

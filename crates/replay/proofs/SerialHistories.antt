@@ -1,5 +1,6 @@
 -- The serial run of a program is a history; histories with their calls in one order are alike.
-use Rattle.std.proofs.Common.{◌≡◌, ◌∙◌, ◌<◌, ℕ, ◌+◌, zero, suc, Bool, List, [], ◌∷◌, ◌++◌, map, slice_get, Option, arith, sym, ap, refl, subst, append-nil, inl, inr}
+use Rattle.std.proofs.Common.{◌≡◌, ◌∙◌, ◌<◌, ℕ, ◌+◌, zero, suc, Bool, List, [], ◌∷◌, ◌++◌, map, slice_get, Option}
+use Rattle.std.proofs.Common.{arith, sym, ap, refl, subst, append-nil, inl, inr}
 use Rattle.std.specs.Prelude.{◌==◌, filter}
 use Rattle.std.specs.Option.{option_map_or}
 use Rattle.std.proofs.lemmas.Bool.{cases_eq, eq-eqb, ne_eqb}
@@ -7,7 +8,8 @@ use Rattle.std.proofs.lemmas.List.Elements.{filter-append}
 use Rattle.core_lang.specs.declared.typed.Call.{Call}
 use Rattle.core_lang.specs.declared.typed.Thread.{Thread}
 use Rattle.core_lang.specs.declared.typed.Typed.{Typed}
-use Rattle.core_lang.specs.Serial.{Scheduled, Invocation, Ended, invocation, script_from, scripts_from, all_calls, opening_heap, serial_with, SerialFromOpening}
+use Rattle.core_lang.specs.Serial.{Scheduled, Invocation, Ended, invocation, script_from, scripts_from, all_calls}
+use Rattle.core_lang.specs.Serial.{opening_heap, serial_with, SerialFromOpening}
 use Rattle.core_lang.specs.Laws.{HaveAtMostOneSerial}
 use Rattle.source_histories.specs.declared.format.Format.TheVariants.{One}
 use Rattle.report.specs.Entry.{Entry, scheduled_in}
@@ -44,7 +46,8 @@ later_scripts (x ∷ threads) t u later =
 abbrev script_at : ℕ → Option Thread → List Scheduled
 script_at t found = option_map_or (λ (x : Thread). script_from t 0 x.calls.items) found []
 
-thread_scripts : (threads : List Thread) (u k : ℕ) → filter (by (u + k)) (scripts_from u threads) ≡ script_at (u + k) (slice_get threads k)
+thread_scripts : (threads : List Thread) (u k : ℕ) →
+    filter (by (u + k)) (scripts_from u threads) ≡ script_at (u + k) (slice_get threads k)
 thread_scripts [] u k = refl
 thread_scripts (x ∷ threads) u zero =
     let here : u ≡ u + 0 = omega arith in

@@ -1,5 +1,6 @@
 -- A line further: what is due, and where a reader then is.
-use Rattle.std.proofs.Common.{◌≡◌, ◌∙◌, ◌<◌, ◌≤◌, ◌+◌, ℕ, ℤ, true, false, List, [], ◌∷◌, ◌++◌, length, drop, get_or, arith, sym, ap, refl, inl, inr}
+use Rattle.std.proofs.Common.{◌≡◌, ◌∙◌, ◌<◌, ◌≤◌, ◌+◌, ℕ, ℤ, true, false, List, [], ◌∷◌, ◌++◌, length, drop, get_or}
+use Rattle.std.proofs.Common.{arith, sym, ap, refl, inl, inr}
 use Rattle.std.specs.Prelude.{codes, slice_set}
 use Rattle.std.specs.Option.{option_map_or}
 use Rattle.std.specs.Str.{bytes_eq}
@@ -24,7 +25,8 @@ use Rattle.replay.specs.declared.progress.Progress.{Progress}
 use Rattle.replay.specs.declared.progress.Seat.{Seat}
 use Rattle.replay.specs.declared.progress.Stage.{Stage}
 use Rattle.replay.specs.declared.progress.Stage.TheVariants.{Calls, Cells, Ended}
-use Rattle.replay.specs.Readers.{Reader, Comes, call, cells, IsUnsettled, script_of, print_lines, cell_lines, closing_lines}
+use Rattle.replay.specs.Readers.{Reader, Comes, call, cells, IsUnsettled, script_of, print_lines, cell_lines}
+use Rattle.replay.specs.Readers.{closing_lines}
 use Rattle.replay.specs.Verdicts.{IsOther}
 use Rattle.replay.specs.Working.Reading.{IsAt, IsOnlyCall, IsHead, due_lines, has_closed, called_at, SeatsAreFull}
 use Rattle.replay.proofs.Heads.{head_not_cells}
@@ -42,7 +44,8 @@ pub reads_otherwise : (text word : List ℕ) → bytes_eq text word ≡ false �
 reads_otherwise text word never is = false≢true (sym never ∙ (bytes_eq-Decides text word).1 is)
 
 -- the line of a cell, as it was written after nothing
-pub cell_told : (program : Typed) (cell : Cell) (held heap : List Value) (number : ℕ) (d : Value) (old new : List ℕ) → held ≡ heap →
+pub cell_told : (program : Typed) (cell : Cell) (held heap : List Value) (number : ℕ) (d : Value) (old new : List ℕ) →
+    held ≡ heap →
     number < length heap → new ≡ old ++ cell_line program cell (get_or held number d) → old ≡ [] →
     (value : Value) × (value ≡ get_or heap number value) × (new ≡ cell_line program cell value)
 cell_told program cell held heap number d old new same less written empty = (
@@ -58,7 +61,8 @@ module _ (program : Typed) (at : Progress) (reader : Reader) (is : IsAt program 
   pub at_stage : (stage : Stage) → at.stage ≡ stage → reader.due ≡ due_lines program stage at
   at_stage stage here = sym is.due ∙ ap (λ s. due_lines program s at) here
 
-  pub print_due : (number : ℤ) → at.stage ≡ Calls → at.told < length at.prints.items → number ≡ get_or at.prints.items at.told number →
+  pub print_due : (number : ℤ) → at.stage ≡ Calls → at.told < length at.prints.items →
+      number ≡ get_or at.prints.items at.told number →
       reader.due ≡ print_line number ∷ print_lines (drop (at.told + 1) at.prints.items)
   print_due number stage less here =
       at_stage Calls stage ∙ ap print_lines (drop_more at.prints.items at.told number less)
@@ -70,7 +74,8 @@ module _ (program : Typed) (at : Progress) (reader : Reader) (is : IsAt program 
   pub closed_at : (stage : Stage) → at.stage ≡ stage → reader.closed ≡ has_closed stage
   closed_at stage here = sym is.closed ∙ ap has_closed here
 
-  pub cell_due : (number : ℕ) (cell : Cell) (value : Value) → at.stage ≡ Cells number → number < length program.cells.items → HasCells program at.heap →
+  pub cell_due : (number : ℕ) (cell : Cell) (value : Value) → at.stage ≡ Cells number →
+      number < length program.cells.items → HasCells program at.heap →
       cell ≡ get_or program.cells.items number cell → value ≡ get_or at.heap number value →
       reader.due ≡ cell_line program cell value ∷ (cell_lines program (drop (number + 1) program.cells.items) (drop (number + 1) at.heap) ++ codes "end" ∷ [])
   cell_due number cell value stage less long cell_is value_is =
@@ -82,7 +87,8 @@ module _ (program : Typed) (at : Progress) (reader : Reader) (is : IsAt program 
       ∙ ap (λ cs. cell_lines program cs (drop number at.heap) ++ codes "end" ∷ []) first
       ∙ ap (λ vs. cell_lines program (cell ∷ drop (number + 1) program.cells.items) vs ++ codes "end" ∷ []) held
 
-  pub last_due : (number : ℕ) → at.stage ≡ Cells number → length program.cells.items ≤ number → reader.due ≡ codes "end" ∷ []
+  pub last_due : (number : ℕ) → at.stage ≡ Cells number → length program.cells.items ≤ number →
+      reader.due ≡ codes "end" ∷ []
   last_due number stage past =
       at_stage (Cells number) stage
       ∙ ap (λ cs. cell_lines program cs (drop number at.heap) ++ codes "end" ∷ []) (drop_all number program.cells.items past)
@@ -94,7 +100,8 @@ module _ (turns : ℕ) (format : Format) (program : Typed) where
   abbrev pub Further : Reader → List ℕ → Progress → Type 0
   Further reader text after = (next : Reader) × Comes turns format program reader next text × IsAt program after next
 
-  pub print_came : (at : Progress) (reader : Reader) (number : ℤ) (text : List ℕ) → IsAt program at reader → at.stage ≡ Calls →
+  pub print_came : (at : Progress) (reader : Reader) (number : ℤ) (text : List ℕ) → IsAt program at reader →
+      at.stage ≡ Calls →
       at.told < length at.prints.items → number ≡ get_or at.prints.items at.told number → text ≡ print_line number →
       Further reader text (record at { told = at.told + 1 })
   print_came at reader number text is stage less here same =
@@ -110,7 +117,8 @@ module _ (turns : ℕ) (format : Format) (program : Typed) where
         },
       )
 
-  pub cell_came : (at : Progress) (reader : Reader) (number : ℕ) (cell : Cell) (value : Value) (text : List ℕ) → IsAt program at reader →
+  pub cell_came : (at : Progress) (reader : Reader) (number : ℕ) (cell : Cell) (value : Value) (text : List ℕ) →
+      IsAt program at reader →
       at.stage ≡ Cells number → number < length program.cells.items → HasCells program at.heap →
       cell ≡ get_or program.cells.items number cell → value ≡ get_or at.heap number value → text ≡ cell_line program cell value →
       Further reader text (record at { stage = Cells (number + 1) })
@@ -128,7 +136,8 @@ module _ (turns : ℕ) (format : Format) (program : Typed) where
         },
       )
 
-  pub last_came : (at : Progress) (reader : Reader) (number : ℕ) (text : List ℕ) → IsAt program at reader → at.stage ≡ Cells number →
+  pub last_came : (at : Progress) (reader : Reader) (number : ℕ) (text : List ℕ) → IsAt program at reader →
+      at.stage ≡ Cells number →
       length program.cells.items ≤ number → text ≡ codes "end" → Further reader text (record at { stage = Ended })
   last_came at reader number text is stage past same = (
     record reader { due = [] },
@@ -142,7 +151,8 @@ module _ (turns : ℕ) (format : Format) (program : Typed) where
     },
   )
 
-  pub cells_came : (at : Progress) (reader : Reader) → IsAt program at reader → at.stage ≡ Calls → at.told ≡ length at.prints.items →
+  pub cells_came : (at : Progress) (reader : Reader) → IsAt program at reader → at.stage ≡ Calls →
+      at.told ≡ length at.prints.items →
       SeatsAreFull program at.seats.items → Further reader (codes "cells") (record at { stage = Cells 0 })
   cells_came at reader is stage all full = (
     record reader { due = closing_lines program reader.heap; closed = true },
@@ -161,7 +171,8 @@ module _ (turns : ℕ) (format : Format) (program : Typed) where
     },
   )
 
-  pub cells_otherwise : (at : Progress) (reader : Reader) → IsAt program at reader → at.stage ≡ Calls → at.told ≡ length at.prints.items →
+  pub cells_otherwise : (at : Progress) (reader : Reader) → IsAt program at reader → at.stage ≡ Calls →
+      at.told ≡ length at.prints.items →
       (SeatsAreFull program at.seats.items → ⊥) → IsOther turns format program reader (codes "cells")
   cells_otherwise at reader is stage all short =
       cells_early turns format program reader (none_due program at reader is stage all) (λ called. short (λ t. is.seats.called t ∙ called t))
@@ -175,7 +186,8 @@ module _ (turns : ℕ) (format : Format) (program : Typed) where
       let so = begins_so written text head.begins in
       (so.0, so.1 ∙ ap (λ h. h ++ so.0) head.is)
 
-  pub call_beyond : (at : Progress) (reader : Reader) (text written : List ℕ) (this : Called) → IsAt program at reader → at.stage ≡ Calls →
+  pub call_beyond : (at : Progress) (reader : Reader) (text written : List ℕ) (this : Called) →
+      IsAt program at reader → at.stage ≡ Calls →
       at.told ≡ length at.prints.items → IsOnlyCall format program at text this → IsHead format program text written this →
       run_call program turns (scheduled_called this).call at.heap ≡ Beyond_turns → IsUnsettled turns format program reader text
   call_beyond at reader text written this is stage all only head beyond =

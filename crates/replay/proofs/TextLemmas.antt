@@ -30,12 +30,14 @@ entries_text format program (e ∷ es) =
     ∙ ap (λ t. line (call_line format program e) ++ text_of (print_lines e.prints) ++ t) (entries_text format program es)
     ∙ sym (text_append (entry_lines format program e) (flat_map (entry_lines format program) es))
 
-cells_text : (program : Typed) (cells : List Cell) (values : List Value) → cell_texts program cells values ≡ text_of (cell_lines program cells values)
+cells_text : (program : Typed) (cells : List Cell) (values : List Value) →
+    cell_texts program cells values ≡ text_of (cell_lines program cells values)
 cells_text program [] values = refl
 cells_text program (cell ∷ cells) [] = refl
 cells_text program (cell ∷ cells) (value ∷ values) = ap (λ t. line (cell_line program cell value) ++ t) (cells_text program cells values)
 
-closing_text : (program : Typed) (heap : List Value) → closing_of program heap ≡ text_of (codes "cells" ∷ closing_lines program heap)
+closing_text : (program : Typed) (heap : List Value) →
+    closing_of program heap ≡ text_of (codes "cells" ∷ closing_lines program heap)
 closing_text program heap =
     ap (λ t. line (codes "cells") ++ t ++ line (codes "end")) (cells_text program program.cells.items heap)
     ∙ append_assoc (line (codes "cells")) (text_of (cell_lines program program.cells.items heap)) (line (codes "end"))

@@ -6,4 +6,5 @@ pub mod Working
 pub use Rattle.replay.specs.Verdicts.{IsSame, IsDiffering, IsBeyond, Holds}
 pub use Rattle.replay.specs.Wanted.{MayCome, IsWanted, IsWantedAt, Explains}
 pub use Rattle.replay.specs.Working.Histories.{IsHistory, history_lines, text_of}
-pub use Rattle.replay.specs.Working.Laws.{AtMostOneVerdict, SameIsHistory, HistoryIsSame, TextIsOfLines, SerialIsSame, EntriesAreSame, OneOrderOneHistory}
+pub use Rattle.replay.specs.Working.Laws.{AtMostOneVerdict, SameIsHistory, HistoryIsSame, TextIsOfLines, SerialIsSame}
+pub use Rattle.replay.specs.Working.Laws.{EntriesAreSame, OneOrderOneHistory}

@@ -1,5 +1,6 @@
 -- Which line may come next where a history is read, given a program and how many turns each execution of a loop may make.
-use Rattle.std.specs.Prelude.{◌≡◌, ◌≤◌, ◌<◌, ℕ, ℤ, ◌==◌, Bool, true, false, List, [], ◌∷◌, ◌++◌, length, map, count_by, slice_get, codes, Option, Some, ⊤}
+use Rattle.std.specs.Prelude.{◌≡◌, ◌≤◌, ◌<◌, ℕ, ℤ, ◌==◌, Bool, true, false, List, [], ◌∷◌, ◌++◌, length, map}
+use Rattle.std.specs.Prelude.{count_by, slice_get, codes, Option, Some, ⊤}
 use Rattle.std.specs.Option.{option_map_or}
 use Rattle.core_lang.specs.declared.value.Value.{Value}
 use Rattle.core_lang.specs.declared.typed.Cell.{Cell}

@@ -7,7 +7,8 @@ use Rattle.report_trace.specs.Places.{points_for}
 
 -- the point of an `acquire` is put where a path is listed there
 module _ (lists : List (List ℕ)) (point begun : ℕ) (instr : Instr) (old : List ℕ) (is : instr ≡ Acquire begun) where
-  pub listed_put : (new : List ℕ) (b : Bool) → IsListed lists begun b → b ≡ true → new ≡ old ++ begun ∷ [] → new ≡ old ++ points_for lists point instr
+  pub listed_put : (new : List ℕ) (b : Bool) → IsListed lists begun b → b ≡ true → new ≡ old ++ begun ∷ [] →
+      new ≡ old ++ points_for lists point instr
   listed_put new true h e put = put ∙ ap (λ l. old ++ map (λ (i : Instr). begun) l) (sym h) ∙ sym (ap (λ i. old ++ points_for lists point i) is)
   listed_put new false h e put = absurd cc
 

@@ -1,5 +1,6 @@
 -- The lines of steps, one after another.
-use Rattle.std.proofs.Common.{◌≡◌, ◌∙◌, ◌<◌, ◌+◌, ℕ, List, [], ◌∷◌, ◌++◌, length, take, get_or, replicate, refl, sym, ap, append_assoc, append-nil, subst, Bool, String, string_bytes}
+use Rattle.std.proofs.Common.{◌≡◌, ◌∙◌, ◌<◌, ◌+◌, ℕ, List, [], ◌∷◌, ◌++◌, length, take, get_or, replicate, refl, sym}
+use Rattle.std.proofs.Common.{ap, append_assoc, append-nil, subst, Bool, String, string_bytes}
 use Rattle.std.proofs.lemmas.List.{take_more, replicate_more}
 use Rattle.code.specs.declared.section_code.ProgramCode.{ProgramCode}
 use Rattle.lowering.specs.Lowered.{IsCodeOf}
@@ -14,7 +15,8 @@ use Rattle.report_trace.specs.declared.teller.Teller.{Teller}
 use Rattle.report_trace.specs.Working.Tellers.{IsTellerOf, IsOver, Tells}
 use Rattle.report_trace.specs.Trace.{IsTrace, step_text, steps_text}
 
-world_more : (plan : Plan) (w : World) (xs ys : List ℕ) → world_after plan w (xs ++ ys) ≡ world_after plan (world_after plan w xs) ys
+world_more : (plan : Plan) (w : World) (xs ys : List ℕ) →
+    world_after plan w (xs ++ ys) ≡ world_after plan (world_after plan w xs) ys
 world_more plan w [] ys = refl
 world_more plan w (t ∷ xs) ys = world_more plan (happens plan w t).1 xs ys
 
@@ -29,7 +31,8 @@ lines_more text plan code moves w (t ∷ xs) ys =
 
 module _ {Z : Type 0} (x : Teller) where
   -- some steps, and some more
-  pub tells_both : (a b c : ThreadsOf) (ts us : List ℕ) (o p q : String Z) → a.plan ≡ x.program.now → Tells x ts a b o p → Tells x us b c p q →
+  pub tells_both : (a b c : ThreadsOf) (ts us : List ℕ) (o p q : String Z) → a.plan ≡ x.program.now →
+      Tells x ts a b o p → Tells x us b c p q →
       Tells x (ts ++ us) a c o q
   tells_both a b c ts us o p q plan first last =
       let text = λ (w : World) (steps : List ℕ). steps_text x.text.now x.program.now x.code.now x.moves w steps in
@@ -43,13 +46,15 @@ module _ {Z : Type 0} (x : Teller) where
       }
 
   -- one step more of a thread
-  pub tells_again : (a b c : ThreadsOf) (n t : ℕ) (o p q : String Z) → a.plan ≡ x.program.now → Tells x (replicate n t) a b o p →
+  pub tells_again : (a b c : ThreadsOf) (n t : ℕ) (o p q : String Z) → a.plan ≡ x.program.now →
+      Tells x (replicate n t) a b o p →
       Tells x (t ∷ []) b c p q → Tells x (replicate (n + 1) t) a c o q
   tells_again a b c n t o p q plan first last =
       subst (λ ts. Tells x ts a c o q) (replicate_more n t) (tells_both a b c (replicate n t) (t ∷ []) o p q plan first last)
 
   -- one turn more
-  pub tells_turn : (a b c : ThreadsOf) (turns : List Turn) (i : ℕ) (d : Turn) (o p q : String Z) → a.plan ≡ x.program.now →
+  pub tells_turn : (a b c : ThreadsOf) (turns : List Turn) (i : ℕ) (d : Turn) (o p q : String Z) →
+      a.plan ≡ x.program.now →
       i < length turns → Tells x (steps_of (take i turns)) a b o p →
       Tells x (replicate (get_or turns i d).count (get_or turns i d).thread) b c p q → Tells x (steps_of (take (i + 1) turns)) a c o q
   tells_turn a b c turns i d o p q plan within first last =

@@ -1,5 +1,6 @@
 -- The instruction at a place, by the tables of its section.
-use Rattle.std.proofs.Common.{◌≡◌, ◌∙◌, ℕ, zero, suc, List, [], ◌∷◌, ◌++◌, map, Option, Some, None, refl, sym, ap, append_assoc, append-nil}
+use Rattle.std.proofs.Common.{◌≡◌, ◌∙◌, ℕ, zero, suc, List, [], ◌∷◌, ◌++◌, map, Option, Some, None, refl, sym, ap}
+use Rattle.std.proofs.Common.{append_assoc, append-nil}
 use Rattle.std.specs.Prelude.{slice_get}
 use Rattle.std.specs.Option.{option_map_or}
 use Rattle.core_lang.specs.declared.tree.Section.{Section}
@@ -11,7 +12,8 @@ use Rattle.report_trace.specs.declared.places.SectionPlaces.{SectionPlaces}
 use Rattle.report_trace.specs.Working.Told.{Table, table_of, table_for, table_text, tables_for}
 use Rattle.report_trace.specs.Trace.{instruction_text}
 
-map_at : {A B : Type 0} (f : A → B) (xs : List A) (k : ℕ) (x : A) → slice_get xs k ≡ Some x → slice_get (map f xs) k ≡ Some (f x)
+map_at : {A B : Type 0} (f : A → B) (xs : List A) (k : ℕ) (x : A) → slice_get xs k ≡ Some x →
+    slice_get (map f xs) k ≡ Some (f x)
 map_at f [] k x e = absurd cc
 map_at f (y ∷ ys) zero x e = let same : y ≡ x = cc in ap (λ z. Some (f z)) same
 map_at f (y ∷ ys) (suc k) x e = map_at f ys k x e
@@ -63,7 +65,8 @@ module _ (text : List ℕ) (plan : Plan) (code : ProgramCode) (place : ℕ) wher
   without_table (Some s) None none = refl
   without_table (Some s) (Some c) none = absurd cc
 
-  without_code : (section : Option Section) (made : Option SectionCode) → made ≡ None → instruction_text text plan code place section made ≡ []
+  without_code : (section : Option Section) (made : Option SectionCode) → made ≡ None →
+      instruction_text text plan code place section made ≡ []
   without_code None None none = refl
   without_code None (Some c) none = refl
   without_code (Some s) None none = refl
@@ -75,7 +78,8 @@ module _ (text : List ℕ) (plan : Plan) (code : ProgramCode) (place : ℕ) wher
     abbrev told : List ℕ
     told = instruction_text text plan code place (slice_get plan.program.sections.items k) (slice_get code.sections.items k)
 
-    pub told_by : (p : SectionPlaces) (m : SectionCode) → slice_get places k ≡ Some p → slice_get code.sections.items k ≡ Some m →
+    pub told_by : (p : SectionPlaces) (m : SectionCode) → slice_get places k ≡ Some p →
+        slice_get code.sections.items k ≡ Some m →
         told ≡ table_text (table_of p) place ++ of_code m
     told_by p m at there =
         by_table (slice_get plan.program.sections.items k) (slice_get code.sections.items k) (table_of p) m there
@@ -90,7 +94,8 @@ module _ (text : List ℕ) (plan : Plan) (code : ProgramCode) (place : ℕ) wher
     untold_without_code = without_code (slice_get plan.program.sections.items k) (slice_get code.sections.items k)
 
 -- two texts, one behind the other
-pub both_put : (old mid new first last whole : List ℕ) → mid ≡ old ++ first → new ≡ mid ++ last → whole ≡ first ++ last → new ≡ old ++ whole
+pub both_put : (old mid new first last whole : List ℕ) → mid ≡ old ++ first → new ≡ mid ++ last →
+    whole ≡ first ++ last → new ≡ old ++ whole
 both_put old mid new first last whole one two is =
     two ∙ ap (λ l. l ++ last) one ∙ append_assoc old first last ∙ ap (λ l. old ++ l) (sym is)
 

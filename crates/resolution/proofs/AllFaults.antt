@@ -1,10 +1,16 @@
 -- Each true fault is listed.
-use Rattle.std.proofs.Common.{◌≡◌, ℕ, zero, suc, ◌+◌, ◌<◌, ◌≤◌, ◌⊎◌, inl, inr, List, [], ◌∷◌, ◌++◌, length, Option, Some, None, Bool, true, false, refl, sym, ap, ◌∙◌, subst, if◌then◌else◌, append_assoc, arith}
+use Rattle.std.proofs.Common.{◌≡◌, ℕ, zero, suc, ◌+◌, ◌<◌, ◌≤◌, ◌⊎◌, inl, inr, List, [], ◌∷◌, ◌++◌, length, Option}
+use Rattle.std.proofs.Common.{Some, None, Bool, true, false, refl, sym, ap, ◌∙◌, subst, if◌then◌else◌, append_assoc}
+use Rattle.std.proofs.Common.{arith}
 use Rattle.std.specs.Prelude.{nat_le, nat_lt, not, is_some, ◌==◌, ◌&&◌, ◌||◌, slice_get}
 use Rattle.std.proofs.lemmas.Bool.Decides.{nat_tests}
 use Rattle.source.specs.Texts.{NUMBER_LIMIT}
 use Rattle.source.specs.declared.fault.Code.{Code}
-use Rattle.source.specs.declared.fault.Code.TheVariants.{NumberTooLarge, DeclaredTwice, UnknownName, WrongType, WrongArgumentCount, NotAssignable, NeitherFinalNorProtected, ProtectedByNoLock, ProtectedByPassesNonFinal, LimitExceeded, FinalWithoutOpeningValue, InitOutOfRangeOrRepeated, LockAsValue}
+use Rattle.source.specs.declared.fault.Code.TheVariants.{NumberTooLarge, DeclaredTwice, UnknownName, WrongType}
+use Rattle.source.specs.declared.fault.Code.TheVariants.{WrongArgumentCount, NotAssignable, NeitherFinalNorProtected}
+use Rattle.source.specs.declared.fault.Code.TheVariants.{ProtectedByNoLock, ProtectedByPassesNonFinal, LimitExceeded}
+use Rattle.source.specs.declared.fault.Code.TheVariants.{FinalWithoutOpeningValue, InitOutOfRangeOrRepeated}
+use Rattle.source.specs.declared.fault.Code.TheVariants.{LockAsValue}
 use Rattle.source.specs.declared.token.Number.{Number}
 use Rattle.syntax.specs.declared.tree.Operator.{Operator}
 use Rattle.syntax.specs.declared.tree.Level.{Level}
@@ -12,7 +18,10 @@ use Rattle.syntax.specs.declared.tree.Level.TheVariants.{Term, Sum, Conjunction,
 use Rattle.syntax.specs.declared.tree.Comparison as written
 use Rattle.syntax.specs.declared.tree.Comparison.TheVariants as sign
 use Rattle.syntax.specs.Trees as tree
-use Rattle.syntax.specs.Trees.{Ident, ref_type, Const, int_const, negative, member_const, Place, lone, element, path, ValueType, Expr, int, place, chain, compare, Owner, let_owned, let_call, assign, Protection, Member, lock_member, final_member, field_member, Struct, Pool, Init, Call, Decl, lock, struct, global, array, pool, init, atomic, helper, thread}
+use Rattle.syntax.specs.Trees.{Ident, ref_type, Const, int_const, negative, member_const, Place, lone, element, path}
+use Rattle.syntax.specs.Trees.{ValueType, Expr, int, place, chain, compare, Owner, let_owned, let_call, assign}
+use Rattle.syntax.specs.Trees.{Protection, Member, lock_member, final_member, field_member, Struct, Pool, Init, Call}
+use Rattle.syntax.specs.Trees.{Decl, lock, struct, global, array, pool, init, atomic, helper, thread}
 use Rattle.core_lang.specs.declared.value.ValueType as core_type
 use Rattle.core_lang.specs.declared.value.ValueType.TheVariants.{Integer, Reference}
 use Rattle.core_lang.specs.declared.tree.FieldStep.{FieldStep}
@@ -20,21 +29,51 @@ use Rattle.source.specs.declared.mistake.Mistake.{Mistake}
 use Rattle.resolution.specs.declared.wanted.Sort.TheVariants as sort
 use Rattle.resolution.specs.declared.wanted.Want.{Want}
 use Rattle.resolution.specs.declared.wanted.Want.TheVariants.{Value}
-use Rattle.resolution.specs.Limits.{STRUCT_LIMIT, MEMBER_LIMIT, FINAL_LIMIT, CLASS_LIMIT, OBJECT_LIMIT, CELL_LIMIT, SECTION_LIMIT, THREAD_LIMIT, CALL_LIMIT}
-use Rattle.resolution.specs.Scopes.{Scope, Local, outside, Meaning, a_local, a_decl, nothing, meaning, place_of, count, declared, the_decl, alike, has_body, the_struct, member_name, member_bears, the_member, the_local, has_type, member_has_type, type_of, result_of, struct_named, entered}
+use Rattle.resolution.specs.Limits.{STRUCT_LIMIT, MEMBER_LIMIT, FINAL_LIMIT, CLASS_LIMIT, OBJECT_LIMIT, CELL_LIMIT}
+use Rattle.resolution.specs.Limits.{SECTION_LIMIT, THREAD_LIMIT, CALL_LIMIT}
+use Rattle.resolution.specs.Scopes.{Scope, Local, outside, Meaning, a_local, a_decl, nothing, meaning, place_of}
+use Rattle.resolution.specs.Scopes.{count, declared, the_decl, alike, has_body, the_struct, member_name, member_bears}
+use Rattle.resolution.specs.Scopes.{the_member, the_local, has_type, member_has_type, type_of, result_of}
+use Rattle.resolution.specs.Scopes.{struct_named, entered}
 use Rattle.resolution.specs.Numbers.{is_lock, total, classes_of, objects_of, cells_of, calls_of}
-use Rattle.resolution.specs.Expressions.{ResolvedExpr, value, truth, fits, fits_type, fits_sort, alike_sorts, want, typed, operator_of, Walk, reached, at_lock, lost, stepped, walked, at_local, walk_from}
+use Rattle.resolution.specs.Expressions.{ResolvedExpr, value, truth, fits, fits_type, fits_sort, alike_sorts, want}
+use Rattle.resolution.specs.Expressions.{typed, operator_of, Walk, reached, at_lock, lost, stepped, walked, at_local}
+use Rattle.resolution.specs.Expressions.{walk_from}
 use Rattle.resolution.specs.declared.owner_field.OwnerField.{OwnerField}
 use Rattle.resolution.specs.Owners.{owner_field}
 use Rattle.resolution.specs.Statements.{first_name, target_of, wanted_by}
 use Rattle.resolution.specs.Constants.{pool_members, initialised, member_want, given}
 use Rattle.resolution.specs.Annotations.{AnnotationCursor, stepped_on, cursor_at}
 use Rattle.resolution.specs.Resolution.{ahead_of}
-use Rattle.resolution.specs.Where.{Has, first, further, HasStmt, HasExpr, HasPlace, is_read, is_written, Binds, NamesOwner, names_owner, HasCall, HasConst, of_variable, of_elements, Annotates, annotates}
+use Rattle.resolution.specs.Where.{Has, first, further, HasStmt, HasExpr, HasPlace, is_read, is_written, Binds}
+use Rattle.resolution.specs.Where.{NamesOwner, names_owner, HasCall, HasConst, of_variable, of_elements, Annotates}
+use Rattle.resolution.specs.Where.{annotates}
 use Rattle.resolution.specs.Faults as fault
-use Rattle.resolution.specs.Faults.{start_of, const_start, IsTooLarge, IsDeclaredTwice, Reaches, stays, goes_on, Walks, walks, NamesGlobal, IsLockDecl, IsLockMember, IsFinalMember, IsUnknown, AreUnlike, IsEquality, IsOfNumbers, IsNoValue, HasNoElements, IsNoReference, IsNoStruct, IsSection, IsPool, IsWrongType, IsWrongCount, IsNotAssignable, IsUnprotected, EndsAtNoLock, PassesNonFinal, limit_of, IsOverLimit, IsFinalMissing, IsOutOfRange, IsLockAsValue, IsFault, too_large, declared_twice, unknown, wrong_type, miscounted, not_assignable, without_lock, ends_at_no_lock, passes_non_final, over_limit, final_missing, out_of_range, lock_as_value, of_calls}
+use Rattle.resolution.specs.Faults.{start_of, const_start, IsTooLarge, IsDeclaredTwice, Reaches, stays, goes_on}
+use Rattle.resolution.specs.Faults.{Walks, walks, NamesGlobal, IsLockDecl, IsLockMember, IsFinalMember, IsUnknown}
+use Rattle.resolution.specs.Faults.{AreUnlike, IsEquality, IsOfNumbers, IsNoValue, HasNoElements, IsNoReference}
+use Rattle.resolution.specs.Faults.{IsNoStruct, IsSection, IsPool, IsWrongType, IsWrongCount, IsNotAssignable}
+use Rattle.resolution.specs.Faults.{IsUnprotected, EndsAtNoLock, PassesNonFinal, limit_of, IsOverLimit}
+use Rattle.resolution.specs.Faults.{IsFinalMissing, IsOutOfRange, IsLockAsValue, IsFault, too_large, declared_twice}
+use Rattle.resolution.specs.Faults.{unknown, wrong_type, miscounted, not_assignable, without_lock, ends_at_no_lock}
+use Rattle.resolution.specs.Faults.{passes_non_final, over_limit, final_missing, out_of_range, lock_as_value}
+use Rattle.resolution.specs.Faults.{of_calls}
 use Rattle.resolution.specs.Working.FaultLists as list
-use Rattle.resolution.specs.Working.FaultLists.{one, one_if, unfit, unfit_member, no_struct, type_faults, number_faults, index_faults, own_faults, sort_misfit, const_faults, argument_faults, no_elements, no_member, no_field, step_faults, end_faults, walk_faults, path_faults, misfit, unlike, side_faults, operator_faults, expr_faults, place_faults, wanted_faults, taken, local_faults, no_target, no_array, final_faults, target_faults, no_final_in, owner_field_faults, other_type, owner_faults, global_lock_faults, lock_faults, passed_faults, last_faults, passed, along_faults, annotation_faults, protection_faults, opening_faults, some_lacks, is_at, is_due, lacks, missing_faults, field_faults, named_faults, null_faults, init_faults, call_faults, again, twice, twice_faults, member_twice_faults, struct_faults, first_too_many, lock_count, member_counts, count_faults, total_faults, given_before, init_target_again, repeated, repeated_faults, each_faults, declaration_faults}
+use Rattle.resolution.specs.Working.FaultLists.{one, one_if, unfit, unfit_member, no_struct, type_faults}
+use Rattle.resolution.specs.Working.FaultLists.{number_faults, index_faults, own_faults, sort_misfit, const_faults}
+use Rattle.resolution.specs.Working.FaultLists.{argument_faults, no_elements, no_member, no_field, step_faults}
+use Rattle.resolution.specs.Working.FaultLists.{end_faults, walk_faults, path_faults, misfit, unlike, side_faults}
+use Rattle.resolution.specs.Working.FaultLists.{operator_faults, expr_faults, place_faults, wanted_faults, taken}
+use Rattle.resolution.specs.Working.FaultLists.{local_faults, no_target, no_array, final_faults, target_faults}
+use Rattle.resolution.specs.Working.FaultLists.{no_final_in, owner_field_faults, other_type, owner_faults}
+use Rattle.resolution.specs.Working.FaultLists.{global_lock_faults, lock_faults, passed_faults, last_faults, passed}
+use Rattle.resolution.specs.Working.FaultLists.{along_faults, annotation_faults, protection_faults, opening_faults}
+use Rattle.resolution.specs.Working.FaultLists.{some_lacks, is_at, is_due, lacks, missing_faults, field_faults}
+use Rattle.resolution.specs.Working.FaultLists.{named_faults, null_faults, init_faults, call_faults, again, twice}
+use Rattle.resolution.specs.Working.FaultLists.{twice_faults, member_twice_faults, struct_faults, first_too_many}
+use Rattle.resolution.specs.Working.FaultLists.{lock_count, member_counts, count_faults, total_faults, given_before}
+use Rattle.resolution.specs.Working.FaultLists.{init_target_again, repeated, repeated_faults, each_faults}
+use Rattle.resolution.specs.Working.FaultLists.{declaration_faults}
 use Rattle.source.specs.Theory.Leasts.{IsAmong}
 use Rattle.core_lang_calls.specs.Faults.{IsGraphFault}
 use Rattle.resolution.specs.CallGraphs.{tree_graph}
@@ -43,12 +82,16 @@ use Rattle.resolution.proofs.TrueStatements.{entered_limits}
 use Rattle.resolution.proofs.Members.{at, at_if}
 use Rattle.resolution.proofs.Members as m
 use Rattle.resolution.proofs.Named.{member_is}
-use Rattle.resolution.proofs.Parts.{chain_link, of_place_at, of_decl, of_stmt, of_owner, helper_call_decls, stmt_decls, of_wanted, expr_decls, of_expr, own, of_param, of_local, local_decls, in_members_field, of_type, of_call, of_const}
-use Rattle.resolution.proofs.HelperFaults.{listed, unfit_in, misfit_is, other_count, of_helper_name, of_result, no_helper_is, no_result_is, counted_is}
+use Rattle.resolution.proofs.Parts.{chain_link, of_place_at, of_decl, of_stmt, of_owner, helper_call_decls}
+use Rattle.resolution.proofs.Parts.{stmt_decls, of_wanted, expr_decls, of_expr, own, of_param, of_local, local_decls}
+use Rattle.resolution.proofs.Parts.{in_members_field, of_type, of_call, of_const}
+use Rattle.resolution.proofs.HelperFaults.{listed, unfit_in, misfit_is, other_count, of_helper_name, of_result}
+use Rattle.resolution.proofs.HelperFaults.{no_helper_is, no_result_is, counted_is}
 use Rattle.resolution.proofs.Tests.{lt_true, le_true, both_true}
 use Rattle.std.proofs.lemmas.List.{append-nil}
 
-unfit_member_in : (decls : List Decl) (c : Code) (p : ℕ) (x : Member) → member_has_type decls x ≡ true → unfit_member decls c p x ≡ one c p
+unfit_member_in : (decls : List Decl) (c : Code) (p : ℕ) (x : Member) → member_has_type decls x ≡ true →
+    unfit_member decls c p x ≡ one c p
 unfit_member_in decls c p x e = ap (λ (b : Bool). one_if b c p) e
 
 -- ---- E02
@@ -60,12 +103,15 @@ large decls p (fault.negative_constant {w = w} sign {n = n} h over) = of_const d
 
 -- ---- E05
 
-in_twice : (ahead before rest : List Decl) (d : Decl) (f : Mistake) → IsAmong f (twice (ahead ++ before) (declared d)) → IsAmong f (twice_faults ahead (before ++ d ∷ rest))
+in_twice : (ahead before rest : List Decl) (d : Decl) (f : Mistake) →
+    IsAmong f (twice (ahead ++ before) (declared d)) → IsAmong f (twice_faults ahead (before ++ d ∷ rest))
 in_twice ahead [] rest d f i = m.in_left f (twice ahead (declared d)) (twice_faults (ahead ++ d ∷ []) rest) (subst (λ (ds : List Decl). IsAmong f (twice ds (declared d))) (append-nil ahead) i)
 in_twice ahead (b ∷ before) rest d f i =
     m.in_right f (twice ahead (declared b)) _ (in_twice (ahead ++ b ∷ []) before rest d f (subst (λ (ds : List Decl). IsAmong f (twice ds (declared d))) (sym (append_assoc ahead (b ∷ []) before)) i))
 
-pub in_member_twice : (ahead before rest : List Member) (x : Member) (f : Mistake) → IsAmong f (again (member_name x).span.start (place_of member_bears (ahead ++ before) (member_name x).text)) → IsAmong f (member_twice_faults ahead (before ++ x ∷ rest))
+pub in_member_twice : (ahead before rest : List Member) (x : Member) (f : Mistake) →
+    IsAmong f (again (member_name x).span.start (place_of member_bears (ahead ++ before) (member_name x).text)) →
+    IsAmong f (member_twice_faults ahead (before ++ x ∷ rest))
 in_member_twice ahead [] rest x f i =
     m.in_left f (again (member_name x).span.start (place_of member_bears ahead (member_name x).text)) (member_twice_faults (ahead ++ x ∷ []) rest)
     (subst (λ (ms : List Member). IsAmong f (again (member_name x).span.start (place_of member_bears ms (member_name x).text))) (append-nil ahead) i)
@@ -73,7 +119,8 @@ in_member_twice ahead (b ∷ before) rest x f i =
     m.in_right f (again (member_name b).span.start (place_of member_bears ahead (member_name b).text)) _
     (in_member_twice (ahead ++ b ∷ []) before rest x f (subst (λ (ms : List Member). IsAmong f (again (member_name x).span.start (place_of member_bears ms (member_name x).text))) (sym (append_assoc ahead (b ∷ []) before)) i))
 
-pub in_structs : (ds : List Decl) (s : Struct) → Has ds (struct s) → (f : Mistake) → IsAmong f (member_twice_faults [] s.members) → IsAmong f (struct_faults ds)
+pub in_structs : (ds : List Decl) (s : Struct) → Has ds (struct s) → (f : Mistake) →
+    IsAmong f (member_twice_faults [] s.members) → IsAmong f (struct_faults ds)
 in_structs [] s h f i = elim h [ ]
 in_structs (struct s ∷ ds) r first f i = m.in_left f (member_twice_faults [] s.members) (struct_faults ds) i
 in_structs (struct s ∷ ds) r (further h) f i = m.in_right f (member_twice_faults [] s.members) _ (in_structs ds r h f i)
@@ -92,19 +139,22 @@ of_twice decls f i =
     (m.in_left f (twice_faults [] decls ++ struct_faults decls ++ total_faults decls [] decls) (repeated_faults decls [] decls)
     (m.in_left f (twice_faults [] decls ++ struct_faults decls) (total_faults decls [] decls) (m.in_left f (twice_faults [] decls) (struct_faults decls) i)))
 
-pub of_structs : (decls : List Decl) (f : Mistake) → IsAmong f (struct_faults decls) → IsAmong f (declaration_faults decls)
+pub of_structs : (decls : List Decl) (f : Mistake) → IsAmong f (struct_faults decls) →
+    IsAmong f (declaration_faults decls)
 of_structs decls f i =
     m.in_left f (twice_faults [] decls ++ struct_faults decls ++ total_faults decls [] decls ++ repeated_faults decls [] decls) (each_faults decls 0 decls)
     (m.in_left f (twice_faults [] decls ++ struct_faults decls ++ total_faults decls [] decls) (repeated_faults decls [] decls)
     (m.in_left f (twice_faults [] decls ++ struct_faults decls) (total_faults decls [] decls) (m.in_right f (twice_faults [] decls) _ i)))
 
-pub of_totals : (decls : List Decl) (f : Mistake) → IsAmong f (total_faults decls [] decls) → IsAmong f (declaration_faults decls)
+pub of_totals : (decls : List Decl) (f : Mistake) → IsAmong f (total_faults decls [] decls) →
+    IsAmong f (declaration_faults decls)
 of_totals decls f i =
     m.in_left f (twice_faults [] decls ++ struct_faults decls ++ total_faults decls [] decls ++ repeated_faults decls [] decls) (each_faults decls 0 decls)
     (m.in_left f (twice_faults [] decls ++ struct_faults decls ++ total_faults decls [] decls) (repeated_faults decls [] decls)
     (m.in_right f (twice_faults [] decls ++ struct_faults decls) _ i))
 
-of_repeated : (decls : List Decl) (f : Mistake) → IsAmong f (repeated_faults decls [] decls) → IsAmong f (declaration_faults decls)
+of_repeated : (decls : List Decl) (f : Mistake) → IsAmong f (repeated_faults decls [] decls) →
+    IsAmong f (declaration_faults decls)
 of_repeated decls f i =
     m.in_left f (twice_faults [] decls ++ struct_faults decls ++ total_faults decls [] decls ++ repeated_faults decls [] decls) (each_faults decls 0 decls)
     (m.in_right f (twice_faults [] decls ++ struct_faults decls ++ total_faults decls [] decls) _ i)
@@ -113,7 +163,9 @@ taken_some : (p : ℕ) (l : Option (ℕ × Local)) (d : ℕ × Decl) → taken p
 taken_some p None d = refl
 taken_some p (Some l) d = refl
 
-twice_at : (decls : List Decl) (sc : Scope) (x : Ident) → Binds decls sc x → taken x.span.start (the_local sc.locals x.text) (the_decl sc.decls x.text) ≡ one DeclaredTwice x.span.start → listed decls DeclaredTwice x.span.start
+twice_at : (decls : List Decl) (sc : Scope) (x : Ident) → Binds decls sc x →
+    taken x.span.start (the_local sc.locals x.text) (the_decl sc.decls x.text) ≡ one DeclaredTwice x.span.start →
+    listed decls DeclaredTwice x.span.start
 twice_at decls sc x h is = of_local decls sc x h _ (m.in_left _ (taken x.span.start (the_local sc.locals x.text) (the_decl sc.decls x.text)) _ (at DeclaredTwice x.span.start _ is))
 
 twice_in : (decls : List Decl) (p : ℕ) → IsDeclaredTwice decls p → listed decls DeclaredTwice p
@@ -128,43 +180,56 @@ twice_in decls p (fault.top_level {sc = sc} {x = x} {f = f} h is) =
 -- ---- places
 
 -- what is listed for a place that is read and for one that is written
-of_place : (decls : List Decl) (sc : Scope) (p : Place) → HasPlace decls sc p → (f : Mistake) → (sc.decls ≡ decls → IsAmong f (place_faults sc p)) → (sc.decls ≡ decls → IsAmong f (target_faults sc p)) → IsAmong f (declaration_faults decls)
+of_place : (decls : List Decl) (sc : Scope) (p : Place) → HasPlace decls sc p → (f : Mistake) →
+    (sc.decls ≡ decls → IsAmong f (place_faults sc p)) → (sc.decls ≡ decls → IsAmong f (target_faults sc p)) →
+    IsAmong f (declaration_faults decls)
 of_place decls sc p (is_read {w = w} h) f read written = of_expr decls sc w (place p) h f (read (expr_decls decls sc w (place p) h))
 of_place decls sc p (is_written {e = e} h) f read written = of_stmt decls sc (assign p e) h f (m.in_left f (target_faults sc p) (wanted_faults sc (wanted_by (target_of sc p)) e) (written (stmt_decls decls sc (assign p e) h)))
 
-of_indexed : (decls : List Decl) (sc : Scope) (x : Ident) (e : Expr) → HasPlace decls sc (element x e) → (f : Mistake) → (sc.decls ≡ decls → IsAmong f (no_elements sc.decls x.span.start (meaning sc x.text))) → IsAmong f (declaration_faults decls)
+of_indexed : (decls : List Decl) (sc : Scope) (x : Ident) (e : Expr) → HasPlace decls sc (element x e) →
+    (f : Mistake) → (sc.decls ≡ decls → IsAmong f (no_elements sc.decls x.span.start (meaning sc x.text))) →
+    IsAmong f (declaration_faults decls)
 of_indexed decls sc x e h f i =
     let a = no_elements sc.decls x.span.start (meaning sc x.text) in
     of_place decls sc (element x e) h f
     (λ s. m.in_left f (a ++ expr_faults sc e) (misfit (Value Integer) (start_of e) (typed sc e)) (m.in_left f a (expr_faults sc e) (i s)))
     (λ s. m.in_left f (a ++ no_array sc.decls x.span.start (meaning sc x.text)) (wanted_faults sc (Value Integer) e) (m.in_left f a (no_array sc.decls x.span.start (meaning sc x.text)) (i s)))
 
-of_path : (decls : List Decl) (sc : Scope) (x : Ident) (fs : List Ident) → HasPlace decls sc (path x fs) → (f : Mistake) → (sc.decls ≡ decls → IsAmong f (path_faults sc.decls x.span.start (meaning sc x.text) fs)) → IsAmong f (declaration_faults decls)
+of_path : (decls : List Decl) (sc : Scope) (x : Ident) (fs : List Ident) → HasPlace decls sc (path x fs) →
+    (f : Mistake) → (sc.decls ≡ decls → IsAmong f (path_faults sc.decls x.span.start (meaning sc x.text) fs)) →
+    IsAmong f (declaration_faults decls)
 of_path decls sc x fs h f i =
     of_place decls sc (path x fs) h f i (λ s. m.in_left f (path_faults sc.decls x.span.start (meaning sc x.text) fs) (final_faults x.span.start (walk_from sc.decls (meaning sc x.text) fs)) (i s))
 
-unknown_place : (decls : List Decl) (sc : Scope) (p : Place) → HasPlace decls sc p → meaning sc (first_name p).text ≡ nothing → listed decls UnknownName (first_name p).span.start
+unknown_place : (decls : List Decl) (sc : Scope) (p : Place) → HasPlace decls sc p →
+    meaning sc (first_name p).text ≡ nothing → listed decls UnknownName (first_name p).span.start
 unknown_place decls sc (lone x) h is = of_place decls sc (lone x) h _ (λ s. at UnknownName x.span.start _ (ap (list.no_value sc.decls x.span.start) is)) (λ s. at UnknownName x.span.start _ (ap (no_target sc.decls x.span.start) is))
 unknown_place decls sc (element x e) h is = of_indexed decls sc x e h _ (λ s. at UnknownName x.span.start _ (ap (no_elements sc.decls x.span.start) is))
 unknown_place decls sc (path x fs) h is = of_path decls sc x fs h _ (λ s. at UnknownName x.span.start _ (ap (λ (y : Meaning). path_faults sc.decls x.span.start y fs) is))
 
 -- ---- paths
 
-in_walk : (decls : List Decl) (p : ℕ) (w : Walk) (before behind : List Ident) (y : Ident) (f : Mistake) → IsAmong f (step_faults decls p (walked decls w before) y) → IsAmong f (walk_faults decls p w (before ++ y ∷ behind))
+in_walk : (decls : List Decl) (p : ℕ) (w : Walk) (before behind : List Ident) (y : Ident) (f : Mistake) →
+    IsAmong f (step_faults decls p (walked decls w before) y) →
+    IsAmong f (walk_faults decls p w (before ++ y ∷ behind))
 in_walk decls p w [] behind y f i = m.in_left f (step_faults decls p w y) (walk_faults decls p (stepped decls w y) behind) i
 in_walk decls p w (b ∷ before) behind y f i = m.in_right f (step_faults decls p w b) _ (in_walk decls p (stepped decls w b) before behind y f i)
 
-in_end : (decls : List Decl) (p : ℕ) (w : Walk) (fs : List Ident) (f : Mistake) → IsAmong f (end_faults p (walked decls w fs)) → IsAmong f (walk_faults decls p w fs)
+in_end : (decls : List Decl) (p : ℕ) (w : Walk) (fs : List Ident) (f : Mistake) →
+    IsAmong f (end_faults p (walked decls w fs)) → IsAmong f (walk_faults decls p w fs)
 in_end decls p w [] f i = i
 in_end decls p w (b ∷ fs) f i = m.in_right f (step_faults decls p w b) _ (in_end decls p (stepped decls w b) fs f i)
 
 -- a step that is wrong, from a local
-in_path : (decls : List Decl) (p : ℕ) (x : Meaning) (fs before behind : List Ident) (y : Ident) (f : Mistake) → fs ≡ before ++ y ∷ behind → IsAmong f (step_faults decls p (walk_from decls x before) y) → IsAmong f (path_faults decls p x fs)
+in_path : (decls : List Decl) (p : ℕ) (x : Meaning) (fs before behind : List Ident) (y : Ident) (f : Mistake) →
+    fs ≡ before ++ y ∷ behind → IsAmong f (step_faults decls p (walk_from decls x before) y) →
+    IsAmong f (path_faults decls p x fs)
 in_path decls p (a_local n l) fs before behind y f parts i = subst (λ (xs : List Ident). IsAmong f (walk_faults decls p (at_local l.value_type) xs)) (sym parts) (in_walk decls p (at_local l.value_type) before behind y f i)
 in_path decls p (a_decl n d) fs before behind y f parts i = absurd i
 in_path decls p nothing fs before behind y f parts i = absurd i
 
-in_path_end : (decls : List Decl) (p : ℕ) (x : Meaning) (fs : List Ident) (f : Mistake) → IsAmong f (end_faults p (walk_from decls x fs)) → IsAmong f (path_faults decls p x fs)
+in_path_end : (decls : List Decl) (p : ℕ) (x : Meaning) (fs : List Ident) (f : Mistake) →
+    IsAmong f (end_faults p (walk_from decls x fs)) → IsAmong f (path_faults decls p x fs)
 in_path_end decls p (a_local n l) fs f i = in_end decls p (at_local l.value_type) fs f i
 in_path_end decls p (a_decl n d) fs f i = absurd i
 in_path_end decls p nothing fs f i = absurd i
@@ -186,26 +251,34 @@ in_along_end decls p from y ys st x stays f i = i
 in_along_end decls p from y (v ∷ vs) st x (goes_on {next = next} e r) f i =
     m.in_right f (passed decls p (Some from) y) _ (subst (λ (o : Option AnnotationCursor). IsAmong f (along_faults decls p o v vs)) (sym e) (in_along_end decls p next v vs st x r f i))
 
-of_annotation : (decls : List Decl) (n : ℕ) (ms : List Member) (p : Protection) → Annotates decls n ms p → (f : Mistake) → IsAmong f (annotation_faults decls (cursor_at n ms) p (the_member ms p.first.text)) → IsAmong f (declaration_faults decls)
+of_annotation : (decls : List Decl) (n : ℕ) (ms : List Member) (p : Protection) → Annotates decls n ms p →
+    (f : Mistake) → IsAmong f (annotation_faults decls (cursor_at n ms) p (the_member ms p.first.text)) →
+    IsAmong f (declaration_faults decls)
 of_annotation decls n ms p (annotates {s = s} {f = g} here b e) f i =
     of_place_at decls n (struct s) here f (in_members_field decls n s.members s.members g b f (m.in_right f (type_faults (outside decls) g.value_type) _ (subst (λ (o : Option Protection). IsAmong f (protection_faults decls n s.members g.name.span.start o)) (sym e) i)))
 
 -- a walk's name that others follow
-of_passed : (decls : List Decl) (p : Protection) (st : AnnotationCursor) (x z : Ident) (zs : List Ident) → Walks decls p st x (z ∷ zs) → (f : Mistake) → IsAmong f (passed decls p.first.span.start (Some st) x) → IsAmong f (declaration_faults decls)
+of_passed : (decls : List Decl) (p : Protection) (st : AnnotationCursor) (x z : Ident) (zs : List Ident) →
+    Walks decls p st x (z ∷ zs) → (f : Mistake) → IsAmong f (passed decls p.first.span.start (Some st) x) →
+    IsAmong f (declaration_faults decls)
 of_passed decls p st x z zs (walks {i = n} {ms = ms} {own = o} h is r) f i =
     of_annotation decls n ms p h f (subst (λ (q : Option (ℕ × Member)). IsAmong f (annotation_faults decls (cursor_at n ms) p q)) (sym is) (in_along decls p.first.span.start (cursor_at n ms) p.first p.rest st x z zs r f i))
 
 -- its last name
-of_last : (decls : List Decl) (p : Protection) (st : AnnotationCursor) (x : Ident) → Walks decls p st x [] → (f : Mistake) → IsAmong f (list.ended decls p.first.span.start (Some st) x) → IsAmong f (declaration_faults decls)
+of_last : (decls : List Decl) (p : Protection) (st : AnnotationCursor) (x : Ident) → Walks decls p st x [] →
+    (f : Mistake) → IsAmong f (list.ended decls p.first.span.start (Some st) x) → IsAmong f (declaration_faults decls)
 of_last decls p st x (walks {i = n} {ms = ms} {own = o} h is r) f i =
     of_annotation decls n ms p h f (subst (λ (q : Option (ℕ × Member)). IsAmong f (annotation_faults decls (cursor_at n ms) p q)) (sym is) (in_along_end decls p.first.span.start (cursor_at n ms) p.first p.rest st x r f i))
 
-unknown_passed : (decls : List Decl) (p : Protection) (st : AnnotationCursor) (y : Ident) (ys : List Ident) → Walks decls p st y ys → the_member st.members y.text ≡ None → listed decls UnknownName y.span.start
+unknown_passed : (decls : List Decl) (p : Protection) (st : AnnotationCursor) (y : Ident) (ys : List Ident) →
+    Walks decls p st y ys → the_member st.members y.text ≡ None → listed decls UnknownName y.span.start
 unknown_passed decls p st y [] h e = of_last decls p st y h _ (at UnknownName y.span.start _ (ap (last_faults decls p.first.span.start y.span.start) e))
 unknown_passed decls p st y (z ∷ zs) h e = of_passed decls p st y z zs h _ (at UnknownName y.span.start _ (ap (passed_faults decls p.first.span.start y.span.start (length st.through)) e))
 
 -- one that is to name a global lock
-of_global_lock : (decls : List Decl) (p : Protection) → NamesGlobal decls p → (f : Mistake) → IsAmong f (global_lock_faults decls p.first.span.start (the_decl decls p.first.text) p.rest) → IsAmong f (declaration_faults decls)
+of_global_lock : (decls : List Decl) (p : Protection) → NamesGlobal decls p → (f : Mistake) →
+    IsAmong f (global_lock_faults decls p.first.span.start (the_decl decls p.first.text) p.rest) →
+    IsAmong f (declaration_faults decls)
 of_global_lock decls p (fault.of_global (of_variable {v = v} h e)) f i =
     of_decl decls (global v) h f (λ n here. m.in_left f (type_faults (outside decls) v.value_type ++ lock_faults decls v.name.span.start v.protection) (opening_faults decls (want (type_of (outside decls) v.value_type)) v.value)
     (m.in_right f (type_faults (outside decls) v.value_type) _ (subst (λ (o : Option Protection). IsAmong f (lock_faults decls v.name.span.start o)) (sym e) i)))
@@ -216,24 +289,31 @@ of_global_lock decls p (fault.no_member {i = n} {ms = ms} h is) f i =
 
 -- ---- inits
 
-init_part : (decls : List Decl) (x : Init) → Has decls (init x) → (f : Mistake) → IsAmong f (index_faults decls x.pool.span.start (the_decl decls x.pool.text) x.index ++ named_faults decls x.field.span.start (pool_members decls (the_decl decls x.pool.text)) x.field.text) → IsAmong f (declaration_faults decls)
+init_part : (decls : List Decl) (x : Init) → Has decls (init x) → (f : Mistake) →
+    IsAmong f (index_faults decls x.pool.span.start (the_decl decls x.pool.text) x.index ++ named_faults decls x.field.span.start (pool_members decls (the_decl decls x.pool.text)) x.field.text) → IsAmong f (declaration_faults decls)
 init_part decls x h f i =
     let a = index_faults decls x.pool.span.start (the_decl decls x.pool.text) x.index in
     let b = named_faults decls x.field.span.start (pool_members decls (the_decl decls x.pool.text)) x.field.text in
     let c = const_faults decls (member_want decls (initialised decls x)) x.value in
     of_decl decls (init x) h f (λ n here. m.in_left f (a ++ b ++ c) (null_faults decls (initialised decls x) x.value) (m.in_left f (a ++ b) c i))
 
-of_init_index : (decls : List Decl) (x : Init) → Has decls (init x) → (f : Mistake) → IsAmong f (index_faults decls x.pool.span.start (the_decl decls x.pool.text) x.index) → IsAmong f (declaration_faults decls)
+of_init_index : (decls : List Decl) (x : Init) → Has decls (init x) → (f : Mistake) →
+    IsAmong f (index_faults decls x.pool.span.start (the_decl decls x.pool.text) x.index) →
+    IsAmong f (declaration_faults decls)
 of_init_index decls x h f i = init_part decls x h f (m.in_left f (index_faults decls x.pool.span.start (the_decl decls x.pool.text) x.index) _ i)
 
-of_init_field : (decls : List Decl) (x : Init) (ms : List Member) → Has decls (init x) → pool_members decls (the_decl decls x.pool.text) ≡ Some ms → (f : Mistake) → IsAmong f (field_faults x.field.span.start (the_member ms x.field.text)) → IsAmong f (declaration_faults decls)
+of_init_field : (decls : List Decl) (x : Init) (ms : List Member) → Has decls (init x) →
+    pool_members decls (the_decl decls x.pool.text) ≡ Some ms → (f : Mistake) →
+    IsAmong f (field_faults x.field.span.start (the_member ms x.field.text)) → IsAmong f (declaration_faults decls)
 of_init_field decls x ms h is f i =
     init_part decls x h f (m.in_right f (index_faults decls x.pool.span.start (the_decl decls x.pool.text) x.index) _ (subst (λ (o : Option (List Member)). IsAmong f (named_faults decls x.field.span.start o x.field.text)) (sym is) i))
 
 -- ---- what stands behind `where`
 
 -- a field's name
-of_member : (decls : List Decl) (ms : List Member) (y : Ident) → NamesOwner decls ms y → (f : Mistake) → ((ds : List Decl) → ds ≡ decls → IsAmong f (list.no_final ds y.span.start (the_member ms y.text))) → IsAmong f (declaration_faults decls)
+of_member : (decls : List Decl) (ms : List Member) (y : Ident) → NamesOwner decls ms y → (f : Mistake) →
+    ((ds : List Decl) → ds ≡ decls → IsAmong f (list.no_final ds y.span.start (the_member ms y.text))) →
+    IsAmong f (declaration_faults decls)
 of_member decls ms y (names_owner {sc = sc} {l = l} {o = o} {k = k} {s = s} h is here) f i =
     let same = stmt_decls decls sc (let_owned l o) h in
     let found : the_struct sc.decls k ≡ Some s = ap (λ (ds : List Decl). the_struct ds k) same ∙ here in
@@ -242,16 +322,22 @@ of_member decls ms y (names_owner {sc = sc} {l = l} {o = o} {k = k} {s = s} h is
     of_owner decls sc l o h f (m.in_left f (owner_field_faults sc.decls (type_of sc l.value_type) o.field) _ (subst (IsAmong f) (sym listed_at) (i sc.decls same)))
 
 -- a local's
-of_owner_name : (decls : List Decl) (sc : Scope) (l : tree.Local) (o : Owner) → HasStmt decls sc (let_owned l o) → (c : Code) → list.no_owner sc.decls o.local.span.start (owner_field sc.decls (type_of sc l.value_type) o.field) (meaning sc o.local.text) ≡ one c o.local.span.start →
+of_owner_name : (decls : List Decl) (sc : Scope) (l : tree.Local) (o : Owner) → HasStmt decls sc (let_owned l o) →
+    (c : Code) →
+    list.no_owner sc.decls o.local.span.start (owner_field sc.decls (type_of sc l.value_type) o.field) (meaning sc o.local.text) ≡ one c o.local.span.start →
     listed decls c o.local.span.start
 of_owner_name decls sc l o h c e = of_owner decls sc l o h _ (m.in_right _ (owner_field_faults sc.decls (type_of sc l.value_type) o.field) _ (at c o.local.span.start _ e))
 
 -- ---- E06
 
-const_own : (decls : List Decl) (w : Want) (x : Ident) (n : Number) → HasConst decls w (member_const x n) → (f : Mistake) → IsAmong f (index_faults decls x.span.start (the_decl decls x.text) n) → IsAmong f (declaration_faults decls)
+const_own : (decls : List Decl) (w : Want) (x : Ident) (n : Number) → HasConst decls w (member_const x n) →
+    (f : Mistake) → IsAmong f (index_faults decls x.span.start (the_decl decls x.text) n) →
+    IsAmong f (declaration_faults decls)
 const_own decls w x n h f i = of_const decls w (member_const x n) h f (m.in_left f (own_faults decls (member_const x n)) _ i)
 
-call_at : (decls : List Decl) (c : Call) (k : Code) → HasCall decls c → call_faults decls c.section.span.start (the_decl decls c.section.text) c.arguments ≡ one k c.section.span.start → listed decls k c.section.span.start
+call_at : (decls : List Decl) (c : Call) (k : Code) → HasCall decls c →
+    call_faults decls c.section.span.start (the_decl decls c.section.text) c.arguments ≡ one k c.section.span.start →
+    listed decls k c.section.span.start
 call_at decls c k h e = of_call decls c h _ (at k c.section.span.start _ e)
 
 unknown_in : (decls : List Decl) (p : ℕ) → IsUnknown decls p → listed decls UnknownName p
@@ -277,7 +363,8 @@ unlike_is a b (value x s) (truth d) h = refl
 unlike_is a b (truth c) (value y t) h = refl
 unlike_is a b (truth c) (truth d) h = absurd h
 
-sides_are : (c : written.Comparison) (a b : ℕ) (s t : Option ResolvedExpr) → IsEquality c → side_faults c a b s t ≡ unlike a b s t
+sides_are : (c : written.Comparison) (a b : ℕ) (s t : Option ResolvedExpr) → IsEquality c →
+    side_faults c a b s t ≡ unlike a b s t
 sides_are sign.Equal a b s t h = refl
 sides_are sign.NotEqual a b s t h = refl
 sides_are sign.Less a b s t h = absurd h
@@ -285,12 +372,15 @@ sides_are sign.LessOrEqual a b s t h = absurd h
 sides_are sign.Greater a b s t h = absurd h
 sides_are sign.GreaterOrEqual a b s t h = absurd h
 
-of_sides : (decls : List Decl) (sc : Scope) (w : Want) (a b : Expr) (c : written.Comparison) → HasExpr decls sc w (compare a c b) → IsEquality c → (p : ℕ) → unlike (start_of a) (start_of b) (typed sc a) (typed sc b) ≡ one WrongType p → listed decls WrongType p
+of_sides : (decls : List Decl) (sc : Scope) (w : Want) (a b : Expr) (c : written.Comparison) →
+    HasExpr decls sc w (compare a c b) → IsEquality c → (p : ℕ) →
+    unlike (start_of a) (start_of b) (typed sc a) (typed sc b) ≡ one WrongType p → listed decls WrongType p
 of_sides decls sc w a b c h so p e =
     of_expr decls sc w (compare a c b) h _ (m.in_right _ (((expr_faults sc a ++ misfit _ (start_of a) (typed sc a)) ++ expr_faults sc b) ++ misfit _ (start_of b) (typed sc b)) _
     (at WrongType p _ (sides_are c (start_of a) (start_of b) (typed sc a) (typed sc b) so ∙ e)))
 
-no_value_is : (decls : List Decl) (p k : ℕ) (d : Decl) → IsNoValue d → has_type decls (a_decl k d) ≡ true → list.no_value decls p (a_decl k d) ≡ one WrongType p
+no_value_is : (decls : List Decl) (p k : ℕ) (d : Decl) → IsNoValue d → has_type decls (a_decl k d) ≡ true →
+    list.no_value decls p (a_decl k d) ≡ one WrongType p
 no_value_is decls p k (lock y) h e = absurd h
 no_value_is decls p k (global v) h e = absurd h
 no_value_is decls p k (struct s) h e = unfit_in decls WrongType p (a_decl k (struct s)) e
@@ -301,7 +391,8 @@ no_value_is decls p k (atomic s) h e = unfit_in decls WrongType p (a_decl k (ato
 no_value_is decls p k (helper s) h e = unfit_in decls WrongType p (a_decl k (helper s)) e
 no_value_is decls p k (thread t) h e = unfit_in decls WrongType p (a_decl k (thread t)) e
 
-no_elements_is : (decls : List Decl) (p : ℕ) (x : Meaning) → HasNoElements x → has_type decls x ≡ true → no_elements decls p x ≡ one WrongType p
+no_elements_is : (decls : List Decl) (p : ℕ) (x : Meaning) → HasNoElements x → has_type decls x ≡ true →
+    no_elements decls p x ≡ one WrongType p
 no_elements_is decls p (a_local n l) h e = unfit_in decls WrongType p (a_local n l) e
 no_elements_is decls p (a_decl n (array a)) h e = absurd h
 no_elements_is decls p (a_decl n (pool q)) h e = absurd h
@@ -314,7 +405,8 @@ no_elements_is decls p (a_decl n (helper s)) h e = unfit_in decls WrongType p (a
 no_elements_is decls p (a_decl n (thread t)) h e = unfit_in decls WrongType p (a_decl n (thread t)) e
 no_elements_is decls p nothing h e = absurd h
 
-no_reference_is : (decls : List Decl) (p : ℕ) (w : Walk) (y : Ident) → IsNoReference w → step_faults decls p w y ≡ one WrongType p
+no_reference_is : (decls : List Decl) (p : ℕ) (w : Walk) (y : Ident) → IsNoReference w →
+    step_faults decls p w y ≡ one WrongType p
 no_reference_is decls p (reached steps Integer) y h = refl
 no_reference_is decls p (reached steps (Reference k)) y h = absurd h
 no_reference_is decls p at_lock y h = refl
@@ -333,7 +425,8 @@ no_struct_is p (a_decl n (helper s)) h = refl
 no_struct_is p (a_decl n (thread t)) h = refl
 no_struct_is p nothing h = absurd h
 
-no_section_is : (decls : List Decl) (p k : ℕ) (d : Decl) (cs : List Const) → (IsSection d → ⊥) → has_type decls (a_decl k d) ≡ true → call_faults decls p (Some (k, d)) cs ≡ one WrongType p
+no_section_is : (decls : List Decl) (p k : ℕ) (d : Decl) (cs : List Const) → (IsSection d → ⊥) →
+    has_type decls (a_decl k d) ≡ true → call_faults decls p (Some (k, d)) cs ≡ one WrongType p
 no_section_is decls p k (lock y) cs h e = refl
 no_section_is decls p k (struct s) cs h e = refl
 no_section_is decls p k (global v) cs h e = unfit_in decls WrongType p (a_decl k (global v)) e
@@ -344,7 +437,8 @@ no_section_is decls p k (atomic s) cs h e = absurd (h tt)
 no_section_is decls p k (helper s) cs h e = refl
 no_section_is decls p k (thread t) cs h e = refl
 
-no_pool_is : (decls : List Decl) (p k : ℕ) (d : Decl) (n : Number) → (IsPool d → ⊥) → has_type decls (a_decl k d) ≡ true → index_faults decls p (Some (k, d)) n ≡ one WrongType p
+no_pool_is : (decls : List Decl) (p k : ℕ) (d : Decl) (n : Number) → (IsPool d → ⊥) →
+    has_type decls (a_decl k d) ≡ true → index_faults decls p (Some (k, d)) n ≡ one WrongType p
 no_pool_is decls p k (pool q) n h e = absurd (h tt)
 no_pool_is decls p k (lock y) n h e = refl
 no_pool_is decls p k (struct s) n h e = refl
@@ -355,7 +449,8 @@ no_pool_is decls p k (atomic s) n h e = refl
 no_pool_is decls p k (helper s) n h e = refl
 no_pool_is decls p k (thread t) n h e = refl
 
-operators_are : (level : Level) (p : ℕ) (o : Operator) → IsOfNumbers level → operator_of o ≡ None → operator_faults level p o ≡ one WrongType p
+operators_are : (level : Level) (p : ℕ) (o : Operator) → IsOfNumbers level → operator_of o ≡ None →
+    operator_faults level p o ≡ one WrongType p
 operators_are Term p o h e = ap (λ (x : Option _). one_if (not (is_some x)) WrongType p) e
 operators_are Sum p o h e = ap (λ (x : Option _). one_if (not (is_some x)) WrongType p) e
 operators_are Conjunction p o h e = absurd h
@@ -420,10 +515,13 @@ counted decls p (fault.wrong_count {c = c} {i = k} {s = s} h is other) =
 counted decls p (fault.wrong_helper_count {sc = sc} {c = c} {i = k} {s = s} h is other) =
     of_helper_name decls sc c h WrongArgumentCount (counted_is sc.decls c.helper.span.start (length c.arguments) k s (meaning sc c.helper.text) is other)
 
-of_target : (decls : List Decl) (sc : Scope) (q : Place) (e : Expr) (c : Code) (p : ℕ) → HasStmt decls sc (assign q e) → (sc.decls ≡ decls → IsAmong (record { code = c; start = p }) (target_faults sc q)) → listed decls c p
+of_target : (decls : List Decl) (sc : Scope) (q : Place) (e : Expr) (c : Code) (p : ℕ) →
+    HasStmt decls sc (assign q e) →
+    (sc.decls ≡ decls → IsAmong (record { code = c; start = p }) (target_faults sc q)) → listed decls c p
 of_target decls sc q e c p h i = of_stmt decls sc (assign q e) h _ (m.in_left _ (target_faults sc q) _ (i (stmt_decls decls sc (assign q e) h)))
 
-no_target_is : (decls : List Decl) (p k : ℕ) (d : Decl) → IsNoValue d → has_type decls (a_decl k d) ≡ true → no_target decls p (a_decl k d) ≡ one NotAssignable p
+no_target_is : (decls : List Decl) (p k : ℕ) (d : Decl) → IsNoValue d → has_type decls (a_decl k d) ≡ true →
+    no_target decls p (a_decl k d) ≡ one NotAssignable p
 no_target_is decls p k (lock y) h e = absurd h
 no_target_is decls p k (global v) h e = absurd h
 no_target_is decls p k (struct s) h e = unfit_in decls NotAssignable p (a_decl k (struct s)) e
@@ -457,12 +555,14 @@ bare_in decls p (fault.bare_field {s = s} {f = g} h b e) =
 
 -- ---- E11, E12
 
-last_is : (decls : List Decl) (head here n : ℕ) (x : Member) → (IsLockMember x → ⊥) → member_has_type decls x ≡ true → last_faults decls head here (Some (n, x)) ≡ one ProtectedByNoLock head
+last_is : (decls : List Decl) (head here n : ℕ) (x : Member) → (IsLockMember x → ⊥) → member_has_type decls x ≡ true →
+    last_faults decls head here (Some (n, x)) ≡ one ProtectedByNoLock head
 last_is decls head here n (lock_member y) h e = absurd (h tt)
 last_is decls head here n (final_member g) h e = unfit_member_in decls ProtectedByNoLock head (final_member g) e
 last_is decls head here n (field_member g) h e = unfit_member_in decls ProtectedByNoLock head (field_member g) e
 
-global_lock_is : (decls : List Decl) (p k : ℕ) (d : Decl) (ys : List Ident) → ((IsLockDecl d × (ys ≡ [])) → ⊥) → has_type decls (a_decl k d) ≡ true → global_lock_faults decls p (Some (k, d)) ys ≡ one ProtectedByNoLock p
+global_lock_is : (decls : List Decl) (p k : ℕ) (d : Decl) (ys : List Ident) → ((IsLockDecl d × (ys ≡ [])) → ⊥) →
+    has_type decls (a_decl k d) ≡ true → global_lock_faults decls p (Some (k, d)) ys ≡ one ProtectedByNoLock p
 global_lock_is decls p k (lock x) [] h e = absurd (h (tt, refl))
 global_lock_is decls p k (lock x) (y ∷ ys) h e = refl
 global_lock_is decls p k (struct s) ys h e = refl
@@ -480,7 +580,9 @@ ends_in decls p (fault.ends_at_member {p = q} {st = st} {y = y} {i = n} {m = x} 
 ends_in decls p (fault.names_no_lock {p = q} {i = n} {d = d} h is not_so t) =
     of_global_lock decls q h _ (at ProtectedByNoLock q.first.span.start _ (ap (λ (o : Option (ℕ × Decl)). global_lock_faults decls q.first.span.start o q.rest) is ∙ global_lock_is decls q.first.span.start n d q.rest not_so t))
 
-passed_is : (decls : List Decl) (head here n k : ℕ) (x : Member) → (IsFinalMember x → ⊥) → member_has_type decls x ≡ true → passed_faults decls head here n (Some (k, x)) ≡ one ProtectedByPassesNonFinal here
+passed_is : (decls : List Decl) (head here n k : ℕ) (x : Member) → (IsFinalMember x → ⊥) →
+    member_has_type decls x ≡ true →
+    passed_faults decls head here n (Some (k, x)) ≡ one ProtectedByPassesNonFinal here
 passed_is decls head here n k (lock_member y) h e = refl
 passed_is decls head here n k (final_member g) h e = absurd (h tt)
 passed_is decls head here n k (field_member g) h e = unfit_member_in decls ProtectedByPassesNonFinal here (field_member g) e
@@ -491,31 +593,37 @@ passes_in decls p (fault.passes {p = q} {st = st} {y = y} {z = z} {zs = zs} {i =
 
 -- ---- E15
 
-in_totals : (decls ahead before rest : List Decl) (d : Decl) (f : Mistake) → IsAmong f (count_faults decls (ahead ++ before) d) → IsAmong f (total_faults decls ahead (before ++ d ∷ rest))
+in_totals : (decls ahead before rest : List Decl) (d : Decl) (f : Mistake) →
+    IsAmong f (count_faults decls (ahead ++ before) d) → IsAmong f (total_faults decls ahead (before ++ d ∷ rest))
 in_totals decls ahead [] rest d f i = m.in_left f (count_faults decls ahead d) (total_faults decls (ahead ++ d ∷ []) rest) (subst (λ (ds : List Decl). IsAmong f (count_faults decls ds d)) (append-nil ahead) i)
 in_totals decls ahead (b ∷ before) rest d f i =
     m.in_right f (count_faults decls ahead b) _ (in_totals decls (ahead ++ b ∷ []) before rest d f (subst (λ (ds : List Decl). IsAmong f (count_faults decls ds d)) (sym (append_assoc ahead (b ∷ []) before)) i))
 
-pub of_counts : (decls before behind : List Decl) (d : Decl) → decls ≡ before ++ d ∷ behind → (f : Mistake) → IsAmong f (count_faults decls before d) → IsAmong f (declaration_faults decls)
+pub of_counts : (decls before behind : List Decl) (d : Decl) → decls ≡ before ++ d ∷ behind → (f : Mistake) →
+    IsAmong f (count_faults decls before d) → IsAmong f (declaration_faults decls)
 of_counts decls before behind d parts f i = of_totals decls f (subst (λ (ds : List Decl). IsAmong f (total_faults decls [] ds)) (sym parts) (in_totals decls [] before behind d f i))
 
 parts_has : (before behind : List Decl) (d : Decl) → Has (before ++ d ∷ behind) d
 parts_has [] behind d = first
 parts_has (b ∷ before) behind d = further (parts_has before behind d)
 
-pub has_parts : (decls : List Decl) (d : Decl) → Has decls d → (before : List Decl) × (behind : List Decl) × (decls ≡ before ++ d ∷ behind)
+pub has_parts : (decls : List Decl) (d : Decl) → Has decls d →
+    (before : List Decl) × (behind : List Decl) × (decls ≡ before ++ d ∷ behind)
 has_parts [] d h = elim h [ ]
 has_parts (x ∷ ds) d first = ([], ds, refl)
 has_parts (x ∷ ds) d (further h) = let r = has_parts ds d h in (x ∷ r.0, r.1, ap (λ (ys : List Decl). x ∷ ys) r.2)
 
 -- the declared name is the one that the fault stands at
-same_start : (a b : Ident) (c : Code) (p : ℕ) (fs : List Mistake) → Some a ≡ Some b → IsAmong (record { code = c; start = a.span.start }) fs → IsAmong (record { code = c; start = b.span.start }) fs
+same_start : (a b : Ident) (c : Code) (p : ℕ) (fs : List Mistake) → Some a ≡ Some b →
+    IsAmong (record { code = c; start = a.span.start }) fs → IsAmong (record { code = c; start = b.span.start }) fs
 same_start a b c p fs e i = let s : a ≡ b = cc in subst (λ (y : Ident). IsAmong (record { code = c; start = y.span.start }) fs) s i
 
 passes_true : (limit n own : ℕ) → n ≤ limit → limit < n + own → first_too_many limit n own ≡ true
 passes_true limit n own a b = both_true (nat_le n limit) (nat_lt limit (n + own)) (le_true n limit a) (lt_true limit (n + own) b)
 
-many_in : (decls before : List Decl) (d : Decl) (x : Ident) (n : ℕ) → declared d ≡ Some x → limit_of d ≡ Some n → n ≤ count (alike d) before → IsAmong (record { code = LimitExceeded; start = x.span.start }) (count_faults decls before d)
+many_in : (decls before : List Decl) (d : Decl) (x : Ident) (n : ℕ) → declared d ≡ Some x → limit_of d ≡ Some n →
+    n ≤ count (alike d) before →
+    IsAmong (record { code = LimitExceeded; start = x.span.start }) (count_faults decls before d)
 many_in decls before (struct s) x n is l le =
     same_start s.name x LimitExceeded 0 _ is (m.in_left _ (one_if (nat_le STRUCT_LIMIT (count (alike (struct s)) before)) LimitExceeded s.name.span.start) _ (at_if (nat_le STRUCT_LIMIT (count (alike (struct s)) before)) LimitExceeded s.name.span.start (let e : STRUCT_LIMIT ≡ n = cc in le_true STRUCT_LIMIT (count (alike (struct s)) before) (subst (λ (k : ℕ). k ≤ count (alike (struct s)) before) (sym e) le))))
 many_in decls before (atomic s) x n is l le = cc
@@ -528,7 +636,9 @@ many_in decls before (array a) x n is l le = cc
 many_in decls before (pool q) x n is l le = cc
 many_in decls before (init j) x n is l le = cc
 
-sections_in : (decls before : List Decl) (d : Decl) (x : Ident) → has_body d ≡ true → declared d ≡ Some x → SECTION_LIMIT ≤ count has_body before → IsAmong (record { code = LimitExceeded; start = x.span.start }) (count_faults decls before d)
+sections_in : (decls before : List Decl) (d : Decl) (x : Ident) → has_body d ≡ true → declared d ≡ Some x →
+    SECTION_LIMIT ≤ count has_body before →
+    IsAmong (record { code = LimitExceeded; start = x.span.start }) (count_faults decls before d)
 sections_in decls before (atomic s) x has is le = same_start s.name x LimitExceeded 0 _ is (at_if (nat_le SECTION_LIMIT (count has_body before)) LimitExceeded s.name.span.start (le_true SECTION_LIMIT (count has_body before) le))
 sections_in decls before (helper s) x has is le = same_start s.name x LimitExceeded 0 _ is (at_if (nat_le SECTION_LIMIT (count has_body before)) LimitExceeded s.name.span.start (le_true SECTION_LIMIT (count has_body before) le))
 sections_in decls before (struct s) x has is le = cc
@@ -539,7 +649,9 @@ sections_in decls before (array a) x has is le = cc
 sections_in decls before (pool q) x has is le = cc
 sections_in decls before (init j) x has is le = cc
 
-objects_in : (decls before : List Decl) (d : Decl) (x : Ident) → declared d ≡ Some x → total objects_of before ≤ OBJECT_LIMIT → OBJECT_LIMIT < total objects_of before + objects_of d → IsAmong (record { code = LimitExceeded; start = x.span.start }) (count_faults decls before d)
+objects_in : (decls before : List Decl) (d : Decl) (x : Ident) → declared d ≡ Some x →
+    total objects_of before ≤ OBJECT_LIMIT → OBJECT_LIMIT < total objects_of before + objects_of d →
+    IsAmong (record { code = LimitExceeded; start = x.span.start }) (count_faults decls before d)
 objects_in decls before (pool q) x is a b =
     same_start q.name x LimitExceeded 0 _ is (m.in_left _ (one_if (first_too_many OBJECT_LIMIT (total objects_of before) (objects_of (pool q))) LimitExceeded q.name.span.start) _ (at_if (first_too_many OBJECT_LIMIT (total objects_of before) (objects_of (pool q))) LimitExceeded q.name.span.start (passes_true OBJECT_LIMIT (total objects_of before) (objects_of (pool q)) a b)))
 objects_in decls before (struct s) x is a b = absurd (omega (arith, a, b))
@@ -551,7 +663,9 @@ objects_in decls before (global v) x is a b = absurd (omega (arith, a, b))
 objects_in decls before (array y) x is a b = absurd (omega (arith, a, b))
 objects_in decls before (init j) x is a b = absurd (omega (arith, a, b))
 
-cells_in : (decls before : List Decl) (d : Decl) (x : Ident) → declared d ≡ Some x → total (cells_of decls) before ≤ CELL_LIMIT → CELL_LIMIT < total (cells_of decls) before + cells_of decls d → IsAmong (record { code = LimitExceeded; start = x.span.start }) (count_faults decls before d)
+cells_in : (decls before : List Decl) (d : Decl) (x : Ident) → declared d ≡ Some x →
+    total (cells_of decls) before ≤ CELL_LIMIT → CELL_LIMIT < total (cells_of decls) before + cells_of decls d →
+    IsAmong (record { code = LimitExceeded; start = x.span.start }) (count_faults decls before d)
 cells_in decls before (global v) x is a b =
     same_start v.name x LimitExceeded 0 _ is (at_if (first_too_many CELL_LIMIT (total (cells_of decls) before) (cells_of decls (global v))) LimitExceeded v.name.span.start (passes_true CELL_LIMIT (total (cells_of decls) before) (cells_of decls (global v)) a b))
 cells_in decls before (array y) x is a b =
@@ -565,7 +679,9 @@ cells_in decls before (thread t) x is a b = absurd (omega (arith, a, b))
 cells_in decls before (lock y) x is a b = absurd (omega (arith, a, b))
 cells_in decls before (init j) x is a b = absurd (omega (arith, a, b))
 
-calls_in : (decls before : List Decl) (d : Decl) (x : Ident) → declared d ≡ Some x → total calls_of before ≤ CALL_LIMIT → CALL_LIMIT < total calls_of before + calls_of d → IsAmong (record { code = LimitExceeded; start = x.span.start }) (count_faults decls before d)
+calls_in : (decls before : List Decl) (d : Decl) (x : Ident) → declared d ≡ Some x →
+    total calls_of before ≤ CALL_LIMIT → CALL_LIMIT < total calls_of before + calls_of d →
+    IsAmong (record { code = LimitExceeded; start = x.span.start }) (count_faults decls before d)
 calls_in decls before (thread t) x is a b =
     same_start t.name x LimitExceeded 0 _ is (m.in_right _ (one_if (nat_le THREAD_LIMIT (count (alike (thread t)) before)) LimitExceeded t.name.span.start) _ (at_if (first_too_many CALL_LIMIT (total calls_of before) (calls_of (thread t))) LimitExceeded t.name.span.start (passes_true CALL_LIMIT (total calls_of before) (calls_of (thread t)) a b)))
 calls_in decls before (struct s) x is a b = absurd (omega (arith, a, b))
@@ -581,7 +697,9 @@ calls_in decls before (init j) x is a b = absurd (omega (arith, a, b))
 abbrev member_own : ℕ → ℕ → Member → List Mistake
 member_own classes n x = one_if (nat_le MEMBER_LIMIT n) LimitExceeded (member_name x).span.start ++ one_if (is_lock x && nat_le CLASS_LIMIT classes) LimitExceeded (member_name x).span.start
 
-in_member_counts : (classes n : ℕ) (ahead rest : List Member) (x : Member) (f : Mistake) → IsAmong f (member_own (classes + count is_lock ahead) (n + length ahead) x) → IsAmong f (member_counts classes n (ahead ++ x ∷ rest))
+in_member_counts : (classes n : ℕ) (ahead rest : List Member) (x : Member) (f : Mistake) →
+    IsAmong f (member_own (classes + count is_lock ahead) (n + length ahead) x) →
+    IsAmong f (member_counts classes n (ahead ++ x ∷ rest))
 in_member_counts classes n [] rest x f i =
     m.in_left f (member_own classes n x) (member_counts (classes + lock_count (is_lock x)) (n + 1) rest)
     (subst (λ (k : ℕ). IsAmong f (member_own k n x)) (let z : classes + 0 ≡ classes = omega arith in z) (subst (λ (k : ℕ). IsAmong f (member_own (classes + 0) k x)) (let z : n + 0 ≡ n = omega arith in z) i))
@@ -589,12 +707,14 @@ in_member_counts classes n (b ∷ ahead) rest x f i =
     m.in_right f (member_own classes n b) _ (in_member_counts (classes + lock_count (is_lock b)) (n + 1) ahead rest x f
     (subst (λ (k : ℕ). IsAmong f (member_own k (n + 1 + length ahead) x)) (locks_ahead b) (subst (λ (k : ℕ). IsAmong f (member_own (classes + count is_lock (b ∷ ahead)) k x)) (let z : n + suc (length ahead) ≡ n + 1 + length ahead = omega arith in z) i)))
   where
-    locks_ahead : (y : Member) → classes + count is_lock (y ∷ ahead) ≡ classes + lock_count (is_lock y) + count is_lock ahead
+    locks_ahead : (y : Member) →
+        classes + count is_lock (y ∷ ahead) ≡ classes + lock_count (is_lock y) + count is_lock ahead
     locks_ahead (lock_member z) = omega arith
     locks_ahead (final_member z) = omega arith
     locks_ahead (field_member z) = omega arith
 
-of_member_counts : (decls before behind : List Decl) (s : Struct) (ahead rest : List Member) (x : Member) → decls ≡ before ++ struct s ∷ behind → s.members ≡ ahead ++ x ∷ rest → (f : Mistake) →
+of_member_counts : (decls before behind : List Decl) (s : Struct) (ahead rest : List Member) (x : Member) →
+    decls ≡ before ++ struct s ∷ behind → s.members ≡ ahead ++ x ∷ rest → (f : Mistake) →
     IsAmong f (member_own (total classes_of before + count is_lock ahead) (length ahead) x) → IsAmong f (declaration_faults decls)
 of_member_counts decls before behind s ahead rest x parts inner f i =
     of_counts decls before behind (struct s) parts f (m.in_right f (one_if (nat_le STRUCT_LIMIT (count (alike (struct s)) before)) LimitExceeded s.name.span.start) _
@@ -626,7 +746,8 @@ over_in decls p (fault.too_many_finals {p = q} {st = st} {y = y} {z = z} {zs = z
 
 -- ---- E16
 
-lacks_one : (decls : List Decl) (n x k j : ℕ) → j < k → given decls (record { pool = n; index = j; member = x }) ≡ None → some_lacks decls n x k ≡ true
+lacks_one : (decls : List Decl) (n x k j : ℕ) → j < k →
+    given decls (record { pool = n; index = j; member = x }) ≡ None → some_lacks decls n x k ≡ true
 lacks_one decls n x zero j l e = absurd (omega (arith, l))
 lacks_one decls n x (suc k) j l e = decide (λ less. lacks_one decls n x k j less e) (j == k) refl
   where
@@ -650,7 +771,9 @@ or_first : (a b : Bool) → a ≡ true → (a || b) ≡ true
 or_first true b e = refl
 or_first false b e = cc
 
-lacks_in : (decls : List Decl) (n len : ℕ) (all : List Member) (k : ℕ) (ms : List Member) (j : ℕ) (x : Member) → slice_get ms j ≡ Some x → is_due decls all (k + j) x ≡ true → some_lacks decls n (k + j) len ≡ true → lacks decls n len all k ms ≡ true
+lacks_in : (decls : List Decl) (n len : ℕ) (all : List Member) (k : ℕ) (ms : List Member) (j : ℕ) (x : Member) →
+    slice_get ms j ≡ Some x → is_due decls all (k + j) x ≡ true → some_lacks decls n (k + j) len ≡ true →
+    lacks decls n len all k ms ≡ true
 lacks_in decls n len all k [] j x here due some = cc
 lacks_in decls n len all k (y ∷ ms) zero x here due some =
     let same : y ≡ x = cc in
@@ -683,12 +806,15 @@ missing_in decls p (fault.given_null {i = x} {m = n} {f = g} {s = s} {at = here}
 
 -- ---- E17, E19
 
-in_repeated : (decls ahead before rest : List Decl) (d : Decl) (f : Mistake) → IsAmong f (repeated decls (ahead ++ before) d) → IsAmong f (repeated_faults decls ahead (before ++ d ∷ rest))
+in_repeated : (decls ahead before rest : List Decl) (d : Decl) (f : Mistake) →
+    IsAmong f (repeated decls (ahead ++ before) d) → IsAmong f (repeated_faults decls ahead (before ++ d ∷ rest))
 in_repeated decls ahead [] rest d f i = m.in_left f (repeated decls ahead d) (repeated_faults decls (ahead ++ d ∷ []) rest) (subst (λ (ds : List Decl). IsAmong f (repeated decls ds d)) (append-nil ahead) i)
 in_repeated decls ahead (b ∷ before) rest d f i =
     m.in_right f (repeated decls ahead b) _ (in_repeated decls (ahead ++ b ∷ []) before rest d f (subst (λ (ds : List Decl). IsAmong f (repeated decls ds d)) (sym (append_assoc ahead (b ∷ []) before)) i))
 
-beyond : (decls : List Decl) (k p : ℕ) (q : Pool) (n : Number) → has_type decls (a_decl k (pool q)) ≡ true → q.length.value ≤ n.value → IsAmong (record { code = InitOutOfRangeOrRepeated; start = n.span.start }) (index_faults decls p (Some (k, pool q)) n)
+beyond : (decls : List Decl) (k p : ℕ) (q : Pool) (n : Number) → has_type decls (a_decl k (pool q)) ≡ true →
+    q.length.value ≤ n.value →
+    IsAmong (record { code = InitOutOfRangeOrRepeated; start = n.span.start }) (index_faults decls p (Some (k, pool q)) n)
 beyond decls k p q n t le = at_if (has_type decls (a_decl k (pool q)) && nat_le q.length.value n.value) InitOutOfRangeOrRepeated n.span.start (both_true (has_type decls (a_decl k (pool q))) (nat_le q.length.value n.value) t (le_true q.length.value n.value le))
 
 range_in : (decls : List Decl) (p : ℕ) → IsOutOfRange decls p → listed decls InitOutOfRangeOrRepeated p
@@ -709,7 +835,8 @@ locks_in decls p (fault.lock_as_owner {ms = ms} {f = y} h is) = of_member decls 
 locks_in decls p (fault.lock_initialised {i = x} {m = n} {y = y} h is) =
     by_members (pool_members decls (the_decl decls x.pool.text)) refl
   where
-    by_members : (o : Option (List Member)) → pool_members decls (the_decl decls x.pool.text) ≡ o → listed decls LockAsValue x.field.span.start
+    by_members : (o : Option (List Member)) → pool_members decls (the_decl decls x.pool.text) ≡ o →
+        listed decls LockAsValue x.field.span.start
     by_members None e = let none : initialised decls x ≡ None = rw e refl in absurd cc
     by_members (Some ms) e =
         let some : initialised decls x ≡ the_member ms x.field.text = rw e refl in
@@ -718,7 +845,8 @@ locks_in decls p (fault.lock_initialised {i = x} {m = n} {y = y} h is) =
 -- ---- the whole
 
 -- a fault of the program is one of its graph, or is listed
-pub all_faults : (decls : List Decl) (c : Code) (p : ℕ) → IsFault decls c p → IsGraphFault (tree_graph decls) c p ⊎ listed decls c p
+pub all_faults : (decls : List Decl) (c : Code) (p : ℕ) → IsFault decls c p →
+    IsGraphFault (tree_graph decls) c p ⊎ listed decls c p
 all_faults decls c p (too_large h) = inr (large decls p h)
 all_faults decls c p (declared_twice h) = inr (twice_in decls p h)
 all_faults decls c p (unknown h) = inr (unknown_in decls p h)

@@ -1,12 +1,15 @@
 -- The calls and points of resolved statements are those of the tree.
-use Rattle.std.proofs.Common.{◌≡◌, ℕ, ◌+◌, List, [], ◌∷◌, ◌++◌, map, length, Option, Some, None, Bool, true, false, if◌then◌else◌, refl, sym, ap, ◌∙◌, subst, arith}
+use Rattle.std.proofs.Common.{◌≡◌, ℕ, ◌+◌, List, [], ◌∷◌, ◌++◌, map, length, Option, Some, None, Bool, true, false}
+use Rattle.std.proofs.Common.{if◌then◌else◌, refl, sym, ap, ◌∙◌, subst, arith}
 use Rattle.std.specs.Prelude.{is_some, ⊤}
 use Rattle.std.proofs.lemmas.List.{map-append}
-use Rattle.syntax.specs.Trees.{Expr, Stmt, let_local, let_owned, let_call, var_local, assign, if_then, while, print, return_value, call, Stmts, no_stmts, stmt, no_else, else_do, Section, helper}
+use Rattle.syntax.specs.Trees.{Expr, Stmt, let_local, let_owned, let_call, var_local, assign, if_then, while, print}
+use Rattle.syntax.specs.Trees.{return_value, call, Stmts, no_stmts, stmt, no_else, else_do, Section, helper}
 use Rattle.core_lang.specs.declared.value.ValueType as core_type
 use Rattle.core_lang.specs.declared.tree.Stmt as s
 use Rattle.core_lang.specs.declared.tree.Action as a
-use Rattle.core_lang.specs.declared.tree.Action.{Bind, SetLocal, SetGlobal, SetElement, SetField, Call as CallOf, Print, If', IfElse', While', Row_of-Stmt, end_of-Stmt, more_of-Stmt}
+use Rattle.core_lang.specs.declared.tree.Action.{Bind, SetLocal, SetGlobal, SetElement, SetField, Call as CallOf}
+use Rattle.core_lang.specs.declared.tree.Action.{Print, If', IfElse', While', Row_of-Stmt, end_of-Stmt, more_of-Stmt}
 use Rattle.core_lang.specs.WrittenPoints.{points_by, points_among, points_among_all}
 use Rattle.core_lang_calls.specs.declared.graph.CallSite.{CallSite}
 use Rattle.core_lang_calls.specs.Working.Programs.{site_of, sites_by, sites_in, sites_in_all, brings_none}
@@ -15,7 +18,11 @@ use Rattle.resolution.specs.CoreViews.{core_action, core_stmts_row, core_stmts}
 use Rattle.resolution.specs.Scopes.{◌>>=◌, Scope, meaning, helper_meant, number_at, type_of, left}
 use Rattle.resolution.specs.Expressions.{want, fitting, as_value, number_resolved, test_resolved, typed}
 use Rattle.resolution.specs.Owners.{owned_by}
-use Rattle.resolution.specs.Statements.{Target, to_local, to_global, to_element, to_field, Assignee, target_of, wanted_by, first_name, Part, does, gives, acts_if, binds, set_to, assigns, prints, returns, repeats, chooses, chooses_between, Body, given_back, preceded, block_without, block_of, typed_values, called, call_resolved, type_given, can_take, after, after_all, first_value, typed_stmt, typed_body}
+use Rattle.resolution.specs.Statements.{Target, to_local, to_global, to_element, to_field, Assignee, target_of}
+use Rattle.resolution.specs.Statements.{wanted_by, first_name, Part, does, gives, acts_if, binds, set_to, assigns}
+use Rattle.resolution.specs.Statements.{prints, returns, repeats, chooses, chooses_between, Body, given_back}
+use Rattle.resolution.specs.Statements.{preceded, block_without, block_of, typed_values, called, call_resolved}
+use Rattle.resolution.specs.Statements.{type_given, can_take, after, after_all, first_value, typed_stmt, typed_body}
 use Rattle.resolution.specs.CallGraphs.{site_at, call_sites, stmt_calls, stmts_calls, stmt_points, stmts_points}
 
 -- ---- of resolved statements as data
@@ -143,7 +150,8 @@ values_has : (o : Option (List core.Expr)) (h start : ℕ) (local : Option ℕ) 
 values_has None h start local bound e = tt
 values_has (Some vs) h start local bound e = (ap (λ (b : Bool). (h, b) ∷ []) e, refl)
 
-called_has : (sc : Scope) (m : Option (ℕ × Section)) (es : List Expr) (local : Option ℕ) (start : ℕ) (bound : Bool) → is_some local ≡ bound →
+called_has : (sc : Scope) (m : Option (ℕ × Section)) (es : List Expr) (local : Option ℕ) (start : ℕ) (bound : Bool) →
+    is_some local ≡ bound →
     IfActs (called sc m es local) (site_at sc.decls start bound m)
 called_has sc (Some (i, s)) es local start bound e = values_has (typed_values sc s.params es) (number_at sc.decls i (helper s)) start local bound e
 called_has sc None es local start bound e = tt
@@ -152,16 +160,19 @@ acts_has : (start : ℕ) (x : Option core.Action) (cs : List CallSite) → IfAct
 acts_has start None cs h = tt
 acts_has start (Some x) cs h = h
 
-taken_has : (b : Bool) (start : ℕ) (x : Option core.Action) (cs : List CallSite) → IfActs x cs → IfPart (if b then acts_if start x else None) cs 0
+taken_has : (b : Bool) (start : ℕ) (x : Option core.Action) (cs : List CallSite) → IfActs x cs →
+    IfPart (if b then acts_if start x else None) cs 0
 taken_has true start x cs h = acts_has start x cs h
 taken_has false start x cs h = tt
 
-repeats_has : (start : ℕ) (c : Option core.Condition) (b : Option core.Stmts) (cs : List CallSite) (n : ℕ) → IfBlock b cs n → IfPart (repeats start c b) cs (1 + n)
+repeats_has : (start : ℕ) (c : Option core.Condition) (b : Option core.Stmts) (cs : List CallSite) (n : ℕ) →
+    IfBlock b cs n → IfPart (repeats start c b) cs (1 + n)
 repeats_has start None b cs n h = tt
 repeats_has start (Some c) None cs n h = tt
 repeats_has start (Some c) (Some b) cs n h = (h.0, ap (λ (k : ℕ). 1 + k) h.1)
 
-chooses_has : (start : ℕ) (c : Option core.Condition) (b : Option core.Stmts) (cs : List CallSite) (n : ℕ) → IfBlock b cs n → IfPart (chooses start c b) (cs ++ []) (1 + (n + 0))
+chooses_has : (start : ℕ) (c : Option core.Condition) (b : Option core.Stmts) (cs : List CallSite) (n : ℕ) →
+    IfBlock b cs n → IfPart (chooses start c b) (cs ++ []) (1 + (n + 0))
 chooses_has start None b cs n h = tt
 chooses_has start (Some c) None cs n h = tt
 chooses_has start (Some c) (Some b) cs n h =
@@ -172,10 +183,12 @@ chooses_has start (Some c) (Some b) cs n h =
     append_none [] = refl
     append_none (x ∷ xs) = ap (λ (l : List CallSite). x ∷ l) (append_none xs)
 
-both_has : (a b : List (ℕ × Bool)) (cs ds : List CallSite) → a ≡ map site_of cs → b ≡ map site_of ds → a ++ b ≡ map site_of (cs ++ ds)
+both_has : (a b : List (ℕ × Bool)) (cs ds : List CallSite) → a ≡ map site_of cs → b ≡ map site_of ds →
+    a ++ b ≡ map site_of (cs ++ ds)
 both_has a b cs ds x y = ap (λ (l : List (ℕ × Bool)). l ++ b) x ∙ ap (λ (l : List (ℕ × Bool)). map site_of cs ++ l) y ∙ sym (map-append site_of cs ds)
 
-between_has : (start : ℕ) (c : Option core.Condition) (b d : Option core.Stmts) (cs ds : List CallSite) (n m : ℕ) → IfBlock b cs n → IfBlock d ds m →
+between_has : (start : ℕ) (c : Option core.Condition) (b d : Option core.Stmts) (cs ds : List CallSite) (n m : ℕ) →
+    IfBlock b cs n → IfBlock d ds m →
     IfPart (chooses_between start c b d) (cs ++ ds) (1 + (n + m))
 between_has start None b d cs ds n m h g = tt
 between_has start (Some c) None d cs ds n m h g = tt
@@ -184,7 +197,8 @@ between_has start (Some c) (Some b) (Some d) cs ds n m h g =
     let e : all_points b ≡ n = h.1 in let f : all_points d ≡ m = g.1 in
     (both_has (all_sites b) (all_sites d) cs ds h.0 g.0, omega (arith, e, f))
 
-without_has : (xs : core.Stmts) (r : Option core.Return) (cs : List CallSite) (n : ℕ) → All xs cs n → IfBlock (block_without xs r) cs n
+without_has : (xs : core.Stmts) (r : Option core.Return) (cs : List CallSite) (n : ℕ) → All xs cs n →
+    IfBlock (block_without xs r) cs n
 without_has xs None cs n h = h
 without_has xs (Some r) cs n h = tt
 
@@ -192,12 +206,14 @@ block_has : (b : Option Body) (cs : List CallSite) (n : ℕ) → IfBody b cs n �
 block_has None cs n h = tt
 block_has (Some b) cs n h = without_has b.stmts b.result cs n h
 
-back_has : (r : core.Return) (xs : core.Stmts) (q : Option core.Return) (cs : List CallSite) (n : ℕ) → All xs cs n → IfBody (given_back r xs q) cs n
+back_has : (r : core.Return) (xs : core.Stmts) (q : Option core.Return) (cs : List CallSite) (n : ℕ) → All xs cs n →
+    IfBody (given_back r xs q) cs n
 back_has r core.no_stmts None cs n h = h
 back_has r core.no_stmts (Some q) cs n h = tt
 back_has r (core.stmt start x rest) q cs n h = tt
 
-preceded_has : (p : Option Part) (b : Option Body) (cs ds : List CallSite) (n m : ℕ) → IfPart p cs n → IfBody b ds m → IfBody (preceded p b) (cs ++ ds) (n + m)
+preceded_has : (p : Option Part) (b : Option Body) (cs ds : List CallSite) (n m : ℕ) → IfPart p cs n → IfBody b ds m →
+    IfBody (preceded p b) (cs ++ ds) (n + m)
 preceded_has None b cs ds n m h g = tt
 preceded_has (Some (does x)) None cs ds n m h g = tt
 preceded_has (Some (gives r)) None cs ds n m h g = tt

@@ -1,23 +1,30 @@
 -- Calls of helpers for which no fault is listed are resolved, and what they give back fits.
-use Rattle.std.proofs.Common.{◌≡◌, ℕ, List, [], ◌∷◌, length, Option, Some, None, Bool, true, false, refl, ap, ◌∙◌, subst, if◌then◌else◌, arith}
+use Rattle.std.proofs.Common.{◌≡◌, ℕ, List, [], ◌∷◌, length, Option, Some, None, Bool, true, false, refl, ap, ◌∙◌}
+use Rattle.std.proofs.Common.{subst, if◌then◌else◌, arith}
 use Rattle.std.specs.Prelude.{not, is_some, ◌==◌}
 use Rattle.std.proofs.lemmas.Bool.{eqb-true}
 use Rattle.source.specs.declared.fault.Code.TheVariants.{UnknownName, WrongType, WrongArgumentCount}
-use Rattle.syntax.specs.Trees.{ValueType, Expr, HelperCall, Param, Section, Decl, lock, struct, global, array, pool, init, atomic, helper, thread}
+use Rattle.syntax.specs.Trees.{ValueType, Expr, HelperCall, Param, Section, Decl, lock, struct, global, array, pool}
+use Rattle.syntax.specs.Trees.{init, atomic, helper, thread}
 use Rattle.core_lang.specs.declared.value.ValueType as core_type
 use Rattle.resolution.specs.declared.wanted.Sort.TheVariants as sort
 use Rattle.resolution.specs.Core as core
 use Rattle.resolution.specs.Limits.{helper_limits}
-use Rattle.resolution.specs.Scopes.{◌>>=◌, Scope, outside, Meaning, a_local, a_decl, nothing, meaning, helper_meant, number_at, type_of}
+use Rattle.resolution.specs.Scopes.{◌>>=◌, Scope, outside, Meaning, a_local, a_decl, nothing, meaning, helper_meant}
+use Rattle.resolution.specs.Scopes.{number_at, type_of}
 use Rattle.resolution.specs.Expressions.{want, fits_type, fitting, as_value, typed}
 use Rattle.resolution.specs.Owners.{is_of}
 use Rattle.resolution.specs.Constants.{added, want_of}
 use Rattle.resolution.specs.Statements.{typed_values, called, call_resolved, type_given, can_take}
 use Rattle.resolution.specs.Where.{Has, HasBody, of_helper, of_parameter, of_result, first, further}
 use Rattle.resolution.specs.Working.FaultLists as list
-use Rattle.resolution.specs.Working.FaultLists.{one, one_if, unfit, wanted_faults, values_faults, passed_values_faults, helper_call_faults, other_result, given_back_faults}
+use Rattle.resolution.specs.Working.FaultLists.{one, one_if, unfit, wanted_faults, values_faults}
+use Rattle.resolution.specs.Working.FaultLists.{passed_values_faults, helper_call_faults, other_result}
+use Rattle.resolution.specs.Working.FaultLists.{given_back_faults}
 use Rattle.resolution.proofs.Parts.{same_count}
-use Rattle.resolution.proofs.FaultlessExpressions.{NoneIn, none_left, none_right, not_one, not_if, Clean, Typing, known, Context, IsKnown, meaning_known, decl_typed, unfit_not, fit_if}
+use Rattle.resolution.proofs.FaultlessExpressions.{NoneIn, none_left, none_right, not_one, not_if, Clean, Typing}
+use Rattle.resolution.proofs.FaultlessExpressions.{known, Context, IsKnown, meaning_known, decl_typed, unfit_not}
+use Rattle.resolution.proofs.FaultlessExpressions.{fit_if}
 use Rattle.resolution.proofs.FaultlessResolvedExprs.{value_is}
 
 -- ---- arguments
@@ -30,7 +37,8 @@ Values o = (xs : List core.Expr) × (o ≡ Some xs)
 abbrev ParametersTyped : List Decl → List Param → Type 0
 ParametersTyped decls ps = (p : Param) → Has ps p → Typing decls (type_of (outside decls) p.value_type)
 
-values_are : (sc : Scope) → Context sc → (ps : List Param) (es : List Expr) → ParametersTyped sc.decls ps → length es ≡ length ps → NoneIn (values_faults sc ps es) → Values (typed_values sc ps es)
+values_are : (sc : Scope) → Context sc → (ps : List Param) (es : List Expr) → ParametersTyped sc.decls ps →
+    length es ≡ length ps → NoneIn (values_faults sc ps es) → Values (typed_values sc ps es)
 values_are sc c [] [] typings len none = ([], refl)
 values_are sc c [] (e ∷ es) typings len none = cc
 values_are sc c (p ∷ ps) [] typings len none = cc
@@ -62,10 +70,12 @@ counted_right p n k none = eqb-true n k (true_if (n == k) (not_if (not (n == k))
     true_if false e = cc
 
 -- what is known and no helper is told of
-known_no_helper : {P : Type 0} (decls : List Decl) → Clean decls → (p n : ℕ) (d : Decl) → Has decls d → NoneIn (unfit decls WrongType p (a_decl n d)) → P
+known_no_helper : {P : Type 0} (decls : List Decl) → Clean decls → (p n : ℕ) (d : Decl) → Has decls d →
+    NoneIn (unfit decls WrongType p (a_decl n d)) → P
 known_no_helper decls clean p n d h none = absurd (unfit_not decls WrongType p (a_decl n d) (decl_typed decls clean n d h) none)
 
-helper_is : (decls : List Decl) → Clean decls → (p n : ℕ) (x : Meaning) → IsKnown decls x → NoneIn (list.no_helper decls p n x) → HelperAt decls x n
+helper_is : (decls : List Decl) → Clean decls → (p n : ℕ) (x : Meaning) → IsKnown decls x →
+    NoneIn (list.no_helper decls p n x) → HelperAt decls x n
 helper_is decls clean p n (a_local k l) t none = absurd (unfit_not decls WrongType p (a_local k l) (ap is_some t.is) none)
 helper_is decls clean p n (a_decl k (helper s)) h none = record { place = k; section = s; is = refl; there = of_helper h; as_many = counted_right p n (length s.params) none }
 helper_is decls clean p n (a_decl k (lock x)) h none = known_no_helper decls clean p k (lock x) h none
@@ -78,13 +88,16 @@ helper_is decls clean p n (a_decl k (atomic x)) h none = known_no_helper decls c
 helper_is decls clean p n (a_decl k (thread x)) h none = known_no_helper decls clean p k (thread x) h none
 helper_is decls clean p n nothing h none = absurd (not_one UnknownName p none)
 
-passed_is : (sc : Scope) → Context sc → (s : Section) → HasBody sc.decls helper_limits s → (es : List Expr) → length es ≡ length s.params → (n : ℕ) → NoneIn (passed_values_faults sc (Some (n, s)) es) → Values (typed_values sc s.params es)
+passed_is : (sc : Scope) → Context sc → (s : Section) → HasBody sc.decls helper_limits s → (es : List Expr) →
+    length es ≡ length s.params → (n : ℕ) → NoneIn (passed_values_faults sc (Some (n, s)) es) →
+    Values (typed_values sc s.params es)
 passed_is sc c s h es len n none =
     values_are sc c s.params es (λ p b. known sc.decls c.clean (outside sc.decls) p.value_type (of_parameter h b)) len
     (subst (λ (b : Bool). NoneIn (if b then values_faults sc s.params es else [])) (same_count (length es) (length s.params) len) none)
 
 -- a call has its form
-pub call_resolves : (sc : Scope) → Context sc → (d : HelperCall) (local : Option ℕ) → NoneIn (helper_call_faults sc d) → (x : core.Action) × (call_resolved sc d local ≡ Some x)
+pub call_resolves : (sc : Scope) → Context sc → (d : HelperCall) (local : Option ℕ) →
+    NoneIn (helper_call_faults sc d) → (x : core.Action) × (call_resolved sc d local ≡ Some x)
 call_resolves sc c d local none =
     let x = meaning sc d.helper.text in
     let a = list.no_helper sc.decls d.helper.span.start (length d.arguments) x in
@@ -99,11 +112,14 @@ call_resolves sc c d local none =
 
 -- ---- what it gives back
 
-other_fits : (p : ℕ) (t : core_type.ValueType) (u : Option core_type.ValueType) (v : core_type.ValueType) → u ≡ Some v → NoneIn (other_result p t u) → is_of t u ≡ true
+other_fits : (p : ℕ) (t : core_type.ValueType) (u : Option core_type.ValueType) (v : core_type.ValueType) →
+    u ≡ Some v → NoneIn (other_result p t u) → is_of t u ≡ true
 other_fits p t u v is none =
     ap (is_of t) is ∙ fit_if p (fits_type t (sort.Of v)) (subst (λ (o : Option core_type.ValueType). NoneIn (other_result p t o)) is none)
 
-result_fits : (decls : List Decl) → Clean decls → (p : ℕ) (t : core_type.ValueType) (s : Section) → HasBody decls helper_limits s → (r : Option ValueType) → s.result ≡ r → NoneIn (list.no_result p t r (r >>= λ y. type_of (outside decls) y)) →
+result_fits : (decls : List Decl) → Clean decls → (p : ℕ) (t : core_type.ValueType) (s : Section) →
+    HasBody decls helper_limits s → (r : Option ValueType) → s.result ≡ r →
+    NoneIn (list.no_result p t r (r >>= λ y. type_of (outside decls) y)) →
     is_of t (r >>= λ y. type_of (outside decls) y) ≡ true
 result_fits decls clean p t s h None is none = absurd (not_one WrongType p none)
 result_fits decls clean p t s h (Some y) is none =
@@ -111,14 +127,19 @@ result_fits decls clean p t s h (Some y) is none =
     other_fits p t (type_of (outside decls) y) u.value_type u.is none
 
 -- a `let`'s type is that of what is given back
-fits_given : (sc : Scope) → Context sc → (p : ℕ) (t : core_type.ValueType) (x : Meaning) → IsKnown sc.decls x → NoneIn (given_back_faults sc.decls p (Some t) (helper_meant x)) → (n : ℕ) → NoneIn (list.no_helper sc.decls p n x) →
+fits_given : (sc : Scope) → Context sc → (p : ℕ) (t : core_type.ValueType) (x : Meaning) → IsKnown sc.decls x →
+    NoneIn (given_back_faults sc.decls p (Some t) (helper_meant x)) → (n : ℕ) →
+    NoneIn (list.no_helper sc.decls p n x) →
     is_of t (type_given sc.decls (helper_meant x)) ≡ true
 fits_given sc c p t x k none n named =
     let h = helper_is sc.decls c.clean p n x k named in
     ap (λ (o : Option (ℕ × Section)). is_of t (type_given sc.decls o)) h.is
     ∙ result_fits sc.decls c.clean p t h.section h.there h.section.result refl (subst (λ (o : Option (ℕ × Section)). NoneIn (given_back_faults sc.decls p (Some t) o)) h.is none)
 
-pub given_back_fits : (sc : Scope) → Context sc → (d : HelperCall) (t : Option core_type.ValueType) → Typing sc.decls t → NoneIn (given_back_faults sc.decls d.helper.span.start t (helper_meant (meaning sc d.helper.text))) → NoneIn (helper_call_faults sc d) →
+pub given_back_fits : (sc : Scope) → Context sc → (d : HelperCall) (t : Option core_type.ValueType) →
+    Typing sc.decls t →
+    NoneIn (given_back_faults sc.decls d.helper.span.start t (helper_meant (meaning sc d.helper.text))) →
+    NoneIn (helper_call_faults sc d) →
     can_take t (type_given sc.decls (helper_meant (meaning sc d.helper.text))) ≡ true
 given_back_fits sc c d t k given none =
     let x = meaning sc d.helper.text in

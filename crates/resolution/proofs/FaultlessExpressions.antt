@@ -1,10 +1,12 @@
 -- Expressions for which no fault is listed have a type.
-use Rattle.std.proofs.Common.{◌≡◌, ℕ, zero, suc, ◌≤◌, List, [], ◌∷◌, ◌++◌, Option, Some, None, Bool, true, false, refl, sym, ap, ◌∙◌, subst, inl, if◌then◌else◌}
+use Rattle.std.proofs.Common.{◌≡◌, ℕ, zero, suc, ◌≤◌, List, [], ◌∷◌, ◌++◌, Option, Some, None, Bool, true, false}
+use Rattle.std.proofs.Common.{refl, sym, ap, ◌∙◌, subst, inl, if◌then◌else◌}
 use Rattle.std.specs.Prelude.{not, is_some, slice_get}
 use Rattle.source.specs.Texts.{SOURCE_LIMIT}
 use Rattle.source.specs.declared.fault.Code.{Code}
 use Rattle.source.specs.declared.fault.Code.TheVariants.{UnknownName, WrongType, LockAsValue}
-use Rattle.syntax.specs.Trees.{Ident, ValueType, int_type, ref_type, Member, lock_member, final_member, field_member, Struct, Decl, lock, struct, global, array, pool, init, atomic, helper, thread}
+use Rattle.syntax.specs.Trees.{Ident, ValueType, int_type, ref_type, Member, lock_member, final_member, field_member}
+use Rattle.syntax.specs.Trees.{Struct, Decl, lock, struct, global, array, pool, init, atomic, helper, thread}
 use Rattle.core_lang.specs.declared.value.ValueType as core_type
 use Rattle.core_lang.specs.declared.value.ValueType.TheVariants.{Integer, Reference}
 use Rattle.core_lang.specs.declared.tree.FieldStep.{FieldStep}
@@ -14,11 +16,20 @@ use Rattle.resolution.specs.declared.wanted.Sort.TheVariants as sort
 use Rattle.resolution.specs.declared.wanted.Want.{Want}
 use Rattle.resolution.specs.declared.wanted.Want.TheVariants.{Condition, Value}
 use Rattle.resolution.specs.Core as core
-use Rattle.resolution.specs.Scopes.{Scope, Local, outside, Meaning, a_local, a_decl, nothing, meaning, declared_as, local_or, bears, local_bears, ◌>>=◌, number_at, the_decl, the_local, structs_in, the_struct, the_member, has_type, type_of, struct_meant, struct_named}
-use Rattle.resolution.specs.Expressions.{ResolvedExpr, value, truth, fits, value_of, member_value, local_path, cell_of, fitting, as_value, as_truth, test_resolved, named_value, element_value, path_value, Walk, reached, at_lock, lost, stepped, walked, at_local, walk_from, over_step, over_member, over, member_number}
+use Rattle.resolution.specs.Scopes.{Scope, Local, outside, Meaning, a_local, a_decl, nothing, meaning, declared_as}
+use Rattle.resolution.specs.Scopes.{local_or, bears, local_bears, ◌>>=◌, number_at, the_decl, the_local, structs_in}
+use Rattle.resolution.specs.Scopes.{the_struct, the_member, has_type, type_of, struct_meant, struct_named}
+use Rattle.resolution.specs.Expressions.{ResolvedExpr, value, truth, fits, value_of, member_value, local_path}
+use Rattle.resolution.specs.Expressions.{cell_of, fitting, as_value, as_truth, test_resolved, named_value}
+use Rattle.resolution.specs.Expressions.{element_value, path_value, Walk, reached, at_lock, lost, stepped, walked}
+use Rattle.resolution.specs.Expressions.{at_local, walk_from, over_step, over_member, over, member_number}
 use Rattle.resolution.specs.Where.{Has, first, further, HasType, of_global, of_array, of_pool, of_final, of_field}
 use Rattle.resolution.specs.Working.FaultLists as list
-use Rattle.resolution.specs.Working.FaultLists.{one, one_if, unfit, no_struct, type_faults, number_faults, no_elements, no_member, no_field, step_faults, end_faults, walk_faults, path_faults, misfit, unlike, side_faults, operator_faults, expr_faults, place_faults, link_faults, wanted_faults, declaration_faults}
+use Rattle.resolution.specs.Working.FaultLists.{one, one_if, unfit, no_struct, type_faults, number_faults}
+use Rattle.resolution.specs.Working.FaultLists.{no_elements, no_member, no_field, step_faults, end_faults}
+use Rattle.resolution.specs.Working.FaultLists.{walk_faults, path_faults, misfit, unlike, side_faults}
+use Rattle.resolution.specs.Working.FaultLists.{operator_faults, expr_faults, place_faults, link_faults}
+use Rattle.resolution.specs.Working.FaultLists.{wanted_faults, declaration_faults}
 use Rattle.source.specs.Theory.Leasts.{IsAmong}
 use Rattle.resolution.proofs.Members as m
 use Rattle.resolution.proofs.Named.{named_is, member_is}
@@ -87,15 +98,18 @@ IsMeant decls (a_local n l) = Unit {0}
 IsMeant decls (a_decl n d) = slice_get decls n ≡ Some d
 IsMeant decls nothing = Unit {0}
 
-declared_meant : (decls : List Decl) (q : List ℕ) (o : Option (ℕ × Decl)) → the_decl decls q ≡ o → IsMeant decls (declared_as o)
+declared_meant : (decls : List Decl) (q : List ℕ) (o : Option (ℕ × Decl)) → the_decl decls q ≡ o →
+    IsMeant decls (declared_as o)
 declared_meant decls q None e = tt
 declared_meant decls q (Some (n, d)) e = (named_is bears decls q n d e).here
 
-visible_meant : (decls : List Decl) (b : Bool) (n : ℕ) (l : Local) (other : Meaning) → IsMeant decls other → IsMeant decls (if b then a_local n l else other)
+visible_meant : (decls : List Decl) (b : Bool) (n : ℕ) (l : Local) (other : Meaning) → IsMeant decls other →
+    IsMeant decls (if b then a_local n l else other)
 visible_meant decls true n l other h = tt
 visible_meant decls false n l other h = h
 
-local_meant : (decls : List Decl) (o : Option (ℕ × Local)) (other : Meaning) → IsMeant decls other → IsMeant decls (local_or o other)
+local_meant : (decls : List Decl) (o : Option (ℕ × Local)) (other : Meaning) → IsMeant decls other →
+    IsMeant decls (local_or o other)
 local_meant decls None other h = h
 local_meant decls (Some (n, l)) other h = visible_meant decls l.is_visible n l other h
 
@@ -109,7 +123,8 @@ pub record Found (decls : List Decl) (o : Option ℕ) : Type 0 where
   pub is : o ≡ Some number
   pub there : the_struct decls number ≡ Some structure
 
-known_struct : (decls : List Decl) (p : ℕ) (x : Meaning) → IsMeant decls x → NoneIn (no_struct p x) → Found decls (struct_meant decls x)
+known_struct : (decls : List Decl) (p : ℕ) (x : Meaning) → IsMeant decls x → NoneIn (no_struct p x) →
+    Found decls (struct_meant decls x)
 known_struct decls p (a_local n l) here h = absurd (not_one WrongType p h)
 known_struct decls p (a_decl n (struct s)) here h = record { number = number_at decls n (struct s); structure = s; is = refl; there = struct_at decls n s here }
 known_struct decls p (a_decl n (lock y)) here h = absurd (not_one WrongType p h)
@@ -135,11 +150,13 @@ type_is sc (ref_type x) h =
     record { value_type = Reference k.number; is = ap (λ (o : Option ℕ). o >>= λ n. Some (Reference n)) k.is; there = (k.structure, k.there) }
 
 -- each type of the program is known
-pub known : (decls : List Decl) → Clean decls → (sc : Scope) (t : ValueType) → HasType decls sc t → Typing sc.decls (type_of sc t)
+pub known : (decls : List Decl) → Clean decls → (sc : Scope) (t : ValueType) → HasType decls sc t →
+    Typing sc.decls (type_of sc t)
 known decls clean sc t h = type_is sc t (λ f i. clean f (of_type decls sc t h f i))
 
 -- the struct that a type of the program names
-pub known_named : (decls : List Decl) → Clean decls → (x : Ident) → HasType decls (outside decls) (ref_type x) → Found decls (struct_named decls x)
+pub known_named : (decls : List Decl) → Clean decls → (x : Ident) → HasType decls (outside decls) (ref_type x) →
+    Found decls (struct_named decls x)
 known_named decls clean x h =
     known_struct decls x.span.start (meaning (outside decls) x.text) (meant (outside decls) x.text) (λ f i. clean f (of_type decls (outside decls) (ref_type x) h f i))
 
@@ -162,15 +179,18 @@ IsKnown decls (a_local n l) = Typing decls l.value_type
 IsKnown decls (a_decl n d) = Has decls d
 IsKnown decls nothing = Unit {0}
 
-declared_known : (decls : List Decl) (q : List ℕ) (o : Option (ℕ × Decl)) → the_decl decls q ≡ o → IsKnown decls (declared_as o)
+declared_known : (decls : List Decl) (q : List ℕ) (o : Option (ℕ × Decl)) → the_decl decls q ≡ o →
+    IsKnown decls (declared_as o)
 declared_known decls q None e = tt
 declared_known decls q (Some (n, d)) e = decl_has decls q n d e
 
-visible_known : (decls : List Decl) (b : Bool) (n : ℕ) (l : Local) (other : Meaning) → IsKnown decls other → Typing decls l.value_type → IsKnown decls (if b then a_local n l else other)
+visible_known : (decls : List Decl) (b : Bool) (n : ℕ) (l : Local) (other : Meaning) → IsKnown decls other →
+    Typing decls l.value_type → IsKnown decls (if b then a_local n l else other)
 visible_known decls true n l other h t = t
 visible_known decls false n l other h t = h
 
-local_known : (decls : List Decl) (sc : Scope) → AllTyped decls sc.locals → (q : List ℕ) (o : Option (ℕ × Local)) → the_local sc.locals q ≡ o → (other : Meaning) → IsKnown decls other → IsKnown decls (local_or o other)
+local_known : (decls : List Decl) (sc : Scope) → AllTyped decls sc.locals → (q : List ℕ) (o : Option (ℕ × Local)) →
+    the_local sc.locals q ≡ o → (other : Meaning) → IsKnown decls other → IsKnown decls (local_or o other)
 local_known decls sc all q None e other h = h
 local_known decls sc all q (Some (n, l)) e other h = visible_known decls l.is_visible n l other h (all n l (named_is local_bears sc.locals q n l e).here)
 
@@ -184,23 +204,28 @@ meaning_known sc c q =
 abbrev pub HasResolvedExpr : Option ResolvedExpr → Type 0
 HasResolvedExpr o = (s : ResolvedExpr) × (o ≡ Some s)
 
-pub unfit_not : (decls : List Decl) (c : Code) (p : ℕ) (x : Meaning) → has_type decls x ≡ true → NoneIn (unfit decls c p x) → ⊥
+pub unfit_not : (decls : List Decl) (c : Code) (p : ℕ) (x : Meaning) → has_type decls x ≡ true →
+    NoneIn (unfit decls c p x) → ⊥
 unfit_not decls c p x e h = let f = not_if (has_type decls x) c p h in absurd cc
 
 some_true : {A : Type 0} (o : Option A) (x : A) → o ≡ Some x → is_some o ≡ true
 some_true o x e = ap is_some e
 
-array_typed : (decls : List Decl) → Clean decls → (n : ℕ) (a : _) → Has decls (array a) → has_type decls (a_decl n (array a)) ≡ true
+array_typed : (decls : List Decl) → Clean decls → (n : ℕ) (a : _) → Has decls (array a) →
+    has_type decls (a_decl n (array a)) ≡ true
 array_typed decls clean n a h = let t = known decls clean (outside decls) a.value_type (of_array h) in some_true (type_of (outside decls) a.value_type) t.value_type t.is
 
-global_typed : (decls : List Decl) → Clean decls → (n : ℕ) (v : _) → Has decls (global v) → has_type decls (a_decl n (global v)) ≡ true
+global_typed : (decls : List Decl) → Clean decls → (n : ℕ) (v : _) → Has decls (global v) →
+    has_type decls (a_decl n (global v)) ≡ true
 global_typed decls clean n v h = let t = known decls clean (outside decls) v.value_type (of_global h) in some_true (type_of (outside decls) v.value_type) t.value_type t.is
 
-pool_typed : (decls : List Decl) → Clean decls → (n : ℕ) (p : _) → Has decls (pool p) → has_type decls (a_decl n (pool p)) ≡ true
+pool_typed : (decls : List Decl) → Clean decls → (n : ℕ) (p : _) → Has decls (pool p) →
+    has_type decls (a_decl n (pool p)) ≡ true
 pool_typed decls clean n p h = let t = known_named decls clean p.target (of_pool h) in some_true (struct_named decls p.target) t.number t.is
 
 -- each declaration that is meant has a type
-pub decl_typed : (decls : List Decl) → Clean decls → (n : ℕ) (d : Decl) → Has decls d → has_type decls (a_decl n d) ≡ true
+pub decl_typed : (decls : List Decl) → Clean decls → (n : ℕ) (d : Decl) → Has decls d →
+    has_type decls (a_decl n d) ≡ true
 decl_typed decls clean n (lock x) h = refl
 decl_typed decls clean n (struct s) h = refl
 decl_typed decls clean n (global v) h = global_typed decls clean n v h
@@ -214,13 +239,15 @@ decl_typed decls clean n (thread t) h = refl
 local_typed : (decls : List Decl) (n : ℕ) (l : Local) → Typing decls l.value_type → has_type decls (a_local n l) ≡ true
 local_typed decls n l t = some_true l.value_type t.value_type t.is
 
-value_resolved : (e : core.Expr) (o : Option core_type.ValueType) (t : core_type.ValueType) → o ≡ Some t → HasResolvedExpr (value_of e o)
+value_resolved : (e : core.Expr) (o : Option core_type.ValueType) (t : core_type.ValueType) → o ≡ Some t →
+    HasResolvedExpr (value_of e o)
 value_resolved e o t is = (value e (sort.Of t), ap (value_of e) is)
 
 member_resolved : (n : ℕ) (e : core.Expr) (o : Option ℕ) (k : ℕ) → o ≡ Some k → HasResolvedExpr (member_value n e o)
 member_resolved n e o k is = (value (core.member n e) (sort.Of (Reference k)), ap (member_value n e) is)
 
-pub name_resolved : (decls : List Decl) → Clean decls → (p : ℕ) (x : Meaning) → IsKnown decls x → NoneIn (list.no_value decls p x) → HasResolvedExpr (named_value decls p x)
+pub name_resolved : (decls : List Decl) → Clean decls → (p : ℕ) (x : Meaning) → IsKnown decls x →
+    NoneIn (list.no_value decls p x) → HasResolvedExpr (named_value decls p x)
 name_resolved decls clean p (a_local n l) k h = value_resolved (core.place (local_path p n [])) l.value_type k.value_type k.is
 name_resolved decls clean p (a_decl n (global v)) k h = let t = known decls clean (outside decls) v.value_type (of_global k) in value_resolved (core.global p (cell_of decls n)) (type_of (outside decls) v.value_type) t.value_type t.is
 name_resolved decls clean p (a_decl n (lock y)) k h = absurd (not_one LockAsValue p h)
@@ -233,7 +260,8 @@ name_resolved decls clean p (a_decl n (helper s)) k h = absurd (unfit_not decls 
 name_resolved decls clean p (a_decl n (thread t)) k h = absurd (unfit_not decls WrongType p (a_decl n (thread t)) refl h)
 name_resolved decls clean p nothing k h = absurd (not_one UnknownName p h)
 
-pub element_resolved : (decls : List Decl) → Clean decls → (p : ℕ) (x : Meaning) (index : core.Expr) → IsKnown decls x → NoneIn (no_elements decls p x) → HasResolvedExpr (element_value decls p x (Some index))
+pub element_resolved : (decls : List Decl) → Clean decls → (p : ℕ) (x : Meaning) (index : core.Expr) →
+    IsKnown decls x → NoneIn (no_elements decls p x) → HasResolvedExpr (element_value decls p x (Some index))
 element_resolved decls clean p (a_local n l) index k h = absurd (unfit_not decls WrongType p (a_local n l) (local_typed decls n l k) h)
 element_resolved decls clean p (a_decl n (array a)) index k h = let t = known decls clean (outside decls) a.value_type (of_array k) in value_resolved (core.element p (number_at decls n (array a)) index) (type_of (outside decls) a.value_type) t.value_type t.is
 element_resolved decls clean p (a_decl n (pool q)) index k h = let t = known_named decls clean q.target (of_pool k) in member_resolved (number_at decls n (pool q)) index (struct_named decls q.target) t.number t.is
@@ -254,22 +282,29 @@ IsOnWay decls (reached steps t) = IsType decls t
 IsOnWay decls at_lock = Unit {0}
 IsOnWay decls lost = ⊥
 
-on_over : (decls : List Decl) (steps : List FieldStep) (s : FieldStep) (o : Option core_type.ValueType) → Typing decls o → IsOnWay decls (over_step steps s o)
+on_over : (decls : List Decl) (steps : List FieldStep) (s : FieldStep) (o : Option core_type.ValueType) →
+    Typing decls o → IsOnWay decls (over_step steps s o)
 on_over decls steps s o t = subst (λ (x : Option core_type.ValueType). IsOnWay decls (over_step steps s x)) (sym t.is) t.there
 
-on_member : (decls : List Decl) → Clean decls → (steps : List FieldStep) (k : ℕ) (s : Struct) → Has decls (struct s) → (p : ℕ) (o : Option (ℕ × Member)) → ((n : ℕ) (x : Member) → ◌≡◌ {A = Option (ℕ × Member)} o (Some (n, x)) → Has s.members x) → NoneIn (no_member p o) → IsOnWay decls (over_member decls steps k s.members o)
+on_member : (decls : List Decl) → Clean decls → (steps : List FieldStep) (k : ℕ) (s : Struct) → Has decls (struct s) →
+    (p : ℕ) (o : Option (ℕ × Member)) →
+    ((n : ℕ) (x : Member) → ◌≡◌ {A = Option (ℕ × Member)} o (Some (n, x)) → Has s.members x) →
+    NoneIn (no_member p o) → IsOnWay decls (over_member decls steps k s.members o)
 on_member decls clean steps k s h p None up none = absurd (not_one UnknownName p none)
 on_member decls clean steps k s h p (Some (n, lock_member x)) up none = tt
 on_member decls clean steps k s h p (Some (n, final_member g)) up none = on_over decls steps (step.Final k (member_number s.members n (final_member g))) (type_of (outside decls) (ref_type g.target)) (known decls clean (outside decls) (ref_type g.target) (of_final h (up n (final_member g) refl)))
 on_member decls clean steps k s h p (Some (n, field_member g)) up none = on_over decls steps (step.Field k (member_number s.members n (field_member g))) (type_of (outside decls) g.value_type) (known decls clean (outside decls) g.value_type (of_field h (up n (field_member g) refl)))
 
-on_struct : (decls : List Decl) → Clean decls → (steps : List FieldStep) (k : ℕ) (f : Ident) (s : Struct) → the_struct decls k ≡ Some s → NoneIn (no_field (the_struct decls k) f) → IsOnWay decls (stepped decls (reached steps (Reference k)) f)
+on_struct : (decls : List Decl) → Clean decls → (steps : List FieldStep) (k : ℕ) (f : Ident) (s : Struct) →
+    the_struct decls k ≡ Some s → NoneIn (no_field (the_struct decls k) f) →
+    IsOnWay decls (stepped decls (reached steps (Reference k)) f)
 on_struct decls clean steps k f s is none =
     let found : NoneIn (no_member f.span.start (the_member s.members f.text)) = subst (λ (o : Option Struct). NoneIn (no_field o f)) is none in
     subst (λ (o : Option Struct). IsOnWay decls (over decls steps k o f.text)) (sym is)
     (on_member decls clean steps k s (struct_has decls k s is) f.span.start (the_member s.members f.text) (λ n x g. at_has s.members n x (member_is s.members f.text n x g).0) found)
 
-on_step : (decls : List Decl) → Clean decls → (p : ℕ) (w : Walk) (f : Ident) → IsOnWay decls w → NoneIn (step_faults decls p w f) → IsOnWay decls (stepped decls w f)
+on_step : (decls : List Decl) → Clean decls → (p : ℕ) (w : Walk) (f : Ident) → IsOnWay decls w →
+    NoneIn (step_faults decls p w f) → IsOnWay decls (stepped decls w f)
 on_step decls clean p (reached steps (Reference k)) f on none = on_struct decls clean steps k f on.0 on.1 none
 on_step decls clean p (reached steps Integer) f on none = absurd (not_one WrongType p none)
 on_step decls clean p at_lock f on none = absurd (not_one WrongType p none)
@@ -287,7 +322,8 @@ on_end decls p (reached steps t) on none = record { steps = steps; value_type = 
 on_end decls p at_lock on none = absurd (not_one LockAsValue p none)
 on_end decls p lost on none = absurd on
 
-on_walk : (decls : List Decl) → Clean decls → (p : ℕ) (w : Walk) (fs : List Ident) → IsOnWay decls w → NoneIn (walk_faults decls p w fs) → Arrives decls (walked decls w fs)
+on_walk : (decls : List Decl) → Clean decls → (p : ℕ) (w : Walk) (fs : List Ident) → IsOnWay decls w →
+    NoneIn (walk_faults decls p w fs) → Arrives decls (walked decls w fs)
 on_walk decls clean p w [] on none = on_end decls p w on none
 on_walk decls clean p w (f ∷ fs) on none =
     on_walk decls clean p (stepped decls w f) fs (on_step decls clean p w f on (none_left (step_faults decls p w f) (walk_faults decls p (stepped decls w f) fs) none)) (none_right (step_faults decls p w f) (walk_faults decls p (stepped decls w f) fs) none)
@@ -302,12 +338,14 @@ pub record Path (decls : List Decl) (x : Meaning) (fs : List Ident) : Type 0 whe
   pub is : x ≡ a_local number local
   pub arrives : Arrives decls (walk_from decls x fs)
 
-pub path_is : (decls : List Decl) → Clean decls → (p : ℕ) (x : Meaning) (fs : List Ident) → IsKnown decls x → NoneIn (path_faults decls p x fs) → Path decls x fs
+pub path_is : (decls : List Decl) → Clean decls → (p : ℕ) (x : Meaning) (fs : List Ident) → IsKnown decls x →
+    NoneIn (path_faults decls p x fs) → Path decls x fs
 path_is decls clean p (a_local n l) fs k none = record { number = n; local = l; is = refl; arrives = on_walk decls clean p (at_local l.value_type) fs (on_local decls l.value_type k) none }
 path_is decls clean p (a_decl n d) fs k none = absurd (unfit_not decls WrongType p (a_decl n d) (decl_typed decls clean n d k) none)
 path_is decls clean p nothing fs k none = absurd (not_one UnknownName p none)
 
-pub path_resolved : (decls : List Decl) (p : ℕ) (x : Meaning) (fs : List Ident) → Path decls x fs → HasResolvedExpr (path_value p x (walk_from decls x fs))
+pub path_resolved : (decls : List Decl) (p : ℕ) (x : Meaning) (fs : List Ident) → Path decls x fs →
+    HasResolvedExpr (path_value p x (walk_from decls x fs))
 path_resolved decls p x fs r = (
   value (core.place (local_path p r.number r.arrives.steps)) (sort.Of r.arrives.value_type),
   ap (path_value p x) r.arrives.is ∙ ap (λ (y : Meaning). path_value p y (reached r.arrives.steps r.arrives.value_type)) r.is,
@@ -320,20 +358,25 @@ fit_if p true h = refl
 fit_if p false h = absurd (not_one WrongType p h)
 
 -- what has a type and is no misfit is what is wanted
-pub fit_is : (w : Want) (p : ℕ) (o : Option ResolvedExpr) (s : ResolvedExpr) → o ≡ Some s → NoneIn (misfit w p o) → fits w s ≡ true
+pub fit_is : (w : Want) (p : ℕ) (o : Option ResolvedExpr) (s : ResolvedExpr) → o ≡ Some s → NoneIn (misfit w p o) →
+    fits w s ≡ true
 fit_is w p o s is none = fit_if p (fits w s) (subst (λ (x : Option ResolvedExpr). NoneIn (misfit w p x)) is none)
 
-given_value : (t : core_type.ValueType) (s : ResolvedExpr) → fits (Value t) s ≡ true → (e : core.Expr) × (as_value (fitting (Value t) (Some s)) ≡ Some e)
+given_value : (t : core_type.ValueType) (s : ResolvedExpr) → fits (Value t) s ≡ true →
+    (e : core.Expr) × (as_value (fitting (Value t) (Some s)) ≡ Some e)
 given_value t (value e s) h = (e, ap (λ (b : Bool). as_value (if b then Some (value e s) else None)) h)
 given_value t (truth c) h = cc
 
-given_test : (s : ResolvedExpr) → fits Condition s ≡ true → (c : core.Condition) × (as_truth (fitting Condition (Some s)) ≡ Some c)
+given_test : (s : ResolvedExpr) → fits Condition s ≡ true →
+    (c : core.Condition) × (as_truth (fitting Condition (Some s)) ≡ Some c)
 given_test (truth c) h = (c, refl)
 given_test (value e s) h = cc
 
 -- a value, where one is wanted
-pub wanted_value : (t : core_type.ValueType) (o : Option ResolvedExpr) (s : ResolvedExpr) → o ≡ Some s → fits (Value t) s ≡ true → (e : core.Expr) × (as_value (fitting (Value t) o) ≡ Some e)
+pub wanted_value : (t : core_type.ValueType) (o : Option ResolvedExpr) (s : ResolvedExpr) → o ≡ Some s →
+    fits (Value t) s ≡ true → (e : core.Expr) × (as_value (fitting (Value t) o) ≡ Some e)
 wanted_value t o s is h = let r = given_value t s h in (r.0, ap (λ (x : Option ResolvedExpr). as_value (fitting (Value t) x)) is ∙ r.1)
 
-pub wanted_test : (o : Option ResolvedExpr) (s : ResolvedExpr) → o ≡ Some s → fits Condition s ≡ true → (c : core.Condition) × (test_resolved o ≡ Some c)
+pub wanted_test : (o : Option ResolvedExpr) (s : ResolvedExpr) → o ≡ Some s → fits Condition s ≡ true →
+    (c : core.Condition) × (test_resolved o ≡ Some c)
 wanted_test o s is h = let r = given_test s h in (r.0, ap test_resolved is ∙ r.1)

@@ -1,41 +1,50 @@
 -- IsAmong a program with no fault, each member of a pool's member has its value.
-use Rattle.std.proofs.Common.{◌≡◌, ℕ, zero, suc, ◌+◌, ◌<◌, ◌≤◌, List, [], ◌∷◌, ◌++◌, length, Option, Some, None, Bool, true, false, if◌then◌else◌, refl, sym, ap, ◌∙◌, subst, arith}
+use Rattle.std.proofs.Common.{◌≡◌, ℕ, zero, suc, ◌+◌, ◌<◌, ◌≤◌, List, [], ◌∷◌, ◌++◌, length, Option, Some, None, Bool}
+use Rattle.std.proofs.Common.{true, false, if◌then◌else◌, refl, sym, ap, ◌∙◌, subst, arith}
 use Rattle.std.specs.Prelude.{is_some, nat_le, slice_get, ◌&&◌}
 use Rattle.std.proofs.lemmas.Slice.Eq.{bytes_eq-Decides}
 use Rattle.source.specs.declared.span.Span.{Span}
 use Rattle.source.specs.declared.fault.Code.TheVariants.{DeclaredTwice, LimitExceeded, FinalWithoutOpeningValue}
-use Rattle.syntax.specs.Trees.{Const, null_const, ref_type, Member, lock_member, final_member, field_member, Final, Field, Struct, Pool, Decl, struct, pool, init}
+use Rattle.syntax.specs.Trees.{Const, null_const, ref_type, Member, lock_member, final_member, field_member, Final}
+use Rattle.syntax.specs.Trees.{Field, Struct, Pool, Decl, struct, pool, init}
 use Rattle.core_lang.specs.declared.value.Value.{Value}
 use Rattle.core_lang.specs.declared.value.ValueType as core_type
 use Rattle.core_lang.specs.declared.value.ValueType.TheVariants.{Reference}
 use Rattle.resolution.specs.declared.init_target.InitTarget.{InitTarget}
 use Rattle.resolution.specs.declared.wanted.Want.TheVariants as wanted
 use Rattle.resolution.specs.Limits.{MEMBER_LIMIT, CLASS_LIMIT}
-use Rattle.resolution.specs.Scopes.{◌>>=◌, outside, place_from, place_of, bears, the_decl, member_name, member_bears, the_member, type_of, struct_named, count}
+use Rattle.resolution.specs.Scopes.{◌>>=◌, outside, place_from, place_of, bears, the_decl, member_name, member_bears}
+use Rattle.resolution.specs.Scopes.{the_member, type_of, struct_named, count}
 use Rattle.resolution.specs.Numbers.{is_lock, new_field, fields_from}
 use Rattle.resolution.specs.Expressions.{want}
-use Rattle.resolution.specs.Constants.{members_of, pool_members, initialised, member_want, given, opened, default_of, referred}
+use Rattle.resolution.specs.Constants.{members_of, pool_members, initialised, member_want, given, opened, default_of}
+use Rattle.resolution.specs.Constants.{referred}
 use Rattle.resolution.specs.Resolution.{opening_of}
 use Rattle.resolution.specs.Where.{Has, of_final, of_field}
 use Rattle.resolution.specs.Faults as fault
 use Rattle.resolution.specs.Faults.{final_missing}
-use Rattle.resolution.specs.Working.FaultLists.{one_if, again, member_twice_faults, member_counts, lock_count, const_faults, index_faults, named_faults, null_faults, init_faults}
+use Rattle.resolution.specs.Working.FaultLists.{one_if, again, member_twice_faults, member_counts, lock_count}
+use Rattle.resolution.specs.Working.FaultLists.{const_faults, index_faults, named_faults, null_faults, init_faults}
 use Rattle.source.specs.Theory.Leasts.{IsAmong}
 use Rattle.resolution.proofs.Named.{named_is, member_is}
 use Rattle.resolution.proofs.Parts.{of_decl}
 use Rattle.resolution.proofs.AllFaults.{in_member_twice, missing_in}
 use Rattle.resolution.proofs.InitTargets.{Giving, giving, names_it, initialised_is}
-use Rattle.resolution.proofs.FaultlessExpressions.{NoneIn, none_left, none_right, not_one, not_if, at_has, Clean, Found, Typing, known, known_named}
+use Rattle.resolution.proofs.FaultlessExpressions.{NoneIn, none_left, none_right, not_one, not_if, at_has, Clean}
+use Rattle.resolution.proofs.FaultlessExpressions.{Found, Typing, known, known_named}
 use Rattle.resolution.proofs.FaultlessConstants.{const_is, referred_is}
 use Rattle.resolution.proofs.Tests.{le_false}
 
 -- ---- names of members
 
-place_none : {A : Type 0} (p : A → Bool) (before rest : List A) (x : A) (n : ℕ) → place_from p n before ≡ None → p x ≡ true → place_from p n (before ++ x ∷ rest) ≡ Some (n + length before)
+place_none : {A : Type 0} (p : A → Bool) (before rest : List A) (x : A) (n : ℕ) → place_from p n before ≡ None →
+    p x ≡ true → place_from p n (before ++ x ∷ rest) ≡ Some (n + length before)
 place_none p [] rest x n none e = ap (λ (b : Bool). if b then Some n else place_from p (suc n) rest) e ∙ ap Some (let z : n ≡ n + 0 = omega arith in z)
 place_none p (b ∷ before) rest x n none e = by_test (p b) refl none (place_none p before rest x (suc n))
   where
-    by_test : (t : Bool) → p b ≡ t → (if t then Some n else place_from p (suc n) before) ≡ None → (place_from p (suc n) before ≡ None → p x ≡ true → place_from p (suc n) (before ++ x ∷ rest) ≡ Some (suc n + length before)) →
+    by_test : (t : Bool) → p b ≡ t → (if t then Some n else place_from p (suc n) before) ≡ None →
+        (place_from p (suc n) before ≡ None → p x ≡ true →
+        place_from p (suc n) (before ++ x ∷ rest) ≡ Some (suc n + length before)) →
         (if t then Some n else place_from p (suc n) (before ++ x ∷ rest)) ≡ Some (n + suc (length before))
     by_test true s h rec = cc
     by_test false s h rec = rec h e ∙ ap Some (let z : suc n + length before ≡ n + suc (length before) = omega arith in z)
@@ -60,7 +69,8 @@ self_bears : (m : Member) → member_bears m (member_name m).text ≡ true
 self_bears m = (bytes_eq-Decides (member_name m).text (member_name m).text).1 refl
 
 -- each member is the first of its name
-pub first_of_name : (ms : List Member) → NoneIn (member_twice_faults [] ms) → (n : ℕ) (x : Member) → slice_get ms n ≡ Some x → the_member ms (member_name x).text ≡ Some (n, x)
+pub first_of_name : (ms : List Member) → NoneIn (member_twice_faults [] ms) → (n : ℕ) (x : Member) →
+    slice_get ms n ≡ Some x → the_member ms (member_name x).text ≡ Some (n, x)
 first_of_name ms none n x at =
     let r = parts_at ms n x at in
     let before : place_of member_bears r.before (member_name x).text ≡ None =
@@ -81,7 +91,8 @@ is_field (lock_member x) = false
 is_field (final_member f) = false
 is_field (field_member f) = true
 
-pub fields_are : (before ms : List Member) → NoneIn (member_twice_faults before ms) → fields_from before ms ≡ count is_field ms
+pub fields_are : (before ms : List Member) → NoneIn (member_twice_faults before ms) →
+    fields_from before ms ≡ count is_field ms
 fields_are before [] none = refl
 fields_are before (m ∷ ms) none =
     let a = again (member_name m).span.start (place_of member_bears before (member_name m).text) in
@@ -89,12 +100,14 @@ fields_are before (m ∷ ms) none =
     let rest = fields_are (before ++ m ∷ []) ms (none_right a (member_twice_faults (before ++ m ∷ []) ms) none) in
     ap (λ (x : Option ℕ). new_field x m + fields_from (before ++ m ∷ []) ms) o ∙ by_kind m rest
   where
-    by_kind : (x : Member) → fields_from (before ++ m ∷ []) ms ≡ count is_field ms → new_field None x + fields_from (before ++ m ∷ []) ms ≡ count is_field (x ∷ ms)
+    by_kind : (x : Member) → fields_from (before ++ m ∷ []) ms ≡ count is_field ms →
+        new_field None x + fields_from (before ++ m ∷ []) ms ≡ count is_field (x ∷ ms)
     by_kind (lock_member x) e = omega (arith, e)
     by_kind (final_member x) e = omega (arith, e)
     by_kind (field_member x) e = omega (arith, e)
 
-pub members_few : (classes n : ℕ) (ms : List Member) → NoneIn (member_counts classes n ms) → n ≤ MEMBER_LIMIT → n + length ms ≤ MEMBER_LIMIT
+pub members_few : (classes n : ℕ) (ms : List Member) → NoneIn (member_counts classes n ms) → n ≤ MEMBER_LIMIT →
+    n + length ms ≤ MEMBER_LIMIT
 members_few classes n [] none le = omega (arith, le)
 members_few classes n (m ∷ ms) none le =
     let a = one_if (nat_le MEMBER_LIMIT n) LimitExceeded (member_name m).span.start in
@@ -125,10 +138,12 @@ pub record Judged (decls : List Decl) (x : Member) (m : ℕ) (c : Const) : Type 
   pub fits : NoneIn (const_faults decls (member_want decls (Some (m, x))) c)
   pub not_null : NoneIn (null_faults decls (Some (m, x)) c)
 
-same_pool : (decls : List Decl) (n : ℕ) (p q : Pool) → slice_get decls n ≡ Some (pool p) → slice_get decls n ≡ Some (pool q) → p ≡ q
+same_pool : (decls : List Decl) (n : ℕ) (p q : Pool) → slice_get decls n ≡ Some (pool p) →
+    slice_get decls n ≡ Some (pool q) → p ≡ q
 same_pool decls n p q a b = let s : Some (pool p) ≡ Some (pool q) = sym a ∙ b in cc
 
-judged : (decls : List Decl) → Clean decls → (i n m : ℕ) (p : Pool) (ms : List Member) (x : Member) → slice_get decls i ≡ Some (pool p) → members_of decls p.target ≡ Some ms → slice_get ms m ≡ Some x → (c : Const) →
+judged : (decls : List Decl) → Clean decls → (i n m : ℕ) (p : Pool) (ms : List Member) (x : Member) →
+    slice_get decls i ≡ Some (pool p) → members_of decls p.target ≡ Some ms → slice_get ms m ≡ Some x → (c : Const) →
     Giving decls (record { pool = i; index = n; member = m }) c → Judged decls x m c
 judged decls clean i n m p ms x at are here c by =
     let g : InitTarget = record { pool = i; index = n; member = m } in
@@ -152,21 +167,26 @@ judged decls clean i n m p ms x at are here c by =
       not_null = subst (λ (y : Const). NoneIn (null_faults decls (Some (m, x)) y)) by.value (subst (λ (o : Option (ℕ × Member)). NoneIn (null_faults decls o j.value)) ini (none_right (a ++ b ++ d) e none));
     }
 
-field_ready : (decls : List Decl) → Clean decls → (g : InitTarget) (f : Field) → Typing decls (type_of (outside decls) f.value_type) → (o : Option Const) → given decls g ≡ o → ((c : Const) → o ≡ Some c → NoneIn (const_faults decls (want (type_of (outside decls) f.value_type)) c)) → Ready decls g (field_member f)
+field_ready : (decls : List Decl) → Clean decls → (g : InitTarget) (f : Field) →
+    Typing decls (type_of (outside decls) f.value_type) → (o : Option Const) → given decls g ≡ o →
+    ((c : Const) → o ≡ Some c → NoneIn (const_faults decls (want (type_of (outside decls) f.value_type)) c)) →
+    Ready decls g (field_member f)
 field_ready decls clean g f t None is up =
     (t.value_type, default_of t.value_type, t.is, ap (λ (y : Option core_type.ValueType). opening_of decls y (given decls g)) t.is ∙ ap (opened decls t.value_type) is)
 field_ready decls clean g f t (Some c) is up =
     let v = const_is decls clean (wanted.Value t.value_type) c (subst (λ (y : Option core_type.ValueType). NoneIn (const_faults decls (want y) c)) t.is (up c refl)) in
     (t.value_type, v.of.val, t.is, ap (λ (y : Option core_type.ValueType). opening_of decls y (given decls g)) t.is ∙ ap (opened decls t.value_type) is ∙ v.is)
 
-no_null : (decls : List Decl) (f : Final) (m s : ℕ) (c : Const) → struct_named decls f.target ≡ Some s → NoneIn (null_faults decls (Some (m, final_member f)) c) → (at : Span) → c ≡ null_const at → ⊥
+no_null : (decls : List Decl) (f : Final) (m s : ℕ) (c : Const) → struct_named decls f.target ≡ Some s →
+    NoneIn (null_faults decls (Some (m, final_member f)) c) → (at : Span) → c ≡ null_const at → ⊥
 no_null decls f m s c is none at e =
     let n : NoneIn (one_if (is_some (struct_named decls f.target)) FinalWithoutOpeningValue at.start) = subst (λ (y : Const). NoneIn (null_faults decls (Some (m, final_member f)) y)) e none in
     let b = not_if (is_some (struct_named decls f.target)) FinalWithoutOpeningValue at.start n in
     let t : is_some (struct_named decls f.target) ≡ true = ap is_some is in
     cc
 
-final_ready : (decls : List Decl) → Clean decls → (g : InitTarget) (f : Final) → Found decls (struct_named decls f.target) → (o : Option Const) → given decls g ≡ o → (o ≡ None → ⊥) →
+final_ready : (decls : List Decl) → Clean decls → (g : InitTarget) (f : Final) →
+    Found decls (struct_named decls f.target) → (o : Option Const) → given decls g ≡ o → (o ≡ None → ⊥) →
     ((c : Const) → o ≡ Some c → Judged decls (final_member f) g.member c) → Ready decls g (final_member f)
 final_ready decls clean g f k None is missing up = absurd (missing refl)
 final_ready decls clean g f k (Some c) is missing up =
@@ -177,7 +197,9 @@ final_ready decls clean g f k (Some c) is missing up =
     (r.0, ap (λ (o : Option ℕ). referred decls o (given decls g)) k.is ∙ ap (referred decls (Some k.number)) is ∙ r.1)
 
 -- each member of each member of a pool is ready
-pub ready : (decls : List Decl) → Clean decls → (i n : ℕ) (p : Pool) (s : Struct) → slice_get decls i ≡ Some (pool p) → n < p.length.value → members_of decls p.target ≡ Some s.members → Has decls (struct s) → NoneIn (member_twice_faults [] s.members) →
+pub ready : (decls : List Decl) → Clean decls → (i n : ℕ) (p : Pool) (s : Struct) →
+    slice_get decls i ≡ Some (pool p) → n < p.length.value → members_of decls p.target ≡ Some s.members →
+    Has decls (struct s) → NoneIn (member_twice_faults [] s.members) →
     (m : ℕ) (x : Member) → slice_get s.members m ≡ Some x → Ready decls (record { pool = i; index = n; member = m }) x
 ready decls clean i n p s at less are has once m (lock_member x) here = tt
 ready decls clean i n p s at less are has once m (field_member f) here =

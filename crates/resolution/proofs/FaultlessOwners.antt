@@ -1,25 +1,32 @@
 -- What stands behind a `where` for which no fault is listed names a final reference and a local of its type, both with numbers.
-use Rattle.std.proofs.Common.{◌≡◌, ℕ, zero, suc, ◌<◌, ◌≤◌, List, [], ◌∷◌, ◌++◌, length, Option, Some, None, Bool, true, false, refl, sym, ap, ◌∙◌, subst, if◌then◌else◌, arith}
+use Rattle.std.proofs.Common.{◌≡◌, ℕ, zero, suc, ◌<◌, ◌≤◌, List, [], ◌∷◌, ◌++◌, length, Option, Some, None, Bool}
+use Rattle.std.proofs.Common.{true, false, refl, sym, ap, ◌∙◌, subst, if◌then◌else◌, arith}
 use Rattle.std.specs.Prelude.{nat_le, is_some, slice_get}
 use Rattle.source.specs.declared.fault.Code.TheVariants.{UnknownName, WrongType, LimitExceeded, LockAsValue}
-use Rattle.syntax.specs.Trees.{Ident, ref_type, Owner, Member, lock_member, final_member, field_member, Struct, Decl, lock, struct, global, array, pool, init, atomic, helper, thread}
+use Rattle.syntax.specs.Trees.{Ident, ref_type, Owner, Member, lock_member, final_member, field_member, Struct, Decl}
+use Rattle.syntax.specs.Trees.{lock, struct, global, array, pool, init, atomic, helper, thread}
 use Rattle.core_lang.specs.declared.value.ValueType as core_type
 use Rattle.core_lang.specs.declared.value.ValueType.TheVariants.{Integer, Reference}
 use Rattle.resolution.specs.declared.wanted.Sort.TheVariants as sort
 use Rattle.resolution.specs.Core as core
 use Rattle.source.specs.Texts.{SOURCE_LIMIT}
 use Rattle.resolution.specs.Limits.{STRUCT_LIMIT, up_to}
-use Rattle.resolution.specs.Scopes.{◌>>=◌, Scope, Local, outside, Meaning, a_local, a_decl, nothing, meaning, count, alike, structs_in, the_struct, the_member, the_local, the_decl, member_has_type}
+use Rattle.resolution.specs.Scopes.{◌>>=◌, Scope, Local, outside, Meaning, a_local, a_decl, nothing, meaning, count}
+use Rattle.resolution.specs.Scopes.{alike, structs_in, the_struct, the_member, the_local, the_decl, member_has_type}
 use Rattle.resolution.specs.Expressions.{fits_type, member_number}
 use Rattle.resolution.specs.declared.owner_field.OwnerField.{OwnerField}
-use Rattle.resolution.specs.Owners.{final_of, owner_member, owner_field, is_of, owner_local, tested_by, owned_value, owned_by}
+use Rattle.resolution.specs.Owners.{final_of, owner_member, owner_field, is_of, owner_local, tested_by, owned_value}
+use Rattle.resolution.specs.Owners.{owned_by}
 use Rattle.resolution.specs.Where.{Has, of_final, of_field}
 use Rattle.resolution.specs.Working.FaultLists as list
-use Rattle.resolution.specs.Working.FaultLists.{one, one_if, unfit, unfit_member, taken, local_faults, no_final_in, owner_field_faults, other_type, owner_faults, count_faults}
+use Rattle.resolution.specs.Working.FaultLists.{one, one_if, unfit, unfit_member, taken, local_faults, no_final_in}
+use Rattle.resolution.specs.Working.FaultLists.{owner_field_faults, other_type, owner_faults, count_faults}
 use Rattle.resolution.proofs.Named.{member_is}
 use Rattle.resolution.proofs.Tests.{le_true, le_false}
 use Rattle.resolution.proofs.AllFaults.{of_counts}
-use Rattle.resolution.proofs.FaultlessExpressions.{NoneIn, none_left, none_right, not_one, not_if, at_has, struct_has, Clean, IsType, Typing, known, Context, IsKnown, meaning_known, decl_typed, unfit_not, fit_if}
+use Rattle.resolution.proofs.FaultlessExpressions.{NoneIn, none_left, none_right, not_one, not_if, at_has, struct_has}
+use Rattle.resolution.proofs.FaultlessExpressions.{Clean, IsType, Typing, known, Context, IsKnown, meaning_known}
+use Rattle.resolution.proofs.FaultlessExpressions.{decl_typed, unfit_not, fit_if}
 use Rattle.resolution.proofs.TypedResolvedExprs.{IsLocal, meant_local}
 
 -- ---- how many there are
@@ -31,7 +38,8 @@ record StructAt (ds : List Decl) (k : ℕ) (s : Struct) : Type 0 where
   parts : ds ≡ before ++ struct s ∷ behind
   ahead : count (alike (struct s)) before ≡ k
 
-behind_other : (d : Decl) (ds : List Decl) (k : ℕ) (s : Struct) → alike (struct s) d ≡ false → StructAt ds k s → StructAt (d ∷ ds) k s
+behind_other : (d : Decl) (ds : List Decl) (k : ℕ) (s : Struct) → alike (struct s) d ≡ false → StructAt ds k s →
+    StructAt (d ∷ ds) k s
 behind_other d ds k s other t = record {
   before = d ∷ t.before;
   behind = t.behind;
@@ -81,7 +89,10 @@ record FinalOf (k : ℕ) (o : Option OwnerField) : Type 0 where
   is : o ≡ Some field
   structure : field.structure ≡ k
 
-final_is : (decls : List Decl) → Clean decls → (k : ℕ) (s : Struct) → Has decls (struct s) → (p : ℕ) (o : Option (ℕ × Member)) → ((n : ℕ) (x : Member) → ◌≡◌ {A = Option (ℕ × Member)} o (Some (n, x)) → Has s.members x) → NoneIn (list.no_final decls p o) →
+final_is : (decls : List Decl) → Clean decls → (k : ℕ) (s : Struct) → Has decls (struct s) →
+    (p : ℕ) (o : Option (ℕ × Member)) →
+    ((n : ℕ) (x : Member) → ◌≡◌ {A = Option (ℕ × Member)} o (Some (n, x)) → Has s.members x) →
+    NoneIn (list.no_final decls p o) →
     FinalOf k (owner_member decls k s.members o)
 final_is decls clean k s h p None up none = absurd (not_one UnknownName p none)
 final_is decls clean k s h p (Some (n, lock_member x)) up none = absurd (not_one LockAsValue p none)
@@ -104,7 +115,8 @@ record FinalIn (o : Option OwnerField) : Type 0 where
   is : o ≡ Some field
   few : field.structure ≤ STRUCT_LIMIT
 
-field_is : (decls : List Decl) → Clean decls → (v : core_type.ValueType) → IsType decls v → (f : Ident) → NoneIn (owner_field_faults decls (Some v) f) → FinalIn (owner_field decls (Some v) f)
+field_is : (decls : List Decl) → Clean decls → (v : core_type.ValueType) → IsType decls v → (f : Ident) →
+    NoneIn (owner_field_faults decls (Some v) f) → FinalIn (owner_field decls (Some v) f)
 field_is decls clean Integer at f none = absurd (not_one WrongType f.span.start none)
 field_is decls clean (Reference k) at f none =
     let s = at.0 in
@@ -117,7 +129,8 @@ field_is decls clean (Reference k) at f none =
       few = omega (arith, few, same);
     }
 
-owner_field_is : (decls : List Decl) → Clean decls → (t : Option core_type.ValueType) → Typing decls t → (f : Ident) → NoneIn (owner_field_faults decls t f) → FinalIn (owner_field decls t f)
+owner_field_is : (decls : List Decl) → Clean decls → (t : Option core_type.ValueType) → Typing decls t → (f : Ident) →
+    NoneIn (owner_field_faults decls t f) → FinalIn (owner_field decls t f)
 owner_field_is decls clean t k f none =
     subst (λ (o : Option core_type.ValueType). FinalIn (owner_field decls o f)) (sym k.is) (field_is decls clean k.value_type k.there f (subst (λ (o : Option core_type.ValueType). NoneIn (owner_field_faults decls o f)) k.is none))
 
@@ -129,7 +142,8 @@ record LocalIn (ls : List Local) (o : Option ℕ) : Type 0 where
   is : o ≡ Some number
   less : number < length ls
 
-owner_local_is : (sc : Scope) → Context sc → (g : OwnerField) (p : ℕ) (m : Meaning) → IsKnown sc.decls m → IsLocal sc.locals m → NoneIn (list.no_owner sc.decls p (Some g) m) → LocalIn sc.locals (owner_local (Some g) m)
+owner_local_is : (sc : Scope) → Context sc → (g : OwnerField) (p : ℕ) (m : Meaning) → IsKnown sc.decls m →
+    IsLocal sc.locals m → NoneIn (list.no_owner sc.decls p (Some g) m) → LocalIn sc.locals (owner_local (Some g) m)
 owner_local_is sc c g p (a_local n b) k loc none =
     let fits : fits_type g.value_type (sort.Of k.value_type) ≡ true = fit_if p (fits_type g.value_type (sort.Of k.value_type)) (subst (λ (o : Option core_type.ValueType). NoneIn (other_type p (Some g) o)) k.is none) in
     record {
@@ -145,13 +159,16 @@ owner_local_is sc c g p nothing k loc none = absurd (not_one UnknownName p none)
 within : (limit n : ℕ) → n ≤ limit → up_to limit n ≡ Some n
 within limit n le = ap (λ (b : Bool). if b then Some n else None) (le_true n limit le)
 
-tested_is : (start : ℕ) (x : core.Expr) (g : OwnerField) (n : ℕ) → g.structure ≤ STRUCT_LIMIT → n ≤ SOURCE_LIMIT → tested_by start x g n ≡ Some (core.owned x g.structure g.number start n)
+tested_is : (start : ℕ) (x : core.Expr) (g : OwnerField) (n : ℕ) → g.structure ≤ STRUCT_LIMIT → n ≤ SOURCE_LIMIT →
+    tested_by start x g n ≡ Some (core.owned x g.structure g.number start n)
 tested_is start x g n few less =
     ap (λ (o : Option ℕ). ◌>>=◌ {B = core.Expr} o (λ k. up_to SOURCE_LIMIT n >>= λ m. Some (core.owned x k g.number start m))) (within STRUCT_LIMIT g.structure few)
     ∙ ap (λ (o : Option ℕ). ◌>>=◌ {B = core.Expr} o (λ m. Some (core.owned x g.structure g.number start m))) (within SOURCE_LIMIT n less)
 
 -- a value that is tested has its form
-pub owned_is : (sc : Scope) → Context sc → length sc.locals < sc.limits.locals → (t : Option core_type.ValueType) → Typing sc.decls t → (o : Owner) → NoneIn (owner_faults sc t o) → (v : Option core.Expr) (x : core.Expr) → v ≡ Some x → (y : core.Expr) × (owned_by sc t o v ≡ Some y)
+pub owned_is : (sc : Scope) → Context sc → length sc.locals < sc.limits.locals → (t : Option core_type.ValueType) →
+    Typing sc.decls t → (o : Owner) → NoneIn (owner_faults sc t o) → (v : Option core.Expr) (x : core.Expr) →
+    v ≡ Some x → (y : core.Expr) × (owned_by sc t o v ≡ Some y)
 owned_is sc c few t typing o none v x is =
     let p = o.local.span.start in
     let m = meaning sc o.local.text in

@@ -1,30 +1,42 @@
 -- A program with no fault is resolved.
-use Rattle.std.proofs.Common.{◌≡◌, ℕ, zero, suc, ◌+◌, ◌*◌, ◌<◌, ◌≤◌, List, [], ◌∷◌, ◌++◌, length, Option, Some, None, Bool, true, false, if◌then◌else◌, refl, sym, ap, ◌∙◌, subst, append_assoc, arith}
+use Rattle.std.proofs.Common.{◌≡◌, ℕ, zero, suc, ◌+◌, ◌*◌, ◌<◌, ◌≤◌, List, [], ◌∷◌, ◌++◌, length, Option, Some, None}
+use Rattle.std.proofs.Common.{Bool, true, false, if◌then◌else◌, refl, sym, ap, ◌∙◌, subst, append_assoc, arith}
 use Rattle.std.specs.Prelude.{nat_le, nat_lt, slice_get}
 use Rattle.source.specs.declared.fault.Code.TheVariants.{LimitExceeded}
 use Rattle.syntax.specs.Returns.{ReturnsRight}
-use Rattle.syntax.specs.Trees.{ref_type, Const, Member, lock_member, final_member, field_member, Struct, Variable, Array, Pool, Decl, lock, struct, global, array, pool, init, atomic, helper, thread}
+use Rattle.syntax.specs.Trees.{ref_type, Const, Member, lock_member, final_member, field_member, Struct, Variable}
+use Rattle.syntax.specs.Trees.{Array, Pool, Decl, lock, struct, global, array, pool, init, atomic, helper, thread}
 use Rattle.core_lang.specs.declared.value.Value.{Value}
 use Rattle.core_lang.specs.declared.value.ValueType as core_type
 use Rattle.core_lang.specs.declared.typed.Owner.{Owner}
 use Rattle.core_lang.specs.declared.typed.Owner.TheVariants as owner
 use Rattle.resolution.specs.declared.wanted.Want.TheVariants as wanted
 use Rattle.resolution.specs.Core as core
-use Rattle.resolution.specs.Limits.{MEMBER_LIMIT, OBJECT_LIMIT, CELL_LIMIT, CALL_LIMIT, section_limits, helper_limits, up_to, object_at, cell_at, final_at, STRUCT_LIMIT}
+use Rattle.resolution.specs.Limits.{MEMBER_LIMIT, OBJECT_LIMIT, CELL_LIMIT, CALL_LIMIT, section_limits, helper_limits}
+use Rattle.resolution.specs.Limits.{up_to, object_at, cell_at, final_at, STRUCT_LIMIT}
 use Rattle.resolution.specs.Scopes.{◌>>=◌, outside, bears, the_decl, type_of, count, alike}
 use Rattle.resolution.specs.Numbers.{width, total, classes_of, objects_of, cells_of, calls_of}
 use Rattle.resolution.specs.Expressions.{want}
 use Rattle.resolution.specs.Constants.{members_of, members_in, default_of}
 use Rattle.resolution.specs.Annotations.{protection_of}
-use Rattle.resolution.specs.Resolution.{few_calls, typed_items, StructBuilder, lock_added, final_added, field_added, members_added, empty_struct, nothing_yet, with_class, with_struct, with_cell, with_section, with_helper, with_thread, global_added, with_global, opening_of, with_elements, array_added, with_array, Slot, slot_given, final_cell, field_cell, with_members, object_added, with_object, with_objects, pool_added, with_pool, extended, resolved_from, resolved}
-use Rattle.resolution.specs.Where.{Has, first, further, of_section, of_helper, of_pool, of_global, of_array, of_final, of_field}
-use Rattle.resolution.specs.Working.FaultLists.{one_if, first_too_many, member_twice_faults, member_counts, count_faults, total_faults, type_faults, lock_faults, opening_faults, const_faults, protection_faults, members_faults, decl_faults}
+use Rattle.resolution.specs.Resolution.{few_calls, typed_items, StructBuilder, lock_added, final_added, field_added}
+use Rattle.resolution.specs.Resolution.{members_added, empty_struct, nothing_yet, with_class, with_struct, with_cell}
+use Rattle.resolution.specs.Resolution.{with_section, with_helper, with_thread, global_added, with_global, opening_of}
+use Rattle.resolution.specs.Resolution.{with_elements, array_added, with_array, Slot, slot_given, final_cell}
+use Rattle.resolution.specs.Resolution.{field_cell, with_members, object_added, with_object, with_objects, pool_added}
+use Rattle.resolution.specs.Resolution.{with_pool, extended, resolved_from, resolved}
+use Rattle.resolution.specs.Where.{Has, first, further, of_section, of_helper, of_pool, of_global, of_array, of_final}
+use Rattle.resolution.specs.Where.{of_field}
+use Rattle.resolution.specs.Working.FaultLists.{one_if, first_too_many, member_twice_faults, member_counts}
+use Rattle.resolution.specs.Working.FaultLists.{count_faults, total_faults, type_faults, lock_faults, opening_faults}
+use Rattle.resolution.specs.Working.FaultLists.{const_faults, protection_faults, members_faults, decl_faults}
 use Rattle.resolution.proofs.Members.{in_right}
 use Rattle.resolution.proofs.Named.{named_is}
 use Rattle.resolution.proofs.AllFaults.{in_structs, of_structs, of_counts, of_totals, has_parts}
 use Rattle.resolution.proofs.Parts.{of_place_at}
 use Rattle.resolution.proofs.TrueStatements.{length_push}
-use Rattle.resolution.proofs.FaultlessExpressions.{NoneIn, none_left, none_right, not_if, at_has, Clean, Typing, known, known_named}
+use Rattle.resolution.proofs.FaultlessExpressions.{NoneIn, none_left, none_right, not_if, at_has, Clean, Typing}
+use Rattle.resolution.proofs.FaultlessExpressions.{known, known_named}
 use Rattle.resolution.proofs.FaultlessConstants.{const_is, class_is, protection_is, named_decl}
 use Rattle.resolution.proofs.FaultlessSections.{section_is, items_are}
 use Rattle.resolution.proofs.FaultlessMembers.{fields_are, members_few, count_few, is_final, is_field, Ready, ready}
@@ -45,7 +57,8 @@ total_push of (b ∷ before) d = omega (arith, total_push of before d)
 not_passed : (limit before own : ℕ) → first_too_many limit before own ≡ false → before ≤ limit → before + own ≤ limit
 not_passed limit before own e le = lt_false limit (before + own) (and_false (nat_le before limit) (nat_lt limit (before + own)) (le_true before limit le) e)
 
-pub cells_fit : (decls before : List Decl) (d : Decl) → NoneIn (count_faults decls before d) → total (cells_of decls) before ≤ CELL_LIMIT → total (cells_of decls) before + cells_of decls d ≤ CELL_LIMIT
+pub cells_fit : (decls before : List Decl) (d : Decl) → NoneIn (count_faults decls before d) →
+    total (cells_of decls) before ≤ CELL_LIMIT → total (cells_of decls) before + cells_of decls d ≤ CELL_LIMIT
 cells_fit decls before (global v) none le = not_passed CELL_LIMIT (total (cells_of decls) before) 1 (not_if (first_too_many CELL_LIMIT (total (cells_of decls) before) 1) LimitExceeded v.name.span.start none) le
 cells_fit decls before (array a) none le = not_passed CELL_LIMIT (total (cells_of decls) before) a.length.value (not_if (first_too_many CELL_LIMIT (total (cells_of decls) before) a.length.value) LimitExceeded a.name.span.start none) le
 cells_fit decls before (pool p) none le =
@@ -58,7 +71,8 @@ cells_fit decls before (atomic x) none le = omega (arith, le)
 cells_fit decls before (helper x) none le = omega (arith, le)
 cells_fit decls before (thread x) none le = omega (arith, le)
 
-pub objects_fit : (decls before : List Decl) (d : Decl) → NoneIn (count_faults decls before d) → total objects_of before ≤ OBJECT_LIMIT → total objects_of before + objects_of d ≤ OBJECT_LIMIT
+pub objects_fit : (decls before : List Decl) (d : Decl) → NoneIn (count_faults decls before d) →
+    total objects_of before ≤ OBJECT_LIMIT → total objects_of before + objects_of d ≤ OBJECT_LIMIT
 objects_fit decls before (pool p) none le =
     not_passed OBJECT_LIMIT (total objects_of before) (objects_of (pool p)) (not_if (first_too_many OBJECT_LIMIT (total objects_of before) (objects_of (pool p))) LimitExceeded p.name.span.start
     (none_left (one_if (first_too_many OBJECT_LIMIT (total objects_of before) (objects_of (pool p))) LimitExceeded p.name.span.start) _ none)) le
@@ -71,7 +85,8 @@ objects_fit decls before (atomic x) none le = omega (arith, le)
 objects_fit decls before (helper x) none le = omega (arith, le)
 objects_fit decls before (thread x) none le = omega (arith, le)
 
-calls_fit : (decls before : List Decl) (d : Decl) → NoneIn (count_faults decls before d) → total calls_of before ≤ CALL_LIMIT → total calls_of before + calls_of d ≤ CALL_LIMIT
+calls_fit : (decls before : List Decl) (d : Decl) → NoneIn (count_faults decls before d) →
+    total calls_of before ≤ CALL_LIMIT → total calls_of before + calls_of d ≤ CALL_LIMIT
 calls_fit decls before (thread t) none le =
     not_passed CALL_LIMIT (total calls_of before) (calls_of (thread t)) (not_if (first_too_many CALL_LIMIT (total calls_of before) (calls_of (thread t))) LimitExceeded t.name.span.start (none_right (one_if _ LimitExceeded t.name.span.start) _ none)) le
 calls_fit decls before (global x) none le = omega (arith, le)
@@ -83,7 +98,8 @@ calls_fit decls before (init x) none le = omega (arith, le)
 calls_fit decls before (atomic x) none le = omega (arith, le)
 calls_fit decls before (helper x) none le = omega (arith, le)
 
-pub calls_few : (decls before ds : List Decl) → NoneIn (total_faults decls before ds) → total calls_of before ≤ CALL_LIMIT → total calls_of (before ++ ds) ≤ CALL_LIMIT
+pub calls_few : (decls before ds : List Decl) → NoneIn (total_faults decls before ds) →
+    total calls_of before ≤ CALL_LIMIT → total calls_of (before ++ ds) ≤ CALL_LIMIT
 calls_few decls before [] none le = subst (λ (xs : List Decl). total calls_of xs ≤ CALL_LIMIT) (sym (nil before)) le
   where
     nil : (xs : List Decl) → xs ++ [] ≡ xs
@@ -113,7 +129,9 @@ pub record Grown (p q : core.Program) (c o f : ℕ) : Type 0 where
 abbrev Puts : core.Program → Option core.Program → ℕ → ℕ → ℕ → Type 0
 Puts p o c b f = (q : core.Program) × (o ≡ Some q) × Grown p q c b f
 
-members_put : (decls : List Decl) (slot : Slot) (k fields : ℕ) (p : core.Program) (ms : List Member) → ((j : ℕ) (x : Member) → slice_get ms j ≡ Some x → Ready decls (record { pool = slot.pool; index = slot.index; member = k + j }) x) →
+members_put : (decls : List Decl) (slot : Slot) (k fields : ℕ) (p : core.Program) (ms : List Member) →
+    ((j : ℕ) (x : Member) → slice_get ms j ≡ Some x →
+    Ready decls (record { pool = slot.pool; index = slot.index; member = k + j }) x) →
     Puts p (with_members decls slot k fields (Some p) ms) (count is_field ms) 0 (count is_final ms)
 members_put decls slot k fields p [] up = (p, refl, record { cells = omega arith; objects = omega arith; finals = omega arith })
 members_put decls slot k fields p (lock_member x ∷ ms) up =
@@ -139,7 +157,9 @@ members_put decls slot k fields p (field_member f ∷ ms) up =
       record { cells = (let g = rest.2.cells in omega (arith, g, len)); objects = rest.2.objects; finals = rest.2.finals },
     )
 
-object_put : (decls : List Decl) (i number : ℕ) (ms : List Member) (n : ℕ) (p : core.Program) → length p.cells ≤ CELL_LIMIT → length p.finals ≤ 2097152 → ((j : ℕ) (x : Member) → slice_get ms j ≡ Some x → Ready decls (record { pool = i; index = n; member = j }) x) →
+object_put : (decls : List Decl) (i number : ℕ) (ms : List Member) (n : ℕ) (p : core.Program) →
+    length p.cells ≤ CELL_LIMIT → length p.finals ≤ 2097152 →
+    ((j : ℕ) (x : Member) → slice_get ms j ≡ Some x → Ready decls (record { pool = i; index = n; member = j }) x) →
     Puts p (with_object decls i number ms n p) (count is_field ms) 1 (count is_final ms)
 object_put decls i number ms n p cells finals up =
     let slot : Slot = record { pool = i; index = n; object = length p.objects } in
@@ -152,7 +172,8 @@ object_put decls i number ms n p cells finals up =
       record { cells = r.2.cells; objects = (let g = r.2.objects in omega (arith, g, len)); finals = r.2.finals },
     )
 
-objects_put : (decls : List Decl) (i number len : ℕ) (ms : List Member) (p : core.Program) → (n : ℕ) → n ≤ len → length p.cells + len * count is_field ms ≤ CELL_LIMIT → length p.finals + len * count is_final ms ≤ 2097152 →
+objects_put : (decls : List Decl) (i number len : ℕ) (ms : List Member) (p : core.Program) → (n : ℕ) → n ≤ len →
+    length p.cells + len * count is_field ms ≤ CELL_LIMIT → length p.finals + len * count is_final ms ≤ 2097152 →
     ((m j : ℕ) (x : Member) → m < len → slice_get ms j ≡ Some x → Ready decls (record { pool = i; index = m; member = j }) x) →
     Puts p (with_objects decls i number ms (Some p) n) (n * count is_field ms) n (n * count is_final ms)
 objects_put decls i number len ms p zero le cells finals up = (p, refl, record { cells = omega arith; objects = omega arith; finals = omega arith })
@@ -185,7 +206,9 @@ elements_put p a t (suc n) =
 
 -- ---- structs
 
-struct_put : (decls : List Decl) → Clean decls → (k i : ℕ) (s : Struct) → slice_get decls i ≡ Some (struct s) → (st : StructBuilder) (ms : List Member) → ((m : Member) → Has ms m → Has s.members m) → NoneIn (members_faults decls i s.members ms) →
+struct_put : (decls : List Decl) → Clean decls → (k i : ℕ) (s : Struct) → slice_get decls i ≡ Some (struct s) →
+    (st : StructBuilder) (ms : List Member) → ((m : Member) → Has ms m → Has s.members m) →
+    NoneIn (members_faults decls i s.members ms) →
     (to : StructBuilder) × (members_added decls k i s.members (Some st) ms ≡ Some to)
 struct_put decls clean k i s at st [] up none = (st, refl)
 struct_put decls clean k i s at st (lock_member x ∷ ms) up none = struct_put decls clean k i s at (lock_added k st x.text) ms (λ m h. up m (further h)) none
@@ -225,7 +248,9 @@ pub record Stage (decls before : List Decl) (i : ℕ) (d : Decl) (p : core.Progr
   pub cells : total (cells_of decls) before + cells_of decls d ≤ CELL_LIMIT
   pub objects : total objects_of before + objects_of d ≤ OBJECT_LIMIT
 
-grown_counted : (decls before : List Decl) (d : Decl) (p q : core.Program) (c o f : ℕ) → Counted decls before p → Grown p q c o f → c ≡ cells_of decls d → o ≡ objects_of d → f ≤ o * MEMBER_LIMIT → Counted decls (before ++ d ∷ []) q
+grown_counted : (decls before : List Decl) (d : Decl) (p q : core.Program) (c o f : ℕ) → Counted decls before p →
+    Grown p q c o f → c ≡ cells_of decls d → o ≡ objects_of d → f ≤ o * MEMBER_LIMIT →
+    Counted decls (before ++ d ∷ []) q
 grown_counted decls before d p q c o f n g ec eo ef = record {
   cells = (let a = total_push (cells_of decls) before d in let b = n.cells in let x = g.cells in omega (arith, a, b, x, ec));
   objects = (let a = total_push objects_of before d in let b = n.objects in let x = g.objects in omega (arith, a, b, x, eo));
@@ -233,18 +258,22 @@ grown_counted decls before d p q c o f n g ec eo ef = record {
 }
 
 -- nothing that counts is added
-same_counted : (decls before : List Decl) (d : Decl) (p q : core.Program) → Counted decls before p → length q.cells ≡ length p.cells → length q.objects ≡ length p.objects → length q.finals ≡ length p.finals → cells_of decls d ≡ 0 → objects_of d ≡ 0 → Counted decls (before ++ d ∷ []) q
+same_counted : (decls before : List Decl) (d : Decl) (p q : core.Program) → Counted decls before p →
+    length q.cells ≡ length p.cells → length q.objects ≡ length p.objects → length q.finals ≡ length p.finals →
+    cells_of decls d ≡ 0 → objects_of d ≡ 0 → Counted decls (before ++ d ∷ []) q
 same_counted decls before d p q n ec eo ef zc zo =
     grown_counted decls before d p q 0 0 0 n (record { cells = omega (arith, ec); objects = omega (arith, eo); finals = omega (arith, ef) }) (sym zc) (sym zo) (omega arith)
 
 -- a global's or an array's parts
-opening_is : (decls : List Decl) → Clean decls → (o : Option core_type.ValueType) → Typing decls o → (c : Option Const) → NoneIn (opening_faults decls (want o) c) → (v : Value) × (opening_of decls o c ≡ Some v)
+opening_is : (decls : List Decl) → Clean decls → (o : Option core_type.ValueType) → Typing decls o →
+    (c : Option Const) → NoneIn (opening_faults decls (want o) c) → (v : Value) × (opening_of decls o c ≡ Some v)
 opening_is decls clean o t None none = (default_of t.value_type, ap (λ (x : Option core_type.ValueType). opening_of decls x None) t.is)
 opening_is decls clean o t (Some c) none =
     let v = const_is decls clean (wanted.Value t.value_type) c (subst (λ (x : Option core_type.ValueType). NoneIn (const_faults decls (want x) c)) t.is none) in
     (v.of.val, ap (λ (x : Option core_type.ValueType). opening_of decls x (Some c)) t.is ∙ v.is)
 
-global_is : (decls before : List Decl) (i : ℕ) (v : Variable) (p : core.Program) → Stage decls before i (global v) p → Extends decls before (global v) (extended decls i p (global v))
+global_is : (decls before : List Decl) (i : ℕ) (v : Variable) (p : core.Program) → Stage decls before i (global v) p →
+    Extends decls before (global v) (extended decls i p (global v))
 global_is decls before i v p st =
     let a = type_faults (outside decls) v.value_type in
     let b = lock_faults decls v.name.span.start v.protection in
@@ -264,7 +293,8 @@ global_is decls before i v p st =
           (record { cells = length_push p.cells (record { owner = owner.Global (length p.globals); value_type = t.value_type; opening = w.0 }); objects = omega arith; finals = omega arith }) refl refl (omega arith),
     )
 
-array_is : (decls before : List Decl) (i : ℕ) (a : Array) (p : core.Program) → Stage decls before i (array a) p → Extends decls before (array a) (extended decls i p (array a))
+array_is : (decls before : List Decl) (i : ℕ) (a : Array) (p : core.Program) → Stage decls before i (array a) p →
+    Extends decls before (array a) (extended decls i p (array a))
 array_is decls before i a p st =
     let x = type_faults (outside decls) a.value_type in
     let y = lock_faults decls a.name.span.start a.protection in
@@ -285,17 +315,20 @@ array_is decls before i a p st =
     )
 
 -- a struct's members are few, and each has a name of its own
-pub struct_once : (decls : List Decl) → Clean decls → (s : Struct) → Has decls (struct s) → NoneIn (member_twice_faults [] s.members)
+pub struct_once : (decls : List Decl) → Clean decls → (s : Struct) → Has decls (struct s) →
+    NoneIn (member_twice_faults [] s.members)
 struct_once decls clean s h f i = clean f (of_structs decls f (in_structs decls s h f i))
 
-pub struct_few : (decls : List Decl) → Clean decls → (s : Struct) → Has decls (struct s) → length s.members ≤ MEMBER_LIMIT
+pub struct_few : (decls : List Decl) → Clean decls → (s : Struct) → Has decls (struct s) →
+    length s.members ≤ MEMBER_LIMIT
 struct_few decls clean s h =
     let r = has_parts decls (struct s) h in
     let none : NoneIn (member_counts (total classes_of r.0) 0 s.members) = λ f i. clean f (of_counts decls r.0 r.1 (struct s) r.2 f (in_right f (one_if (nat_le STRUCT_LIMIT (count (alike (struct s)) r.0)) LimitExceeded s.name.span.start) _ i)) in
     let le = members_few (total classes_of r.0) 0 s.members none (let z : 0 ≤ MEMBER_LIMIT = omega arith in z) in
     omega (arith, le)
 
-pool_is : (decls before : List Decl) (i : ℕ) (p : Pool) (q : core.Program) → Stage decls before i (pool p) q → Extends decls before (pool p) (extended decls i q (pool p))
+pool_is : (decls before : List Decl) (i : ℕ) (p : Pool) (q : core.Program) → Stage decls before i (pool p) q →
+    Extends decls before (pool p) (extended decls i q (pool p))
 pool_is decls before i p q st =
     let has = at_has decls i (pool p) st.at in
     let t = known_named decls st.clean p.target (of_pool has) in
@@ -336,7 +369,8 @@ few_is decls clean =
     let none : NoneIn (total_faults decls [] decls) = λ f i. clean f (of_totals decls f i) in
     le_true (total calls_of decls) CALL_LIMIT (calls_few decls [] decls none (let z : 0 ≤ CALL_LIMIT = omega arith in z))
 
-extended_is : (decls before : List Decl) (i : ℕ) (d : Decl) (p : core.Program) → Stage decls before i d p → Extends decls before d (extended decls i p d)
+extended_is : (decls before : List Decl) (i : ℕ) (d : Decl) (p : core.Program) → Stage decls before i d p →
+    Extends decls before d (extended decls i p d)
 extended_is decls before i (lock x) p st = (with_class p (core.global_lock x.text), refl, same_counted decls before (lock x) p (with_class p (core.global_lock x.text)) st.counted refl refl refl refl refl)
 extended_is decls before i (struct s) p st =
     let r = struct_put decls st.clean (length p.structs) i s st.at (record { structure = empty_struct s.name.text; classes = p.classes }) s.members (λ m h. h) st.own in
@@ -362,7 +396,9 @@ extended_is decls before i (thread t) p st =
       same_counted decls before (thread t) p q st.counted refl refl refl refl refl,
     )
 
-resolved_is : (decls : List Decl) → Clean decls → ReturnsRight decls → (before ds : List Decl) (i : ℕ) (p : core.Program) → decls ≡ before ++ ds → i ≡ length before → ((j : ℕ) (d : Decl) → slice_get ds j ≡ Some d → slice_get decls (i + j) ≡ Some d) → Counted decls before p →
+resolved_is : (decls : List Decl) → Clean decls → ReturnsRight decls →
+    (before ds : List Decl) (i : ℕ) (p : core.Program) → decls ≡ before ++ ds → i ≡ length before →
+    ((j : ℕ) (d : Decl) → slice_get ds j ≡ Some d → slice_get decls (i + j) ≡ Some d) → Counted decls before p →
     NoneIn (total_faults decls before ds) → total (cells_of decls) before ≤ CELL_LIMIT → total objects_of before ≤ OBJECT_LIMIT → (q : core.Program) × (resolved_from decls i (Some p) ds ≡ Some q)
 resolved_is decls clean right before [] i p parts len at n none cells objects = (p, refl)
 resolved_is decls clean right before (d ∷ ds) i p parts len at n none cells objects =

@@ -1,30 +1,40 @@
 -- Sections and threads for which no fault is listed are resolved.
-use Rattle.std.proofs.Common.{◌≡◌, ℕ, suc, ◌+◌, ◌≤◌, List, [], ◌∷◌, ◌++◌, length, Option, Some, None, Bool, true, false, ◌⊎◌, inl, inr, refl, sym, ap, ◌∙◌, subst, if◌then◌else◌, arith}
+use Rattle.std.proofs.Common.{◌≡◌, ℕ, suc, ◌+◌, ◌≤◌, List, [], ◌∷◌, ◌++◌, length, Option, Some, None, Bool, true}
+use Rattle.std.proofs.Common.{false, ◌⊎◌, inl, inr, refl, sym, ap, ◌∙◌, subst, if◌then◌else◌, arith}
 use Rattle.std.specs.Prelude.{nat_le, ◌==◌}
 use Rattle.std.proofs.lemmas.Bool.{eqb-true}
 use Rattle.source.specs.declared.fault.Code.TheVariants.{UnknownName, WrongType, WrongArgumentCount, LimitExceeded}
-use Rattle.syntax.specs.Returns.{ReturnsRight, HasReturn, this_returns, returns_inside, later_returns, HasStrayReturn, this_early, stray_inside, later_stray, EndsInReturn, IsSectionFault, no_result, stray, missing, IsReturnFault, this_section, this_helper, later_section}
-use Rattle.syntax.specs.Trees.{ValueType, Const, Param, Section, Item, call, repeat, Items, no_items, item, Stmts, stmt, Decl, lock, struct, global, array, pool, init, atomic, helper, thread}
+use Rattle.syntax.specs.Returns.{ReturnsRight, HasReturn, this_returns, returns_inside, later_returns, HasStrayReturn}
+use Rattle.syntax.specs.Returns.{this_early, stray_inside, later_stray, EndsInReturn, IsSectionFault, no_result}
+use Rattle.syntax.specs.Returns.{stray, missing, IsReturnFault, this_section, this_helper, later_section}
+use Rattle.syntax.specs.Trees.{ValueType, Const, Param, Section, Item, call, repeat, Items, no_items, item, Stmts}
+use Rattle.syntax.specs.Trees.{stmt, Decl, lock, struct, global, array, pool, init, atomic, helper, thread}
 use Rattle.core_lang.specs.declared.value.ValueType as core_type
 use Rattle.core_lang.specs.declared.tree.LocalKind.TheVariants as kind
 use Rattle.resolution.specs.Core as core
 use Rattle.source.specs.Texts.{SOURCE_LIMIT}
 use Rattle.resolution.specs.declared.body_limits.BodyLimits.{BodyLimits}
 use Rattle.resolution.specs.Scopes as scope
-use Rattle.resolution.specs.Scopes.{◌>>=◌, Scope, outside, a_decl, number_at, the_decl, type_of, result_of, bound, entered}
+use Rattle.resolution.specs.Scopes.{◌>>=◌, Scope, outside, a_decl, number_at, the_decl, type_of, result_of, bound}
+use Rattle.resolution.specs.Scopes.{entered}
 use Rattle.resolution.specs.Constants.{added, typed_arguments}
-use Rattle.resolution.specs.Resolution.{ahead_of, entry, core_locals, section_with, section_of, typed_section, call_of, copies, joined, one_call, typed_item, typed_items}
+use Rattle.resolution.specs.Resolution.{ahead_of, entry, core_locals, section_with, section_of, typed_section}
+use Rattle.resolution.specs.Resolution.{call_of, copies, joined, one_call, typed_item, typed_items}
 use Rattle.resolution.specs.Statements.{typed_body, Body, after_all}
 use Rattle.resolution.specs.Where.{Has, first, further, HasBody, of_section, of_helper}
-use Rattle.resolution.specs.Working.FaultLists.{one, one_if, unfit, type_faults, argument_faults, local_faults, stmts_faults, param_faults, result_faults, section_faults, call_faults, item_faults, items_faults}
+use Rattle.resolution.specs.Working.FaultLists.{one, one_if, unfit, type_faults, argument_faults, local_faults}
+use Rattle.resolution.specs.Working.FaultLists.{stmts_faults, param_faults, result_faults, section_faults}
+use Rattle.resolution.specs.Working.FaultLists.{call_faults, item_faults, items_faults}
 use Rattle.resolution.proofs.TrueStatements.{entered_same}
-use Rattle.resolution.proofs.FaultlessExpressions.{NoneIn, none_left, none_right, not_one, unfit_not, decl_has, decl_typed, Clean, Typing, type_is, AllTyped, Context}
+use Rattle.resolution.proofs.FaultlessExpressions.{NoneIn, none_left, none_right, not_one, unfit_not, decl_has}
+use Rattle.resolution.proofs.FaultlessExpressions.{decl_typed, Clean, Typing, type_is, AllTyped, Context}
 use Rattle.resolution.proofs.FaultlessStatements.{HasResult, typed_push, all_context, body_is}
 use Rattle.resolution.proofs.FaultlessConstants.{arguments_are}
 
 -- ---- scopes
 
-pub entered_context : (sc : Scope) → Context sc → (n : ℕ) (ps : List Param) → NoneIn (param_faults sc n ps) → Context (entered sc ps)
+pub entered_context : (sc : Scope) → Context sc → (n : ℕ) (ps : List Param) → NoneIn (param_faults sc n ps) →
+    Context (entered sc ps)
 entered_context sc c n [] none = c
 entered_context sc c n (p ∷ ps) none =
     let a = local_faults sc p.name ++ one_if (nat_le sc.limits.parameters n) LimitExceeded p.name.span.start in
@@ -40,14 +50,17 @@ entered_result sc [] = refl
 entered_result sc (p ∷ ps) = entered_result (bound sc kind.Parameter p.name (type_of (outside sc.decls) p.value_type)) ps
 
 -- no more locals than have numbers
-few_locals : (decls : List Decl) (limits : BodyLimits) (s : Section) → HasBody decls limits s → limits.locals ≤ SOURCE_LIMIT
+few_locals : (decls : List Decl) (limits : BodyLimits) (s : Section) → HasBody decls limits s →
+    limits.locals ≤ SOURCE_LIMIT
 few_locals decls limits s (of_section h) = omega arith
 few_locals decls limits s (of_helper h) = omega arith
 
-pub entry_context : (decls : List Decl) → Clean decls → (limits : BodyLimits) (s : Section) → HasBody decls limits s → NoneIn (param_faults (ahead_of decls limits s) 0 s.params) → Context (entry decls limits s)
+pub entry_context : (decls : List Decl) → Clean decls → (limits : BodyLimits) (s : Section) → HasBody decls limits s →
+    NoneIn (param_faults (ahead_of decls limits s) 0 s.params) → Context (entry decls limits s)
 entry_context decls clean limits s h none = entered_context (ahead_of decls limits s) (record { clean = clean; locals = λ n l e. cc; few = few_locals decls limits s h }) 0 s.params none
 
-locals_are : (decls : List Decl) (ls : List scope.Local) → AllTyped decls ls → (xs : List core.Local) × (core_locals ls ≡ Some xs)
+locals_are : (decls : List Decl) (ls : List scope.Local) → AllTyped decls ls →
+    (xs : List core.Local) × (core_locals ls ≡ Some xs)
 locals_are decls [] all = ([], refl)
 locals_are decls (l ∷ ls) all =
     let t = all 0 l refl in
@@ -62,30 +75,36 @@ stray_returns ss at (this_early h) = this_returns h
 stray_returns ss at (stray_inside h) = returns_inside h
 stray_returns (stmt s more) at (later_stray h) = later_returns (stray_returns more at h)
 
-section_in_right : (decls : List Decl) (s : Section) → Has decls (atomic s) → (at : ℕ) → IsSectionFault s at → IsReturnFault decls at
+section_in_right : (decls : List Decl) (s : Section) → Has decls (atomic s) → (at : ℕ) → IsSectionFault s at →
+    IsReturnFault decls at
 section_in_right [] s h at f = elim h [ ]
 section_in_right (d ∷ ds) s first at f = this_section f
 section_in_right (d ∷ ds) s (further h) at f = later_section (section_in_right ds s h at f)
 
-helper_in_right : (decls : List Decl) (s : Section) → Has decls (helper s) → (at : ℕ) → IsSectionFault s at → IsReturnFault decls at
+helper_in_right : (decls : List Decl) (s : Section) → Has decls (helper s) → (at : ℕ) → IsSectionFault s at →
+    IsReturnFault decls at
 helper_in_right [] s h at f = elim h [ ]
 helper_in_right (d ∷ ds) s first at f = this_helper f
 helper_in_right (d ∷ ds) s (further h) at f = later_section (helper_in_right ds s h at f)
 
-section_right : (decls : List Decl) (limits : BodyLimits) (s : Section) → HasBody decls limits s → (at : ℕ) → IsSectionFault s at → IsReturnFault decls at
+section_right : (decls : List Decl) (limits : BodyLimits) (s : Section) → HasBody decls limits s → (at : ℕ) →
+    IsSectionFault s at → IsReturnFault decls at
 section_right decls limits s (of_section h) at f = section_in_right decls s h at f
 section_right decls limits s (of_helper h) at f = helper_in_right decls s h at f
 
 -- ---- sections and helpers
 
-result_typed : (decls : List Decl) (s : Section) (t : ValueType) → s.result ≡ Some t → NoneIn (result_faults decls s.result) → Typing decls (result_of decls s)
+result_typed : (decls : List Decl) (s : Section) (t : ValueType) → s.result ≡ Some t →
+    NoneIn (result_faults decls s.result) → Typing decls (result_of decls s)
 result_typed decls s t is none =
     subst (λ (o : Option ValueType). Typing decls (o >>= λ v. type_of (outside decls) v)) (sym is) (type_is (outside decls) t (subst (λ (o : Option ValueType). NoneIn (result_faults decls o)) is none))
 
-no_end : (ss : Stmts) (b : Body) → b.result ≡ None → (EndsInReturn ss → (r : core.Return) × (b.result ≡ Some r)) → EndsInReturn ss → ⊥
+no_end : (ss : Stmts) (b : Body) → b.result ≡ None → (EndsInReturn ss → (r : core.Return) × (b.result ≡ Some r)) →
+    EndsInReturn ss → ⊥
 no_end ss b none some h = let r = some h in let e : None ≡ Some r.0 = sym none ∙ r.1 in cc
 
-section_put : (decls : List Decl) (limits : BodyLimits) (s : Section) (ls : List core.Local) (b : Body) → ReturnsRight decls → HasBody decls limits s → NoneIn (result_faults decls s.result) →
+section_put : (decls : List Decl) (limits : BodyLimits) (s : Section) (ls : List core.Local) (b : Body) →
+    ReturnsRight decls → HasBody decls limits s → NoneIn (result_faults decls s.result) →
     (((at : ℕ) → HasReturn s.body.stmts at → ⊥) → b.result ≡ None) → (EndsInReturn s.body.stmts → (r : core.Return) × (b.result ≡ Some r)) →
     (o : Option ValueType) → s.result ≡ o → (q : Option core.Return) → b.result ≡ q → (x : core.Section) × (section_with decls s ls b.stmts o q ≡ Some x)
 section_put decls limits s ls b right h none never some None is None given = (_, refl)
@@ -100,16 +119,21 @@ section_put decls limits s ls b right h none never some (Some t) is (Some r) giv
     )
 
 -- there is no `return`, or there is a result
-returns_or : (decls : List Decl) (limits : BodyLimits) (s : Section) → ReturnsRight decls → HasBody decls limits s → NoneIn (result_faults decls s.result) → (o : Option ValueType) → s.result ≡ o → ((at : ℕ) → HasReturn s.body.stmts at → ⊥) ⊎ HasResult (entry decls limits s)
+returns_or : (decls : List Decl) (limits : BodyLimits) (s : Section) → ReturnsRight decls → HasBody decls limits s →
+    NoneIn (result_faults decls s.result) → (o : Option ValueType) → s.result ≡ o →
+    ((at : ℕ) → HasReturn s.body.stmts at → ⊥) ⊎ HasResult (entry decls limits s)
 returns_or decls limits s right h none None is = inl (λ at i. right at (section_right decls limits s h at (no_result is i)))
 returns_or decls limits s right h none (Some t) is =
     inr (subst (λ (ds : List Decl). Typing ds (entry decls limits s).result) (sym (entered_same (ahead_of decls limits s) s.params)) (subst (λ (o : Option core_type.ValueType). Typing decls o) (sym (entered_result (ahead_of decls limits s) s.params)) (result_typed decls s t is none)))
 
-stray_right : (decls : List Decl) (limits : BodyLimits) (s : Section) → ReturnsRight decls → HasBody decls limits s → (o : Option ValueType) → s.result ≡ o → (at : ℕ) → HasStrayReturn s.body.stmts at → ⊥
+stray_right : (decls : List Decl) (limits : BodyLimits) (s : Section) → ReturnsRight decls → HasBody decls limits s →
+    (o : Option ValueType) → s.result ≡ o → (at : ℕ) → HasStrayReturn s.body.stmts at → ⊥
 stray_right decls limits s right h None is at i = right at (section_right decls limits s h at (no_result is (stray_returns s.body.stmts at i)))
 stray_right decls limits s right h (Some t) is at i = right at (section_right decls limits s h at (stray is i))
 
-pub section_is : (decls : List Decl) → Clean decls → ReturnsRight decls → (limits : BodyLimits) (s : Section) → HasBody decls limits s → NoneIn (section_faults decls limits s) → (x : core.Section) × (typed_section decls limits s ≡ Some x)
+pub section_is : (decls : List Decl) → Clean decls → ReturnsRight decls → (limits : BodyLimits) (s : Section) →
+    HasBody decls limits s → NoneIn (section_faults decls limits s) →
+    (x : core.Section) × (typed_section decls limits s ≡ Some x)
 section_is decls clean right limits s h none =
     let a = result_faults decls s.result in
     let b = param_faults (ahead_of decls limits s) 0 s.params in
@@ -124,7 +148,9 @@ section_is decls clean right limits s h none =
 
 -- ---- threads
 
-argument_if : (decls : List Decl) → Clean decls → (p : ℕ) (s : Section) (number : ℕ) (cs : List Const) (b : Bool) → (length cs == length s.params) ≡ b → NoneIn (if b then argument_faults decls s.params cs else one WrongArgumentCount p) →
+argument_if : (decls : List Decl) → Clean decls → (p : ℕ) (s : Section) (number : ℕ) (cs : List Const) (b : Bool) →
+    (length cs == length s.params) ≡ b →
+    NoneIn (if b then argument_faults decls s.params cs else one WrongArgumentCount p) →
     (x : core.Call) × ((typed_arguments decls s.params cs >>= λ vs. Some (record { section = number; arguments = vs })) ≡ Some x)
 argument_if decls clean p s number cs true e none =
     let vs = arguments_are decls clean s.params cs (eqb-true (length cs) (length s.params) e) none in
@@ -132,10 +158,13 @@ argument_if decls clean p s number cs true e none =
 argument_if decls clean p s number cs false e none = absurd (not_one WrongArgumentCount p none)
 
 -- what is declared has its type, so it is told where it is no section
-no_section : (decls : List Decl) → Clean decls → (p n : ℕ) (d : Decl) → Has decls d → NoneIn (unfit decls WrongType p (a_decl n d)) → ⊥
+no_section : (decls : List Decl) → Clean decls → (p n : ℕ) (d : Decl) → Has decls d →
+    NoneIn (unfit decls WrongType p (a_decl n d)) → ⊥
 no_section decls clean p n d h none = unfit_not decls WrongType p (a_decl n d) (decl_typed decls clean n d h) none
 
-call_is : (decls : List Decl) → Clean decls → (p : ℕ) (o : Option (ℕ × Decl)) (cs : List Const) → ((k : ℕ) (d : Decl) → ◌≡◌ {A = Option (ℕ × Decl)} o (Some (k, d)) → Has decls d) → NoneIn (call_faults decls p o cs) → (x : core.Call) × (call_of decls o cs ≡ Some x)
+call_is : (decls : List Decl) → Clean decls → (p : ℕ) (o : Option (ℕ × Decl)) (cs : List Const) →
+    ((k : ℕ) (d : Decl) → ◌≡◌ {A = Option (ℕ × Decl)} o (Some (k, d)) → Has decls d) →
+    NoneIn (call_faults decls p o cs) → (x : core.Call) × (call_of decls o cs ≡ Some x)
 call_is decls clean p None cs up none = absurd (not_one UnknownName p none)
 call_is decls clean p (Some (n, atomic s)) cs up none = argument_if decls clean p s (number_at decls n (atomic s)) cs (length cs == length s.params) refl none
 call_is decls clean p (Some (n, helper x)) cs up none = absurd (no_section decls clean p n (helper x) (up n (helper x) refl) none)
@@ -154,11 +183,13 @@ joined_is : (o r : Option (List core.Call)) → Calls o → Calls r → Calls (j
 joined_is o r a b = (a.0 ++ b.0, ap (λ (x : Option (List core.Call)). joined x r) a.1 ∙ ap (joined (Some a.0)) b.1)
 
 mutual
-  pub item_is : (decls : List Decl) → Clean decls → (i : Item) → NoneIn (item_faults decls i) → Calls (typed_item decls i)
+  pub item_is : (decls : List Decl) → Clean decls → (i : Item) → NoneIn (item_faults decls i) →
+      Calls (typed_item decls i)
   item_is decls clean (call c) none = let x = call_is decls clean c.section.span.start (the_decl decls c.section.text) c.arguments (λ k d e. decl_has decls c.section.text k d e) none in (x.0 ∷ [], ap one_call x.1)
   item_is decls clean (repeat n is) none = let r = items_are decls clean is none in (copies n.value r.0, ap (λ (o : Option (List core.Call)). o >>= λ xs. Some (copies n.value xs)) r.1)
 
-  pub items_are : (decls : List Decl) → Clean decls → (is : Items) → NoneIn (items_faults decls is) → Calls (typed_items decls is)
+  pub items_are : (decls : List Decl) → Clean decls → (is : Items) → NoneIn (items_faults decls is) →
+      Calls (typed_items decls is)
   items_are decls clean no_items none = ([], refl)
   items_are decls clean (item i is) none =
       joined_is (typed_item decls i) (typed_items decls is) (item_is decls clean i (none_left (item_faults decls i) (items_faults decls is) none)) (items_are decls clean is (none_right (item_faults decls i) (items_faults decls is) none))

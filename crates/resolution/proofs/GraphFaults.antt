@@ -16,17 +16,20 @@ in_either f [] b h = inr h
 in_either f (g ∷ a) b (inl e) = inl (inl e)
 in_either f (g ∷ a) b (inr h) = elim (in_either f a b h) [ inl x ↦ inl (inr x) | inr y ↦ inr y ]
 
-pub of_declarations : (decls : List Decl) (f : Mistake) → IsAmong f (declaration_faults decls) → IsAmong f (program_faults decls)
+pub of_declarations : (decls : List Decl) (f : Mistake) → IsAmong f (declaration_faults decls) →
+    IsAmong f (program_faults decls)
 of_declarations decls f i = m.in_left f (declaration_faults decls) (graph_faults (tree_graph decls)) i
 
-pub of_graph : (decls : List Decl) (f : Mistake) → IsAmong f (graph_faults (tree_graph decls)) → IsAmong f (program_faults decls)
+pub of_graph : (decls : List Decl) (f : Mistake) → IsAmong f (graph_faults (tree_graph decls)) →
+    IsAmong f (program_faults decls)
 of_graph decls f i = m.in_right f (declaration_faults decls) (graph_faults (tree_graph decls)) i
 
 -- where there is no least, there is none of either
 pub clean_of : (decls : List Decl) → least_of None (program_faults decls) ≡ None → Clean decls
 clean_of decls e = λ f i. subst (IsAmong f) (least_none (program_faults decls) e) (of_declarations decls f i)
 
-pub no_graph_fault : (decls : List Decl) → least_of None (program_faults decls) ≡ None → FaultsAreListed → HasNoGraphFault (tree_graph decls)
+pub no_graph_fault : (decls : List Decl) → least_of None (program_faults decls) ≡ None → FaultsAreListed →
+    HasNoGraphFault (tree_graph decls)
 no_graph_fault decls e listed = λ code p h.
     let f : Mistake = record { code = code; start = p } in
     subst (IsAmong f) (least_none (program_faults decls) e) (of_graph decls f (listed (tree_graph decls) code p h))

@@ -1,8 +1,11 @@
 -- What a resolved program holds of its declarations.
-use Rattle.std.proofs.Common.{◌≡◌, ℕ, suc, ◌+◌, ◌≤◌, List, [], ◌∷◌, ◌++◌, length, Option, Some, refl, sym, ap, ◌∙◌, subst, arith}
+use Rattle.std.proofs.Common.{◌≡◌, ℕ, suc, ◌+◌, ◌≤◌, List, [], ◌∷◌, ◌++◌, length, Option, Some, refl, sym, ap, ◌∙◌}
+use Rattle.std.proofs.Common.{subst, arith}
 use Rattle.std.specs.Prelude.{slice_get, take, ⊤, min}
 use Rattle.std.proofs.lemmas.Option.{slice_get_within}
-use Rattle.syntax.specs.Trees.{Ident, Member, lock_member, final_member, field_member, Final, Field, Struct, Variable, Array, Pool, Section, Decl, lock, struct, global, array, pool, init, atomic, helper, thread}
+use Rattle.syntax.specs.Trees.{Ident, Member, lock_member, final_member, field_member, Final, Field, Struct, Variable}
+use Rattle.syntax.specs.Trees.{Array, Pool, Section, Decl, lock, struct, global, array, pool, init, atomic, helper}
+use Rattle.syntax.specs.Trees.{thread}
 use Rattle.core_lang.specs.declared.value.Value.{Value}
 use Rattle.core_lang.specs.declared.value.ValueType as core_type
 use Rattle.core_lang.specs.declared.typed.Cell.{Cell}
@@ -10,18 +13,21 @@ use Rattle.core_lang.specs.declared.typed.Owner.TheVariants as owner
 use Rattle.core_lang.specs.Typing.{if_global}
 use Rattle.resolution.specs.Core as core
 use Rattle.resolution.specs.Limits.{CELL_LIMIT, MEMBER_LIMIT, section_limits, helper_limits}
-use Rattle.resolution.specs.Scopes.{◌>>=◌, outside, type_of, struct_named, count, alike, number_at, number_in, structs_in, the_struct}
+use Rattle.resolution.specs.Scopes.{◌>>=◌, outside, type_of, struct_named, count, alike, number_at, number_in}
+use Rattle.resolution.specs.Scopes.{structs_in, the_struct}
 use Rattle.resolution.specs.Numbers.{total, classes_of, objects_of, cells_of, classes_ahead, cells_ahead, objects_ahead}
 use Rattle.resolution.specs.Expressions.{cell_of, member_number}
 use Rattle.resolution.specs.Constants.{opened}
-use Rattle.resolution.specs.Resolution.{StructBuilder, empty_struct, nothing_yet, array_added, pool_added, typed_section, resolved}
+use Rattle.resolution.specs.Resolution.{StructBuilder, empty_struct, nothing_yet, array_added, pool_added}
+use Rattle.resolution.specs.Resolution.{typed_section, resolved}
 use Rattle.resolution.proofs.FaultlessExpressions.{struct_has, Clean}
 use Rattle.resolution.proofs.FaultlessMembers.{is_field, is_final, count_few}
 use Rattle.resolution.proofs.FaultlessPrograms.{struct_few}
 use Rattle.resolution.proofs.TypedResolvedExprs.{Sound}
 use Rattle.resolution.proofs.LaidLists.{Rows, rows_left, rows_right, rows_push, get_last, get_behind, get_pushed}
 use Rattle.resolution.proofs.LaidStages.{fields_in, finals_in, locks_in, field_numbered, final_numbered, Adds}
-use Rattle.resolution.proofs.LaidWalk.{LockRow, ClassRow, FinalRow, FieldRow, shaped, fields_counted, chain_leaves, elements_leave, Step, Landed, lands, walked_whole}
+use Rattle.resolution.proofs.LaidWalk.{LockRow, ClassRow, FinalRow, FieldRow, shaped, fields_counted, chain_leaves}
+use Rattle.resolution.proofs.LaidWalk.{elements_leave, Step, Landed, lands, walked_whole}
 
 -- ---- lists that a step leaves as they are
 
@@ -36,7 +42,8 @@ KeepsClasses (atomic x) p q = q.classes ≡ p.classes
 KeepsClasses (helper x) p q = q.classes ≡ p.classes
 KeepsClasses (thread x) p q = q.classes ≡ p.classes
 
-pub keeps_classes : (decls : List Decl) (i : ℕ) (p : core.Program) (d : Decl) (q : core.Program) → Adds decls i p d q → KeepsClasses d p q
+pub keeps_classes : (decls : List Decl) (i : ℕ) (p : core.Program) (d : Decl) (q : core.Program) →
+    Adds decls i p d q → KeepsClasses d p q
 keeps_classes decls i p (lock x) q a = tt
 keeps_classes decls i p (struct x) q a = tt
 keeps_classes decls i p (global x) q a = ap (λ (z : core.Program). z.classes) (sym a.7)
@@ -58,7 +65,8 @@ KeepsStructs (atomic x) p q = q.structs ≡ p.structs
 KeepsStructs (helper x) p q = q.structs ≡ p.structs
 KeepsStructs (thread x) p q = q.structs ≡ p.structs
 
-pub keeps_structs : (decls : List Decl) (i : ℕ) (p : core.Program) (d : Decl) (q : core.Program) → Adds decls i p d q → KeepsStructs d p q
+pub keeps_structs : (decls : List Decl) (i : ℕ) (p : core.Program) (d : Decl) (q : core.Program) →
+    Adds decls i p d q → KeepsStructs d p q
 keeps_structs decls i p (lock x) q a = ap (λ (z : core.Program). z.structs) (sym a)
 keeps_structs decls i p (struct x) q a = tt
 keeps_structs decls i p (global x) q a = ap (λ (z : core.Program). z.structs) (sym a.7)
@@ -80,7 +88,8 @@ KeepsGlobals (atomic x) p q = q.globals ≡ p.globals
 KeepsGlobals (helper x) p q = q.globals ≡ p.globals
 KeepsGlobals (thread x) p q = q.globals ≡ p.globals
 
-pub keeps_globals : (decls : List Decl) (i : ℕ) (p : core.Program) (d : Decl) (q : core.Program) → Adds decls i p d q → KeepsGlobals d p q
+pub keeps_globals : (decls : List Decl) (i : ℕ) (p : core.Program) (d : Decl) (q : core.Program) →
+    Adds decls i p d q → KeepsGlobals d p q
 keeps_globals decls i p (lock x) q a = ap (λ (z : core.Program). z.globals) (sym a)
 keeps_globals decls i p (struct x) q a = ap (λ (z : core.Program). z.globals) (sym a.2)
 keeps_globals decls i p (global x) q a = tt
@@ -102,7 +111,8 @@ KeepsArrays (atomic x) p q = q.arrays ≡ p.arrays
 KeepsArrays (helper x) p q = q.arrays ≡ p.arrays
 KeepsArrays (thread x) p q = q.arrays ≡ p.arrays
 
-pub keeps_arrays : (decls : List Decl) (i : ℕ) (p : core.Program) (d : Decl) (q : core.Program) → Adds decls i p d q → KeepsArrays d p q
+pub keeps_arrays : (decls : List Decl) (i : ℕ) (p : core.Program) (d : Decl) (q : core.Program) → Adds decls i p d q →
+    KeepsArrays d p q
 keeps_arrays decls i p (lock x) q a = ap (λ (z : core.Program). z.arrays) (sym a)
 keeps_arrays decls i p (struct x) q a = ap (λ (z : core.Program). z.arrays) (sym a.2)
 keeps_arrays decls i p (global x) q a = ap (λ (z : core.Program). z.arrays) (sym a.7)
@@ -124,7 +134,8 @@ KeepsPools (atomic x) p q = q.pools ≡ p.pools
 KeepsPools (helper x) p q = q.pools ≡ p.pools
 KeepsPools (thread x) p q = q.pools ≡ p.pools
 
-pub keeps_pools : (decls : List Decl) (i : ℕ) (p : core.Program) (d : Decl) (q : core.Program) → Adds decls i p d q → KeepsPools d p q
+pub keeps_pools : (decls : List Decl) (i : ℕ) (p : core.Program) (d : Decl) (q : core.Program) → Adds decls i p d q →
+    KeepsPools d p q
 keeps_pools decls i p (lock x) q a = ap (λ (z : core.Program). z.pools) (sym a)
 keeps_pools decls i p (struct x) q a = ap (λ (z : core.Program). z.pools) (sym a.2)
 keeps_pools decls i p (global x) q a = ap (λ (z : core.Program). z.pools) (sym a.7)
@@ -146,7 +157,8 @@ KeepsSections (atomic x) p q = ⊤
 KeepsSections (helper x) p q = q.sections ≡ p.sections
 KeepsSections (thread x) p q = q.sections ≡ p.sections
 
-pub keeps_sections : (decls : List Decl) (i : ℕ) (p : core.Program) (d : Decl) (q : core.Program) → Adds decls i p d q → KeepsSections d p q
+pub keeps_sections : (decls : List Decl) (i : ℕ) (p : core.Program) (d : Decl) (q : core.Program) →
+    Adds decls i p d q → KeepsSections d p q
 keeps_sections decls i p (lock x) q a = ap (λ (z : core.Program). z.sections) (sym a)
 keeps_sections decls i p (struct x) q a = ap (λ (z : core.Program). z.sections) (sym a.2)
 keeps_sections decls i p (global x) q a = ap (λ (z : core.Program). z.sections) (sym a.7)
@@ -168,7 +180,8 @@ KeepsHelpers (atomic x) p q = q.helpers ≡ p.helpers
 KeepsHelpers (helper x) p q = ⊤
 KeepsHelpers (thread x) p q = q.helpers ≡ p.helpers
 
-pub keeps_helpers : (decls : List Decl) (i : ℕ) (p : core.Program) (d : Decl) (q : core.Program) → Adds decls i p d q → KeepsHelpers d p q
+pub keeps_helpers : (decls : List Decl) (i : ℕ) (p : core.Program) (d : Decl) (q : core.Program) →
+    Adds decls i p d q → KeepsHelpers d p q
 keeps_helpers decls i p (lock x) q a = ap (λ (z : core.Program). z.helpers) (sym a)
 keeps_helpers decls i p (struct x) q a = ap (λ (z : core.Program). z.helpers) (sym a.2)
 keeps_helpers decls i p (global x) q a = ap (λ (z : core.Program). z.helpers) (sym a.7)
@@ -190,7 +203,8 @@ KeepsThreads (atomic x) p q = q.threads ≡ p.threads
 KeepsThreads (helper x) p q = q.threads ≡ p.threads
 KeepsThreads (thread x) p q = ⊤
 
-pub keeps_threads : (decls : List Decl) (i : ℕ) (p : core.Program) (d : Decl) (q : core.Program) → Adds decls i p d q → KeepsThreads d p q
+pub keeps_threads : (decls : List Decl) (i : ℕ) (p : core.Program) (d : Decl) (q : core.Program) →
+    Adds decls i p d q → KeepsThreads d p q
 keeps_threads decls i p (lock x) q a = ap (λ (z : core.Program). z.threads) (sym a)
 keeps_threads decls i p (struct x) q a = ap (λ (z : core.Program). z.threads) (sym a.2)
 keeps_threads decls i p (global x) q a = ap (λ (z : core.Program). z.threads) (sym a.7)
@@ -206,7 +220,8 @@ keeps_threads decls i p (thread x) q a = tt
 pub under : (n limit : ℕ) → n ≤ limit → min n limit ≡ n
 under n limit le = omega (arith, le)
 
-pub number_landed : (decls : List Decl) (whole : core.Program) (i : ℕ) (d : Decl) (l : Landed decls whole i d) → number_at decls i d ≡ count (alike d) l.before
+pub number_landed : (decls : List Decl) (whole : core.Program) (i : ℕ) (d : Decl) (l : Landed decls whole i d) →
+    number_at decls i d ≡ count (alike d) l.before
 number_landed decls whole i d l = ap (λ (n : ℕ). count (alike d) (take n decls)) (sym l.place) ∙ ap (count (alike d)) l.step.ahead
 
 pub total_landed : (decls : List Decl) (whole : core.Program) (i : ℕ) (d : Decl) (l : Landed decls whole i d) (of : Decl → ℕ) → total of (take i decls) ≡ total of l.before
@@ -287,14 +302,16 @@ pub record StructAt (decls : List Decl) (whole : core.Program) (k : ℕ) (x : St
   pub at : slice_get decls place ≡ Some (struct x)
   pub number : number_at decls place (struct x) ≡ k
   pub locks : Rows LockRow (classes_ahead decls place) (locks_in x.members) y.locks
-  pub classes : (l : ℕ) (z : Ident) → slice_get (locks_in x.members) l ≡ Some z → slice_get whole.classes (classes_ahead decls place + l) ≡ Some (core.lock_field k l)
+  pub classes : (l : ℕ) (z : Ident) → slice_get (locks_in x.members) l ≡ Some z →
+      slice_get whole.classes (classes_ahead decls place + l) ≡ Some (core.lock_field k l)
   pub finals : Rows (FinalRow decls) 0 (finals_in x.members) y.finals
   pub fields : Rows (FieldRow decls place x.members) 0 (fields_in x.members) y.fields
 
 abbrev AllStructs : List Decl → core.Program → List Decl → core.Program → Type 0
 AllStructs decls whole before p = Rows (StructAt decls whole) 0 (structs_in before) p.structs
 
-no_more_structs : (before : List Decl) (d : Decl) → structs_in (d ∷ []) ≡ [] → structs_in (before ++ d ∷ []) ≡ structs_in before
+no_more_structs : (before : List Decl) (d : Decl) → structs_in (d ∷ []) ≡ [] →
+    structs_in (before ++ d ∷ []) ≡ structs_in before
 no_more_structs [] d e = e
 no_more_structs (lock x ∷ before) d e = no_more_structs before d e
 no_more_structs (struct x ∷ before) d e = ap (λ (xs : List Struct). x ∷ xs) (no_more_structs before d e)
@@ -341,7 +358,8 @@ struct_landed decls whole before x p q st =
       fields = subst (λ (fs : List core.Field). Rows (FieldRow decls (length before) x.members) 0 (fields_in x.members) fs) (sym r.is_fields) r.field_rows;
     }
 
-structs_next : (decls : List Decl) (whole : core.Program) (before : List Decl) (d : Decl) (p q : core.Program) → Step decls whole before d p q → AllStructs decls whole before p → AllStructs decls whole (before ++ d ∷ []) q
+structs_next : (decls : List Decl) (whole : core.Program) (before : List Decl) (d : Decl) (p q : core.Program) →
+    Step decls whole before d p q → AllStructs decls whole before p → AllStructs decls whole (before ++ d ∷ []) q
 structs_next decls whole before (lock x) p q st h = subst (λ (zs : List core.Struct). Rows (StructAt decls whole) 0 (structs_in (before ++ lock x ∷ [])) zs) (sym (keeps_structs decls (length before) p (lock x) q st.adds)) (subst (λ (xs : List Struct). Rows (StructAt decls whole) 0 xs p.structs) (sym (no_more_structs before (lock x) refl)) h)
 structs_next decls whole before (struct x) p q st h =
     let y = st.adds.0.structure in
@@ -357,15 +375,20 @@ structs_next decls whole before (helper x) p q st h = subst (λ (zs : List core.
 structs_next decls whole before (thread x) p q st h = subst (λ (zs : List core.Struct). Rows (StructAt decls whole) 0 (structs_in (before ++ thread x ∷ [])) zs) (sym (keeps_structs decls (length before) p (thread x) q st.adds)) (subst (λ (xs : List Struct). Rows (StructAt decls whole) 0 xs p.structs) (sym (no_more_structs before (thread x) refl)) h)
 
 -- the structs of a program are those that are declared
-pub structs_are : (decls : List Decl) → Clean decls → (whole : core.Program) → resolved decls ≡ Some whole → Rows (StructAt decls whole) 0 (structs_in decls) whole.structs
+pub structs_are : (decls : List Decl) → Clean decls → (whole : core.Program) → resolved decls ≡ Some whole →
+    Rows (StructAt decls whole) 0 (structs_in decls) whole.structs
 structs_are decls clean whole is = walked_whole decls clean whole is (AllStructs decls whole) tt (structs_next decls whole)
 
-pub struct_of_number : (decls : List Decl) → Clean decls → (whole : core.Program) → resolved decls ≡ Some whole → (s : ℕ) (x : Struct) → the_struct decls s ≡ Some x → (y : core.Struct) × (slice_get whole.structs s ≡ Some y) × StructAt decls whole s x y
+pub struct_of_number : (decls : List Decl) → Clean decls → (whole : core.Program) → resolved decls ≡ Some whole →
+    (s : ℕ) (x : Struct) → the_struct decls s ≡ Some x →
+    (y : core.Struct) × (slice_get whole.structs s ≡ Some y) × StructAt decls whole s x y
 struct_of_number decls clean whole is s x e =
     let r = rows_left (StructAt decls whole) 0 (structs_in decls) whole.structs (structs_are decls clean whole is) s x e in
     (r.0, r.1, subst (λ (n : ℕ). StructAt decls whole n x r.0) (let z : 0 + s ≡ s = omega arith in z) r.2)
 
-pub struct_by_number : (decls : List Decl) → Clean decls → (whole : core.Program) → resolved decls ≡ Some whole → (s : ℕ) (y : core.Struct) → slice_get whole.structs s ≡ Some y → (x : Struct) × (the_struct decls s ≡ Some x) × StructAt decls whole s x y
+pub struct_by_number : (decls : List Decl) → Clean decls → (whole : core.Program) → resolved decls ≡ Some whole →
+    (s : ℕ) (y : core.Struct) → slice_get whole.structs s ≡ Some y →
+    (x : Struct) × (the_struct decls s ≡ Some x) × StructAt decls whole s x y
 struct_by_number decls clean whole is s y e =
     let r = rows_right (StructAt decls whole) 0 (structs_in decls) whole.structs (structs_are decls clean whole is) s y e in
     (r.0, r.1, subst (λ (n : ℕ). StructAt decls whole n r.0 y) (let z : 0 + s ≡ s = omega arith in z) r.2)
@@ -378,7 +401,9 @@ finals_counted (lock_member x ∷ ms) = finals_counted ms
 finals_counted (field_member x ∷ ms) = finals_counted ms
 finals_counted (final_member x ∷ ms) = ap suc (finals_counted ms)
 
-pub member_field : (decls : List Decl) → Clean decls → (x : Struct) (s m : ℕ) (f : Field) → the_struct decls s ≡ Some x → slice_get x.members m ≡ Some (field_member f) → slice_get (fields_in x.members) (member_number x.members m (field_member f)) ≡ Some f
+pub member_field : (decls : List Decl) → Clean decls → (x : Struct) (s m : ℕ) (f : Field) →
+    the_struct decls s ≡ Some x → slice_get x.members m ≡ Some (field_member f) →
+    slice_get (fields_in x.members) (member_number x.members m (field_member f)) ≡ Some f
 member_field decls clean x s m f is at =
     let h = field_numbered x.members m f at in
     let a = slice_get_within (fields_in x.members) (number_in x.members m (field_member f)) f h in
@@ -387,7 +412,9 @@ member_field decls clean x s m f is at =
     let d = struct_few decls clean x (struct_has decls s x is) in
     subst (λ (k : ℕ). slice_get (fields_in x.members) k ≡ Some f) (sym (under (number_in x.members m (field_member f)) MEMBER_LIMIT (let z : number_in x.members m (field_member f) ≤ MEMBER_LIMIT = omega (arith, a, b, c, d) in z))) h
 
-pub member_final : (decls : List Decl) → Clean decls → (x : Struct) (s m : ℕ) (f : Final) → the_struct decls s ≡ Some x → slice_get x.members m ≡ Some (final_member f) → slice_get (finals_in x.members) (member_number x.members m (final_member f)) ≡ Some f
+pub member_final : (decls : List Decl) → Clean decls → (x : Struct) (s m : ℕ) (f : Final) →
+    the_struct decls s ≡ Some x → slice_get x.members m ≡ Some (final_member f) →
+    slice_get (finals_in x.members) (member_number x.members m (final_member f)) ≡ Some f
 member_final decls clean x s m f is at =
     let h = final_numbered x.members m f at in
     let a = slice_get_within (finals_in x.members) (number_in x.members m (final_member f)) f h in
@@ -398,7 +425,8 @@ member_final decls clean x s m f is at =
 
 -- ---- the program has each thing with its type at its number
 
-pub sound_of : (decls : List Decl) → Clean decls → (whole : core.Program) → resolved decls ≡ Some whole → Sound decls whole
+pub sound_of : (decls : List Decl) → Clean decls → (whole : core.Program) → resolved decls ≡ Some whole →
+    Sound decls whole
 sound_of decls clean whole is = record {
   cell = λ n v t at ty.
       (let g = global_at decls clean whole is n v at in
@@ -439,7 +467,8 @@ pub record SectionAt (decls : List Decl) (k : ℕ) (x : core.Section) : Type 0 w
 abbrev AllSections : List Decl → core.Program → Type 0
 AllSections decls p = (k : ℕ) (x : core.Section) → slice_get p.sections k ≡ Some x → SectionAt decls k x
 
-sections_next : (decls : List Decl) (whole : core.Program) (before : List Decl) (d : Decl) (p q : core.Program) → Step decls whole before d p q → AllSections decls p → AllSections decls q
+sections_next : (decls : List Decl) (whole : core.Program) (before : List Decl) (d : Decl) (p q : core.Program) →
+    Step decls whole before d p q → AllSections decls p → AllSections decls q
 sections_next decls whole before (lock y) p q st h n x e = h n x (ap (λ (zs : List core.Section). slice_get zs n) (sym (keeps_sections decls (length before) p (lock y) q st.adds)) ∙ e)
 sections_next decls whole before (struct y) p q st h n x e = h n x (ap (λ (zs : List core.Section). slice_get zs n) (sym (keeps_sections decls (length before) p (struct y) q st.adds)) ∙ e)
 sections_next decls whole before (global y) p q st h n x e = h n x (ap (λ (zs : List core.Section). slice_get zs n) (sym (keeps_sections decls (length before) p (global y) q st.adds)) ∙ e)
@@ -457,7 +486,8 @@ sections_next decls whole before (thread y) p q st h n x e = h n x (ap (λ (zs :
 no_sections : (decls : List Decl) → AllSections decls nothing_yet
 no_sections decls k x e = cc
 
-pub sections_of : (decls : List Decl) → Clean decls → (whole : core.Program) → resolved decls ≡ Some whole → AllSections decls whole
+pub sections_of : (decls : List Decl) → Clean decls → (whole : core.Program) → resolved decls ≡ Some whole →
+    AllSections decls whole
 sections_of decls clean whole is = walked_whole decls clean whole is (λ b p. AllSections decls p) (no_sections decls) (sections_next decls whole)
 
 -- ---- helpers
@@ -473,7 +503,8 @@ pub record HelperAt (decls : List Decl) (k : ℕ) (x : core.Section) : Type 0 wh
 abbrev AllHelpers : List Decl → core.Program → Type 0
 AllHelpers decls p = (k : ℕ) (x : core.Section) → slice_get p.helpers k ≡ Some x → HelperAt decls k x
 
-helpers_next : (decls : List Decl) (whole : core.Program) (before : List Decl) (d : Decl) (p q : core.Program) → Step decls whole before d p q → AllHelpers decls p → AllHelpers decls q
+helpers_next : (decls : List Decl) (whole : core.Program) (before : List Decl) (d : Decl) (p q : core.Program) →
+    Step decls whole before d p q → AllHelpers decls p → AllHelpers decls q
 helpers_next decls whole before (lock y) p q st h n x e = h n x (ap (λ (zs : List core.Section). slice_get zs n) (sym (keeps_helpers decls (length before) p (lock y) q st.adds)) ∙ e)
 helpers_next decls whole before (struct y) p q st h n x e = h n x (ap (λ (zs : List core.Section). slice_get zs n) (sym (keeps_helpers decls (length before) p (struct y) q st.adds)) ∙ e)
 helpers_next decls whole before (global y) p q st h n x e = h n x (ap (λ (zs : List core.Section). slice_get zs n) (sym (keeps_helpers decls (length before) p (global y) q st.adds)) ∙ e)
@@ -491,5 +522,6 @@ helpers_next decls whole before (thread y) p q st h n x e = h n x (ap (λ (zs : 
 no_helpers_yet : (decls : List Decl) → AllHelpers decls nothing_yet
 no_helpers_yet decls k x e = cc
 
-pub helpers_of : (decls : List Decl) → Clean decls → (whole : core.Program) → resolved decls ≡ Some whole → AllHelpers decls whole
+pub helpers_of : (decls : List Decl) → Clean decls → (whole : core.Program) → resolved decls ≡ Some whole →
+    AllHelpers decls whole
 helpers_of decls clean whole is = walked_whole decls clean whole is (λ b p. AllHelpers decls p) (no_helpers_yet decls) (helpers_next decls whole)

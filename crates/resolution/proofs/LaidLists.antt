@@ -1,5 +1,6 @@
 -- Lists that match one another, and lists that grow.
-use Rattle.std.proofs.Common.{◌≡◌, ℕ, zero, suc, ◌+◌, ◌≤◌, List, [], ◌∷◌, ◌++◌, length, Option, Some, None, Bool, true, false, if◌then◌else◌, refl, ap, subst, arith}
+use Rattle.std.proofs.Common.{◌≡◌, ℕ, zero, suc, ◌+◌, ◌≤◌, List, [], ◌∷◌, ◌++◌, length, Option, Some, None, Bool}
+use Rattle.std.proofs.Common.{true, false, if◌then◌else◌, refl, ap, subst, arith}
 use Rattle.std.specs.Prelude.{slice_get, take, ⊤, nat_le}
 use Rattle.resolution.specs.Limits.{up_to}
 use Rattle.resolution.specs.Scopes.{◌>>=◌, count}
@@ -14,7 +15,8 @@ Rows R n [] (y ∷ ys) = ⊥
 Rows R n (x ∷ xs) [] = ⊥
 Rows R n (x ∷ xs) (y ∷ ys) = R n x y × Rows R (suc n) xs ys
 
-pub rows_left : {A B : Type 0} (R : ℕ → A → B → Type 0) (n : ℕ) (xs : List A) (ys : List B) → Rows R n xs ys → (k : ℕ) (x : A) → slice_get xs k ≡ Some x → (y : B) × (slice_get ys k ≡ Some y) × R (n + k) x y
+pub rows_left : {A B : Type 0} (R : ℕ → A → B → Type 0) (n : ℕ) (xs : List A) (ys : List B) → Rows R n xs ys →
+    (k : ℕ) (x : A) → slice_get xs k ≡ Some x → (y : B) × (slice_get ys k ≡ Some y) × R (n + k) x y
 rows_left R n [] ys h k x e = cc
 rows_left R n (a ∷ xs) [] h k x e = absurd h
 rows_left {A = A} R n (a ∷ xs) (b ∷ ys) h zero x e =
@@ -24,7 +26,8 @@ rows_left R n (a ∷ xs) (b ∷ ys) h (suc k) x e =
     let r = rows_left R (suc n) xs ys h.1 k x e in
     (r.0, r.1, subst (λ (j : ℕ). R j x r.0) (let z : suc n + k ≡ n + suc k = omega arith in z) r.2)
 
-pub rows_right : {A B : Type 0} (R : ℕ → A → B → Type 0) (n : ℕ) (xs : List A) (ys : List B) → Rows R n xs ys → (k : ℕ) (y : B) → slice_get ys k ≡ Some y → (x : A) × (slice_get xs k ≡ Some x) × R (n + k) x y
+pub rows_right : {A B : Type 0} (R : ℕ → A → B → Type 0) (n : ℕ) (xs : List A) (ys : List B) → Rows R n xs ys →
+    (k : ℕ) (y : B) → slice_get ys k ≡ Some y → (x : A) × (slice_get xs k ≡ Some x) × R (n + k) x y
 rows_right R n xs [] h k y e = cc
 rows_right R n [] (b ∷ ys) h k y e = absurd h
 rows_right {B = B} R n (a ∷ xs) (b ∷ ys) h zero y e =
@@ -34,13 +37,15 @@ rows_right R n (a ∷ xs) (b ∷ ys) h (suc k) y e =
     let r = rows_right R (suc n) xs ys h.1 k y e in
     (r.0, r.1, subst (λ (j : ℕ). R j r.0 y) (let z : suc n + k ≡ n + suc k = omega arith in z) r.2)
 
-pub rows_length : {A B : Type 0} (R : ℕ → A → B → Type 0) (n : ℕ) (xs : List A) (ys : List B) → Rows R n xs ys → length ys ≡ length xs
+pub rows_length : {A B : Type 0} (R : ℕ → A → B → Type 0) (n : ℕ) (xs : List A) (ys : List B) → Rows R n xs ys →
+    length ys ≡ length xs
 rows_length R n [] [] h = refl
 rows_length R n [] (y ∷ ys) h = absurd h
 rows_length R n (x ∷ xs) [] h = absurd h
 rows_length R n (x ∷ xs) (y ∷ ys) h = ap suc (rows_length R (suc n) xs ys h.1)
 
-pub rows_push : {A B : Type 0} (R : ℕ → A → B → Type 0) (n : ℕ) (xs : List A) (ys : List B) (x : A) (y : B) → Rows R n xs ys → R (n + length ys) x y → Rows R n (xs ++ x ∷ []) (ys ++ y ∷ [])
+pub rows_push : {A B : Type 0} (R : ℕ → A → B → Type 0) (n : ℕ) (xs : List A) (ys : List B) (x : A) (y : B) →
+    Rows R n xs ys → R (n + length ys) x y → Rows R n (xs ++ x ∷ []) (ys ++ y ∷ [])
 rows_push R n [] [] x y h r = (subst (λ (j : ℕ). R j x y) (let z : n + 0 ≡ n = omega arith in z) r, tt)
 rows_push R n [] (b ∷ ys) x y h r = absurd h
 rows_push R n (a ∷ xs) [] x y h r = absurd h
@@ -57,7 +62,8 @@ grows_more (a ∷ xs) ys zero x e = e
 grows_more (a ∷ xs) ys (suc k) x e = grows_more xs ys k x e
 
 -- what stands behind
-pub get_behind : {A : Type 0} (xs ys : List A) (k : ℕ) (y : A) → slice_get ys k ≡ Some y → slice_get (xs ++ ys) (length xs + k) ≡ Some y
+pub get_behind : {A : Type 0} (xs ys : List A) (k : ℕ) (y : A) → slice_get ys k ≡ Some y →
+    slice_get (xs ++ ys) (length xs + k) ≡ Some y
 get_behind [] ys k y e = subst (λ (j : ℕ). slice_get ys j ≡ Some y) (let z : k ≡ 0 + k = omega arith in z) e
 get_behind (x ∷ xs) ys k y e = subst (λ (j : ℕ). slice_get (x ∷ xs ++ ys) j ≡ Some y) (let z : suc (length xs + k) ≡ suc (length xs) + k = omega arith in z) (get_behind xs ys k y e)
 
@@ -71,13 +77,15 @@ pub record Behind {A : Type 0} (xs ys : List A) (n : ℕ) (y : A) : Type 0 where
   pub place : n ≡ length xs + by
   pub here : slice_get ys by ≡ Some y
 
-pub get_parts : {A : Type 0} (xs ys : List A) (n : ℕ) (y : A) (C : Type 0) → slice_get (xs ++ ys) n ≡ Some y → (slice_get xs n ≡ Some y → C) → (Behind xs ys n y → C) → C
+pub get_parts : {A : Type 0} (xs ys : List A) (n : ℕ) (y : A) (C : Type 0) → slice_get (xs ++ ys) n ≡ Some y →
+    (slice_get xs n ≡ Some y → C) → (Behind xs ys n y → C) → C
 get_parts [] ys n y C e f g = g (record { by = n; place = omega arith; here = e })
 get_parts (x ∷ xs) ys zero y C e f g = f e
 get_parts (x ∷ xs) ys (suc n) y C e f g = get_parts xs ys n y C e f (λ b. g (record { by = b.by; place = (let p = b.place in omega (arith, p)); here = b.here }))
 
 -- one more
-pub get_pushed : {A : Type 0} (xs : List A) (x : A) (n : ℕ) (y : A) (C : Type 0) → slice_get (xs ++ x ∷ []) n ≡ Some y → (slice_get xs n ≡ Some y → C) → (n ≡ length xs → x ≡ y → C) → C
+pub get_pushed : {A : Type 0} (xs : List A) (x : A) (n : ℕ) (y : A) (C : Type 0) →
+    slice_get (xs ++ x ∷ []) n ≡ Some y → (slice_get xs n ≡ Some y → C) → (n ≡ length xs → x ≡ y → C) → C
 get_pushed [] x zero y C e f g = g refl cc
 get_pushed [] x (suc n) y C e f g = cc
 get_pushed (z ∷ xs) x zero y C e f g = f e
@@ -99,13 +107,15 @@ count_push p [] x = by_test (p x)
     by_test false = omega arith
 count_push p (y ∷ xs) x = by_test (p y) (count_push p xs x)
   where
-    by_test : (b : Bool) → count p (xs ++ x ∷ []) ≡ count p xs + as_one (p x) → (if b then suc (count p (xs ++ x ∷ [])) else count p (xs ++ x ∷ [])) ≡ (if b then suc (count p xs) else count p xs) + as_one (p x)
+    by_test : (b : Bool) → count p (xs ++ x ∷ []) ≡ count p xs + as_one (p x) →
+        (if b then suc (count p (xs ++ x ∷ [])) else count p (xs ++ x ∷ [])) ≡ (if b then suc (count p xs) else count p xs) + as_one (p x)
     by_test true e = omega (arith, e)
     by_test false e = e
 
 -- ---- what is there
 
-pub bind_got : {A B : Type 0} (o : Option A) (f : A → Option B) (y : B) → (o >>= f) ≡ Some y → (x : A) × (o ≡ Some x) × (f x ≡ Some y)
+pub bind_got : {A B : Type 0} (o : Option A) (f : A → Option B) (y : B) → (o >>= f) ≡ Some y →
+    (x : A) × (o ≡ Some x) × (f x ≡ Some y)
 bind_got (Some x) f y e = (x, refl, e)
 bind_got None f y e = cc
 
@@ -117,7 +127,8 @@ pub up_got : (limit n k : ℕ) → up_to limit n ≡ Some k → (n ≡ k) × (n 
 up_got limit n k e = up_if limit n k (nat_le n limit) refl e
 
 -- what a list with one more ahead is made of
-pub added_got : {A : Type 0} (o : Option A) (r : Option (List A)) (ys : List A) → added o r ≡ Some ys → (x : A) × (xs : List A) × (o ≡ Some x) × (r ≡ Some xs) × (x ∷ xs ≡ ys)
+pub added_got : {A : Type 0} (o : Option A) (r : Option (List A)) (ys : List A) → added o r ≡ Some ys →
+    (x : A) × (xs : List A) × (o ≡ Some x) × (r ≡ Some xs) × (x ∷ xs ≡ ys)
 added_got (Some x) (Some xs) ys e = (x, xs, refl, refl, cc)
 added_got (Some x) None ys e = cc
 added_got None r ys e = cc

@@ -1,19 +1,25 @@
 -- Which locks protect the parts of a resolved program.
-use Rattle.std.proofs.Common.{◌≡◌, ℕ, zero, suc, ◌+◌, ◌<◌, ◌≤◌, List, [], ◌∷◌, ◌++◌, length, Option, Some, None, true, false, refl, sym, ap, ◌∙◌, subst, append_assoc, arith}
+use Rattle.std.proofs.Common.{◌≡◌, ℕ, zero, suc, ◌+◌, ◌<◌, ◌≤◌, List, [], ◌∷◌, ◌++◌, length, Option, Some, None, true}
+use Rattle.std.proofs.Common.{false, refl, sym, ap, ◌∙◌, subst, append_assoc, arith}
 use Rattle.std.specs.Prelude.{slice_get, ⊤, nat_le, ◌&&◌}
 use Rattle.std.proofs.lemmas.Option.{slice_get_within}
 use Rattle.source.specs.declared.fault.Code.TheVariants.{LimitExceeded}
-use Rattle.syntax.specs.Trees.{Ident, Protection, Member, lock_member, final_member, field_member, Final, Field, Struct, Decl, lock, struct, global, array, pool, init, atomic, helper, thread}
+use Rattle.syntax.specs.Trees.{Ident, Protection, Member, lock_member, final_member, field_member, Final, Field}
+use Rattle.syntax.specs.Trees.{Struct, Decl, lock, struct, global, array, pool, init, atomic, helper, thread}
 use Rattle.resolution.specs.Core as core
 use Rattle.resolution.specs.Limits.{CLASS_LIMIT, MEMBER_LIMIT, STRUCT_LIMIT, FINAL_LIMIT}
-use Rattle.resolution.specs.Scopes.{outside, bears, the_decl, the_member, struct_named, count, alike, number_at, number_in}
+use Rattle.resolution.specs.Scopes.{outside, bears, the_decl, the_member, struct_named, count, alike, number_at}
+use Rattle.resolution.specs.Scopes.{number_in}
 use Rattle.resolution.specs.Numbers.{total, is_lock, classes_of, classes_ahead}
 use Rattle.resolution.specs.Expressions.{member_number}
-use Rattle.resolution.specs.Annotations.{class_number, class_in, class_of, AnnotationCursor, at_struct, through_member, stepped_on, ended_at, along, protection_by, cursor_at, protection_of}
+use Rattle.resolution.specs.Annotations.{class_number, class_in, class_of, AnnotationCursor, at_struct}
+use Rattle.resolution.specs.Annotations.{through_member, stepped_on, ended_at, along, protection_by, cursor_at}
+use Rattle.resolution.specs.Annotations.{protection_of}
 use Rattle.resolution.specs.Where.{Has, first, further}
 use Rattle.resolution.specs.Resolution.{StructBuilder, empty_struct, nothing_yet, array_added, resolved}
 use Rattle.resolution.specs.Working.FaultLists as list
-use Rattle.resolution.specs.Working.FaultLists.{one_if, member_counts, count_faults, total_faults, passed_faults, along_faults, annotation_faults, protection_faults, type_faults}
+use Rattle.resolution.specs.Working.FaultLists.{one_if, member_counts, count_faults, total_faults, passed_faults}
+use Rattle.resolution.specs.Working.FaultLists.{along_faults, annotation_faults, protection_faults, type_faults}
 use Rattle.resolution.proofs.Members.{in_right}
 use Rattle.resolution.proofs.Named.{named_is, member_is}
 use Rattle.resolution.specs.Theory.Facts.{struct_at}
@@ -25,14 +31,17 @@ use Rattle.resolution.proofs.FaultlessPrograms.{total_push}
 use Rattle.resolution.proofs.Typed.{final_in}
 use Rattle.resolution.proofs.LaidLists.{rows_left, rows_right, get_last, get_behind, get_pushed, get_parts, bind_got}
 use Rattle.resolution.proofs.LaidStages.{fields_in, locks_in, lock_numbered}
-use Rattle.resolution.proofs.LaidWalk.{LockRow, ClassRow, FieldRow, shaped, elements_leave, Step, lands, walked_whole, counted_whole}
-use Rattle.resolution.proofs.LaidFacts.{struct_by_number, sound_of, under, number_landed, total_landed, keeps_globals, keeps_arrays, keeps_classes}
+use Rattle.resolution.proofs.LaidWalk.{LockRow, ClassRow, FieldRow, shaped, elements_leave, Step, lands, walked_whole}
+use Rattle.resolution.proofs.LaidWalk.{counted_whole}
+use Rattle.resolution.proofs.LaidFacts.{struct_by_number, sound_of, under, number_landed, total_landed, keeps_globals}
+use Rattle.resolution.proofs.LaidFacts.{keeps_arrays, keeps_classes}
 use Rattle.resolution.proofs.Tests.{le_false}
 use Rattle.std.proofs.lemmas.List.{append-nil}
 
 -- ---- how many classes there are
 
-members_classes : (classes n : ℕ) (ms : List Member) → NoneIn (member_counts classes n ms) → classes ≤ CLASS_LIMIT → classes + count is_lock ms ≤ CLASS_LIMIT
+members_classes : (classes n : ℕ) (ms : List Member) → NoneIn (member_counts classes n ms) → classes ≤ CLASS_LIMIT →
+    classes + count is_lock ms ≤ CLASS_LIMIT
 members_classes classes n [] none le = omega (arith, le)
 members_classes classes n (lock_member x ∷ ms) none le =
     let a = one_if (nat_le MEMBER_LIMIT n) LimitExceeded x.span.start in
@@ -52,7 +61,8 @@ members_classes classes n (field_member f ∷ ms) none le =
     let r = members_classes (classes + 0) (n + 1) ms (none_right (a ++ b) (member_counts (classes + 0) (n + 1) ms) none) (let z : classes + 0 ≤ CLASS_LIMIT = omega (arith, le) in z) in
     omega (arith, r)
 
-classes_fit : (decls before : List Decl) (d : Decl) → NoneIn (count_faults decls before d) → total classes_of before ≤ CLASS_LIMIT → total classes_of before + classes_of d ≤ CLASS_LIMIT
+classes_fit : (decls before : List Decl) (d : Decl) → NoneIn (count_faults decls before d) →
+    total classes_of before ≤ CLASS_LIMIT → total classes_of before + classes_of d ≤ CLASS_LIMIT
 classes_fit decls before (lock x) none le = let l : total classes_of before < CLASS_LIMIT = le_false CLASS_LIMIT (total classes_of before) (not_if (nat_le CLASS_LIMIT (total classes_of before)) LimitExceeded x.span.start none) in omega (arith, l)
 classes_fit decls before (struct s) none le = members_classes (total classes_of before) 0 s.members (none_right (one_if (nat_le STRUCT_LIMIT (count (alike (struct s)) before)) LimitExceeded s.name.span.start) _ none) le
 classes_fit decls before (global x) none le = omega (arith, le)
@@ -63,7 +73,8 @@ classes_fit decls before (atomic x) none le = omega (arith, le)
 classes_fit decls before (helper x) none le = omega (arith, le)
 classes_fit decls before (thread x) none le = omega (arith, le)
 
-classes_few : (decls before ds : List Decl) → NoneIn (total_faults decls before ds) → total classes_of before ≤ CLASS_LIMIT → total classes_of (before ++ ds) ≤ CLASS_LIMIT
+classes_few : (decls before ds : List Decl) → NoneIn (total_faults decls before ds) →
+    total classes_of before ≤ CLASS_LIMIT → total classes_of (before ++ ds) ≤ CLASS_LIMIT
 classes_few decls before [] none le = subst (λ (xs : List Decl). total classes_of xs ≤ CLASS_LIMIT) (sym (append-nil before)) le
 classes_few decls before (d ∷ ds) none le =
     let fit = classes_fit decls before d (none_left (count_faults decls before d) (total_faults decls (before ++ d ∷ []) ds) none) le in
@@ -83,7 +94,8 @@ ClassFact whole n (core.lock_field k l) = (y : core.Struct) × (slice_get whole.
 abbrev AllClasses : core.Program → core.Program → Type 0
 AllClasses whole p = (n : ℕ) (c : core.LockClass) → slice_get p.classes n ≡ Some c → ClassFact whole n c
 
-classes_next : (decls : List Decl) (whole : core.Program) (before : List Decl) (d : Decl) (p q : core.Program) → Step decls whole before d p q → AllClasses whole p → AllClasses whole q
+classes_next : (decls : List Decl) (whole : core.Program) (before : List Decl) (d : Decl) (p q : core.Program) →
+    Step decls whole before d p q → AllClasses whole p → AllClasses whole q
 classes_next decls whole before (lock x) p q st h n c e =
     get_pushed p.classes (core.global_lock x.text) n c (ClassFact whole n c) (ap (λ (w : core.Program). slice_get w.classes n) st.adds ∙ e) (h n c) (λ i same. subst (ClassFact whole n) same tt)
 classes_next decls whole before (struct x) p q st h n c e =
@@ -109,7 +121,8 @@ classes_next decls whole before (thread y) p q st h n x e = h n x (ap (λ (zs : 
 no_classes : (whole : core.Program) → AllClasses whole nothing_yet
 no_classes whole k x e = cc
 
-pub classes_of_program : (decls : List Decl) → Clean decls → (whole : core.Program) → resolved decls ≡ Some whole → AllClasses whole whole
+pub classes_of_program : (decls : List Decl) → Clean decls → (whole : core.Program) → resolved decls ≡ Some whole →
+    AllClasses whole whole
 classes_of_program decls clean whole is = walked_whole decls clean whole is (λ b p. AllClasses whole p) (no_classes whole) (classes_next decls whole)
 
 -- final references that lead on, as data
@@ -117,7 +130,8 @@ abbrev pub LeadIn : core.Program → ℕ → List ℕ → ℕ → Type 0
 LeadIn whole from [] to = from ≡ to
 LeadIn whole from (f ∷ fs) to = (next : ℕ) × (final_in whole from f ≡ Some next) × LeadIn whole next fs to
 
-lead_more : (whole : core.Program) (from : ℕ) (fs : List ℕ) (mid n to : ℕ) → LeadIn whole from fs mid → final_in whole mid n ≡ Some to → LeadIn whole from (fs ++ n ∷ []) to
+lead_more : (whole : core.Program) (from : ℕ) (fs : List ℕ) (mid n to : ℕ) → LeadIn whole from fs mid →
+    final_in whole mid n ≡ Some to → LeadIn whole from (fs ++ n ∷ []) to
 lead_more whole from [] mid n to h e = (to, subst (λ (k : ℕ). final_in whole k n ≡ Some to) (sym h) e, refl)
 lead_more whole from (f ∷ fs) mid n to h e = (h.0, h.1, lead_more whole h.0 fs mid n to h.2 e)
 
@@ -139,13 +153,15 @@ module _ (decls : List Decl) (clean : Clean decls) (whole : core.Program) (is : 
   pub few_classes : length whole.classes ≤ CLASS_LIMIT
   few_classes = let e = (counted_whole decls clean whole is).classes in let l = classes_few decls [] decls (λ f i. clean f (of_totals decls f i)) (let z : 0 ≤ CLASS_LIMIT = omega arith in z) in omega (arith, e, l)
 
-  class_here : (i n : ℕ) (c : core.LockClass) → slice_get whole.classes (classes_ahead decls i + n) ≡ Some c → slice_get whole.classes (class_number decls i n) ≡ Some c
+  class_here : (i n : ℕ) (c : core.LockClass) → slice_get whole.classes (classes_ahead decls i + n) ≡ Some c →
+      slice_get whole.classes (class_number decls i n) ≡ Some c
   class_here i n c e =
       let a = slice_get_within whole.classes (classes_ahead decls i + n) c e in
       let b = few_classes in
       subst (λ (k : ℕ). slice_get whole.classes k ≡ Some c) (sym (under (classes_ahead decls i + n) CLASS_LIMIT (let z : classes_ahead decls i + n ≤ CLASS_LIMIT = omega (arith, a, b) in z))) e
 
-  lock_here : (i : ℕ) (x : Ident) → slice_get decls i ≡ Some (lock x) → slice_get whole.classes (class_number decls i 0) ≡ Some (core.global_lock x.text)
+  lock_here : (i : ℕ) (x : Ident) → slice_get decls i ≡ Some (lock x) →
+      slice_get whole.classes (class_number decls i 0) ≡ Some (core.global_lock x.text)
   lock_here i x at =
       let l = lands decls clean whole is i (lock x) at in
       let c = core.global_lock x.text in
@@ -155,7 +171,9 @@ module _ (decls : List Decl) (clean : Clean decls) (whole : core.Program) (is : 
       class_here i 0 c (subst (λ (k : ℕ). slice_get whole.classes k ≡ Some c) (let z : length l.was.classes ≡ classes_ahead decls i + 0 = omega (arith, n, t) in z) here)
 
   -- the class of a struct's lock field
-  lock_field_here : (i : ℕ) (x : Struct) → slice_get decls i ≡ Some (struct x) → (l : ℕ) (z : Ident) → slice_get (locks_in x.members) l ≡ Some z → slice_get whole.classes (class_number decls i l) ≡ Some (core.lock_field (number_at decls i (struct x)) l)
+  lock_field_here : (i : ℕ) (x : Struct) → slice_get decls i ≡ Some (struct x) → (l : ℕ) (z : Ident) →
+      slice_get (locks_in x.members) l ≡ Some z →
+      slice_get whole.classes (class_number decls i l) ≡ Some (core.lock_field (number_at decls i (struct x)) l)
   lock_field_here i x at l z e =
       let d = lands decls clean whole is i (struct x) at in
       let p = d.was in
@@ -172,7 +190,8 @@ module _ (decls : List Decl) (clean : Clean decls) (whole : core.Program) (is : 
       class_here i l (core.lock_field (number_at decls i (struct x)) l)
       (subst (λ (j : ℕ). slice_get whole.classes (j + l) ≡ Some (core.lock_field (number_at decls i (struct x)) l)) ahead (d.step.ends.classes (length p.classes + l) c.0 here ∙ ap Some same))
 
-  class_in_is : (q : List ℕ) (o : Option (ℕ × Decl)) (ys : List Ident) (c : ℕ) → the_decl decls q ≡ o → class_in decls o ys ≡ Some c → GlobalClass whole c
+  class_in_is : (q : List ℕ) (o : Option (ℕ × Decl)) (ys : List Ident) (c : ℕ) → the_decl decls q ≡ o →
+      class_in decls o ys ≡ Some c → GlobalClass whole c
   class_in_is q (Some (i, lock x)) [] c at e =
       let same : class_number decls i 0 ≡ c = cc in
       subst (GlobalClass whole) same (x.text, lock_here i x (named_is bears decls q i (lock x) at).here)
@@ -199,7 +218,8 @@ module _ (decls : List Decl) (clean : Clean decls) (whole : core.Program) (is : 
   abbrev ArraysHave : core.Program → Type 0
   ArraysHave p = (g : ℕ) (x : core.Array) → slice_get p.arrays g ≡ Some x → GlobalClass whole x.class
 
-  globals_have_next : (before : List Decl) (d : Decl) (p q : core.Program) → Step decls whole before d p q → GlobalsHave p → GlobalsHave q
+  globals_have_next : (before : List Decl) (d : Decl) (p q : core.Program) → Step decls whole before d p q →
+      GlobalsHave p → GlobalsHave q
   globals_have_next before (lock y) p q st h n x e = h n x (ap (λ (zs : List core.GlobalVariable). slice_get zs n) (sym (keeps_globals decls (length before) p (lock y) q st.adds)) ∙ e)
   globals_have_next before (struct y) p q st h n x e = h n x (ap (λ (zs : List core.GlobalVariable). slice_get zs n) (sym (keeps_globals decls (length before) p (struct y) q st.adds)) ∙ e)
   globals_have_next before (global v) p q st h n y e =
@@ -213,7 +233,8 @@ module _ (decls : List Decl) (clean : Clean decls) (whole : core.Program) (is : 
   globals_have_next before (helper y) p q st h n x e = h n x (ap (λ (zs : List core.GlobalVariable). slice_get zs n) (sym (keeps_globals decls (length before) p (helper y) q st.adds)) ∙ e)
   globals_have_next before (thread y) p q st h n x e = h n x (ap (λ (zs : List core.GlobalVariable). slice_get zs n) (sym (keeps_globals decls (length before) p (thread y) q st.adds)) ∙ e)
 
-  arrays_have_next : (before : List Decl) (d : Decl) (p q : core.Program) → Step decls whole before d p q → ArraysHave p → ArraysHave q
+  arrays_have_next : (before : List Decl) (d : Decl) (p q : core.Program) → Step decls whole before d p q →
+      ArraysHave p → ArraysHave q
   arrays_have_next before (lock y) p q st h n x e = h n x (ap (λ (zs : List core.Array). slice_get zs n) (sym (keeps_arrays decls (length before) p (lock y) q st.adds)) ∙ e)
   arrays_have_next before (struct y) p q st h n x e = h n x (ap (λ (zs : List core.Array). slice_get zs n) (sym (keeps_arrays decls (length before) p (struct y) q st.adds)) ∙ e)
   arrays_have_next before (global y) p q st h n x e = h n x (ap (λ (zs : List core.Array). slice_get zs n) (sym (keeps_arrays decls (length before) p (global y) q st.adds)) ∙ e)
@@ -244,7 +265,8 @@ module _ (decls : List Decl) (clean : Clean decls) (whole : core.Program) (is : 
 
   -- ---- lock fields
 
-  pub lock_fields_have : (s l : ℕ) (y : core.Struct) (f : core.LockField) → slice_get whole.structs s ≡ Some y → slice_get y.locks l ≡ Some f → slice_get whole.classes f.class ≡ Some (core.lock_field s l)
+  pub lock_fields_have : (s l : ℕ) (y : core.Struct) (f : core.LockField) → slice_get whole.structs s ≡ Some y →
+      slice_get y.locks l ≡ Some f → slice_get whole.classes f.class ≡ Some (core.lock_field s l)
   lock_fields_have s l y f at e =
       let r = struct_by_number decls clean whole is s y at in
       let z = rows_right LockRow (classes_ahead decls r.2.place) (locks_in r.0.members) y.locks r.2.locks l f e in
@@ -264,11 +286,13 @@ module _ (decls : List Decl) (clean : Clean decls) (whole : core.Program) (is : 
   none_along y [] = refl
   none_along y (z ∷ zs) = none_along z zs
 
-  along_there : (o : Option AnnotationCursor) (y : Ident) (ys : List Ident) (p : core.Protection) → along decls o y ys ≡ Some p → (st : AnnotationCursor) × (o ≡ Some st) × (along decls (Some st) y ys ≡ Some p)
+  along_there : (o : Option AnnotationCursor) (y : Ident) (ys : List Ident) (p : core.Protection) →
+      along decls o y ys ≡ Some p → (st : AnnotationCursor) × (o ≡ Some st) × (along decls (Some st) y ys ≡ Some p)
   along_there (Some st) y ys p e = (st, refl, e)
   along_there None y ys p e = let s : None ≡ Some p = sym (none_along y ys) ∙ e in cc
 
-  at_end : (s : ℕ) (st : AnnotationCursor) → Stood s st → (q : List ℕ) (o : Option (ℕ × Member)) → the_member st.members q ≡ o → (p : core.Protection) → ended_at decls st o ≡ Some p → ProtectsIn whole s p
+  at_end : (s : ℕ) (st : AnnotationCursor) → Stood s st → (q : List ℕ) (o : Option (ℕ × Member)) →
+      the_member st.members q ≡ o → (p : core.Protection) → ended_at decls st o ≡ Some p → ProtectsIn whole s p
   at_end s st h q (Some (i, lock_member x)) m p e =
       let n = number_in st.members i (lock_member x) in
       let there : slice_get (locks_in h.structure.members) n ≡ Some x = subst (λ (ms : List Member). slice_get (locks_in ms) n ≡ Some x) h.same (lock_numbered st.members i x (member_is st.members q i (lock_member x) m).0) in
@@ -278,7 +302,10 @@ module _ (decls : List Decl) (clean : Clean decls) (whole : core.Program) (is : 
   at_end s st h q (Some (i, field_member f)) m p e = cc
   at_end s st h q None m p e = cc
 
-  over_final : (s : ℕ) (st : AnnotationCursor) → Stood s st → (i : ℕ) (f : Final) → slice_get st.members i ≡ Some (final_member f) → length st.through < 3 → (o : Option (ℕ × Decl)) → the_decl decls f.target.text ≡ o → (to : AnnotationCursor) → at_struct st.through (member_number st.members i (final_member f)) o ≡ Some to → Stood s to
+  over_final : (s : ℕ) (st : AnnotationCursor) → Stood s st → (i : ℕ) (f : Final) →
+      slice_get st.members i ≡ Some (final_member f) → length st.through < 3 → (o : Option (ℕ × Decl)) →
+      the_decl decls f.target.text ≡ o → (to : AnnotationCursor) →
+      at_struct st.through (member_number st.members i (final_member f)) o ≡ Some to → Stood s to
   over_final s st h i f m less (Some (n, struct x)) d to e =
       let k = member_number st.members i (final_member f) in
       let here : slice_get h.structure.members i ≡ Some (final_member f) = ap (λ (ms : List Member). slice_get ms i) (sym h.same) ∙ m in
@@ -305,14 +332,18 @@ module _ (decls : List Decl) (clean : Clean decls) (whole : core.Program) (is : 
   over_final s st h i f m less (Some (n, thread x)) d to e = cc
   over_final s st h i f m less None d to e = cc
 
-  stepped : (s head here : ℕ) (st : AnnotationCursor) → Stood s st → (q : List ℕ) (o : Option (ℕ × Member)) → the_member st.members q ≡ o → NoneIn (passed_faults decls head here (length st.through) o) → (to : AnnotationCursor) → through_member decls st o ≡ Some to → Stood s to
+  stepped : (s head here : ℕ) (st : AnnotationCursor) → Stood s st → (q : List ℕ) (o : Option (ℕ × Member)) →
+      the_member st.members q ≡ o → NoneIn (passed_faults decls head here (length st.through) o) →
+      (to : AnnotationCursor) → through_member decls st o ≡ Some to → Stood s to
   stepped s head here st h q (Some (i, final_member f)) m none to e =
       over_final s st h i f (member_is st.members q i (final_member f) m).0 (le_false FINAL_LIMIT (length st.through) (not_if (nat_le FINAL_LIMIT (length st.through)) LimitExceeded head none)) (the_decl decls f.target.text) refl to e
   stepped s head here st h q (Some (i, lock_member x)) m none to e = cc
   stepped s head here st h q (Some (i, field_member x)) m none to e = cc
   stepped s head here st h q None m none to e = cc
 
-  along_ok : (s head : ℕ) (st : AnnotationCursor) → Stood s st → (y : Ident) (ys : List Ident) → NoneIn (along_faults decls head (Some st) y ys) → (p : core.Protection) → along decls (Some st) y ys ≡ Some p → ProtectsIn whole s p
+  along_ok : (s head : ℕ) (st : AnnotationCursor) → Stood s st → (y : Ident) (ys : List Ident) →
+      NoneIn (along_faults decls head (Some st) y ys) → (p : core.Protection) → along decls (Some st) y ys ≡ Some p →
+      ProtectsIn whole s p
   along_ok s head st h y [] none p e = at_end s st h y.text (the_member st.members y.text) refl p e
   along_ok s head st h y (z ∷ zs) none p e =
       let o = stepped_on decls (Some st) y in
@@ -321,11 +352,14 @@ module _ (decls : List Decl) (clean : Clean decls) (whole : core.Program) (is : 
       let next = stepped s head y.span.start st h y.text (the_member st.members y.text) refl (none_left a (along_faults decls head o z zs) none) t.0 t.1 in
       along_ok s head t.0 next z zs (subst (λ (x : Option AnnotationCursor). NoneIn (along_faults decls head x z zs)) t.1 (none_right a (along_faults decls head o z zs) none)) p t.2
 
-  protection_ok : (s i : ℕ) (x : Struct) → slice_get decls i ≡ Some (struct x) → number_at decls i (struct x) ≡ s → (name : ℕ) (o : Option Protection) → NoneIn (protection_faults decls i x.members name o) → (p : core.Protection) → protection_of decls i x.members o ≡ Some p → ProtectsIn whole s p
+  protection_ok : (s i : ℕ) (x : Struct) → slice_get decls i ≡ Some (struct x) → number_at decls i (struct x) ≡ s →
+      (name : ℕ) (o : Option Protection) → NoneIn (protection_faults decls i x.members name o) →
+      (p : core.Protection) → protection_of decls i x.members o ≡ Some p → ProtectsIn whole s p
   protection_ok s i x at number name None none p e = cc
   protection_ok s i x at number name (Some w) none p e = by_member (the_member x.members w.first.text) none e
     where
-      by_member : (o : Option (ℕ × Member)) → NoneIn (annotation_faults decls (cursor_at i x.members) w o) → protection_by decls (cursor_at i x.members) w o ≡ Some p → ProtectsIn whole s p
+      by_member : (o : Option (ℕ × Member)) → NoneIn (annotation_faults decls (cursor_at i x.members) w o) →
+          protection_by decls (cursor_at i x.members) w o ≡ Some p → ProtectsIn whole s p
       by_member (Some m) n h = along_ok s w.first.span.start (cursor_at i x.members) (record { structure = x; at = at; same = refl; lead = sym number; short = omega arith }) w.first w.rest n p h
       by_member None n h =
           let b = bind_got (class_in decls (the_decl decls w.first.text) w.rest) (λ c. Some (record { through = []; class = c })) p h in
@@ -333,7 +367,8 @@ module _ (decls : List Decl) (clean : Clean decls) (whole : core.Program) (is : 
           let same : record { through = []; class = b.0 } ≡ p = (let u = b.2 in cc) in
           subst (ProtectsIn whole s) same (core.global_lock g.0, g.1, refl)
 
-  pub fields_have : (s f : ℕ) (y : core.Struct) (z : core.Field) → slice_get whole.structs s ≡ Some y → slice_get y.fields f ≡ Some z → ProtectsIn whole s z.protection
+  pub fields_have : (s f : ℕ) (y : core.Struct) (z : core.Field) → slice_get whole.structs s ≡ Some y →
+      slice_get y.fields f ≡ Some z → ProtectsIn whole s z.protection
   fields_have s f y z at e =
       let r = struct_by_number decls clean whole is s y at in
       let x = r.0 in

@@ -1,9 +1,11 @@
 -- Where a resolved program has its objects and its cells.
-use Rattle.std.proofs.Common.{◌≡◌, ℕ, zero, suc, ◌+◌, ◌<◌, ◌≤◌, List, [], ◌∷◌, ◌++◌, length, Option, Some, None, Bool, true, false, if◌then◌else◌, refl, sym, ap, ◌∙◌, subst, arith}
+use Rattle.std.proofs.Common.{◌≡◌, ℕ, zero, suc, ◌+◌, ◌<◌, ◌≤◌, List, [], ◌∷◌, ◌++◌, length, Option, Some, None, Bool}
+use Rattle.std.proofs.Common.{true, false, if◌then◌else◌, refl, sym, ap, ◌∙◌, subst, arith}
 use Rattle.std.specs.Prelude.{ℤ, neg_ℤ, slice_get, ⊤, nat_lt}
 use Rattle.std.proofs.lemmas.Option.{slice_get_within}
 use Rattle.std.proofs.lemmas.Bool.{eqb-true}
-use Rattle.syntax.specs.Trees.{Ident, Const, int_const, negative, null_const, member_const, Member, Final, Field, Struct, Pool, Decl, lock, struct, global, array, pool, init, atomic, helper, thread}
+use Rattle.syntax.specs.Trees.{Ident, Const, int_const, negative, null_const, member_const, Member, Final, Field}
+use Rattle.syntax.specs.Trees.{Struct, Pool, Decl, lock, struct, global, array, pool, init, atomic, helper, thread}
 use Rattle.core_lang.specs.declared.value.Value.{Value}
 use Rattle.core_lang.specs.declared.value.Value.TheVariants.{Int, Ref}
 use Rattle.core_lang.specs.declared.value.ValueType as core_type
@@ -17,18 +19,23 @@ use Rattle.resolution.specs.declared.wanted.Sort.TheVariants as sort
 use Rattle.resolution.specs.declared.wanted.Want.TheVariants as wanted
 use Rattle.resolution.specs.Core as core
 use Rattle.resolution.specs.Limits.{OBJECT_LIMIT}
-use Rattle.resolution.specs.Scopes.{◌>>=◌, bears, the_decl, declared_as, struct_meant, struct_named, number_at, the_struct}
+use Rattle.resolution.specs.Scopes.{◌>>=◌, bears, the_decl, declared_as, struct_meant, struct_named, number_at}
+use Rattle.resolution.specs.Scopes.{the_struct}
 use Rattle.resolution.specs.Numbers.{objects_ahead}
 use Rattle.resolution.specs.Expressions.{number_value, fits_type}
-use Rattle.resolution.specs.Constants.{number_sort, reference_sort, member_sort, const_sort, object_of, member_of, const_value, if_fitting, typed_const, members_of, members_in, opened, default_of, object_in, referred}
+use Rattle.resolution.specs.Constants.{number_sort, reference_sort, member_sort, const_sort, object_of, member_of}
+use Rattle.resolution.specs.Constants.{const_value, if_fitting, typed_const, members_of, members_in, opened}
+use Rattle.resolution.specs.Constants.{default_of, object_in, referred}
 use Rattle.resolution.specs.Resolution.{nothing_yet, with_elements, array_added, pool_added, resolved}
 use Rattle.resolution.proofs.Named.{named_is}
 use Rattle.resolution.specs.Theory.Facts.{struct_at}
 use Rattle.resolution.proofs.FaultlessExpressions.{Clean}
 use Rattle.resolution.proofs.Typed.{field_in}
 use Rattle.resolution.proofs.LaidLists.{rows_left, rows_right, get_last, get_behind, get_pushed, get_parts, bind_got}
-use Rattle.resolution.proofs.LaidStages.{fields_in, finals_in, CellOf, FinalOf, Objected, Chain, Adds, Begins, begins_on, begins_cell, begins_object}
-use Rattle.resolution.proofs.LaidWalk.{FieldRow, chain_leaves, chain_objects, elements_leave, elements_objects, elements_cells, all_objects_few, Step, walked_whole, counted_whole}
+use Rattle.resolution.proofs.LaidStages.{fields_in, finals_in, CellOf, FinalOf, Objected, Chain, Adds, Begins}
+use Rattle.resolution.proofs.LaidStages.{begins_on, begins_cell, begins_object}
+use Rattle.resolution.proofs.LaidWalk.{FieldRow, chain_leaves, chain_objects, elements_leave, elements_objects}
+use Rattle.resolution.proofs.LaidWalk.{elements_cells, all_objects_few, Step, walked_whole, counted_whole}
 use Rattle.resolution.proofs.LaidFacts.{struct_of_number, pool_at, under, keeps_globals, keeps_arrays, keeps_pools}
 use Rattle.resolution.proofs.Tests.{lt_of, lt_false}
 
@@ -43,7 +50,8 @@ KeepsObjects (atomic x) p q = q.objects ≡ p.objects
 KeepsObjects (helper x) p q = q.objects ≡ p.objects
 KeepsObjects (thread x) p q = q.objects ≡ p.objects
 
-keeps_objects : (decls : List Decl) (i : ℕ) (p : core.Program) (d : Decl) (q : core.Program) → Adds decls i p d q → KeepsObjects d p q
+keeps_objects : (decls : List Decl) (i : ℕ) (p : core.Program) (d : Decl) (q : core.Program) → Adds decls i p d q →
+    KeepsObjects d p q
 keeps_objects decls i p (lock x) q a = ap (λ (z : core.Program). z.objects) (sym a)
 keeps_objects decls i p (struct x) q a = ap (λ (z : core.Program). z.objects) (sym a.2)
 keeps_objects decls i p (global x) q a = ap (λ (z : core.Program). z.objects) (sym a.7)
@@ -65,7 +73,8 @@ KeepsCells (atomic x) p q = q.cells ≡ p.cells
 KeepsCells (helper x) p q = q.cells ≡ p.cells
 KeepsCells (thread x) p q = q.cells ≡ p.cells
 
-keeps_cells : (decls : List Decl) (i : ℕ) (p : core.Program) (d : Decl) (q : core.Program) → Adds decls i p d q → KeepsCells d p q
+keeps_cells : (decls : List Decl) (i : ℕ) (p : core.Program) (d : Decl) (q : core.Program) → Adds decls i p d q →
+    KeepsCells d p q
 keeps_cells decls i p (lock x) q a = ap (λ (z : core.Program). z.cells) (sym a)
 keeps_cells decls i p (struct x) q a = ap (λ (z : core.Program). z.cells) (sym a.2)
 keeps_cells decls i p (global x) q a = tt
@@ -100,10 +109,12 @@ one_of {A = A} xs k x y a b = let s : ◌≡◌ {A = Option A} (Some x) (Some y)
 
 -- ---- a struct by its name
 
-pub named_members : (decls : List Decl) (x : Ident) (s : ℕ) (ms : List Member) → struct_named decls x ≡ Some s → members_of decls x ≡ Some ms → (y : Struct) × (the_struct decls s ≡ Some y) × (y.members ≡ ms)
+pub named_members : (decls : List Decl) (x : Ident) (s : ℕ) (ms : List Member) → struct_named decls x ≡ Some s →
+    members_of decls x ≡ Some ms → (y : Struct) × (the_struct decls s ≡ Some y) × (y.members ≡ ms)
 named_members decls x s ms e h = by_decl (the_decl decls x.text) refl e h
   where
-    by_decl : (o : Option (ℕ × Decl)) → the_decl decls x.text ≡ o → struct_meant decls (declared_as o) ≡ Some s → members_in o ≡ Some ms → (y : Struct) × (the_struct decls s ≡ Some y) × (y.members ≡ ms)
+    by_decl : (o : Option (ℕ × Decl)) → the_decl decls x.text ≡ o → struct_meant decls (declared_as o) ≡ Some s →
+        members_in o ≡ Some ms → (y : Struct) × (the_struct decls s ≡ Some y) × (y.members ≡ ms)
     by_decl (Some (n, struct y)) is a b =
         let k : number_at decls n (struct y) ≡ s = cc in
         (y, subst (λ (j : ℕ). the_struct decls j ≡ Some y) k (struct_at decls n y (named_is bears decls x.text n (struct y) is).here), cc)
@@ -132,7 +143,8 @@ pub record New (decls : List Decl) (whole : core.Program) (number : ℕ) (ms : L
   pub own : OwnOf decls whole ms o object
   pub refs : RefsOf decls whole ms object
 
-object_new : (decls : List Decl) (whole : core.Program) (number : ℕ) (ms : List Member) (p q : core.Program) → Objected decls number ms p q → Begins q whole → New decls whole number ms (length p.objects)
+object_new : (decls : List Decl) (whole : core.Program) (number : ℕ) (ms : List Member) (p q : core.Program) →
+    Objected decls number ms p q → Begins q whole → New decls whole number ms (length p.objects)
 object_new decls whole number ms p q w b =
     let x : Object = record { pool = number; cells = length p.cells; finals = length p.finals } in
     record {
@@ -153,7 +165,8 @@ object_new decls whole number ms p q w b =
           ));
     }
 
-chain_new : (decls : List Decl) (whole : core.Program) (number : ℕ) (ms : List Member) (n : ℕ) (p q : core.Program) → Chain decls number ms n p q → Begins q whole → (m : ℕ) → m < n → New decls whole number ms (length p.objects + m)
+chain_new : (decls : List Decl) (whole : core.Program) (number : ℕ) (ms : List Member) (n : ℕ) (p q : core.Program) →
+    Chain decls number ms n p q → Begins q whole → (m : ℕ) → m < n → New decls whole number ms (length p.objects + m)
 chain_new decls whole number ms zero p q c b m less = absurd (omega (arith, less))
 chain_new decls whole number ms (suc n) p q c b m less =
     split_less m n (New decls whole number ms (length p.objects + m))
@@ -194,7 +207,8 @@ pool_fact decls whole before x p q st =
       objects = λ i less. subst (λ (ms : List Member). New decls whole (length p.pools) ms (length p.objects + i)) (sym m.2) (chain_new decls whole (length p.pools) a.1 x.length.value (pool_added p x.name.text (length p.objects) x.length.value a.0) q a.4 st.ends i less);
     }
 
-pools_next : (decls : List Decl) (whole : core.Program) (before : List Decl) (d : Decl) (p q : core.Program) → Step decls whole before d p q → AllPools decls whole p → AllPools decls whole q
+pools_next : (decls : List Decl) (whole : core.Program) (before : List Decl) (d : Decl) (p q : core.Program) →
+    Step decls whole before d p q → AllPools decls whole p → AllPools decls whole q
 pools_next decls whole before (lock y) p q st h n x e = h n x (ap (λ (zs : List core.Pool). slice_get zs n) (sym (keeps_pools decls (length before) p (lock y) q st.adds)) ∙ e)
 pools_next decls whole before (struct y) p q st h n x e = h n x (ap (λ (zs : List core.Pool). slice_get zs n) (sym (keeps_pools decls (length before) p (struct y) q st.adds)) ∙ e)
 pools_next decls whole before (global y) p q st h n x e = h n x (ap (λ (zs : List core.Pool). slice_get zs n) (sym (keeps_pools decls (length before) p (global y) q st.adds)) ∙ e)
@@ -213,10 +227,12 @@ pools_next decls whole before (thread y) p q st h n x e = h n x (ap (λ (zs : Li
 no_pools : (decls : List Decl) (whole : core.Program) → AllPools decls whole nothing_yet
 no_pools decls whole k x e = cc
 
-pub pools_of : (decls : List Decl) → Clean decls → (whole : core.Program) → resolved decls ≡ Some whole → AllPools decls whole whole
+pub pools_of : (decls : List Decl) → Clean decls → (whole : core.Program) → resolved decls ≡ Some whole →
+    AllPools decls whole whole
 pools_of decls clean whole is = walked_whole decls clean whole is (λ b p. AllPools decls whole p) (no_pools decls whole) (pools_next decls whole)
 
-objects_next : (decls : List Decl) (whole : core.Program) (before : List Decl) (d : Decl) (p q : core.Program) → Step decls whole before d p q → AllObjects decls whole p → AllObjects decls whole q
+objects_next : (decls : List Decl) (whole : core.Program) (before : List Decl) (d : Decl) (p q : core.Program) →
+    Step decls whole before d p q → AllObjects decls whole p → AllObjects decls whole q
 objects_next decls whole before (lock y) p q st h n x e = h n x (ap (λ (zs : List Object). slice_get zs n) (sym (keeps_objects decls (length before) p (lock y) q st.adds)) ∙ e)
 objects_next decls whole before (struct y) p q st h n x e = h n x (ap (λ (zs : List Object). slice_get zs n) (sym (keeps_objects decls (length before) p (struct y) q st.adds)) ∙ e)
 objects_next decls whole before (global y) p q st h n x e = h n x (ap (λ (zs : List Object). slice_get zs n) (sym (keeps_objects decls (length before) p (global y) q st.adds)) ∙ e)
@@ -256,7 +272,8 @@ objects_next decls whole before (thread y) p q st h n x e = h n x (ap (λ (zs : 
 no_objects : (decls : List Decl) (whole : core.Program) → AllObjects decls whole nothing_yet
 no_objects decls whole k x e = cc
 
-pub objects_of_program : (decls : List Decl) → Clean decls → (whole : core.Program) → resolved decls ≡ Some whole → AllObjects decls whole whole
+pub objects_of_program : (decls : List Decl) → Clean decls → (whole : core.Program) → resolved decls ≡ Some whole →
+    AllObjects decls whole whole
 objects_of_program decls clean whole is = walked_whole decls clean whole is (λ b p. AllObjects decls whole p) (no_objects decls whole) (objects_next decls whole)
 
 -- ---- globals and arrays
@@ -273,7 +290,8 @@ AllGlobals whole p = (g : ℕ) (x : core.GlobalVariable) → slice_get p.globals
 abbrev AllArrays : core.Program → core.Program → Type 0
 AllArrays whole p = (n : ℕ) (x : core.Array) → slice_get p.arrays n ≡ Some x → ArrayFact whole n x
 
-globals_next : (decls : List Decl) (whole : core.Program) (before : List Decl) (d : Decl) (p q : core.Program) → Step decls whole before d p q → AllGlobals whole p → AllGlobals whole q
+globals_next : (decls : List Decl) (whole : core.Program) (before : List Decl) (d : Decl) (p q : core.Program) →
+    Step decls whole before d p q → AllGlobals whole p → AllGlobals whole q
 globals_next decls whole before (lock y) p q st h n x e = h n x (ap (λ (zs : List core.GlobalVariable). slice_get zs n) (sym (keeps_globals decls (length before) p (lock y) q st.adds)) ∙ e)
 globals_next decls whole before (struct y) p q st h n x e = h n x (ap (λ (zs : List core.GlobalVariable). slice_get zs n) (sym (keeps_globals decls (length before) p (struct y) q st.adds)) ∙ e)
 globals_next decls whole before (global v) p q st h n y e =
@@ -293,10 +311,13 @@ globals_next decls whole before (thread y) p q st h n x e = h n x (ap (λ (zs : 
 no_globals : (whole : core.Program) → AllGlobals whole nothing_yet
 no_globals whole k x e = cc
 
-pub globals_of : (decls : List Decl) → Clean decls → (whole : core.Program) → resolved decls ≡ Some whole → AllGlobals whole whole
+pub globals_of : (decls : List Decl) → Clean decls → (whole : core.Program) → resolved decls ≡ Some whole →
+    AllGlobals whole whole
 globals_of decls clean whole is = walked_whole decls clean whole is (λ b p. AllGlobals whole p) (no_globals whole) (globals_next decls whole)
 
-element_at : (whole p : core.Program) (a : ℕ) (t : core_type.ValueType) (n : ℕ) → Begins (with_elements p a t n) whole → (i : ℕ) → i < n → slice_get whole.cells (length p.cells + i) ≡ Some (record { owner = owner.Element a i; value_type = t; opening = default_of t })
+element_at : (whole p : core.Program) (a : ℕ) (t : core_type.ValueType) (n : ℕ) →
+    Begins (with_elements p a t n) whole → (i : ℕ) → i < n →
+    slice_get whole.cells (length p.cells + i) ≡ Some (record { owner = owner.Element a i; value_type = t; opening = default_of t })
 element_at whole p a t zero b i less = absurd (omega (arith, less))
 element_at whole p a t (suc n) b i less =
     let m = with_elements p a t n in
@@ -308,7 +329,8 @@ element_at whole p a t (suc n) b i less =
     let place : length m.cells ≡ length p.cells + i = omega (arith, e, same) in
     subst (λ (k : ℕ). slice_get whole.cells k ≡ Some (c i)) place (b.cells (length m.cells) (c n) (get_last m.cells (c n) []) ∙ ap (λ (k : ℕ). Some (c k)) same)))
 
-arrays_next : (decls : List Decl) (whole : core.Program) (before : List Decl) (d : Decl) (p q : core.Program) → Step decls whole before d p q → AllArrays whole p → AllArrays whole q
+arrays_next : (decls : List Decl) (whole : core.Program) (before : List Decl) (d : Decl) (p q : core.Program) →
+    Step decls whole before d p q → AllArrays whole p → AllArrays whole q
 arrays_next decls whole before (lock y) p q st h n x e = h n x (ap (λ (zs : List core.Array). slice_get zs n) (sym (keeps_arrays decls (length before) p (lock y) q st.adds)) ∙ e)
 arrays_next decls whole before (struct y) p q st h n x e = h n x (ap (λ (zs : List core.Array). slice_get zs n) (sym (keeps_arrays decls (length before) p (struct y) q st.adds)) ∙ e)
 arrays_next decls whole before (global y) p q st h n x e = h n x (ap (λ (zs : List core.Array). slice_get zs n) (sym (keeps_arrays decls (length before) p (global y) q st.adds)) ∙ e)
@@ -329,7 +351,8 @@ arrays_next decls whole before (thread y) p q st h n x e = h n x (ap (λ (zs : L
 no_arrays : (whole : core.Program) → AllArrays whole nothing_yet
 no_arrays whole k x e = cc
 
-pub arrays_of : (decls : List Decl) → Clean decls → (whole : core.Program) → resolved decls ≡ Some whole → AllArrays whole whole
+pub arrays_of : (decls : List Decl) → Clean decls → (whole : core.Program) → resolved decls ≡ Some whole →
+    AllArrays whole whole
 arrays_of decls clean whole is = walked_whole decls clean whole is (λ b p. AllArrays whole p) (no_arrays whole) (arrays_next decls whole)
 
 -- ---- the cells
@@ -363,7 +386,9 @@ elements_fact decls whole p a t (suc n) x at first le h k c e =
 abbrev Fresh : List Decl → core.Program → ℕ → List Member → Type 0
 Fresh decls whole number ms = (o : ℕ) (x : Object) → slice_get whole.objects o ≡ Some x → x.pool ≡ number → (k : ℕ) (f : Field) (c : Cell) → slice_get (fields_in ms) k ≡ Some f → CellOf decls o k f c → CellFact decls whole (x.cells + k) c
 
-chain_fact : (decls : List Decl) (whole : core.Program) (number : ℕ) (ms : List Member) → Fresh decls whole number ms → (n : ℕ) (p q : core.Program) → Chain decls number ms n p q → Begins q whole → AllCells decls whole p → AllCells decls whole q
+chain_fact : (decls : List Decl) (whole : core.Program) (number : ℕ) (ms : List Member) →
+    Fresh decls whole number ms → (n : ℕ) (p q : core.Program) → Chain decls number ms n p q → Begins q whole →
+    AllCells decls whole p → AllCells decls whole q
 chain_fact decls whole number ms fresh zero p q c b h k y e = subst (AllCells decls whole) c h k y e
 chain_fact decls whole number ms fresh (suc n) p q c b h k y e =
     let m = c.0 in
@@ -376,7 +401,9 @@ chain_fact decls whole number ms fresh (suc n) p q c b h k y e =
     subst (λ (j : ℕ). CellFact decls whole j y) (sym d.place)
     (fresh (length m.objects) z here refl d.by r.0 y r.1 (subst (λ (j : ℕ). CellOf decls (length m.objects) j r.0 y) (let g : 0 + d.by ≡ d.by = omega arith in g) r.2))))
 
-cells_next : (decls : List Decl) → Clean decls → (whole : core.Program) → resolved decls ≡ Some whole → (before : List Decl) (d : Decl) (p q : core.Program) → Step decls whole before d p q → AllCells decls whole p → AllCells decls whole q
+cells_next : (decls : List Decl) → Clean decls → (whole : core.Program) → resolved decls ≡ Some whole →
+    (before : List Decl) (d : Decl) (p q : core.Program) → Step decls whole before d p q → AllCells decls whole p →
+    AllCells decls whole q
 cells_next decls clean whole is before (lock y) p q st h n c e = h n c (ap (λ (zs : List Cell). slice_get zs n) (sym (keeps_cells decls (length before) p (lock y) q st.adds)) ∙ e)
 cells_next decls clean whole is before (struct y) p q st h n c e = h n c (ap (λ (zs : List Cell). slice_get zs n) (sym (keeps_cells decls (length before) p (struct y) q st.adds)) ∙ e)
 cells_next decls clean whole is before (global v) p q st h n c e =
@@ -416,7 +443,8 @@ cells_next decls clean whole is before (thread y) p q st h n c e = h n c (ap (λ
 no_cells : (decls : List Decl) (whole : core.Program) → AllCells decls whole nothing_yet
 no_cells decls whole k x e = cc
 
-pub cells_of_program : (decls : List Decl) → Clean decls → (whole : core.Program) → resolved decls ≡ Some whole → AllCells decls whole whole
+pub cells_of_program : (decls : List Decl) → Clean decls → (whole : core.Program) → resolved decls ≡ Some whole →
+    AllCells decls whole whole
 cells_of_program decls clean whole is = walked_whole decls clean whole is (λ b p. AllCells decls whole p) (no_cells decls whole) (cells_next decls clean whole is)
 
 -- ---- values
@@ -429,11 +457,14 @@ Holds p (Reference s) (Int n) = ⊥
 Holds p (Reference s) (Ref None) = ⊤
 Holds p (Reference s) (Ref (Some o)) = struct_in p o ≡ Some s
 
-pub few_objects : (decls : List Decl) → Clean decls → (whole : core.Program) → resolved decls ≡ Some whole → length whole.objects ≤ OBJECT_LIMIT
+pub few_objects : (decls : List Decl) → Clean decls → (whole : core.Program) → resolved decls ≡ Some whole →
+    length whole.objects ≤ OBJECT_LIMIT
 few_objects decls clean whole is = let e = (counted_whole decls clean whole is).objects in let l = all_objects_few decls clean in omega (arith, e, l)
 
 -- a member of a pool
-pub member_is_of : (decls : List Decl) → Clean decls → (whole : core.Program) → resolved decls ≡ Some whole → (i : ℕ) (x : Pool) (n s : ℕ) → slice_get decls i ≡ Some (pool x) → n < x.length.value → struct_named decls x.target ≡ Some s → struct_in whole (object_of decls i n) ≡ Some s
+pub member_is_of : (decls : List Decl) → Clean decls → (whole : core.Program) → resolved decls ≡ Some whole →
+    (i : ℕ) (x : Pool) (n s : ℕ) → slice_get decls i ≡ Some (pool x) → n < x.length.value →
+    struct_named decls x.target ≡ Some s → struct_in whole (object_of decls i n) ≡ Some s
 member_is_of decls clean whole is i x n s at less named =
     let p = pool_at decls clean whole is i x at in
     let f = pools_of decls clean whole is (number_at decls i (pool x)) (record { name = x.name.text; first = objects_ahead decls i; length = x.length.value; structure = p.structure }) p.here in
@@ -449,7 +480,8 @@ if_holds : (b : Bool) (v w : Option Value) (u : Value) → (if b then v else Non
 if_holds true v w u e = (refl, e)
 if_holds false v w u e = cc
 
-fitting_got : (t : core_type.ValueType) (o : Option Sort) (v : Option Value) (u : Value) → if_fitting (wanted.Value t) o v ≡ Some u → (s : Sort) × (o ≡ Some s) × (fits_type t s ≡ true) × (v ≡ Some u)
+fitting_got : (t : core_type.ValueType) (o : Option Sort) (v : Option Value) (u : Value) →
+    if_fitting (wanted.Value t) o v ≡ Some u → (s : Sort) × (o ≡ Some s) × (fits_type t s ≡ true) × (v ≡ Some u)
 fitting_got t (Some s) v u e = let r = if_holds (fits_type t s) v v u e in (s, refl, r.0, r.1)
 fitting_got t None v u e = cc
 
@@ -457,7 +489,8 @@ sort_got : (o : Option ℤ) (s : Sort) → number_sort o ≡ Some s → s ≡ so
 sort_got (Some z) s e = let h : sort.Of Integer ≡ s = cc in sym h
 sort_got None s e = cc
 
-number_holds : (p : core.Program) (t : core_type.ValueType) (z : ℤ) → fits_type t (sort.Of Integer) ≡ true → Holds p t (Int z)
+number_holds : (p : core.Program) (t : core_type.ValueType) (z : ℤ) → fits_type t (sort.Of Integer) ≡ true →
+    Holds p t (Int z)
 number_holds p Integer z e = tt
 number_holds p (Reference s) z e = cc
 
@@ -465,16 +498,21 @@ null_holds : (p : core.Program) (t : core_type.ValueType) → fits_type t sort.N
 null_holds p Integer e = cc
 null_holds p (Reference s) e = tt
 
-object_holds : (p : core.Program) (t : core_type.ValueType) (s o : ℕ) → fits_type t (sort.Of (Reference s)) ≡ true → struct_in p o ≡ Some s → Holds p t (Ref (Some o))
+object_holds : (p : core.Program) (t : core_type.ValueType) (s o : ℕ) → fits_type t (sort.Of (Reference s)) ≡ true →
+    struct_in p o ≡ Some s → Holds p t (Ref (Some o))
 object_holds p Integer s o e h = cc
 object_holds p (Reference r) s o e h = h ∙ ap Some (sym (eqb-true r s e))
 
-reference_got : (o : Option ℕ) (s : Sort) → reference_sort o ≡ Some s → (k : ℕ) × (o ≡ Some k) × (s ≡ sort.Of (Reference k))
+reference_got : (o : Option ℕ) (s : Sort) → reference_sort o ≡ Some s →
+    (k : ℕ) × (o ≡ Some k) × (s ≡ sort.Of (Reference k))
 reference_got (Some k) s e = (k, refl, let h : sort.Of (Reference k) ≡ s = cc in sym h)
 reference_got None s e = cc
 
 module _ (decls : List Decl) (clean : Clean decls) (whole : core.Program) (is : resolved decls ≡ Some whole) where
-  member_holds : (t : core_type.ValueType) (n : ℕ) (o : Option (ℕ × Decl)) → ((i : ℕ) (x : Pool) → ◌≡◌ {A = Option (ℕ × Decl)} o (Some (i, pool x)) → slice_get decls i ≡ Some (pool x)) → (s : Sort) → member_sort decls o ≡ Some s → fits_type t s ≡ true → (u : Value) → member_of decls o n ≡ Some u → Holds whole t u
+  member_holds : (t : core_type.ValueType) (n : ℕ) (o : Option (ℕ × Decl)) →
+      ((i : ℕ) (x : Pool) → ◌≡◌ {A = Option (ℕ × Decl)} o (Some (i, pool x)) → slice_get decls i ≡ Some (pool x)) →
+      (s : Sort) → member_sort decls o ≡ Some s → fits_type t s ≡ true → (u : Value) → member_of decls o n ≡ Some u →
+      Holds whole t u
   member_holds t n (Some (i, pool x)) up s e fit u v =
       let r = reference_got (struct_named decls x.target) s e in
       let w = if_holds (nat_lt n x.length.value) (Some (Ref (Some (object_of decls i n)))) None u v in
@@ -491,7 +529,8 @@ module _ (decls : List Decl) (clean : Clean decls) (whole : core.Program) (is : 
   member_holds t n (Some (i, thread x)) up s e fit u v = cc
   member_holds t n None up s e fit u v = cc
 
-  const_by : (t : core_type.ValueType) (c : Const) (s : Sort) → const_sort decls c ≡ Some s → fits_type t s ≡ true → (u : Value) → const_value decls c ≡ Some u → Holds whole t u
+  const_by : (t : core_type.ValueType) (c : Const) (s : Sort) → const_sort decls c ≡ Some s → fits_type t s ≡ true →
+      (u : Value) → const_value decls c ≡ Some u → Holds whole t u
   const_by t (int_const n) s e fit u v =
       let r = bind_got (number_value n) (λ z. Some (Int z)) u v in
       let k = sort_got (number_value n) s e in
@@ -509,7 +548,8 @@ module _ (decls : List Decl) (clean : Clean decls) (whole : core.Program) (is : 
   const_by t (member_const x n) s e fit u v = member_holds t n.value (the_decl decls x.text) (λ i y h. (named_is bears decls x.text i (pool y) h).here) s e fit u v
 
   -- a constant that is given where a type is wanted is of the type
-  pub const_holds : (t : core_type.ValueType) (c : Const) (u : Value) → typed_const decls (wanted.Value t) c ≡ Some u → Holds whole t u
+  pub const_holds : (t : core_type.ValueType) (c : Const) (u : Value) →
+      typed_const decls (wanted.Value t) c ≡ Some u → Holds whole t u
   const_holds t c u e = let r = fitting_got t (const_sort decls c) (const_value decls c) u e in const_by t c r.0 r.1 r.2 u r.3
 
   default_holds : (t : core_type.ValueType) → Holds whole t (default_of t)
@@ -517,7 +557,8 @@ module _ (decls : List Decl) (clean : Clean decls) (whole : core.Program) (is : 
   default_holds (Reference s) = tt
 
   -- so is the value that a thing opens with
-  pub opened_holds : (t : core_type.ValueType) (g : Option Const) (u : Value) → opened decls t g ≡ Some u → Holds whole t u
+  pub opened_holds : (t : core_type.ValueType) (g : Option Const) (u : Value) → opened decls t g ≡ Some u →
+      Holds whole t u
   opened_holds t None u e = let same : default_of t ≡ u = cc in subst (Holds whole t) same (default_holds t)
   opened_holds t (Some c) u e = const_holds t c u e
 
@@ -528,5 +569,6 @@ module _ (decls : List Decl) (clean : Clean decls) (whole : core.Program) (is : 
   object_got_in None n e = cc
 
   -- a final reference leads to an object of its struct
-  pub referred_holds : (s : ℕ) (c : Const) (n : ℕ) → referred decls (Some s) (Some c) ≡ Some n → struct_in whole n ≡ Some s
+  pub referred_holds : (s : ℕ) (c : Const) (n : ℕ) → referred decls (Some s) (Some c) ≡ Some n →
+      struct_in whole n ≡ Some s
   referred_holds s c n e = const_holds (Reference s) c (Ref (Some n)) (object_got_in (typed_const decls (wanted.Value (Reference s)) c) n e)

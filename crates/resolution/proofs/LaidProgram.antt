@@ -1,5 +1,6 @@
 -- Resolved programs are laid out as they should be.
-use Rattle.std.proofs.Common.{◌≡◌, ℕ, suc, ◌+◌, ◌<◌, ◌≤◌, List, [], ◌∷◌, length, Option, Some, None, refl, sym, ap, ◌∙◌, subst}
+use Rattle.std.proofs.Common.{◌≡◌, ℕ, suc, ◌+◌, ◌<◌, ◌≤◌, List, [], ◌∷◌, length, Option, Some, None, refl, sym, ap}
+use Rattle.std.proofs.Common.{◌∙◌, subst}
 use Rattle.std.specs.Prelude.{slice_get, take, map}
 use Rattle.std.proofs.lemmas.Option.{slice_get_within}
 use Rattle.syntax.specs.Trees.{Decl, atomic, helper, Section, Param}
@@ -24,9 +25,12 @@ use Rattle.core_lang.specs.declared.tree.Local as the_local
 use Rattle.core_lang.specs.declared.tree.Section as the_section
 use Rattle.core_lang.specs.declared.typed.Call as the_call
 use Rattle.core_lang.specs.declared.typed.Thread as the_thread
-use Rattle.core_lang.specs.WellFormed.{IsCell, IsCellOf, IsLaidOut, IsProtected, IsGlobalLock, IsGlobalClass, FinalsLead, EndsAt, IsClassOf, CanCall}
+use Rattle.core_lang.specs.WellFormed.{IsCell, IsCellOf, IsLaidOut, IsProtected, IsGlobalLock, IsGlobalClass}
+use Rattle.core_lang.specs.WellFormed.{FinalsLead, EndsAt, IsClassOf, CanCall}
 use Rattle.resolution.specs.Core as core
-use Rattle.resolution.specs.CoreViews.{core_class, core_lock, core_struct, core_final, core_field, core_array, core_pool, core_global, core_local, core_section, core_call, core_thread, core_of}
+use Rattle.resolution.specs.CoreViews.{core_class, core_lock, core_struct, core_final, core_field, core_array}
+use Rattle.resolution.specs.CoreViews.{core_pool, core_global, core_local, core_section, core_call, core_thread}
+use Rattle.resolution.specs.CoreViews.{core_of}
 use Rattle.resolution.specs.Limits.{section_limits, helper_limits}
 use Rattle.resolution.specs.Scopes.{◌>>=◌, outside, number_at, the_struct, type_of}
 use Rattle.resolution.specs.Resolution.{resolved, typed_section}
@@ -39,13 +43,17 @@ use Rattle.resolution.proofs.LaidLists.{Rows, rows_right, bind_got}
 use Rattle.resolution.proofs.LaidStages.{fields_in, finals_in}
 use Rattle.resolution.proofs.LaidWalk.{FinalRow, FieldRow}
 use Rattle.resolution.proofs.LaidFacts.{StructAt, struct_of_number, sound_of, sections_of, helpers_of}
-use Rattle.resolution.proofs.LaidLocks.{GlobalClass, ClassFact, LeadIn, EndsIn, classes_of_program, globals_have, arrays_have, lock_fields_have, fields_have}
-use Rattle.resolution.proofs.LaidScripts.{Argument, threads_of, sectioned, parameter_local, section_at, has_helpers, argument_holds}
-use Rattle.resolution.proofs.LaidObjects.{one_of, ObjectAt, objects_of_program, pools_of, globals_of, arrays_of, struct_in, OwnerFact, cells_of_program, Holds, opened_holds, referred_holds}
+use Rattle.resolution.proofs.LaidLocks.{GlobalClass, ClassFact, LeadIn, EndsIn, classes_of_program, globals_have}
+use Rattle.resolution.proofs.LaidLocks.{arrays_have, lock_fields_have, fields_have}
+use Rattle.resolution.proofs.LaidScripts.{Argument, threads_of, sectioned, parameter_local, section_at, has_helpers}
+use Rattle.resolution.proofs.LaidScripts.{argument_holds}
+use Rattle.resolution.proofs.LaidObjects.{one_of, ObjectAt, objects_of_program, pools_of, globals_of, arrays_of}
+use Rattle.resolution.proofs.LaidObjects.{struct_in, OwnerFact, cells_of_program, Holds, opened_holds, referred_holds}
 
 -- ---- what the views say
 
-lookup_got : {A B : Type 0} (o : Option A) (f : A → Option B) (y : B) → lookup o f ≡ Some y → (x : A) × (o ≡ Some x) × (f x ≡ Some y)
+lookup_got : {A B : Type 0} (o : Option A) (f : A → Option B) (y : B) → lookup o f ≡ Some y →
+    (x : A) × (o ≡ Some x) × (f x ≡ Some y)
 lookup_got (Some x) f y e = (x, refl, e)
 lookup_got None f y e = cc
 
@@ -94,7 +102,9 @@ module _ (program : Typed) where
   owner_is place (owner.Field o f) h =
       (h.0, h.1, h.2, (h.3.0, h.3.1, struct_is o h.3.0 h.3.2, field_type_is program h.3.0 f h.3.1 h.3.3))
 
-  heap_is : (cells : List Cell) → ((n : ℕ) (c : Cell) → slice_get cells n ≡ Some c → HasType program.shape c.value_type c.opening) → HaveTypes program.shape (map (λ (cell : Cell). cell.value_type) cells) (map (λ (cell : Cell). cell.opening) cells)
+  heap_is : (cells : List Cell) →
+      ((n : ℕ) (c : Cell) → slice_get cells n ≡ Some c → HasType program.shape c.value_type c.opening) →
+      HaveTypes program.shape (map (λ (cell : Cell). cell.value_type) cells) (map (λ (cell : Cell). cell.opening) cells)
   heap_is [] h = tt
   heap_is (c ∷ cells) h = (h 0 c refl, heap_is cells (λ n x e. h (suc n) x e))
 
@@ -118,7 +128,8 @@ module _ (program : Typed) where
   lead_is from [] to h = h
   lead_is from (f ∷ fs) to h = (h.0, final_target_is program from f h.0 h.1, lead_is h.0 fs to h.2)
 
-  ends_is : (s : ℕ) (through : List ℕ) (c : the_class.LockClass) → EndsIn (core_of program) s through (core_class c) → EndsAt program s through c
+  ends_is : (s : ℕ) (through : List ℕ) (c : the_class.LockClass) → EndsIn (core_of program) s through (core_class c) →
+      EndsAt program s through c
   ends_is s through (class.Global name) h = h
   ends_is s through (class.Field k l) h = (h.0, lead_is s through k h.1)
 
@@ -135,10 +146,12 @@ module _ (decls : List Decl) (clean : Clean decls) (program : Typed) (is : resol
   pub sound : Sound decls (core_of program)
   sound = sound_of decls clean (core_of program) is
 
-  pub sections_are : (k : ℕ) (x : core.Section) → slice_get (core_of program).sections k ≡ Some x → (i : ℕ) × (s : Section) × (slice_get decls i ≡ Some (atomic s)) × (number_at decls i (atomic s) ≡ k) × (typed_section decls section_limits s ≡ Some x)
+  pub sections_are : (k : ℕ) (x : core.Section) → slice_get (core_of program).sections k ≡ Some x →
+      (i : ℕ) × (s : Section) × (slice_get decls i ≡ Some (atomic s)) × (number_at decls i (atomic s) ≡ k) × (typed_section decls section_limits s ≡ Some x)
   sections_are k x e = let r = sections_of decls clean (core_of program) is k x e in (r.place, r.section, r.at, r.number, r.typed)
 
-  pub helpers_are : (k : ℕ) (x : core.Section) → slice_get (core_of program).helpers k ≡ Some x → (i : ℕ) × (s : Section) × (slice_get decls i ≡ Some (helper s)) × (number_at decls i (helper s) ≡ k) × (typed_section decls helper_limits s ≡ Some x)
+  pub helpers_are : (k : ℕ) (x : core.Section) → slice_get (core_of program).helpers k ≡ Some x →
+      (i : ℕ) × (s : Section) × (slice_get decls i ≡ Some (helper s)) × (number_at decls i (helper s) ≡ k) × (typed_section decls helper_limits s ≡ Some x)
   helpers_are k x e = let r = helpers_of decls clean (core_of program) is k x e in (r.place, r.section, r.at, r.number, r.typed)
 
   pub helped : HasHelpers decls (core_of program)
@@ -166,7 +179,8 @@ module _ (decls : List Decl) (clean : Clean decls) (program : Typed) (is : resol
     there : slice_get (core_of program).structs s ≡ Some view
     struct_at : StructAt decls (core_of program) s at.structure view
 
-  kind : (o : ℕ) (x : Object) (s : ℕ) → slice_get program.shape.objects.items o ≡ Some x → struct_of program.shape o ≡ Some s → Kind o x s
+  kind : (o : ℕ) (x : Object) (s : ℕ) → slice_get program.shape.objects.items o ≡ Some x →
+      struct_of program.shape o ≡ Some s → Kind o x s
   kind o x s e h =
       let at = objects_of_program decls clean (core_of program) is o x e in
       let g : struct_in (core_of program) o ≡ Some at.pool.structure =
@@ -176,7 +190,8 @@ module _ (decls : List Decl) (clean : Clean decls) (program : Typed) (is : resol
       let r = struct_of_number decls clean (core_of program) is s at.structure (subst (λ (k : ℕ). the_struct decls k ≡ Some at.structure) eq at.is) in
       record { at = at; view = r.0; there = r.1; struct_at = r.2 }
 
-  field_cell_is : (o : ℕ) (x : Object) (s f : ℕ) (t : ValueType) → Kind o x s → field_in (core_of program) s f ≡ Some t → IsCell program (x.cells + f) (owner.Field o f) t
+  field_cell_is : (o : ℕ) (x : Object) (s f : ℕ) (t : ValueType) → Kind o x s →
+      field_in (core_of program) s f ≡ Some t → IsCell program (x.cells + f) (owner.Field o f) t
   field_cell_is o x s f t k e =
       let a = bind_got (slice_get (core_of program).structs s) (λ y. slice_get y.fields f >>= λ z. Some z.value_type) t e in
       let same : a.0 ≡ k.view = one_of (core_of program).structs s a.0 k.view a.1 k.there in
@@ -187,7 +202,8 @@ module _ (decls : List Decl) (clean : Clean decls) (program : Typed) (is : resol
       let eq : c.2.0 ≡ t = cc in
       record { cell = c.0; here = c.1; owned = ap (λ (z : Cell). z.owner) c.2.5; typed = ap (λ (z : Cell). z.value_type) c.2.5 ∙ eq }
 
-  final_is : (o : ℕ) (x : Object) (s f target : ℕ) → Kind o x s → final_in (core_of program) s f ≡ Some target → (n : ℕ) × (slice_get program.shape.finals.items (x.finals + f) ≡ Some n) × (struct_of program.shape n ≡ Some target)
+  final_is : (o : ℕ) (x : Object) (s f target : ℕ) → Kind o x s → final_in (core_of program) s f ≡ Some target →
+      (n : ℕ) × (slice_get program.shape.finals.items (x.finals + f) ≡ Some n) × (struct_of program.shape n ≡ Some target)
   final_is o x s f target k e =
       let a = bind_got (slice_get (core_of program).structs s) (λ y. slice_get y.finals f >>= λ z. Some z.target) target e in
       let same : a.0 ≡ k.view = one_of (core_of program).structs s a.0 k.view a.1 k.there in
@@ -239,7 +255,10 @@ module _ (decls : List Decl) (clean : Clean decls) (program : Typed) (is : resol
   }
 
   -- arguments are of the types of the first locals
-  arguments_fit : (n : ℕ) (ps : List Param) (ls : List the_local.Local) (vs : List Value) → Rows (Argument decls) n ps vs → ((k : ℕ) (p : Param) → slice_get ps k ≡ Some p → (y : the_local.Local) × (slice_get ls k ≡ Some y) × (type_of (outside decls) p.value_type ≡ Some y.value_type)) →
+  arguments_fit : (n : ℕ) (ps : List Param) (ls : List the_local.Local) (vs : List Value) →
+      Rows (Argument decls) n ps vs →
+      ((k : ℕ) (p : Param) → slice_get ps k ≡ Some p →
+      (y : the_local.Local) × (slice_get ls k ≡ Some y) × (type_of (outside decls) p.value_type ≡ Some y.value_type)) →
       HaveTypes program.shape (local_types (take (length ps) ls)) vs
   arguments_fit n [] ls [] h up = tt
   arguments_fit n [] ls (v ∷ vs) h up = absurd h
@@ -251,7 +270,9 @@ module _ (decls : List Decl) (clean : Clean decls) (program : Typed) (is : resol
       let ty : type_of (outside decls) p.value_type ≡ Some y.value_type = r.2 ∙ ap (λ (z : the_local.Local). Some z.value_type) (sym same) in
       (holds_is program y.value_type v (argument_holds decls clean (core_of program) is n p v y.value_type h.0 ty), arguments_fit (suc n) ps ls vs h.1 (λ k q e. up (suc k) q e))
 
-  pub scripts : (t k : ℕ) (thread : the_thread.Thread) (call : the_call.Call) → slice_get program.threads.items t ≡ Some thread → slice_get thread.calls.items k ≡ Some call → CanCall program call.section call.arguments.items
+  pub scripts : (t k : ℕ) (thread : the_thread.Thread) (call : the_call.Call) →
+      slice_get program.threads.items t ≡ Some thread → slice_get thread.calls.items k ≡ Some call →
+      CanCall program call.section call.arguments.items
   unfolding CanCall
   scripts t k thread call e h =
       let f = threads_of decls clean (core_of program) is t (core_thread thread) (get_map core_thread program.threads.items t thread e) k (core_call call) (get_map core_call thread.calls.items k call h) in

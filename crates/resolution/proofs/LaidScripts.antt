@@ -1,7 +1,9 @@
 -- What the threads of a resolved program call.
-use Rattle.std.proofs.Common.{◌≡◌, ℕ, zero, suc, ◌+◌, List, [], ◌∷◌, ◌++◌, length, Option, Some, None, true, refl, sym, ap, ◌∙◌, subst, arith}
+use Rattle.std.proofs.Common.{◌≡◌, ℕ, zero, suc, ◌+◌, List, [], ◌∷◌, ◌++◌, length, Option, Some, None, true, refl}
+use Rattle.std.proofs.Common.{sym, ap, ◌∙◌, subst, arith}
 use Rattle.std.specs.Prelude.{slice_get, take}
-use Rattle.syntax.specs.Trees.{ValueType, Const, Param, Section, Item, call, repeat, Items, no_items, item, Decl, lock, struct, global, array, pool, init, atomic, helper, thread}
+use Rattle.syntax.specs.Trees.{ValueType, Const, Param, Section, Item, call, repeat, Items, no_items, item, Decl}
+use Rattle.syntax.specs.Trees.{lock, struct, global, array, pool, init, atomic, helper, thread}
 use Rattle.core_lang.specs.declared.value.Value.{Value}
 use Rattle.core_lang.specs.declared.value.ValueType as core_type
 use Rattle.core_lang.specs.declared.tree.LocalKind.TheVariants as kind
@@ -9,11 +11,14 @@ use Rattle.resolution.specs.declared.body_limits.BodyLimits.{BodyLimits}
 use Rattle.resolution.specs.Core as core
 use Rattle.resolution.specs.Limits.{section_limits, helper_limits}
 use Rattle.resolution.specs.Scopes as scope
-use Rattle.resolution.specs.Scopes.{◌>>=◌, Scope, outside, bears, the_decl, type_of, result_of, number_at, bound, entered}
+use Rattle.resolution.specs.Scopes.{◌>>=◌, Scope, outside, bears, the_decl, type_of, result_of, number_at, bound}
+use Rattle.resolution.specs.Scopes.{entered}
 use Rattle.resolution.specs.Expressions.{want}
 use Rattle.resolution.specs.Statements.{Body, typed_body, after_all}
 use Rattle.resolution.specs.Constants.{typed_const, want_of, typed_arguments}
-use Rattle.resolution.specs.Resolution.{ahead_of, entry, core_locals, section_with, section_of, typed_section, call_of, copies, joined, one_call, typed_item, typed_items, nothing_yet, resolved}
+use Rattle.resolution.specs.Resolution.{ahead_of, entry, core_locals, section_with, section_of, typed_section}
+use Rattle.resolution.specs.Resolution.{call_of, copies, joined, one_call, typed_item, typed_items, nothing_yet}
+use Rattle.resolution.specs.Resolution.{resolved}
 use Rattle.resolution.proofs.Named.{named_is}
 use Rattle.resolution.proofs.TrueStatements.{length_push}
 use Rattle.resolution.proofs.FaultlessExpressions.{Clean}
@@ -31,7 +36,8 @@ use Rattle.resolution.proofs.LaidObjects.{Holds, const_holds}
 abbrev pub Argument : List Decl → ℕ → Param → Value → Type 0
 Argument decls n p v = (c : Const) × (typed_const decls (want_of decls p) c ≡ Some v)
 
-arguments_got : (decls : List Decl) (n : ℕ) (ps : List Param) (cs : List Const) (vs : List Value) → typed_arguments decls ps cs ≡ Some vs → Rows (Argument decls) n ps vs
+arguments_got : (decls : List Decl) (n : ℕ) (ps : List Param) (cs : List Const) (vs : List Value) →
+    typed_arguments decls ps cs ≡ Some vs → Rows (Argument decls) n ps vs
 arguments_got decls n [] [] vs e = let s : [] ≡ vs = cc in subst (Rows (Argument decls) n []) s tt
 arguments_got decls n [] (c ∷ cs) vs e = cc
 arguments_got decls n (p ∷ ps) [] vs e = cc
@@ -52,7 +58,8 @@ pub record CallFact (decls : List Decl) (c : core.Call) : Type 0 where
 abbrev AllCalls : List Decl → List core.Call → Type 0
 AllCalls decls cs = (n : ℕ) (c : core.Call) → slice_get cs n ≡ Some c → CallFact decls c
 
-both_calls : (decls : List Decl) (xs ys : List core.Call) → AllCalls decls xs → AllCalls decls ys → AllCalls decls (xs ++ ys)
+both_calls : (decls : List Decl) (xs ys : List core.Call) → AllCalls decls xs → AllCalls decls ys →
+    AllCalls decls (xs ++ ys)
 both_calls decls [] ys h g n c e = g n c e
 both_calls decls (x ∷ xs) ys h g zero c e = h 0 c e
 both_calls decls (x ∷ xs) ys h g (suc n) c e = both_calls decls xs ys (λ k. h (suc k)) g n c e
@@ -64,7 +71,8 @@ copied_calls : (decls : List Decl) (k : ℕ) (xs : List core.Call) → AllCalls 
 copied_calls decls zero xs h = no_calls decls
 copied_calls decls (suc k) xs h = both_calls decls xs (copies k xs) h (copied_calls decls k xs h)
 
-call_got : (decls : List Decl) (q : List ℕ) (o : Option (ℕ × Decl)) (cs : List Const) (c : core.Call) → the_decl decls q ≡ o → call_of decls o cs ≡ Some c → CallFact decls c
+call_got : (decls : List Decl) (q : List ℕ) (o : Option (ℕ × Decl)) (cs : List Const) (c : core.Call) →
+    the_decl decls q ≡ o → call_of decls o cs ≡ Some c → CallFact decls c
 call_got decls q (Some (i, atomic s)) cs c at e =
     let b = bind_got (typed_arguments decls s.params cs) (λ vs. Some (record { section = number_at decls i (atomic s); arguments = vs })) c e in
     let same : record { section = number_at decls i (atomic s); arguments = b.0 } ≡ c = (let u = b.2 in cc) in
@@ -79,11 +87,13 @@ call_got decls q (Some (i, init x)) cs c at e = cc
 call_got decls q (Some (i, thread x)) cs c at e = cc
 call_got decls q None cs c at e = cc
 
-pub one_got : (o : Option core.Call) (cs : List core.Call) → one_call o ≡ Some cs → (c : core.Call) × (o ≡ Some c) × (c ∷ [] ≡ cs)
+pub one_got : (o : Option core.Call) (cs : List core.Call) → one_call o ≡ Some cs →
+    (c : core.Call) × (o ≡ Some c) × (c ∷ [] ≡ cs)
 one_got (Some c) cs e = (c, refl, cc)
 one_got None cs e = cc
 
-pub joined_got : (o r : Option (List core.Call)) (cs : List core.Call) → joined o r ≡ Some cs → (xs : List core.Call) × (ys : List core.Call) × (o ≡ Some xs) × (r ≡ Some ys) × (xs ++ ys ≡ cs)
+pub joined_got : (o r : Option (List core.Call)) (cs : List core.Call) → joined o r ≡ Some cs →
+    (xs : List core.Call) × (ys : List core.Call) × (o ≡ Some xs) × (r ≡ Some ys) × (xs ++ ys ≡ cs)
 joined_got (Some xs) (Some ys) cs e = (xs, ys, refl, refl, cc)
 joined_got (Some xs) None cs e = cc
 joined_got None r cs e = cc
@@ -102,7 +112,8 @@ mutual
       let same : copies k.value b.0 ≡ cs = (let u = b.2 in cc) in
       subst (AllCalls decls) same (copied_calls decls k.value b.0 (items_calls decls is b.0 b.1))
 
-  items_calls : (decls : List Decl) (is : Items) (cs : List core.Call) → typed_items decls is ≡ Some cs → AllCalls decls cs
+  items_calls : (decls : List Decl) (is : Items) (cs : List core.Call) → typed_items decls is ≡ Some cs →
+      AllCalls decls cs
   items_calls decls no_items cs e = let s : [] ≡ cs = cc in subst (AllCalls decls) s (no_calls decls)
   items_calls decls (item i is) cs e =
       let r = joined_got (typed_item decls i) (typed_items decls is) cs e in
@@ -113,7 +124,8 @@ mutual
 abbrev AllThreads : List Decl → core.Program → Type 0
 AllThreads decls p = (n : ℕ) (t : core.Thread) → slice_get p.threads n ≡ Some t → AllCalls decls t.calls
 
-threads_next : (decls : List Decl) (whole : core.Program) (before : List Decl) (d : Decl) (p q : core.Program) → Step decls whole before d p q → AllThreads decls p → AllThreads decls q
+threads_next : (decls : List Decl) (whole : core.Program) (before : List Decl) (d : Decl) (p q : core.Program) →
+    Step decls whole before d p q → AllThreads decls p → AllThreads decls q
 threads_next decls whole before (lock y) p q st h n x e = h n x (ap (λ (zs : List core.Thread). slice_get zs n) (sym (keeps_threads decls (length before) p (lock y) q st.adds)) ∙ e)
 threads_next decls whole before (struct y) p q st h n x e = h n x (ap (λ (zs : List core.Thread). slice_get zs n) (sym (keeps_threads decls (length before) p (struct y) q st.adds)) ∙ e)
 threads_next decls whole before (global y) p q st h n x e = h n x (ap (λ (zs : List core.Thread). slice_get zs n) (sym (keeps_threads decls (length before) p (global y) q st.adds)) ∙ e)
@@ -131,20 +143,24 @@ threads_next decls whole before (thread x) p q st h n t e =
 no_threads : (decls : List Decl) → AllThreads decls nothing_yet
 no_threads decls k x e = cc
 
-pub threads_of : (decls : List Decl) → Clean decls → (whole : core.Program) → resolved decls ≡ Some whole → (n : ℕ) (t : core.Thread) → slice_get whole.threads n ≡ Some t → (k : ℕ) (c : core.Call) → slice_get t.calls k ≡ Some c → CallFact decls c
+pub threads_of : (decls : List Decl) → Clean decls → (whole : core.Program) → resolved decls ≡ Some whole →
+    (n : ℕ) (t : core.Thread) → slice_get whole.threads n ≡ Some t → (k : ℕ) (c : core.Call) →
+    slice_get t.calls k ≡ Some c → CallFact decls c
 threads_of decls clean whole is = walked_whole decls clean whole is (λ b p. AllThreads decls p) (no_threads decls) (threads_next decls whole)
 
 -- ---- the parameters of a section or a helper
 
 -- what a scope has, it has behind parameters
-entered_front : (sc : Scope) (ps : List Param) (n : ℕ) (l : scope.Local) → slice_get sc.locals n ≡ Some l → slice_get (entered sc ps).locals n ≡ Some l
+entered_front : (sc : Scope) (ps : List Param) (n : ℕ) (l : scope.Local) → slice_get sc.locals n ≡ Some l →
+    slice_get (entered sc ps).locals n ≡ Some l
 entered_front sc [] n l e = e
 entered_front sc (p ∷ ps) n l e =
     let x : scope.Local = record { name = p.name.text; kind = kind.Parameter; value_type = type_of (outside sc.decls) p.value_type; is_visible = true } in
     entered_front (bound sc kind.Parameter p.name (type_of (outside sc.decls) p.value_type)) ps n l (slice_front sc.locals (x ∷ []) n l e)
 
 -- a parameter is a local of its type
-entered_local : (sc : Scope) (ps : List Param) (n : ℕ) (p : Param) → slice_get ps n ≡ Some p → (l : scope.Local) × (slice_get (entered sc ps).locals (length sc.locals + n) ≡ Some l) × (l.value_type ≡ type_of (outside sc.decls) p.value_type)
+entered_local : (sc : Scope) (ps : List Param) (n : ℕ) (p : Param) → slice_get ps n ≡ Some p →
+    (l : scope.Local) × (slice_get (entered sc ps).locals (length sc.locals + n) ≡ Some l) × (l.value_type ≡ type_of (outside sc.decls) p.value_type)
 entered_local sc [] n p e = cc
 entered_local sc (q ∷ ps) zero p e =
     let same : q ≡ p = cc in
@@ -178,11 +194,14 @@ section_by decls limits s x (Some locals) (Some b) is e = let r = put_got decls 
 section_by decls limits s x (Some locals) None is e = cc
 section_by decls limits s x None b is e = cc
 
-pub sectioned : (decls : List Decl) (limits : BodyLimits) (s : Section) (x : core.Section) → typed_section decls limits s ≡ Some x → Sectioned decls limits s x
+pub sectioned : (decls : List Decl) (limits : BodyLimits) (s : Section) (x : core.Section) →
+    typed_section decls limits s ≡ Some x → Sectioned decls limits s x
 sectioned decls limits s x e = section_by decls limits s x (core_locals (after_all (entry decls limits s) s.body.stmts).locals) (typed_body (entry decls limits s) s.body.stmts) refl e
 
 -- a parameter's local
-pub parameter_local : (decls : List Decl) (limits : BodyLimits) (s : Section) (x : core.Section) → typed_section decls limits s ≡ Some x → (n : ℕ) (p : Param) → slice_get s.params n ≡ Some p → (y : core.Local) × (slice_get x.locals n ≡ Some y) × (type_of (outside decls) p.value_type ≡ Some y.value_type)
+pub parameter_local : (decls : List Decl) (limits : BodyLimits) (s : Section) (x : core.Section) →
+    typed_section decls limits s ≡ Some x → (n : ℕ) (p : Param) → slice_get s.params n ≡ Some p →
+    (y : core.Local) × (slice_get x.locals n ≡ Some y) × (type_of (outside decls) p.value_type ≡ Some y.value_type)
 parameter_local decls limits s x e n p at =
     let r = sectioned decls limits s x e in
     let l = entered_local (ahead_of decls limits s) s.params n p at in
@@ -193,7 +212,9 @@ parameter_local decls limits s x e n p at =
 
 -- ---- a section, by its declaration
 
-pub section_at : (decls : List Decl) → Clean decls → (whole : core.Program) → resolved decls ≡ Some whole → (i : ℕ) (s : Section) → slice_get decls i ≡ Some (atomic s) → (x : core.Section) × (slice_get whole.sections (number_at decls i (atomic s)) ≡ Some x) × (typed_section decls section_limits s ≡ Some x)
+pub section_at : (decls : List Decl) → Clean decls → (whole : core.Program) → resolved decls ≡ Some whole →
+    (i : ℕ) (s : Section) → slice_get decls i ≡ Some (atomic s) →
+    (x : core.Section) × (slice_get whole.sections (number_at decls i (atomic s)) ≡ Some x) × (typed_section decls section_limits s ≡ Some x)
 section_at decls clean whole is i s at =
     let l = lands decls clean whole is i (atomic s) at in
     let a = l.step.adds in
@@ -202,7 +223,9 @@ section_at decls clean whole is i s at =
     (a.0, subst (λ (k : ℕ). slice_get whole.sections k ≡ Some a.0) number here, a.1)
 
 -- the same of a helper
-pub helper_at : (decls : List Decl) → Clean decls → (whole : core.Program) → resolved decls ≡ Some whole → (i : ℕ) (s : Section) → slice_get decls i ≡ Some (helper s) → (x : core.Section) × (slice_get whole.helpers (number_at decls i (helper s)) ≡ Some x) × (typed_section decls helper_limits s ≡ Some x)
+pub helper_at : (decls : List Decl) → Clean decls → (whole : core.Program) → resolved decls ≡ Some whole →
+    (i : ℕ) (s : Section) → slice_get decls i ≡ Some (helper s) →
+    (x : core.Section) × (slice_get whole.helpers (number_at decls i (helper s)) ≡ Some x) × (typed_section decls helper_limits s ≡ Some x)
 helper_at decls clean whole is i s at =
     let l = lands decls clean whole is i (helper s) at in
     let a = l.step.adds in
@@ -211,7 +234,9 @@ helper_at decls clean whole is i s at =
     (a.0, subst (λ (k : ℕ). slice_get whole.helpers k ≡ Some a.0) number here, a.1)
 
 -- the types of the first locals are those of the parameters
-types_are : (decls : List Decl) (ps : List Param) (ls : List core.Local) → ((k : ℕ) (p : Param) → slice_get ps k ≡ Some p → (y : core.Local) × (slice_get ls k ≡ Some y) × (type_of (outside decls) p.value_type ≡ Some y.value_type)) →
+types_are : (decls : List Decl) (ps : List Param) (ls : List core.Local) →
+    ((k : ℕ) (p : Param) → slice_get ps k ≡ Some p →
+    (y : core.Local) × (slice_get ls k ≡ Some y) × (type_of (outside decls) p.value_type ≡ Some y.value_type)) →
     TypesAre decls ps (types_of (take (length ps) ls))
 types_are decls [] ls up = tt
 types_are decls (p ∷ ps) [] up = let r = up 0 p refl in let e = r.1 in cc
@@ -221,7 +246,8 @@ types_are decls (p ∷ ps) (l ∷ ls) up =
     (r.2 ∙ ap (λ (y : core.Local). Some y.value_type) (sym same), types_are decls ps ls (λ k q e. up (suc k) q e))
 
 -- each helper stands at its number
-pub has_helpers : (decls : List Decl) → Clean decls → (whole : core.Program) → resolved decls ≡ Some whole → HasHelpers decls whole
+pub has_helpers : (decls : List Decl) → Clean decls → (whole : core.Program) → resolved decls ≡ Some whole →
+    HasHelpers decls whole
 has_helpers decls clean whole is i s at =
     let x = helper_at decls clean whole is i s at in
     let made = sectioned decls helper_limits s x.0 x.2 in
@@ -233,5 +259,7 @@ has_helpers decls clean whole is i s at =
     }
 
 -- an argument is of its parameter's type
-pub argument_holds : (decls : List Decl) → Clean decls → (whole : core.Program) → resolved decls ≡ Some whole → (n : ℕ) (p : Param) (v : Value) (t : core_type.ValueType) → Argument decls n p v → type_of (outside decls) p.value_type ≡ Some t → Holds whole t v
+pub argument_holds : (decls : List Decl) → Clean decls → (whole : core.Program) → resolved decls ≡ Some whole →
+    (n : ℕ) (p : Param) (v : Value) (t : core_type.ValueType) → Argument decls n p v →
+    type_of (outside decls) p.value_type ≡ Some t → Holds whole t v
 argument_holds decls clean whole is n p v t a e = const_holds decls clean whole is t a.0 v (ap (λ (o : Option core_type.ValueType). typed_const decls (want o) a.0) (sym e) ∙ a.1)

@@ -1,7 +1,9 @@
 -- What each step of resolution adds to a program.
-use Rattle.std.proofs.Common.{◌≡◌, ℕ, zero, suc, ◌+◌, ◌≤◌, List, [], ◌∷◌, ◌++◌, length, Option, Some, None, Bool, true, false, if◌then◌else◌, refl, sym, ap, ◌∙◌, subst, append_assoc, arith}
+use Rattle.std.proofs.Common.{◌≡◌, ℕ, zero, suc, ◌+◌, ◌≤◌, List, [], ◌∷◌, ◌++◌, length, Option, Some, None, Bool}
+use Rattle.std.proofs.Common.{true, false, if◌then◌else◌, refl, sym, ap, ◌∙◌, subst, append_assoc, arith}
 use Rattle.std.specs.Prelude.{slice_get}
-use Rattle.syntax.specs.Trees.{Ident, Const, Member, lock_member, final_member, field_member, Final, Field, Decl, lock, struct, global, array, pool, init, atomic, helper, thread}
+use Rattle.syntax.specs.Trees.{Ident, Const, Member, lock_member, final_member, field_member, Final, Field, Decl}
+use Rattle.syntax.specs.Trees.{lock, struct, global, array, pool, init, atomic, helper, thread}
 use Rattle.core_lang.specs.declared.value.Value.{Value}
 use Rattle.core_lang.specs.declared.value.ValueType as core_type
 use Rattle.core_lang.specs.declared.typed.Owner.{Owner}
@@ -9,11 +11,17 @@ use Rattle.core_lang.specs.declared.typed.Owner.TheVariants as owner
 use Rattle.core_lang.specs.declared.typed.Cell.{Cell}
 use Rattle.core_lang.specs.declared.shape.Object.{Object}
 use Rattle.resolution.specs.Core as core
-use Rattle.resolution.specs.Limits.{OBJECT_LIMIT, CELL_LIMIT, section_limits, helper_limits, object_at, cell_at, final_at}
+use Rattle.resolution.specs.Limits.{OBJECT_LIMIT, CELL_LIMIT, section_limits, helper_limits, object_at, cell_at}
+use Rattle.resolution.specs.Limits.{final_at}
 use Rattle.resolution.specs.Scopes.{◌>>=◌, outside, type_of, struct_named, number_in}
 use Rattle.resolution.specs.Constants.{members_of, opened, default_of, referred}
 use Rattle.resolution.specs.Annotations.{class_of, protection_of}
-use Rattle.resolution.specs.Resolution.{few_calls, typed_calls, typed_items, typed_section, StructBuilder, lock_added, final_added, field_added, member_added, members_added, empty_struct, with_class, with_struct, with_cell, with_section, with_helper, with_thread, global_added, with_global, opening_of, with_elements, array_added, with_array, Slot, slot_given, final_cell, field_cell, with_members, object_added, with_object, with_objects, pool_added, with_pool, extended}
+use Rattle.resolution.specs.Resolution.{few_calls, typed_calls, typed_items, typed_section, StructBuilder, lock_added}
+use Rattle.resolution.specs.Resolution.{final_added, field_added, member_added, members_added, empty_struct}
+use Rattle.resolution.specs.Resolution.{with_class, with_struct, with_cell, with_section, with_helper, with_thread}
+use Rattle.resolution.specs.Resolution.{global_added, with_global, opening_of, with_elements, array_added, with_array}
+use Rattle.resolution.specs.Resolution.{Slot, slot_given, final_cell, field_cell, with_members, object_added}
+use Rattle.resolution.specs.Resolution.{with_object, with_objects, pool_added, with_pool, extended}
 use Rattle.resolution.proofs.LaidLists.{Rows, Grows, grows_more, bind_got, up_got}
 use Rattle.std.proofs.lemmas.List.{append-nil}
 
@@ -37,7 +45,8 @@ locks_in (lock_member x ∷ ms) = x ∷ locks_in ms
 locks_in (final_member f ∷ ms) = locks_in ms
 locks_in (field_member f ∷ ms) = locks_in ms
 
-pub field_numbered : (ms : List Member) (m : ℕ) (f : Field) → slice_get ms m ≡ Some (field_member f) → slice_get (fields_in ms) (number_in ms m (field_member f)) ≡ Some f
+pub field_numbered : (ms : List Member) (m : ℕ) (f : Field) → slice_get ms m ≡ Some (field_member f) →
+    slice_get (fields_in ms) (number_in ms m (field_member f)) ≡ Some f
 field_numbered [] m f e = cc
 field_numbered (lock_member x ∷ ms) zero f e = cc
 field_numbered (final_member x ∷ ms) zero f e = cc
@@ -46,7 +55,8 @@ field_numbered (lock_member x ∷ ms) (suc m) f e = field_numbered ms m f e
 field_numbered (final_member x ∷ ms) (suc m) f e = field_numbered ms m f e
 field_numbered (field_member x ∷ ms) (suc m) f e = field_numbered ms m f e
 
-pub final_numbered : (ms : List Member) (m : ℕ) (f : Final) → slice_get ms m ≡ Some (final_member f) → slice_get (finals_in ms) (number_in ms m (final_member f)) ≡ Some f
+pub final_numbered : (ms : List Member) (m : ℕ) (f : Final) → slice_get ms m ≡ Some (final_member f) →
+    slice_get (finals_in ms) (number_in ms m (final_member f)) ≡ Some f
 final_numbered [] m f e = cc
 final_numbered (lock_member x ∷ ms) zero f e = cc
 final_numbered (field_member x ∷ ms) zero f e = cc
@@ -55,7 +65,8 @@ final_numbered (lock_member x ∷ ms) (suc m) f e = final_numbered ms m f e
 final_numbered (final_member x ∷ ms) (suc m) f e = final_numbered ms m f e
 final_numbered (field_member x ∷ ms) (suc m) f e = final_numbered ms m f e
 
-pub lock_numbered : (ms : List Member) (m : ℕ) (f : Ident) → slice_get ms m ≡ Some (lock_member f) → slice_get (locks_in ms) (number_in ms m (lock_member f)) ≡ Some f
+pub lock_numbered : (ms : List Member) (m : ℕ) (f : Ident) → slice_get ms m ≡ Some (lock_member f) →
+    slice_get (locks_in ms) (number_in ms m (lock_member f)) ≡ Some f
 lock_numbered [] m f e = cc
 lock_numbered (final_member x ∷ ms) zero f e = cc
 lock_numbered (field_member x ∷ ms) zero f e = cc
@@ -84,7 +95,8 @@ pub record Membered (decls : List Decl) (object fields n : ℕ) (ms : List Membe
   pub own : Rows (CellOf decls object) fields (fields_in ms) cells
   pub refs : Rows (FinalOf decls) n (finals_in ms) finals
 
-none_members : (decls : List Decl) (slot : Slot) (place fields : ℕ) (ms : List Member) → with_members decls slot place fields None ms ≡ None
+none_members : (decls : List Decl) (slot : Slot) (place fields : ℕ) (ms : List Member) →
+    with_members decls slot place fields None ms ≡ None
 none_members decls slot place fields [] = refl
 none_members decls slot place fields (lock_member x ∷ ms) = none_members decls slot (place + 1) fields ms
 none_members decls slot place fields (final_member x ∷ ms) = none_members decls slot (place + 1) fields ms
@@ -100,12 +112,14 @@ field_there decls slot place fields p q w (Some t) (Some v) ms e = (t, v, refl, 
 field_there decls slot place fields p q w (Some t) None ms e = let s : None ≡ Some q = sym (none_members decls slot place fields ms) ∙ e in cc
 field_there decls slot place fields p q w None r ms e = let s : None ≡ Some q = sym (none_members decls slot place fields ms) ∙ e in cc
 
-referred_got : (decls : List Decl) (o : Option ℕ) (g : Option Const) (n : ℕ) → referred decls o g ≡ Some n → (s : ℕ) × (c : Const) × (o ≡ Some s) × (referred decls (Some s) (Some c) ≡ Some n)
+referred_got : (decls : List Decl) (o : Option ℕ) (g : Option Const) (n : ℕ) → referred decls o g ≡ Some n →
+    (s : ℕ) × (c : Const) × (o ≡ Some s) × (referred decls (Some s) (Some c) ≡ Some n)
 referred_got decls (Some s) (Some c) n e = (s, c, refl, e)
 referred_got decls (Some s) None n e = cc
 referred_got decls None g n e = cc
 
-pub members_got : (decls : List Decl) (slot : Slot) (place fields n : ℕ) (p q : core.Program) (ms : List Member) → with_members decls slot place fields (Some p) ms ≡ Some q → Membered decls slot.object fields n ms p q
+pub members_got : (decls : List Decl) (slot : Slot) (place fields n : ℕ) (p q : core.Program) (ms : List Member) →
+    with_members decls slot place fields (Some p) ms ≡ Some q → Membered decls slot.object fields n ms p q
 members_got decls slot place fields n p q [] e =
     let s : p ≡ q = cc in
     record { cells = []; finals = []; is = sym s ∙ ap (λ (cs : List Cell). with_parts p cs p.finals) (sym (append-nil p.cells)) ∙ ap (λ (fs : List ℕ). with_parts p (p.cells ++ []) fs) (sym (append-nil p.finals)); own = tt; refs = tt }
@@ -155,7 +169,8 @@ pub record Objected (decls : List Decl) (number : ℕ) (ms : List Member) (p q :
   pub own : Rows (CellOf decls (length p.objects)) 0 (fields_in ms) cells
   pub refs : Rows (FinalOf decls) 0 (finals_in ms) finals
 
-pub object_got : (decls : List Decl) (i number : ℕ) (ms : List Member) (n : ℕ) (p q : core.Program) → with_object decls i number ms n p ≡ Some q → Objected decls number ms p q
+pub object_got : (decls : List Decl) (i number : ℕ) (ms : List Member) (n : ℕ) (p q : core.Program) →
+    with_object decls i number ms n p ≡ Some q → Objected decls number ms p q
 object_got decls i number ms n p q e =
     let slot : Slot = record { pool = i; index = n; object = length p.objects } in
     let a = bind_got (cell_at (length p.cells)) (λ cs. final_at (length p.finals) >>= λ fs. with_members decls slot 0 0 (Some (object_added p number cs fs)) ms) q e in
@@ -173,7 +188,8 @@ abbrev pub Chain : List Decl → ℕ → List Member → ℕ → core.Program �
 Chain decls number ms zero p q = p ≡ q
 Chain decls number ms (suc n) p q = (m : core.Program) × Chain decls number ms n p m × Objected decls number ms m q
 
-pub chain_got : (decls : List Decl) (i number : ℕ) (ms : List Member) (n : ℕ) (p q : core.Program) → with_objects decls i number ms (Some p) n ≡ Some q → Chain decls number ms n p q
+pub chain_got : (decls : List Decl) (i number : ℕ) (ms : List Member) (n : ℕ) (p q : core.Program) →
+    with_objects decls i number ms (Some p) n ≡ Some q → Chain decls number ms n p q
 chain_got decls i number ms zero p q e = cc
 chain_got decls i number ms (suc n) p q e =
     let r = bind_got (with_objects decls i number ms (Some p) n) (λ m. with_object decls i number ms n m) q e in
@@ -192,19 +208,24 @@ Adds decls i p (atomic s) q = (x : core.Section) × (typed_section decls section
 Adds decls i p (helper s) q = (x : core.Section) × (typed_section decls helper_limits s ≡ Some x) × (record p { helpers = p.helpers ++ x ∷ [] } ≡ q)
 Adds decls i p (thread t) q = (calls : List core.Call) × (typed_items decls t.items ≡ Some calls) × (record p { threads = p.threads ++ record { name = t.name.text; calls = calls } ∷ [] } ≡ q)
 
-struct_got : (p : core.Program) (o : Option StructBuilder) (q : core.Program) → with_struct p o ≡ Some q → (st : StructBuilder) × (o ≡ Some st) × (record p { classes = st.classes; structs = p.structs ++ st.structure ∷ [] } ≡ q)
+struct_got : (p : core.Program) (o : Option StructBuilder) (q : core.Program) → with_struct p o ≡ Some q →
+    (st : StructBuilder) × (o ≡ Some st) × (record p { classes = st.classes; structs = p.structs ++ st.structure ∷ [] } ≡ q)
 struct_got p (Some st) q e = (st, refl, cc)
 struct_got p None q e = cc
 
-section_got : (p : core.Program) (o : Option core.Section) (q : core.Program) → with_section p o ≡ Some q → (x : core.Section) × (o ≡ Some x) × (record p { sections = p.sections ++ x ∷ [] } ≡ q)
+section_got : (p : core.Program) (o : Option core.Section) (q : core.Program) → with_section p o ≡ Some q →
+    (x : core.Section) × (o ≡ Some x) × (record p { sections = p.sections ++ x ∷ [] } ≡ q)
 section_got p (Some x) q e = (x, refl, cc)
 section_got p None q e = cc
 
-helper_got : (p : core.Program) (o : Option core.Section) (q : core.Program) → with_helper p o ≡ Some q → (x : core.Section) × (o ≡ Some x) × (record p { helpers = p.helpers ++ x ∷ [] } ≡ q)
+helper_got : (p : core.Program) (o : Option core.Section) (q : core.Program) → with_helper p o ≡ Some q →
+    (x : core.Section) × (o ≡ Some x) × (record p { helpers = p.helpers ++ x ∷ [] } ≡ q)
 helper_got p (Some x) q e = (x, refl, cc)
 helper_got p None q e = cc
 
-thread_got : (p : core.Program) (name : List ℕ) (o : Option (List core.Call)) (q : core.Program) → with_thread p name o ≡ Some q → (x : List core.Call) × (o ≡ Some x) × (record p { threads = p.threads ++ record { name = name; calls = x } ∷ [] } ≡ q)
+thread_got : (p : core.Program) (name : List ℕ) (o : Option (List core.Call)) (q : core.Program) →
+    with_thread p name o ≡ Some q →
+    (x : List core.Call) × (o ≡ Some x) × (record p { threads = p.threads ++ record { name = name; calls = x } ∷ [] } ≡ q)
 thread_got p name (Some x) q e = (x, refl, cc)
 thread_got p name None q e = cc
 
@@ -250,7 +271,8 @@ pool_got decls i p name (Some s) (Some ms) n q e =
 pool_got decls i p name (Some s) None n q e = cc
 pool_got decls i p name None om n q e = cc
 
-pub adds : (decls : List Decl) (i : ℕ) (p : core.Program) (d : Decl) (q : core.Program) → extended decls i p d ≡ Some q → Adds decls i p d q
+pub adds : (decls : List Decl) (i : ℕ) (p : core.Program) (d : Decl) (q : core.Program) →
+    extended decls i p d ≡ Some q → Adds decls i p d q
 adds decls i p (lock x) q e = cc
 adds decls i p (struct s) q e = struct_got p (members_added decls (length p.structs) i s.members (Some (record { structure = empty_struct s.name.text; classes = p.classes })) s.members) q e
 adds decls i p (global v) q e =
@@ -299,20 +321,24 @@ begins_elements p a t (suc n) = begins_on p (with_elements p a t n) (with_elemen
 begins_thing : (p : core.Program) (o : Object) (cs : List Cell) (fs : List ℕ) → Begins p (with_thing p o cs fs)
 begins_thing p o cs fs = record { classes = λ k x e. e; structs = λ k x e. e; globals = λ k x e. e; arrays = λ k x e. e; pools = λ k x e. e; objects = grows_more p.objects (o ∷ []); finals = grows_more p.finals fs; cells = grows_more p.cells cs; sections = λ k x e. e; threads = λ k x e. e; helpers = λ k x e. e }
 
-pub begins_object : (decls : List Decl) (number : ℕ) (ms : List Member) (p q : core.Program) → Objected decls number ms p q → Begins p q
+pub begins_object : (decls : List Decl) (number : ℕ) (ms : List Member) (p q : core.Program) →
+    Objected decls number ms p q → Begins p q
 begins_object decls number ms p q o = begins_is p (with_thing p (record { pool = number; cells = length p.cells; finals = length p.finals }) o.cells o.finals) q (begins_thing p (record { pool = number; cells = length p.cells; finals = length p.finals }) o.cells o.finals) (sym o.is)
 
-pub begins_chain : (decls : List Decl) (number : ℕ) (ms : List Member) (n : ℕ) (p q : core.Program) → Chain decls number ms n p q → Begins p q
+pub begins_chain : (decls : List Decl) (number : ℕ) (ms : List Member) (n : ℕ) (p q : core.Program) →
+    Chain decls number ms n p q → Begins p q
 begins_chain decls number ms zero p q c = begins_is p p q (begins_same p) c
 begins_chain decls number ms (suc n) p q c = begins_on p c.0 q (begins_chain decls number ms n p c.0 c.1) (begins_object decls number ms c.0 q c.2)
 
-pub begins_array : (p : core.Program) (name : List ℕ) (first length : ℕ) (t : core_type.ValueType) (c : ℕ) → Begins p (array_added p name first length t c)
+pub begins_array : (p : core.Program) (name : List ℕ) (first length : ℕ) (t : core_type.ValueType) (c : ℕ) →
+    Begins p (array_added p name first length t c)
 begins_array p name first length t c = record { classes = λ k x e. e; structs = λ k x e. e; globals = λ k x e. e; arrays = grows_more p.arrays (record { name = name; first = first; length = length; element_type = t; class = c } ∷ []); pools = λ k x e. e; objects = λ k x e. e; finals = λ k x e. e; cells = λ k x e. e; sections = λ k x e. e; threads = λ k x e. e; helpers = λ k x e. e }
 
 pub begins_pool : (p : core.Program) (name : List ℕ) (first length s : ℕ) → Begins p (pool_added p name first length s)
 begins_pool p name first length s = record { classes = λ k x e. e; structs = λ k x e. e; globals = λ k x e. e; arrays = λ k x e. e; pools = grows_more p.pools (record { name = name; first = first; length = length; structure = s } ∷ []); objects = λ k x e. e; finals = λ k x e. e; cells = λ k x e. e; sections = λ k x e. e; threads = λ k x e. e; helpers = λ k x e. e }
 
-pub begins_global : (p : core.Program) (name : List ℕ) (cell c : ℕ) (t : core_type.ValueType) (w : Value) → Begins p (global_added p name cell c t w)
+pub begins_global : (p : core.Program) (name : List ℕ) (cell c : ℕ) (t : core_type.ValueType) (w : Value) →
+    Begins p (global_added p name cell c t w)
 begins_global p name cell c t w = record { classes = λ k x e. e; structs = λ k x e. e; globals = grows_more p.globals (record { name = name; cell = cell; class = c } ∷ []); arrays = λ k x e. e; pools = λ k x e. e; objects = λ k x e. e; finals = λ k x e. e; cells = grows_more p.cells (record { owner = owner.Global (length p.globals); value_type = t; opening = w } ∷ []); sections = λ k x e. e; threads = λ k x e. e; helpers = λ k x e. e }
 
 -- a struct's classes
@@ -327,7 +353,8 @@ shaped_classes decls k i all st (final_member f) to e = by_target (struct_named 
     by_target None h = cc
 shaped_classes decls k i all st (field_member f) to e = by_type (type_of (outside decls) f.value_type) (protection_of decls i all f.protection) e
   where
-    by_type : (o : Option core_type.ValueType) (r : Option core.Protection) → field_added st f.name.text o r ≡ Some to → Grows st.classes to.classes
+    by_type : (o : Option core_type.ValueType) (r : Option core.Protection) →
+        field_added st f.name.text o r ≡ Some to → Grows st.classes to.classes
     by_type (Some t) (Some p) h = let s : record st { structure = record (st.structure) { fields = st.structure.fields ++ record { name = f.name.text; value_type = t; protection = p } ∷ [] } } ≡ to = cc in subst (λ (y : StructBuilder). Grows st.classes y.classes) s (λ j x g. g)
     by_type (Some t) None h = cc
     by_type None r h = cc
@@ -348,7 +375,8 @@ all_classes decls k i all st (m ∷ ms) to e =
     let b = all_classes decls k i all r.0 ms to r.2 in
     λ j x g. b j x (a j x g)
 
-pub begins_adds : (decls : List Decl) (i : ℕ) (p : core.Program) (d : Decl) (q : core.Program) → Adds decls i p d q → Begins p q
+pub begins_adds : (decls : List Decl) (i : ℕ) (p : core.Program) (d : Decl) (q : core.Program) → Adds decls i p d q →
+    Begins p q
 begins_adds decls i p (lock x) q a = begins_is p (with_class p (core.global_lock x.text)) q (record { classes = grows_more p.classes (core.global_lock x.text ∷ []); structs = λ k x e. e; globals = λ k x e. e; arrays = λ k x e. e; pools = λ k x e. e; objects = λ k x e. e; finals = λ k x e. e; cells = λ k x e. e; sections = λ k x e. e; threads = λ k x e. e; helpers = λ k x e. e }) a
 begins_adds decls i p (struct s) q a =
     let g = all_classes decls (length p.structs) i s.members (record { structure = empty_struct s.name.text; classes = p.classes }) s.members a.0 a.1 in

@@ -1,8 +1,10 @@
 -- A program is resolved step by step, and where each step stands.
-use Rattle.std.proofs.Common.{◌≡◌, ℕ, zero, suc, ◌+◌, ◌*◌, ◌≤◌, List, [], ◌∷◌, ◌++◌, length, Option, Some, None, refl, sym, ap, ◌∙◌, subst, append_assoc, arith}
+use Rattle.std.proofs.Common.{◌≡◌, ℕ, zero, suc, ◌+◌, ◌*◌, ◌≤◌, List, [], ◌∷◌, ◌++◌, length, Option, Some, None, refl}
+use Rattle.std.proofs.Common.{sym, ap, ◌∙◌, subst, append_assoc, arith}
 use Rattle.std.specs.Prelude.{slice_get, take, ⊤}
 use Rattle.std.proofs.lemmas.List.{length-append, append-nil}
-use Rattle.syntax.specs.Trees.{Ident, Member, lock_member, final_member, field_member, Final, Field, Struct, Array, Pool, Section, Decl, lock, struct, global, array, pool, init, atomic, helper, thread}
+use Rattle.syntax.specs.Trees.{Ident, Member, lock_member, final_member, field_member, Final, Field, Struct, Array}
+use Rattle.syntax.specs.Trees.{Pool, Section, Decl, lock, struct, global, array, pool, init, atomic, helper, thread}
 use Rattle.core_lang.specs.declared.value.ValueType as core_type
 use Rattle.core_lang.specs.declared.typed.Owner.TheVariants as owner
 use Rattle.resolution.specs.Core as core
@@ -11,7 +13,9 @@ use Rattle.resolution.specs.Scopes.{outside, bears, the_decl, type_of, struct_na
 use Rattle.resolution.specs.Numbers.{total, is_lock, classes_of, objects_of, cells_of, width}
 use Rattle.resolution.specs.Constants.{members_of, members_in, default_of}
 use Rattle.resolution.specs.Annotations.{protection_of}
-use Rattle.resolution.specs.Resolution.{StructBuilder, lock_added, final_added, field_added, members_added, empty_struct, nothing_yet, with_class, with_elements, array_added, pool_added, extended, resolved_from, resolved}
+use Rattle.resolution.specs.Resolution.{StructBuilder, lock_added, final_added, field_added, members_added}
+use Rattle.resolution.specs.Resolution.{empty_struct, nothing_yet, with_class, with_elements, array_added, pool_added}
+use Rattle.resolution.specs.Resolution.{extended, resolved_from, resolved}
 use Rattle.resolution.specs.Working.FaultLists.{count_faults, total_faults}
 use Rattle.resolution.proofs.Named.{named_is}
 use Rattle.resolution.proofs.AllFaults.{of_totals}
@@ -20,7 +24,8 @@ use Rattle.resolution.proofs.FaultlessExpressions.{NoneIn, none_left, none_right
 use Rattle.resolution.proofs.FaultlessMembers.{is_field, fields_are}
 use Rattle.resolution.proofs.FaultlessPrograms.{total_push, objects_fit, struct_once}
 use Rattle.resolution.proofs.LaidLists.{Rows, rows_length, get_last, get_pushed, take_front, as_one, count_push}
-use Rattle.resolution.proofs.LaidStages.{fields_in, finals_in, locks_in, Objected, Chain, Adds, adds, Begins, begins_same, begins_on, begins_adds, builder_there}
+use Rattle.resolution.proofs.LaidStages.{fields_in, finals_in, locks_in, Objected, Chain, Adds, adds, Begins}
+use Rattle.resolution.proofs.LaidStages.{begins_same, begins_on, begins_adds, builder_there}
 
 -- ---- a struct's parts
 
@@ -50,7 +55,9 @@ pub record Shaped (decls : List Decl) (k i : ℕ) (all : List Member) (a b : ℕ
   pub final_rows : Rows (FinalRow decls) a (finals_in ms) finals
   pub field_rows : Rows (FieldRow decls i all) b (fields_in ms) fields
 
-final_step : (st : StructBuilder) (name : List ℕ) (o : Option ℕ) (to : StructBuilder) → final_added st name o ≡ Some to → (t : ℕ) × (o ≡ Some t) × (record st { structure = record (st.structure) { finals = st.structure.finals ++ record { name = name; target = t } ∷ [] } } ≡ to)
+final_step : (st : StructBuilder) (name : List ℕ) (o : Option ℕ) (to : StructBuilder) →
+    final_added st name o ≡ Some to →
+    (t : ℕ) × (o ≡ Some t) × (record st { structure = record (st.structure) { finals = st.structure.finals ++ record { name = name; target = t } ∷ [] } } ≡ to)
 final_step st name (Some t) to e = (t, refl, cc)
 final_step st name None to e = cc
 
@@ -159,7 +166,8 @@ pub record Membership (decls : List Decl) (x : Ident) (ms : List Member) : Type 
   pub here : slice_get decls place ≡ Some (struct structure)
   pub are : structure.members ≡ ms
 
-members_by : (decls : List Decl) (x : Ident) (ms : List Member) (o : Option (ℕ × Decl)) → the_decl decls x.text ≡ o → members_in o ≡ Some ms → Membership decls x ms
+members_by : (decls : List Decl) (x : Ident) (ms : List Member) (o : Option (ℕ × Decl)) → the_decl decls x.text ≡ o →
+    members_in o ≡ Some ms → Membership decls x ms
 members_by decls x ms (Some (n, struct s)) e h = record { place = n; structure = s; named = e; here = (named_is bears decls x.text n (struct s) e).here; are = cc }
 members_by decls x ms (Some (n, lock y)) e h = cc
 members_by decls x ms (Some (n, global y)) e h = cc
@@ -171,10 +179,12 @@ members_by decls x ms (Some (n, helper y)) e h = cc
 members_by decls x ms (Some (n, thread y)) e h = cc
 members_by decls x ms None e h = cc
 
-pub membership : (decls : List Decl) (x : Ident) (ms : List Member) → members_of decls x ≡ Some ms → Membership decls x ms
+pub membership : (decls : List Decl) (x : Ident) (ms : List Member) → members_of decls x ≡ Some ms →
+    Membership decls x ms
 membership decls x ms e = members_by decls x ms (the_decl decls x.text) refl e
 
-wide : (decls : List Decl) → Clean decls → (x : Ident) (ms : List Member) → members_of decls x ≡ Some ms → width (the_decl decls x.text) ≡ length (fields_in ms)
+wide : (decls : List Decl) → Clean decls → (x : Ident) (ms : List Member) → members_of decls x ≡ Some ms →
+    width (the_decl decls x.text) ≡ length (fields_in ms)
 wide decls clean x ms e =
     let m = membership decls x ms e in
     let once = struct_once decls clean m.structure (at_has decls m.place (struct m.structure) m.here) in
@@ -191,7 +201,8 @@ pub record Leaves (p q : core.Program) : Type 0 where
   pub helpers : q.helpers ≡ p.helpers
   pub threads : q.threads ≡ p.threads
 
-pub object_leaves : (decls : List Decl) (number : ℕ) (ms : List Member) (p q : core.Program) → Objected decls number ms p q → Leaves p q
+pub object_leaves : (decls : List Decl) (number : ℕ) (ms : List Member) (p q : core.Program) →
+    Objected decls number ms p q → Leaves p q
 object_leaves decls number ms p q o = record {
   classes = ap (λ (x : core.Program). x.classes) o.is;
   structs = ap (λ (x : core.Program). x.structs) o.is;
@@ -209,7 +220,8 @@ leaves_same p q e = subst (Leaves p) e (record { classes = refl; structs = refl;
 pub leaves_on : (p q r : core.Program) → Leaves p q → Leaves q r → Leaves p r
 leaves_on p q r a b = record { classes = b.classes ∙ a.classes; structs = b.structs ∙ a.structs; globals = b.globals ∙ a.globals; arrays = b.arrays ∙ a.arrays; pools = b.pools ∙ a.pools; sections = b.sections ∙ a.sections; helpers = b.helpers ∙ a.helpers; threads = b.threads ∙ a.threads }
 
-pub chain_leaves : (decls : List Decl) (number : ℕ) (ms : List Member) (n : ℕ) (p q : core.Program) → Chain decls number ms n p q → Leaves p q
+pub chain_leaves : (decls : List Decl) (number : ℕ) (ms : List Member) (n : ℕ) (p q : core.Program) →
+    Chain decls number ms n p q → Leaves p q
 chain_leaves decls number ms zero p q c = leaves_same p q c
 chain_leaves decls number ms (suc n) p q c = leaves_on p c.0 q (chain_leaves decls number ms n p c.0 c.1) (object_leaves decls number ms c.0 q c.2)
 
@@ -219,32 +231,38 @@ elements_leave p a t (suc n) =
     let r = elements_leave p a t n in
     record { classes = r.classes; structs = r.structs; globals = r.globals; arrays = r.arrays; pools = r.pools; sections = r.sections; helpers = r.helpers; threads = r.threads }
 
-pub elements_objects : (p : core.Program) (a : ℕ) (t : core_type.ValueType) (n : ℕ) → (with_elements p a t n).objects ≡ p.objects
+pub elements_objects : (p : core.Program) (a : ℕ) (t : core_type.ValueType) (n : ℕ) →
+    (with_elements p a t n).objects ≡ p.objects
 elements_objects p a t zero = refl
 elements_objects p a t (suc n) = elements_objects p a t n
 
-pub elements_cells : (p : core.Program) (a : ℕ) (t : core_type.ValueType) (n : ℕ) → length (with_elements p a t n).cells ≡ length p.cells + n
+pub elements_cells : (p : core.Program) (a : ℕ) (t : core_type.ValueType) (n : ℕ) →
+    length (with_elements p a t n).cells ≡ length p.cells + n
 elements_cells p a t zero = omega arith
 elements_cells p a t (suc n) =
     let r = elements_cells p a t n in
     let l = length_push (with_elements p a t n).cells (record { owner = owner.Element a n; value_type = t; opening = default_of t }) in
     omega (arith, r, l)
 
-pub object_objects : (decls : List Decl) (number : ℕ) (ms : List Member) (p q : core.Program) → Objected decls number ms p q → length q.objects ≡ length p.objects + 1
+pub object_objects : (decls : List Decl) (number : ℕ) (ms : List Member) (p q : core.Program) →
+    Objected decls number ms p q → length q.objects ≡ length p.objects + 1
 object_objects decls number ms p q o = ap (λ (x : core.Program). length x.objects) o.is ∙ length_push p.objects (record { pool = number; cells = length p.cells; finals = length p.finals })
 
-object_cells : (decls : List Decl) (number : ℕ) (ms : List Member) (p q : core.Program) → Objected decls number ms p q → length q.cells ≡ length p.cells + length (fields_in ms)
+object_cells : (decls : List Decl) (number : ℕ) (ms : List Member) (p q : core.Program) →
+    Objected decls number ms p q → length q.cells ≡ length p.cells + length (fields_in ms)
 object_cells decls number ms p q o =
     ap (λ (x : core.Program). length x.cells) o.is ∙ length-append p.cells o.cells ∙ ap (λ (n : ℕ). length p.cells + n) (rows_length _ 0 (fields_in ms) o.cells o.own)
 
-pub chain_objects : (decls : List Decl) (number : ℕ) (ms : List Member) (n : ℕ) (p q : core.Program) → Chain decls number ms n p q → length q.objects ≡ length p.objects + n
+pub chain_objects : (decls : List Decl) (number : ℕ) (ms : List Member) (n : ℕ) (p q : core.Program) →
+    Chain decls number ms n p q → length q.objects ≡ length p.objects + n
 chain_objects decls number ms zero p q c = let e : length q.objects ≡ length p.objects = ap (λ (x : core.Program). length x.objects) (sym c) in omega (arith, e)
 chain_objects decls number ms (suc n) p q c =
     let a = chain_objects decls number ms n p c.0 c.1 in
     let b = object_objects decls number ms c.0 q c.2 in
     omega (arith, a, b)
 
-chain_cells : (decls : List Decl) (number : ℕ) (ms : List Member) (n : ℕ) (p q : core.Program) → Chain decls number ms n p q → length q.cells ≡ length p.cells + n * length (fields_in ms)
+chain_cells : (decls : List Decl) (number : ℕ) (ms : List Member) (n : ℕ) (p q : core.Program) →
+    Chain decls number ms n p q → length q.cells ≡ length p.cells + n * length (fields_in ms)
 chain_cells decls number ms zero p q c = let e : length q.cells ≡ length p.cells = ap (λ (x : core.Program). length x.cells) (sym c) in omega (arith, e)
 chain_cells decls number ms (suc n) p q c =
     let w = length (fields_in ms) in
@@ -293,7 +311,8 @@ plain {n} = omega arith
 more_is : (p q r : core.Program) (c s a x k g o n : ℕ) → More p q c s a x k g o n → q ≡ r → More p r c s a x k g o n
 more_is p q r c s a x k g o n m e = subst (λ (y : core.Program). More p y c s a x k g o n) e m
 
-own : (decls : List Decl) → Clean decls → (i : ℕ) (p : core.Program) (d : Decl) (q : core.Program) → Adds decls i p d q → Own decls d p q
+own : (decls : List Decl) → Clean decls → (i : ℕ) (p : core.Program) (d : Decl) (q : core.Program) →
+    Adds decls i p d q → Own decls d p q
 own decls clean i p (lock y) q a = more_is p (with_class p (core.global_lock y.text)) q 1 0 0 0 0 0 0 0 (record { classes = length_push p.classes (core.global_lock y.text); structs = plain; arrays = plain; pools = plain; sections = plain; helpers = plain; objects = plain; cells = plain }) a
 own decls clean i p (struct s) q a =
     let st : StructBuilder = record { structure = empty_struct s.name.text; classes = p.classes } in
@@ -346,7 +365,11 @@ own decls clean i p (helper s) q a = more_is p (record p { helpers = p.helpers +
 own decls clean i p (thread t) q a = more_is p (record p { threads = p.threads ++ record { name = t.name.text; calls = a.0 } ∷ [] }) q 0 0 0 0 0 0 0 0 (record { classes = plain; structs = plain; arrays = plain; pools = plain; sections = plain; helpers = plain; objects = plain; cells = plain }) a.2
 
 -- the counts behind a declaration
-counts_more : (decls before : List Decl) (d : Decl) (p q : core.Program) (c s a x k g o n : ℕ) → Counts decls before p → More p q c s a x k g o n → classes_of d ≡ c → ((y : Struct) → as_one (alike (struct y) d) ≡ s) → ((y : Array) → as_one (alike (array y) d) ≡ a) → ((y : Pool) → as_one (alike (pool y) d) ≡ x) → ((y : Section) → as_one (alike (atomic y) d) ≡ k) → ((y : Section) → as_one (alike (helper y) d) ≡ g) →
+counts_more : (decls before : List Decl) (d : Decl) (p q : core.Program) (c s a x k g o n : ℕ) →
+    Counts decls before p → More p q c s a x k g o n → classes_of d ≡ c →
+    ((y : Struct) → as_one (alike (struct y) d) ≡ s) → ((y : Array) → as_one (alike (array y) d) ≡ a) →
+    ((y : Pool) → as_one (alike (pool y) d) ≡ x) → ((y : Section) → as_one (alike (atomic y) d) ≡ k) →
+    ((y : Section) → as_one (alike (helper y) d) ≡ g) →
     objects_of d ≡ o → cells_of decls d ≡ n → Counts decls (before ++ d ∷ []) q
 counts_more decls before d p q c s a x k g o n h m ec es ea ex ek eg eo en = record {
   classes = (let u = m.classes in let v = h.classes in let w = total_push classes_of before d in omega (arith, u, v, w, ec));
@@ -359,7 +382,8 @@ counts_more decls before d p q c s a x k g o n h m ec es ea ex ek eg eo en = rec
   cells = (let u = m.cells in let v = h.cells in let w = total_push (cells_of decls) before d in omega (arith, u, v, w, en));
 }
 
-counts_next : (decls before : List Decl) (d : Decl) (p q : core.Program) → Counts decls before p → Own decls d p q → Counts decls (before ++ d ∷ []) q
+counts_next : (decls before : List Decl) (d : Decl) (p q : core.Program) → Counts decls before p → Own decls d p q →
+    Counts decls (before ++ d ∷ []) q
 counts_next decls before (lock y) p q h m = counts_more decls before (lock y) p q 1 0 0 0 0 0 0 0 h m refl (λ z. refl) (λ z. refl) (λ z. refl) (λ z. refl) (λ z. refl) refl refl
 counts_next decls before (struct y) p q h m = counts_more decls before (struct y) p q (count is_lock y.members) 1 0 0 0 0 0 0 h m refl (λ z. refl) (λ z. refl) (λ z. refl) (λ z. refl) (λ z. refl) refl refl
 counts_next decls before (global y) p q h m = counts_more decls before (global y) p q 0 0 0 0 0 0 0 1 h m refl (λ z. refl) (λ z. refl) (λ z. refl) (λ z. refl) (λ z. refl) refl refl
@@ -393,16 +417,20 @@ first_by : (decls before : List Decl) (p : core.Program) (d : Decl) (ds : List D
 first_by decls before p d ds whole (Some q) e h = record { next = q; adds = adds decls (length before) p d q e; rest = subst (λ (j : ℕ). resolved_from decls j (Some q) ds ≡ Some whole) (sym (length_push before d)) h }
 first_by decls before p d ds whole None e h = let s : None ≡ Some whole = sym (none_from decls (length before + 1) ds) ∙ h in cc
 
-pub first_of : (decls before : List Decl) (p : core.Program) (d : Decl) (ds : List Decl) (whole : core.Program) → resolved_from decls (length before) (Some p) (d ∷ ds) ≡ Some whole → First decls before p d ds whole
+pub first_of : (decls before : List Decl) (p : core.Program) (d : Decl) (ds : List Decl) (whole : core.Program) →
+    resolved_from decls (length before) (Some p) (d ∷ ds) ≡ Some whole → First decls before p d ds whole
 first_of decls before p d ds whole h = first_by decls before p d ds whole (extended decls (length before) p d) refl h
 
-pub begins_whole : (decls before : List Decl) (p : core.Program) (ds : List Decl) (whole : core.Program) → resolved_from decls (length before) (Some p) ds ≡ Some whole → Begins p whole
+pub begins_whole : (decls before : List Decl) (p : core.Program) (ds : List Decl) (whole : core.Program) →
+    resolved_from decls (length before) (Some p) ds ≡ Some whole → Begins p whole
 begins_whole decls before p [] whole h = let s : p ≡ whole = cc in subst (Begins p) s (begins_same p)
 begins_whole decls before p (d ∷ ds) whole h =
     let f = first_of decls before p d ds whole h in
     begins_on p f.next whole (begins_adds decls (length before) p d f.next f.adds) (begins_whole decls (before ++ d ∷ []) f.next ds whole f.rest)
 
-pub walk : (decls : List Decl) → Clean decls → (whole : core.Program) (K : List Decl → core.Program → Type 0) → ((before : List Decl) (d : Decl) (p q : core.Program) → Step decls whole before d p q → K before p → K (before ++ d ∷ []) q) →
+pub walk : (decls : List Decl) → Clean decls → (whole : core.Program) (K : List Decl → core.Program → Type 0) →
+    ((before : List Decl) (d : Decl) (p q : core.Program) → Step decls whole before d p q → K before p →
+    K (before ++ d ∷ []) q) →
     (before ds : List Decl) (p : core.Program) → decls ≡ before ++ ds → Counts decls before p → K before p → resolved_from decls (length before) (Some p) ds ≡ Some whole → K decls whole × Counts decls decls whole
 walk decls clean whole K step before [] p parts n k h =
     let s : p ≡ whole = cc in
@@ -424,10 +452,14 @@ no_counts : (decls : List Decl) → Counts decls [] nothing_yet
 no_counts decls = record { classes = refl; structs = λ s. refl; arrays = λ s. refl; pools = λ s. refl; sections = λ s. refl; helpers = λ s. refl; objects = refl; cells = refl }
 
 -- what holds of nothing and is kept by each step, holds of the whole
-pub walked_whole : (decls : List Decl) → Clean decls → (whole : core.Program) → resolved decls ≡ Some whole → (K : List Decl → core.Program → Type 0) → K [] nothing_yet → ((before : List Decl) (d : Decl) (p q : core.Program) → Step decls whole before d p q → K before p → K (before ++ d ∷ []) q) → K decls whole
+pub walked_whole : (decls : List Decl) → Clean decls → (whole : core.Program) → resolved decls ≡ Some whole →
+    (K : List Decl → core.Program → Type 0) → K [] nothing_yet →
+    ((before : List Decl) (d : Decl) (p q : core.Program) → Step decls whole before d p q → K before p →
+    K (before ++ d ∷ []) q) → K decls whole
 walked_whole decls clean whole h K k step = (walk decls clean whole K step [] decls nothing_yet refl (no_counts decls) k h).0
 
-pub counted_whole : (decls : List Decl) → Clean decls → (whole : core.Program) → resolved decls ≡ Some whole → Counts decls decls whole
+pub counted_whole : (decls : List Decl) → Clean decls → (whole : core.Program) → resolved decls ≡ Some whole →
+    Counts decls decls whole
 counted_whole decls clean whole h = (walk decls clean whole (λ b p. ⊤) (λ b d p q s k. tt) [] decls nothing_yet refl (no_counts decls) tt h).1
 
 -- the step of the declaration at a place
@@ -438,18 +470,22 @@ pub record Landed (decls : List Decl) (whole : core.Program) (i : ℕ) (d : Decl
   pub step : Step decls whole before d was is
   pub place : length before ≡ i
 
-pub lands : (decls : List Decl) → Clean decls → (whole : core.Program) → resolved decls ≡ Some whole → (i : ℕ) (d : Decl) → slice_get decls i ≡ Some d → Landed decls whole i d
+pub lands : (decls : List Decl) → Clean decls → (whole : core.Program) → resolved decls ≡ Some whole →
+    (i : ℕ) (d : Decl) → slice_get decls i ≡ Some d → Landed decls whole i d
 lands decls clean whole h = walked_whole decls clean whole h (λ b p. (i : ℕ) (d : Decl) → slice_get b i ≡ Some d → Landed decls whole i d) (λ i d e. nothing_there i d e) more
   where
     nothing_there : (i : ℕ) (d : Decl) → slice_get [] i ≡ Some d → Landed decls whole i d
     nothing_there i d e = cc
 
-    more : (before : List Decl) (d : Decl) (p q : core.Program) → Step decls whole before d p q → ((i : ℕ) (x : Decl) → slice_get before i ≡ Some x → Landed decls whole i x) → (i : ℕ) (x : Decl) → slice_get (before ++ d ∷ []) i ≡ Some x → Landed decls whole i x
+    more : (before : List Decl) (d : Decl) (p q : core.Program) → Step decls whole before d p q →
+        ((i : ℕ) (x : Decl) → slice_get before i ≡ Some x → Landed decls whole i x) → (i : ℕ) (x : Decl) →
+        slice_get (before ++ d ∷ []) i ≡ Some x → Landed decls whole i x
     more before d p q s k i x e = get_pushed before d i x (Landed decls whole i x) e (k i x) (λ a b. record { before = before; was = p; is = q; step = subst (λ (y : Decl). Step decls whole before y p q) b s; place = sym a })
 
 -- ---- limits
 
-pub objects_few : (decls before ds : List Decl) → NoneIn (total_faults decls before ds) → total objects_of before ≤ OBJECT_LIMIT → total objects_of (before ++ ds) ≤ OBJECT_LIMIT
+pub objects_few : (decls before ds : List Decl) → NoneIn (total_faults decls before ds) →
+    total objects_of before ≤ OBJECT_LIMIT → total objects_of (before ++ ds) ≤ OBJECT_LIMIT
 objects_few decls before [] none le = subst (λ (xs : List Decl). total objects_of xs ≤ OBJECT_LIMIT) (sym (append-nil before)) le
 objects_few decls before (d ∷ ds) none le =
     let fit = objects_fit decls before d (none_left (count_faults decls before d) (total_faults decls (before ++ d ∷ []) ds) none) le in

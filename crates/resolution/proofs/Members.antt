@@ -29,14 +29,17 @@ in_split f (g ∷ a) b (inl e) = inl (inl e)
 in_split f (g ∷ a) b (inr i) = left_more f g a b (in_split f a b i)
 
 -- a fault of either list is a true one
-pub both : {P : Type 0} (f : Mistake) (a b : List Mistake) → (IsAmong f a → P) → (IsAmong f b → P) → IsAmong f (a ++ b) → P
+pub both : {P : Type 0} (f : Mistake) (a b : List Mistake) → (IsAmong f a → P) → (IsAmong f b → P) →
+    IsAmong f (a ++ b) → P
 both f a b p q i = elim (in_split f a b i) [ inl i ↦ p i | inr i ↦ q i ]
 
-pub of_one : (decls : List Decl) (c : Code) (p : ℕ) (f : Mistake) → IsFault decls c p → IsAmong f (one c p) → IsTrue_of decls f
+pub of_one : (decls : List Decl) (c : Code) (p : ℕ) (f : Mistake) → IsFault decls c p → IsAmong f (one c p) →
+    IsTrue_of decls f
 of_one decls c p f h (inl e) = subst (IsTrue_of decls) (sym e) h
 of_one decls c p f h (inr i) = absurd i
 
-pub of_if : (decls : List Decl) (b : Bool) (c : Code) (p : ℕ) (f : Mistake) → (b ≡ true → IsFault decls c p) → IsAmong f (one_if b c p) → IsTrue_of decls f
+pub of_if : (decls : List Decl) (b : Bool) (c : Code) (p : ℕ) (f : Mistake) → (b ≡ true → IsFault decls c p) →
+    IsAmong f (one_if b c p) → IsTrue_of decls f
 of_if decls true c p f h i = of_one decls c p f (h refl) i
 of_if decls false c p f h i = absurd i
 

@@ -12,7 +12,9 @@ pub record IsFound {A Q : Type 0} (bears : A → Q → Bool) (xs : List A) (q : 
   pub here : slice_get xs i ≡ Some x
   pub bearing : bears x q ≡ true
 
-found_at : {A Q : Type 0} (bears : A → Q → Bool) (xs : List A) (q : Q) (k i : ℕ) (x y : A) → place_of bears xs q ≡ Some k → slice_get xs k ≡ Some y → ◌≡◌ {A = Option (ℕ × A)} (Some (k, y)) (Some (i, x)) → bears y q ≡ true → IsFound bears xs q i x
+found_at : {A Q : Type 0} (bears : A → Q → Bool) (xs : List A) (q : Q) (k i : ℕ) (x y : A) →
+    place_of bears xs q ≡ Some k → slice_get xs k ≡ Some y → ◌≡◌ {A = Option (ℕ × A)} (Some (k, y)) (Some (i, x)) →
+    bears y q ≡ true → IsFound bears xs q i x
 found_at {A = A} bears xs q k i x y p h e b =
     let pair : ◌≡◌ {A = ℕ × A} (k, y) (i, x) = cc in
     let a : k ≡ i = ap (λ (z : ℕ × A). z.0) pair in
@@ -23,7 +25,8 @@ found_at {A = A} bears xs q k i x y p h e b =
       bearing = subst (λ z. bears z q ≡ true) c b;
     }
 
-pub named_is : {A Q : Type 0} (bears : A → Q → Bool) (xs : List A) (q : Q) (i : ℕ) (x : A) → named bears xs q ≡ Some (i, x) → IsFound bears xs q i x
+pub named_is : {A Q : Type 0} (bears : A → Q → Bool) (xs : List A) (q : Q) (i : ℕ) (x : A) →
+    named bears xs q ≡ Some (i, x) → IsFound bears xs q i x
 named_is bears xs q i x e = by_place (place_of bears xs q) refl
   where
     by_place : (o : Option ℕ) → place_of bears xs q ≡ o → IsFound bears xs q i x
@@ -36,7 +39,8 @@ named_is bears xs q i x e = by_place (place_of bears xs q) refl
         found_at bears xs q k i x r.item p h (sym some ∙ e) r.passed
 
 -- a member that is found by a name stands there, and is the first of its own name
-pub member_is : (ms : List Member) (q : List ℕ) (n : ℕ) (x : Member) → the_member ms q ≡ Some (n, x) → (slice_get ms n ≡ Some x) × (place_of member_bears ms (member_name x).text ≡ Some n)
+pub member_is : (ms : List Member) (q : List ℕ) (n : ℕ) (x : Member) → the_member ms q ≡ Some (n, x) →
+    (slice_get ms n ≡ Some x) × (place_of member_bears ms (member_name x).text ≡ Some n)
 member_is ms q n x e =
     let f = named_is member_bears ms q n x e in
     let same : q ≡ (member_name x).text = (bytes_eq-Decides q (member_name x).text).0 f.bearing in

@@ -3,16 +3,22 @@ use Rattle.std.proofs.Common.{◌≡◌, ℕ, List, [], ◌∷◌, ◌++◌, Opt
 use Rattle.std.specs.Prelude.{map, ⊤}
 use Rattle.std.specs.List.{Contains}
 use Rattle.core_lang.specs.declared.tree.Expr as e
-use Rattle.core_lang.specs.declared.tree.Expr.{Number, Null, Place, Global, Element', Member', Negate', Owned', Chain', Row_of-Operation, end_of-Operation, more_of-Operation}
+use Rattle.core_lang.specs.declared.tree.Expr.{Number, Null, Place, Global, Element', Member', Negate', Owned'}
+use Rattle.core_lang.specs.declared.tree.Expr.{Chain', Row_of-Operation, end_of-Operation, more_of-Operation}
 use Rattle.core_lang.specs.declared.tree.Condition as c
-use Rattle.core_lang.specs.declared.tree.Condition.{Compare, Not', And', Or', Row_of-Condition, end_of-Condition, more_of-Condition}
+use Rattle.core_lang.specs.declared.tree.Condition.{Compare, Not', And', Or', Row_of-Condition, end_of-Condition}
+use Rattle.core_lang.specs.declared.tree.Condition.{more_of-Condition}
 use Rattle.core_lang.specs.declared.tree.Stmt as s
 use Rattle.core_lang.specs.declared.tree.Action as a
-use Rattle.core_lang.specs.declared.tree.Action.{Bind, SetLocal, SetGlobal, SetElement, SetField, Call, Print, If', IfElse', While', Row_of-Stmt, end_of-Stmt, more_of-Stmt}
+use Rattle.core_lang.specs.declared.tree.Action.{Bind, SetLocal, SetGlobal, SetElement, SetField, Call, Print, If'}
+use Rattle.core_lang.specs.declared.tree.Action.{IfElse', While', Row_of-Stmt, end_of-Stmt, more_of-Stmt}
 use Rattle.core_lang.specs.declared.tree.Return as the_return
-use Rattle.core_lang.specs.Scopes.{NamesOnly, AllNameOnly, EachNamesOnly, TestsOnly, AllTestOnly, scope_after, IsScoped, AreScoped, AllScoped, scope_after_all, bound_by, bound_in, bound_in_all, assigned_by, assigned_in, assigned_in_all, ResultNamesOnly}
+use Rattle.core_lang.specs.Scopes.{NamesOnly, AllNameOnly, EachNamesOnly, TestsOnly, AllTestOnly, scope_after}
+use Rattle.core_lang.specs.Scopes.{IsScoped, AreScoped, AllScoped, scope_after_all, bound_by, bound_in, bound_in_all}
+use Rattle.core_lang.specs.Scopes.{assigned_by, assigned_in, assigned_in_all, ResultNamesOnly}
 use Rattle.resolution.specs.Core as core
-use Rattle.resolution.specs.CoreViews.{core_expr, core_operations_row, core_condition, core_conditions_row, core_action, core_stmts_row, core_stmts}
+use Rattle.resolution.specs.CoreViews.{core_expr, core_operations_row, core_condition, core_conditions_row}
+use Rattle.resolution.specs.CoreViews.{core_action, core_stmts_row, core_stmts}
 
 -- ---- as data
 
@@ -130,7 +136,8 @@ mutual
   names_is scope (Owned' _ x s f start k) h = (names_is scope x h.0, h.1)
   names_is scope (Chain' _ x _ rest) h = (names_is scope x h.0, all_name_is scope rest h.1)
 
-  all_name_is : {k : _} (scope : List ℕ) (row : Row_of-Operation k) → AllName scope (core_operations_row row) → AllNameOnly scope row
+  all_name_is : {k : _} (scope : List ℕ) (row : Row_of-Operation k) → AllName scope (core_operations_row row) →
+      AllNameOnly scope row
   all_name_is scope end_of-Operation h = tt
   all_name_is scope (more_of-Operation o x rest) h = (names_is scope x h.0, all_name_is scope rest h.1)
 
@@ -145,7 +152,8 @@ mutual
   tests_is scope (And' _ before _ last) h = (all_tests_is scope before h.0, tests_is scope last h.1)
   tests_is scope (Or' _ before _ last) h = (all_tests_is scope before h.0, tests_is scope last h.1)
 
-  all_tests_is : {k : _} (scope : List ℕ) (row : Row_of-Condition k) → AllTestName scope (core_conditions_row row) → AllTestOnly scope row
+  all_tests_is : {k : _} (scope : List ℕ) (row : Row_of-Condition k) → AllTestName scope (core_conditions_row row) →
+      AllTestOnly scope row
   all_tests_is scope end_of-Condition h = tt
   all_tests_is scope (more_of-Condition x rest) h = (tests_is scope x h.0, all_tests_is scope rest h.1)
 
@@ -187,7 +195,8 @@ pub body_behind : (scope : List ℕ) (xs : List s.Stmt) → behind_all scope (co
 body_behind scope [] = refl
 body_behind scope (x ∷ xs) = ap (λ (w : List ℕ). behind_all w (core_stmts xs)) (behind_is scope x.action) ∙ body_behind (scope_after scope x.action) xs
 
-pub result_scoped : (scope : List ℕ) (r : Option the_return.Return) → ((x : the_return.Return) → r ≡ Some x → Names scope (core_expr x.value)) → ResultNamesOnly scope r
+pub result_scoped : (scope : List ℕ) (r : Option the_return.Return) →
+    ((x : the_return.Return) → r ≡ Some x → Names scope (core_expr x.value)) → ResultNamesOnly scope r
 result_scoped scope None h = tt
 result_scoped scope (Some x) h = names_is scope x.value (h x refl)
 

@@ -1,5 +1,7 @@
 -- Resolved statements name locals in scope alone, bind each once, and assign to no other than a `var`.
-use Rattle.std.proofs.Common.{◌≡◌, ℕ, zero, suc, ◌+◌, ◌<◌, List, [], ◌∷◌, ◌++◌, length, Option, Some, None, Bool, true, false, ◌⊎◌, inl, inr, if◌then◌else◌, refl, sym, ap, ◌∙◌, subst, append_assoc, arith}
+use Rattle.std.proofs.Common.{◌≡◌, ℕ, zero, suc, ◌+◌, ◌<◌, List, [], ◌∷◌, ◌++◌, length, Option, Some, None, Bool}
+use Rattle.std.proofs.Common.{true, false, ◌⊎◌, inl, inr, if◌then◌else◌, refl, sym, ap, ◌∙◌, subst, append_assoc}
+use Rattle.std.proofs.Common.{arith}
 use Rattle.std.specs.Prelude.{ℤ, nat_le, slice_get, ⊤}
 use Rattle.std.specs.List.{Contains}
 use Rattle.std.proofs.lemmas.List.Elements.{Contains-append_cases}
@@ -7,23 +9,39 @@ use Rattle.syntax.specs.declared.tree.Level.TheVariants.{Term, Sum, Conjunction,
 use Rattle.syntax.specs.declared.tree.Prefix.TheVariants.{Negate, Not}
 use Rattle.syntax.specs.declared.tree.Comparison as written
 use Rattle.syntax.specs.declared.tree.Comparison.TheVariants as sign
-use Rattle.syntax.specs.Trees.{Place, lone, element, path, Expr, int, null, place, paren, prefix, chain, compare, Links, no_links, link, Owner, Stmt, let_local, let_owned, let_call, var_local, assign, if_then, while, print, return_value, call, Stmts, no_stmts, stmt, no_else, else_do, Param, Section, Decl, lock, struct, global, array, pool, init, atomic, helper, thread}
+use Rattle.syntax.specs.Trees.{Place, lone, element, path, Expr, int, null, place, paren, prefix, chain, compare}
+use Rattle.syntax.specs.Trees.{Links, no_links, link, Owner, Stmt, let_local, let_owned, let_call, var_local, assign}
+use Rattle.syntax.specs.Trees.{if_then, while, print, return_value, call, Stmts, no_stmts, stmt, no_else, else_do}
+use Rattle.syntax.specs.Trees.{Param, Section, Decl, lock, struct, global, array, pool, init, atomic, helper, thread}
 use Rattle.core_lang.specs.declared.value.ValueType as core_type
 use Rattle.core_lang.specs.declared.value.ValueType.TheVariants.{Integer}
 use Rattle.core_lang.specs.declared.tree.LocalKind.{LocalKind}
 use Rattle.core_lang.specs.declared.tree.LocalKind.TheVariants as kind
 use Rattle.core_lang.specs.declared.tree.Operator.{Operator}
 use Rattle.core_lang.specs.declared.tree.Comparison.{Comparison}
-use Rattle.core_lang.specs.declared.tree.Comparison.TheVariants.{Equal, NotEqual, Less, LessOrEqual, Greater, GreaterOrEqual}
+use Rattle.core_lang.specs.declared.tree.Comparison.TheVariants.{Equal, NotEqual, Less, LessOrEqual, Greater}
+use Rattle.core_lang.specs.declared.tree.Comparison.TheVariants.{GreaterOrEqual}
 use Rattle.core_lang.specs.Scopes.{numbers_from}
 use Rattle.resolution.specs.declared.wanted.Sort.{Sort}
 use Rattle.resolution.specs.declared.wanted.Want.{Want}
 use Rattle.resolution.specs.declared.wanted.Want.TheVariants.{Value}
 use Rattle.resolution.specs.Core as core
 use Rattle.resolution.specs.Scopes as scopes
-use Rattle.resolution.specs.Scopes.{◌>>=◌, Scope, outside, Meaning, a_local, a_decl, nothing, meaning, helper_meant, number_at, type_of, struct_named, bound, hidden, hidden_from, left}
-use Rattle.resolution.specs.Expressions.{ResolvedExpr, value, truth, fits, alike_sorts, want, fitting, as_value, number_resolved, test_resolved, number_value, literal, value_of, local_path, cell_of, named_value, member_value, element_value, Walk, reached, at_lock, lost, walk_from, path_value, operator_of, negated, not_so, parenthesised, chained, linked, Tests, one_test, tested, all_hold, one_holds, ordered, equated, compared, typed, typed_place, typed_links, typed_tests}
-use Rattle.resolution.specs.Statements.{Target, to_local, to_global, to_element, to_field, Assignee, assignee, is_var, assignee_at, assignee_at_element, Split, last_field, field_target, assignee_along, target_of, wanted_by, first_name, Part, does, gives, binds, set_to, assigns, prints, returns, repeats, chooses, chooses_between, Body, given_back, preceded, block_without, block_of, typed_values, called, call_resolved, type_given, can_take, acts_if, after, after_all, first_value, typed_stmt, typed_body}
+use Rattle.resolution.specs.Scopes.{◌>>=◌, Scope, outside, Meaning, a_local, a_decl, nothing, meaning, helper_meant}
+use Rattle.resolution.specs.Scopes.{number_at, type_of, struct_named, bound, hidden, hidden_from, left}
+use Rattle.resolution.specs.Expressions.{ResolvedExpr, value, truth, fits, alike_sorts, want, fitting, as_value}
+use Rattle.resolution.specs.Expressions.{number_resolved, test_resolved, number_value, literal, value_of, local_path}
+use Rattle.resolution.specs.Expressions.{cell_of, named_value, member_value, element_value, Walk, reached, at_lock}
+use Rattle.resolution.specs.Expressions.{lost, walk_from, path_value, operator_of, negated, not_so, parenthesised}
+use Rattle.resolution.specs.Expressions.{chained, linked, Tests, one_test, tested, all_hold, one_holds, ordered}
+use Rattle.resolution.specs.Expressions.{equated, compared, typed, typed_place, typed_links, typed_tests}
+use Rattle.resolution.specs.Statements.{Target, to_local, to_global, to_element, to_field, Assignee, assignee, is_var}
+use Rattle.resolution.specs.Statements.{assignee_at, assignee_at_element, Split, last_field, field_target}
+use Rattle.resolution.specs.Statements.{assignee_along, target_of, wanted_by, first_name, Part, does, gives, binds}
+use Rattle.resolution.specs.Statements.{set_to, assigns, prints, returns, repeats, chooses, chooses_between, Body}
+use Rattle.resolution.specs.Statements.{given_back, preceded, block_without, block_of, typed_values, called}
+use Rattle.resolution.specs.Statements.{call_resolved, type_given, can_take, acts_if, after, after_all, first_value}
+use Rattle.resolution.specs.Statements.{typed_stmt, typed_body}
 use Rattle.resolution.specs.Constants.{added, want_of}
 use Rattle.source.specs.Texts.{SOURCE_LIMIT}
 use Rattle.resolution.specs.Limits.{STRUCT_LIMIT}
@@ -31,7 +49,8 @@ use Rattle.resolution.specs.declared.owner_field.OwnerField.{OwnerField}
 use Rattle.resolution.specs.Owners.{owner_field, is_of, owner_local, owned_value, owned_by}
 use Rattle.resolution.proofs.TypedResolvedExprs.{IsLocal, meant_local}
 use Rattle.resolution.proofs.TypedStatements.{Kept, kept_hidden, Front, all_front}
-use Rattle.resolution.proofs.Scoped.{Names, AllName, EachNames, TestNames, AllTestName, behind, ActNames, StmtsName, behind_all, binding, all_binding, assigning, all_assigning}
+use Rattle.resolution.proofs.Scoped.{Names, AllName, EachNames, TestNames, AllTestName, behind, ActNames, StmtsName}
+use Rattle.resolution.proofs.Scoped.{behind_all, binding, all_binding, assigning, all_assigning}
 
 -- ---- expressions
 
@@ -56,7 +75,8 @@ module _ (sc : Scope) (scope : List ℕ) (covers : Covers sc.locals scope) where
   IfTest None = ⊤
   IfTest (Some c) = TestNames scope c
 
-  value_if : (x : core.Expr) (s : Sort) (b : Bool) → Names scope x → IfValue (as_value (if b then Some (value x s) else None))
+  value_if : (x : core.Expr) (s : Sort) (b : Bool) → Names scope x →
+      IfValue (as_value (if b then Some (value x s) else None))
   value_if x s true h = h
   value_if x s false h = tt
 
@@ -95,7 +115,8 @@ module _ (sc : Scope) (scope : List ℕ) (covers : Covers sc.locals scope) where
   of_member n index None h = tt
   of_member n index (Some s) h = h
 
-  of_element : (start : ℕ) (m : Meaning) (o : Option core.Expr) → IfValue o → IfResolvedExpr (element_value sc.decls start m o)
+  of_element : (start : ℕ) (m : Meaning) (o : Option core.Expr) → IfValue o →
+      IfResolvedExpr (element_value sc.decls start m o)
   of_element start m None h = tt
   of_element start (a_decl n (array a)) (Some index) h = of_value (core.element start (number_at sc.decls n (array a)) index) (type_of (outside sc.decls) a.value_type) h
   of_element start (a_decl n (pool q)) (Some index) h = of_member (number_at sc.decls n (pool q)) index (struct_named sc.decls q.target) h
@@ -146,7 +167,8 @@ module _ (sc : Scope) (scope : List ℕ) (covers : Covers sc.locals scope) where
   of_chain (Some x) None h g = tt
   of_chain (Some x) (Some rest) h g = (h, g)
 
-  of_link : (q : Option Operator) (o : Option core.Expr) (r : Option core.Operations) → IfValue o → IfLinks r → IfLinks (linked q o r)
+  of_link : (q : Option Operator) (o : Option core.Expr) (r : Option core.Operations) → IfValue o → IfLinks r →
+      IfLinks (linked q o r)
   of_link None o r h g = tt
   of_link (Some q) None r h g = tt
   of_link (Some q) (Some x) None h g = tt
@@ -178,18 +200,21 @@ module _ (sc : Scope) (scope : List ℕ) (covers : Covers sc.locals scope) where
   of_order c (Some a) None h g = tt
   of_order c (Some a) (Some b) h g = (h, g)
 
-  equal_if : (c : Comparison) (a b : core.Expr) (x : Bool) → Names scope a → Names scope b → IfResolvedExpr (if x then Some (truth (core.compare c a b)) else None)
+  equal_if : (c : Comparison) (a b : core.Expr) (x : Bool) → Names scope a → Names scope b →
+      IfResolvedExpr (if x then Some (truth (core.compare c a b)) else None)
   equal_if c a b true h g = (h, g)
   equal_if c a b false h g = tt
 
-  of_equal : (c : Comparison) (o r : Option ResolvedExpr) → IfResolvedExpr o → IfResolvedExpr r → IfResolvedExpr (equated c o r)
+  of_equal : (c : Comparison) (o r : Option ResolvedExpr) → IfResolvedExpr o → IfResolvedExpr r →
+      IfResolvedExpr (equated c o r)
   of_equal c None r h g = tt
   of_equal c (Some (value a s)) None h g = tt
   of_equal c (Some (value a s)) (Some (value b t)) h g = equal_if c a b (alike_sorts s t) h g
   of_equal c (Some (value a s)) (Some (truth d)) h g = tt
   of_equal c (Some (truth d)) r h g = tt
 
-  of_compare : (c : written.Comparison) (o r : Option ResolvedExpr) → IfResolvedExpr o → IfResolvedExpr r → IfResolvedExpr (compared c o r)
+  of_compare : (c : written.Comparison) (o r : Option ResolvedExpr) → IfResolvedExpr o → IfResolvedExpr r →
+      IfResolvedExpr (compared c o r)
   of_compare sign.Equal o r h g = of_equal Equal o r h g
   of_compare sign.NotEqual o r h g = of_equal NotEqual o r h g
   of_compare sign.Less o r h g = of_order Less (number_resolved o) (number_resolved r) (fit_value (Value Integer) o h) (fit_value (Value Integer) r g)
@@ -240,7 +265,8 @@ numbers_push : (a n : ℕ) → numbers_from a n ++ (a + n) ∷ [] ≡ numbers_fr
 numbers_push a zero = ap (λ (k : ℕ). k ∷ []) (let z : a + 0 ≡ a = omega arith in z)
 numbers_push a (suc n) = ap (λ (l : List ℕ). a ∷ l) (ap (λ (k : ℕ). numbers_from (a + 1) n ++ k ∷ []) (let z : a + suc n ≡ a + 1 + n = omega arith in z) ∙ numbers_push (a + 1) n)
 
-numbers_bind : (ls : List scopes.Local) (x : scopes.Local) → numbers_from 0 (length ls) ++ length ls ∷ [] ≡ numbers_from 0 (length (ls ++ x ∷ []))
+numbers_bind : (ls : List scopes.Local) (x : scopes.Local) →
+    numbers_from 0 (length ls) ++ length ls ∷ [] ≡ numbers_from 0 (length (ls ++ x ∷ []))
 numbers_bind ls x =
     ap (λ (k : ℕ). numbers_from 0 (length ls) ++ k ∷ []) (let z : length ls ≡ 0 + length ls = omega arith in z) ∙ numbers_push 0 (length ls) ∙ ap (numbers_from 0) (sym (longer ls x))
   where
@@ -294,7 +320,8 @@ there : (x y : ℕ) (xs : List ℕ) → Contains xs y → Contains (x ∷ xs) y
 there x y xs h = let lt = h.1 in (suc h.0, omega (arith, lt), h.2)
 
 -- what binds nothing and assigns nothing
-plain : (scope : List ℕ) (finals : List core.Local) (n : ℕ) (x : core.Action) → ActNames scope x → binding x ≡ [] → assigning x ≡ [] → Acted scope finals n n x
+plain : (scope : List ℕ) (finals : List core.Local) (n : ℕ) (x : core.Action) → ActNames scope x → binding x ≡ [] →
+    assigning x ≡ [] → Acted scope finals n n x
 plain scope finals n x h b a = record {
   named = h;
   bound = ap (λ (l : List ℕ). numbers_from 0 n ++ l) b ∙ nil (numbers_from 0 n);
@@ -324,11 +351,13 @@ module _ (finals : List core.Local) where
   BlockDone n m scope None = ⊤
   BlockDone n m scope (Some xs) = Done scope finals n m xs
 
-  block_part : (n m : ℕ) (scope : List ℕ) (xs : core.Stmts) (r : Option core.Return) → Done scope finals n m xs → BlockDone n m scope (block_without xs r)
+  block_part : (n m : ℕ) (scope : List ℕ) (xs : core.Stmts) (r : Option core.Return) → Done scope finals n m xs →
+      BlockDone n m scope (block_without xs r)
   block_part n m scope xs None h = h
   block_part n m scope xs (Some r) h = tt
 
-  block_done : (ls to : List scopes.Local) (scope : List ℕ) (o : Option Body) → BodyDone ls to scope o → BlockDone (length ls) (length to) scope (block_of o)
+  block_done : (ls to : List scopes.Local) (scope : List ℕ) (o : Option Body) → BodyDone ls to scope o →
+      BlockDone (length ls) (length to) scope (block_of o)
   block_done ls to scope None h = tt
   block_done ls to scope (Some b) h = block_part (length ls) (length to) scope b.stmts b.result h.0
 
@@ -339,7 +368,8 @@ module _ (finals : List core.Local) where
       nil [] = refl
       nil (y ∷ xs) = ap (λ (ys : List ℕ). y ∷ ys) (nil xs)
 
-  more_done : (scope : List ℕ) (n m k start : ℕ) (x : core.Action) (xs : core.Stmts) → Acted scope finals n m x → Done (behind scope x) finals m k xs → Done scope finals n k (core.stmt start x xs)
+  more_done : (scope : List ℕ) (n m k start : ℕ) (x : core.Action) (xs : core.Stmts) → Acted scope finals n m x →
+      Done (behind scope x) finals m k xs → Done scope finals n k (core.stmt start x xs)
   more_done scope n m k start x xs h g = record {
     named = (h.named, g.named);
     bound = sym (append_assoc (numbers_from 0 n) (binding x) (all_binding xs)) ∙ ap (λ (l : List ℕ). l ++ all_binding xs) h.bound ∙ g.bound;
@@ -364,7 +394,9 @@ module _ (finals : List core.Local) where
       numbers_length a zero = refl
       numbers_length a (suc k) = ap suc (numbers_length (a + 1) k)
 
-  preceded_done : (ls mid to : List scopes.Local) (scope : List ℕ) (o : Option Part) (r : Option Body) → PartDone ls mid scope o → ((x : core.Stmt) → o ≡ Some (does x) → BodyDone mid to (behind scope x.action) r) → ((b : Body) → r ≡ Some b → b.stmts ≡ core.no_stmts → length to ≡ length mid) →
+  preceded_done : (ls mid to : List scopes.Local) (scope : List ℕ) (o : Option Part) (r : Option Body) →
+      PartDone ls mid scope o → ((x : core.Stmt) → o ≡ Some (does x) → BodyDone mid to (behind scope x.action) r) →
+      ((b : Body) → r ≡ Some b → b.stmts ≡ core.no_stmts → length to ≡ length mid) →
       BodyDone ls to scope (preceded o r)
   preceded_done ls mid to scope None r h g len = tt
   preceded_done ls mid to scope (Some (does x)) None h g len = tt
@@ -374,27 +406,32 @@ module _ (finals : List core.Local) where
 
 -- ---- scopes
 
-push_or : {A : Type 0} (xs : List A) (y l : A) (n : ℕ) → slice_get (xs ++ y ∷ []) n ≡ Some l → (slice_get xs n ≡ Some l) ⊎ (n ≡ length xs)
+push_or : {A : Type 0} (xs : List A) (y l : A) (n : ℕ) → slice_get (xs ++ y ∷ []) n ≡ Some l →
+    (slice_get xs n ≡ Some l) ⊎ (n ≡ length xs)
 push_or [] y l zero e = inr refl
 push_or [] y l (suc n) e = cc
 push_or (x ∷ xs) y l zero e = inl e
 push_or (x ∷ xs) y l (suc n) e = elim (push_or xs y l n e) [ inl h ↦ inl h | inr h ↦ inr (ap suc h) ]
 
-covers_push : (ls : List scopes.Local) (x : scopes.Local) (scope : List ℕ) → Covers ls scope → Covers (ls ++ x ∷ []) (length ls ∷ scope)
+covers_push : (ls : List scopes.Local) (x : scopes.Local) (scope : List ℕ) → Covers ls scope →
+    Covers (ls ++ x ∷ []) (length ls ∷ scope)
 covers_push ls x scope c n l e v = elim (push_or ls x l n e) [ inl h ↦ there (length ls) n scope (c n l h v) | inr h ↦ subst (λ (k : ℕ). Contains (length ls ∷ scope) k) (sym h) (here (length ls) scope) ]
 
-all_hidden : (b : List scopes.Local) (n : ℕ) (l : scopes.Local) → slice_get (hidden_from zero b) n ≡ Some l → l.is_visible ≡ false
+all_hidden : (b : List scopes.Local) (n : ℕ) (l : scopes.Local) → slice_get (hidden_from zero b) n ≡ Some l →
+    l.is_visible ≡ false
 all_hidden [] n l e = cc
 all_hidden (x ∷ b) zero l e = let s : hidden x ≡ l = cc in sym (ap (λ (y : scopes.Local). y.is_visible) s)
 all_hidden (x ∷ b) (suc n) l e = all_hidden b n l e
 
-visible_front : (a b : List scopes.Local) → Front a b → (n : ℕ) (l : scopes.Local) → slice_get (hidden_from (length a) b) n ≡ Some l → l.is_visible ≡ true → slice_get a n ≡ Some l
+visible_front : (a b : List scopes.Local) → Front a b → (n : ℕ) (l : scopes.Local) →
+    slice_get (hidden_from (length a) b) n ≡ Some l → l.is_visible ≡ true → slice_get a n ≡ Some l
 visible_front [] b f n l e v = let h = all_hidden b n l e in let t : true ≡ false = sym v ∙ h in cc
 visible_front (x ∷ a) [] f n l e v = cc
 visible_front (x ∷ a) (y ∷ b) f zero l e v = let s : Some y ≡ Some x = f 0 x refl in sym s ∙ e
 visible_front (x ∷ a) (y ∷ b) f (suc n) l e v = visible_front a b (λ j k h. f (suc j) k h) n l e v
 
-covers_left : (a b : List scopes.Local) (scope : List ℕ) → Front a b → Covers a scope → Covers (hidden_from (length a) b) scope
+covers_left : (a b : List scopes.Local) (scope : List ℕ) → Front a b → Covers a scope →
+    Covers (hidden_from (length a) b) scope
 covers_left a b scope f c n l e v = c n l (visible_front a b f n l e v) v
 
 pub numbers_has : (a n k : ℕ) → k < n → Contains (numbers_from a n) (a + k)
@@ -429,15 +466,19 @@ module _ (finals : List core.Local) where
   AssigneeIn scope None = ⊤
   AssigneeIn scope (Some a) = TargetIn scope a.target
 
-  assignee_in : (scope : List ℕ) (g : Target) (o : Option core_type.ValueType) → TargetIn scope g → AssigneeIn scope (assignee (Some g) o)
+  assignee_in : (scope : List ℕ) (g : Target) (o : Option core_type.ValueType) → TargetIn scope g →
+      AssigneeIn scope (assignee (Some g) o)
   assignee_in scope g None h = tt
   assignee_in scope g (Some t) h = h
 
-  var_in : (scope : List ℕ) (n : ℕ) (l : scopes.Local) (b : Bool) → is_var l.kind ≡ b → Contains scope n → ((x : core.Local) × (slice_get finals n ≡ Some x) × (x.kind ≡ l.kind)) → AssigneeIn scope (if b then assignee (Some (to_local n)) l.value_type else None)
+  var_in : (scope : List ℕ) (n : ℕ) (l : scopes.Local) (b : Bool) → is_var l.kind ≡ b → Contains scope n →
+      ((x : core.Local) × (slice_get finals n ≡ Some x) × (x.kind ≡ l.kind)) →
+      AssigneeIn scope (if b then assignee (Some (to_local n)) l.value_type else None)
   var_in scope n l true e c f = assignee_in scope (to_local n) l.value_type (c, (f.0, f.1, f.2 ∙ is_var_kind l.kind e))
   var_in scope n l false e c f = tt
 
-  name_in : (sc : Scope) (scope : List ℕ) → Covers sc.locals scope → Become sc.locals finals → (m : Meaning) → IsLocal sc.locals m → AssigneeIn scope (assignee_at sc.decls m)
+  name_in : (sc : Scope) (scope : List ℕ) → Covers sc.locals scope → Become sc.locals finals → (m : Meaning) →
+      IsLocal sc.locals m → AssigneeIn scope (assignee_at sc.decls m)
   name_in sc scope c b (a_local n l) loc = var_in scope n l (is_var l.kind) refl (c n l loc.0 loc.1) (b n l loc.0)
   name_in sc scope c b (a_decl n (global v)) loc = assignee_in scope (to_global (cell_of sc.decls n)) (type_of (outside sc.decls) v.value_type) tt
   name_in sc scope c b (a_decl n (lock x)) loc = tt
@@ -454,7 +495,8 @@ module _ (finals : List core.Local) where
   IndexIn scope None = ⊤
   IndexIn scope (Some x) = Names scope x
 
-  index_in : (sc : Scope) (scope : List ℕ) (c : Covers sc.locals scope) (o : Option core.Expr) → IfValue sc scope c o → IndexIn scope o
+  index_in : (sc : Scope) (scope : List ℕ) (c : Covers sc.locals scope) (o : Option core.Expr) →
+      IfValue sc scope c o → IndexIn scope o
   index_in sc scope c None h = tt
   index_in sc scope c (Some x) h = h
 
@@ -462,11 +504,13 @@ module _ (finals : List core.Local) where
   TestIn scope None = ⊤
   TestIn scope (Some x) = TestNames scope x
 
-  test_in : (sc : Scope) (scope : List ℕ) (c : Covers sc.locals scope) (o : Option core.Condition) → IfTest sc scope c o → TestIn scope o
+  test_in : (sc : Scope) (scope : List ℕ) (c : Covers sc.locals scope) (o : Option core.Condition) →
+      IfTest sc scope c o → TestIn scope o
   test_in sc scope c None h = tt
   test_in sc scope c (Some x) h = h
 
-  element_in : (decls : List Decl) (scope : List ℕ) (m : Meaning) (o : Option core.Expr) → IndexIn scope o → AssigneeIn scope (assignee_at_element decls m o)
+  element_in : (decls : List Decl) (scope : List ℕ) (m : Meaning) (o : Option core.Expr) → IndexIn scope o →
+      AssigneeIn scope (assignee_at_element decls m o)
   element_in decls scope m None h = tt
   element_in decls scope (a_decl n (array a)) (Some index) h = assignee_in scope (to_element (number_at decls n (array a)) index) (type_of (outside decls) a.value_type) h
   element_in decls scope (a_decl n (lock x)) (Some index) h = tt
@@ -480,25 +524,29 @@ module _ (finals : List core.Local) where
   element_in decls scope (a_local n l) (Some index) h = tt
   element_in decls scope nothing (Some index) h = tt
 
-  field_in_scope : (start n : ℕ) (scope : List ℕ) (t : core_type.ValueType) (o : Option Split) → Contains scope n → AssigneeIn scope (assignee (field_target start n o) (Some t))
+  field_in_scope : (start n : ℕ) (scope : List ℕ) (t : core_type.ValueType) (o : Option Split) → Contains scope n →
+      AssigneeIn scope (assignee (field_target start n o) (Some t))
   field_in_scope start n scope t None c = tt
   field_in_scope start n scope t (Some q) c = c
 
-  along_in : (start : ℕ) (sc : Scope) (scope : List ℕ) → Covers sc.locals scope → (m : Meaning) (w : Walk) → IsLocal sc.locals m → AssigneeIn scope (assignee_along start m w)
+  along_in : (start : ℕ) (sc : Scope) (scope : List ℕ) → Covers sc.locals scope → (m : Meaning) (w : Walk) →
+      IsLocal sc.locals m → AssigneeIn scope (assignee_along start m w)
   along_in start sc scope c (a_local n l) (reached steps t) loc = field_in_scope start n scope t (last_field steps) (c n l loc.0 loc.1)
   along_in start sc scope c (a_local n l) at_lock loc = tt
   along_in start sc scope c (a_local n l) lost loc = tt
   along_in start sc scope c (a_decl n d) w loc = tt
   along_in start sc scope c nothing w loc = tt
 
-  target_in : (sc : Scope) (scope : List ℕ) → Covers sc.locals scope → Become sc.locals finals → (q : Place) → AssigneeIn scope (target_of sc q)
+  target_in : (sc : Scope) (scope : List ℕ) → Covers sc.locals scope → Become sc.locals finals → (q : Place) →
+      AssigneeIn scope (target_of sc q)
   target_in sc scope c b (lone x) = name_in sc scope c b (meaning sc x.text) (meant_local sc x.text)
   target_in sc scope c b (element x e) = element_in sc.decls scope (meaning sc x.text) (number_resolved (typed sc e)) (index_in sc scope c (number_resolved (typed sc e)) (value_names sc scope c (Value Integer) e))
   target_in sc scope c b (path x fs) = along_in x.span.start sc scope c (meaning sc x.text) (walk_from sc.decls (meaning sc x.text) fs) (meant_local sc x.text)
 
   -- ---- a value that is tested
 
-  owner_in : (sc : Scope) (scope : List ℕ) → Covers sc.locals scope → (g : Option OwnerField) (m : Meaning) → IsLocal sc.locals m → (n : ℕ) → owner_local g m ≡ Some n → Contains scope n
+  owner_in : (sc : Scope) (scope : List ℕ) → Covers sc.locals scope → (g : Option OwnerField) (m : Meaning) →
+      IsLocal sc.locals m → (n : ℕ) → owner_local g m ≡ Some n → Contains scope n
   owner_in sc scope c None m loc n e = cc
   owner_in sc scope c (Some g) (a_local k l) loc n e = by_type (is_of g.value_type l.value_type) e
     where
@@ -514,13 +562,16 @@ module _ (finals : List core.Local) where
   numbered_in scope x start k f n true false h c = tt
   numbered_in scope x start k f n false b h c = tt
 
-  tested_in : (scope : List ℕ) (start : ℕ) (v : Option core.Expr) (g : Option OwnerField) (i : Option ℕ) → IndexIn scope v → ((n : ℕ) → i ≡ Some n → Contains scope n) → IndexIn scope (owned_value start v g i)
+  tested_in : (scope : List ℕ) (start : ℕ) (v : Option core.Expr) (g : Option OwnerField) (i : Option ℕ) →
+      IndexIn scope v → ((n : ℕ) → i ≡ Some n → Contains scope n) → IndexIn scope (owned_value start v g i)
   tested_in scope start None g i h c = tt
   tested_in scope start (Some x) None i h c = tt
   tested_in scope start (Some x) (Some g) None h c = tt
   tested_in scope start (Some x) (Some g) (Some n) h c = numbered_in scope x start g.structure g.number n (nat_le g.structure STRUCT_LIMIT) (nat_le n SOURCE_LIMIT) h (c n refl)
 
-  owned_in : (sc : Scope) (scope : List ℕ) → Covers sc.locals scope → (t : Option core_type.ValueType) (o : Owner) (v : Option core.Expr) → IndexIn scope v → IndexIn scope (owned_by sc t o v)
+  owned_in : (sc : Scope) (scope : List ℕ) → Covers sc.locals scope →
+      (t : Option core_type.ValueType) (o : Owner) (v : Option core.Expr) → IndexIn scope v →
+      IndexIn scope (owned_by sc t o v)
   owned_in sc scope c t o v h =
       let g = owner_field sc.decls t o.field in
       tested_in scope o.local.span.start v g (owner_local g (meaning sc o.local.text)) h (owner_in sc scope c g (meaning sc o.local.text) (meant_local sc o.local.text))
@@ -531,12 +582,14 @@ module _ (finals : List core.Local) where
   ValuesIn scope None = ⊤
   ValuesIn scope (Some xs) = EachNames scope xs
 
-  added_in : (scope : List ℕ) (o : Option core.Expr) (r : Option (List core.Expr)) → IndexIn scope o → ValuesIn scope r → ValuesIn scope (added o r)
+  added_in : (scope : List ℕ) (o : Option core.Expr) (r : Option (List core.Expr)) → IndexIn scope o →
+      ValuesIn scope r → ValuesIn scope (added o r)
   added_in scope None r h g = tt
   added_in scope (Some x) None h g = tt
   added_in scope (Some x) (Some xs) h g = (h, g)
 
-  values_in : (sc : Scope) (scope : List ℕ) → Covers sc.locals scope → (ps : List Param) (es : List Expr) → ValuesIn scope (typed_values sc ps es)
+  values_in : (sc : Scope) (scope : List ℕ) → Covers sc.locals scope → (ps : List Param) (es : List Expr) →
+      ValuesIn scope (typed_values sc ps es)
   values_in sc scope c [] [] = tt
   values_in sc scope c [] (e ∷ es) = tt
   values_in sc scope c (q ∷ ps) [] = tt
@@ -549,19 +602,23 @@ module _ (finals : List core.Local) where
   CallIn scope local None = ⊤
   CallIn scope local (Some x) = (n : ℕ) × (xs : List core.Expr) × (x ≡ core.call n xs local) × EachNames scope xs
 
-  numbered_call : (scope : List ℕ) (n : ℕ) (local : Option ℕ) (o : Option (List core.Expr)) → ValuesIn scope o → CallIn scope local (o >>= λ vs. Some (core.call n vs local))
+  numbered_call : (scope : List ℕ) (n : ℕ) (local : Option ℕ) (o : Option (List core.Expr)) → ValuesIn scope o →
+      CallIn scope local (o >>= λ vs. Some (core.call n vs local))
   numbered_call scope n local None h = tt
   numbered_call scope n local (Some xs) h = (n, xs, refl, h)
 
-  called_in : (sc : Scope) (scope : List ℕ) → Covers sc.locals scope → (o : Option (ℕ × Section)) (es : List Expr) (local : Option ℕ) → CallIn scope local (called sc o es local)
+  called_in : (sc : Scope) (scope : List ℕ) → Covers sc.locals scope →
+      (o : Option (ℕ × Section)) (es : List Expr) (local : Option ℕ) → CallIn scope local (called sc o es local)
   called_in sc scope c None es local = tt
   called_in sc scope c (Some (n, s)) es local = numbered_call scope (number_at sc.decls n (helper s)) local (typed_values sc s.params es) (values_in sc scope c s.params es)
 
-  dropped_done : (ls : List scopes.Local) (scope : List ℕ) (start : ℕ) (o : Option core.Action) → Covers ls scope → CallIn scope None o → PartDone finals ls ls scope (acts_if start o)
+  dropped_done : (ls : List scopes.Local) (scope : List ℕ) (start : ℕ) (o : Option core.Action) → Covers ls scope →
+      CallIn scope None o → PartDone finals ls ls scope (acts_if start o)
   dropped_done ls scope start None c h = tt
   dropped_done ls scope start (Some x) c h = subst (λ (y : core.Action). Acted scope finals (length ls) (length ls) y × Covers ls (behind scope y)) (sym h.2) (plain scope finals (length ls) (core.call h.0 h.1 None) h.3 refl refl, c)
 
-  taken_done : (ls : List scopes.Local) (l : scopes.Local) (scope : List ℕ) (start : ℕ) (o : Option core.Action) → Covers ls scope → CallIn scope (Some (length ls)) o → PartDone finals ls (ls ++ l ∷ []) scope (acts_if start o)
+  taken_done : (ls : List scopes.Local) (l : scopes.Local) (scope : List ℕ) (start : ℕ) (o : Option core.Action) →
+      Covers ls scope → CallIn scope (Some (length ls)) o → PartDone finals ls (ls ++ l ∷ []) scope (acts_if start o)
   taken_done ls l scope start None c h = tt
   taken_done ls l scope start (Some x) c h =
       subst (λ (y : core.Action). Acted scope finals (length ls) (length (ls ++ l ∷ [])) y × Covers (ls ++ l ∷ []) (behind scope y)) (sym h.2)
@@ -576,7 +633,8 @@ module _ (finals : List core.Local) where
   bind_done ls x scope start (Some t) None c h = tt
   bind_done ls x scope start (Some t) (Some e) c h = (record { named = h; bound = numbers_bind ls x; assigned = λ k i. absurd (nowhere k i) }, covers_push ls x scope c)
 
-  set_done : (ls : List scopes.Local) (scope : List ℕ) (g : Target) (e : core.Expr) → TargetIn scope g → Names scope e → Acted scope finals (length ls) (length ls) (set_to g e)
+  set_done : (ls : List scopes.Local) (scope : List ℕ) (g : Target) (e : core.Expr) → TargetIn scope g →
+      Names scope e → Acted scope finals (length ls) (length ls) (set_to g e)
   set_done ls scope (to_local n) e h i = record {
     named = (h.0, i);
     bound = (plain scope finals (length ls) (core.print e) i refl refl).bound;
@@ -592,16 +650,19 @@ module _ (finals : List core.Local) where
   behind_set scope (to_element n index) e = refl
   behind_set scope (to_field base k f) e = refl
 
-  assign_done : (ls : List scopes.Local) (scope : List ℕ) (start : ℕ) (o : Option Assignee) (v : Option core.Expr) → Covers ls scope → AssigneeIn scope o → IndexIn scope v → PartDone finals ls ls scope (assigns start o v)
+  assign_done : (ls : List scopes.Local) (scope : List ℕ) (start : ℕ) (o : Option Assignee) (v : Option core.Expr) →
+      Covers ls scope → AssigneeIn scope o → IndexIn scope v → PartDone finals ls ls scope (assigns start o v)
   assign_done ls scope start None v c h i = tt
   assign_done ls scope start (Some a) None c h i = tt
   assign_done ls scope start (Some a) (Some e) c h i = (set_done ls scope a.target e h i, subst (Covers ls) (sym (behind_set scope a.target e)) c)
 
-  print_done : (ls : List scopes.Local) (scope : List ℕ) (start : ℕ) (v : Option core.Expr) → Covers ls scope → IndexIn scope v → PartDone finals ls ls scope (prints start v)
+  print_done : (ls : List scopes.Local) (scope : List ℕ) (start : ℕ) (v : Option core.Expr) → Covers ls scope →
+      IndexIn scope v → PartDone finals ls ls scope (prints start v)
   print_done ls scope start None c h = tt
   print_done ls scope start (Some e) c h = (plain scope finals (length ls) (core.print e) h refl refl, c)
 
-  return_done : (ls : List scopes.Local) (scope : List ℕ) (start : ℕ) (v : Option core.Expr) → IndexIn scope v → PartDone finals ls ls scope (returns start v)
+  return_done : (ls : List scopes.Local) (scope : List ℕ) (start : ℕ) (v : Option core.Expr) → IndexIn scope v →
+      PartDone finals ls ls scope (returns start v)
   return_done ls scope start None h = tt
   return_done ls scope start (Some e) h = (h, refl)
 
@@ -634,16 +695,19 @@ module _ (finals : List core.Local) where
     c,
   )
 
-  part_covers : (ls to : List scopes.Local) (scope : List ℕ) (o : Option Part) (x : core.Stmt) → PartDone finals ls to scope o → o ≡ Some (does x) → Covers to (behind scope x.action)
+  part_covers : (ls to : List scopes.Local) (scope : List ℕ) (o : Option Part) (x : core.Stmt) →
+      PartDone finals ls to scope o → o ≡ Some (does x) → Covers to (behind scope x.action)
   part_covers ls to scope o x h is = (subst (PartDone finals ls to scope) is h).1
 
-  empty_length : (ls to : List scopes.Local) (scope : List ℕ) (o : Option Body) (b : Body) → BodyDone finals ls to scope o → o ≡ Some b → b.stmts ≡ core.no_stmts → length to ≡ length ls
+  empty_length : (ls to : List scopes.Local) (scope : List ℕ) (o : Option Body) (b : Body) →
+      BodyDone finals ls to scope o → o ≡ Some b → b.stmts ≡ core.no_stmts → length to ≡ length ls
   empty_length ls to scope o b h is e =
       let d = (subst (BodyDone finals ls to scope) is h).0 in
       same_numbers finals (length ls) (length to) (ap (λ (xs : core.Stmts). numbers_from 0 (length ls) ++ all_binding xs) (sym e) ∙ d.bound)
 
   mutual
-    stmt_done : (sc : Scope) (s : Stmt) (scope : List ℕ) → Covers sc.locals scope → Become (after sc s).locals finals → PartDone finals sc.locals (after sc s).locals scope (typed_stmt sc s)
+    stmt_done : (sc : Scope) (s : Stmt) (scope : List ℕ) → Covers sc.locals scope →
+        Become (after sc s).locals finals → PartDone finals sc.locals (after sc s).locals scope (typed_stmt sc s)
     stmt_done sc (let_local l) scope c b =
         bind_done sc.locals (record { name = l.name.text; kind = kind.Let; value_type = type_of sc l.value_type; is_visible = true }) scope l.start.start (type_of sc l.value_type) (as_value (fitting (want (type_of sc l.value_type)) (typed sc l.value))) c
         (index_in sc scope c (as_value (fitting (want (type_of sc l.value_type)) (typed sc l.value))) (value_names sc scope c (want (type_of sc l.value_type)) l.value))
@@ -688,7 +752,9 @@ module _ (finals : List core.Local) where
     stmt_done sc (call start d) scope c b =
         dropped_done sc.locals scope start.start (call_resolved sc d None) c (called_in sc scope c (helper_meant (meaning sc d.helper.text)) d.arguments None)
 
-    pub body_done : (sc : Scope) (ss : Stmts) (scope : List ℕ) → Covers sc.locals scope → Become (after_all sc ss).locals finals → BodyDone finals sc.locals (after_all sc ss).locals scope (typed_body sc ss)
+    pub body_done : (sc : Scope) (ss : Stmts) (scope : List ℕ) → Covers sc.locals scope →
+        Become (after_all sc ss).locals finals →
+        BodyDone finals sc.locals (after_all sc ss).locals scope (typed_body sc ss)
     body_done sc no_stmts scope c b = (nothing_done finals scope (length sc.locals), tt)
     body_done sc (stmt s rest) scope c b =
         let mid = (after sc s).locals in

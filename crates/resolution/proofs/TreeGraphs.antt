@@ -1,9 +1,11 @@
 -- The graph of a tree is that of the program which it stands for.
-use Rattle.std.proofs.Common.{◌≡◌, ℕ, zero, suc, ◌+◌, ◌<◌, ◌≤◌, List, [], ◌∷◌, map, take, length, Option, Some, None, refl, sym, ap, ◌∙◌, subst, length-append, arith}
+use Rattle.std.proofs.Common.{◌≡◌, ℕ, zero, suc, ◌+◌, ◌<◌, ◌≤◌, List, [], ◌∷◌, map, take, length, Option, Some, None}
+use Rattle.std.proofs.Common.{refl, sym, ap, ◌∙◌, subst, length-append, arith}
 use Rattle.std.specs.Prelude.{slice_get, is_some}
 use Rattle.std.proofs.lemmas.List.{length-map}
 use Rattle.std.proofs.lemmas.Option.{slice_get_within}
-use Rattle.syntax.specs.Trees.{ValueType, Section, Decl, lock, struct, global, array, pool, init, atomic, helper, thread}
+use Rattle.syntax.specs.Trees.{ValueType, Section, Decl, lock, struct, global, array, pool, init, atomic, helper}
+use Rattle.syntax.specs.Trees.{thread}
 use Rattle.core_lang.specs.declared.value.ValueType as core_type
 use Rattle.core_lang.specs.declared.tree.Section as the_section
 use Rattle.core_lang.specs.declared.typed.Typed.{Typed}
@@ -92,7 +94,8 @@ numbers_many : (first n : ℕ) → length (numbers_from first n) ≡ n
 numbers_many first zero = refl
 numbers_many first (suc n) = let h = numbers_many (first + 1) n in omega (arith, h)
 
-pub body_of_section : (decls : List Decl) (limits : BodyLimits) (s : Section) (x : the_section.Section) → typed_section decls limits s ≡ Some (core_section x) →
+pub body_of_section : (decls : List Decl) (limits : BodyLimits) (s : Section) (x : the_section.Section) →
+    typed_section decls limits s ≡ Some (core_section x) →
     IsBodyOf x (body_in (ahead_of decls limits s) s)
 body_of_section decls limits s x e =
     let sc = entry decls limits s in
@@ -175,13 +178,15 @@ helper_back all (init x ∷ ds) k b e = let r = helper_back all ds k b e in (suc
 helper_back all (atomic x ∷ ds) k b e = let r = helper_back all ds k b e in (suc r.0, (r.1.0, r.1.1, r.1.2))
 helper_back all (thread x ∷ ds) k b e = let r = helper_back all ds k b e in (suc r.0, (r.1.0, r.1.1, r.1.2))
 
-take_there : {A : Type 0} (n : ℕ) (xs : List A) (k : ℕ) (x : A) → k < n → slice_get xs k ≡ Some x → slice_get (take n xs) k ≡ Some x
+take_there : {A : Type 0} (n : ℕ) (xs : List A) (k : ℕ) (x : A) → k < n → slice_get xs k ≡ Some x →
+    slice_get (take n xs) k ≡ Some x
 take_there zero xs k x lt e = absurd (omega (arith, lt))
 take_there (suc n) [] k x lt e = absurd cc
 take_there (suc n) (y ∷ xs) zero x lt e = e
 take_there (suc n) (y ∷ xs) (suc k) x lt e = take_there n xs k x (omega (arith, lt)) e
 
-take_back : {A : Type 0} (n : ℕ) (xs : List A) (k : ℕ) (x : A) → slice_get (take n xs) k ≡ Some x → slice_get xs k ≡ Some x
+take_back : {A : Type 0} (n : ℕ) (xs : List A) (k : ℕ) (x : A) → slice_get (take n xs) k ≡ Some x →
+    slice_get xs k ≡ Some x
 take_back zero xs k x e = absurd cc
 take_back (suc n) [] k x e = absurd cc
 take_back (suc n) (y ∷ xs) zero x e = e
@@ -193,7 +198,8 @@ get_some (x ∷ xs) zero lt = (x, refl)
 get_some (x ∷ xs) (suc n) lt = get_some xs n (omega (arith, lt))
 
 -- a list that has an item at each place that another one has is as long
-as_long : {A B : Type 0} (xs : List A) (ys : List B) → ((k : ℕ) (x : A) → slice_get xs k ≡ Some x → k < length ys) → length xs ≤ length ys
+as_long : {A B : Type 0} (xs : List A) (ys : List B) → ((k : ℕ) (x : A) → slice_get xs k ≡ Some x → k < length ys) →
+    length xs ≤ length ys
 as_long xs ys h = by_length (length xs) refl
   where
     by_length : (n : ℕ) → length xs ≡ n → n ≤ length ys
@@ -206,7 +212,8 @@ module _ (decls : List Decl) (clean : Clean decls) (program : Typed) (is : resol
   few : length program.shape.helpers.items ≤ SECTION_LIMIT
   few = let within = within_limits decls clean program is in omega (arith, within.sections)
 
-  helper_is : (k : ℕ) (h : the_section.Section) → slice_get program.shape.helpers.items k ≡ Some h → (b : Body) × (slice_get (tree_graph decls).helpers k ≡ Some b) × IsBodyOf h b
+  helper_is : (k : ℕ) (h : the_section.Section) → slice_get program.shape.helpers.items k ≡ Some h →
+      (b : Body) × (slice_get (tree_graph decls).helpers k ≡ Some b) × IsBodyOf h b
   helper_is k h at =
       let r = helpers_are decls clean program is k (core_section h) (get_map core_section program.shape.helpers.items k h at) in
       let lt : k < length program.shape.helpers.items = slice_get_within program.shape.helpers.items k h at in
@@ -214,14 +221,16 @@ module _ (decls : List Decl) (clean : Clean decls) (program : Typed) (is : resol
       let there : slice_get (helper_bodies decls decls) k ≡ Some b = subst (λ (n : ℕ). slice_get (helper_bodies decls decls) n ≡ Some b) r.3 (helper_there decls decls r.0 r.1 r.2) in
       (b, take_there SECTION_LIMIT (helper_bodies decls decls) k b (omega (arith, lt, few)) there, body_of_section decls helper_limits r.1 h r.4)
 
-  section_is : (k : ℕ) (x : the_section.Section) → slice_get program.sections.items k ≡ Some x → (b : Body) × (slice_get (tree_graph decls).sections k ≡ Some b) × IsBodyOf x b
+  section_is : (k : ℕ) (x : the_section.Section) → slice_get program.sections.items k ≡ Some x →
+      (b : Body) × (slice_get (tree_graph decls).sections k ≡ Some b) × IsBodyOf x b
   section_is k x at =
       let r = sections_are decls clean program is k (core_section x) (get_map core_section program.sections.items k x at) in
       let b : Body = body_in (ahead_of decls section_limits r.1) r.1 in
       let there : slice_get (section_bodies decls decls) k ≡ Some b = subst (λ (n : ℕ). slice_get (section_bodies decls decls) n ≡ Some b) r.3 (section_there decls decls r.0 r.1 r.2) in
       (b, there, body_of_section decls section_limits r.1 x r.4)
 
-  helper_known : (k : ℕ) (b : Body) → slice_get (tree_graph decls).helpers k ≡ Some b → k < length program.shape.helpers.items
+  helper_known : (k : ℕ) (b : Body) → slice_get (tree_graph decls).helpers k ≡ Some b →
+      k < length program.shape.helpers.items
   helper_known k b at =
       let from = helper_back decls decls k b (take_back SECTION_LIMIT (helper_bodies decls decls) k b at) in
       let x = helper_at decls clean (core_of program) is from.0 from.1.0 from.1.1 in

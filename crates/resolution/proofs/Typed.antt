@@ -4,36 +4,46 @@ use Rattle.std.specs.Prelude.{map, option_map, slice_get, take, ⊤}
 use Rattle.core_lang.specs.declared.value.ValueType.{ValueType}
 use Rattle.core_lang.specs.declared.value.ValueType.TheVariants.{Integer, Reference}
 use Rattle.core_lang.specs.declared.tree.Comparison.{Comparison}
-use Rattle.core_lang.specs.declared.tree.Comparison.TheVariants.{Equal, NotEqual, Less, LessOrEqual, Greater, GreaterOrEqual}
+use Rattle.core_lang.specs.declared.tree.Comparison.TheVariants.{Equal, NotEqual, Less, LessOrEqual, Greater}
+use Rattle.core_lang.specs.declared.tree.Comparison.TheVariants.{GreaterOrEqual}
 use Rattle.core_lang.specs.declared.tree.FieldStep.{FieldStep}
 use Rattle.core_lang.specs.declared.tree.FieldStep.TheVariants as step
 use Rattle.core_lang.specs.declared.tree.Expr as e
-use Rattle.core_lang.specs.declared.tree.Expr.{Number, Null, Place, Global, Element', Member', Negate', Owned', Chain', Row_of-Operation, end_of-Operation, more_of-Operation}
+use Rattle.core_lang.specs.declared.tree.Expr.{Number, Null, Place, Global, Element', Member', Negate', Owned'}
+use Rattle.core_lang.specs.declared.tree.Expr.{Chain', Row_of-Operation, end_of-Operation, more_of-Operation}
 use Rattle.core_lang.specs.declared.tree.Condition as c
-use Rattle.core_lang.specs.declared.tree.Condition.{Compare, Not', And', Or', Row_of-Condition, end_of-Condition, more_of-Condition}
+use Rattle.core_lang.specs.declared.tree.Condition.{Compare, Not', And', Or', Row_of-Condition, end_of-Condition}
+use Rattle.core_lang.specs.declared.tree.Condition.{more_of-Condition}
 use Rattle.core_lang.specs.declared.tree.Stmt as s
 use Rattle.core_lang.specs.declared.tree.Action as a
-use Rattle.core_lang.specs.declared.tree.Action.{Bind, SetLocal, SetGlobal, SetElement, SetField, Call, Print, If', IfElse', While', Row_of-Stmt, end_of-Stmt, more_of-Stmt}
+use Rattle.core_lang.specs.declared.tree.Action.{Bind, SetLocal, SetGlobal, SetElement, SetField, Call, Print, If'}
+use Rattle.core_lang.specs.declared.tree.Action.{IfElse', While', Row_of-Stmt, end_of-Stmt, more_of-Stmt}
 use Rattle.core_lang.specs.declared.tree.Return as the_return
 use Rattle.core_lang.specs.declared.tree.Local as the_local
 use Rattle.core_lang.specs.declared.typed.Cell.{Cell}
 use Rattle.core_lang.specs.declared.typed.Struct as the_struct
 use Rattle.core_lang.specs.declared.typed.Typed.{Typed}
-use Rattle.core_lang.specs.Typing.{local_types, if_global, global_type, array_type, pool_struct, final_target, field_type, LeadsTo, IsOf, AreIntegers, AreOf, CanCompare, IsTest, AreTests, Takes, IsWellTyped, AreWellTyped, AllWellTyped, IsResult}
+use Rattle.core_lang.specs.Typing.{local_types, if_global, global_type, array_type, pool_struct, final_target}
+use Rattle.core_lang.specs.Typing.{field_type, LeadsTo, IsOf, AreIntegers, AreOf, CanCompare, IsTest, AreTests, Takes}
+use Rattle.core_lang.specs.Typing.{IsWellTyped, AreWellTyped, AllWellTyped, IsResult}
 use Rattle.resolution.specs.Core as core
-use Rattle.resolution.specs.CoreViews.{core_expr, core_operations_row, core_condition, core_conditions_row, core_action, core_stmts_row, core_stmts, core_return, core_local, core_section, core_struct, core_final, core_field, core_array, core_pool, core_of}
+use Rattle.resolution.specs.CoreViews.{core_expr, core_operations_row, core_condition, core_conditions_row}
+use Rattle.resolution.specs.CoreViews.{core_action, core_stmts_row, core_stmts, core_return, core_local, core_section}
+use Rattle.resolution.specs.CoreViews.{core_struct, core_final, core_field, core_array, core_pool, core_of}
 use Rattle.resolution.specs.Scopes.{◌>>=◌}
 
 -- ---- lists seen by a view
 
 -- what the view of a list has, is the view of what the list has
-pub map_got : {A B : Type 0} (f : A → B) (xs : List A) (k : ℕ) (y : B) → slice_get (map f xs) k ≡ Some y → (x : A) × (slice_get xs k ≡ Some x) × (f x ≡ y)
+pub map_got : {A B : Type 0} (f : A → B) (xs : List A) (k : ℕ) (y : B) → slice_get (map f xs) k ≡ Some y →
+    (x : A) × (slice_get xs k ≡ Some x) × (f x ≡ y)
 map_got f [] k y e = cc
 map_got f (x ∷ xs) zero y e = (x, refl, cc)
 map_got f (x ∷ xs) (suc k) y e = map_got f xs k y e
 
 -- and what a list has, its view has
-pub get_map : {A B : Type 0} (f : A → B) (xs : List A) (k : ℕ) (x : A) → slice_get xs k ≡ Some x → slice_get (map f xs) k ≡ Some (f x)
+pub get_map : {A B : Type 0} (f : A → B) (xs : List A) (k : ℕ) (x : A) → slice_get xs k ≡ Some x →
+    slice_get (map f xs) k ≡ Some (f x)
 get_map f [] k x e = cc
 get_map f (y ∷ xs) zero x e = let same : y ≡ x = cc in ap (λ z. Some (f z)) same
 get_map f (y ∷ xs) (suc k) x e = get_map f xs k x e
@@ -56,14 +66,16 @@ abbrev pub field_in : core.Program → ℕ → ℕ → Option ValueType
 field_in p s f = slice_get p.structs s >>= λ x. slice_get x.fields f >>= λ y. Some y.value_type
 
 -- the same of what stands for them
-global_type_is : (program : Typed) (n : ℕ) (t : ValueType) → global_in (core_of program) n ≡ Some t → global_type program n ≡ Some t
+global_type_is : (program : Typed) (n : ℕ) (t : ValueType) → global_in (core_of program) n ≡ Some t →
+    global_type program n ≡ Some t
 global_type_is program n t h = by_cell (slice_get program.cells.items n) refl
   where
     by_cell : (o : Option Cell) → slice_get program.cells.items n ≡ o → global_type program n ≡ Some t
     by_cell (Some y) is = rw is (sym (ap (λ (o : Option Cell). o >>= λ x. if_global x.owner x.value_type) is) ∙ h)
     by_cell None is = let v : None ≡ Some t = sym (ap (λ (o : Option Cell). o >>= λ x. if_global x.owner x.value_type) is) ∙ h in cc
 
-array_type_is : (program : Typed) (n : ℕ) (t : ValueType) → array_in (core_of program) n ≡ Some t → array_type program n ≡ Some t
+array_type_is : (program : Typed) (n : ℕ) (t : ValueType) → array_in (core_of program) n ≡ Some t →
+    array_type program n ≡ Some t
 array_type_is program n t h = by_array (slice_get (core_of program).arrays n) refl
   where
     by_array : (o : Option core.Array) → slice_get (core_of program).arrays n ≡ o → array_type program n ≡ Some t
@@ -84,13 +96,17 @@ pool_struct_is program n k h = by_pool (slice_get (core_of program).pools n) ref
     by_pool None is = let v : None ≡ Some k = sym (ap (λ (o : Option core.Pool). o >>= λ y. Some y.structure) is) ∙ h in cc
 
 -- a struct's part
-struct_got : (program : Typed) (s : ℕ) (y : core.Struct) → slice_get (core_of program).structs s ≡ Some y → (x : the_struct.Struct) × (slice_get program.structs.items s ≡ Some x) × (core_struct x ≡ y)
+struct_got : (program : Typed) (s : ℕ) (y : core.Struct) → slice_get (core_of program).structs s ≡ Some y →
+    (x : the_struct.Struct) × (slice_get program.structs.items s ≡ Some x) × (core_struct x ≡ y)
 struct_got program s y e = map_got core_struct program.structs.items s y e
 
-pub final_target_is : (program : Typed) (s f k : ℕ) → final_in (core_of program) s f ≡ Some k → final_target program s f ≡ Some k
+pub final_target_is : (program : Typed) (s f k : ℕ) → final_in (core_of program) s f ≡ Some k →
+    final_target program s f ≡ Some k
 final_target_is program s f k h = by_struct (slice_get (core_of program).structs s) refl
   where
-    by_final : (x : the_struct.Struct) → slice_get program.structs.items s ≡ Some x → (o : Option core.FinalField) → slice_get (map core_final x.finals.items) f ≡ o → (o >>= λ z. Some z.target) ≡ Some k → final_target program s f ≡ Some k
+    by_final : (x : the_struct.Struct) → slice_get program.structs.items s ≡ Some x → (o : Option core.FinalField) →
+        slice_get (map core_final x.finals.items) f ≡ o → (o >>= λ z. Some z.target) ≡ Some k →
+        final_target program s f ≡ Some k
     by_final x at (Some y) is u =
         let r = map_got core_final x.finals.items f y is in
         rw (at, r.1) (ap (λ (z : core.FinalField). Some z.target) r.2 ∙ u)
@@ -103,10 +119,13 @@ final_target_is program s f k h = by_struct (slice_get (core_of program).structs
         by_final r.0 r.1 (slice_get (map core_final r.0.finals.items) f) refl (ap (λ (z : core.Struct). slice_get z.finals f >>= λ w. Some w.target) r.2 ∙ u)
     by_struct None is = let v : None ≡ Some k = sym (ap (λ (o : Option core.Struct). o >>= λ x. slice_get x.finals f >>= λ z. Some z.target) is) ∙ h in cc
 
-pub field_type_is : (program : Typed) (s f : ℕ) (t : ValueType) → field_in (core_of program) s f ≡ Some t → field_type program s f ≡ Some t
+pub field_type_is : (program : Typed) (s f : ℕ) (t : ValueType) → field_in (core_of program) s f ≡ Some t →
+    field_type program s f ≡ Some t
 field_type_is program s f t h = by_struct (slice_get (core_of program).structs s) refl
   where
-    by_field : (x : the_struct.Struct) → slice_get program.structs.items s ≡ Some x → (o : Option core.Field) → slice_get (map core_field x.fields.items) f ≡ o → (o >>= λ z. Some z.value_type) ≡ Some t → field_type program s f ≡ Some t
+    by_field : (x : the_struct.Struct) → slice_get program.structs.items s ≡ Some x → (o : Option core.Field) →
+        slice_get (map core_field x.fields.items) f ≡ o → (o >>= λ z. Some z.value_type) ≡ Some t →
+        field_type program s f ≡ Some t
     by_field x at (Some y) is u =
         let r = map_got core_field x.fields.items f y is in
         rw (at, r.1) (ap (λ (z : core.Field). Some z.value_type) r.2 ∙ u)
@@ -225,7 +244,8 @@ types_taken (suc n) [] = refl
 types_taken (suc n) (l ∷ ls) = ap (λ (ts : List ValueType). l.value_type ∷ ts) (types_taken n ls)
 
 module _ (program : Typed) (locals : List ValueType) where
-  leads_is : (from : ValueType) (fs : List FieldStep) (to : ValueType) → Leads (core_of program) locals from fs to → LeadsTo program locals from fs to
+  leads_is : (from : ValueType) (fs : List FieldStep) (to : ValueType) → Leads (core_of program) locals from fs to →
+      LeadsTo program locals from fs to
   leads_is from [] to h = h
   leads_is Integer (f ∷ fs) to h = absurd h
   leads_is (Reference s) (step.Final k f ∷ fs) to h = (h.0, h.1, final_target_is program s f h.1 h.2, leads_is (Reference h.1) fs to h.3)
@@ -249,11 +269,13 @@ module _ (program : Typed) (locals : List ValueType) where
     expr_is (Chain' _ x _ rest) Integer h = (expr_is x Integer h.0, operations_are rest h.1)
     expr_is (Chain' _ x _ rest) (Reference s) h = absurd h
 
-    operations_are : {k : _} (row : Row_of-Operation k) → Are (core_of program) locals (core_operations_row row) → AreIntegers program locals row
+    operations_are : {k : _} (row : Row_of-Operation k) → Are (core_of program) locals (core_operations_row row) →
+        AreIntegers program locals row
     operations_are end_of-Operation h = tt
     operations_are (more_of-Operation o x rest) h = (expr_is x Integer h.0, operations_are rest h.1)
 
-  all_are : (xs : List e.Expr) (ts : List ValueType) → AreAll (core_of program) locals (map core_expr xs) ts → AreOf program locals xs ts
+  all_are : (xs : List e.Expr) (ts : List ValueType) → AreAll (core_of program) locals (map core_expr xs) ts →
+      AreOf program locals xs ts
   all_are [] [] h = tt
   all_are [] (t ∷ ts) h = absurd h
   all_are (x ∷ xs) [] h = absurd h
@@ -264,7 +286,8 @@ module _ (program : Typed) (locals : List ValueType) where
   taken_is (Some k) None h = absurd h
   taken_is (Some k) (Some t) h = h
 
-  compare_is : (o : Comparison) (x y : e.Expr) → Compares (core_of program) locals o (core_expr x) (core_expr y) → CanCompare program locals o x y
+  compare_is : (o : Comparison) (x y : e.Expr) → Compares (core_of program) locals o (core_expr x) (core_expr y) →
+      CanCompare program locals o x y
   compare_is Equal x y h = (h.0, expr_is x h.0 h.1, expr_is y h.0 h.2)
   compare_is NotEqual x y h = (h.0, expr_is x h.0 h.1, expr_is y h.0 h.2)
   compare_is Less x y h = (expr_is x Integer h.0, expr_is y Integer h.1)
@@ -279,7 +302,8 @@ module _ (program : Typed) (locals : List ValueType) where
     test_is (And' _ before _ last) h = (tests_are before h.0, test_is last h.1)
     test_is (Or' _ before _ last) h = (tests_are before h.0, test_is last h.1)
 
-    tests_are : {k : _} (row : Row_of-Condition k) → AllTest (core_of program) locals (core_conditions_row row) → AreTests program locals row
+    tests_are : {k : _} (row : Row_of-Condition k) → AllTest (core_of program) locals (core_conditions_row row) →
+        AreTests program locals row
     tests_are end_of-Condition h = tt
     tests_are (more_of-Condition x rest) h = (test_is x h.0, tests_are rest h.1)
 
@@ -305,7 +329,8 @@ module _ (program : Typed) (locals : List ValueType) where
     action_is (IfElse' t _ block _ other) h = (test_is t h.0, stmts_are block h.1, stmts_are other h.2)
     action_is (While' t _ body) h = (test_is t h.0, stmts_are body h.1)
 
-    stmts_are : {k : _} (row : Row_of-Stmt k) → AllAct (core_of program) locals (core_stmts_row row) → AreWellTyped program locals row
+    stmts_are : {k : _} (row : Row_of-Stmt k) → AllAct (core_of program) locals (core_stmts_row row) →
+        AreWellTyped program locals row
     stmts_are end_of-Stmt h = tt
     stmts_are (more_of-Stmt start x rest) h = (action_is x h.0, stmts_are rest h.1)
 
@@ -313,7 +338,8 @@ module _ (program : Typed) (locals : List ValueType) where
   body_typed [] h = tt
   body_typed (x ∷ xs) h = (action_is x.action h.0, body_typed xs h.1)
 
-  pub result_typed : (t : Option ValueType) (r : Option the_return.Return) → Returns (core_of program) locals t (option_map core_return r) → IsResult program locals t r
+  pub result_typed : (t : Option ValueType) (r : Option the_return.Return) →
+      Returns (core_of program) locals t (option_map core_return r) → IsResult program locals t r
   result_typed None None h = tt
   result_typed None (Some r) h = absurd h
   result_typed (Some t) None h = absurd h

@@ -1,25 +1,38 @@
 -- Resolved expressions are well typed.
-use Rattle.std.proofs.Common.{◌≡◌, ℕ, List, [], ◌∷◌, ◌++◌, Option, Some, None, Bool, true, false, if◌then◌else◌, refl, sym, subst}
+use Rattle.std.proofs.Common.{◌≡◌, ℕ, List, [], ◌∷◌, ◌++◌, Option, Some, None, Bool, true, false, if◌then◌else◌, refl}
+use Rattle.std.proofs.Common.{sym, subst}
 use Rattle.std.specs.Prelude.{ℤ, slice_get, ⊤}
 use Rattle.std.proofs.lemmas.Bool.{eqb-true}
 use Rattle.syntax.specs.declared.tree.Level.TheVariants.{Term, Sum, Conjunction, Disjunction}
 use Rattle.syntax.specs.declared.tree.Prefix.TheVariants.{Negate, Not}
 use Rattle.syntax.specs.declared.tree.Comparison as written
 use Rattle.syntax.specs.declared.tree.Comparison.TheVariants as sign
-use Rattle.syntax.specs.Trees.{ref_type, Ident, Place, lone, element, path, Expr, int, null, place, paren, prefix, chain, compare, Links, no_links, link, Member, lock_member, final_member, field_member, Final, Field, Struct, Variable, Array, Pool, Decl, lock, struct, global, array, pool, init, atomic, helper, thread}
+use Rattle.syntax.specs.Trees.{ref_type, Ident, Place, lone, element, path, Expr, int, null, place, paren, prefix}
+use Rattle.syntax.specs.Trees.{chain, compare, Links, no_links, link, Member, lock_member, final_member, field_member}
+use Rattle.syntax.specs.Trees.{Final, Field, Struct, Variable, Array, Pool, Decl, lock, struct, global, array, pool}
+use Rattle.syntax.specs.Trees.{init, atomic, helper, thread}
 use Rattle.core_lang.specs.declared.value.ValueType.{ValueType}
 use Rattle.core_lang.specs.declared.value.ValueType.TheVariants.{Integer, Reference}
 use Rattle.core_lang.specs.declared.tree.Operator.{Operator}
 use Rattle.core_lang.specs.declared.tree.Comparison.{Comparison}
-use Rattle.core_lang.specs.declared.tree.Comparison.TheVariants.{Equal, NotEqual, Less, LessOrEqual, Greater, GreaterOrEqual}
+use Rattle.core_lang.specs.declared.tree.Comparison.TheVariants.{Equal, NotEqual, Less, LessOrEqual, Greater}
+use Rattle.core_lang.specs.declared.tree.Comparison.TheVariants.{GreaterOrEqual}
 use Rattle.core_lang.specs.declared.tree.FieldStep.{FieldStep}
 use Rattle.core_lang.specs.declared.tree.FieldStep.TheVariants as step
 use Rattle.resolution.specs.declared.wanted.Sort.{Sort}
 use Rattle.resolution.specs.declared.wanted.Sort.TheVariants as sort
 use Rattle.resolution.specs.declared.wanted.Want.TheVariants.{Value}
 use Rattle.resolution.specs.Core as core
-use Rattle.resolution.specs.Scopes.{◌>>=◌, Scope, Local, outside, Meaning, a_local, a_decl, nothing, meaning, declared_as, local_or, local_bears, number_at, the_decl, the_local, the_struct, the_member, type_of, struct_named}
-use Rattle.resolution.specs.Expressions.{ResolvedExpr, value, truth, fits_type, fitting, as_value, number_resolved, test_resolved, alike_sorts, number_value, literal, value_of, local_path, cell_of, named_value, member_value, element_value, Walk, reached, at_lock, lost, over_step, over_member, over, member_number, stepped, walked, at_local, walk_from, path_value, operator_of, negated, not_so, parenthesised, chained, linked, Tests, one_test, tested, all_hold, one_holds, ordered, equated, compared, typed, typed_place, typed_links, typed_tests}
+use Rattle.resolution.specs.Scopes.{◌>>=◌, Scope, Local, outside, Meaning, a_local, a_decl, nothing, meaning}
+use Rattle.resolution.specs.Scopes.{declared_as, local_or, local_bears, number_at, the_decl, the_local, the_struct}
+use Rattle.resolution.specs.Scopes.{the_member, type_of, struct_named}
+use Rattle.resolution.specs.Expressions.{ResolvedExpr, value, truth, fits_type, fitting, as_value, number_resolved}
+use Rattle.resolution.specs.Expressions.{test_resolved, alike_sorts, number_value, literal, value_of, local_path}
+use Rattle.resolution.specs.Expressions.{cell_of, named_value, member_value, element_value, Walk, reached, at_lock}
+use Rattle.resolution.specs.Expressions.{lost, over_step, over_member, over, member_number, stepped, walked, at_local}
+use Rattle.resolution.specs.Expressions.{walk_from, path_value, operator_of, negated, not_so, parenthesised, chained}
+use Rattle.resolution.specs.Expressions.{linked, Tests, one_test, tested, all_hold, one_holds, ordered, equated}
+use Rattle.resolution.specs.Expressions.{compared, typed, typed_place, typed_links, typed_tests}
 use Rattle.resolution.proofs.Named.{named_is, member_is}
 use Rattle.resolution.proofs.FaultlessExpressions.{IsMeant, meant}
 use Rattle.resolution.proofs.Typed as well
@@ -29,11 +42,18 @@ use Rattle.resolution.proofs.Typed.{global_in, array_in, pool_in, final_in, fiel
 
 -- the program has each thing with its type at its number
 pub record Sound (decls : List Decl) (p : core.Program) : Type 0 where
-  pub cell : (n : ℕ) (v : Variable) (t : ValueType) → slice_get decls n ≡ Some (global v) → type_of (outside decls) v.value_type ≡ Some t → global_in p (cell_of decls n) ≡ Some t
-  pub array : (n : ℕ) (a : Array) (t : ValueType) → slice_get decls n ≡ Some (array a) → type_of (outside decls) a.value_type ≡ Some t → array_in p (number_at decls n (array a)) ≡ Some t
-  pub pool : (n : ℕ) (q : Pool) (s : ℕ) → slice_get decls n ≡ Some (pool q) → struct_named decls q.target ≡ Some s → pool_in p (number_at decls n (pool q)) ≡ Some s
-  pub final : (s : ℕ) (x : Struct) (m : ℕ) (f : Final) (k : ℕ) → the_struct decls s ≡ Some x → slice_get x.members m ≡ Some (final_member f) → struct_named decls f.target ≡ Some k → final_in p s (member_number x.members m (final_member f)) ≡ Some k
-  pub field : (s : ℕ) (x : Struct) (m : ℕ) (f : Field) (t : ValueType) → the_struct decls s ≡ Some x → slice_get x.members m ≡ Some (field_member f) → type_of (outside decls) f.value_type ≡ Some t → field_in p s (member_number x.members m (field_member f)) ≡ Some t
+  pub cell : (n : ℕ) (v : Variable) (t : ValueType) → slice_get decls n ≡ Some (global v) →
+      type_of (outside decls) v.value_type ≡ Some t → global_in p (cell_of decls n) ≡ Some t
+  pub array : (n : ℕ) (a : Array) (t : ValueType) → slice_get decls n ≡ Some (array a) →
+      type_of (outside decls) a.value_type ≡ Some t → array_in p (number_at decls n (array a)) ≡ Some t
+  pub pool : (n : ℕ) (q : Pool) (s : ℕ) → slice_get decls n ≡ Some (pool q) → struct_named decls q.target ≡ Some s →
+      pool_in p (number_at decls n (pool q)) ≡ Some s
+  pub final : (s : ℕ) (x : Struct) (m : ℕ) (f : Final) (k : ℕ) → the_struct decls s ≡ Some x →
+      slice_get x.members m ≡ Some (final_member f) → struct_named decls f.target ≡ Some k →
+      final_in p s (member_number x.members m (final_member f)) ≡ Some k
+  pub field : (s : ℕ) (x : Struct) (m : ℕ) (f : Field) (t : ValueType) → the_struct decls s ≡ Some x →
+      slice_get x.members m ≡ Some (field_member f) → type_of (outside decls) f.value_type ≡ Some t →
+      field_in p s (member_number x.members m (field_member f)) ≡ Some t
 
 -- each local that has a type has it in the section's list
 abbrev pub Have : List Local → List ValueType → Type 0
@@ -49,11 +69,13 @@ decl_meant : (ls : List Local) (o : Option (ℕ × Decl)) → IsLocal ls (declar
 decl_meant ls None = tt
 decl_meant ls (Some d) = tt
 
-visible_local : (ls : List Local) (b : Bool) (n : ℕ) (l : Local) (other : Meaning) → l.is_visible ≡ b → slice_get ls n ≡ Some l → IsLocal ls other → IsLocal ls (if b then a_local n l else other)
+visible_local : (ls : List Local) (b : Bool) (n : ℕ) (l : Local) (other : Meaning) → l.is_visible ≡ b →
+    slice_get ls n ≡ Some l → IsLocal ls other → IsLocal ls (if b then a_local n l else other)
 visible_local ls true n l other v at h = (at, v)
 visible_local ls false n l other v at h = h
 
-or_local : (ls : List Local) (q : List ℕ) (o : Option (ℕ × Local)) → the_local ls q ≡ o → (other : Meaning) → IsLocal ls other → IsLocal ls (local_or o other)
+or_local : (ls : List Local) (q : List ℕ) (o : Option (ℕ × Local)) → the_local ls q ≡ o → (other : Meaning) →
+    IsLocal ls other → IsLocal ls (local_or o other)
 or_local ls q None e other h = h
 or_local ls q (Some (n, l)) e other h = visible_local ls l.is_visible n l other refl (named_is local_bears ls q n l e).here h
 
@@ -80,7 +102,8 @@ module _ (sc : Scope) (p : core.Program) (types : List ValueType) (sound : Sound
   GoodTest None = ⊤
   GoodTest (Some c) = well.Tests p types c
 
-  fit_value : (t : ValueType) (x : core.Expr) (s : Sort) → fits_type t s ≡ true → ResolvedExprOk (value x s) → Is p types x t
+  fit_value : (t : ValueType) (x : core.Expr) (s : Sort) → fits_type t s ≡ true → ResolvedExprOk (value x s) →
+      Is p types x t
   fit_value Integer x (sort.Of Integer) e h = h
   fit_value Integer x (sort.Of (Reference s)) e h = cc
   fit_value Integer x sort.Null e h = cc
@@ -88,7 +111,8 @@ module _ (sc : Scope) (p : core.Program) (types : List ValueType) (sound : Sound
   fit_value (Reference s) x (sort.Of (Reference r)) e h = subst (λ (k : ℕ). Is p types x (Reference k)) (sym (eqb-true s r e)) h
   fit_value (Reference s) x sort.Null e h = h s
 
-  value_if : (t : ValueType) (x : core.Expr) (s : Sort) (b : Bool) → fits_type t s ≡ b → ResolvedExprOk (value x s) → GoodValue t (as_value (if b then Some (value x s) else None))
+  value_if : (t : ValueType) (x : core.Expr) (s : Sort) (b : Bool) → fits_type t s ≡ b → ResolvedExprOk (value x s) →
+      GoodValue t (as_value (if b then Some (value x s) else None))
   value_if t x s true e h = fit_value t x s e h
   value_if t x s false e h = tt
 
@@ -104,7 +128,8 @@ module _ (sc : Scope) (p : core.Program) (types : List ValueType) (sound : Sound
 
   -- ---- names, elements and paths
 
-  value_good : (x : core.Expr) (o : Option ValueType) → ((t : ValueType) → o ≡ Some t → Is p types x t) → Good (value_of x o)
+  value_good : (x : core.Expr) (o : Option ValueType) → ((t : ValueType) → o ≡ Some t → Is p types x t) →
+      Good (value_of x o)
   value_good x None h = tt
   value_good x (Some t) h = h t refl
 
@@ -121,11 +146,13 @@ module _ (sc : Scope) (p : core.Program) (types : List ValueType) (sound : Sound
   name_good start (a_decl n (thread x)) at loc = tt
   name_good start nothing at loc = tt
 
-  member_good : (n : ℕ) (index : core.Expr) (o : Option ℕ) → Is p types index Integer → ((s : ℕ) → o ≡ Some s → pool_in p n ≡ Some s) → Good (member_value n index o)
+  member_good : (n : ℕ) (index : core.Expr) (o : Option ℕ) → Is p types index Integer →
+      ((s : ℕ) → o ≡ Some s → pool_in p n ≡ Some s) → Good (member_value n index o)
   member_good n index None i h = tt
   member_good n index (Some s) i h = (h s refl, i)
 
-  element_good : (start : ℕ) (m : Meaning) (o : Option core.Expr) → IsMeant sc.decls m → GoodValue Integer o → Good (element_value sc.decls start m o)
+  element_good : (start : ℕ) (m : Meaning) (o : Option core.Expr) → IsMeant sc.decls m → GoodValue Integer o →
+      Good (element_value sc.decls start m o)
   element_good start m None at i = tt
   element_good start (a_decl n (array a)) (Some index) at i = value_good (core.element start (number_at sc.decls n (array a)) index) (type_of (outside sc.decls) a.value_type) (λ t e. (sound.array n a t at e, i))
   element_good start (a_decl n (pool q)) (Some index) at i = member_good (number_at sc.decls n (pool q)) index (struct_named sc.decls q.target) i (λ s e. sound.pool n q s at e)
@@ -145,22 +172,29 @@ module _ (sc : Scope) (p : core.Program) (types : List ValueType) (sound : Sound
   GoodWalk from at_lock = ⊤
   GoodWalk from lost = ⊤
 
-  leads_more : (from mid to : ValueType) (steps : List FieldStep) (s : FieldStep) → Leads p types from steps mid → Leads p types mid (s ∷ []) to → Leads p types from (steps ++ s ∷ []) to
+  leads_more : (from mid to : ValueType) (steps : List FieldStep) (s : FieldStep) → Leads p types from steps mid →
+      Leads p types mid (s ∷ []) to → Leads p types from (steps ++ s ∷ []) to
   leads_more from mid to [] s h g = subst (λ (t : ValueType). Leads p types t (s ∷ []) to) (sym h) g
   leads_more Integer mid to (r ∷ rs) s h g = absurd h
   leads_more (Reference k) mid to (step.Final structure f ∷ rs) s h g = (h.0, h.1, h.2, leads_more (Reference h.1) mid to rs s h.3 g)
   leads_more (Reference k) mid to (step.Field structure f ∷ rs) s h g = (h.0, h.1, h.2, leads_more h.1 mid to rs s h.3 g)
 
-  step_over : (from : ValueType) (steps : List FieldStep) (s : ℕ) (r : FieldStep) (o : Option ValueType) → Leads p types from steps (Reference s) → ((t : ValueType) → o ≡ Some t → Leads p types (Reference s) (r ∷ []) t) → GoodWalk from (over_step steps r o)
+  step_over : (from : ValueType) (steps : List FieldStep) (s : ℕ) (r : FieldStep) (o : Option ValueType) →
+      Leads p types from steps (Reference s) →
+      ((t : ValueType) → o ≡ Some t → Leads p types (Reference s) (r ∷ []) t) → GoodWalk from (over_step steps r o)
   step_over from steps s r None h f = tt
   step_over from steps s r (Some t) h f = leads_more from (Reference s) t steps r h (f t refl)
 
   -- a final reference's type is one to the struct that it names
-  final_leads : (s n : ℕ) (o : Option ℕ) (t : ValueType) → ((k : ℕ) → o ≡ Some k → final_in p s n ≡ Some k) → (o >>= λ k. Some (Reference k)) ≡ Some t → Leads p types (Reference s) (step.Final s n ∷ []) t
+  final_leads : (s n : ℕ) (o : Option ℕ) (t : ValueType) → ((k : ℕ) → o ≡ Some k → final_in p s n ≡ Some k) →
+      (o >>= λ k. Some (Reference k)) ≡ Some t → Leads p types (Reference s) (step.Final s n ∷ []) t
   final_leads s n None t f e = cc
   final_leads s n (Some k) t f e = (refl, k, f k refl, (let same : Reference k ≡ t = cc in same))
 
-  member_walk : (from : ValueType) (steps : List FieldStep) (s : ℕ) (x : Struct) → the_struct sc.decls s ≡ Some x → Leads p types from steps (Reference s) → (o : Option (ℕ × Member)) → ((n : ℕ) (m : Member) → ◌≡◌ {A = Option (ℕ × Member)} o (Some (n, m)) → slice_get x.members n ≡ Some m) → GoodWalk from (over_member sc.decls steps s x.members o)
+  member_walk : (from : ValueType) (steps : List FieldStep) (s : ℕ) (x : Struct) → the_struct sc.decls s ≡ Some x →
+      Leads p types from steps (Reference s) → (o : Option (ℕ × Member)) →
+      ((n : ℕ) (m : Member) → ◌≡◌ {A = Option (ℕ × Member)} o (Some (n, m)) → slice_get x.members n ≡ Some m) →
+      GoodWalk from (over_member sc.decls steps s x.members o)
   member_walk from steps s x is h None at = tt
   member_walk from steps s x is h (Some (n, lock_member y)) at = tt
   member_walk from steps s x is h (Some (n, final_member f)) at =
@@ -169,7 +203,8 @@ module _ (sc : Scope) (p : core.Program) (types : List ValueType) (sound : Sound
   member_walk from steps s x is h (Some (n, field_member f)) at =
       step_over from steps s (step.Field s (member_number x.members n (field_member f))) (type_of (outside sc.decls) f.value_type) h (λ t e. (refl, t, sound.field s x n f t is (at n (field_member f) refl) e, refl))
 
-  struct_walk : (from : ValueType) (steps : List FieldStep) (s : ℕ) (q : List ℕ) (o : Option Struct) → the_struct sc.decls s ≡ o → Leads p types from steps (Reference s) → GoodWalk from (over sc.decls steps s o q)
+  struct_walk : (from : ValueType) (steps : List FieldStep) (s : ℕ) (q : List ℕ) (o : Option Struct) →
+      the_struct sc.decls s ≡ o → Leads p types from steps (Reference s) → GoodWalk from (over sc.decls steps s o q)
   struct_walk from steps s q None is h = tt
   struct_walk from steps s q (Some x) is h = member_walk from steps s x is h (the_member x.members q) (λ n m e. (member_is x.members q n m e).0)
 
@@ -198,7 +233,8 @@ module _ (sc : Scope) (p : core.Program) (types : List ValueType) (sound : Sound
   lost_stays [] = refl
   lost_stays (f ∷ fs) = lost_stays fs
 
-  pub local_walk : (n : ℕ) (l : Local) (fs : List Ident) → slice_get sc.locals n ≡ Some l → (o : Option ValueType) → l.value_type ≡ o → GoodPath n (walked sc.decls (at_local o) fs)
+  pub local_walk : (n : ℕ) (l : Local) (fs : List Ident) → slice_get sc.locals n ≡ Some l → (o : Option ValueType) →
+      l.value_type ≡ o → GoodPath n (walked sc.decls (at_local o) fs)
   local_walk n l fs at None e = subst (GoodPath n) (sym (lost_stays fs)) tt
   local_walk n l fs at (Some t) e = path_of n t (walked sc.decls (reached [] t) fs) (have n l t at e) (walk_good t (reached [] t) fs refl)
 
@@ -207,7 +243,8 @@ module _ (sc : Scope) (p : core.Program) (types : List ValueType) (sound : Sound
   path_end start n l at_lock h = tt
   path_end start n l lost h = tt
 
-  path_good : (start : ℕ) (m : Meaning) (fs : List Ident) → IsLocal sc.locals m → Good (path_value start m (walk_from sc.decls m fs))
+  path_good : (start : ℕ) (m : Meaning) (fs : List Ident) → IsLocal sc.locals m →
+      Good (path_value start m (walk_from sc.decls m fs))
   path_good start (a_local n l) fs loc = path_end start n l (walked sc.decls (at_local l.value_type) fs) (local_walk n l fs loc.0 l.value_type refl)
   path_good start (a_decl n d) fs loc = tt
   path_good start nothing fs loc = tt
@@ -240,12 +277,14 @@ module _ (sc : Scope) (p : core.Program) (types : List ValueType) (sound : Sound
   GoodLinks None = ⊤
   GoodLinks (Some rest) = Are p types rest
 
-  chain_good : (o : Option core.Expr) (r : Option core.Operations) → GoodValue Integer o → GoodLinks r → Good (chained o r)
+  chain_good : (o : Option core.Expr) (r : Option core.Operations) → GoodValue Integer o → GoodLinks r →
+      Good (chained o r)
   chain_good None r h g = tt
   chain_good (Some x) None h g = tt
   chain_good (Some x) (Some rest) h g = (h, g)
 
-  link_good : (q : Option Operator) (o : Option core.Expr) (r : Option core.Operations) → GoodValue Integer o → GoodLinks r → GoodLinks (linked q o r)
+  link_good : (q : Option Operator) (o : Option core.Expr) (r : Option core.Operations) → GoodValue Integer o →
+      GoodLinks r → GoodLinks (linked q o r)
   link_good None o r h g = tt
   link_good (Some q) None r h g = tt
   link_good (Some q) (Some x) None h g = tt
@@ -276,7 +315,8 @@ module _ (sc : Scope) (p : core.Program) (types : List ValueType) (sound : Sound
   abbrev Orders : Comparison → Type 0
   Orders c = (a b : core.Expr) → Is p types a Integer → Is p types b Integer → Compares p types c a b
 
-  ordered_good : (c : Comparison) → Orders c → (o r : Option core.Expr) → GoodValue Integer o → GoodValue Integer r → Good (ordered c o r)
+  ordered_good : (c : Comparison) → Orders c → (o r : Option core.Expr) → GoodValue Integer o → GoodValue Integer r →
+      Good (ordered c o r)
   ordered_good c so None r h g = tt
   ordered_good c so (Some a) None h g = tt
   ordered_good c so (Some a) (Some b) h g = so a b h g
@@ -284,13 +324,16 @@ module _ (sc : Scope) (p : core.Program) (types : List ValueType) (sound : Sound
   abbrev Equates : Comparison → Type 0
   Equates c = (t : ValueType) (a b : core.Expr) → Is p types a t → Is p types b t → Compares p types c a b
 
-  equal_of : (c : Comparison) → Equates c → (a b : core.Expr) (s t : Sort) → alike_sorts s t ≡ true → ResolvedExprOk (value a s) → ResolvedExprOk (value b t) → Compares p types c a b
+  equal_of : (c : Comparison) → Equates c → (a b : core.Expr) (s t : Sort) → alike_sorts s t ≡ true →
+      ResolvedExprOk (value a s) → ResolvedExprOk (value b t) → Compares p types c a b
   equal_of c so a b (sort.Of u) t e h g = so u a b h (fit_value u b t e g)
   equal_of c so a b sort.Null sort.Null e h g = so (Reference 0) a b (h 0) (g 0)
   equal_of c so a b sort.Null (sort.Of Integer) e h g = cc
   equal_of c so a b sort.Null (sort.Of (Reference r)) e h g = so (Reference r) a b (h r) g
 
-  equal_if : (c : Comparison) → Equates c → (a b : core.Expr) (s t : Sort) (x : Bool) → alike_sorts s t ≡ x → ResolvedExprOk (value a s) → ResolvedExprOk (value b t) → Good (if x then Some (truth (core.compare c a b)) else None)
+  equal_if : (c : Comparison) → Equates c → (a b : core.Expr) (s t : Sort) (x : Bool) → alike_sorts s t ≡ x →
+      ResolvedExprOk (value a s) → ResolvedExprOk (value b t) →
+      Good (if x then Some (truth (core.compare c a b)) else None)
   equal_if c so a b s t true e h g = equal_of c so a b s t e h g
   equal_if c so a b s t false e h g = tt
 

@@ -1,7 +1,11 @@
 -- Resolved statements and sections are well typed.
-use Rattle.std.proofs.Common.{◌≡◌, ℕ, zero, suc, List, [], ◌∷◌, ◌++◌, length, Option, Some, None, Bool, true, false, if◌then◌else◌, refl, sym, ap, ◌∙◌, subst}
+use Rattle.std.proofs.Common.{◌≡◌, ℕ, zero, suc, List, [], ◌∷◌, ◌++◌, length, Option, Some, None, Bool, true, false}
+use Rattle.std.proofs.Common.{if◌then◌else◌, refl, sym, ap, ◌∙◌, subst}
 use Rattle.std.specs.Prelude.{slice_get, ⊤}
-use Rattle.syntax.specs.Trees.{Ident, ValueType, Place, lone, element, path, Expr, Local, Owner, HelperCall, CalledLocal, Stmt, let_local, let_owned, let_call, var_local, assign, if_then, while, print, return_value, call, Stmts, no_stmts, stmt, Otherwise, no_else, else_do, Section, Decl, lock, struct, global, array, pool, init, atomic, helper, thread}
+use Rattle.syntax.specs.Trees.{Ident, ValueType, Place, lone, element, path, Expr, Local, Owner, HelperCall}
+use Rattle.syntax.specs.Trees.{CalledLocal, Stmt, let_local, let_owned, let_call, var_local, assign, if_then, while}
+use Rattle.syntax.specs.Trees.{print, return_value, call, Stmts, no_stmts, stmt, Otherwise, no_else, else_do, Section}
+use Rattle.syntax.specs.Trees.{Decl, lock, struct, global, array, pool, init, atomic, helper, thread}
 use Rattle.core_lang.specs.declared.value.ValueType as core_type
 use Rattle.core_lang.specs.declared.value.ValueType.TheVariants.{Integer, Reference}
 use Rattle.core_lang.specs.declared.tree.LocalKind.{LocalKind}
@@ -12,18 +16,29 @@ use Rattle.resolution.specs.declared.wanted.Want.TheVariants.{Value}
 use Rattle.resolution.specs.declared.body_limits.BodyLimits.{BodyLimits}
 use Rattle.resolution.specs.Core as core
 use Rattle.resolution.specs.Scopes as scope
-use Rattle.resolution.specs.Scopes.{◌>>=◌, Scope, outside, Meaning, a_local, a_decl, nothing, meaning, helper_meant, number_at, type_of, result_of, bound, hidden, hidden_from, left, entered}
-use Rattle.resolution.specs.Expressions.{want, fitting, as_value, number_resolved, test_resolved, typed, Walk, reached, at_lock, lost, walked, at_local, walk_from, cell_of}
-use Rattle.resolution.specs.Statements.{Target, to_local, to_global, to_element, to_field, Assignee, assignee, is_var, assignee_at, assignee_at_element, Split, behind, last_field, field_target, assignee_along, target_of, wanted_by, first_name, Part, does, gives, binds, set_to, assigns, prints, returns, repeats, chooses, chooses_between, Body, given_back, preceded, block_without, block_of, call_resolved, type_given, can_take, acts_if, called_bound, after, after_else, after_all, first_value, typed_stmt, typed_if, typed_body}
+use Rattle.resolution.specs.Scopes.{◌>>=◌, Scope, outside, Meaning, a_local, a_decl, nothing, meaning, helper_meant}
+use Rattle.resolution.specs.Scopes.{number_at, type_of, result_of, bound, hidden, hidden_from, left, entered}
+use Rattle.resolution.specs.Expressions.{want, fitting, as_value, number_resolved, test_resolved, typed, Walk}
+use Rattle.resolution.specs.Expressions.{reached, at_lock, lost, walked, at_local, walk_from, cell_of}
+use Rattle.resolution.specs.Statements.{Target, to_local, to_global, to_element, to_field, Assignee, assignee, is_var}
+use Rattle.resolution.specs.Statements.{assignee_at, assignee_at_element, Split, behind, last_field, field_target}
+use Rattle.resolution.specs.Statements.{assignee_along, target_of, wanted_by, first_name, Part, does, gives, binds}
+use Rattle.resolution.specs.Statements.{set_to, assigns, prints, returns, repeats, chooses, chooses_between, Body}
+use Rattle.resolution.specs.Statements.{given_back, preceded, block_without, block_of, call_resolved, type_given}
+use Rattle.resolution.specs.Statements.{can_take, acts_if, called_bound, after, after_else, after_all, first_value}
+use Rattle.resolution.specs.Statements.{typed_stmt, typed_if, typed_body}
 use Rattle.resolution.specs.Owners.{owned_by}
 use Rattle.resolution.specs.Constants.{added}
-use Rattle.resolution.specs.Resolution.{ahead_of, entry, core_local, core_locals, section_with, section_of, typed_section}
+use Rattle.resolution.specs.Resolution.{ahead_of, entry, core_local, core_locals, section_with, section_of}
+use Rattle.resolution.specs.Resolution.{typed_section}
 use Rattle.resolution.proofs.TrueStatements.{after_same, entered_same}
 use Rattle.resolution.proofs.FaultlessExpressions.{IsMeant, meant}
 use Rattle.resolution.proofs.FaultlessSections.{entered_result}
 use Rattle.resolution.proofs.Typed as well
-use Rattle.resolution.proofs.Typed.{types_of, global_in, array_in, pool_in, final_in, field_in, Leads, IsPath, Is, Taken, Gives, Acts, AllAct, Returns, get_map}
-use Rattle.resolution.proofs.TypedResolvedExprs.{Sound, Have, IsLocal, meant_local, GoodValue, GoodTest, GoodPath, local_walk, value_good_of, test_good_of}
+use Rattle.resolution.proofs.Typed.{types_of, global_in, array_in, pool_in, final_in, field_in, Leads, IsPath, Is}
+use Rattle.resolution.proofs.Typed.{Taken, Gives, Acts, AllAct, Returns, get_map}
+use Rattle.resolution.proofs.TypedResolvedExprs.{Sound, Have, IsLocal, meant_local, GoodValue, GoodTest, GoodPath}
+use Rattle.resolution.proofs.TypedResolvedExprs.{local_walk, value_good_of, test_good_of}
 use Rattle.resolution.proofs.TypedOwners.{owned_value_good}
 use Rattle.resolution.proofs.TypedCalls.{HasHelpers, taken_type, GoodAction, called_good}
 use Rattle.resolution.specs.Theory.Facts.{after_result}
@@ -40,7 +55,8 @@ kept_self a n l e = (l, e, refl, refl)
 pub kept_trans : (a b c : List scope.Local) → Kept a b → Kept b c → Kept a c
 kept_trans a b c h g n l e = let x = h n l e in let y = g n x.0 x.1 in (y.0, y.1, y.2 ∙ x.2, y.3 ∙ x.3)
 
-pub slice_front : {A : Type 0} (xs ys : List A) (n : ℕ) (x : A) → slice_get xs n ≡ Some x → slice_get (xs ++ ys) n ≡ Some x
+pub slice_front : {A : Type 0} (xs ys : List A) (n : ℕ) (x : A) → slice_get xs n ≡ Some x →
+    slice_get (xs ++ ys) n ≡ Some x
 slice_front [] ys n x e = cc
 slice_front (y ∷ xs) ys zero x e = e
 slice_front (y ∷ xs) ys (suc n) x e = slice_front xs ys n x e
@@ -121,15 +137,19 @@ module _ (decls : List Decl) (p : core.Program) (types : List core_type.ValueTyp
   GoodAim None = ⊤
   GoodAim (Some a) = AssigneesAt a.target a.value_type
 
-  assignee_good : (g : Target) (o : Option core_type.ValueType) → ((t : core_type.ValueType) → o ≡ Some t → AssigneesAt g t) → GoodAim (assignee (Some g) o)
+  assignee_good : (g : Target) (o : Option core_type.ValueType) →
+      ((t : core_type.ValueType) → o ≡ Some t → AssigneesAt g t) → GoodAim (assignee (Some g) o)
   assignee_good g None h = tt
   assignee_good g (Some t) h = h t refl
 
-  var_good : (n : ℕ) (l : scope.Local) (b : Bool) → ((t : core_type.ValueType) → l.value_type ≡ Some t → slice_get types n ≡ Some t) → GoodAim (if b then assignee (Some (to_local n)) l.value_type else None)
+  var_good : (n : ℕ) (l : scope.Local) (b : Bool) →
+      ((t : core_type.ValueType) → l.value_type ≡ Some t → slice_get types n ≡ Some t) →
+      GoodAim (if b then assignee (Some (to_local n)) l.value_type else None)
   var_good n l true h = assignee_good (to_local n) l.value_type h
   var_good n l false h = tt
 
-  name_assignee : (sc : Scope) → Sound sc.decls p → Have sc.locals types → (m : Meaning) → IsMeant sc.decls m → IsLocal sc.locals m → GoodAim (assignee_at sc.decls m)
+  name_assignee : (sc : Scope) → Sound sc.decls p → Have sc.locals types → (m : Meaning) → IsMeant sc.decls m →
+      IsLocal sc.locals m → GoodAim (assignee_at sc.decls m)
   name_assignee sc so have (a_local n l) at loc = var_good n l (is_var l.kind) (λ t e. have n l t loc.0 e)
   name_assignee sc so have (a_decl n (global v)) at loc = assignee_good (to_global (cell_of sc.decls n)) (type_of (outside sc.decls) v.value_type) (λ t e. so.cell n v t at e)
   name_assignee sc so have (a_decl n (lock x)) at loc = tt
@@ -142,7 +162,8 @@ module _ (decls : List Decl) (p : core.Program) (types : List core_type.ValueTyp
   name_assignee sc so have (a_decl n (thread x)) at loc = tt
   name_assignee sc so have nothing at loc = tt
 
-  element_assignee : (sc : Scope) → Sound sc.decls p → (m : Meaning) (o : Option core.Expr) → IsMeant sc.decls m → ((x : core.Expr) → o ≡ Some x → Is p types x Integer) → GoodAim (assignee_at_element sc.decls m o)
+  element_assignee : (sc : Scope) → Sound sc.decls p → (m : Meaning) (o : Option core.Expr) → IsMeant sc.decls m →
+      ((x : core.Expr) → o ≡ Some x → Is p types x Integer) → GoodAim (assignee_at_element sc.decls m o)
   element_assignee sc so m None at i = tt
   element_assignee sc so (a_decl n (array a)) (Some index) at i = assignee_good (to_element (number_at sc.decls n (array a)) index) (type_of (outside sc.decls) a.value_type) (λ t e. (so.array n a t at e, i index refl))
   element_assignee sc so (a_decl n (lock x)) (Some index) at i = tt
@@ -160,7 +181,8 @@ module _ (decls : List Decl) (p : core.Program) (types : List core_type.ValueTyp
   abbrev IsSplit : core_type.ValueType → core_type.ValueType → Split → Type 0
   IsSplit from t q = Leads p types from q.base (Reference q.structure) × (field_in p q.structure q.field ≡ Some t)
 
-  splits : (from : core_type.ValueType) (steps : List FieldStep) (t : core_type.ValueType) (q : Split) → Leads p types from steps t → last_field steps ≡ Some q → IsSplit from t q
+  splits : (from : core_type.ValueType) (steps : List FieldStep) (t : core_type.ValueType) (q : Split) →
+      Leads p types from steps t → last_field steps ≡ Some q → IsSplit from t q
   splits from [] t q h e = cc
   splits Integer (r ∷ rs) t q h e = absurd h
   splits (Reference s) (step.Field k n ∷ []) t q h e =
@@ -189,7 +211,9 @@ module _ (decls : List Decl) (p : core.Program) (types : List core_type.ValueTyp
           let x = rec w is in
           subst (IsSplit (Reference s) t) same ((h.0, h.1, h.2, x.0), x.1)
 
-  field_assignee : (start n : ℕ) (steps : List FieldStep) (t : core_type.ValueType) → (from : core_type.ValueType) → slice_get types n ≡ Some from → Leads p types from steps t → (o : Option Split) → last_field steps ≡ o → GoodAim (assignee (field_target start n o) (Some t))
+  field_assignee : (start n : ℕ) (steps : List FieldStep) (t : core_type.ValueType) → (from : core_type.ValueType) →
+      slice_get types n ≡ Some from → Leads p types from steps t → (o : Option Split) → last_field steps ≡ o →
+      GoodAim (assignee (field_target start n o) (Some t))
   field_assignee start n steps t from at h None e = tt
   field_assignee start n steps t from at h (Some q) e = let x = splits from steps t q h e in ((from, at, x.0), x.1)
 
@@ -198,13 +222,17 @@ module _ (decls : List Decl) (p : core.Program) (types : List core_type.ValueTyp
   along_assignee sc so have start n l at_lock h = tt
   along_assignee sc so have start n l lost h = tt
 
-  path_assignee : (sc : Scope) → Sound sc.decls p → Have sc.locals types → (start : ℕ) (m : Meaning) (fs : List Ident) → IsLocal sc.locals m → GoodAim (assignee_along start m (walk_from sc.decls m fs))
+  path_assignee : (sc : Scope) → Sound sc.decls p → Have sc.locals types →
+      (start : ℕ) (m : Meaning) (fs : List Ident) → IsLocal sc.locals m →
+      GoodAim (assignee_along start m (walk_from sc.decls m fs))
   path_assignee sc so have start (a_local n l) fs loc = along_assignee sc so have start n l (walked sc.decls (at_local l.value_type) fs) (local_walk sc p types so have n l fs loc.0 l.value_type refl)
   path_assignee sc so have start (a_decl n d) fs loc = tt
   path_assignee sc so have start nothing fs loc = tt
 
   -- a number, where there is one
-  index_good : (sc : Scope) (so : Sound sc.decls p) (have : Have sc.locals types) (e : Expr) (o : Option core.Expr) → number_resolved (typed sc e) ≡ o → GoodValue sc p types so have Integer o → (x : core.Expr) → o ≡ Some x → Is p types x Integer
+  index_good : (sc : Scope) (so : Sound sc.decls p) (have : Have sc.locals types) (e : Expr) (o : Option core.Expr) →
+      number_resolved (typed sc e) ≡ o → GoodValue sc p types so have Integer o → (x : core.Expr) → o ≡ Some x →
+      Is p types x Integer
   index_good sc so have e None is h x eq = cc
   index_good sc so have e (Some y) is h x eq = let same : y ≡ x = cc in subst (λ (z : core.Expr). Is p types z Integer) same h
 
@@ -248,7 +276,8 @@ module _ (decls : List Decl) (p : core.Program) (types : List core_type.ValueTyp
   if_value sc so have t None h = tt
   if_value sc so have t (Some x) h = h
 
-  if_test : (sc : Scope) (so : Sound sc.decls p) (have : Have sc.locals types) (o : Option core.Condition) → GoodTest sc p types so have o → IfTest o
+  if_test : (sc : Scope) (so : Sound sc.decls p) (have : Have sc.locals types) (o : Option core.Condition) →
+      GoodTest sc p types so have o → IfTest o
   if_test sc so have None h = tt
   if_test sc so have (Some x) h = h
 
@@ -260,12 +289,14 @@ module _ (decls : List Decl) (p : core.Program) (types : List core_type.ValueTyp
   block_good result None h = tt
   block_good result (Some b) h = block_part b.stmts b.result h.0
 
-  back_good : (result : Option core_type.ValueType) (r : core.Return) (x : core.Stmts) (q : Option core.Return) → GoodReturn result r → GoodBody result (given_back r x q)
+  back_good : (result : Option core_type.ValueType) (r : core.Return) (x : core.Stmts) (q : Option core.Return) →
+      GoodReturn result r → GoodBody result (given_back r x q)
   back_good result r core.no_stmts None h = (tt, h)
   back_good result r core.no_stmts (Some q) h = tt
   back_good result r (core.stmt start action rest) q h = tt
 
-  preceded_good : (result : Option core_type.ValueType) (o : Option Part) (r : Option Body) → GoodPart result o → GoodBody result r → GoodBody result (preceded o r)
+  preceded_good : (result : Option core_type.ValueType) (o : Option Part) (r : Option Body) → GoodPart result o →
+      GoodBody result r → GoodBody result (preceded o r)
   preceded_good result None r h g = tt
   preceded_good result (Some (does x)) None h g = tt
   preceded_good result (Some (gives x)) None h g = tt
@@ -277,26 +308,31 @@ module _ (decls : List Decl) (p : core.Program) (types : List core_type.ValueTyp
   bind_good result start n (Some t) None h = tt
   bind_good result start n (Some t) (Some x) h = let r = h t refl in (t, r.0, r.1)
 
-  set_good : (g : Target) (t : core_type.ValueType) (x : core.Expr) → AssigneesAt g t → Is p types x t → Acts p types (set_to g x)
+  set_good : (g : Target) (t : core_type.ValueType) (x : core.Expr) → AssigneesAt g t → Is p types x t →
+      Acts p types (set_to g x)
   set_good (to_local n) t x h i = (t, h, i)
   set_good (to_global cell) t x h i = (t, h, i)
   set_good (to_element n index) t x h i = (t, h.0, h.1, i)
   set_good (to_field base s f) t x h i = (h.0, (t, h.1, i))
 
-  assign_good : (result : Option core_type.ValueType) (start : ℕ) (o : Option Assignee) (v : Option core.Expr) → GoodAim o → ((a : Assignee) → o ≡ Some a → IfValue a.value_type v) → GoodPart result (assigns start o v)
+  assign_good : (result : Option core_type.ValueType) (start : ℕ) (o : Option Assignee) (v : Option core.Expr) →
+      GoodAim o → ((a : Assignee) → o ≡ Some a → IfValue a.value_type v) → GoodPart result (assigns start o v)
   assign_good result start None v h g = tt
   assign_good result start (Some a) None h g = tt
   assign_good result start (Some a) (Some x) h g = set_good a.target a.value_type x h (g a refl)
 
-  print_good : (result : Option core_type.ValueType) (start : ℕ) (v : Option core.Expr) → IfValue Integer v → GoodPart result (prints start v)
+  print_good : (result : Option core_type.ValueType) (start : ℕ) (v : Option core.Expr) → IfValue Integer v →
+      GoodPart result (prints start v)
   print_good result start None h = tt
   print_good result start (Some x) h = h
 
-  return_good : (result : Option core_type.ValueType) (start : ℕ) (v : Option core.Expr) → ((t : core_type.ValueType) → result ≡ Some t → IfValue t v) → GoodPart result (returns start v)
+  return_good : (result : Option core_type.ValueType) (start : ℕ) (v : Option core.Expr) →
+      ((t : core_type.ValueType) → result ≡ Some t → IfValue t v) → GoodPart result (returns start v)
   return_good result start None h = tt
   return_good result start (Some x) h = λ t e. h t e
 
-  while_good : (result : Option core_type.ValueType) (start : ℕ) (t : Option core.Condition) (b : Option core.Stmts) → IfTest t → GoodBlock b → GoodPart result (repeats start t b)
+  while_good : (result : Option core_type.ValueType) (start : ℕ) (t : Option core.Condition) (b : Option core.Stmts) →
+      IfTest t → GoodBlock b → GoodPart result (repeats start t b)
   while_good result start None b h g = tt
   while_good result start (Some t) None h g = tt
   while_good result start (Some t) (Some b) h g = (h, g)
@@ -316,14 +352,18 @@ module _ (decls : List Decl) (p : core.Program) (types : List core_type.ValueTyp
   wanted_good : (sc : Scope) (so : Sound sc.decls p) (have : Have sc.locals types) (o : Option core_type.ValueType) (e : Expr) (t : core_type.ValueType) → o ≡ Some t → IfValue t (as_value (fitting (want o) (typed sc e)))
   wanted_good sc so have o e t is = subst (λ (x : Option core_type.ValueType). IfValue t (as_value (fitting (want x) (typed sc e)))) (sym is) (if_value sc so have t (as_value (fitting (Value t) (typed sc e))) (value_good_of sc p types so have t e))
 
-  local_good : (sc : Scope) (so : Sound sc.decls p) (k : LocalKind) (l : Local) → Have (bound sc k l.name (type_of sc l.value_type)).locals types → GoodPart sc.result (binds l.start.start (length sc.locals) (type_of sc l.value_type) (as_value (fitting (want (type_of sc l.value_type)) (typed sc l.value))))
+  local_good : (sc : Scope) (so : Sound sc.decls p) (k : LocalKind) (l : Local) →
+      Have (bound sc k l.name (type_of sc l.value_type)).locals types →
+      GoodPart sc.result (binds l.start.start (length sc.locals) (type_of sc l.value_type) (as_value (fitting (want (type_of sc l.value_type)) (typed sc l.value))))
   local_good sc so k l have =
       let x : scope.Local = record { name = l.name.text; kind = k; value_type = type_of sc l.value_type; is_visible = true } in
       let before = have_before sc.locals (sc.locals ++ x ∷ []) types (kept_push sc.locals x) have in
       bind_good sc.result l.start.start (length sc.locals) (type_of sc l.value_type) (as_value (fitting (want (type_of sc l.value_type)) (typed sc l.value)))
       (λ t e. (have (length sc.locals) x t (last_local sc.locals x) e, wanted_good sc so before (type_of sc l.value_type) l.value t e))
 
-  owned_good : (sc : Scope) (so : Sound sc.decls p) (l : Local) (o : Owner) → Have (bound sc kind.Let l.name (type_of sc l.value_type)).locals types → GoodPart sc.result (typed_stmt sc (let_owned l o))
+  owned_good : (sc : Scope) (so : Sound sc.decls p) (l : Local) (o : Owner) →
+      Have (bound sc kind.Let l.name (type_of sc l.value_type)).locals types →
+      GoodPart sc.result (typed_stmt sc (let_owned l o))
   owned_good sc so l o have =
       let x : scope.Local = record { name = l.name.text; kind = kind.Let; value_type = type_of sc l.value_type; is_visible = true } in
       let before = have_before sc.locals (sc.locals ++ x ∷ []) types (kept_push sc.locals x) have in
@@ -335,22 +375,28 @@ module _ (decls : List Decl) (p : core.Program) (types : List core_type.ValueTyp
           subst (λ (y : Option core_type.ValueType). IfValue t (owned_by sc y o (as_value (fitting (want y) (typed sc l.value))))) (sym is)
           (if_value sc so have t (owned_by sc (Some t) o (as_value (fitting (Value t) (typed sc l.value)))) (owned_value_good sc p types so have t o (as_value (fitting (Value t) (typed sc l.value))) (value_good_of sc p types so have t l.value)))
 
-  act_good : (result : Option core_type.ValueType) (start : ℕ) (o : Option core.Action) → ((x : core.Action) → o ≡ Some x → Acts p types x) → GoodPart result (acts_if start o)
+  act_good : (result : Option core_type.ValueType) (start : ℕ) (o : Option core.Action) →
+      ((x : core.Action) → o ≡ Some x → Acts p types x) → GoodPart result (acts_if start o)
   act_good result start None h = tt
   act_good result start (Some x) h = h x refl
 
-  call_good : (sc : Scope) → sc.decls ≡ decls → Have sc.locals types → (c : HelperCall) (local : Option ℕ) → Taken p types local (type_given sc.decls (helper_meant (meaning sc c.helper.text))) → (x : core.Action) → call_resolved sc c local ≡ Some x → Acts p types x
+  call_good : (sc : Scope) → sc.decls ≡ decls → Have sc.locals types → (c : HelperCall) (local : Option ℕ) →
+      Taken p types local (type_given sc.decls (helper_meant (meaning sc c.helper.text))) → (x : core.Action) →
+      call_resolved sc c local ≡ Some x → Acts p types x
   call_good sc same have c local takes x is =
       let so = sound_at sc same in
       let help = helpers_at sc same in
       subst (GoodAction sc p types so have help) is (called_good sc p types so have help (meaning sc c.helper.text) (meant sc c.helper.text) c.arguments local takes)
 
-  taking_good : (sc : Scope) → sc.decls ≡ decls → Have sc.locals types → (l : CalledLocal) (b : Bool) → (b ≡ true → Taken p types (Some (length sc.locals)) (type_given sc.decls (helper_meant (meaning sc l.call.helper.text)))) →
+  taking_good : (sc : Scope) → sc.decls ≡ decls → Have sc.locals types → (l : CalledLocal) (b : Bool) →
+      (b ≡ true →
+      Taken p types (Some (length sc.locals)) (type_given sc.decls (helper_meant (meaning sc l.call.helper.text)))) →
       GoodPart sc.result (if b then acts_if l.start.start (call_resolved sc l.call (Some (length sc.locals))) else None)
   taking_good sc same have l true takes = act_good sc.result l.start.start (call_resolved sc l.call (Some (length sc.locals))) (call_good sc same have l.call (Some (length sc.locals)) (takes refl))
   taking_good sc same have l false takes = tt
 
-  let_call_good : (sc : Scope) → sc.decls ≡ decls → (l : CalledLocal) → Have (bound sc kind.Let l.name (type_of sc l.value_type)).locals types → GoodPart sc.result (called_bound sc l)
+  let_call_good : (sc : Scope) → sc.decls ≡ decls → (l : CalledLocal) →
+      Have (bound sc kind.Let l.name (type_of sc l.value_type)).locals types → GoodPart sc.result (called_bound sc l)
   let_call_good sc same l have =
       let x : scope.Local = record { name = l.name.text; kind = kind.Let; value_type = type_of sc l.value_type; is_visible = true } in
       let before = have_before sc.locals (sc.locals ++ x ∷ []) types (kept_push sc.locals x) have in
@@ -366,7 +412,8 @@ module _ (decls : List Decl) (p : core.Program) (types : List core_type.ValueTyp
   left_before a b n h = have_before b (hidden_from n b) types (kept_hidden n b) h
 
   mutual
-    pub stmt_good : (sc : Scope) → sc.decls ≡ decls → (s : Stmt) → Have (after sc s).locals types → GoodPart sc.result (typed_stmt sc s)
+    pub stmt_good : (sc : Scope) → sc.decls ≡ decls → (s : Stmt) → Have (after sc s).locals types →
+        GoodPart sc.result (typed_stmt sc s)
     stmt_good sc same (let_local l) have = local_good sc (sound_at sc same) kind.Let l have
     stmt_good sc same (let_owned l o) have = owned_good sc (sound_at sc same) l o have
     stmt_good sc same (let_call l) have = let_call_good sc same l have
@@ -390,12 +437,15 @@ module _ (decls : List Decl) (p : core.Program) (types : List core_type.ValueTyp
     stmt_good sc same (return_value start e) have = return_good sc.result start.start (as_value (fitting (want sc.result) (typed sc e))) (λ t is. wanted_good sc (sound_at sc same) have sc.result e t is)
     stmt_good sc same (call start c) have = act_good sc.result start.start (call_resolved sc c None) (call_good sc same have c None tt)
 
-    if_good : (sc : Scope) → sc.decls ≡ decls → (start : ℕ) (t : Option core.Condition) (b : Option core.Stmts) (o : Otherwise) → IfTest t → GoodBlock b → Have (after_else sc o).locals types → GoodPart sc.result (typed_if sc start t b o)
+    if_good : (sc : Scope) → sc.decls ≡ decls →
+        (start : ℕ) (t : Option core.Condition) (b : Option core.Stmts) (o : Otherwise) → IfTest t → GoodBlock b →
+        Have (after_else sc o).locals types → GoodPart sc.result (typed_if sc start t b o)
     if_good sc same start t b no_else h g have = choose_good sc.result start t b h g
     if_good sc same start t b (else_do body close) h g have =
         between_good sc.result start t b (block_of (typed_body sc body)) h g (block_good sc.result (typed_body sc body) (body_good sc same body (left_before sc.locals (after_all sc body).locals (length sc.locals) have)))
 
-    pub body_good : (sc : Scope) → sc.decls ≡ decls → (ss : Stmts) → Have (after_all sc ss).locals types → GoodBody sc.result (typed_body sc ss)
+    pub body_good : (sc : Scope) → sc.decls ≡ decls → (ss : Stmts) → Have (after_all sc ss).locals types →
+        GoodBody sc.result (typed_body sc ss)
     body_good sc same no_stmts have = (tt, tt)
     body_good sc same (stmt s rest) have =
         preceded_good sc.result (typed_stmt sc s) (typed_body (after sc s) rest)
@@ -404,10 +454,13 @@ module _ (decls : List Decl) (p : core.Program) (types : List core_type.ValueTyp
 
 -- ---- sections
 
-core_local_is : (l : scope.Local) (x : core.Local) → core_local l ≡ Some x → (x.name ≡ l.name) × (x.kind ≡ l.kind) × (l.value_type ≡ Some x.value_type)
+core_local_is : (l : scope.Local) (x : core.Local) → core_local l ≡ Some x →
+    (x.name ≡ l.name) × (x.kind ≡ l.kind) × (l.value_type ≡ Some x.value_type)
 core_local_is l x e = by_type l.value_type refl e
   where
-    by_type : (o : Option core_type.ValueType) → l.value_type ≡ o → (o >>= λ t. Some (record { name = l.name; kind = l.kind; value_type = t })) ≡ Some x → (x.name ≡ l.name) × (x.kind ≡ l.kind) × (l.value_type ≡ Some x.value_type)
+    by_type : (o : Option core_type.ValueType) → l.value_type ≡ o →
+        (o >>= λ t. Some (record { name = l.name; kind = l.kind; value_type = t })) ≡ Some x →
+        (x.name ≡ l.name) × (x.kind ≡ l.kind) × (l.value_type ≡ Some x.value_type)
     by_type None is h = cc
     by_type (Some t) is h =
         let same : record { name = l.name; kind = l.kind; value_type = t } ≡ x = cc in
@@ -417,10 +470,13 @@ core_local_is l x e = by_type l.value_type refl e
 abbrev pub Resolved_at : List core.Local → ℕ → scope.Local → Type 0
 Resolved_at xs n l = (x : core.Local) × (slice_get xs n ≡ Some x) × (x.kind ≡ l.kind) × (l.value_type ≡ Some x.value_type)
 
-first_at : (y l : scope.Local) (x : core.Local) (zs : List core.Local) → core_local y ≡ Some x → y ≡ l → Resolved_at (x ∷ zs) 0 l
+first_at : (y l : scope.Local) (x : core.Local) (zs : List core.Local) → core_local y ≡ Some x → y ≡ l →
+    Resolved_at (x ∷ zs) 0 l
 first_at y l x zs a s = let r = core_local_is y x a in (x, refl, r.1 ∙ ap (λ (q : scope.Local). q.kind) s, sym (ap (λ (q : scope.Local). q.value_type) s) ∙ r.2)
 
-local_at : (y : scope.Local) (ls : List scope.Local) (xs : List core.Local) (n : ℕ) (l : scope.Local) → slice_get (y ∷ ls) n ≡ Some l → (o : Option core.Local) (r : Option (List core.Local)) → core_local y ≡ o → core_locals ls ≡ r → added o r ≡ Some xs →
+local_at : (y : scope.Local) (ls : List scope.Local) (xs : List core.Local) (n : ℕ) (l : scope.Local) →
+    slice_get (y ∷ ls) n ≡ Some l → (o : Option core.Local) (r : Option (List core.Local)) → core_local y ≡ o →
+    core_locals ls ≡ r → added o r ≡ Some xs →
     ((zs : List core.Local) → core_locals ls ≡ Some zs → (k : ℕ) → slice_get ls k ≡ Some l → Resolved_at zs k l) → Resolved_at xs n l
 local_at y ls xs n l at None r a b h rec = cc
 local_at y ls xs n l at (Some x) None a b h rec = cc
@@ -428,7 +484,8 @@ local_at y ls xs zero l at (Some x) (Some zs) a b h rec = let same : x ∷ zs �
 local_at y ls xs (suc k) l at (Some x) (Some zs) a b h rec = let same : x ∷ zs ≡ xs = cc in subst (λ (q : List core.Local). Resolved_at q (suc k) l) same (rec zs b k at)
 
 -- each of a list of locals resolved
-pub locals_got : (ls : List scope.Local) (xs : List core.Local) → core_locals ls ≡ Some xs → (n : ℕ) (l : scope.Local) → slice_get ls n ≡ Some l → Resolved_at xs n l
+pub locals_got : (ls : List scope.Local) (xs : List core.Local) → core_locals ls ≡ Some xs →
+    (n : ℕ) (l : scope.Local) → slice_get ls n ≡ Some l → Resolved_at xs n l
 locals_got [] xs e n l at = cc
 locals_got (y ∷ ls) xs e n l at = local_at y ls xs n l at (core_local y) (core_locals ls) refl refl e (λ zs b k g. locals_got ls zs b k l g)
 
@@ -448,26 +505,33 @@ IfSection p None = ⊤
 IfSection p (Some x) = SectionOk p x
 
 module _ (decls : List Decl) (p : core.Program) (sound : Sound decls p) (helpers : HasHelpers decls p) (limits : BodyLimits) (s : Section) where
-  put_some : (xs : List core.Local) (body : core.Stmts) (r : core.Return) (o : Option core_type.ValueType) → AllAct p (types_of xs) body → ((t : core_type.ValueType) → o ≡ Some t → Is p (types_of xs) r.value t) →
+  put_some : (xs : List core.Local) (body : core.Stmts) (r : core.Return) (o : Option core_type.ValueType) →
+      AllAct p (types_of xs) body → ((t : core_type.ValueType) → o ≡ Some t → Is p (types_of xs) r.value t) →
       IfSection p (o >>= λ v. Some (record { name = s.name.text; parameters = length s.params; locals = xs; result_type = Some v; body = body; result = Some r }))
   put_some xs body r None h g = tt
   put_some xs body r (Some t) h g = record { body = h; result = g t refl }
 
-  put_good : (xs : List core.Local) (body : core.Stmts) (r : Option core.Return) (o : Option ValueType) → s.result ≡ o → AllAct p (types_of xs) body → IfReturn decls p (types_of xs) sound helpers (result_of decls s) r → IfSection p (section_with decls s xs body o r)
+  put_good : (xs : List core.Local) (body : core.Stmts) (r : Option core.Return) (o : Option ValueType) →
+      s.result ≡ o → AllAct p (types_of xs) body →
+      IfReturn decls p (types_of xs) sound helpers (result_of decls s) r →
+      IfSection p (section_with decls s xs body o r)
   put_good xs body None None is h g = record { body = h; result = tt }
   put_good xs body (Some r) None is h g = tt
   put_good xs body None (Some t) is h g = tt
   put_good xs body (Some r) (Some t) is h g =
       put_some xs body r (type_of (outside decls) t) h (λ v e. g v (ap (λ (o : Option ValueType). o >>= λ w. type_of (outside decls) w) is ∙ e))
 
-  section_good : (o : Option (List core.Local)) → core_locals (after_all (entry decls limits s) s.body.stmts).locals ≡ o → IfSection p (section_of decls s o (typed_body (entry decls limits s) s.body.stmts))
+  section_good : (o : Option (List core.Local)) →
+      core_locals (after_all (entry decls limits s) s.body.stmts).locals ≡ o →
+      IfSection p (section_of decls s o (typed_body (entry decls limits s) s.body.stmts))
   section_good None is = tt
   section_good (Some xs) is =
       by_body (typed_body (entry decls limits s) s.body.stmts)
       (subst (λ (r : Option core_type.ValueType). GoodBody decls p (types_of xs) sound helpers r (typed_body (entry decls limits s) s.body.stmts)) (entered_result (ahead_of decls limits s) s.params)
       (body_good decls p (types_of xs) sound helpers (entry decls limits s) (entered_same (ahead_of decls limits s) s.params) s.body.stmts (locals_have (after_all (entry decls limits s) s.body.stmts).locals xs is)))
     where
-      by_body : (o : Option Body) → GoodBody decls p (types_of xs) sound helpers (result_of decls s) o → IfSection p (section_of decls s (Some xs) o)
+      by_body : (o : Option Body) → GoodBody decls p (types_of xs) sound helpers (result_of decls s) o →
+          IfSection p (section_of decls s (Some xs) o)
       by_body None h = tt
       by_body (Some b) h = put_good xs b.stmts b.result s.result refl h.0 h.1
 

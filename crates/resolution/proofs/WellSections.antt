@@ -1,8 +1,11 @@
 -- Resolved sections are well typed and well scoped.
-use Rattle.std.proofs.Common.{◌≡◌, ◌≢◌, ℕ, zero, suc, ◌+◌, ◌<◌, ◌≤◌, List, [], ◌∷◌, ◌++◌, length, Option, Some, None, true, refl, sym, ap, ◌∙◌, subst, arith}
+use Rattle.std.proofs.Common.{◌≡◌, ◌≢◌, ℕ, zero, suc, ◌+◌, ◌<◌, ◌≤◌, List, [], ◌∷◌, ◌++◌, length, Option, Some, None}
+use Rattle.std.proofs.Common.{true, refl, sym, ap, ◌∙◌, subst, arith}
 use Rattle.std.specs.Prelude.{slice_get, option_map, ⊤}
 use Rattle.std.specs.List.{Contains}
-use Rattle.syntax.specs.Trees.{ValueType, Stmt, let_local, let_owned, let_call, var_local, assign, if_then, while, print, return_value, call, Stmts, no_stmts, stmt, Otherwise, no_else, else_do, Param, Section, Decl}
+use Rattle.syntax.specs.Trees.{ValueType, Stmt, let_local, let_owned, let_call, var_local, assign, if_then, while}
+use Rattle.syntax.specs.Trees.{print, return_value, call, Stmts, no_stmts, stmt, Otherwise, no_else, else_do, Param}
+use Rattle.syntax.specs.Trees.{Section, Decl}
 use Rattle.core_lang.specs.declared.value.ValueType as core_type
 use Rattle.core_lang.specs.declared.tree.LocalKind.TheVariants as kind
 use Rattle.core_lang.specs.declared.tree.Local as the_local
@@ -12,17 +15,20 @@ use Rattle.core_lang.specs.Typing.{local_types, IsWellTypedSection}
 use Rattle.core_lang.specs.Scopes.{numbers_from, scope_after_all, IsWellScoped}
 use Rattle.resolution.specs.declared.body_limits.BodyLimits.{BodyLimits}
 use Rattle.resolution.specs.Core as core
-use Rattle.resolution.specs.CoreViews.{core_expr, core_stmts, core_return, core_local, core_locals as locals_view, core_section, core_of}
+use Rattle.resolution.specs.CoreViews.{core_expr, core_stmts, core_return, core_local, core_locals as locals_view}
+use Rattle.resolution.specs.CoreViews.{core_section, core_of}
 use Rattle.resolution.specs.Scopes as scopes
 use Rattle.resolution.specs.Scopes.{◌>>=◌, Scope, outside, type_of, bound, hidden, hidden_from, left, entered}
 use Rattle.resolution.specs.Statements.{Body, typed_body, after, after_else, after_all}
 use Rattle.resolution.specs.Constants.{added}
-use Rattle.resolution.specs.Resolution.{ahead_of, entry, core_local as local_of, core_locals, section_with, section_of, typed_section}
+use Rattle.resolution.specs.Resolution.{ahead_of, entry, core_local as local_of, core_locals, section_with}
+use Rattle.resolution.specs.Resolution.{section_of, typed_section}
 use Rattle.resolution.proofs.Typed.{types_of, AllAct, Returns, get_map, body_typed, result_typed}
 use Rattle.resolution.proofs.TypedResolvedExprs.{Sound}
 use Rattle.resolution.proofs.TypedCalls.{HasHelpers}
 use Rattle.resolution.proofs.TypedStatements.{all_front, locals_got, section_typed}
-use Rattle.resolution.proofs.Scoped.{Names, StmtsName, behind_all, all_binding, all_assigning, body_scoped, body_behind, body_binding, body_assigning, result_scoped}
+use Rattle.resolution.proofs.Scoped.{Names, StmtsName, behind_all, all_binding, all_assigning, body_scoped}
+use Rattle.resolution.proofs.Scoped.{body_behind, body_binding, body_assigning, result_scoped}
 use Rattle.resolution.proofs.ScopedStatements.{IsVarAt, Become, BodyDone, ReturnDone, numbers_cover, body_done, get_lt}
 
 -- ---- well typed
@@ -31,7 +37,9 @@ types_same : (ls : List the_local.Local) → types_of (locals_view ls) ≡ local
 types_same [] = refl
 types_same (l ∷ ls) = ap (λ (ts : List core_type.ValueType). l.value_type ∷ ts) (types_same ls)
 
-pub section_well_typed : (decls : List Decl) (program : Typed) → Sound decls (core_of program) → HasHelpers decls (core_of program) → (limits : BodyLimits) (s : Section) (x : the_section.Section) → typed_section decls limits s ≡ Some (core_section x) → IsWellTypedSection program x
+pub section_well_typed : (decls : List Decl) (program : Typed) → Sound decls (core_of program) →
+    HasHelpers decls (core_of program) → (limits : BodyLimits) (s : Section) (x : the_section.Section) →
+    typed_section decls limits s ≡ Some (core_section x) → IsWellTypedSection program x
 section_well_typed decls program sound helpers limits s x e =
     let ok = section_typed decls (core_of program) sound helpers limits s (core_section x) e in
     let same = types_same x.locals.items in
@@ -46,7 +54,8 @@ section_well_typed decls program sound helpers limits s x e =
 abbrev NoneFrom : ℕ → List scopes.Local → Type 0
 NoneFrom n ls = (k : ℕ) (l : scopes.Local) → slice_get ls k ≡ Some l → n ≤ k → l.kind ≢ kind.Parameter
 
-none_push : (n : ℕ) (ls : List scopes.Local) (x : scopes.Local) → x.kind ≢ kind.Parameter → NoneFrom n ls → NoneFrom n (ls ++ x ∷ [])
+none_push : (n : ℕ) (ls : List scopes.Local) (x : scopes.Local) → x.kind ≢ kind.Parameter → NoneFrom n ls →
+    NoneFrom n (ls ++ x ∷ [])
 none_push n [] x o h zero l e le = let s : x ≡ l = cc in λ p. o (ap (λ (y : scopes.Local). y.kind) s ∙ p)
 none_push n [] x o h (suc k) l e le = cc
 none_push n (y ∷ ls) x o h zero l e le = h 0 l e le
@@ -93,7 +102,8 @@ mutual
 abbrev AllParameters : List scopes.Local → Type 0
 AllParameters ls = (k : ℕ) (l : scopes.Local) → slice_get ls k ≡ Some l → l.kind ≡ kind.Parameter
 
-parameters_push : (ls : List scopes.Local) (x : scopes.Local) → x.kind ≡ kind.Parameter → AllParameters ls → AllParameters (ls ++ x ∷ [])
+parameters_push : (ls : List scopes.Local) (x : scopes.Local) → x.kind ≡ kind.Parameter → AllParameters ls →
+    AllParameters (ls ++ x ∷ [])
 parameters_push [] x o h zero l e = let s : x ≡ l = cc in sym (ap (λ (y : scopes.Local). y.kind) s) ∙ o
 parameters_push [] x o h (suc k) l e = cc
 parameters_push (y ∷ ls) x o h zero l e = h 0 l e
@@ -127,7 +137,8 @@ pub locals_length : (ls : List scopes.Local) (xs : List core.Local) → core_loc
 locals_length [] xs e = let s : [] ≡ xs = cc in sym (ap (λ (q : List core.Local). length q) s)
 locals_length (l ∷ ls) xs e = by_parts (local_of l) (core_locals ls) e (λ zs g. locals_length ls zs g)
   where
-    by_parts : (o : Option core.Local) (r : Option (List core.Local)) → added o r ≡ Some xs → ((zs : List core.Local) → r ≡ Some zs → length zs ≡ length ls) → length xs ≡ suc (length ls)
+    by_parts : (o : Option core.Local) (r : Option (List core.Local)) → added o r ≡ Some xs →
+        ((zs : List core.Local) → r ≡ Some zs → length zs ≡ length ls) → length xs ≡ suc (length ls)
     by_parts None r h rec = cc
     by_parts (Some x) None h rec = cc
     by_parts (Some x) (Some zs) h rec = let s : x ∷ zs ≡ xs = cc in let l = rec zs refl in sym (ap (λ (q : List core.Local). length q) s) ∙ ap suc l
@@ -135,7 +146,8 @@ locals_length (l ∷ ls) xs e = by_parts (local_of l) (core_locals ls) e (λ zs 
 -- a section whose locals are named in scope, bound once and kept by kind
 pub record ScopedOk (x : core.Section) : Type 0 where
   pub bound : numbers_from 0 x.parameters ++ all_binding x.body ≡ numbers_from 0 (length x.locals)
-  pub kinds : (k : ℕ) (l : core.Local) → slice_get x.locals k ≡ Some l → (k < x.parameters → l.kind ≡ kind.Parameter) × (x.parameters ≤ k → l.kind ≢ kind.Parameter)
+  pub kinds : (k : ℕ) (l : core.Local) → slice_get x.locals k ≡ Some l →
+      (k < x.parameters → l.kind ≡ kind.Parameter) × (x.parameters ≤ k → l.kind ≢ kind.Parameter)
   pub assigned : (k : ℕ) → Contains (all_assigning x.body) k → IsVarAt x.locals k
   pub body : StmtsName (numbers_from 0 x.parameters) x.body
   pub result : (r : core.Return) → x.result ≡ Some r → Names (behind_all (numbers_from 0 x.parameters) x.body) r.value
@@ -157,7 +169,8 @@ module _ (decls : List Decl) (limits : BodyLimits) (s : Section) (xs : List core
   becomes : Become ends xs
   becomes n l e = let r = locals_got ends xs are n l e in (r.0, r.1, r.2)
 
-  kinds_are : (k : ℕ) (x : core.Local) → slice_get xs k ≡ Some x → (k < length s.params → x.kind ≡ kind.Parameter) × (length s.params ≤ k → x.kind ≢ kind.Parameter)
+  kinds_are : (k : ℕ) (x : core.Local) → slice_get xs k ≡ Some x →
+      (k < length s.params → x.kind ≡ kind.Parameter) × (length s.params ≤ k → x.kind ≢ kind.Parameter)
   kinds_are k x e =
       let len = locals_length ends xs are in
       let lt = get_lt xs k x e in
@@ -172,7 +185,8 @@ module _ (decls : List Decl) (limits : BodyLimits) (s : Section) (xs : List core
       none_yet : NoneFrom (length s.params) sc.locals
       none_yet j l g le = let lt = get_lt sc.locals j l g in let q = params in absurd (omega (arith, lt, q, le))
 
-      first_kind : (k : ℕ) (l : scopes.Local) → slice_get ends k ≡ Some l → k < length s.params → l.kind ≡ kind.Parameter
+      first_kind : (k : ℕ) (l : scopes.Local) → slice_get ends k ≡ Some l → k < length s.params →
+          l.kind ≡ kind.Parameter
       first_kind k l e less =
           let q = params in
           let at = get_some sc.locals k (let z : k < length sc.locals = omega (arith, q, less) in z) in
@@ -181,7 +195,8 @@ module _ (decls : List Decl) (limits : BodyLimits) (s : Section) (xs : List core
           let o : at.0 ≡ l = cc in
           sym (ap (λ (y : scopes.Local). y.kind) o) ∙ parameters_entered (ahead_of decls limits s) s.params (λ j m g. cc) k at.0 at.1
 
-  scoped_put : (b : Body) (t : Option core_type.ValueType) (r : Option core.Return) → BodyDone xs sc.locals ends (numbers_from 0 (length sc.locals)) (Some b) → r ≡ b.result →
+  scoped_put : (b : Body) (t : Option core_type.ValueType) (r : Option core.Return) →
+      BodyDone xs sc.locals ends (numbers_from 0 (length sc.locals)) (Some b) → r ≡ b.result →
       ScopedOk (record { name = s.name.text; parameters = length s.params; locals = xs; result_type = t; body = b.stmts; result = r })
   scoped_put b t r h same =
       let d = h.0 in
@@ -194,47 +209,58 @@ module _ (decls : List Decl) (limits : BodyLimits) (s : Section) (xs : List core
         result = λ q e. given b.result q (sym same ∙ e) h.1;
       }
     where
-      given : (o : Option core.Return) (q : core.Return) → o ≡ Some q → ReturnDone xs (behind_all (numbers_from 0 (length sc.locals)) b.stmts) o → Names (behind_all (numbers_from 0 (length s.params)) b.stmts) q.value
+      given : (o : Option core.Return) (q : core.Return) → o ≡ Some q →
+          ReturnDone xs (behind_all (numbers_from 0 (length sc.locals)) b.stmts) o →
+          Names (behind_all (numbers_from 0 (length s.params)) b.stmts) q.value
       given None q e g = cc
       given (Some w) q e g = let same2 : w ≡ q = cc in subst (λ (n : ℕ). Names (behind_all (numbers_from 0 n) b.stmts) q.value) params (subst (λ (y : core.Return). Names (behind_all (numbers_from 0 (length sc.locals)) b.stmts) y.value) same2 g)
 
-  typed_put : (b : Body) (r : core.Return) (o : Option core_type.ValueType) → BodyDone xs sc.locals ends (numbers_from 0 (length sc.locals)) (Some b) → Some r ≡ b.result →
+  typed_put : (b : Body) (r : core.Return) (o : Option core_type.ValueType) →
+      BodyDone xs sc.locals ends (numbers_from 0 (length sc.locals)) (Some b) → Some r ≡ b.result →
       IfScoped (o >>= λ v. Some (record { name = s.name.text; parameters = length s.params; locals = xs; result_type = Some v; body = b.stmts; result = Some r }))
   typed_put b r None h same = tt
   typed_put b r (Some t) h same = scoped_put b (Some t) (Some r) h same
 
-  with_put : (b : Body) (o : Option ValueType) (q : Option core.Return) → BodyDone xs sc.locals ends (numbers_from 0 (length sc.locals)) (Some b) → q ≡ b.result → IfScoped (section_with decls s xs b.stmts o q)
+  with_put : (b : Body) (o : Option ValueType) (q : Option core.Return) →
+      BodyDone xs sc.locals ends (numbers_from 0 (length sc.locals)) (Some b) → q ≡ b.result →
+      IfScoped (section_with decls s xs b.stmts o q)
   with_put b None None h same = scoped_put b None None h same
   with_put b None (Some r) h same = tt
   with_put b (Some t) None h same = tt
   with_put b (Some t) (Some r) h same = typed_put b r (type_of (outside decls) t) h same
 
-  of_put : (o : Option Body) → BodyDone xs sc.locals ends (numbers_from 0 (length sc.locals)) o → IfScoped (section_of decls s (Some xs) o)
+  of_put : (o : Option Body) → BodyDone xs sc.locals ends (numbers_from 0 (length sc.locals)) o →
+      IfScoped (section_of decls s (Some xs) o)
   of_put None h = tt
   of_put (Some b) h = with_put b s.result b.result h refl
 
   pub scoped_if : IfScoped (section_of decls s (Some xs) (typed_body sc s.body.stmts))
   scoped_if = of_put (typed_body sc s.body.stmts) (body_done xs sc s.body.stmts (numbers_from 0 (length sc.locals)) (numbers_cover sc.locals) becomes)
 
-scoped_any : (decls : List Decl) (limits : BodyLimits) (s : Section) (o : Option (List core.Local)) → core_locals (after_all (entry decls limits s) s.body.stmts).locals ≡ o → IfScoped (section_of decls s o (typed_body (entry decls limits s) s.body.stmts))
+scoped_any : (decls : List Decl) (limits : BodyLimits) (s : Section) (o : Option (List core.Local)) →
+    core_locals (after_all (entry decls limits s) s.body.stmts).locals ≡ o →
+    IfScoped (section_of decls s o (typed_body (entry decls limits s) s.body.stmts))
 scoped_any decls limits s None is = tt
 scoped_any decls limits s (Some xs) is = scoped_if decls limits s xs is
 
-section_scoped : (decls : List Decl) (limits : BodyLimits) (s : Section) (x : core.Section) → typed_section decls limits s ≡ Some x → ScopedOk x
+section_scoped : (decls : List Decl) (limits : BodyLimits) (s : Section) (x : core.Section) →
+    typed_section decls limits s ≡ Some x → ScopedOk x
 section_scoped decls limits s x e = subst IfScoped e (scoped_any decls limits s (core_locals (after_all (entry decls limits s) s.body.stmts).locals) refl)
 
 view_length : (ls : List the_local.Local) → length (locals_view ls) ≡ length ls
 view_length [] = refl
 view_length (l ∷ ls) = ap suc (view_length ls)
 
-var_at : (ls : List the_local.Local) (k : ℕ) (l : the_local.Local) → IsVarAt (locals_view ls) k → slice_get ls k ≡ Some l → l.kind ≡ kind.Var
+var_at : (ls : List the_local.Local) (k : ℕ) (l : the_local.Local) → IsVarAt (locals_view ls) k →
+    slice_get ls k ≡ Some l → l.kind ≡ kind.Var
 var_at ls k l h e =
     let g = get_map core_local ls k l e in
     let same : Some h.0 ≡ Some (core_local l) = sym h.1 ∙ g in
     let q : h.0 ≡ core_local l = cc in
     sym (ap (λ (y : core.Local). y.kind) q) ∙ h.2
 
-pub section_well_scoped : (decls : List Decl) (limits : BodyLimits) (s : Section) (x : the_section.Section) → typed_section decls limits s ≡ Some (core_section x) → IsWellScoped x
+pub section_well_scoped : (decls : List Decl) (limits : BodyLimits) (s : Section) (x : the_section.Section) →
+    typed_section decls limits s ≡ Some (core_section x) → IsWellScoped x
 section_well_scoped decls limits s x e =
     let ok = section_scoped decls limits s (core_section x) e in
     record {

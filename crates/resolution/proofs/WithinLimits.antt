@@ -1,9 +1,13 @@
 -- A program with no fault is within the limits of the language.
-use Rattle.std.proofs.Common.{◌≡◌, ℕ, zero, suc, ◌+◌, ◌*◌, ◌<◌, ◌≤◌, List, [], ◌∷◌, ◌++◌, length, Some, true, false, refl, sym, ap, ◌∙◌, subst, append_assoc, arith}
+use Rattle.std.proofs.Common.{◌≡◌, ℕ, zero, suc, ◌+◌, ◌*◌, ◌<◌, ◌≤◌, List, [], ◌∷◌, ◌++◌, length, Some, true, false}
+use Rattle.std.proofs.Common.{refl, sym, ap, ◌∙◌, subst, append_assoc, arith}
 use Rattle.std.specs.Prelude.{nat_le, slice_get, take, map}
 use Rattle.std.proofs.lemmas.List.{length-append, length-map, append-nil}
 use Rattle.source.specs.declared.fault.Code.TheVariants.{LimitExceeded}
-use Rattle.syntax.specs.Trees.{Stmt, let_local, let_owned, let_call, var_local, assign, if_then, while, print, return_value, Stmts, no_stmts, stmt, Otherwise, no_else, else_do, Param, Section, Item, call, repeat, Items, no_items, item, Member, lock_member, final_member, field_member, Thread, Decl, lock, struct, global, array, pool, init, atomic, helper, thread}
+use Rattle.syntax.specs.Trees.{Stmt, let_local, let_owned, let_call, var_local, assign, if_then, while, print}
+use Rattle.syntax.specs.Trees.{return_value, Stmts, no_stmts, stmt, Otherwise, no_else, else_do, Param, Section, Item}
+use Rattle.syntax.specs.Trees.{call, repeat, Items, no_items, item, Member, lock_member, final_member, field_member}
+use Rattle.syntax.specs.Trees.{Thread, Decl, lock, struct, global, array, pool, init, atomic, helper, thread}
 use Rattle.core_lang.specs.declared.tree.LocalKind.TheVariants as kind
 use Rattle.core_lang.specs.declared.tree.Section as the_section
 use Rattle.core_lang.specs.declared.typed.Struct as the_struct
@@ -12,15 +16,21 @@ use Rattle.core_lang.specs.declared.typed.Typed.{Typed}
 use Rattle.core_lang.specs.WellFormed.{calls_together, IsWithinLimits}
 use Rattle.resolution.specs.declared.body_limits.BodyLimits.{BodyLimits}
 use Rattle.resolution.specs.Core as core
-use Rattle.resolution.specs.CoreViews.{core_class, core_lock, core_final, core_field, core_struct, core_local, core_section, core_call, core_thread, core_of}
-use Rattle.resolution.specs.Limits.{STRUCT_LIMIT, MEMBER_LIMIT, CELL_LIMIT, SECTION_LIMIT, THREAD_LIMIT, PARAMETER_LIMIT, LOCAL_LIMIT, CALL_LIMIT, section_limits}
+use Rattle.resolution.specs.CoreViews.{core_class, core_lock, core_final, core_field, core_struct, core_local}
+use Rattle.resolution.specs.CoreViews.{core_section, core_call, core_thread, core_of}
+use Rattle.resolution.specs.Limits.{STRUCT_LIMIT, MEMBER_LIMIT, CELL_LIMIT, SECTION_LIMIT, THREAD_LIMIT}
+use Rattle.resolution.specs.Limits.{PARAMETER_LIMIT, LOCAL_LIMIT, CALL_LIMIT, section_limits}
 use Rattle.resolution.specs.Scopes as scopes
-use Rattle.resolution.specs.Scopes.{Scope, outside, meaning, helper_meant, the_local, the_decl, type_of, count, alike, has_body, bound, left}
+use Rattle.resolution.specs.Scopes.{Scope, outside, meaning, helper_meant, the_local, the_decl, type_of, count, alike}
+use Rattle.resolution.specs.Scopes.{has_body, bound, left}
 use Rattle.resolution.specs.Numbers.{total, cells_of, calls_in, calls_in_all, calls_of}
 use Rattle.resolution.specs.Expressions.{want}
 use Rattle.resolution.specs.Statements.{after, after_else, after_all}
 use Rattle.resolution.specs.Resolution.{ahead_of, entry, call_of, copies, typed_item, typed_items, resolved}
-use Rattle.resolution.specs.Working.FaultLists.{one_if, local_faults, type_faults, wanted_faults, binding_faults, owner_faults, helper_call_faults, given_back_faults, stmt_faults, else_faults, stmts_faults, param_faults, result_faults, count_faults, total_faults}
+use Rattle.resolution.specs.Working.FaultLists.{one_if, local_faults, type_faults, wanted_faults, binding_faults}
+use Rattle.resolution.specs.Working.FaultLists.{owner_faults, helper_call_faults, given_back_faults, stmt_faults}
+use Rattle.resolution.specs.Working.FaultLists.{else_faults, stmts_faults, param_faults, result_faults, count_faults}
+use Rattle.resolution.specs.Working.FaultLists.{total_faults}
 use Rattle.resolution.specs.declared.wanted.Want.TheVariants as wanted
 use Rattle.resolution.proofs.Parts.{of_place_at}
 use Rattle.resolution.proofs.AllFaults.{of_counts, of_totals}
@@ -35,7 +45,8 @@ use Rattle.resolution.proofs.WellSections.{entered_length, locals_length}
 use Rattle.resolution.proofs.LaidLists.{rows_length, take_front, as_one, count_push, bind_got}
 use Rattle.resolution.proofs.LaidStages.{fields_in, finals_in, locks_in}
 use Rattle.resolution.proofs.LaidWalk.{LockRow, FinalRow, FieldRow, Counts, Step, walked_whole, counted_whole}
-use Rattle.resolution.proofs.LaidFacts.{keeps_structs, keeps_sections, keeps_helpers, keeps_threads, struct_by_number, sections_of}
+use Rattle.resolution.proofs.LaidFacts.{keeps_structs, keeps_sections, keeps_helpers, keeps_threads, struct_by_number}
+use Rattle.resolution.proofs.LaidFacts.{sections_of}
 use Rattle.resolution.proofs.LaidLocks.{few_classes}
 use Rattle.resolution.proofs.LaidObjects.{few_objects}
 use Rattle.resolution.proofs.LaidScripts.{one_got, joined_got, sectioned}
@@ -44,7 +55,8 @@ use Rattle.resolution.specs.Theory.Facts.{bodies_counted}
 
 -- ---- cells
 
-cells_few : (decls before ds : List Decl) → NoneIn (total_faults decls before ds) → total (cells_of decls) before ≤ CELL_LIMIT → total (cells_of decls) (before ++ ds) ≤ CELL_LIMIT
+cells_few : (decls before ds : List Decl) → NoneIn (total_faults decls before ds) →
+    total (cells_of decls) before ≤ CELL_LIMIT → total (cells_of decls) (before ++ ds) ≤ CELL_LIMIT
 cells_few decls before [] none le = subst (λ (xs : List Decl). total (cells_of decls) xs ≤ CELL_LIMIT) (sym (append-nil before)) le
 cells_few decls before (d ∷ ds) none le =
     let fit = cells_fit decls before d (none_left (count_faults decls before d) (total_faults decls (before ++ d ∷ []) ds) none) le in
@@ -62,14 +74,16 @@ copies_length (suc n) xs =
     z
 
 mutual
-  item_counted : (decls : List Decl) (i : Item) (cs : List core.Call) → typed_item decls i ≡ Some cs → length cs ≡ calls_in i
+  item_counted : (decls : List Decl) (i : Item) (cs : List core.Call) → typed_item decls i ≡ Some cs →
+      length cs ≡ calls_in i
   item_counted decls (call c) cs e = let r = one_got (call_of decls (the_decl decls c.section.text) c.arguments) cs e in sym (ap length r.2)
   item_counted decls (repeat k is) cs e =
       let b = bind_got (typed_items decls is) (λ xs. Some (copies k.value xs)) cs e in
       let same : copies k.value b.0 ≡ cs = (let u = b.2 in cc) in
       sym (ap length same) ∙ copies_length k.value b.0 ∙ ap (λ (n : ℕ). k.value * n) (items_counted decls is b.0 b.1)
 
-  items_counted : (decls : List Decl) (is : Items) (cs : List core.Call) → typed_items decls is ≡ Some cs → length cs ≡ calls_in_all is
+  items_counted : (decls : List Decl) (is : Items) (cs : List core.Call) → typed_items decls is ≡ Some cs →
+      length cs ≡ calls_in_all is
   items_counted decls no_items cs e = let s : [] ≡ cs = cc in sym (ap (λ (q : List core.Call). length q) s)
   items_counted decls (item i is) cs e =
       let r = joined_got (typed_item decls i) (typed_items decls is) cs e in
@@ -84,7 +98,8 @@ abbrev calls_in_threads : List core.Thread → ℕ
 calls_in_threads [] = 0
 calls_in_threads (t ∷ ts) = length t.calls + calls_in_threads ts
 
-calls_push : (ts : List core.Thread) (t : core.Thread) → calls_in_threads (ts ++ t ∷ []) ≡ calls_in_threads ts + length t.calls
+calls_push : (ts : List core.Thread) (t : core.Thread) →
+    calls_in_threads (ts ++ t ∷ []) ≡ calls_in_threads ts + length t.calls
 calls_push [] t = omega arith
 calls_push (x ∷ ts) t = let r = calls_push ts t in omega (arith, r)
 
@@ -98,7 +113,9 @@ calls_viewed (t ∷ ts) =
 -- ---- declarations of which each counts as one
 
 -- nothing is listed for the count at a step
-none_at_step : (decls : List Decl) → Clean decls → (whole : core.Program) (before : List Decl) (d : Decl) (p q : core.Program) → Step decls whole before d p q → NoneIn (count_faults decls before d)
+none_at_step : (decls : List Decl) → Clean decls →
+    (whole : core.Program) (before : List Decl) (d : Decl) (p q : core.Program) → Step decls whole before d p q →
+    NoneIn (count_faults decls before d)
 none_at_step decls clean whole before d p q st =
     let r = parts_at decls (length before) d st.at in
     let same : r.before ≡ before = sym (take_front r.before (d ∷ r.behind)) ∙ ap (take (length r.before)) (sym r.parts) ∙ ap (λ (n : ℕ). take n decls) r.place ∙ st.ahead in
@@ -117,17 +134,21 @@ same_few : {A : Type 0} (limit : ℕ) (xs ys : List A) → ys ≡ xs → length 
 same_few {A = A} limit xs ys e le = subst (λ (zs : List A). length zs ≤ limit) (sym e) le
 
 -- one more, where there is room
-one_more : {A : Type 0} (limit n : ℕ) (xs ys : List A) (x : A) → xs ++ x ∷ [] ≡ ys → length xs ≡ n → nat_le limit n ≡ false → length ys ≤ limit
+one_more : {A : Type 0} (limit n : ℕ) (xs ys : List A) (x : A) → xs ++ x ∷ [] ≡ ys → length xs ≡ n →
+    nat_le limit n ≡ false → length ys ≤ limit
 one_more {A = A} limit n xs ys x e is full =
     let less = le_false limit n full in
     let l = length_push xs x in
     same_few limit (xs ++ x ∷ []) ys (sym e) (omega (arith, less, l, is))
 
 -- no more sections and helpers, or one more, where there is room
-same_bodies : (p q : core.Program) → q.sections ≡ p.sections → q.helpers ≡ p.helpers → length p.sections + length p.helpers ≤ SECTION_LIMIT → length q.sections + length q.helpers ≤ SECTION_LIMIT
+same_bodies : (p q : core.Program) → q.sections ≡ p.sections → q.helpers ≡ p.helpers →
+    length p.sections + length p.helpers ≤ SECTION_LIMIT → length q.sections + length q.helpers ≤ SECTION_LIMIT
 same_bodies p q a b le = let x = ap length a in let y = ap length b in omega (arith, x, y, le)
 
-few_bodies : (decls before : List Decl) (p q : core.Program) (s : Section) → Counts decls before p → nat_le SECTION_LIMIT (count has_body before) ≡ false → length q.sections + length q.helpers ≡ length p.sections + length p.helpers + 1 →
+few_bodies : (decls before : List Decl) (p q : core.Program) (s : Section) → Counts decls before p →
+    nat_le SECTION_LIMIT (count has_body before) ≡ false →
+    length q.sections + length q.helpers ≡ length p.sections + length p.helpers + 1 →
     length q.sections + length q.helpers ≤ SECTION_LIMIT
 few_bodies decls before p q s n full more =
     let less = le_false SECTION_LIMIT (count has_body before) full in
@@ -137,7 +158,9 @@ few_bodies decls before p q s n full more =
     omega (arith, less, both, x, y, more)
 
 -- behind a declaration that is no thread
-few_more : (before : List Decl) (d : Decl) (p q : core.Program) → Few before p → length q.structs ≤ STRUCT_LIMIT → length q.sections + length q.helpers ≤ SECTION_LIMIT → q.threads ≡ p.threads → ((t : Thread) → as_one (alike (thread t) d) ≡ 0) → calls_of d ≡ 0 → Few (before ++ d ∷ []) q
+few_more : (before : List Decl) (d : Decl) (p q : core.Program) → Few before p → length q.structs ≤ STRUCT_LIMIT →
+    length q.sections + length q.helpers ≤ SECTION_LIMIT → q.threads ≡ p.threads →
+    ((t : Thread) → as_one (alike (thread t) d) ≡ 0) → calls_of d ≡ 0 → Few (before ++ d ∷ []) q
 few_more before d p q h structs sections same none no_calls = record {
   structs = structs;
   sections = sections;
@@ -146,7 +169,9 @@ few_more before d p q h structs sections same none no_calls = record {
   calls_are = (let s : calls_in_threads q.threads ≡ calls_in_threads p.threads = ap calls_in_threads same in let a = h.calls_are in let c = total_push calls_of before d in omega (arith, s, a, c, no_calls));
 }
 
-few_next : (decls : List Decl) → Clean decls → (whole : core.Program) (before : List Decl) (d : Decl) (p q : core.Program) → Step decls whole before d p q → Few before p → Few (before ++ d ∷ []) q
+few_next : (decls : List Decl) → Clean decls →
+    (whole : core.Program) (before : List Decl) (d : Decl) (p q : core.Program) → Step decls whole before d p q →
+    Few before p → Few (before ++ d ∷ []) q
 few_next decls clean whole before (struct s) p q st h =
     let a = st.adds in
     let none = none_left (one_if (nat_le STRUCT_LIMIT (count (alike (struct s)) before)) LimitExceeded s.name.span.start) _ (none_at_step decls clean whole before (struct s) p q st) in
@@ -202,7 +227,9 @@ kinds_together (lock_member x ∷ ms) = let r = kinds_together ms in omega (arit
 kinds_together (final_member f ∷ ms) = let r = kinds_together ms in omega (arith, r)
 kinds_together (field_member f ∷ ms) = let r = kinds_together ms in omega (arith, r)
 
-members_within : (decls : List Decl) → Clean decls → (whole : core.Program) → resolved decls ≡ Some whole → (s : ℕ) (y : core.Struct) → slice_get whole.structs s ≡ Some y → length y.locks + length y.finals + length y.fields ≤ MEMBER_LIMIT
+members_within : (decls : List Decl) → Clean decls → (whole : core.Program) → resolved decls ≡ Some whole →
+    (s : ℕ) (y : core.Struct) → slice_get whole.structs s ≡ Some y →
+    length y.locks + length y.finals + length y.fields ≤ MEMBER_LIMIT
 members_within decls clean whole is s y at =
     let r = struct_by_number decls clean whole is s y at in
     let ms = r.0.members in
@@ -215,7 +242,8 @@ members_within decls clean whole is s y at =
 
 -- ---- parameters and locals
 
-parameters_few : (sc : Scope) (n : ℕ) (ps : List Param) → NoneIn (param_faults sc n ps) → n ≤ sc.limits.parameters → n + length ps ≤ sc.limits.parameters
+parameters_few : (sc : Scope) (n : ℕ) (ps : List Param) → NoneIn (param_faults sc n ps) → n ≤ sc.limits.parameters →
+    n + length ps ≤ sc.limits.parameters
 parameters_few sc n [] none le = omega (arith, le)
 parameters_few sc n (p ∷ ps) none le =
     let t = type_of (outside sc.decls) p.value_type in
@@ -249,7 +277,8 @@ left_few : (sc end : Scope) (limit : ℕ) → length end.locals ≤ limit → le
 left_few sc end limit le = let l = hidden_length (length sc.locals) end.locals in omega (arith, l, le)
 
 mutual
-  after_few : (sc : Scope) (s : Stmt) → NoneIn (stmt_faults sc s) → length sc.locals ≤ sc.limits.locals → length (after sc s).locals ≤ sc.limits.locals
+  after_few : (sc : Scope) (s : Stmt) → NoneIn (stmt_faults sc s) → length sc.locals ≤ sc.limits.locals →
+      length (after sc s).locals ≤ sc.limits.locals
   after_few sc (let_local l) none le =
       let a = local_faults sc l.name in
       let b = type_faults sc l.value_type in
@@ -291,11 +320,13 @@ mutual
   after_few sc (return_value start e) none le = le
   after_few sc (call start c) none le = le
 
-  else_few : (sc : Scope) (o : Otherwise) → NoneIn (else_faults sc o) → length sc.locals ≤ sc.limits.locals → length (after_else sc o).locals ≤ sc.limits.locals
+  else_few : (sc : Scope) (o : Otherwise) → NoneIn (else_faults sc o) → length sc.locals ≤ sc.limits.locals →
+      length (after_else sc o).locals ≤ sc.limits.locals
   else_few sc no_else none le = le
   else_few sc (else_do body close) none le = left_few sc (after_all sc body) sc.limits.locals (all_few sc body none le)
 
-  all_few : (sc : Scope) (ss : Stmts) → NoneIn (stmts_faults sc ss) → length sc.locals ≤ sc.limits.locals → length (after_all sc ss).locals ≤ sc.limits.locals
+  all_few : (sc : Scope) (ss : Stmts) → NoneIn (stmts_faults sc ss) → length sc.locals ≤ sc.limits.locals →
+      length (after_all sc ss).locals ≤ sc.limits.locals
   all_few sc no_stmts none le = le
   all_few sc (stmt s rest) none le =
       let a = stmt_faults sc s in
@@ -310,7 +341,8 @@ record FewIn (x : core.Section) : Type 0 where
   parameters : x.parameters ≤ PARAMETER_LIMIT
   locals : length x.locals ≤ LOCAL_LIMIT
 
-section_within : (decls : List Decl) → Clean decls → (whole : core.Program) → resolved decls ≡ Some whole → (k : ℕ) (x : core.Section) → slice_get whole.sections k ≡ Some x → FewIn x
+section_within : (decls : List Decl) → Clean decls → (whole : core.Program) → resolved decls ≡ Some whole →
+    (k : ℕ) (x : core.Section) → slice_get whole.sections k ≡ Some x → FewIn x
 section_within decls clean whole is k x e =
     let at = sections_of decls clean whole is k x e in
     let s = at.section in
@@ -332,7 +364,8 @@ section_within decls clean whole is k x e =
 -- ---- the whole
 
 module _ (decls : List Decl) (clean : Clean decls) (program : Typed) (is : resolved decls ≡ Some (core_of program)) where
-  struct_within : (s : ℕ) (x : the_struct.Struct) → slice_get program.structs.items s ≡ Some x → length x.locks.items + length x.finals.items + length x.fields.items ≤ 32
+  struct_within : (s : ℕ) (x : the_struct.Struct) → slice_get program.structs.items s ≡ Some x →
+      length x.locks.items + length x.finals.items + length x.fields.items ≤ 32
   struct_within s x at =
       let few = members_within decls clean (core_of program) is s (core_struct x) (get_map core_struct program.structs.items s x at) in
       let a = length-map x.locks.items core_lock in

@@ -2,13 +2,16 @@
 use Rattle.std.specs.Prelude.{List, [], ◌∷◌, map, option_map, string_bytes}
 use Rattle.core_lang.specs.declared.tree.Path as the_path
 use Rattle.core_lang.specs.declared.tree.Expr as e
-use Rattle.core_lang.specs.declared.tree.Expr.{Number, Null, Place, Global, Element', Member', Negate', Owned', Chain', Row_of-Operation, end_of-Operation, more_of-Operation}
+use Rattle.core_lang.specs.declared.tree.Expr.{Number, Null, Place, Global, Element', Member', Negate', Owned'}
+use Rattle.core_lang.specs.declared.tree.Expr.{Chain', Row_of-Operation, end_of-Operation, more_of-Operation}
 use Rattle.core_lang.specs.declared.tree.Operation as the_operation
 use Rattle.core_lang.specs.declared.tree.Condition as c
-use Rattle.core_lang.specs.declared.tree.Condition.{Compare, Not', And', Or', Row_of-Condition, end_of-Condition, more_of-Condition}
+use Rattle.core_lang.specs.declared.tree.Condition.{Compare, Not', And', Or', Row_of-Condition, end_of-Condition}
+use Rattle.core_lang.specs.declared.tree.Condition.{more_of-Condition}
 use Rattle.core_lang.specs.declared.tree.Stmt as s
 use Rattle.core_lang.specs.declared.tree.Action as a
-use Rattle.core_lang.specs.declared.tree.Action.{Bind, SetLocal, SetGlobal, SetElement, SetField, Call as CallOf, Print, If', IfElse', While', Row_of-Stmt, end_of-Stmt, more_of-Stmt}
+use Rattle.core_lang.specs.declared.tree.Action.{Bind, SetLocal, SetGlobal, SetElement, SetField, Call as CallOf}
+use Rattle.core_lang.specs.declared.tree.Action.{Print, If', IfElse', While', Row_of-Stmt, end_of-Stmt, more_of-Stmt}
 use Rattle.core_lang.specs.declared.tree.Return as the_return
 use Rattle.core_lang.specs.declared.tree.Local as the_local
 use Rattle.core_lang.specs.declared.tree.Section as the_section
@@ -25,7 +28,13 @@ use Rattle.core_lang.specs.declared.typed.GlobalVariable as the_global
 use Rattle.core_lang.specs.declared.typed.Call as the_call
 use Rattle.core_lang.specs.declared.typed.Thread as the_thread
 use Rattle.core_lang.specs.declared.typed.Typed.{Typed}
-use Rattle.resolution.specs.Core.{Path, Expr, number, null, place, global, element, member, negate, owned, chain, Operations, no_operations, operation, Condition, compare, negation, all_of, any_of, Conditions, no_conditions, condition, Action, bind, set_local, set_global, set_element, set_field, call, print, if_true, if_else, while_true, Stmts, no_stmts, stmt, Stmt, Return, Local, Section, LockClass, global_lock, lock_field, LockField, FinalField, Protection, Field, Struct, GlobalVariable, Array, Pool, Call, Thread, Program}
+use Rattle.resolution.specs.Core.{Path, Expr, number, null, place, global, element, member, negate, owned, chain}
+use Rattle.resolution.specs.Core.{Operations, no_operations, operation, Condition, compare, negation, all_of, any_of}
+use Rattle.resolution.specs.Core.{Conditions, no_conditions, condition, Action, bind, set_local, set_global}
+use Rattle.resolution.specs.Core.{set_element, set_field, call, print, if_true, if_else, while_true, Stmts, no_stmts}
+use Rattle.resolution.specs.Core.{stmt, Stmt, Return, Local, Section, LockClass, global_lock, lock_field, LockField}
+use Rattle.resolution.specs.Core.{FinalField, Protection, Field, Struct, GlobalVariable, Array, Pool, Call, Thread}
+use Rattle.resolution.specs.Core.{Program}
 
 abbrev pub core_path : the_path.Path → Path
 core_path p = record { start = p.start; local = p.local; fields = p.fields.items; in_parentheses = p.in_parentheses }

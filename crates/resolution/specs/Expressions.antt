@@ -1,5 +1,6 @@
 -- Expressions with each name replaced by the number of what it means, where they have a type.
-use Rattle.std.specs.Prelude.{ℕ, ℤ, pos, nat_le, min, Bool, true, false, List, [], ◌∷◌, ◌++◌, ◌==◌, Option, Some, None, if◌then◌else◌}
+use Rattle.std.specs.Prelude.{ℕ, ℤ, pos, nat_le, min, Bool, true, false, List, [], ◌∷◌, ◌++◌, ◌==◌, Option, Some}
+use Rattle.std.specs.Prelude.{None, if◌then◌else◌}
 use Rattle.source.specs.Texts.{NUMBER_LIMIT}
 use Rattle.source.specs.declared.token.Number.{Number}
 use Rattle.syntax.specs.declared.tree.Operator as syntax_operator
@@ -8,13 +9,16 @@ use Rattle.syntax.specs.declared.tree.Level.TheVariants.{Term, Sum, Conjunction,
 use Rattle.syntax.specs.declared.tree.Prefix.TheVariants.{Negate, Not}
 use Rattle.syntax.specs.declared.tree.Comparison as written
 use Rattle.syntax.specs.declared.tree.Comparison.TheVariants as sign
-use Rattle.syntax.specs.Trees.{Ident, ref_type, Place, lone, element, path, Expr, int, null, place, paren, prefix, chain, compare, Links, no_links, link, Decl, lock, struct, global, array, pool, init, atomic, helper, thread, Member, lock_member, final_member, field_member, Struct}
+use Rattle.syntax.specs.Trees.{Ident, ref_type, Place, lone, element, path, Expr, int, null, place, paren, prefix}
+use Rattle.syntax.specs.Trees.{chain, compare, Links, no_links, link, Decl, lock, struct, global, array, pool, init}
+use Rattle.syntax.specs.Trees.{atomic, helper, thread, Member, lock_member, final_member, field_member, Struct}
 use Rattle.core_lang.specs.declared.value.ValueType as core_type
 use Rattle.core_lang.specs.declared.value.ValueType.TheVariants.{Integer, Reference}
 use Rattle.core_lang.specs.declared.tree.Operator.{Operator}
 use Rattle.core_lang.specs.declared.tree.Operator.TheVariants.{Add, Sub, Mul, Div, Rem}
 use Rattle.core_lang.specs.declared.tree.Comparison.{Comparison}
-use Rattle.core_lang.specs.declared.tree.Comparison.TheVariants.{Equal, NotEqual, Less, LessOrEqual, Greater, GreaterOrEqual}
+use Rattle.core_lang.specs.declared.tree.Comparison.TheVariants.{Equal, NotEqual, Less, LessOrEqual, Greater}
+use Rattle.core_lang.specs.declared.tree.Comparison.TheVariants.{GreaterOrEqual}
 use Rattle.core_lang.specs.declared.tree.FieldStep.{FieldStep}
 use Rattle.core_lang.specs.declared.tree.FieldStep.TheVariants as step
 use Rattle.resolution.specs.declared.wanted.Sort.{Sort}
@@ -23,7 +27,8 @@ use Rattle.resolution.specs.declared.wanted.Want.{Want}
 use Rattle.resolution.specs.declared.wanted.Want.TheVariants.{Anything, Condition, Value}
 use Rattle.resolution.specs.Core as core
 use Rattle.resolution.specs.Limits.{MEMBER_LIMIT, CELL_LIMIT}
-use Rattle.resolution.specs.Scopes.{Scope, outside, Meaning, a_local, a_decl, nothing, meaning, number_at, the_struct, the_member, number_in, type_of, struct_named}
+use Rattle.resolution.specs.Scopes.{Scope, outside, Meaning, a_local, a_decl, nothing, meaning, number_at, the_struct}
+use Rattle.resolution.specs.Scopes.{the_member, number_in, type_of, struct_named}
 use Rattle.resolution.specs.Numbers.{cells_ahead}
 
 -- ---- what is given, and what is wanted

@@ -1,10 +1,15 @@
 -- Where each fault of names and types stands. A name whose declaration has a fault in its type causes none of its own (`has_type`,
 -- `member_has_type`), but as the name of a type or of a pool's struct: there two such names could silence each other.
-use Rattle.std.specs.Prelude.{◌≡◌, ℕ, ◌+◌, ◌≤◌, ◌<◌, List, [], ◌∷◌, ◌++◌, length, slice_get, Option, Some, None, true, false, string_bytes}
+use Rattle.std.specs.Prelude.{◌≡◌, ℕ, ◌+◌, ◌≤◌, ◌<◌, List, [], ◌∷◌, ◌++◌, length, slice_get, Option, Some, None, true}
+use Rattle.std.specs.Prelude.{false, string_bytes}
 use Rattle.source.specs.declared.span.Span.{Span}
 use Rattle.source.specs.Texts.{NUMBER_LIMIT}
 use Rattle.source.specs.declared.fault.Code.{Code}
-use Rattle.source.specs.declared.fault.Code.TheVariants.{NumberTooLarge, DeclaredTwice, UnknownName, WrongType, WrongArgumentCount, NotAssignable, NeitherFinalNorProtected, ProtectedByNoLock, ProtectedByPassesNonFinal, LimitExceeded, FinalWithoutOpeningValue, InitOutOfRangeOrRepeated, LockAsValue}
+use Rattle.source.specs.declared.fault.Code.TheVariants.{NumberTooLarge, DeclaredTwice, UnknownName, WrongType}
+use Rattle.source.specs.declared.fault.Code.TheVariants.{WrongArgumentCount, NotAssignable, NeitherFinalNorProtected}
+use Rattle.source.specs.declared.fault.Code.TheVariants.{ProtectedByNoLock, ProtectedByPassesNonFinal, LimitExceeded}
+use Rattle.source.specs.declared.fault.Code.TheVariants.{FinalWithoutOpeningValue, InitOutOfRangeOrRepeated}
+use Rattle.source.specs.declared.fault.Code.TheVariants.{LockAsValue}
 use Rattle.source.specs.declared.fault.Refusal.{Refusal}
 use Rattle.source.specs.declared.fault.Refusal.TheVariants as refusal
 use Rattle.source.specs.declared.token.Number.{Number}
@@ -14,7 +19,11 @@ use Rattle.syntax.specs.declared.tree.Level.TheVariants.{Term, Sum}
 use Rattle.syntax.specs.declared.tree.Comparison as written
 use Rattle.syntax.specs.declared.tree.Comparison.TheVariants as sign
 use Rattle.syntax.specs.Trees as tree
-use Rattle.syntax.specs.Trees.{Ident, ref_type, Const, int_const, negative, null_const, member_const, Place, lone, element, path, Expr, int, null, place, paren, prefix, chain, compare, Links, Owner, HelperCall, CalledLocal, let_owned, let_call, assign, Protection, Member, lock_member, final_member, field_member, Struct, Field, Final, Variable, Array, Pool, Init, Param, Section, Call, Decl, lock, struct, global, array, pool, init, atomic, helper, thread}
+use Rattle.syntax.specs.Trees.{Ident, ref_type, Const, int_const, negative, null_const, member_const, Place, lone}
+use Rattle.syntax.specs.Trees.{element, path, Expr, int, null, place, paren, prefix, chain, compare, Links, Owner}
+use Rattle.syntax.specs.Trees.{HelperCall, CalledLocal, let_owned, let_call, assign, Protection, Member, lock_member}
+use Rattle.syntax.specs.Trees.{final_member, field_member, Struct, Field, Final, Variable, Array, Pool, Init, Param}
+use Rattle.syntax.specs.Trees.{Section, Call, Decl, lock, struct, global, array, pool, init, atomic, helper, thread}
 use Rattle.core_lang.specs.declared.value.ValueType as core_type
 use Rattle.core_lang.specs.declared.value.ValueType.TheVariants.{Integer, Reference}
 use Rattle.core_lang.specs.declared.tree.FieldStep.{FieldStep}
@@ -24,10 +33,15 @@ use Rattle.resolution.specs.declared.wanted.Sort.{Sort}
 use Rattle.resolution.specs.declared.wanted.Sort.TheVariants as sort
 use Rattle.resolution.specs.declared.wanted.Want.{Want}
 use Rattle.resolution.specs.Core as core
-use Rattle.resolution.specs.Limits.{STRUCT_LIMIT, MEMBER_LIMIT, FINAL_LIMIT, CLASS_LIMIT, OBJECT_LIMIT, CELL_LIMIT, SECTION_LIMIT, THREAD_LIMIT, CALL_LIMIT}
-use Rattle.resolution.specs.Scopes.{Scope, Local, Meaning, a_local, a_decl, nothing, meaning, helper_meant, place_of, count, declared, bears, the_decl, alike, has_body, the_struct, member_name, member_bears, the_member, the_local, has_type, member_has_type, type_of, result_of, struct_named}
+use Rattle.resolution.specs.Limits.{STRUCT_LIMIT, MEMBER_LIMIT, FINAL_LIMIT, CLASS_LIMIT, OBJECT_LIMIT, CELL_LIMIT}
+use Rattle.resolution.specs.Limits.{SECTION_LIMIT, THREAD_LIMIT, CALL_LIMIT}
+use Rattle.resolution.specs.Scopes.{Scope, Local, Meaning, a_local, a_decl, nothing, meaning, helper_meant, place_of}
+use Rattle.resolution.specs.Scopes.{count, declared, bears, the_decl, alike, has_body, the_struct, member_name}
+use Rattle.resolution.specs.Scopes.{member_bears, the_member, the_local, has_type, member_has_type, type_of}
+use Rattle.resolution.specs.Scopes.{result_of, struct_named}
 use Rattle.resolution.specs.Numbers.{is_lock, total, classes_of, objects_of, cells_of, calls_of}
-use Rattle.resolution.specs.Expressions.{ResolvedExpr, value, truth, fits, fits_type, fits_sort, alike_sorts, typed, operator_of, Walk, reached, at_lock, walk_from}
+use Rattle.resolution.specs.Expressions.{ResolvedExpr, value, truth, fits, fits_type, fits_sort, alike_sorts, typed}
+use Rattle.resolution.specs.Expressions.{operator_of, Walk, reached, at_lock, walk_from}
 use Rattle.resolution.specs.declared.owner_field.OwnerField.{OwnerField}
 use Rattle.resolution.specs.Owners.{owner_field}
 use Rattle.resolution.specs.Statements.{is_var, last_field, first_name}
@@ -35,7 +49,8 @@ use Rattle.resolution.specs.Constants.{const_sort, members_of, pool_members, ini
 use Rattle.resolution.specs.Annotations.{AnnotationCursor, through_member, cursor_at}
 use Rattle.core_lang_calls.specs.Faults.{IsGraphFault}
 use Rattle.resolution.specs.CallGraphs.{tree_graph}
-use Rattle.resolution.specs.Where.{Has, HasLink, HasBody, HasStmt, HasHelperCall, HasExpr, HasPlace, Binds, HasType, NamesOwner, HasCall, HasConst, HasLock, Annotates}
+use Rattle.resolution.specs.Where.{Has, HasLink, HasBody, HasStmt, HasHelperCall, HasExpr, HasPlace, Binds, HasType}
+use Rattle.resolution.specs.Where.{NamesOwner, HasCall, HasConst, HasLock, Annotates}
 
 -- ---- where expressions and constants start
 

@@ -18,4 +18,6 @@ pub mod Theory
 -- what the public clauses cite
 pub use Rattle.resolution.specs.Resolved.{Resolves}
 pub use Rattle.resolution.specs.Faults.{IsFault, IsRefusal, HasNoFault}
-pub use Rattle.resolution.specs.Working.Laws.{TheLeastIsAFault, NoneGoesBeforeTheLeast, NoLeastIsNoFault, HaveAtMostOneLeast, FaultlessAreResolved, GraphOfResolved, ResolvedAreChecked, DeclaresNoHelper, WithoutHelpersAreWellFormed}
+pub use Rattle.resolution.specs.Working.Laws.{TheLeastIsAFault, NoneGoesBeforeTheLeast, NoLeastIsNoFault}
+pub use Rattle.resolution.specs.Working.Laws.{HaveAtMostOneLeast, FaultlessAreResolved, GraphOfResolved}
+pub use Rattle.resolution.specs.Working.Laws.{ResolvedAreChecked, DeclaresNoHelper, WithoutHelpersAreWellFormed}

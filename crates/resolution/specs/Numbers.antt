@@ -1,6 +1,7 @@
 -- Where declarations have their lock classes, objects and cells.
 use Rattle.std.specs.Prelude.{ℕ, ◌+◌, ◌*◌, List, [], ◌∷◌, ◌++◌, take, Option, Some, None, Bool, true, false}
-use Rattle.syntax.specs.Trees.{Decl, lock, struct, global, array, pool, thread, Member, lock_member, field_member, Item, call, repeat, Items, no_items, item}
+use Rattle.syntax.specs.Trees.{Decl, lock, struct, global, array, pool, thread, Member, lock_member, field_member}
+use Rattle.syntax.specs.Trees.{Item, call, repeat, Items, no_items, item}
 use Rattle.resolution.specs.Scopes.{place_of, count, the_decl, member_name, member_bears}
 
 abbrev pub is_lock : Member → Bool

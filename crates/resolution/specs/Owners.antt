@@ -8,7 +8,8 @@ use Rattle.resolution.specs.declared.wanted.Sort.TheVariants as sort
 use Rattle.resolution.specs.Core as core
 use Rattle.source.specs.Texts.{SOURCE_LIMIT}
 use Rattle.resolution.specs.Limits.{STRUCT_LIMIT, up_to}
-use Rattle.resolution.specs.Scopes.{◌>>=◌, Scope, outside, Meaning, a_local, a_decl, nothing, meaning, the_struct, the_member, type_of}
+use Rattle.resolution.specs.Scopes.{◌>>=◌, Scope, outside, Meaning, a_local, a_decl, nothing, meaning, the_struct}
+use Rattle.resolution.specs.Scopes.{the_member, type_of}
 use Rattle.resolution.specs.Expressions.{fits_type, member_number}
 
 -- a final reference of the struct k, if its type has no fault

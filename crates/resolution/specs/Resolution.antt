@@ -1,6 +1,9 @@
 -- The program that a tree stands for.
-use Rattle.std.specs.Prelude.{ℕ, zero, suc, ◌+◌, nat_le, Bool, List, [], ◌∷◌, ◌++◌, length, Option, Some, None, if◌then◌else◌}
-use Rattle.syntax.specs.Trees.{ValueType, Const, Variable, Array, Section, Item, call, repeat, Items, no_items, item, Member, lock_member, final_member, field_member, Decl, lock, struct, global, array, pool, init, atomic, helper, thread}
+use Rattle.std.specs.Prelude.{ℕ, zero, suc, ◌+◌, nat_le, Bool, List, [], ◌∷◌, ◌++◌, length, Option, Some, None}
+use Rattle.std.specs.Prelude.{if◌then◌else◌}
+use Rattle.syntax.specs.Trees.{ValueType, Const, Variable, Array, Section, Item, call, repeat, Items, no_items, item}
+use Rattle.syntax.specs.Trees.{Member, lock_member, final_member, field_member, Decl, lock, struct, global, array}
+use Rattle.syntax.specs.Trees.{pool, init, atomic, helper, thread}
 use Rattle.core_lang.specs.declared.value.Value.{Value}
 use Rattle.core_lang.specs.declared.value.ValueType as core_type
 use Rattle.core_lang.specs.declared.typed.Owner.{Owner}
@@ -8,7 +11,8 @@ use Rattle.core_lang.specs.declared.typed.Owner.TheVariants as owner
 use Rattle.resolution.specs.Core as core
 use Rattle.resolution.specs.declared.body_limits.BodyLimits.{BodyLimits}
 use Rattle.resolution.specs.Limits.{CALL_LIMIT, section_limits, helper_limits, object_at, cell_at, final_at}
-use Rattle.resolution.specs.Scopes.{◌>>=◌, Scope, Local, outside, the_decl, number_at, type_of, result_of, struct_named, entered}
+use Rattle.resolution.specs.Scopes.{◌>>=◌, Scope, Local, outside, the_decl, number_at, type_of, result_of}
+use Rattle.resolution.specs.Scopes.{struct_named, entered}
 use Rattle.resolution.specs.Numbers.{total, calls_of}
 use Rattle.resolution.specs.Statements.{Body, typed_body, after_all}
 use Rattle.resolution.specs.Constants.{added, typed_arguments, members_of, given, default_of, opened, referred}
@@ -33,7 +37,8 @@ core_locals [] = Some []
 core_locals (l ∷ ls) = added (core_local l) (core_locals ls)
 
 -- a section or a helper that has a result has a `return` at its end, and no other one has one
-abbrev pub section_with : List Decl → Section → List core.Local → core.Stmts → Option ValueType → Option core.Return → Option core.Section
+abbrev pub section_with : List Decl → Section → List core.Local → core.Stmts → Option ValueType → Option core.Return →
+    Option core.Section
 section_with decls s locals body None None =
     Some (record { name = s.name.text; parameters = length s.params; locals = locals; result_type = None; body = body; result = None })
 section_with decls s locals body (Some t) (Some r) =
@@ -111,7 +116,8 @@ abbrev pub final_added : StructBuilder → List ℕ → Option ℕ → Option St
 final_added st name (Some target) = Some (record st { structure = record (st.structure) { finals = st.structure.finals ++ record { name = name; target = target } ∷ [] } })
 final_added st name None = None
 
-abbrev pub field_added : StructBuilder → List ℕ → Option core_type.ValueType → Option core.Protection → Option StructBuilder
+abbrev pub field_added : StructBuilder → List ℕ → Option core_type.ValueType → Option core.Protection →
+    Option StructBuilder
 field_added st name (Some t) (Some p) = Some (record st { structure = record (st.structure) { fields = st.structure.fields ++ record { name = name; value_type = t; protection = p } ∷ [] } })
 field_added st name (Some t) None = None
 field_added st name None p = None
@@ -162,7 +168,8 @@ with_thread p name None = None
 abbrev pub global_added : core.Program → List ℕ → ℕ → ℕ → core_type.ValueType → Value → core.Program
 global_added p name cell class t v = with_cell (record p { globals = p.globals ++ record { name = name; cell = cell; class = class } ∷ [] }) (owner.Global (length p.globals)) t v
 
-abbrev pub with_global : core.Program → List ℕ → Option ℕ → Option core_type.ValueType → Option Value → Option core.Program
+abbrev pub with_global : core.Program → List ℕ → Option ℕ → Option core_type.ValueType → Option Value →
+    Option core.Program
 with_global p name (Some class) (Some t) (Some v) = cell_at (length p.cells) >>= λ cell. Some (global_added p name cell class t v)
 with_global p name (Some class) (Some t) None = None
 with_global p name (Some class) None v = None

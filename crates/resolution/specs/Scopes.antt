@@ -1,7 +1,10 @@
 -- What names mean.
-use Rattle.std.specs.Prelude.{ℕ, zero, suc, List, [], ◌∷◌, ◌++◌, take, length, Option, Some, None, is_some, Bool, true, false, slice_get, if◌then◌else◌}
+use Rattle.std.specs.Prelude.{ℕ, zero, suc, List, [], ◌∷◌, ◌++◌, take, length, Option, Some, None, is_some, Bool}
+use Rattle.std.specs.Prelude.{true, false, slice_get, if◌then◌else◌}
 use Rattle.std.specs.Str.{bytes_eq}
-use Rattle.syntax.specs.Trees.{Ident, Decl, lock, struct, global, array, pool, init, atomic, helper, thread, ValueType, int_type, ref_type, Member, lock_member, final_member, field_member, Struct, Param, Section}
+use Rattle.syntax.specs.Trees.{Ident, Decl, lock, struct, global, array, pool, init, atomic, helper, thread}
+use Rattle.syntax.specs.Trees.{ValueType, int_type, ref_type, Member, lock_member, final_member, field_member, Struct}
+use Rattle.syntax.specs.Trees.{Param, Section}
 use Rattle.core_lang.specs.declared.value.ValueType as core_type
 use Rattle.core_lang.specs.declared.value.ValueType.TheVariants.{Integer, Reference}
 use Rattle.core_lang.specs.declared.tree.LocalKind.{LocalKind}

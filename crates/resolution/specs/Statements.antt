@@ -1,6 +1,9 @@
 -- Statements with each name replaced by the number of what it means, where everything in them has a type.
 use Rattle.std.specs.Prelude.{ℕ, Bool, true, false, List, [], ◌∷◌, length, Option, Some, None, if◌then◌else◌}
-use Rattle.syntax.specs.Trees.{Ident, Place, lone, element, path, Expr, Local, Owner, HelperCall, CalledLocal, Stmt, let_local, let_owned, let_call, var_local, assign, if_then, while, print, return_value, call, Stmts, no_stmts, stmt, Otherwise, no_else, else_do, Param, Section, Decl, lock, struct, global, array, pool, init, atomic, helper, thread}
+use Rattle.syntax.specs.Trees.{Ident, Place, lone, element, path, Expr, Local, Owner, HelperCall, CalledLocal, Stmt}
+use Rattle.syntax.specs.Trees.{let_local, let_owned, let_call, var_local, assign, if_then, while, print, return_value}
+use Rattle.syntax.specs.Trees.{call, Stmts, no_stmts, stmt, Otherwise, no_else, else_do, Param, Section, Decl, lock}
+use Rattle.syntax.specs.Trees.{struct, global, array, pool, init, atomic, helper, thread}
 use Rattle.core_lang.specs.declared.value.ValueType as core_type
 use Rattle.core_lang.specs.declared.tree.FieldStep.{FieldStep}
 use Rattle.core_lang.specs.declared.tree.FieldStep.TheVariants as step
@@ -9,8 +12,10 @@ use Rattle.core_lang.specs.declared.tree.LocalKind.TheVariants.{Parameter, Let, 
 use Rattle.resolution.specs.declared.wanted.Want.{Want}
 use Rattle.resolution.specs.declared.wanted.Want.TheVariants.{Anything, Value}
 use Rattle.resolution.specs.Core as core
-use Rattle.resolution.specs.Scopes.{◌>>=◌, Scope, outside, Meaning, a_local, a_decl, nothing, meaning, helper_meant, number_at, type_of, result_of, bound, left}
-use Rattle.resolution.specs.Expressions.{want, fitting, as_value, number_resolved, test_resolved, typed, Walk, reached, at_lock, lost, walk_from, local_path, cell_of}
+use Rattle.resolution.specs.Scopes.{◌>>=◌, Scope, outside, Meaning, a_local, a_decl, nothing, meaning, helper_meant}
+use Rattle.resolution.specs.Scopes.{number_at, type_of, result_of, bound, left}
+use Rattle.resolution.specs.Expressions.{want, fitting, as_value, number_resolved, test_resolved, typed, Walk}
+use Rattle.resolution.specs.Expressions.{reached, at_lock, lost, walk_from, local_path, cell_of}
 use Rattle.resolution.specs.Owners.{is_of, owned_by}
 use Rattle.resolution.specs.Constants.{added, want_of}
 

@@ -9,7 +9,12 @@ use Rattle.syntax.specs.declared.tree.Prefix.{Prefix}
 use Rattle.syntax.specs.declared.tree.Prefix.TheVariants.{Negate, Not}
 use Rattle.syntax.specs.declared.tree.Comparison as written
 use Rattle.syntax.specs.declared.tree.Comparison.TheVariants as sign
-use Rattle.syntax.specs.Trees.{Ident, ValueType, ref_type, Const, Place, element, Expr, place, paren, prefix, chain, compare, Links, link, Local, Owner, HelperCall, CalledLocal, Stmt, let_local, let_owned, let_call, var_local, assign, if_then, while, print, return_value, Stmts, stmt, Otherwise, else_do, Protection, Final, Field, Member, final_member, field_member, Struct, Variable, Array, Pool, Init, Param, Section, Call, Item, call, repeat, Items, item, Thread, Decl, struct, global, array, pool, init, atomic, helper, thread}
+use Rattle.syntax.specs.Trees.{Ident, ValueType, ref_type, Const, Place, element, Expr, place, paren, prefix, chain}
+use Rattle.syntax.specs.Trees.{compare, Links, link, Local, Owner, HelperCall, CalledLocal, Stmt, let_local}
+use Rattle.syntax.specs.Trees.{let_owned, let_call, var_local, assign, if_then, while, print, return_value, Stmts}
+use Rattle.syntax.specs.Trees.{stmt, Otherwise, else_do, Protection, Final, Field, Member, final_member, field_member}
+use Rattle.syntax.specs.Trees.{Struct, Variable, Array, Pool, Init, Param, Section, Call, Item, call, repeat, Items}
+use Rattle.syntax.specs.Trees.{item, Thread, Decl, struct, global, array, pool, init, atomic, helper, thread}
 use Rattle.core_lang.specs.declared.value.ValueType.TheVariants.{Integer, Reference}
 use Rattle.resolution.specs.declared.wanted.Want.{Want}
 use Rattle.resolution.specs.declared.wanted.Want.TheVariants.{Anything, Condition, Value}
@@ -110,7 +115,8 @@ pub data Asks : Scope → Stmt → Want → Expr → Type 0 where
       Asks sc (while start e body close) Condition e
   of_print : {sc : Scope} {start : Span} {e : Expr} → Asks sc (print start e) (Value Integer) e
   of_return : {sc : Scope} {start : Span} {e : Expr} → Asks sc (return_value start e) (want sc.result) e
-  of_call_alone : {sc : Scope} {start : Span} {c : HelperCall} {w : Want} {e : Expr} → Passes sc c w e → Asks sc (call start c) w e
+  of_call_alone : {sc : Scope} {start : Span} {c : HelperCall} {w : Want} {e : Expr} → Passes sc c w e →
+      Asks sc (call start c) w e
 
 -- a section or a helper of the program, with how many parameters and locals it may have
 pub data HasBody (decls : List Decl) : BodyLimits → Section → Type 0 where
@@ -162,7 +168,8 @@ pub data HasType (decls : List Decl) : Scope → ValueType → Type 0 where
   of_result : {limits : BodyLimits} {x : Section} {t : ValueType} →
       HasBody decls limits x → x.result ≡ Some t → HasType decls (outside decls) t
   of_a_let : {sc : Scope} {l : Local} → HasStmt decls sc (let_local l) → HasType decls sc l.value_type
-  of_an_owned_let : {sc : Scope} {l : Local} {o : Owner} → HasStmt decls sc (let_owned l o) → HasType decls sc l.value_type
+  of_an_owned_let : {sc : Scope} {l : Local} {o : Owner} → HasStmt decls sc (let_owned l o) →
+      HasType decls sc l.value_type
   of_a_called_let : {sc : Scope} {l : CalledLocal} → HasStmt decls sc (let_call l) → HasType decls sc l.value_type
   of_a_var : {sc : Scope} {l : Local} → HasStmt decls sc (var_local l) → HasType decls sc l.value_type
 

@@ -1,5 +1,7 @@
 -- How a rope grows.
-use Rattle.std.proofs.Common.{◌≡◌, ℕ, zero, suc, ◌-◌, ◌<◌, ◌≤◌, List, [], ◌∷◌, ◌++◌, length, map, take, drop, refl, sym, ap, ◌∙◌, arith, append_assoc, if◌then◌else◌, Bool, true, false, Result, Ok, Err, Vec, Global}
+use Rattle.std.proofs.Common.{◌≡◌, ℕ, zero, suc, ◌-◌, ◌<◌, ◌≤◌, List, [], ◌∷◌, ◌++◌, length, map, take, drop, refl}
+use Rattle.std.proofs.Common.{sym, ap, ◌∙◌, arith, append_assoc, if◌then◌else◌, Bool, true, false, Result, Ok, Err}
+use Rattle.std.proofs.Common.{Vec, Global}
 use Rattle.std.specs.Prelude.{OnOk, is_ok}
 use Rattle.std.specs.Prelude.{string_bytes, String}
 use Rattle.std.specs.List.{All, flat_map}
@@ -20,7 +22,8 @@ first P x xs all = all 0 x (omega arith)
 
 -- ---- more of its own
 
-pub still_in : (bytes more groups : ℕ) (xs : List Insert) → bytes ≤ more → All (IsIn bytes groups) xs → All (IsIn more groups) xs
+pub still_in : (bytes more groups : ℕ) (xs : List Insert) → bytes ≤ more → All (IsIn bytes groups) xs →
+    All (IsIn more groups) xs
 still_in bytes more groups xs le all k d lt =
     let is = all k d lt in
     let at = is.at in
@@ -36,13 +39,15 @@ module _ (own more : List ℕ) (groups : List (List (List ℕ))) where
       (ap (take (x.at - x.from)) (drop-append-le x.from own more (omega (arith, from, at)))
       ∙ take-append-le (x.at - x.from) (drop x.from own) more (omega (arith, long, from, at)))
 
-  pieces_stay : (count : ℕ) (xs : List Insert) → All (IsIn (length own) count) xs → map (piece (own ++ more) groups) xs ≡ map (piece own groups) xs
+  pieces_stay : (count : ℕ) (xs : List Insert) → All (IsIn (length own) count) xs →
+      map (piece (own ++ more) groups) xs ≡ map (piece own groups) xs
   pieces_stay count [] all = refl
   pieces_stay count (x ∷ xs) all =
       ap (λ p. p ∷ map (piece (own ++ more) groups) xs) (piece_stays count x (first (IsIn (length own) count) x xs all))
       ∙ ap (λ ps. piece own groups x ∷ ps) (pieces_stay count xs (later (IsIn (length own) count) x xs all))
 
-  pub own_grown : (count : ℕ) (grown : List ℕ) (xs : List Insert) (last : ℕ) → All (IsIn (length own) count) xs → last ≤ length own →
+  pub own_grown : (count : ℕ) (grown : List ℕ) (xs : List Insert) (last : ℕ) → All (IsIn (length own) count) xs →
+      last ≤ length own →
       grown ≡ own ++ more → rope_text (made grown groups xs last) ≡ rope_text (made own groups xs last) ++ more
   own_grown count grown xs last all within is =
       ap (λ (bytes : List ℕ). rope_text (made bytes groups xs last)) is
@@ -91,7 +96,8 @@ pub part_added : (own : List ℕ) (groups : List (List (List ℕ))) (x : Insert)
 part_added own groups x xs grown rope at_end is more =
     (part_grown own groups x at_end xs grown more ∙ ap (λ v. rope_text v ++ part_of groups x.group x.number) is, ap (λ v. v.groups) is)
 
-pub in_more : (bytes groups : ℕ) (x : Insert) (xs grown : List Insert) → IsIn bytes groups x → All (IsIn bytes groups) xs → grown ≡ xs ++ x ∷ [] →
+pub in_more : (bytes groups : ℕ) (x : Insert) (xs grown : List Insert) → IsIn bytes groups x →
+    All (IsIn bytes groups) xs → grown ≡ xs ++ x ∷ [] →
     All (IsIn bytes groups) grown
 in_more bytes groups x xs grown is all e = rw e (more xs all)
   where
@@ -130,7 +136,8 @@ kept_same true own bytes groups grown parts xs last is all =
     (groups_grown own bytes (length groups) (groups_of groups) (texts parts) xs (sym (length-map groups texts)) all)
 kept_same false own bytes groups grown parts xs last is all = ap (λ gs. rope_text (made own (groups_of gs) xs last)) is
 
-pub still_of : (bytes groups more : ℕ) (xs : List Insert) → groups ≤ more → All (IsIn bytes groups) xs → All (IsIn bytes more) xs
+pub still_of : (bytes groups more : ℕ) (xs : List Insert) → groups ≤ more → All (IsIn bytes groups) xs →
+    All (IsIn bytes more) xs
 still_of bytes groups more xs le all k d lt =
     let is = all k d lt in
     let group = is.group in

@@ -10,7 +10,8 @@ below_next P (suc n) below last (suc k) lt =
     below_next (λ (j : ℕ). P (suc j)) n (λ j l. below (suc j) (omega (arith, l))) last k (omega (arith, lt))
 
 -- a section that has come so far does one more, and then its next step is none
-pub ran_on : (most done : ℕ) (o now last : OpenOf) → done < most → now ≡ moved_by done o → ((k : ℕ) → k < done → IsRunning (moved_by k o)) →
+pub ran_on : (most done : ℕ) (o now last : OpenOf) → done < most → now ≡ moved_by done o →
+    ((k : ℕ) → k < done → IsRunning (moved_by k o)) →
     IsRunning now → last ≡ moved now → (IsRunning last → ⊥) → Ran most o (done + 1) last
 ran_on most done o now last lt is running runs next stops =
     let number : suc done ≡ done + 1 = omega arith in
@@ -22,7 +23,8 @@ ran_on most done o now last lt is running runs next stops =
     }
 
 -- it has done as many as it may
-pub ran_all : (most done : ℕ) (o now : OpenOf) → done ≤ most → most ≤ done → now ≡ moved_by done o → ((k : ℕ) → k < done → IsRunning (moved_by k o)) →
+pub ran_all : (most done : ℕ) (o now : OpenOf) → done ≤ most → most ≤ done → now ≡ moved_by done o →
+    ((k : ℕ) → k < done → IsRunning (moved_by k o)) →
     Ran most o most now
 ran_all most done o now le ge is running =
     let all : done ≡ most = omega (arith, le, ge) in
@@ -34,7 +36,8 @@ ran_all most done o now le ge is running =
     }
 
 -- a section that has come so far goes on running with one more
-pub one_more_runs : (done : ℕ) (o now last : OpenOf) → now ≡ moved_by done o → ((k : ℕ) → k < done → IsRunning (moved_by k o)) → IsRunning now →
+pub one_more_runs : (done : ℕ) (o now last : OpenOf) → now ≡ moved_by done o →
+    ((k : ℕ) → k < done → IsRunning (moved_by k o)) → IsRunning now →
     last ≡ moved now → IsRunning last → (last ≡ moved_by (done + 1) o) × ((k : ℕ) → k < done + 1 → IsRunning (moved_by k o)) × IsRunning last
 one_more_runs done o now last is running runs next still =
     let number : suc done ≡ done + 1 = omega arith in (

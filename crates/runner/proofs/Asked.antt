@@ -1,4 +1,5 @@
-use Rattle.std.specs.Prelude.{◌≡◌, ◌+◌, ◌<◌, ◌≤◌, ℕ, zero, suc, ◌-◌, get_or, Bool, true, false, if◌then◌else◌, List, [], ◌∷◌, length, drop, map, slice_get, Option, Some, None}
+use Rattle.std.specs.Prelude.{◌≡◌, ◌+◌, ◌<◌, ◌≤◌, ℕ, zero, suc, ◌-◌, get_or, Bool, true, false, if◌then◌else◌, List}
+use Rattle.std.specs.Prelude.{[], ◌∷◌, length, drop, map, slice_get, Option, Some, None}
 use Rattle.std.specs.Option.{option_map, option_map_or}
 use Rattle.std.proofs.Common.{refl, sym, ap, ◌∙◌, subst, arith}
 use Rattle.std.proofs.lemmas.Option.{slice_get-map, slice_get_within}
@@ -34,11 +35,13 @@ not_there (x ∷ xs) (y ∷ ys) zero e n = absurd (cc)
 not_there (x ∷ xs) (y ∷ ys) (suc i) e n = not_there xs ys i (omega arith) n
 
 -- and where it has something, so has the other
-pub also_there : {X Y : Type 0} (xs : List X) (ys : List Y) (i : ℕ) (x : X) → length xs ≡ length ys → slice_get xs i ≡ Some x →
+pub also_there : {X Y : Type 0} (xs : List X) (ys : List Y) (i : ℕ) (x : X) → length xs ≡ length ys →
+    slice_get xs i ≡ Some x →
     (y : Y) × (slice_get ys i ≡ Some y)
 also_there xs ys i x e at = there ys i (omega (arith, slice_get_within xs i x at))
 
-lookup-map : {A B C : Type 0} (f : A → B) (o : Option A) (go : B → Option C) → lookup (option_map f o) go ≡ lookup o (λ x. go (f x))
+lookup-map : {A B C : Type 0} (f : A → B) (o : Option A) (go : B → Option C) →
+    lookup (option_map f o) go ≡ lookup o (λ x. go (f x))
 lookup-map f (Some a) go = refl
 lookup-map f None go = refl
 
@@ -49,7 +52,8 @@ no_section plan k locals i found are none =
     ap (λ (o : Option Section). lookup o (λ (section : Section). lock_numbered plan.program section locals i)) e
 
 -- the lock is that of the path at the number
-pub lock_found : (plan : Plan) (k : ℕ) (locals : List Value) (i : ℕ) (found : Paths) (x : SectionPaths) → ArePaths plan.program found →
+pub lock_found : (plan : Plan) (k : ℕ) (locals : List Value) (i : ℕ) (found : Paths) (x : SectionPaths) →
+    ArePaths plan.program found →
     slice_get found.sections.items k ≡ Some x →
     lock_at plan k locals i
     ≡ lookup (slice_get x.paths.items i) (λ (path : written.LockPath). lock_named (lock_path_of path) plan.program.shape locals)
@@ -62,7 +66,8 @@ lock_found plan k locals i found x are at =
     ∙ ap (λ (o : Option LockPath). lookup o go) (slice_get-map lock_path_of x.paths.items i)
     ∙ lookup-map lock_path_of (slice_get x.paths.items i) go
 
-pub no_path : (plan : Plan) (k : ℕ) (locals : List Value) (i : ℕ) (found : Paths) (x : SectionPaths) → ArePaths plan.program found →
+pub no_path : (plan : Plan) (k : ℕ) (locals : List Value) (i : ℕ) (found : Paths) (x : SectionPaths) →
+    ArePaths plan.program found →
     slice_get found.sections.items k ≡ Some x → slice_get x.paths.items i ≡ None → lock_at plan k locals i ≡ None
 no_path plan k locals i found x are at none =
     lock_found plan k locals i found x are at
@@ -117,7 +122,8 @@ insert_grows ranks lock (next ∷ rest) =
     (if precedes ranks lock next then lock ∷ next ∷ rest else next ∷ insert ranks lock rest) (length (next ∷ rest)) (omega arith)
     (longer_if (precedes ranks lock next) (lock ∷ next ∷ rest) (next ∷ insert ranks lock rest) (length (next ∷ rest)) (omega arith) (omega arith))
 
-new_grows : (ranks : List ℕ) (held : List Lock) (o : Option Lock) (locks : List Lock) → length locks ≤ length (insert_new ranks held o locks)
+new_grows : (ranks : List ℕ) (held : List Lock) (o : Option Lock) (locks : List Lock) →
+    length locks ≤ length (insert_new ranks held o locks)
 new_grows ranks held None locks = omega arith
 new_grows ranks held (Some lock) locks =
     longer_if (among held lock) locks (insert ranks lock locks) (length locks) (omega arith) (insert_grows ranks lock locks)
@@ -146,6 +152,7 @@ has_room plan k held locals list left some le =
 
 -- ---- the list before a point
 
-pub listed_at : {A : Type 0} (f : A → List (List ℕ)) (xs : List A) (all : List (List (List ℕ))) (k : ℕ) → map f xs ≡ all →
+pub listed_at : {A : Type 0} (f : A → List (List ℕ)) (xs : List A) (all : List (List (List ℕ))) (k : ℕ) →
+    map f xs ≡ all →
     slice_get all k ≡ option_map f (slice_get xs k)
 listed_at f xs all k e = sym (ap (λ (ls : List (List (List ℕ))). slice_get ls k) e) ∙ slice_get-map f xs k

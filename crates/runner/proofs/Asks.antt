@@ -1,4 +1,5 @@
-use Rattle.std.specs.Prelude.{◌≡◌, ◌≢◌, ◌+◌, ◌<◌, ◌≤◌, ℕ, zero, suc, Bool, true, false, nat_eq, if◌then◌else◌, List, [], ◌∷◌, ◌++◌, length, drop, get_or, slice_get, Option, Some}
+use Rattle.std.specs.Prelude.{◌≡◌, ◌≢◌, ◌+◌, ◌<◌, ◌≤◌, ℕ, zero, suc, Bool, true, false, nat_eq, if◌then◌else◌, List}
+use Rattle.std.specs.Prelude.{[], ◌∷◌, ◌++◌, length, drop, get_or, slice_get, Option, Some}
 use Rattle.std.specs.List.{Contains, sum_by}
 use Rattle.std.proofs.Common.{refl, sym, ap, ◌∙◌, subst, arith, eqb-true, length-append}
 use Rattle.std.proofs.lemmas.List.Elements.{Contains-append_right, Contains-get_or}
@@ -59,7 +60,8 @@ same_first : (b : Bool) (lock other : Lock) (rest : List Lock) → first_if b (l
 same_first true lock other rest e = cc
 same_first false lock other rest e = absurd (cc)
 
-pub may_ask : (m : Managed) (o : OpenOf) (lock : Lock) (rest : List Lock) → SectionsStayInOrder → IsKnown m o → IsAsking o lock rest →
+pub may_ask : (m : Managed) (o : OpenOf) (lock : Lock) (rest : List Lock) → SectionsStayInOrder → IsKnown m o →
+    IsAsking o lock rest →
     CanAsk m (ticket_of o) lock
 may_ask m o lock rest laws known a =
     let act = o.activation in
@@ -77,13 +79,15 @@ may_ask m o lock rest laws known a =
 
 -- ---- the cells that it is granted
 
-pub have_length : (shape : Shape) (ts : List ValueType) (vs : List Value) → HaveTypes shape ts vs → length vs ≡ length ts
+pub have_length : (shape : Shape) (ts : List ValueType) (vs : List Value) → HaveTypes shape ts vs →
+    length vs ≡ length ts
 have_length shape [] [] h = refl
 have_length shape [] (v ∷ vs) h = absurd h
 have_length shape (t ∷ ts) [] h = absurd h
 have_length shape (t ∷ ts) (v ∷ vs) h = ap suc (have_length shape ts vs h.1)
 
-typed_at : (shape : Shape) (ts : List ValueType) (vs : List Value) (i : ℕ) (v : Value) → HaveTypes shape ts vs → slice_get vs i ≡ Some v →
+typed_at : (shape : Shape) (ts : List ValueType) (vs : List Value) (i : ℕ) (v : Value) → HaveTypes shape ts vs →
+    slice_get vs i ≡ Some v →
     (t : ValueType) × (slice_get ts i ≡ Some t) × HasType shape t v
 typed_at shape [] [] i v h e = absurd (cc)
 typed_at shape [] (w ∷ vs) i v h e = absurd h
@@ -91,14 +95,16 @@ typed_at shape (t ∷ ts) [] i v h e = absurd h
 typed_at shape (t ∷ ts) (w ∷ vs) zero v h e = (t, refl, subst (λ (x : Value). HasType shape t x) (let s : w ≡ v = cc in s) h.0)
 typed_at shape (t ∷ ts) (w ∷ vs) (suc i) v h e = typed_at shape ts vs i v h.1 e
 
-agreed_by : (b : Bool) (heap : List Value) (x : ℕ × Value) (rest : Option Value) (cell : ℕ) (v : Value) → nat_eq x.0 cell ≡ b →
+agreed_by : (b : Bool) (heap : List Value) (x : ℕ × Value) (rest : Option Value) (cell : ℕ) (v : Value) →
+    nat_eq x.0 cell ≡ b →
     slice_get heap x.0 ≡ Some x.1 → (rest ≡ Some v → slice_get heap cell ≡ Some v) →
     (if b then Some x.1 else rest) ≡ Some v → slice_get heap cell ≡ Some v
 agreed_by true heap x rest cell v e here ih is =
     ap (slice_get heap) (sym (eqb-true x.0 cell e)) ∙ here ∙ is
 agreed_by false heap x rest cell v e here ih is = ih is
 
-agreed_at : (heap : List Value) (xs : List (ℕ × Value)) (cell : ℕ) (v : Value) → Agrees heap xs → value_at xs cell ≡ Some v →
+agreed_at : (heap : List Value) (xs : List (ℕ × Value)) (cell : ℕ) (v : Value) → Agrees heap xs →
+    value_at xs cell ≡ Some v →
     slice_get heap cell ≡ Some v
 agreed_at heap [] cell v agrees is = absurd (cc)
 agreed_at heap (x ∷ xs) cell v agrees is =
@@ -109,7 +115,8 @@ pub record AreLent (o : OpenOf) (lock : Lock) (values : List Value) : Type 0 whe
   pub whole : length values ≡ length (cells_of o.plan.layout.cell_locks lock)
   pub cells : AreCellsOf o.plan lock (numbered (cells_of o.plan.layout.cell_locks lock) values)
 
-lent_as : (o : OpenOf) (lock : Lock) (heap values : List Value) → IsOpen o → ValuesAreWhole → ValuesAgree → HasItsCells →
+lent_as : (o : OpenOf) (lock : Lock) (heap values : List Value) → IsOpen o → ValuesAreWhole → ValuesAgree →
+    HasItsCells →
     IsHeap o.plan.program heap → values ≡ values_on heap (cells_of o.plan.layout.cell_locks lock) → AreLent o lock values
 lent_as o lock heap values is_open are_whole agree its typed are =
     let locks = o.plan.layout.cell_locks in
@@ -131,7 +138,8 @@ lent_as o lock heap values is_open are_whole agree its typed are =
       };
     }
 
-pub are_lent : (m : Managed) (o : OpenOf) (lock : Lock) (values : List Value) → IsOpen o → ValuesAreWhole → ValuesAgree → HasItsCells →
+pub are_lent : (m : Managed) (o : OpenOf) (lock : Lock) (values : List Value) → IsOpen o → ValuesAreWhole →
+    ValuesAgree → HasItsCells →
     IsKept m → IsKnown m o → place_of m lock ≡ Some (Free values) → AreLent o lock values
 are_lent m o lock values is_open are_whole agree its kept known free =
     lent_as o lock m.values values is_open are_whole agree its known.heap

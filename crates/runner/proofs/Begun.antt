@@ -1,4 +1,5 @@
-use Rattle.std.specs.Prelude.{◌≡◌, ◌<◌, ◌≤◌, ℕ, zero, suc, List, [], ◌∷◌, length, take, get_or, slice_get, Option, Some, vec_capacity}
+use Rattle.std.specs.Prelude.{◌≡◌, ◌<◌, ◌≤◌, ℕ, zero, suc, List, [], ◌∷◌, length, take, get_or, slice_get, Option}
+use Rattle.std.specs.Prelude.{Some, vec_capacity}
 use Rattle.std.proofs.lemmas.List.{length-map}
 use Rattle.std.specs.Option.{option_map_or}
 use Rattle.std.proofs.Common.{refl, sym, ap, ◌∙◌, subst, arith}
@@ -53,7 +54,8 @@ taken zero xs = omega arith
 taken (suc n) [] = omega arith
 taken (suc n) (x ∷ xs) = omega (arith, taken n xs)
 
-pub few_arguments : (plan : Plan) (number : ℕ) (arguments : List Value) → IsCompiled plan → CanCall plan.program number arguments →
+pub few_arguments : (plan : Plan) (number : ℕ) (arguments : List Value) → IsCompiled plan →
+    CanCall plan.program number arguments →
     length arguments ≤ 8
 unfolding CanCall
 few_arguments plan number arguments compiled can =
@@ -64,7 +66,8 @@ few_arguments plan number arguments compiled can =
     omega (arith, same, named, taken section.parameters section.locals.items, compiled.well_formed.within.parameters number section can.1)
 
 -- the section as it begins
-pub as_begun : (plan : Plan) (b : Body) (ticket : TicketOf) (step : ℕ) → IsBeginning plan b → ticket.session ≡ fresh ticket.session.begun b.room →
+pub as_begun : (plan : Plan) (b : Body) (ticket : TicketOf) (step : ℕ) → IsBeginning plan b →
+    ticket.session ≡ fresh ticket.session.begun b.room →
     open_as plan ticket step (its_call b) b.machine b.pending.items b.asked
     ≡ begun_as plan ticket.thread step b.room ticket.session.begun (its_call b)
 as_begun plan b ticket step p is =

@@ -1,4 +1,5 @@
-use Rattle.std.specs.Prelude.{◌≡◌, ◌<◌, ◌≤◌, ℕ, zero, suc, Bool, true, nat_eq, if◌then◌else◌, List, [], ◌∷◌, ◌++◌, length, drop, get_or, unwrap_or, Option, Some, None}
+use Rattle.std.specs.Prelude.{◌≡◌, ◌<◌, ◌≤◌, ℕ, zero, suc, Bool, true, nat_eq, if◌then◌else◌, List, [], ◌∷◌, ◌++◌}
+use Rattle.std.specs.Prelude.{length, drop, get_or, unwrap_or, Option, Some, None}
 use Rattle.std.proofs.lemmas.Option.{none-some}
 use Rattle.std.specs.List.{All}
 use Rattle.std.proofs.Common.{refl, sym, ap, ◌∙◌, subst, arith}
@@ -37,7 +38,8 @@ nothing_there (x ∷ xs) none =
     let itself : nat_eq x.0 x.0 ≡ true = grind (arith, nat_tests) in
     absurd (none x.0 x.1 (ap (λ (b : Bool). if b then Some x.1 else value_at xs x.0) itself))
 
-few_noted : (held : HeldCells) (room : ℕ) → IsConsistent held → length held.cells ≤ room → (0 < room → length held.reads ≤ room) →
+few_noted : (held : HeldCells) (room : ℕ) → IsConsistent held → length held.cells ≤ room →
+    (0 < room → length held.reads ≤ room) →
     (0 < room → length held.writes ≤ room) → (length held.reads ≤ room) × (length held.writes ≤ room)
 few_noted held zero consistent cells reads writes =
     let none_written = nothing_there held.writes
@@ -117,7 +119,8 @@ module _ (plan : Plan) (ticket : TicketOf) (step : ℕ) (call : Invocation) (run
 
 -- ---- its grants
 
-numbered_apart : (cs : List ℕ) (vs ws : List Value) (r s : List (ℕ × Value)) → length vs ≡ length cs → length ws ≡ length cs →
+numbered_apart : (cs : List ℕ) (vs ws : List Value) (r s : List (ℕ × Value)) → length vs ≡ length cs →
+    length ws ≡ length cs →
     numbered cs vs ++ r ≡ numbered cs ws ++ s → (vs ≡ ws) × (r ≡ s)
 numbered_apart [] [] [] r s lv lw e = (refl, e)
 numbered_apart [] (v ∷ vs) ws r s lv lw e = absurd (omega arith)
@@ -130,7 +133,8 @@ numbered_apart (c ∷ cs) (v ∷ vs) (w ∷ ws) r s lv lw e =
     ((λ i. first i ∷ rest.0 i), rest.1)
 
 -- whole grants of the same locks with the same cells are the same
-alike : (cl : List Lock) (gs hs : List GrantOf) → locks_of gs ≡ locks_of hs → All (IsWhole cl) gs → All (IsWhole cl) hs →
+alike : (cl : List Lock) (gs hs : List GrantOf) → locks_of gs ≡ locks_of hs → All (IsWhole cl) gs →
+    All (IsWhole cl) hs →
     cells_granted cl gs ≡ cells_granted cl hs → gs ≡ hs
 alike cl [] [] locks whole others cells = refl
 alike cl [] (h ∷ hs) locks whole others cells = absurd (omega (arith, ap (λ (ls : List Lock). length ls) locks))

@@ -1,4 +1,5 @@
-use Rattle.std.specs.Prelude.{◌≡◌, ◌≢◌, ◌<◌, ◌≤◌, ◌^◌, ℕ, suc, Bool, true, false, List, [], ◌∷◌, length, drop, map, get_or, slice_get, Option, Some, None}
+use Rattle.std.specs.Prelude.{◌≡◌, ◌≢◌, ◌<◌, ◌≤◌, ◌^◌, ℕ, suc, Bool, true, false, List, [], ◌∷◌, length, drop, map}
+use Rattle.std.specs.Prelude.{get_or, slice_get, Option, Some, None}
 use Rattle.std.specs.Option.{option_map_or}
 use Rattle.std.proofs.Common.{refl, sym, ap, ◌∙◌, subst, arith, length-append}
 use Rattle.std.proofs.lemmas.Option.{slice_get_within, get_or_from_slice_get}
@@ -73,7 +74,8 @@ pub code_is_short : (made : SectionCode) → length made.instructions.items < 2 
 code_is_short made = omega (arith, made.instructions.ok.0, made.instructions.ok.1, made.instructions.small)
 
 -- no more operands than its room
-pub stack_fits : (o : OpenOf) → SectionsStayInOrder → RunsInOrder o → length o.activation.machine.stack ≤ o.room.operands
+pub stack_fits : (o : OpenOf) → SectionsStayInOrder → RunsInOrder o →
+    length o.activation.machine.stack ≤ o.room.operands
 stack_fits o laws r =
     let next = laws.next o.plan o.activation r.is_open.compiled r.is_open.in_order r.pending r.outcome in
     omega (arith, next.fits, (r.is_open.room next.section next.is).operands)
@@ -98,7 +100,8 @@ moved_is_open o laws r =
     (laws.moves o.plan o.activation r.is_open.compiled r.is_open.in_order r.pending r.outcome)
 
 -- the same, where the effect is known
-pub open_after : (o : OpenOf) (e : Effect HeldCells) → SectionsStayInOrder → RunsInOrder o → next_effect o.plan o.activation ≡ e →
+pub open_after : (o : OpenOf) (e : Effect HeldCells) → SectionsStayInOrder → RunsInOrder o →
+    next_effect o.plan o.activation ≡ e →
     IsOpen (further o (instructed o.plan o.activation e))
 open_after o e laws r is =
     subst (λ (x : Effect HeldCells). IsOpen (further o (instructed o.plan o.activation x))) is (moved_is_open o laws r)
@@ -106,7 +109,8 @@ open_after o e laws r is =
 -- ---- its room
 
 -- where it moves to there is room
-effect_fits : (o : OpenOf) (code : ProgramCode) (e : Effect HeldCells) → SectionsStayInOrder → IsCodeOf o.plan.program o.plan.lists code →
+effect_fits : (o : OpenOf) (code : ProgramCode) (e : Effect HeldCells) → SectionsStayInOrder →
+    IsCodeOf o.plan.program o.plan.lists code →
     RunsInOrder o → next_effect o.plan o.activation ≡ e → FitsRoom o.room.operands e
 effect_fits o code (Moves m) laws of r is =
     let o' : OpenOf = further o (record o.activation { machine = m }) in
@@ -134,7 +138,8 @@ pending_fits o (first ∷ rest) laws is_open is =
     let both = length-append o.activation.held o.activation.pending in
     omega (arith, fit.locks_fit, both, ap (λ (xs : List Lock). length xs) is)
 
-pub asked_fits : (o : OpenOf) (point : ℕ) → SectionsStayInOrder → RunsInOrder o → next_effect o.plan o.activation ≡ Asks point →
+pub asked_fits : (o : OpenOf) (point : ℕ) → SectionsStayInOrder → RunsInOrder o →
+    next_effect o.plan o.activation ≡ Asks point →
     length (locks_before o.plan o.activation.call.section point o.activation.held o.activation.machine.locals) ≤ o.room.locks
 asked_fits o point laws r is =
     pending_fits (further o (instructed o.plan o.activation (Asks point)))
@@ -171,7 +176,8 @@ no_ask false = refl
 pub asks_nothing : (o : OpenOf) → o.activation.pending ≡ [] → first_if o.activation.asked o.activation.pending ≡ None
 asks_nothing o none = ap (first_if o.activation.asked) none ∙ no_ask o.activation.asked
 
-same_length : (xs ys : List (ℕ × Value)) → map (λ (x : ℕ × Value). x.0) xs ≡ map (λ (x : ℕ × Value). x.0) ys → length xs ≡ length ys
+same_length : (xs ys : List (ℕ × Value)) → map (λ (x : ℕ × Value). x.0) xs ≡ map (λ (x : ℕ × Value). x.0) ys →
+    length xs ≡ length ys
 same_length [] [] e = refl
 same_length [] (y ∷ ys) e = absurd (omega (arith, ap (λ (zs : List ℕ). length zs) e))
 same_length (x ∷ xs) [] e = absurd (omega (arith, ap (λ (zs : List ℕ). length zs) e))

@@ -1,5 +1,6 @@
 -- Grants, and the cells that they have.
-use Rattle.std.proofs.Common.{◌≡◌, ◌≢◌, ℕ, zero, suc, ◌+◌, ◌<◌, ◌≤◌, List, [], ◌∷◌, ◌++◌, length, take, set, Some, None, inl, inr, refl, sym, ap, ◌∙◌, subst, arith, length-append}
+use Rattle.std.proofs.Common.{◌≡◌, ◌≢◌, ℕ, zero, suc, ◌+◌, ◌<◌, ◌≤◌, List, [], ◌∷◌, ◌++◌, length, take, set, Some}
+use Rattle.std.proofs.Common.{None, inl, inr, refl, sym, ap, ◌∙◌, subst, arith, length-append}
 use Rattle.std.specs.Prelude.{slice_get}
 use Rattle.std.specs.List.{All, Contains}
 use Rattle.std.proofs.lemmas.List.{take_more}
@@ -14,7 +15,8 @@ use Rattle.moved_cells.specs.Working.Grants.{GrantOf, numbered, cells_in, IsWhol
 use Rattle.moved_cells.specs.Working.Laws.{OffsetsFindValues, OffsetsChangeCells}
 use Rattle.runner_cells.specs.Working.Held.{cells_granted}
 use Rattle.runner_cells.specs.Working.Kept.{cells_under, values_count, IsGrantAt, IsSpot, IsElsewhere}
-use Rattle.runner_cells.proofs.Lists.{first, get_left, get_right, past, value_left, value_right, changed_left, changed_right}
+use Rattle.runner_cells.proofs.Lists.{first, get_left, get_right, past, value_left, value_right, changed_left}
+use Rattle.runner_cells.proofs.Lists.{changed_right}
 use Rattle.runner_cells.proofs.Places.{lock_of_cell, distinct_rest, never_again}
 use Rattle.core_lang.specs.Theory.Items.{in_rest}
 
@@ -36,7 +38,8 @@ pub append_none : (xs : List (ℕ × Value)) → xs ++ [] ≡ xs
 append_none [] = refl
 append_none (x ∷ xs) = ap (λ (ys : List (ℕ × Value)). x ∷ ys) (append_none xs)
 
-pub granted_append : (cell_locks : List Lock) (gs hs : List GrantOf) → cells_granted cell_locks (gs ++ hs) ≡ cells_granted cell_locks gs ++ cells_granted cell_locks hs
+pub granted_append : (cell_locks : List Lock) (gs hs : List GrantOf) →
+    cells_granted cell_locks (gs ++ hs) ≡ cells_granted cell_locks gs ++ cells_granted cell_locks hs
 granted_append cell_locks [] hs = refl
 granted_append cell_locks (g ∷ gs) hs =
     ap (λ (xs : List (ℕ × Value)). cells_in cell_locks g ++ xs) (granted_append cell_locks gs hs)
@@ -54,7 +57,8 @@ length_numbered [] (v ∷ vs) e = absurd (omega (arith, e))
 length_numbered (c ∷ cs) [] e = refl
 length_numbered (c ∷ cs) (v ∷ vs) e = ap suc (length_numbered cs vs (omega (arith, e)))
 
-pub granted_count : (cell_locks : List Lock) (gs : List GrantOf) → All (IsWhole cell_locks) gs → length (cells_granted cell_locks gs) ≡ values_count gs
+pub granted_count : (cell_locks : List Lock) (gs : List GrantOf) → All (IsWhole cell_locks) gs →
+    length (cells_granted cell_locks gs) ≡ values_count gs
 granted_count cell_locks [] whole = refl
 granted_count cell_locks (g ∷ gs) whole =
     omega (
@@ -64,7 +68,8 @@ granted_count cell_locks (g ∷ gs) whole =
       granted_count cell_locks gs (All-tail (IsWhole cell_locks) g gs whole),
     )
 
-pub under_count : (cell_locks : List Lock) (gs : List GrantOf) → All (IsWhole cell_locks) gs → length (cells_under cell_locks (locks_of gs)) ≡ values_count gs
+pub under_count : (cell_locks : List Lock) (gs : List GrantOf) → All (IsWhole cell_locks) gs →
+    length (cells_under cell_locks (locks_of gs)) ≡ values_count gs
 under_count cell_locks [] whole = refl
 under_count cell_locks (g ∷ gs) whole =
     let all : length g.values ≡ length (cells_of cell_locks g.lock) = All-head (IsWhole cell_locks) g gs whole in
@@ -75,7 +80,8 @@ under_count cell_locks (g ∷ gs) whole =
       under_count cell_locks gs (All-tail (IsWhole cell_locks) g gs whole),
     )
 
-pub count_within : (gs : List GrantOf) (i : ℕ) (g : GrantOf) → slice_get gs i ≡ Some g → values_count (take i gs) + length g.values ≤ values_count gs
+pub count_within : (gs : List GrantOf) (i : ℕ) (g : GrantOf) → slice_get gs i ≡ Some g →
+    values_count (take i gs) + length g.values ≤ values_count gs
 count_within [] i g at = absurd (none-some g at)
 count_within (h ∷ gs) zero g at =
     let same : length h.values ≡ length g.values = ap (λ (x : GrantOf). length x.values) (same_Some h g at) in omega (arith, same)
@@ -104,11 +110,13 @@ earlier_more gs i g lock at ne earlier has =
       | inr h ↦ ne (one_contained g.lock lock h)
     ]
 
-pub whole_at : (cell_locks : List Lock) (gs : List GrantOf) (i : ℕ) (g : GrantOf) → All (IsWhole cell_locks) gs → slice_get gs i ≡ Some g → IsWhole cell_locks g
+pub whole_at : (cell_locks : List Lock) (gs : List GrantOf) (i : ℕ) (g : GrantOf) → All (IsWhole cell_locks) gs →
+    slice_get gs i ≡ Some g → IsWhole cell_locks g
 whole_at cell_locks gs i g whole at =
     subst (IsWhole cell_locks) (get_or_from_slice_get gs i g g at) (whole i g (slice_get_within gs i g at))
 
-pub spot_from : (cell_locks : List Lock) (gs : List GrantOf) (lock : Lock) (cell index first offset : ℕ) → All (IsWhole cell_locks) gs →
+pub spot_from : (cell_locks : List Lock) (gs : List GrantOf) (lock : Lock) (cell index first offset : ℕ) →
+    All (IsWhole cell_locks) gs →
     IsGrantAt gs lock index first → IsSlot cell_locks cell lock offset → IsSpot cell_locks gs cell index offset (first + offset)
 spot_from cell_locks gs lock cell index first offset whole at slot =
     let here : IsSlot cell_locks cell at.grant.lock offset = subst (λ (l : Lock). IsSlot cell_locks cell l offset) (sym at.lock_is) slot in
@@ -133,7 +141,8 @@ outside_numbered (d ∷ cs) (v ∷ vs) c out =
     past (d, v) (numbered cs vs) c (λ e. out (first d cs c e)) ∙ outside_numbered cs vs c (λ has. out (in_rest d c cs has))
 
 -- a grant of another lock hasn't the cell
-other_grant : (cell_locks : List Lock) (g : GrantOf) (cell : ℕ) (lock : Lock) → slice_get cell_locks cell ≡ Some lock → g.lock ≢ lock →
+other_grant : (cell_locks : List Lock) (g : GrantOf) (cell : ℕ) (lock : Lock) →
+    slice_get cell_locks cell ≡ Some lock → g.lock ≢ lock →
     value_at (cells_in cell_locks g) cell ≡ None
 other_grant cell_locks g cell lock is ne =
     outside_numbered (cells_of cell_locks g.lock) g.values cell
@@ -145,10 +154,12 @@ lock_at (h ∷ gs) zero g at = first h.lock (locks_of gs) g.lock (ap (λ (x : Gr
 lock_at (h ∷ gs) (suc i) g at = in_rest h.lock g.lock (locks_of gs) (lock_at gs i g at)
 
 -- the first grant isn't one of the later ones
-first_other : (h : GrantOf) (gs : List GrantOf) (i : ℕ) (g : GrantOf) → AreDistinct (locks_of (h ∷ gs)) → slice_get gs i ≡ Some g → h.lock ≢ g.lock
+first_other : (h : GrantOf) (gs : List GrantOf) (i : ℕ) (g : GrantOf) → AreDistinct (locks_of (h ∷ gs)) →
+    slice_get gs i ≡ Some g → h.lock ≢ g.lock
 first_other h gs i g d at e = never_again h.lock (locks_of gs) d (subst (Contains (locks_of gs)) (sym e) (lock_at gs i g at))
 
-pub elsewhere : (cell_locks : List Lock) (gs : List GrantOf) (cell : ℕ) → IsElsewhere cell_locks gs cell → value_at (cells_granted cell_locks gs) cell ≡ None
+pub elsewhere : (cell_locks : List Lock) (gs : List GrantOf) (cell : ℕ) → IsElsewhere cell_locks gs cell →
+    value_at (cells_granted cell_locks gs) cell ≡ None
 elsewhere cell_locks [] cell out = refl
 elsewhere cell_locks (g ∷ gs) cell out =
     value_right (cells_in cell_locks g) (cells_granted cell_locks gs) cell
@@ -157,7 +168,8 @@ elsewhere cell_locks (g ∷ gs) cell out =
     ∙ elsewhere cell_locks gs cell (record { other = λ lock is has. out.other lock is (in_rest g.lock lock (locks_of gs) has) })
 
 module _ (cell_locks : List Lock) (cell offset : ℕ) (g : GrantOf) (slot : IsSlot cell_locks cell g.lock offset) (read : OffsetsFindValues) where
-  pub granted_value : (gs : List GrantOf) (i : ℕ) (v : Value) → All (IsWhole cell_locks) gs → AreDistinct (locks_of gs) → slice_get gs i ≡ Some g →
+  pub granted_value : (gs : List GrantOf) (i : ℕ) (v : Value) → All (IsWhole cell_locks) gs →
+      AreDistinct (locks_of gs) → slice_get gs i ≡ Some g →
       slice_get g.values offset ≡ Some v → value_at (cells_granted cell_locks gs) cell ≡ Some v
   granted_value [] i v whole d at is = absurd (none-some g at)
   granted_value (h ∷ gs) zero v whole d at is =
@@ -169,7 +181,8 @@ module _ (cell_locks : List Lock) (cell offset : ℕ) (g : GrantOf) (slot : IsSl
       value_right (cells_in cell_locks h) (cells_granted cell_locks gs) cell (other_grant cell_locks h cell g.lock slot.lock_is (first_other h gs i g d at))
       ∙ granted_value gs i v (All-tail (IsWhole cell_locks) h gs whole) (distinct_rest h.lock (locks_of gs) d) at is
 
-  pub granted_changed : (change : OffsetsChangeCells) (gs : List GrantOf) (i : ℕ) (old v : Value) → All (IsWhole cell_locks) gs → AreDistinct (locks_of gs) →
+  pub granted_changed : (change : OffsetsChangeCells) (gs : List GrantOf) (i : ℕ) (old v : Value) →
+      All (IsWhole cell_locks) gs → AreDistinct (locks_of gs) →
       slice_get gs i ≡ Some g → slice_get g.values offset ≡ Some old →
       cells_granted cell_locks (set gs i (record g { values = set g.values offset v })) ≡ with_changed (cells_granted cell_locks gs) cell v
   granted_changed change [] i old v whole d at is = absurd (none-some g at)
@@ -186,7 +199,8 @@ module _ (cell_locks : List Lock) (cell offset : ℕ) (g : GrantOf) (slot : IsSl
 
 -- ---- the place of a cell
 
-pub cell_at : (cell_locks : List Lock) (gs : List GrantOf) (i : ℕ) (g : GrantOf) (cell offset : ℕ) → All (IsWhole cell_locks) gs → slice_get gs i ≡ Some g →
+pub cell_at : (cell_locks : List Lock) (gs : List GrantOf) (i : ℕ) (g : GrantOf) (cell offset : ℕ) →
+    All (IsWhole cell_locks) gs → slice_get gs i ≡ Some g →
     slice_get (cells_of cell_locks g.lock) offset ≡ Some cell →
     slice_get (cells_under cell_locks (locks_of gs)) (values_count (take i gs) + offset) ≡ Some cell
 cell_at cell_locks [] i g cell offset whole at is = absurd (none-some g at)
@@ -201,12 +215,14 @@ cell_at cell_locks (h ∷ gs) (suc i) g cell offset whole at is =
 
 -- ---- other values of a grant
 
-pub locks_set : (gs : List GrantOf) (i : ℕ) (g : GrantOf) (vs : List Value) → slice_get gs i ≡ Some g → locks_of (set gs i (record g { values = vs })) ≡ locks_of gs
+pub locks_set : (gs : List GrantOf) (i : ℕ) (g : GrantOf) (vs : List Value) → slice_get gs i ≡ Some g →
+    locks_of (set gs i (record g { values = vs })) ≡ locks_of gs
 locks_set [] i g vs at = refl
 locks_set (h ∷ gs) zero g vs at = ap (λ (x : GrantOf). x.lock ∷ locks_of gs) (sym (same_Some h g at))
 locks_set (h ∷ gs) (suc i) g vs at = ap (λ (ls : List Lock). h.lock ∷ ls) (locks_set gs i g vs at)
 
-pub count_set : (gs : List GrantOf) (i : ℕ) (g : GrantOf) (vs : List Value) → slice_get gs i ≡ Some g → length vs ≡ length g.values →
+pub count_set : (gs : List GrantOf) (i : ℕ) (g : GrantOf) (vs : List Value) → slice_get gs i ≡ Some g →
+    length vs ≡ length g.values →
     values_count (set gs i (record g { values = vs })) ≡ values_count gs
 count_set [] i g vs at e = refl
 count_set (h ∷ gs) zero g vs at e =

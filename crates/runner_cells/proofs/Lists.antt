@@ -1,5 +1,6 @@
 -- Lists, and the first value of a cell.
-use Rattle.std.proofs.Common.{◌≡◌, ◌≢◌, ℕ, zero, suc, ◌+◌, true, false, List, [], ◌∷◌, ◌++◌, length, Some, None, inl, inr, refl, sym, ap, ◌∙◌, arith}
+use Rattle.std.proofs.Common.{◌≡◌, ◌≢◌, ℕ, zero, suc, ◌+◌, true, false, List, [], ◌∷◌, ◌++◌, length, Some, None, inl}
+use Rattle.std.proofs.Common.{inr, refl, sym, ap, ◌∙◌, arith}
 use Rattle.std.specs.Prelude.{slice_get, nat_eq, if◌then◌else◌}
 use Rattle.std.specs.List.{Contains}
 use Rattle.std.proofs.lemmas.Bool.Decides.{eqb_tells}
@@ -31,7 +32,8 @@ abbrev pub Distinct : List ℕ → Type 0
 Distinct [] = Unit {0}
 Distinct (c ∷ cs) = (Contains cs c → ⊥) × Distinct cs
 
-pub distinct_append : (xs ys : List ℕ) → Distinct xs → Distinct ys → ((c : ℕ) → Contains xs c → Contains ys c → ⊥) → Distinct (xs ++ ys)
+pub distinct_append : (xs ys : List ℕ) → Distinct xs → Distinct ys → ((c : ℕ) → Contains xs c → Contains ys c → ⊥) →
+    Distinct (xs ++ ys)
 distinct_append [] ys d e apart = e
 distinct_append (x ∷ xs) ys d e apart = (
   λ has. elim (Contains-append_cases xs ys x has) [ inl h ↦ d.0 h | inr h ↦ apart x (first x xs x refl) h ],
@@ -54,7 +56,8 @@ pub past : (x : ℕ × Value) (xs : List (ℕ × Value)) (c : ℕ) → x.0 ≢ c
 past x xs c ne =
     elim (eqb_tells x.0 c) [ inl h ↦ absurd (ne h.1) | inr h ↦ ap (λ b. if b then Some x.1 else value_at xs c) h.0 ]
 
-pub value_left : (xs ys : List (ℕ × Value)) (c : ℕ) (v : Value) → value_at xs c ≡ Some v → value_at (xs ++ ys) c ≡ Some v
+pub value_left : (xs ys : List (ℕ × Value)) (c : ℕ) (v : Value) → value_at xs c ≡ Some v →
+    value_at (xs ++ ys) c ≡ Some v
 value_left [] ys c v e = absurd (none-some v e)
 value_left (x ∷ xs) ys c v e = elim (eqb_tells x.0 c) [
   | inl h ↦ here x (xs ++ ys) c h.1 ∙ sym (here x xs c h.1) ∙ e
@@ -70,11 +73,13 @@ value_right (x ∷ xs) ys c e = elim (eqb_tells x.0 c) [
 
 -- ---- a cell's value changed
 
-changed_here : (x : ℕ × Value) (xs : List (ℕ × Value)) (c : ℕ) (v : Value) → x.0 ≡ c → with_changed (x ∷ xs) c v ≡ (c, v) ∷ xs
+changed_here : (x : ℕ × Value) (xs : List (ℕ × Value)) (c : ℕ) (v : Value) → x.0 ≡ c →
+    with_changed (x ∷ xs) c v ≡ (c, v) ∷ xs
 changed_here x xs c v e =
     elim (eqb_tells x.0 c) [ inl h ↦ ap (λ b. if b then (c, v) ∷ xs else x ∷ with_changed xs c v) h.0 | inr h ↦ absurd (h.1 e) ]
 
-changed_past : (x : ℕ × Value) (xs : List (ℕ × Value)) (c : ℕ) (v : Value) → x.0 ≢ c → with_changed (x ∷ xs) c v ≡ x ∷ with_changed xs c v
+changed_past : (x : ℕ × Value) (xs : List (ℕ × Value)) (c : ℕ) (v : Value) → x.0 ≢ c →
+    with_changed (x ∷ xs) c v ≡ x ∷ with_changed xs c v
 changed_past x xs c v ne =
     elim (eqb_tells x.0 c) [ inl h ↦ absurd (ne h.1) | inr h ↦ ap (λ b. if b then (c, v) ∷ xs else x ∷ with_changed xs c v) h.0 ]
 

@@ -1,12 +1,14 @@
 -- What is noted at places.
-use Rattle.std.proofs.Common.{◌≡◌, ◌≢◌, ℕ, zero, suc, ◌+◌, ◌<◌, ◌≤◌, List, [], ◌∷◌, ◌++◌, length, set, Option, Some, None, inl, inr, refl, sym, ap, ◌∙◌, arith, length-append, length-set}
+use Rattle.std.proofs.Common.{◌≡◌, ◌≢◌, ℕ, zero, suc, ◌+◌, ◌<◌, ◌≤◌, List, [], ◌∷◌, ◌++◌, length, set, Option, Some}
+use Rattle.std.proofs.Common.{None, inl, inr, refl, sym, ap, ◌∙◌, arith, length-append, length-set}
 use Rattle.std.specs.Prelude.{slice_get, nat_eq, if◌then◌else◌}
 use Rattle.std.specs.List.{Contains}
 use Rattle.std.proofs.lemmas.Bool.Decides.{eqb_tells}
 use Rattle.std.proofs.lemmas.Option.{none-some, same_Some, slice_get_within}
 use Rattle.core_lang.specs.declared.value.Value.{Value}
 use Rattle.code.specs.Memory.{value_at, with_value}
-use Rattle.runner_cells.specs.Working.Noted.{NotesOf, if_of, led_by, number_of, with_note_at, with_note, in_order, EachOnce, AreNotes}
+use Rattle.runner_cells.specs.Working.Noted.{NotesOf, if_of, led_by, number_of, with_note_at, with_note, in_order}
+use Rattle.runner_cells.specs.Working.Noted.{EachOnce, AreNotes}
 use Rattle.runner_cells.proofs.Lists.{first, get_left, get_right, Distinct, here, past, value_right}
 use Rattle.runner_cells.proofs.Rising.{set_in_order}
 use Rattle.runner_cells.proofs.Sorted.{at_value, value_somewhere, none_nowhere}
@@ -15,21 +17,24 @@ use Rattle.core_lang.specs.Theory.Items.{contains_at, at_contained, set_same, in
 -- ---- a list with one item more, or another one
 
 -- where something stands in a list with another item
-set_cases : {X : Type 0} (xs : List X) (i j : ℕ) (y x : X) → slice_get (set xs i y) j ≡ Some x → j ≢ i → slice_get xs j ≡ Some x
+set_cases : {X : Type 0} (xs : List X) (i j : ℕ) (y x : X) → slice_get (set xs i y) j ≡ Some x → j ≢ i →
+    slice_get xs j ≡ Some x
 set_cases [] i j y x at ne = at
 set_cases (z ∷ xs) zero zero y x at ne = absurd (ne refl)
 set_cases (z ∷ xs) zero (suc j) y x at ne = at
 set_cases (z ∷ xs) (suc i) zero y x at ne = at
 set_cases (z ∷ xs) (suc i) (suc j) y x at ne = set_cases xs i j y x at (λ e. ne (ap suc e))
 
-set_other_place : {X : Type 0} (xs : List X) (i j : ℕ) (y x : X) → slice_get xs j ≡ Some x → j ≢ i → slice_get (set xs i y) j ≡ Some x
+set_other_place : {X : Type 0} (xs : List X) (i j : ℕ) (y x : X) → slice_get xs j ≡ Some x → j ≢ i →
+    slice_get (set xs i y) j ≡ Some x
 set_other_place [] i j y x at ne = at
 set_other_place (z ∷ xs) zero zero y x at ne = absurd (ne refl)
 set_other_place (z ∷ xs) zero (suc j) y x at ne = at
 set_other_place (z ∷ xs) (suc i) zero y x at ne = at
 set_other_place (z ∷ xs) (suc i) (suc j) y x at ne = set_other_place xs i j y x at (λ e. ne (ap suc e))
 
-get_before : {X : Type 0} (xs : List X) (y : X) (j : ℕ) (x : X) → slice_get (xs ++ y ∷ []) j ≡ Some x → j < length xs → slice_get xs j ≡ Some x
+get_before : {X : Type 0} (xs : List X) (y : X) (j : ℕ) (x : X) → slice_get (xs ++ y ∷ []) j ≡ Some x →
+    j < length xs → slice_get xs j ≡ Some x
 get_before [] y j x at lt = absurd (omega (arith, lt))
 get_before (z ∷ xs) y zero x at lt = at
 get_before (z ∷ xs) y (suc j) x at lt = get_before xs y j x at (omega (arith, lt))
@@ -47,7 +52,8 @@ set_elsewhere (y ∷ ys) zero c w v d at ne =
 set_elsewhere (y ∷ ys) (suc k) c w v d at ne =
     ap (λ (t : Option Value). if nat_eq y.0 d then Some y.1 else t) (set_elsewhere ys k c w v d at ne)
 
-once_set : (xs : List (ℕ × Value)) (k c : ℕ) (w v : Value) → EachOnce xs → slice_get xs k ≡ Some (c, w) → EachOnce (set xs k (c, v))
+once_set : (xs : List (ℕ × Value)) (k c : ℕ) (w v : Value) → EachOnce xs → slice_get xs k ≡ Some (c, w) →
+    EachOnce (set xs k (c, v))
 once_set [] k c w v once at = once
 once_set (y ∷ ys) zero c w v once at =
     (ap (value_at ys) (sym (ap (λ (z : ℕ × Value). z.0) (same_Some y (c, w) at))) ∙ once.0, once.1)
@@ -55,12 +61,14 @@ once_set (y ∷ ys) (suc k) c w v once at =
     let there : value_at ys c ≡ Some w = at_value ys k (c, w) once.1 at in
     (set_elsewhere ys k c w v y.0 at (λ q. none-some w (sym once.0 ∙ ap (value_at ys) (sym q) ∙ there)) ∙ once.0, once_set ys k c w v once.1 at)
 
-append_elsewhere : (xs : List (ℕ × Value)) (c : ℕ) (v : Value) (d : ℕ) → c ≢ d → value_at (xs ++ (c, v) ∷ []) d ≡ value_at xs d
+append_elsewhere : (xs : List (ℕ × Value)) (c : ℕ) (v : Value) (d : ℕ) → c ≢ d →
+    value_at (xs ++ (c, v) ∷ []) d ≡ value_at xs d
 append_elsewhere [] c v d ne = past (c, v) [] d ne
 append_elsewhere (y ∷ ys) c v d ne =
     ap (λ (t : Option Value). if nat_eq y.0 d then Some y.1 else t) (append_elsewhere ys c v d ne)
 
-once_append : (xs : List (ℕ × Value)) (c : ℕ) (v : Value) → EachOnce xs → value_at xs c ≡ None → EachOnce (xs ++ (c, v) ∷ [])
+once_append : (xs : List (ℕ × Value)) (c : ℕ) (v : Value) → EachOnce xs → value_at xs c ≡ None →
+    EachOnce (xs ++ (c, v) ∷ [])
 once_append [] c v once none = (refl, tt)
 once_append (y ∷ ys) c v once none = elim (eqb_tells y.0 c) [
   | inl h ↦ absurd (none-some y.1 (sym none ∙ here y ys c h.1))
@@ -93,7 +101,8 @@ still (c ∷ cs) (suc i) d a at has ne = elim (in_cases c d cs has) [
   | inr h ↦ in_rest c d (without cs i) (still cs i d a at h ne)
 ]
 
-no_more : (xs : List (ℕ × Value)) (cs : List ℕ) → EachOnce xs → ((c : ℕ) (v : Value) → value_at xs c ≡ Some v → Contains cs c) → length xs ≤ length cs
+no_more : (xs : List (ℕ × Value)) (cs : List ℕ) → EachOnce xs →
+    ((c : ℕ) (v : Value) → value_at xs c ≡ Some v → Contains cs c) → length xs ≤ length cs
 no_more [] cs once all = omega arith
 no_more (x ∷ xs) cs once all =
     let at = at_contained cs x.0 (all x.0 x.1 (here x xs x.0 refl)) in
@@ -109,7 +118,8 @@ no_value : (o : Option Value) → ((v : Value) → o ≡ Some v → ⊥) → o �
 no_value None not = refl
 no_value (Some v) not = absurd (not v refl)
 
-led_to : (cell mark k : ℕ) (o : Option (ℕ × Value)) → if_of cell mark o ≡ Some k → (v : Value) × (o ≡ Some (cell, v)) × (mark ≡ k)
+led_to : (cell mark k : ℕ) (o : Option (ℕ × Value)) → if_of cell mark o ≡ Some k →
+    (v : Value) × (o ≡ Some (cell, v)) × (mark ≡ k)
 led_to cell mark k None e = absurd (none-some k e)
 led_to cell mark k (Some x) e = elim (eqb_tells x.0 cell) [
   | inl h ↦ (x.1, ap (λ (c : ℕ). Some (c, x.1)) h.1, same_Some mark k (sym (ap (λ b. if b then Some mark else None) h.0) ∙ e))
@@ -150,7 +160,8 @@ module _ (cells : List ℕ) (n : NotesOf) (are : AreNotes cells n) where
   }
 
   module _ (distinct : Distinct cells) (place cell : ℕ) (has_place : slice_get cells place ≡ Some cell) (live : 0 < n.room) where
-    led_by_some : (k : ℕ) (o : Option ℕ) → led_by n.list cell o ≡ Some k → (v : Value) × (slice_get n.list k ≡ Some (cell, v))
+    led_by_some : (k : ℕ) (o : Option ℕ) → led_by n.list cell o ≡ Some k →
+        (v : Value) × (slice_get n.list k ≡ Some (cell, v))
     led_by_some k None e = absurd (none-some k e)
     led_by_some k (Some mark) e =
         let led = led_to cell mark k (slice_get n.list mark) e in
@@ -228,7 +239,8 @@ module _ (cells : List ℕ) (n : NotesOf) (are : AreNotes cells n) where
       pub noted_so : AreNotes cells (with_note n place cell v)
       noted_so = noted_by (number_of n place cell) refl
 
-      set_by : (o : Option ℕ) → number_of n place cell ≡ o → in_order (with_note_at n place cell v o).list ≡ with_value (in_order n.list) cell v
+      set_by : (o : Option ℕ) → number_of n place cell ≡ o →
+          in_order (with_note_at n place cell v o).list ≡ with_value (in_order n.list) cell v
       set_by (Some k) e =
           let old = found k e in
           set_in_order n.list (set n.list k (cell, v)) cell v
@@ -252,7 +264,8 @@ pub same_room : (n : NotesOf) (place cell : ℕ) (v : Value) → (with_note n pl
 same_room n place cell v = same_room_by n place cell v (number_of n place cell)
 
 -- a cell that isn't noted yet can be
-pub one_more : (cells : List ℕ) (n : NotesOf) (are : AreNotes cells n) → Distinct cells → (place cell : ℕ) → slice_get cells place ≡ Some cell →
+pub one_more : (cells : List ℕ) (n : NotesOf) (are : AreNotes cells n) → Distinct cells → (place cell : ℕ) →
+    slice_get cells place ≡ Some cell →
     0 < n.room → Value → place < length n.marks → number_of n place cell ≡ None → length n.list < length cells
 one_more cells n are distinct place cell at live v fits none =
     let more : AreNotes cells (with_note_at n place cell v None) = anew cells n are distinct place cell at live v fits none in

@@ -1,5 +1,6 @@
 -- The cells of locks, one lock after another.
-use Rattle.std.proofs.Common.{◌≡◌, ℕ, zero, suc, ◌+◌, ◌<◌, Bool, true, false, if◌then◌else◌, List, [], ◌∷◌, ◌++◌, length, get_or, Some, ◌⊎◌, inl, inr, refl, sym, ap, ◌∙◌, subst, arith}
+use Rattle.std.proofs.Common.{◌≡◌, ℕ, zero, suc, ◌+◌, ◌<◌, Bool, true, false, if◌then◌else◌, List, [], ◌∷◌, ◌++◌}
+use Rattle.std.proofs.Common.{length, get_or, Some, ◌⊎◌, inl, inr, refl, sym, ap, ◌∙◌, subst, arith}
 use Rattle.std.specs.Prelude.{slice_get}
 use Rattle.std.specs.List.{Contains}
 use Rattle.std.proofs.lemmas.List.Elements.{Contains-append_cases}
@@ -17,13 +18,15 @@ use Rattle.core_lang.specs.Theory.Items.{contains_at, at_contained, in_rest}
 
 -- ---- the cells of one lock
 
-first_or_later : (k : ℕ) (l : Lock) (ls : List Lock) (lock : Lock) (cell j : ℕ) (xs : List ℕ) → j < length (k ∷ xs) → get_or (k ∷ xs) j cell ≡ cell → l ≡ lock →
+first_or_later : (k : ℕ) (l : Lock) (ls : List Lock) (lock : Lock) (cell j : ℕ) (xs : List ℕ) → j < length (k ∷ xs) →
+    get_or (k ∷ xs) j cell ≡ cell → l ≡ lock →
     (Contains xs cell → (i : ℕ) × (cell ≡ (k + 1) + i) × (slice_get ls i ≡ Some lock)) → (i : ℕ) × (cell ≡ k + i) × (slice_get (l ∷ ls) i ≡ Some lock)
 first_or_later k l ls lock cell zero xs lt e same go = (0, omega (arith, e), ap Some same)
 first_or_later k l ls lock cell (suc j) xs lt e same go = let r = go (j, omega (arith, lt), e) in (suc r.0, omega (arith, r.1), r.2)
 
 -- each of a lock's cells has the lock
-cell_is_of : (k : ℕ) (ls : List Lock) (lock : Lock) (cell : ℕ) → Contains (cells_from k ls lock) cell → (i : ℕ) × (cell ≡ k + i) × (slice_get ls i ≡ Some lock)
+cell_is_of : (k : ℕ) (ls : List Lock) (lock : Lock) (cell : ℕ) → Contains (cells_from k ls lock) cell →
+    (i : ℕ) × (cell ≡ k + i) × (slice_get ls i ≡ Some lock)
 cell_is_of k [] lock cell c = absurd (omega (arith, c.1))
 cell_is_of k (l ∷ ls) lock cell c = elim (lock_cases l lock) [
   | inl same ↦ (
@@ -35,7 +38,8 @@ cell_is_of k (l ∷ ls) lock cell c = elim (lock_cases l lock) [
       (suc r.0, omega (arith, r.1), r.2))
 ]
 
-pub lock_of_cell : (cell_locks : List Lock) (lock : Lock) (cell : ℕ) → Contains (cells_of cell_locks lock) cell → slice_get cell_locks cell ≡ Some lock
+pub lock_of_cell : (cell_locks : List Lock) (lock : Lock) (cell : ℕ) → Contains (cells_of cell_locks lock) cell →
+    slice_get cell_locks cell ≡ Some lock
 lock_of_cell cell_locks lock cell c =
     let r = cell_is_of 0 cell_locks lock cell c in
     ap (slice_get cell_locks) (let e : cell ≡ r.0 = omega (arith, r.1) in e) ∙ r.2
@@ -82,7 +86,8 @@ glue : (xs ys zs : List ℕ) → xs ++ (ys ++ zs) ≡ (xs ++ ys) ++ zs
 glue [] ys zs = refl
 glue (x ∷ xs) ys zs = ap (λ (t : List ℕ). x ∷ t) (glue xs ys zs)
 
-pub under_append : (cell_locks ls ms : List Lock) → cells_under cell_locks (ls ++ ms) ≡ cells_under cell_locks ls ++ cells_under cell_locks ms
+pub under_append : (cell_locks ls ms : List Lock) →
+    cells_under cell_locks (ls ++ ms) ≡ cells_under cell_locks ls ++ cells_under cell_locks ms
 under_append cell_locks [] ms = refl
 under_append cell_locks (l ∷ ls) ms =
     ap (λ (cs : List ℕ). cells_of cell_locks l ++ cs) (under_append cell_locks ls ms) ∙ glue (cells_of cell_locks l) (cells_under cell_locks ls) (cells_under cell_locks ms)

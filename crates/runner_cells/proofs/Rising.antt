@@ -1,5 +1,6 @@
 -- Values of cells in order of the cells' numbers.
-use Rattle.std.proofs.Common.{◌≡◌, ◌≢◌, ℕ, ◌+◌, ◌<◌, ◌≤◌, Bool, true, false, List, [], ◌∷◌, Some, None, inl, inr, refl, sym, ap, ◌∙◌, arith}
+use Rattle.std.proofs.Common.{◌≡◌, ◌≢◌, ℕ, ◌+◌, ◌<◌, ◌≤◌, Bool, true, false, List, [], ◌∷◌, Some, None, inl, inr}
+use Rattle.std.proofs.Common.{refl, sym, ap, ◌∙◌, arith}
 use Rattle.std.specs.Prelude.{nat_eq, nat_lt, if◌then◌else◌}
 use Rattle.std.proofs.lemmas.Bool.{ltb-true, ltb-false, cases_order}
 use Rattle.std.proofs.lemmas.Bool.Decides.{eqb_tells}
@@ -11,7 +12,8 @@ use Rattle.runner_cells.proofs.Lists.{same_cell, other_cell, here, past}
 
 -- ---- with a cell's value set
 
-set_same_by : (lt eq : Bool) (x : ℕ × Value) (xs : List (ℕ × Value)) (c : ℕ) (v : Value) → nat_eq c x.0 ≡ eq → value_at (with_value xs c v) c ≡ Some v →
+set_same_by : (lt eq : Bool) (x : ℕ × Value) (xs : List (ℕ × Value)) (c : ℕ) (v : Value) → nat_eq c x.0 ≡ eq →
+    value_at (with_value xs c v) c ≡ Some v →
     value_at (if lt then (c, v) ∷ x ∷ xs else if eq then (c, v) ∷ xs else x ∷ with_value xs c v) c ≡ Some v
 set_same_by true eq x xs c v e ih = here (c, v) (x ∷ xs) c refl
 set_same_by false true x xs c v e ih = here (c, v) xs c refl
@@ -21,7 +23,8 @@ pub set_same : (xs : List (ℕ × Value)) (c : ℕ) (v : Value) → value_at (wi
 set_same [] c v = here (c, v) [] c refl
 set_same (x ∷ xs) c v = set_same_by (nat_lt c x.0) (nat_eq c x.0) x xs c v refl (set_same xs c v)
 
-set_other_by : (lt eq : Bool) (x : ℕ × Value) (xs : List (ℕ × Value)) (c k : ℕ) (v : Value) → nat_eq c x.0 ≡ eq → c ≢ k →
+set_other_by : (lt eq : Bool) (x : ℕ × Value) (xs : List (ℕ × Value)) (c k : ℕ) (v : Value) → nat_eq c x.0 ≡ eq →
+    c ≢ k →
     value_at (with_value xs c v) k ≡ value_at xs k →
     value_at (if lt then (c, v) ∷ x ∷ xs else if eq then (c, v) ∷ xs else x ∷ with_value xs c v) k ≡ value_at (x ∷ xs) k
 set_other_by true eq x xs c k v e ne ih = past (c, v) (x ∷ xs) k ne
@@ -48,7 +51,8 @@ none_below n c [] r lt = refl
 none_below n c (x ∷ xs) r lt =
     past x xs c (λ e. absurd (omega (arith, e, r.0, lt))) ∙ none_below (x.0 + 1) c xs r.1 (omega (arith, r.0, lt))
 
-rise_with_by : (n : ℕ) (lt eq : Bool) (x : ℕ × Value) (xs : List (ℕ × Value)) (c : ℕ) (v : Value) → nat_lt c x.0 ≡ lt → nat_eq c x.0 ≡ eq → n ≤ c →
+rise_with_by : (n : ℕ) (lt eq : Bool) (x : ℕ × Value) (xs : List (ℕ × Value)) (c : ℕ) (v : Value) →
+    nat_lt c x.0 ≡ lt → nat_eq c x.0 ≡ eq → n ≤ c →
     Rise n (x ∷ xs) → (x.0 + 1 ≤ c → Rise (x.0 + 1) (with_value xs c v)) →
     Rise n (if lt then (c, v) ∷ x ∷ xs else if eq then (c, v) ∷ xs else x ∷ with_value xs c v)
 rise_with_by n true eq x xs c v l e le r ih = (le, (omega (arith, ltb-true c x.0 l), r.1))
@@ -72,12 +76,14 @@ rest_at x y xs ys c e r s same = elim (eqb_tells x.0 c) [
 ]
 
 -- a list that rises has nothing of a cell that another has first
-never_first : (x y : ℕ × Value) (xs ys : List (ℕ × Value)) → x.0 < y.0 → Rise (y.0 + 1) ys → value_at (x ∷ xs) x.0 ≡ value_at (y ∷ ys) x.0 → ⊥
+never_first : (x y : ℕ × Value) (xs ys : List (ℕ × Value)) → x.0 < y.0 → Rise (y.0 + 1) ys →
+    value_at (x ∷ xs) x.0 ≡ value_at (y ∷ ys) x.0 → ⊥
 never_first x y xs ys lt s same =
     none-some x.1 (sym (none_below y.0 x.0 (y ∷ ys) (omega arith, s) lt) ∙ sym same ∙ here x xs x.0 refl)
 
 -- two rising lists with the same values are the same
-pub same_rising : (n : ℕ) (xs ys : List (ℕ × Value)) → Rise n xs → Rise n ys → ((c : ℕ) → value_at xs c ≡ value_at ys c) → xs ≡ ys
+pub same_rising : (n : ℕ) (xs ys : List (ℕ × Value)) → Rise n xs → Rise n ys →
+    ((c : ℕ) → value_at xs c ≡ value_at ys c) → xs ≡ ys
 same_rising n [] [] r s same = refl
 same_rising n [] (y ∷ ys) r s same = absurd (none-some y.1 (same y.0 ∙ here y ys y.0 refl))
 same_rising n (x ∷ xs) [] r s same = absurd (none-some x.1 (sym (same x.0) ∙ here x xs x.0 refl))
@@ -120,7 +126,8 @@ pub in_order_once : (xs : List (ℕ × Value)) → EachOnce (in_order xs)
 in_order_once xs = rising_once 0 (in_order xs) (in_order_rises xs)
 
 -- where one cell's value is another, it is set in order
-pub set_in_order : (xs ys : List (ℕ × Value)) (c : ℕ) (v : Value) → value_at ys c ≡ Some v → ((d : ℕ) → c ≢ d → value_at ys d ≡ value_at xs d) →
+pub set_in_order : (xs ys : List (ℕ × Value)) (c : ℕ) (v : Value) → value_at ys c ≡ Some v →
+    ((d : ℕ) → c ≢ d → value_at ys d ≡ value_at xs d) →
     in_order ys ≡ with_value (in_order xs) c v
 set_in_order xs ys c v at others =
     same_rising 0 (in_order ys) (with_value (in_order xs) c v) (in_order_rises ys) (rise_with 0 (in_order xs) c v (omega arith) (in_order_rises xs))

@@ -1,5 +1,6 @@
 -- A sorted list of values of cells.
-use Rattle.std.proofs.Common.{◌≡◌, ◌≢◌, ℕ, zero, suc, ◌+◌, ◌≤◌, Bool, true, false, List, [], ◌∷◌, length, Option, Some, None, inl, inr, refl, sym, ap, ◌∙◌, arith}
+use Rattle.std.proofs.Common.{◌≡◌, ◌≢◌, ℕ, zero, suc, ◌+◌, ◌≤◌, Bool, true, false, List, [], ◌∷◌, length, Option}
+use Rattle.std.proofs.Common.{Some, None, inl, inr, refl, sym, ap, ◌∙◌, arith}
 use Rattle.std.specs.Prelude.{slice_get, nat_eq, nat_lt, if◌then◌else◌}
 use Rattle.std.specs.List.{Contains}
 use Rattle.std.specs.List.Sorted.{IsPermutation, IsNonDecreasingBy}
@@ -16,7 +17,8 @@ use Rattle.core_lang.specs.Theory.Items.{at_contained}
 
 -- ---- the same values in another order
 
-pub at_value : (xs : List (ℕ × Value)) (k : ℕ) (x : ℕ × Value) → EachOnce xs → slice_get xs k ≡ Some x → value_at xs x.0 ≡ Some x.1
+pub at_value : (xs : List (ℕ × Value)) (k : ℕ) (x : ℕ × Value) → EachOnce xs → slice_get xs k ≡ Some x →
+    value_at xs x.0 ≡ Some x.1
 at_value [] k x once at = absurd (none-some x at)
 at_value (y ∷ ys) zero x once at =
     let same : y ≡ x = same_Some y x at in
@@ -32,7 +34,8 @@ value_somewhere (y ∷ ys) c v is = elim (eqb_tells y.0 c) [
   | inr h ↦ (let r = value_somewhere ys c v (sym (past y ys c h.1) ∙ is) in (suc r.0, omega (arith, r.1), r.2))
 ]
 
-pub none_nowhere : (xs : List (ℕ × Value)) (k : ℕ) (x : ℕ × Value) → value_at xs x.0 ≡ None → slice_get xs k ≡ Some x → ⊥
+pub none_nowhere : (xs : List (ℕ × Value)) (k : ℕ) (x : ℕ × Value) → value_at xs x.0 ≡ None →
+    slice_get xs k ≡ Some x → ⊥
 none_nowhere [] k x none at = none-some x at
 none_nowhere (y ∷ ys) zero x none at =
     let same : y ≡ x = same_Some y x at in
@@ -42,7 +45,8 @@ none_nowhere (y ∷ ys) (suc k) x none at = elim (eqb_tells y.0 x.0) [
   | inr h ↦ none_nowhere ys k x (sym (past y ys x.0 h.1) ∙ none) at
 ]
 
-permuted_by : (xs ys : List (ℕ × Value)) (c : ℕ) (a b : Option Value) → IsPermutation xs ys → EachOnce xs → value_at ys c ≡ a → value_at xs c ≡ b → a ≡ b
+permuted_by : (xs ys : List (ℕ × Value)) (c : ℕ) (a b : Option Value) → IsPermutation xs ys → EachOnce xs →
+    value_at ys c ≡ a → value_at xs c ≡ b → a ≡ b
 permuted_by xs ys c (Some v) b p once e f =
     let at = at_contained xs (c, v) (Contains-permutation ys xs (c, v) (IsPermutation-sym xs ys p) (value_somewhere ys c v e)) in
     sym (at_value xs at.0 (c, v) once at.1) ∙ f
@@ -53,7 +57,8 @@ permuted_by xs ys c None (Some v) p once e f =
 
 -- ---- how long
 
-length_new_by : (lt eq : Bool) (x : ℕ × Value) (xs : List (ℕ × Value)) (c : ℕ) (v : Value) → nat_eq c x.0 ≡ eq → value_at (x ∷ xs) c ≡ None →
+length_new_by : (lt eq : Bool) (x : ℕ × Value) (xs : List (ℕ × Value)) (c : ℕ) (v : Value) → nat_eq c x.0 ≡ eq →
+    value_at (x ∷ xs) c ≡ None →
     (value_at xs c ≡ None → length (with_value xs c v) ≡ length xs + 1) →
     length (if lt then (c, v) ∷ x ∷ xs else if eq then (c, v) ∷ xs else x ∷ with_value xs c v) ≡ length (x ∷ xs) + 1
 length_new_by true eq x xs c v e none ih = omega arith
@@ -61,11 +66,13 @@ length_new_by false true x xs c v e none ih = absurd (none-some x.1 (sym none �
 length_new_by false false x xs c v e none ih =
     omega (arith, ih (sym (past x xs c (λ q. other_cell c x.0 e (sym q))) ∙ none))
 
-length_new : (xs : List (ℕ × Value)) (c : ℕ) (v : Value) → value_at xs c ≡ None → length (with_value xs c v) ≡ length xs + 1
+length_new : (xs : List (ℕ × Value)) (c : ℕ) (v : Value) → value_at xs c ≡ None →
+    length (with_value xs c v) ≡ length xs + 1
 length_new [] c v none = omega arith
 length_new (x ∷ xs) c v none = length_new_by (nat_lt c x.0) (nat_eq c x.0) x xs c v refl none (length_new xs c v)
 
-length_most_by : (lt eq : Bool) (x : ℕ × Value) (xs : List (ℕ × Value)) (c : ℕ) (v : Value) → length (with_value xs c v) ≤ length xs + 1 →
+length_most_by : (lt eq : Bool) (x : ℕ × Value) (xs : List (ℕ × Value)) (c : ℕ) (v : Value) →
+    length (with_value xs c v) ≤ length xs + 1 →
     length (if lt then (c, v) ∷ x ∷ xs else if eq then (c, v) ∷ xs else x ∷ with_value xs c v) ≤ length (x ∷ xs) + 1
 length_most_by true eq x xs c v ih = omega arith
 length_most_by false true x xs c v ih = omega arith
@@ -86,7 +93,8 @@ length_in_order (x ∷ xs) = omega (arith, length_most (in_order xs) x.0 x.1, le
 
 -- ---- a list that is in order stays as it is
 
-put_front_by : (lt eq : Bool) (y z : ℕ × Value) (zs : List (ℕ × Value)) → nat_lt y.0 z.0 ≡ lt → nat_eq y.0 z.0 ≡ eq → y.0 ≤ z.0 →
+put_front_by : (lt eq : Bool) (y z : ℕ × Value) (zs : List (ℕ × Value)) → nat_lt y.0 z.0 ≡ lt → nat_eq y.0 z.0 ≡ eq →
+    y.0 ≤ z.0 →
     length (if lt then (y.0, y.1) ∷ z ∷ zs else if eq then (y.0, y.1) ∷ zs else z ∷ with_value zs y.0 y.1) ≡ length (y ∷ z ∷ zs) →
     (if lt then (y.0, y.1) ∷ z ∷ zs else if eq then (y.0, y.1) ∷ zs else z ∷ with_value zs y.0 y.1) ≡ y ∷ z ∷ zs
 put_front_by true eq y z zs l e le long = refl
@@ -101,7 +109,8 @@ put_front : (y : ℕ × Value) (ys : List (ℕ × Value)) → IsNonDecreasingBy 
 put_front y [] up long = refl
 put_front y (z ∷ zs) up long = put_front_by (nat_lt y.0 z.0) (nat_eq y.0 z.0) y z zs refl refl (up 0 1 y (omega arith) (omega arith)) long
 
-as_it_is : (ys : List (ℕ × Value)) → IsNonDecreasingBy (λ (x : ℕ × Value). x.0) ys → length (in_order ys) ≡ length ys → in_order ys ≡ ys
+as_it_is : (ys : List (ℕ × Value)) → IsNonDecreasingBy (λ (x : ℕ × Value). x.0) ys →
+    length (in_order ys) ≡ length ys → in_order ys ≡ ys
 as_it_is [] up long = refl
 as_it_is (y ∷ ys) up long =
     let most : length (with_value (in_order ys) y.0 y.1) ≤ length (in_order ys) + 1 = length_most (in_order ys) y.0 y.1 in
@@ -111,7 +120,8 @@ as_it_is (y ∷ ys) up long =
     ∙ put_front y ys up (sym (ap (λ (zs : List (ℕ × Value)). length (with_value zs y.0 y.1)) same) ∙ long)
 
 -- the sorted list is the one in order
-pub sorted_in_order : (xs ys : List (ℕ × Value)) → IsPermutation xs ys → EachOnce xs → IsNonDecreasingBy (λ (x : ℕ × Value). x.0) ys → ys ≡ in_order xs
+pub sorted_in_order : (xs ys : List (ℕ × Value)) → IsPermutation xs ys → EachOnce xs →
+    IsNonDecreasingBy (λ (x : ℕ × Value). x.0) ys → ys ≡ in_order xs
 sorted_in_order xs ys p once up =
     let same : in_order ys ≡ in_order xs = same_rising 0 (in_order ys) (in_order xs) (in_order_rises ys) (in_order_rises xs)
     (λ c. in_order_values ys c ∙ permuted_by xs ys c (value_at ys c) (value_at xs c) p once refl refl ∙ sym (in_order_values xs c)) in

@@ -1,5 +1,6 @@
 -- What a read, a write and a grant leave.
-use Rattle.std.proofs.Common.{◌≡◌, ℕ, ◌+◌, ◌<◌, ◌≤◌, true, false, List, [], ◌∷◌, ◌++◌, length, set, get_or, Option, Some, None, refl, sym, ap, ◌∙◌, subst, arith, length-set, length-append}
+use Rattle.std.proofs.Common.{◌≡◌, ℕ, ◌+◌, ◌<◌, ◌≤◌, true, false, List, [], ◌∷◌, ◌++◌, length, set, get_or, Option}
+use Rattle.std.proofs.Common.{Some, None, refl, sym, ap, ◌∙◌, subst, arith, length-set, length-append}
 use Rattle.std.specs.Prelude.{slice_get}
 use Rattle.std.specs.List.{Contains}
 use Rattle.std.proofs.lemmas.List.Elements.{All-nil, All-set, All-push}
@@ -10,15 +11,19 @@ use Rattle.code.specs.Memory.{HeldCells, value_at, with_value, with_changed, not
 use Rattle.layout.specs.Layouts.{LayoutOf, AreDistinct}
 use Rattle.moved_cells.specs.Working.Grants.{GrantOf, cells_in, IsWhole, locks_of}
 use Rattle.moved_cells.specs.Working.Laws.{OffsetsFindValues, OffsetsChangeCells}
-use Rattle.runner_cells.specs.Working.Held.{HoldingOf, cells_granted, CanHold, with_grant, without_grants, IsLoad, IsStore}
+use Rattle.runner_cells.specs.Working.Held.{HoldingOf, cells_granted, CanHold, with_grant, without_grants, IsLoad}
+use Rattle.runner_cells.specs.Working.Held.{IsStore}
 use Rattle.runner_cells.specs.Working.Noted.{NotesOf, number_of, with_note, in_order, EachOnce, AreNotes}
 use Rattle.runner_cells.specs.Working.Kept.{cells_under, values_count, IsSpot, IsElsewhere, IsKept, holding_of}
 use Rattle.runner_cells.proofs.Lists.{Distinct}
 use Rattle.runner_cells.proofs.Rising.{in_order_values, in_order_twice, in_order_once}
 use Rattle.runner_cells.proofs.Sorted.{length_in_order}
-use Rattle.runner_cells.proofs.Noting.{few, found_value, not_found, noted_so, noted_with, with_cells, one_more, same_room}
+use Rattle.runner_cells.proofs.Noting.{few, found_value, not_found, noted_so, noted_with, with_cells, one_more}
+use Rattle.runner_cells.proofs.Noting.{same_room}
 use Rattle.runner_cells.proofs.Places.{distinct_under, distinct_push, under_append}
-use Rattle.runner_cells.proofs.Granted.{locks_append, count_append, granted_append, append_none, length_locks, granted_count, under_count, elsewhere, granted_value, granted_changed, cell_at, locks_set, count_set, whole_at}
+use Rattle.runner_cells.proofs.Granted.{locks_append, count_append, granted_append, append_none, length_locks}
+use Rattle.runner_cells.proofs.Granted.{granted_count, under_count, elsewhere, granted_value, granted_changed}
+use Rattle.runner_cells.proofs.Granted.{cell_at, locks_set, count_set, whole_at}
 use Rattle.core_lang.specs.Theory.Items.{get_some}
 
 pub item_is : {X : Type 0} (xs : List X) (i : ℕ) (x y : X) → slice_get xs i ≡ Some x → y ≡ get_or xs i y → y ≡ x
@@ -39,7 +44,8 @@ module _ (layout : LayoutOf) (gs : List GrantOf) (reads writes : NotesOf) (ls cs
 
   -- ---- the end
 
-  few_noted : (n : NotesOf) → AreNotes (cells_under layout.cell_locks (locks_of gs)) n → n.room ≡ cs → 0 < cs → length (in_order n.list) ≤ cs
+  few_noted : (n : NotesOf) → AreNotes (cells_under layout.cell_locks (locks_of gs)) n → n.room ≡ cs → 0 < cs →
+      length (in_order n.list) ≤ cs
   few_noted n are room some =
       let few_are : length n.list ≤ length (cells_under layout.cell_locks (locks_of gs)) =
       few (cells_under layout.cell_locks (locks_of gs)) n are (omega (arith, some, room)) in
@@ -83,7 +89,8 @@ module _ (layout : LayoutOf) (gs : List GrantOf) (reads writes : NotesOf) (ls cs
         })
         ∙ ap without_grants was
 
-    few_over : (n m : NotesOf) → AreNotes (cells_under layout.cell_locks (locks_of gs)) n → n.room ≡ cs → m.list ≡ in_order n.list →
+    few_over : (n m : NotesOf) → AreNotes (cells_under layout.cell_locks (locks_of gs)) n → n.room ≡ cs →
+        m.list ≡ in_order n.list →
         0 < old.cell_room → length (in_order m.list) ≤ old.cell_room
     few_over n m are room list some =
         let same : cs ≡ old.cell_room = ap (λ (h : HoldingOf). h.cell_room) was in
@@ -118,10 +125,12 @@ module _ (layout : LayoutOf) (gs : List GrantOf) (reads writes : NotesOf) (ls cs
         ap (slice_get (cells_under layout.cell_locks (locks_of gs))) spot.place_is
         ∙ cell_at layout.cell_locks gs index spot.grant cell offset kept.whole spot.is spot.slot.offset_is
 
-    has_value : (v : Value) → slice_get spot.grant.values offset ≡ Some v → value_at (cells_granted layout.cell_locks gs) cell ≡ Some v
+    has_value : (v : Value) → slice_get spot.grant.values offset ≡ Some v →
+        value_at (cells_granted layout.cell_locks gs) cell ≡ Some v
     has_value v is = granted_value layout.cell_locks cell offset spot.grant spot.slot read gs index v kept.whole kept.distinct spot.is is
 
-    marked : (n : NotesOf) → AreNotes (cells_under layout.cell_locks (locks_of gs)) n → n.room ≡ cs → place < length n.marks
+    marked : (n : NotesOf) → AreNotes (cells_under layout.cell_locks (locks_of gs)) n → n.room ≡ cs →
+        place < length n.marks
     marked n are room = omega (arith, spot.place_fits, kept.cells_fit, are.long, room)
 
     live : (n : NotesOf) → n.room ≡ cs → 0 < n.room
@@ -131,7 +140,8 @@ module _ (layout : LayoutOf) (gs : List GrantOf) (reads writes : NotesOf) (ls cs
     pub fits_room : (n : NotesOf) → n.room ≡ cs → place < n.room
     fits_room n room = omega (arith, spot.place_fits, kept.cells_fit, room)
 
-    one_more_fits : (n : NotesOf) → AreNotes (cells_under layout.cell_locks (locks_of gs)) n → n.room ≡ cs → Value → number_of n place cell ≡ None → length n.list < n.room
+    one_more_fits : (n : NotesOf) → AreNotes (cells_under layout.cell_locks (locks_of gs)) n → n.room ≡ cs → Value →
+        number_of n place cell ≡ None → length n.list < n.room
     one_more_fits n are room v none =
         let more : length n.list < length (cells_under layout.cell_locks (locks_of gs)) =
         one_more (cells_under layout.cell_locks (locks_of gs)) n are distinct place cell has_place (live n room) v (marked n are room) none in
@@ -143,7 +153,8 @@ module _ (layout : LayoutOf) (gs : List GrantOf) (reads writes : NotesOf) (ls cs
     pub write_fits : Value → number_of writes place cell ≡ None → length writes.list < writes.room
     write_fits v none = one_more_fits writes kept.writes_are kept.writes_room v none
 
-    pub loaded_written : (g : GrantOf) (v : Value) (k : ℕ) → g ≡ get_or gs index g → slice_get g.values offset ≡ Some v →
+    pub loaded_written : (g : GrantOf) (v : Value) (k : ℕ) → g ≡ get_or gs index g →
+        slice_get g.values offset ≡ Some v →
         number_of writes place cell ≡ Some k → IsLoad old cell (Some v) old
     loaded_written g v k at is there =
         let same : g ≡ spot.grant = item_is gs index spot.grant g spot.is at in
@@ -154,7 +165,8 @@ module _ (layout : LayoutOf) (gs : List GrantOf) (reads writes : NotesOf) (ls cs
         subst (λ (h : HoldingOf). IsLoad h cell (Some v) h) was
         (ap (read_if_held held cell) value ∙ ap (λ (o : Option Value). Some (v, noted held cell v o)) written, refl)
 
-    pub loaded_first : (g : GrantOf) (v : Value) (more : NotesOf) → g ≡ get_or gs index g → slice_get g.values offset ≡ Some v →
+    pub loaded_first : (g : GrantOf) (v : Value) (more : NotesOf) → g ≡ get_or gs index g →
+        slice_get g.values offset ≡ Some v →
         number_of writes place cell ≡ None → more ≡ with_note reads place cell v → IsLoad old cell (Some v) (holding_of layout gs more writes ls cs)
     loaded_first g v more at is there e =
         let same : g ≡ spot.grant = item_is gs index spot.grant g spot.is at in
@@ -172,7 +184,8 @@ module _ (layout : LayoutOf) (gs : List GrantOf) (reads writes : NotesOf) (ls cs
           refl,
         )
 
-    pub kept_noted : (v : Value) (more : NotesOf) → more ≡ with_note reads place cell v → IsKept layout.cell_locks gs more writes ls cs
+    pub kept_noted : (v : Value) (more : NotesOf) → more ≡ with_note reads place cell v →
+        IsKept layout.cell_locks gs more writes ls cs
     kept_noted v more e = subst (λ (n : NotesOf). IsKept layout.cell_locks gs n writes ls cs) (sym e) (record {
       whole = kept.whole;
       distinct = kept.distinct;
@@ -251,7 +264,8 @@ module _ (layout : LayoutOf) (gs : List GrantOf) (reads writes : NotesOf) (ls cs
     under_more : cells_under layout.cell_locks (locks_of (gs ++ g ∷ [])) ≡ cells_under layout.cell_locks (locks_of gs) ++ cells_under layout.cell_locks (g.lock ∷ [])
     under_more = ap (cells_under layout.cell_locks) (locks_append gs (g ∷ [])) ∙ under_append layout.cell_locks (locks_of gs) (g.lock ∷ [])
 
-    notes_more : (n : NotesOf) → AreNotes (cells_under layout.cell_locks (locks_of gs)) n → AreNotes (cells_under layout.cell_locks (locks_of (gs ++ g ∷ []))) n
+    notes_more : (n : NotesOf) → AreNotes (cells_under layout.cell_locks (locks_of gs)) n →
+        AreNotes (cells_under layout.cell_locks (locks_of (gs ++ g ∷ []))) n
     notes_more n are =
         subst (λ (xs : List ℕ). AreNotes xs n) (sym under_more)
         (with_cells (cells_under layout.cell_locks (locks_of gs)) n are (cells_under layout.cell_locks (g.lock ∷ [])))
@@ -292,5 +306,6 @@ module _ (layout : LayoutOf) (gs : List GrantOf) (reads writes : NotesOf) (ls cs
     pub kept_after : (hs : List GrantOf) → hs ≡ gs ++ g ∷ [] → IsKept layout.cell_locks hs reads writes ls cs
     kept_after hs e = subst (λ (x : List GrantOf). IsKept layout.cell_locks x reads writes ls cs) (sym e) kept_granted
 
-    pub granted_after : (hs : List GrantOf) → hs ≡ gs ++ g ∷ [] → holding_of layout hs reads writes ls cs ≡ with_grant old g
+    pub granted_after : (hs : List GrantOf) → hs ≡ gs ++ g ∷ [] →
+        holding_of layout hs reads writes ls cs ≡ with_grant old g
     granted_after hs e = ap (λ (x : List GrantOf). holding_of layout x reads writes ls cs) e ∙ granted

@@ -1,5 +1,6 @@
 -- A local got, and a local set.
-use Rattle.std.proofs.Common.{◌≡◌, ◌∙◌, ℕ, ◌<◌, ◌≤◌, ◌+◌, List, [], ◌∷◌, Some, None, length, drop, slice_get, refl, sym, ap, subst}
+use Rattle.std.proofs.Common.{◌≡◌, ◌∙◌, ℕ, ◌<◌, ◌≤◌, ◌+◌, List, [], ◌∷◌, Some, None, length, drop, slice_get, refl}
+use Rattle.std.proofs.Common.{sym, ap, subst}
 use Rattle.std.specs.Prelude.{slice_set}
 use Rattle.std.specs.Borrow.{Bor}
 use Rattle.std.specs.Slice.{IsItemAt}
@@ -25,7 +26,8 @@ module _ (m : Machine HeldCells) (k : ℕ) (values lent : List Value) (same : va
 some_same : (a b : Value) → Some a ≡ Some b → a ≡ b
 some_same a b e = cc
 
-top_is : (stack : List Value) (v : Value) (go : Value → List Value → Effect HeldCells) → slice_get stack 0 ≡ Some v → on_top stack go ≡ go v (drop 1 stack)
+top_is : (stack : List Value) (v : Value) (go : Value → List Value → Effect HeldCells) → slice_get stack 0 ≡ Some v →
+    on_top stack go ≡ go v (drop 1 stack)
 top_is [] v go e = cc
 top_is (x ∷ rest) v go e = ap (λ y. go y rest) (some_same x v e)
 
@@ -35,7 +37,8 @@ set_is m k v top lt =
     top_is m.stack v (λ w rest. or_trap (found (slice_get m.locals k)) (λ old. advances (record m { locals = slice_set m.locals k w }) rest)) top
     ∙ ap (λ o. or_trap (found o) (λ old. advances (record m { locals = slice_set m.locals k v }) (drop 1 m.stack))) (slice_get-get_or m.locals k v lt)
 
-pub set_past : (m : Machine HeldCells) (k : ℕ) (v : Value) → slice_get m.stack 0 ≡ Some v → length m.locals ≤ k → setting k m ≡ Undefined
+pub set_past : (m : Machine HeldCells) (k : ℕ) (v : Value) → slice_get m.stack 0 ≡ Some v → length m.locals ≤ k →
+    setting k m ≡ Undefined
 set_past m k v top le =
     top_is m.stack v (λ w rest. or_trap (found (slice_get m.locals k)) (λ old. advances (record m { locals = slice_set m.locals k w }) rest)) top
     ∙ ap (λ o. or_trap (found o) (λ old. advances (record m { locals = slice_set m.locals k v }) (drop 1 m.stack))) (slice_get_past m.locals k le)
@@ -47,7 +50,8 @@ set_run run k v o = record run {
   operand_room = o.room;
 }
 
-pub set_effect : (run : RunOf) (k : ℕ) (v : Value) (o : OperandsOf) → o ≡ popped (record { stack = run.machine.stack; room = run.operand_room }) →
+pub set_effect : (run : RunOf) (k : ℕ) (v : Value) (o : OperandsOf) →
+    o ≡ popped (record { stack = run.machine.stack; room = run.operand_room }) →
     slice_get run.machine.stack 0 ≡ Some v → k < length run.machine.locals →
     (setting k run.machine ≡ Moves (set_run run k v o).machine) × (set_run run k v o ≡ with_machine run (set_run run k v o).machine)
 set_effect run k v o e top lt =

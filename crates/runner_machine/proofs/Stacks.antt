@@ -1,4 +1,5 @@
-use Rattle.std.specs.Prelude.{◌≡◌, ◌<◌, ◌≤◌, ◌+◌, ℕ, zero, suc, List, ◌∷◌, length, get_or, slice_get, slice_set, drop, Some, None}
+use Rattle.std.specs.Prelude.{◌≡◌, ◌<◌, ◌≤◌, ◌+◌, ℕ, zero, suc, List, ◌∷◌, length, get_or, slice_get, slice_set, drop}
+use Rattle.std.specs.Prelude.{Some, None}
 use Rattle.std.proofs.Common.{refl, sym, ap, ◌∙◌, arith, add-one}
 use Rattle.std.proofs.lemmas.List.{get_or-set_same, get_or-set_other}
 use Rattle.core_lang.specs.declared.value.Value.{Value}
@@ -10,7 +11,8 @@ length-downward values zero = refl
 length-downward values (suc n) = ap suc (length-downward values n)
 
 -- a value past them changes nothing
-pub downward-set : (values : List Value) (i n : ℕ) (v : Value) → n ≤ i → downward (slice_set values i v) n ≡ downward values n
+pub downward-set : (values : List Value) (i n : ℕ) (v : Value) → n ≤ i →
+    downward (slice_set values i v) n ≡ downward values n
 downward-set values i zero v le = refl
 downward-set values i (suc n) v le =
     let other : n ≡ i → ⊥ = λ e. omega arith in
@@ -34,5 +36,6 @@ top_set values n k v lt e =
     ∙ ap (λ xs. v ∷ xs) (downward-set values n n v (omega arith))
     ∙ sym (ap (λ j. v ∷ drop 1 (downward values j)) e)
 
-pub second_is : (values : List Value) (n k : ℕ) → k ≡ suc (suc n) → slice_get (downward values k) 1 ≡ Some (get_or values n (Ref None))
+pub second_is : (values : List Value) (n k : ℕ) → k ≡ suc (suc n) →
+    slice_get (downward values k) 1 ≡ Some (get_or values n (Ref None))
 second_is values n k e = ap (λ j. slice_get (downward values j) 1) e

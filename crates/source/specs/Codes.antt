@@ -1,7 +1,13 @@
 -- What is printed of a fault's code.
 use Rattle.std.specs.Prelude.{ℕ, List, codes}
 use Rattle.source.specs.declared.fault.Code.{Code}
-use Rattle.source.specs.declared.fault.Code.TheVariants.{BadCharacter, NumberTooLarge, UnexpectedToken, NestedTooDeep, DeclaredTwice, UnknownName, WrongType, WrongArgumentCount, NotAssignable, NeitherFinalNorProtected, ProtectedByNoLock, ProtectedByPassesNonFinal, UnstableBase, LockOrderCycle, LimitExceeded, FinalWithoutOpeningValue, InitOutOfRangeOrRepeated, MisplacedReturn, LockAsValue, RecursiveHelper}
+use Rattle.source.specs.declared.fault.Code.TheVariants.{BadCharacter, NumberTooLarge, UnexpectedToken, NestedTooDeep}
+use Rattle.source.specs.declared.fault.Code.TheVariants.{DeclaredTwice, UnknownName, WrongType, WrongArgumentCount}
+use Rattle.source.specs.declared.fault.Code.TheVariants.{NotAssignable, NeitherFinalNorProtected, ProtectedByNoLock}
+use Rattle.source.specs.declared.fault.Code.TheVariants.{ProtectedByPassesNonFinal, UnstableBase, LockOrderCycle}
+use Rattle.source.specs.declared.fault.Code.TheVariants.{LimitExceeded, FinalWithoutOpeningValue}
+use Rattle.source.specs.declared.fault.Code.TheVariants.{InitOutOfRangeOrRepeated, MisplacedReturn, LockAsValue}
+use Rattle.source.specs.declared.fault.Code.TheVariants.{RecursiveHelper}
 
 -- the code's printed name
 abbrev pub code_name : Code → List ℕ

@@ -1,5 +1,6 @@
 -- Where a fault stands, the line that reports it, and refusals that are one fault.
-use Rattle.std.specs.Prelude.{◌≡◌, ℕ, ◌+◌, List, [], ◌∷◌, ◌++◌, take, min, length, count_by, ◌==◌, not, codes, string_bytes, Result, MatchResult}
+use Rattle.std.specs.Prelude.{◌≡◌, ℕ, ◌+◌, List, [], ◌∷◌, ◌++◌, take, min, length, count_by, ◌==◌, not, codes}
+use Rattle.std.specs.Prelude.{string_bytes, Result, MatchResult}
 use Rattle.std.specs.List.{suffix_len}
 use Rattle.std.specs.Fmt.{decimal}
 use Rattle.source.specs.declared.fault.Code.{Code}

@@ -1,7 +1,14 @@
 -- Which of two faults is told: the order of faults, and the least of several.
-use Rattle.std.specs.Prelude.{◌≡◌, ℕ, nat_lt, ◌==◌, ◌&&◌, ◌||◌, Bool, false, if◌then◌else◌, List, [], ◌∷◌, Option, Some, None}
+use Rattle.std.specs.Prelude.{◌≡◌, ℕ, nat_lt, ◌==◌, ◌&&◌, ◌||◌, Bool, false, if◌then◌else◌, List, [], ◌∷◌, Option}
+use Rattle.std.specs.Prelude.{Some, None}
 use Rattle.source.specs.declared.fault.Code.{Code}
-use Rattle.source.specs.declared.fault.Code.TheVariants.{BadCharacter, NumberTooLarge, UnexpectedToken, NestedTooDeep, DeclaredTwice, UnknownName, WrongType, WrongArgumentCount, NotAssignable, NeitherFinalNorProtected, ProtectedByNoLock, ProtectedByPassesNonFinal, UnstableBase, LockOrderCycle, LimitExceeded, FinalWithoutOpeningValue, InitOutOfRangeOrRepeated, MisplacedReturn, LockAsValue, RecursiveHelper}
+use Rattle.source.specs.declared.fault.Code.TheVariants.{BadCharacter, NumberTooLarge, UnexpectedToken, NestedTooDeep}
+use Rattle.source.specs.declared.fault.Code.TheVariants.{DeclaredTwice, UnknownName, WrongType, WrongArgumentCount}
+use Rattle.source.specs.declared.fault.Code.TheVariants.{NotAssignable, NeitherFinalNorProtected, ProtectedByNoLock}
+use Rattle.source.specs.declared.fault.Code.TheVariants.{ProtectedByPassesNonFinal, UnstableBase, LockOrderCycle}
+use Rattle.source.specs.declared.fault.Code.TheVariants.{LimitExceeded, FinalWithoutOpeningValue}
+use Rattle.source.specs.declared.fault.Code.TheVariants.{InitOutOfRangeOrRepeated, MisplacedReturn, LockAsValue}
+use Rattle.source.specs.declared.fault.Code.TheVariants.{RecursiveHelper}
 use Rattle.source.specs.declared.fault.Refusal.{Refusal}
 use Rattle.source.specs.declared.fault.Refusal.TheVariants as refusal
 use Rattle.source.specs.declared.mistake.Mistake.{Mistake}

@@ -1,14 +1,21 @@
 -- Which tokens a text has.
-use Rattle.std.specs.Prelude.{◌≡◌, ℕ, ◌+◌, ◌-◌, ◌*◌, ◌<◌, ◌≤◌, Bool, not, ◌&&◌, ◌||◌, ◌==◌, nat_le, List, [], ◌∷◌, ◌++◌, length, fold, codes, slice_range, string_bytes, IsTrue}
+use Rattle.std.specs.Prelude.{◌≡◌, ℕ, ◌+◌, ◌-◌, ◌*◌, ◌<◌, ◌≤◌, Bool, not, ◌&&◌, ◌||◌, ◌==◌, nat_le, List, [], ◌∷◌}
+use Rattle.std.specs.Prelude.{◌++◌, length, fold, codes, slice_range, string_bytes, IsTrue}
 use Rattle.std.specs.List.{list_all}
 use Rattle.source.specs.declared.fault.Code.{Code}
 use Rattle.source.specs.declared.fault.Code.TheVariants.{BadCharacter, NumberTooLarge, LimitExceeded}
 use Rattle.source.specs.declared.fault.Refusal.{Refusal}
 use Rattle.source.specs.declared.fault.Refusal.TheVariants.{Fault, NoMemory}
 use Rattle.source.specs.declared.token.Keyword.{Keyword}
-use Rattle.source.specs.declared.token.Keyword.TheVariants.{Lock, Struct, Final, Ref, Int, Global, ProtectedBy, Pool, Init, Atomic, Let, Var, If, Else, While, Print, Return, Thread, Repeat, Null, Where, Call}
+use Rattle.source.specs.declared.token.Keyword.TheVariants.{Lock, Struct, Final, Ref, Int, Global, ProtectedBy, Pool}
+use Rattle.source.specs.declared.token.Keyword.TheVariants.{Init, Atomic, Let, Var, If, Else, While, Print, Return}
+use Rattle.source.specs.declared.token.Keyword.TheVariants.{Thread, Repeat, Null, Where, Call}
 use Rattle.source.specs.declared.token.Sign.{Sign}
-use Rattle.source.specs.declared.token.Sign.TheVariants.{OpenBrace, CloseBrace, OpenParen, CloseParen, OpenBracket, CloseBracket, Semicolon, Comma, Colon, Dot, Equals, DoubleEquals, NotEquals, Less, LessEquals, Greater, GreaterEquals, Plus, Minus, Star, Slash, Percent, And, Or, Not}
+use Rattle.source.specs.declared.token.Sign.TheVariants.{OpenBrace, CloseBrace, OpenParen, CloseParen, OpenBracket}
+use Rattle.source.specs.declared.token.Sign.TheVariants.{CloseBracket, Semicolon, Comma, Colon, Dot, Equals}
+use Rattle.source.specs.declared.token.Sign.TheVariants.{DoubleEquals, NotEquals, Less, LessEquals, Greater}
+use Rattle.source.specs.declared.token.Sign.TheVariants.{GreaterEquals, Plus, Minus, Star, Slash, Percent, And, Or}
+use Rattle.source.specs.declared.token.Sign.TheVariants.{Not}
 use Rattle.source.specs.Tokens.{Lexeme, name, int, word, mark, end, Tok}
 
 -- ---- bytes
@@ -88,7 +95,8 @@ value_of digits = fold (λ n b. n * 10 + (b - 48)) 0 digits
 
 -- these bytes are this token, whatever its size
 pub data IsUnit : List ℕ → Lexeme → Type 0 where
-  is_name : {b : ℕ} {bs : List ℕ} → IsTrue (is_letter b) → IsTrue (list_all is_name_byte bs) → ((w : Keyword) → keyword_text w ≡ b ∷ bs → ⊥) → IsUnit (b ∷ bs) (name (b ∷ bs))
+  is_name : {b : ℕ} {bs : List ℕ} → IsTrue (is_letter b) → IsTrue (list_all is_name_byte bs) →
+      ((w : Keyword) → keyword_text w ≡ b ∷ bs → ⊥) → IsUnit (b ∷ bs) (name (b ∷ bs))
   is_number : {b : ℕ} {bs : List ℕ} → IsTrue (list_all is_digit (b ∷ bs)) → IsUnit (b ∷ bs) (int (value_of (b ∷ bs)))
   is_word : (w : Keyword) → IsUnit (keyword_text w) (word w)
   is_mark : (s : Sign) → IsUnit (sign_text s) (mark s)
@@ -127,7 +135,8 @@ is_in_line b = not (b == 10)
 pub data IsGap : List ℕ → List ℕ → Type 0 where
   no_gap : {rest : List ℕ} → IsGap rest rest
   white : {b : ℕ} {text rest : List ℕ} → IsTrue (is_white b) → IsGap text rest → IsGap (b ∷ text) rest
-  comment : (line : List ℕ) {text rest : List ℕ} → IsTrue (list_all is_in_line line) → IsLineEnd text → IsGap text rest → IsGap (47 ∷ 47 ∷ line ++ text) rest
+  comment : (line : List ℕ) {text rest : List ℕ} → IsTrue (list_all is_in_line line) → IsLineEnd text →
+      IsGap text rest → IsGap (47 ∷ 47 ∷ line ++ text) rest
 
 -- a comment begins here
 abbrev pub BeginsComment : List ℕ → Type 0
@@ -179,7 +188,8 @@ AreSlices text (t ∷ ts) = ((t.kind ≡ end → ⊥) → IsUnit (slice_range te
 -- the text up to here is tokens and what stands between them
 pub data Leads : List ℕ → List ℕ → Type 0 where
   here : {text : List ℕ} → Leads text text
-  past : {text bytes rest here : List ℕ} {k : Lexeme} → IsNext text bytes rest k → IsWithin k → Leads rest here → Leads text here
+  past : {text bytes rest here : List ℕ} {k : Lexeme} → IsNext text bytes rest k → IsWithin k → Leads rest here →
+      Leads text here
 
 -- E01: after tokens, a byte that begins no token and no comment and is no white space
 pub record IsBadCharacter (total : ℕ) (text : List ℕ) (start : ℕ) : Type 0 where
@@ -206,13 +216,15 @@ pub record IsOver (total : ℕ) (text : List ℕ) (start : ℕ) (k : Lexeme) : T
 -- the fault of what is left of a text of so many bytes: E01, E02, or E15 of a name
 pub data IsFaultFrom (total : ℕ) (text : List ℕ) : Code → ℕ → Type 0 where
   bad_character : {start : ℕ} → IsBadCharacter total text start → IsFaultFrom total text BadCharacter start
-  too_large : {start : ℕ} (value : ℕ) → IsOver total text start (int value) → IsFaultFrom total text NumberTooLarge start
+  too_large : {start : ℕ} (value : ℕ) → IsOver total text start (int value) →
+      IsFaultFrom total text NumberTooLarge start
   too_long : {start : ℕ} (x : List ℕ) → IsOver total text start (name x) → IsFaultFrom total text LimitExceeded start
 
 -- a source over the limit has one fault alone, E15 at its first byte
 pub data IsFault (text : List ℕ) : Code → ℕ → Type 0 where
   too_big : SOURCE_LIMIT < length text → IsFault text LimitExceeded 0
-  within : {code : Code} {start : ℕ} → length text ≤ SOURCE_LIMIT → IsFaultFrom (length text) text code start → IsFault text code start
+  within : {code : Code} {start : ℕ} → length text ≤ SOURCE_LIMIT → IsFaultFrom (length text) text code start →
+      IsFault text code start
 
 -- the refusal is a fault of the text, with no detail, or for want of memory
 abbrev pub IsRefusal : List ℕ → Refusal → Type 0

@@ -1,5 +1,6 @@
 -- One line of a history at a time.
-use Rattle.std.proofs.Common.{◌≡◌, ◌∙◌, ◌<◌, ◌≤◌, ◌+◌, ℕ, List, [], ◌∷◌, ◌++◌, ap, sym, refl, inl, inr, arith, Result, Ok, Err, Some, None, Option, append_assoc, length, take, drop}
+use Rattle.std.proofs.Common.{◌≡◌, ◌∙◌, ◌<◌, ◌≤◌, ◌+◌, ℕ, List, [], ◌∷◌, ◌++◌, ap, sym, refl, inl, inr, arith, Result}
+use Rattle.std.proofs.Common.{Ok, Err, Some, None, Option, append_assoc, length, take, drop}
 use Rattle.std.proofs.lemmas.Bool.{le-ltb, lt-ltb, cases_lt}
 use Rattle.std.proofs.lemmas.List.{append-nil, length-take-le}
 use Rattle.std.proofs.lemmas.List.Splits.{length-slice_split}
@@ -15,7 +16,10 @@ use Rattle.source_histories.specs.declared.refusal.HistoryRefusal.TheVariants.{F
 use Rattle.source_histories.specs.declared.stage.Stage.{Stage}
 use Rattle.source_histories.specs.declared.stage.Stage.TheVariants.{Opening}
 use Rattle.source_histories.specs.Lines.{after, format_of}
-use Rattle.source_histories.specs.Histories.{History, Lines, Answers, Continues, IfFault, IsEnd, IsFaultOfEnd, IsFaultOfLine, TakesLine, fault_at, history_in, history_left, history_of_pieces, in_front, lines_from, lines_read, most_bytes, recorded_lines, with_format}
+use Rattle.source_histories.specs.Histories.{History, Lines, Answers, Continues, IfFault, IsEnd, IsFaultOfEnd}
+use Rattle.source_histories.specs.Histories.{IsFaultOfLine, TakesLine, fault_at, history_in, history_left}
+use Rattle.source_histories.specs.Histories.{history_of_pieces, in_front, lines_from, lines_read, most_bytes}
+use Rattle.source_histories.specs.Histories.{recorded_lines, with_format}
 use Rattle.source_histories.proofs.Cuts.{split_more, split_last}
 
 -- nothing in front
@@ -75,13 +79,15 @@ module _ (text : List ℕ) (place : ℕ) (is : place ≡ position_or_len feed te
       ap history_of_pieces (split_last feed text (omega (arith, is, all)))
       ∙ rw (le-ltb most_bytes (length text) (omega (arith, short, all))) refl
 
-  pub first_bad : place < length text → place ≤ most_bytes → format_of (take place text) ≡ None → history_in text ≡ fault_at BadHeader 1
+  pub first_bad : place < length text → place ≤ most_bytes → format_of (take place text) ≡ None →
+      history_in text ≡ fault_at BadHeader 1
   first_bad less short none =
       let first = first_of_more text place is less in
       ap history_of_pieces first.2
       ∙ rw (le-ltb most_bytes (length (take place text)) (omega (arith, length-take-le place text (omega arith), short)), none) refl
 
-  pub first_good : (format : Format) → place < length text → place ≤ most_bytes → format_of (take place text) ≡ Some format →
+  pub first_good : (format : Format) → place < length text → place ≤ most_bytes →
+      format_of (take place text) ≡ Some format →
       history_in text ≡ with_format format (lines_from format Opening 2 (slice_split feed (drop (place + 1) text)))
   first_good format less short some =
       let first = first_of_more text place is less in

@@ -1,11 +1,13 @@
 -- The forms of a history's lines, and which may follow which.
-use Rattle.std.specs.Prelude.{ℕ, Bool, true, false, ◌==◌, ◌&&◌, ◌||◌, List, [], ◌∷◌, length, drop, nat_le, codes, Option, Some, None, if◌then◌else◌}
+use Rattle.std.specs.Prelude.{ℕ, Bool, true, false, ◌==◌, ◌&&◌, ◌||◌, List, [], ◌∷◌, length, drop, nat_le, codes}
+use Rattle.std.specs.Prelude.{Option, Some, None, if◌then◌else◌}
 use Rattle.std.specs.Str.{bytes_eq}
 use Rattle.source_histories.specs.declared.format.Format.{Format}
 use Rattle.source_histories.specs.declared.format.Format.TheVariants.{One, Two}
 use Rattle.source_histories.specs.declared.stage.Stage.{Stage}
 use Rattle.source_histories.specs.declared.stage.Stage.TheVariants.{Opening, Called, Cells, Ended}
-use Rattle.source_histories.specs.Pieces.{before, behind, begins, is_name, is_count, is_number, is_value, is_member, are_arguments}
+use Rattle.source_histories.specs.Pieces.{before, behind, begins, is_name, is_count, is_number, is_value, is_member}
+use Rattle.source_histories.specs.Pieces.{are_arguments}
 
 -- the first line, of each format
 abbrev pub header_of : Format → List ℕ

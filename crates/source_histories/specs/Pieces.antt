@@ -1,5 +1,6 @@
 -- The pieces of a history's lines: what stands before and behind a byte, names, numbers, values.
-use Rattle.std.specs.Prelude.{ℕ, ◌^◌, Bool, true, false, ◌==◌, ◌&&◌, ◌||◌, not, nat_lt, nat_le, List, [], ◌∷◌, length, drop, codes, Option, Some, None, ◌+◌, if◌then◌else◌}
+use Rattle.std.specs.Prelude.{ℕ, ◌^◌, Bool, true, false, ◌==◌, ◌&&◌, ◌||◌, not, nat_lt, nat_le, List, [], ◌∷◌, length}
+use Rattle.std.specs.Prelude.{drop, codes, Option, Some, None, ◌+◌, if◌then◌else◌}
 use Rattle.std.specs.List.{list_all, before_first, after_first, slice_split, starts_with}
 use Rattle.std.specs.Str.{bytes_eq}
 use Rattle.source.specs.Texts.{is_letter, is_name_byte, is_digit, value_of}

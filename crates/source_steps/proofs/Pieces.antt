@@ -3,13 +3,15 @@ use Rattle.std.proofs.lemmas.List.Splits.{slice_split_first, slice_split_none}
 use Rattle.std.proofs.lemmas.List.Sums.{fails_before_first}
 use Rattle.std.proofs.lemmas.List.{take_all, length-take-le, append-nil}
 use Rattle.std.proofs.lemmas.Bool.{cases_lt}
-use Rattle.std.proofs.Common.{sym, inl, inr, ◌≤◌, ◌≡◌, ◌∙◌, ℕ, ◌+◌, ◌<◌, List, [], ◌∷◌, ◌++◌, length, take, drop, ap, refl, arith, Result, Ok, Err, append_assoc}
+use Rattle.std.proofs.Common.{sym, inl, inr, ◌≤◌, ◌≡◌, ◌∙◌, ℕ, ◌+◌, ◌<◌, List, [], ◌∷◌, ◌++◌, length, take, drop, ap}
+use Rattle.std.proofs.Common.{refl, arith, Result, Ok, Err, append_assoc}
 use Rattle.std.specs.List.{slice_split, position_or_len}
 use Rattle.source_steps.specs.declared.turn.Turn.{Turn}
 use Rattle.source_steps.specs.declared.refusal.StepsFault.{StepsFault}
 use Rattle.source_steps.specs.declared.refusal.StepsRefusal.{StepsRefusal}
 use Rattle.source_steps.specs.declared.refusal.StepsRefusal.TheVariants.{Fault, NoMemory}
-use Rattle.source_steps.specs.Steps.{IfFault, IsFaultOfPiece, Answers, is_white, turn_of, in_front, and_then, turns_from, turns_in}
+use Rattle.source_steps.specs.Steps.{IfFault, IsFaultOfPiece, Answers, is_white, turn_of, in_front, and_then}
+use Rattle.source_steps.specs.Steps.{turns_from, turns_in}
 
 -- nothing in front
 pub in_front-nil : (said : Result (List Turn) StepsFault) → in_front [] said ≡ said

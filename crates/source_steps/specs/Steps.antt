@@ -1,5 +1,6 @@
 -- What a steps file says.
-use Rattle.std.specs.Prelude.{◌≡◌, ℕ, ◌+◌, ◌*◌, ◌-◌, Bool, ◌==◌, ◌&&◌, ◌||◌, not, nat_le, nat_lt, if◌then◌else◌, List, [], ◌∷◌, ◌++◌, length, take, drop, ⊤, Result, Ok, Err, codes}
+use Rattle.std.specs.Prelude.{◌≡◌, ℕ, ◌+◌, ◌*◌, ◌-◌, Bool, ◌==◌, ◌&&◌, ◌||◌, not, nat_le, nat_lt, if◌then◌else◌, List}
+use Rattle.std.specs.Prelude.{[], ◌∷◌, ◌++◌, length, take, drop, ⊤, Result, Ok, Err, codes}
 use Rattle.std.specs.List.{slice_split, list_all, fold, position_or_len}
 use Rattle.std.specs.Global.{Vec}
 use Rattle.source.specs.Faults.{place_text}

@@ -1,5 +1,6 @@
 -- What a printer adds, piece by piece.
-use Rattle.std.proofs.Common.{◌≡◌, ℕ, ◌<◌, ◌≤◌, ◌+◌, List, [], ◌∷◌, ◌++◌, Bool, Result, Ok, Err, true, false, length, get_or, drop, string_bytes, refl, sym, ap, ◌∙◌, append_assoc, subst}
+use Rattle.std.proofs.Common.{◌≡◌, ℕ, ◌<◌, ◌≤◌, ◌+◌, List, [], ◌∷◌, ◌++◌, Bool, Result, Ok, Err, true, false, length}
+use Rattle.std.proofs.Common.{get_or, drop, string_bytes, refl, sym, ap, ◌∙◌, append_assoc, subst}
 use Rattle.std.specs.Prelude.{not, if◌then◌else◌}
 use Rattle.std.specs.Result.{OnOk, is_ok}
 use Rattle.std.proofs.lemmas.List.{append-nil, at_drop_more, at_drop_all}
@@ -17,7 +18,8 @@ followed_by {p = p} {x = x} {y = y} a b = record {
 }
 
 -- the same, where the second is two in one
-pub followed_by_both : {p q r : Printer} {x : List ℕ} (y z : List ℕ) → Adds p q x → Adds q r (y ++ z) → Adds p r (x ++ y ++ z)
+pub followed_by_both : {p q r : Printer} {x : List ℕ} (y z : List ℕ) → Adds p q x → Adds q r (y ++ z) →
+    Adds p r (x ++ y ++ z)
 followed_by_both {p = p} {r = r} {x = x} y z a b = subst (Adds p r) (sym (append_assoc x y z)) (followed_by a b)
 
 pub spelled : {p q : Printer} {x y : List ℕ} → x ≡ y → Adds p q x → Adds p q y
@@ -31,7 +33,8 @@ pub record Leads (first here : Printer) (rest whole : List ℕ) : Type 0 where
 pub at_first : (p : Printer) (whole : List ℕ) → Leads p p whole whole
 at_first p whole = record { unrefused = λ ok. ok; bytes = λ ok. refl }
 
-pub one_further : {p q r : Printer} {x rest whole : List ℕ} → Leads p q (x ++ rest) whole → Adds q r x → Leads p r rest whole
+pub one_further : {p q r : Printer} {x rest whole : List ℕ} → Leads p q (x ++ rest) whole → Adds q r x →
+    Leads p r rest whole
 one_further {q = q} {x = x} {rest = rest} l a = record {
   unrefused = λ ok. l.unrefused (a.unrefused ok);
   bytes = λ ok. ap (λ (s : List ℕ). s ++ rest) (a.bytes ok) ∙ append_assoc (string_bytes q.text) x rest ∙ l.bytes (a.unrefused ok);
@@ -44,7 +47,8 @@ at_last {q = q} l = record {
 }
 
 -- `rest` gives what is printed of a list's rest: one item further
-pub item_added : {B : Type 0} {p q r : Printer} {piece whole : List ℕ} (rest : List B → List ℕ) (xs : List B) (i : ℕ) (x : B)
+pub item_added : {B : Type 0} {p q r : Printer} {piece whole : List ℕ} (rest : List B →
+    List ℕ) (xs : List B) (i : ℕ) (x : B)
     → i < length xs → x ≡ get_or xs i x → rest (x ∷ drop (i + 1) xs) ≡ piece ++ rest (drop (i + 1) xs)
     → Leads p q (rest (drop i xs)) whole → Adds q r piece → Leads p r (rest (drop (i + 1) xs)) whole
 item_added {p = p} {q = q} {whole = whole} rest xs i x below is begins l a =
@@ -71,10 +75,12 @@ where_ok : {T E P : Type 0} (r : Result T E) → is_ok r ≡ true → OnOk r P �
 where_ok (Ok x) e h = h
 where_ok (Err x) e h = absurd cc
 
-pub tried_as : {T E : Type 0} {p q : Printer} {text : List ℕ} (r : Result T E) → p.is_refused ≡ false → is_ok r ≡ not q.is_refused
+pub tried_as : {T E : Type 0} {p q : Printer} {text : List ℕ} (r : Result T E) → p.is_refused ≡ false →
+    is_ok r ≡ not q.is_refused
     → OnOk r (string_bytes q.text ≡ string_bytes p.text ++ text) → Adds p q text
 tried_as r fresh well e = record { unrefused = λ ok. fresh; bytes = λ ok. where_ok r (rw (well, ok) refl) e }
 
 -- the whole of what was added to an empty text
-pub all_there : {p q : Printer} {text : List ℕ} → string_bytes p.text ≡ [] → Adds p q text → q.is_refused ≡ false → string_bytes q.text ≡ text
+pub all_there : {p q : Printer} {text : List ℕ} → string_bytes p.text ≡ [] → Adds p q text → q.is_refused ≡ false →
+    string_bytes q.text ≡ text
 all_there {text = text} none a ok = a.bytes ok ∙ ap (λ (s : List ℕ). s ++ text) none

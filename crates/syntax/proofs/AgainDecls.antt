@@ -5,14 +5,30 @@ use Rattle.source.specs.declared.span.Span.{Span}
 use Rattle.source.specs.declared.token.Keyword.TheVariants as keyword
 use Rattle.source.specs.declared.token.Sign.TheVariants.{OpenBrace, CloseBrace, CloseParen, Semicolon, Colon, Equals}
 use Rattle.source.specs.Tokens.{Tok}
-use Rattle.syntax.specs.Trees.{Protection, Variable, Array, Member, lock_member, final_member, field_member, Section, Call, Item, repeat, Items, no_items, item, Init, Decl, lock, struct, global, array, pool, init, atomic, helper, thread}
+use Rattle.syntax.specs.Trees.{Protection, Variable, Array, Member, lock_member, final_member, field_member, Section}
+use Rattle.syntax.specs.Trees.{Call, Item, repeat, Items, no_items, item, Init, Decl, lock, struct, global, array}
+use Rattle.syntax.specs.Trees.{pool, init, atomic, helper, thread}
 use Rattle.syntax.specs.Views.{option_of}
-use Rattle.syntax.specs.Grammar.{IsOptional, AreMany, no_more, one_more, IsAfter, IsType, IsConst, IsProtection, is_protection, is_field, is_final, IsMember, is_lock_member, is_final_member, is_field_member, is_struct, IsVariable, is_variable, IsArray, is_array, is_pool, IsInit, is_init, IsParam, is_param, IsSection, is_section, is_block, IsCall, is_call, IsItem, is_call_item, is_repeat, IsItems, are_no_items, are_items, is_thread, IsDecl, is_lock, is_struct_decl, is_global, is_array_decl, is_pool_decl, is_init_decl, is_atomic, is_helper, is_thread_decl}
-use Rattle.syntax.specs.Working.Printing.{many_text, listed_text, optional_text, index_text, type_text, const_text, field_text, indent, deeper, stmts_text, protection_text, value_text, result_text, member_text, param_text, call_text, item_text, items_text, decl_text}
-use Rattle.syntax.specs.Working.Bare.{nowhere, bare_type, bare_const, bare_number, bare_variable, bare_array, bare_init, bare_protection, bare_member, bare_param, bare_section, bare_call, bare_item, bare_items, bare_decl, bare}
+use Rattle.syntax.specs.Grammar.{IsOptional, AreMany, no_more, one_more, IsAfter, IsType, IsConst, IsProtection}
+use Rattle.syntax.specs.Grammar.{is_protection, is_field, is_final, IsMember, is_lock_member, is_final_member}
+use Rattle.syntax.specs.Grammar.{is_field_member, is_struct, IsVariable, is_variable, IsArray, is_array, is_pool}
+use Rattle.syntax.specs.Grammar.{IsInit, is_init, IsParam, is_param, IsSection, is_section, is_block, IsCall, is_call}
+use Rattle.syntax.specs.Grammar.{IsItem, is_call_item, is_repeat, IsItems, are_no_items, are_items, is_thread, IsDecl}
+use Rattle.syntax.specs.Grammar.{is_lock, is_struct_decl, is_global, is_array_decl, is_pool_decl, is_init_decl}
+use Rattle.syntax.specs.Grammar.{is_atomic, is_helper, is_thread_decl}
+use Rattle.syntax.specs.Working.Printing.{many_text, listed_text, optional_text, index_text, type_text, const_text}
+use Rattle.syntax.specs.Working.Printing.{field_text, indent, deeper, stmts_text, protection_text, value_text}
+use Rattle.syntax.specs.Working.Printing.{result_text, member_text, param_text, call_text, item_text, items_text}
+use Rattle.syntax.specs.Working.Printing.{decl_text}
+use Rattle.syntax.specs.Working.Bare.{nowhere, bare_type, bare_const, bare_number, bare_variable, bare_array}
+use Rattle.syntax.specs.Working.Bare.{bare_init, bare_protection, bare_member, bare_param, bare_section, bare_call}
+use Rattle.syntax.specs.Working.Bare.{bare_item, bare_items, bare_decl, bare}
 use Rattle.syntax.proofs.Marks.{Apart}
-use Rattle.syntax.proofs.Good.{Good, type_good, const_good, index_good, optional_good, listed_good, protection_good, result_good, member_good, param_good, item_good, decl_good}
-use Rattle.syntax.proofs.Backward.{kinds, Reads, start_of, named, numbered, along, word_on, sign_on, name_on, number_on, paren_on, dot_on, gap_on, line_on, indent_on, Again, Rereads, many_apart, many_again, after_again, listed_again, optional_again}
+use Rattle.syntax.proofs.Good.{Good, type_good, const_good, index_good, optional_good, listed_good, protection_good}
+use Rattle.syntax.proofs.Good.{result_good, member_good, param_good, item_good, decl_good}
+use Rattle.syntax.proofs.Backward.{kinds, Reads, start_of, named, numbered, along, word_on, sign_on, name_on}
+use Rattle.syntax.proofs.Backward.{number_on, paren_on, dot_on, gap_on, line_on, indent_on, Again, Rereads}
+use Rattle.syntax.proofs.Backward.{many_apart, many_again, after_again, listed_again, optional_again}
 use Rattle.syntax.proofs.AgainExprs.{type_again, index_again, const_again, fields_again, fields_apart}
 use Rattle.syntax.proofs.AgainStmts.{braced_again}
 
@@ -24,32 +40,39 @@ protection_line x fs tail = simp append_assoc
 two_names_line : (x y tail : List ℕ) → (((x ++ 32 ∷ []) ++ y) ++ 59 ∷ []) ++ tail ≡ x ++ 32 ∷ (y ++ 59 ∷ tail)
 two_names_line x y tail = simp append_assoc
 
-field_line : (t x p tail : List ℕ) → ((((t ++ 32 ∷ []) ++ x) ++ p) ++ 59 ∷ []) ++ tail ≡ t ++ 32 ∷ (x ++ (p ++ 59 ∷ tail))
+field_line : (t x p tail : List ℕ) →
+    ((((t ++ 32 ∷ []) ++ x) ++ p) ++ 59 ∷ []) ++ tail ≡ t ++ 32 ∷ (x ++ (p ++ 59 ∷ tail))
 field_line t x p tail = simp append_assoc
 
-variable_line : (t x p v tail : List ℕ) → (((((t ++ 32 ∷ []) ++ x) ++ p) ++ v) ++ 59 ∷ 10 ∷ []) ++ tail ≡ t ++ 32 ∷ (x ++ (p ++ (v ++ 59 ∷ 10 ∷ tail)))
+variable_line : (t x p v tail : List ℕ) →
+    (((((t ++ 32 ∷ []) ++ x) ++ p) ++ v) ++ 59 ∷ 10 ∷ []) ++ tail ≡ t ++ 32 ∷ (x ++ (p ++ (v ++ 59 ∷ 10 ∷ tail)))
 variable_line t x p v tail = simp append_assoc
 
-pool_line : (x y n tail : List ℕ) → ((((x ++ 32 ∷ []) ++ y) ++ n) ++ 59 ∷ 10 ∷ []) ++ tail ≡ x ++ 32 ∷ (y ++ (n ++ 59 ∷ 10 ∷ tail))
+pool_line : (x y n tail : List ℕ) →
+    ((((x ++ 32 ∷ []) ++ y) ++ n) ++ 59 ∷ 10 ∷ []) ++ tail ≡ x ++ 32 ∷ (y ++ (n ++ 59 ∷ 10 ∷ tail))
 pool_line x y n tail = simp append_assoc
 
-init_line : (p n x c tail : List ℕ) → ((((((p ++ n) ++ 46 ∷ []) ++ x) ++ 32 ∷ 61 ∷ 32 ∷ []) ++ c) ++ 59 ∷ 10 ∷ []) ++ tail ≡ p ++ (n ++ 46 ∷ (x ++ 32 ∷ 61 ∷ 32 ∷ (c ++ 59 ∷ 10 ∷ tail)))
+init_line : (p n x c tail : List ℕ) →
+    ((((((p ++ n) ++ 46 ∷ []) ++ x) ++ 32 ∷ 61 ∷ 32 ∷ []) ++ c) ++ 59 ∷ 10 ∷ []) ++ tail ≡ p ++ (n ++ 46 ∷ (x ++ 32 ∷ 61 ∷ 32 ∷ (c ++ 59 ∷ 10 ∷ tail)))
 init_line p n x c tail = simp append_assoc
 
 call_line : (x cs tail : List ℕ) → (((x ++ 40 ∷ []) ++ cs) ++ 41 ∷ 59 ∷ []) ++ tail ≡ x ++ 40 ∷ (cs ++ 41 ∷ 59 ∷ tail)
 call_line x cs tail = simp append_assoc
 
-repeat_line : (n is i tail : List ℕ) → (n ++ 32 ∷ 123 ∷ (((is ++ 10 ∷ []) ++ i) ++ 125 ∷ [])) ++ tail ≡ n ++ 32 ∷ 123 ∷ (is ++ 10 ∷ (i ++ 125 ∷ tail))
+repeat_line : (n is i tail : List ℕ) →
+    (n ++ 32 ∷ 123 ∷ (((is ++ 10 ∷ []) ++ i) ++ 125 ∷ [])) ++ tail ≡ n ++ 32 ∷ 123 ∷ (is ++ 10 ∷ (i ++ 125 ∷ tail))
 repeat_line n is i tail = simp append_assoc
 
 item_line : (i x is tail : List ℕ) → ((i ++ x) ++ is) ++ tail ≡ i ++ (x ++ (is ++ tail))
 item_line i x is tail = simp append_assoc
 
 -- a name, and lines in braces
-block_line : (x ls tail : List ℕ) → (((x ++ 32 ∷ 123 ∷ []) ++ ls) ++ 10 ∷ 125 ∷ 10 ∷ []) ++ tail ≡ x ++ 32 ∷ 123 ∷ (ls ++ 10 ∷ 125 ∷ 10 ∷ tail)
+block_line : (x ls tail : List ℕ) →
+    (((x ++ 32 ∷ 123 ∷ []) ++ ls) ++ 10 ∷ 125 ∷ 10 ∷ []) ++ tail ≡ x ++ 32 ∷ 123 ∷ (ls ++ 10 ∷ 125 ∷ 10 ∷ tail)
 block_line x ls tail = simp append_assoc
 
-section_line : (x ps t ss tail : List ℕ) → (((((((x ++ 40 ∷ []) ++ ps) ++ 41 ∷ []) ++ t) ++ 32 ∷ 123 ∷ []) ++ ss) ++ 10 ∷ 125 ∷ 10 ∷ []) ++ tail ≡ x ++ 40 ∷ (ps ++ 41 ∷ (t ++ 32 ∷ 123 ∷ (ss ++ 10 ∷ 125 ∷ 10 ∷ tail)))
+section_line : (x ps t ss tail : List ℕ) →
+    (((((((x ++ 40 ∷ []) ++ ps) ++ 41 ∷ []) ++ t) ++ 32 ∷ 123 ∷ []) ++ ss) ++ 10 ∷ 125 ∷ 10 ∷ []) ++ tail ≡ x ++ 40 ∷ (ps ++ 41 ∷ (t ++ 32 ∷ 123 ∷ (ss ++ 10 ∷ 125 ∷ 10 ∷ tail)))
 section_line x ps t ss tail = simp append_assoc
 
 -- ---- parts that may be left out
@@ -77,7 +100,8 @@ protection_again p ts rest (is_protection f) g total tail r a =
 maybe_protected : Rereads (λ p ts rest. IsOptional IsProtection p ts rest) (option_of bare_protection) (optional_text protection_text)
 maybe_protected p ts rest f = optional_again IsProtection bare_protection protection_text protection_again p ts rest f
 
-optional_apart : {A : Type 0} (text : A → List ℕ) → ((x : A) (tail : List ℕ) → Apart (text x ++ tail)) → (x : Option A) (tail : List ℕ) → Apart tail → Apart (optional_text text x ++ tail)
+optional_apart : {A : Type 0} (text : A → List ℕ) → ((x : A) (tail : List ℕ) → Apart (text x ++ tail)) →
+    (x : Option A) (tail : List ℕ) → Apart tail → Apart (optional_text text x ++ tail)
 optional_apart text apart None tail a = a
 optional_apart text apart (Some x) tail a = apart x tail
 
@@ -137,7 +161,9 @@ param_again p ts rest (is_param t) g total tail r a =
     three_line : (t x tail : List ℕ) → ((t ++ 32 ∷ []) ++ x) ++ tail ≡ t ++ 32 ∷ (x ++ tail)
     three_line t x tail = simp append_assoc
 
-call_again : {c : Call} {ts rest : List Tok} → IsCall c ts rest → Good ts → {total : ℕ} {tail : List ℕ} (r : Reads total tail (kinds rest)) → Apart tail → Again IsCall bare_call c total (call_text c ++ tail) ts r.tokens
+call_again : {c : Call} {ts rest : List Tok} → IsCall c ts rest → Good ts →
+    {total : ℕ} {tail : List ℕ} (r : Reads total tail (kinds rest)) → Apart tail →
+    Again IsCall bare_call c total (call_text c ++ tail) ts r.tokens
 call_again (is_call {c} f) g {total} {tail} r a =
     let cs = listed_again IsConst bare_const const_text const_good const_again c.arguments _ _ f g.1.1 total _ (sign_on CloseParen (sign_on Semicolon r a) refl) refl in
     let n = name_on c.section.text g.0 (paren_on cs.reads) refl in
@@ -153,7 +179,9 @@ items_apart d no_items tail a = a
 items_apart d (item i more) tail a = refl
 
 mutual
-  item_again : {i : Item} {ts rest : List Tok} → IsItem i ts rest → Good ts → (d : ℕ) {total : ℕ} {tail : List ℕ} (r : Reads total tail (kinds rest)) → Apart tail → Again IsItem bare_item i total (item_text d i ++ tail) ts r.tokens
+  item_again : {i : Item} {ts rest : List Tok} → IsItem i ts rest → Good ts →
+      (d : ℕ) {total : ℕ} {tail : List ℕ} (r : Reads total tail (kinds rest)) → Apart tail →
+      Again IsItem bare_item i total (item_text d i ++ tail) ts r.tokens
   item_again (is_call_item f) g d r a =
       let i = call_again f g r a in
       record { reads = i.reads; tree = Item.call i.tree; is = is_call_item i.is; same = ap Item.call i.same }
@@ -168,7 +196,9 @@ mutual
         same = ap (repeat (bare_number n)) i.same;
       }
 
-  items_again : {is : Items} {ts rest : List Tok} → IsItems is ts rest → Good ts → (d : ℕ) {total : ℕ} {tail : List ℕ} (r : Reads total tail (kinds rest)) → Apart tail → Again IsItems bare_items is total (items_text d is ++ tail) ts r.tokens
+  items_again : {is : Items} {ts rest : List Tok} → IsItems is ts rest → Good ts →
+      (d : ℕ) {total : ℕ} {tail : List ℕ} (r : Reads total tail (kinds rest)) → Apart tail →
+      Again IsItems bare_items is total (items_text d is ++ tail) ts r.tokens
   items_again are_no_items g d r a = record { reads = r; tree = no_items; is = are_no_items; same = refl }
   items_again (are_items {i} {more} f l) g d {tail = tail} r a =
       let ls = items_again l (item_good f g) d r a in
@@ -180,7 +210,9 @@ mutual
         same = rw (x.same, ls.same) refl;
       }
 
-section_again : {s : Section} {ts rest : List Tok} → IsSection s ts rest → Good ts → {total : ℕ} {tail : List ℕ} (r : Reads total tail (kinds rest)) → Apart tail → Again IsSection bare_section s total (s.name.text ++ 40 ∷ (listed_text param_text s.params ++ 41 ∷ (optional_text result_text s.result ++ 32 ∷ 123 ∷ (stmts_text 1 s.body.stmts ++ 10 ∷ 125 ∷ tail)))) ts r.tokens
+section_again : {s : Section} {ts rest : List Tok} → IsSection s ts rest → Good ts →
+    {total : ℕ} {tail : List ℕ} (r : Reads total tail (kinds rest)) → Apart tail →
+    Again IsSection bare_section s total (s.name.text ++ 40 ∷ (listed_text param_text s.params ++ 41 ∷ (optional_text result_text s.result ++ 32 ∷ 123 ∷ (stmts_text 1 s.body.stmts ++ 10 ∷ 125 ∷ tail)))) ts r.tokens
 section_again (is_section {s} ps t (is_block b)) g {total} {tail} r a =
     let g2 = (listed_good param_good ps g.1.1).1 in
     let k = braced_again b (optional_good result_good t g2) 0 r a in
@@ -201,7 +233,9 @@ section_again (is_section {s} ps t (is_block b)) g {total} {tail} r a =
 abbrev init_from : Span → Init → Init
 init_from at i = record { start = at; pool = i.pool; index = i.index; field = i.field; value = i.value }
 
-global_again : {v : Variable} {ts rest : List Tok} → IsVariable v ts rest → Good ts → {total : ℕ} {tail : List ℕ} (r : Reads total tail (kinds rest)) → Again IsVariable bare_variable v total ((((((type_text v.value_type ++ 32 ∷ []) ++ v.name.text) ++ optional_text protection_text v.protection) ++ optional_text value_text v.value) ++ 59 ∷ 10 ∷ []) ++ tail) ts r.tokens
+global_again : {v : Variable} {ts rest : List Tok} → IsVariable v ts rest → Good ts →
+    {total : ℕ} {tail : List ℕ} (r : Reads total tail (kinds rest)) →
+    Again IsVariable bare_variable v total ((((((type_text v.value_type ++ 32 ∷ []) ++ v.name.text) ++ optional_text protection_text v.protection) ++ optional_text value_text v.value) ++ 59 ∷ 10 ∷ []) ++ tail) ts r.tokens
 global_again (is_variable {v} t p c) g {total} {tail} r =
     let g2 = type_good _ _ _ t g in
     let k = optional_again (IsAfter Equals IsConst) bare_const value_text value_again v.value _ _ c (optional_good protection_good p g2.1) total _ (sign_on Semicolon (line_on r) refl) refl in
@@ -215,10 +249,13 @@ global_again (is_variable {v} t p c) g {total} {tail} r =
       same = rw (y.same, q.same, k.same) refl;
     }
 
-array_line : (t x n p tail : List ℕ) → (((((t ++ 32 ∷ []) ++ x) ++ n) ++ p) ++ 59 ∷ 10 ∷ []) ++ tail ≡ t ++ 32 ∷ (x ++ (n ++ (p ++ 59 ∷ 10 ∷ tail)))
+array_line : (t x n p tail : List ℕ) →
+    (((((t ++ 32 ∷ []) ++ x) ++ n) ++ p) ++ 59 ∷ 10 ∷ []) ++ tail ≡ t ++ 32 ∷ (x ++ (n ++ (p ++ 59 ∷ 10 ∷ tail)))
 array_line t x n p tail = simp append_assoc
 
-array_again : {v : Array} {ts rest : List Tok} → IsArray v ts rest → Good ts → {total : ℕ} {tail : List ℕ} (r : Reads total tail (kinds rest)) → Again IsArray bare_array v total ((((((type_text v.value_type ++ 32 ∷ []) ++ v.name.text) ++ index_text v.length) ++ optional_text protection_text v.protection) ++ 59 ∷ 10 ∷ []) ++ tail) ts r.tokens
+array_again : {v : Array} {ts rest : List Tok} → IsArray v ts rest → Good ts →
+    {total : ℕ} {tail : List ℕ} (r : Reads total tail (kinds rest)) →
+    Again IsArray bare_array v total ((((((type_text v.value_type ++ 32 ∷ []) ++ v.name.text) ++ index_text v.length) ++ optional_text protection_text v.protection) ++ 59 ∷ 10 ∷ []) ++ tail) ts r.tokens
 array_again (is_array {a = v} t l p) g {total} {tail} r =
     let g2 = type_good _ _ _ t g in
     let q = maybe_protected v.protection _ _ p (index_good _ _ _ l g2.1) total _ (sign_on Semicolon (line_on r) refl) refl in
@@ -232,7 +269,9 @@ array_again (is_array {a = v} t l p) g {total} {tail} r =
       same = rw (y.same, m.same, q.same) refl;
     }
 
-init_again : {i : Init} {ts rest : List Tok} → IsInit i ts rest → Good ts → {total : ℕ} {tail : List ℕ} (r : Reads total tail (kinds rest)) → Again IsInit bare_init i total (((((((i.pool.text ++ index_text i.index) ++ 46 ∷ []) ++ i.field.text) ++ 32 ∷ 61 ∷ 32 ∷ []) ++ const_text i.value) ++ 59 ∷ 10 ∷ []) ++ tail) ts r.tokens
+init_again : {i : Init} {ts rest : List Tok} → IsInit i ts rest → Good ts →
+    {total : ℕ} {tail : List ℕ} (r : Reads total tail (kinds rest)) →
+    Again IsInit bare_init i total (((((((i.pool.text ++ index_text i.index) ++ 46 ∷ []) ++ i.field.text) ++ 32 ∷ 61 ∷ 32 ∷ []) ++ const_text i.value) ++ 59 ∷ 10 ∷ []) ++ tail) ts r.tokens
 init_again (is_init {i} l c) g {total} {tail} r =
     let g2 = (index_good _ _ _ l g.1).1 in
     let k = const_again i.value _ _ c g2.1.1 total _ (sign_on Semicolon (line_on r) refl) refl in
@@ -249,7 +288,9 @@ init_again (is_init {i} l c) g {total} {tail} r =
 init_restarted : (at : Span) {i : Init} {ts rest : List Tok} → IsInit i ts rest → IsInit (init_from at i) ts rest
 init_restarted at (is_init l c) = is_init l c
 
-pub decl_again : {d : Decl} {ts rest : List Tok} → IsDecl d ts rest → Good ts → {total : ℕ} {tail : List ℕ} (r : Reads total tail (kinds rest)) → Again IsDecl bare_decl d total (decl_text d ++ tail) ts r.tokens
+pub decl_again : {d : Decl} {ts rest : List Tok} → IsDecl d ts rest → Good ts →
+    {total : ℕ} {tail : List ℕ} (r : Reads total tail (kinds rest)) →
+    Again IsDecl bare_decl d total (decl_text d ++ tail) ts r.tokens
 decl_again (is_lock {x}) g {tail = tail} r =
     let n = name_on x.text g.1.0 (sign_on Semicolon (line_on r) refl) refl in
     let w = word_on keyword.Lock (gap_on (along (sym (append_assoc x.text (59 ∷ 10 ∷ []) tail)) n)) refl in
@@ -292,7 +333,9 @@ decl_again (is_thread_decl (is_thread {t} f)) g {total} {tail} r =
     record { reads = w; tree = thread (record { name = named t.name n; items = is.tree }); is = is_thread_decl (is_thread is.is); same = rw is.same refl }
 
 -- declarations, behind which anything may stand
-pub decls_again : {ds : List Decl} {ts rest : List Tok} → AreMany IsDecl ds ts rest → Good ts → {total : ℕ} {tail : List ℕ} (r : Reads total tail (kinds rest)) → Again (AreMany IsDecl) bare ds total (many_text decl_text ds ++ tail) ts r.tokens
+pub decls_again : {ds : List Decl} {ts rest : List Tok} → AreMany IsDecl ds ts rest → Good ts →
+    {total : ℕ} {tail : List ℕ} (r : Reads total tail (kinds rest)) →
+    Again (AreMany IsDecl) bare ds total (many_text decl_text ds ++ tail) ts r.tokens
 decls_again no_more g r = record { reads = r; tree = []; is = no_more; same = refl }
 decls_again (one_more {x = d} {xs = ds} f l) g {tail = tail} r =
     let ls = decls_again l (decl_good f g) r in

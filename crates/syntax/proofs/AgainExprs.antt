@@ -9,13 +9,23 @@ use Rattle.syntax.specs.declared.tree.Operator.{Operator}
 use Rattle.syntax.specs.declared.tree.Level.{Level}
 use Rattle.syntax.specs.declared.tree.Prefix.{Prefix}
 use Rattle.syntax.specs.declared.tree.Prefix.TheVariants.{Negate, Not}
-use Rattle.syntax.specs.Trees.{Ident, int_type, ref_type, int_const, negative, null_const, member_const, Place, lone, element, path, Expr, int, null, place, paren, prefix, chain, compare, Links, no_links, link}
-use Rattle.syntax.specs.Grammar.{sign_of, comparison_sign, rank, below, AreMany, IsAfter, after, IsName, is_name, IsType, is_int_type, is_ref_type, IsConst, is_int_const, is_negative, is_null_const, is_member_const, IsIndex, is_index, IsExpr, is_int, is_null, is_place, is_paren, is_prefix, is_chain, is_compare, IsPlace, is_lone, is_element, is_path, IsLinks, are_no_links, is_link}
-use Rattle.syntax.specs.Working.Printing.{many_text, index_text, type_text, const_text, field_text, prefix_text, comparison_text, expr_text, place_text, links_text}
-use Rattle.syntax.specs.Working.Bare.{nowhere, bare_name, bare_number, bare_type, bare_const, bare_expr, bare_place, bare_links}
+use Rattle.syntax.specs.Trees.{Ident, int_type, ref_type, int_const, negative, null_const, member_const, Place, lone}
+use Rattle.syntax.specs.Trees.{element, path, Expr, int, null, place, paren, prefix, chain, compare, Links, no_links}
+use Rattle.syntax.specs.Trees.{link}
+use Rattle.syntax.specs.Grammar.{sign_of, comparison_sign, rank, below, AreMany, IsAfter, after, IsName, is_name}
+use Rattle.syntax.specs.Grammar.{IsType, is_int_type, is_ref_type, IsConst, is_int_const, is_negative, is_null_const}
+use Rattle.syntax.specs.Grammar.{is_member_const, IsIndex, is_index, IsExpr, is_int, is_null, is_place, is_paren}
+use Rattle.syntax.specs.Grammar.{is_prefix, is_chain, is_compare, IsPlace, is_lone, is_element, is_path, IsLinks}
+use Rattle.syntax.specs.Grammar.{are_no_links, is_link}
+use Rattle.syntax.specs.Working.Printing.{many_text, index_text, type_text, const_text, field_text, prefix_text}
+use Rattle.syntax.specs.Working.Printing.{comparison_text, expr_text, place_text, links_text}
+use Rattle.syntax.specs.Working.Bare.{nowhere, bare_name, bare_number, bare_type, bare_const, bare_expr, bare_place}
+use Rattle.syntax.specs.Working.Bare.{bare_links}
 use Rattle.syntax.proofs.Marks.{Apart, Begins, name_begins, number_begins, decimal_unit}
 use Rattle.syntax.proofs.Good.{Good, expr_good, dotted_good}
-use Rattle.syntax.proofs.Backward.{kinds, Reads, start_of, named, numbered, along, word_on, sign_on, name_on, number_on, paren_on, bracket_on, dot_on, minus_on, not_on, gap_on, Again, Rereads, many_apart, many_again}
+use Rattle.syntax.proofs.Backward.{kinds, Reads, start_of, named, numbered, along, word_on, sign_on, name_on}
+use Rattle.syntax.proofs.Backward.{number_on, paren_on, bracket_on, dot_on, minus_on, not_on, gap_on, Again, Rereads}
+use Rattle.syntax.proofs.Backward.{many_apart, many_again}
 
 pub name_again : Rereads IsName bare_name (λ x. x.text)
 name_again x ts rest is_name g total tail r a =
@@ -103,12 +113,17 @@ links_apart no_links tail a = a
 links_apart (link op e more) tail a = refl
 
 -- a chain read again has at least one operator
-chained : {n : ℕ} {k : Level} {ts mid us : List Tok} (first e : Expr) (op : Operator) (x : Expr) (more l : Links) → rank k ≤ n → IsExpr (below k) e ts mid → IsLinks k l mid us → bare_expr e ≡ bare_expr first → bare_links l ≡ bare_links (link op x more) → (c : Expr) × IsExpr n c ts us × (bare_expr c ≡ bare_expr (chain k first (link op x more)))
+chained : {n : ℕ} {k : Level} {ts mid us : List Tok} (first e : Expr) (op : Operator) (x : Expr) (more l : Links) →
+    rank k ≤ n → IsExpr (below k) e ts mid → IsLinks k l mid us → bare_expr e ≡ bare_expr first →
+    bare_links l ≡ bare_links (link op x more) →
+    (c : Expr) × IsExpr n c ts us × (bare_expr c ≡ bare_expr (chain k first (link op x more)))
 chained {k = k} first e op x more no_links r f l p q = absurd cc
 chained {k = k} first e op x more (link o y others) r f l p q = (chain k e (link o y others), is_chain r f l, rw (p, q) refl)
 
 mutual
-  pub expr_again : {n : ℕ} {e : Expr} {ts rest : List Tok} → IsExpr n e ts rest → Good ts → {total : ℕ} {tail : List ℕ} (r : Reads total tail (kinds rest)) → Apart tail → Again (IsExpr n) bare_expr e total (expr_text e ++ tail) ts r.tokens
+  pub expr_again : {n : ℕ} {e : Expr} {ts rest : List Tok} → IsExpr n e ts rest → Good ts →
+      {total : ℕ} {tail : List ℕ} (r : Reads total tail (kinds rest)) → Apart tail →
+      Again (IsExpr n) bare_expr e total (expr_text e ++ tail) ts r.tokens
   expr_again (is_int {v}) g r a =
       let m = number_on v.value g.0 r a in
       record { reads = m; tree = int (numbered v m); is = is_int; same = refl }
@@ -146,7 +161,9 @@ mutual
         same = rw (j.same, i.same) refl;
       }
 
-  pub place_again : {p : Place} {ts rest : List Tok} → IsPlace p ts rest → Good ts → {total : ℕ} {tail : List ℕ} (r : Reads total tail (kinds rest)) → Apart tail → Again IsPlace bare_place p total (place_text p ++ tail) ts r.tokens
+  pub place_again : {p : Place} {ts rest : List Tok} → IsPlace p ts rest → Good ts →
+      {total : ℕ} {tail : List ℕ} (r : Reads total tail (kinds rest)) → Apart tail →
+      Again IsPlace bare_place p total (place_text p ++ tail) ts r.tokens
   place_again (is_lone {x}) g r a =
       let n = name_on x.text g.0 r a in
       record { reads = n; tree = lone (named x n); is = is_lone; same = refl }
@@ -165,7 +182,9 @@ mutual
         same = rw fs.same refl;
       }
 
-  pub links_again : {k : Level} {l : Links} {ts rest : List Tok} → IsLinks k l ts rest → Good ts → {total : ℕ} {tail : List ℕ} (r : Reads total tail (kinds rest)) → Apart tail → Again (IsLinks k) bare_links l total (links_text l ++ tail) ts r.tokens
+  pub links_again : {k : Level} {l : Links} {ts rest : List Tok} → IsLinks k l ts rest → Good ts →
+      {total : ℕ} {tail : List ℕ} (r : Reads total tail (kinds rest)) → Apart tail →
+      Again (IsLinks k) bare_links l total (links_text l ++ tail) ts r.tokens
   links_again are_no_links g r a = record { reads = r; tree = no_links; is = are_no_links; same = refl }
   links_again (is_link {op} {x} {more} f l) g {tail = tail} r a =
       let ls = links_again l (expr_good f g.1) r a in

@@ -2,20 +2,29 @@
 use Rattle.std.proofs.Common.{◌≡◌, ℕ, List, [], ◌∷◌, ◌++◌, refl, sym, ap, append_assoc}
 use Rattle.source.specs.declared.span.Span.{Span}
 use Rattle.source.specs.declared.token.Keyword.TheVariants as keyword
-use Rattle.source.specs.declared.token.Sign.TheVariants.{OpenBrace, CloseBrace, CloseParen, Semicolon, Colon, Equals, DoubleEquals}
+use Rattle.source.specs.declared.token.Sign.TheVariants.{OpenBrace, CloseBrace, CloseParen, Semicolon, Colon, Equals}
+use Rattle.source.specs.declared.token.Sign.TheVariants.{DoubleEquals}
 use Rattle.source.specs.Tokens.{Tok}
-use Rattle.syntax.specs.Trees.{Local, HelperCall, Stmt, let_local, let_owned, let_call, var_local, assign, if_then, while, print, return_value, Stmts, no_stmts, stmt, Otherwise, no_else, else_do, Block}
-use Rattle.syntax.specs.Grammar.{ANY, IsExpr, IsLocal, is_local, IsOwner, is_owner, IsHelperCall, is_helper_call, IsStmt, is_let, is_let_owned, is_let_call, is_var, is_assign, is_if, is_while, is_print, is_return, is_call_stmt, IsStmts, are_no_stmts, are_stmts, IsBraced, is_braced, IsElse, is_no_else, is_else}
-use Rattle.syntax.specs.Working.Printing.{listed_text, type_text, expr_text, place_text, indent, deeper, local_text, owner_text, helper_call_text, stmt_text, stmts_text, else_text}
-use Rattle.syntax.specs.Working.Bare.{nowhere, bare_expr, bare_local, bare_owner, bare_helper_call, bare_stmt, bare_stmts, bare_else, bare_block}
+use Rattle.syntax.specs.Trees.{Local, HelperCall, Stmt, let_local, let_owned, let_call, var_local, assign, if_then}
+use Rattle.syntax.specs.Trees.{while, print, return_value, Stmts, no_stmts, stmt, Otherwise, no_else, else_do, Block}
+use Rattle.syntax.specs.Grammar.{ANY, IsExpr, IsLocal, is_local, IsOwner, is_owner, IsHelperCall, is_helper_call}
+use Rattle.syntax.specs.Grammar.{IsStmt, is_let, is_let_owned, is_let_call, is_var, is_assign, is_if, is_while}
+use Rattle.syntax.specs.Grammar.{is_print, is_return, is_call_stmt, IsStmts, are_no_stmts, are_stmts, IsBraced}
+use Rattle.syntax.specs.Grammar.{is_braced, IsElse, is_no_else, is_else}
+use Rattle.syntax.specs.Working.Printing.{listed_text, type_text, expr_text, place_text, indent, deeper, local_text}
+use Rattle.syntax.specs.Working.Printing.{owner_text, helper_call_text, stmt_text, stmts_text, else_text}
+use Rattle.syntax.specs.Working.Bare.{nowhere, bare_expr, bare_local, bare_owner, bare_helper_call, bare_stmt}
+use Rattle.syntax.specs.Working.Bare.{bare_stmts, bare_else, bare_block}
 use Rattle.syntax.proofs.Marks.{Apart}
 use Rattle.syntax.proofs.Good.{Good, type_good, expr_good, place_good, local_good, any_good, stmt_good, braced_good}
-use Rattle.syntax.proofs.Backward.{kinds, Reads, start_of, named, along, word_on, sign_on, name_on, paren_on, gap_on, line_on, indent_on, Again, Rereads, listed_again}
+use Rattle.syntax.proofs.Backward.{kinds, Reads, start_of, named, along, word_on, sign_on, name_on, paren_on, gap_on}
+use Rattle.syntax.proofs.Backward.{line_on, indent_on, Again, Rereads, listed_again}
 use Rattle.syntax.proofs.AgainExprs.{type_again, expr_again, place_again}
 
 -- ---- the texts of lines, grouped to the right
 
-local_line : (x t e tail : List ℕ) → ((((x ++ 58 ∷ 32 ∷ []) ++ t) ++ 32 ∷ 61 ∷ 32 ∷ []) ++ e) ++ tail ≡ x ++ 58 ∷ 32 ∷ (t ++ 32 ∷ 61 ∷ 32 ∷ (e ++ tail))
+local_line : (x t e tail : List ℕ) →
+    ((((x ++ 58 ∷ 32 ∷ []) ++ t) ++ 32 ∷ 61 ∷ 32 ∷ []) ++ e) ++ tail ≡ x ++ 58 ∷ 32 ∷ (t ++ 32 ∷ 61 ∷ 32 ∷ (e ++ tail))
 local_line x t e tail = simp append_assoc
 
 owner_line : (f l tail : List ℕ) → ((f ++ 32 ∷ 61 ∷ 61 ∷ 32 ∷ []) ++ l) ++ tail ≡ f ++ 32 ∷ 61 ∷ 61 ∷ 32 ∷ (l ++ tail)
@@ -27,16 +36,20 @@ owned_line l o tail = simp append_assoc
 helper_call_line : (x es tail : List ℕ) → (((x ++ 40 ∷ []) ++ es) ++ 41 ∷ []) ++ tail ≡ x ++ 40 ∷ (es ++ 41 ∷ tail)
 helper_call_line x es tail = simp append_assoc
 
-called_line : (x t c tail : List ℕ) → (((((x ++ 58 ∷ 32 ∷ []) ++ t) ++ 32 ∷ 61 ∷ 32 ∷ 99 ∷ 97 ∷ 108 ∷ 108 ∷ 32 ∷ []) ++ c) ++ 59 ∷ []) ++ tail ≡ x ++ 58 ∷ 32 ∷ (t ++ 32 ∷ 61 ∷ 32 ∷ 99 ∷ 97 ∷ 108 ∷ 108 ∷ 32 ∷ (c ++ 59 ∷ tail))
+called_line : (x t c tail : List ℕ) →
+    (((((x ++ 58 ∷ 32 ∷ []) ++ t) ++ 32 ∷ 61 ∷ 32 ∷ 99 ∷ 97 ∷ 108 ∷ 108 ∷ 32 ∷ []) ++ c) ++ 59 ∷ []) ++ tail ≡ x ++ 58 ∷ 32 ∷ (t ++ 32 ∷ 61 ∷ 32 ∷ 99 ∷ 97 ∷ 108 ∷ 108 ∷ 32 ∷ (c ++ 59 ∷ tail))
 called_line x t c tail = simp append_assoc
 
-assign_line : (p e tail : List ℕ) → (((p ++ 32 ∷ 61 ∷ 32 ∷ []) ++ e) ++ 59 ∷ []) ++ tail ≡ p ++ 32 ∷ 61 ∷ 32 ∷ (e ++ 59 ∷ tail)
+assign_line : (p e tail : List ℕ) →
+    (((p ++ 32 ∷ 61 ∷ 32 ∷ []) ++ e) ++ 59 ∷ []) ++ tail ≡ p ++ 32 ∷ 61 ∷ 32 ∷ (e ++ 59 ∷ tail)
 assign_line p e tail = simp append_assoc
 
-while_line : (e ss i tail : List ℕ) → ((e ++ 41 ∷ []) ++ 32 ∷ 123 ∷ (((ss ++ 10 ∷ []) ++ i) ++ 125 ∷ [])) ++ tail ≡ e ++ 41 ∷ 32 ∷ 123 ∷ (ss ++ 10 ∷ (i ++ 125 ∷ tail))
+while_line : (e ss i tail : List ℕ) →
+    ((e ++ 41 ∷ []) ++ 32 ∷ 123 ∷ (((ss ++ 10 ∷ []) ++ i) ++ 125 ∷ [])) ++ tail ≡ e ++ 41 ∷ 32 ∷ 123 ∷ (ss ++ 10 ∷ (i ++ 125 ∷ tail))
 while_line e ss i tail = simp append_assoc
 
-if_line : (e ss i o tail : List ℕ) → (((e ++ 41 ∷ []) ++ 32 ∷ 123 ∷ (((ss ++ 10 ∷ []) ++ i) ++ 125 ∷ [])) ++ o) ++ tail ≡ e ++ 41 ∷ 32 ∷ 123 ∷ (ss ++ 10 ∷ (i ++ 125 ∷ (o ++ tail)))
+if_line : (e ss i o tail : List ℕ) →
+    (((e ++ 41 ∷ []) ++ 32 ∷ 123 ∷ (((ss ++ 10 ∷ []) ++ i) ++ 125 ∷ [])) ++ o) ++ tail ≡ e ++ 41 ∷ 32 ∷ 123 ∷ (ss ++ 10 ∷ (i ++ 125 ∷ (o ++ tail)))
 if_line e ss i o tail = simp append_assoc
 
 else_line : (ss i tail : List ℕ) → (((ss ++ 10 ∷ []) ++ i) ++ 125 ∷ []) ++ tail ≡ ss ++ 10 ∷ (i ++ 125 ∷ tail)
@@ -55,7 +68,9 @@ else_apart d (else_do ss close) tail a = refl
 
 -- ---- statements
 
-local_again : {l : Local} {ts rest : List Tok} → IsLocal l ts rest → Good ts → {total : ℕ} {tail : List ℕ} (r : Reads total tail (kinds rest)) → Apart tail → Again IsLocal bare_local l total (local_text l ++ tail) ts r.tokens
+local_again : {l : Local} {ts rest : List Tok} → IsLocal l ts rest → Good ts →
+    {total : ℕ} {tail : List ℕ} (r : Reads total tail (kinds rest)) → Apart tail →
+    Again IsLocal bare_local l total (local_text l ++ tail) ts r.tokens
 local_again (is_local {l} t e) g {total} {tail} r a =
     let i = expr_again e (type_good _ _ _ t g.1.1).1 r a in
     let y = type_again l.value_type _ _ t g.1.1 total _ (gap_on (sign_on Equals (gap_on i.reads) refl)) refl in
@@ -81,7 +96,9 @@ owner_again o ts rest is_owner g total tail r a =
 argument_again : Rereads (IsExpr ANY) bare_expr expr_text
 argument_again e ts rest f g total tail r a = expr_again f g r a
 
-helper_call_again : {c : HelperCall} {ts rest : List Tok} → IsHelperCall c ts rest → Good ts → {total : ℕ} {tail : List ℕ} (r : Reads total tail (kinds rest)) → Apart tail → Again IsHelperCall bare_helper_call c total (helper_call_text c ++ tail) ts r.tokens
+helper_call_again : {c : HelperCall} {ts rest : List Tok} → IsHelperCall c ts rest → Good ts →
+    {total : ℕ} {tail : List ℕ} (r : Reads total tail (kinds rest)) → Apart tail →
+    Again IsHelperCall bare_helper_call c total (helper_call_text c ++ tail) ts r.tokens
 helper_call_again (is_helper_call {c} f) g {total} {tail} r a =
     let es = listed_again (IsExpr ANY) bare_expr expr_text any_good argument_again c.arguments _ _ f g.1.1 total _ (sign_on CloseParen r a) refl in
     let n = name_on c.helper.text g.0 (paren_on es.reads) refl in
@@ -103,7 +120,9 @@ abbrev pub IsBracedBlock : Block → List Tok → List Tok → Type 0
 IsBracedBlock b ts rest = IsBraced b.stmts b.close ts rest
 
 mutual
-  pub stmt_again : {s : Stmt} {ts rest : List Tok} → IsStmt s ts rest → Good ts → (d : ℕ) {total : ℕ} {tail : List ℕ} (r : Reads total tail (kinds rest)) → Apart tail → Again IsStmt bare_stmt s total (stmt_text d s ++ tail) ts r.tokens
+  pub stmt_again : {s : Stmt} {ts rest : List Tok} → IsStmt s ts rest → Good ts →
+      (d : ℕ) {total : ℕ} {tail : List ℕ} (r : Reads total tail (kinds rest)) → Apart tail →
+      Again IsStmt bare_stmt s total (stmt_text d s ++ tail) ts r.tokens
   stmt_again (is_let {l} f) g d {tail = tail} r a =
       let i = local_again f g.1 (sign_on Semicolon r a) refl in
       let w = word_on keyword.Let (gap_on (along (sym (append_assoc (local_text l) (59 ∷ []) tail)) i.reads)) refl in
@@ -178,7 +197,9 @@ mutual
       let w = word_on keyword.Call (gap_on (along (sym (append_assoc (helper_call_text c) (59 ∷ []) tail)) i.reads)) refl in
       record { reads = w; tree = Stmt.call (start_of w) i.tree; is = is_call_stmt i.is; same = ap (Stmt.call nowhere) i.same }
 
-  pub stmts_again : {ss : Stmts} {ts rest : List Tok} → IsStmts ss ts rest → Good ts → (d : ℕ) {total : ℕ} {tail : List ℕ} (r : Reads total tail (kinds rest)) → Apart tail → Again IsStmts bare_stmts ss total (stmts_text d ss ++ tail) ts r.tokens
+  pub stmts_again : {ss : Stmts} {ts rest : List Tok} → IsStmts ss ts rest → Good ts →
+      (d : ℕ) {total : ℕ} {tail : List ℕ} (r : Reads total tail (kinds rest)) → Apart tail →
+      Again IsStmts bare_stmts ss total (stmts_text d ss ++ tail) ts r.tokens
   stmts_again are_no_stmts g d r a = record { reads = r; tree = no_stmts; is = are_no_stmts; same = refl }
   stmts_again (are_stmts {s} {more} f l) g d {tail = tail} r a =
       let ls = stmts_again l (stmt_good f g) d r a in
@@ -190,7 +211,9 @@ mutual
         same = rw (i.same, ls.same) refl;
       }
 
-  pub braced_again : {ss : Stmts} {close : Span} {ts rest : List Tok} → IsBraced ss close ts rest → Good ts → (d : ℕ) {total : ℕ} {tail : List ℕ} (r : Reads total tail (kinds rest)) → Apart tail → Again IsBracedBlock bare_block (record { stmts = ss; close = close }) total (123 ∷ (stmts_text (deeper d) ss ++ 10 ∷ (indent d ++ 125 ∷ tail))) ts r.tokens
+  pub braced_again : {ss : Stmts} {close : Span} {ts rest : List Tok} → IsBraced ss close ts rest → Good ts →
+      (d : ℕ) {total : ℕ} {tail : List ℕ} (r : Reads total tail (kinds rest)) → Apart tail →
+      Again IsBracedBlock bare_block (record { stmts = ss; close = close }) total (123 ∷ (stmts_text (deeper d) ss ++ 10 ∷ (indent d ++ 125 ∷ tail))) ts r.tokens
   braced_again (is_braced {ss} f) g d {tail = tail} r a =
       let c = sign_on CloseBrace r a in
       let i = stmts_again f g.1 (deeper d) (line_on (indent_on d c)) refl in
@@ -201,7 +224,9 @@ mutual
         same = rw i.same refl;
       }
 
-  pub else_again : {o : Otherwise} {ts rest : List Tok} → IsElse o ts rest → Good ts → (d : ℕ) {total : ℕ} {tail : List ℕ} (r : Reads total tail (kinds rest)) → Apart tail → Again IsElse bare_else o total (else_text d o ++ tail) ts r.tokens
+  pub else_again : {o : Otherwise} {ts rest : List Tok} → IsElse o ts rest → Good ts →
+      (d : ℕ) {total : ℕ} {tail : List ℕ} (r : Reads total tail (kinds rest)) → Apart tail →
+      Again IsElse bare_else o total (else_text d o ++ tail) ts r.tokens
   else_again is_no_else g d r a = record { reads = r; tree = no_else; is = is_no_else; same = refl }
   else_again (is_else {ss} f) g d {tail = tail} r a =
       let k = braced_again f g.1 d r a in

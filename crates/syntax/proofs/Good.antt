@@ -2,14 +2,29 @@
 use Rattle.std.proofs.Common.{ℕ, ◌≤◌, List, [], ◌∷◌, length}
 use Rattle.source.specs.Tokens.{Lexeme, name, int, Tok}
 use Rattle.source.specs.Texts as text
-use Rattle.source.specs.Texts.{NUMBER_LIMIT, NAME_LIMIT, IsUnit, is_number, is_word, is_mark, IsWithin, AreTokens, at_end, token}
+use Rattle.source.specs.Texts.{NUMBER_LIMIT, NAME_LIMIT, IsUnit, is_number, is_word, is_mark, IsWithin, AreTokens}
+use Rattle.source.specs.Texts.{at_end, token}
 use Rattle.syntax.specs.declared.tree.Level.{Level}
 use Rattle.source.specs.declared.span.Span.{Span}
 use Rattle.source.specs.declared.token.Sign.{Sign}
 use Rattle.source.specs.declared.token.Sign.TheVariants.{Colon, Dot, Equals}
 use Rattle.std.specs.Prelude.{Option}
-use Rattle.syntax.specs.Trees.{Place, Expr, Links, Local, Owner, HelperCall, Stmt, Stmts, Otherwise, Section, Call, Item, Items, Decl}
-use Rattle.syntax.specs.Grammar.{IsOptional, left_out, given, AreMany, no_more, one_more, IsAfter, after, AreListed, none_listed, listed, IsName, is_name, IsType, is_int_type, is_ref_type, IsConst, is_int_const, is_negative, is_null_const, is_member_const, ANY, IsExpr, is_int, is_null, is_place, is_paren, is_prefix, is_chain, is_compare, IsPlace, is_lone, is_element, is_path, IsLinks, are_no_links, is_link, IsLocal, is_local, IsOwner, is_owner, IsHelperCall, is_helper_call, IsStmt, is_let, is_let_owned, is_let_call, is_var, is_assign, is_if, is_while, is_print, is_return, is_call_stmt, IsStmts, are_no_stmts, are_stmts, IsBraced, is_braced, IsElse, is_no_else, is_else, is_block, IsIndex, is_index, IsProtection, is_protection, is_field, is_final, IsMember, is_lock_member, is_final_member, is_field_member, is_struct, is_variable, is_array, is_pool, is_init, IsParam, is_param, IsSection, is_section, IsCall, is_call, IsItem, is_call_item, is_repeat, IsItems, are_no_items, are_items, is_thread, IsDecl, is_lock, is_struct_decl, is_global, is_array_decl, is_pool_decl, is_init_decl, is_atomic, is_helper, is_thread_decl}
+use Rattle.syntax.specs.Trees.{Place, Expr, Links, Local, Owner, HelperCall, Stmt, Stmts, Otherwise, Section, Call}
+use Rattle.syntax.specs.Trees.{Item, Items, Decl}
+use Rattle.syntax.specs.Grammar.{IsOptional, left_out, given, AreMany, no_more, one_more, IsAfter, after, AreListed}
+use Rattle.syntax.specs.Grammar.{none_listed, listed, IsName, is_name, IsType, is_int_type, is_ref_type, IsConst}
+use Rattle.syntax.specs.Grammar.{is_int_const, is_negative, is_null_const, is_member_const, ANY, IsExpr, is_int}
+use Rattle.syntax.specs.Grammar.{is_null, is_place, is_paren, is_prefix, is_chain, is_compare, IsPlace, is_lone}
+use Rattle.syntax.specs.Grammar.{is_element, is_path, IsLinks, are_no_links, is_link, IsLocal, is_local, IsOwner}
+use Rattle.syntax.specs.Grammar.{is_owner, IsHelperCall, is_helper_call, IsStmt, is_let, is_let_owned, is_let_call}
+use Rattle.syntax.specs.Grammar.{is_var, is_assign, is_if, is_while, is_print, is_return, is_call_stmt, IsStmts}
+use Rattle.syntax.specs.Grammar.{are_no_stmts, are_stmts, IsBraced, is_braced, IsElse, is_no_else, is_else, is_block}
+use Rattle.syntax.specs.Grammar.{IsIndex, is_index, IsProtection, is_protection, is_field, is_final, IsMember}
+use Rattle.syntax.specs.Grammar.{is_lock_member, is_final_member, is_field_member, is_struct, is_variable, is_array}
+use Rattle.syntax.specs.Grammar.{is_pool, is_init, IsParam, is_param, IsSection, is_section, IsCall, is_call, IsItem}
+use Rattle.syntax.specs.Grammar.{is_call_item, is_repeat, IsItems, are_no_items, are_items, is_thread, IsDecl}
+use Rattle.syntax.specs.Grammar.{is_lock, is_struct_decl, is_global, is_array_decl, is_pool_decl, is_init_decl}
+use Rattle.syntax.specs.Grammar.{is_atomic, is_helper, is_thread_decl}
 
 abbrev pub GoodKind : Lexeme → Type 0
 GoodKind (name x) = IsUnit x (name x) × (length x ≤ NAME_LIMIT)
@@ -36,18 +51,22 @@ tokens_good (token n w ts) = (good_kind n.unit w, tokens_good ts)
 abbrev pub Keeps : {A : Type 0} → (A → List Tok → List Tok → Type 0) → Type 0
 Keeps {A} R = (x : A) (ts rest : List Tok) → R x ts rest → Good ts → Good rest
 
-pub many_good : {A : Type 0} {R : A → List Tok → List Tok → Type 0} → Keeps R → {xs : List A} {ts rest : List Tok} → AreMany R xs ts rest → Good ts → Good rest
+pub many_good : {A : Type 0} {R : A → List Tok → List Tok → Type 0} → Keeps R → {xs : List A} {ts rest : List Tok} →
+    AreMany R xs ts rest → Good ts → Good rest
 many_good keeps no_more g = g
 many_good keeps (one_more r more) g = many_good keeps more (keeps _ _ _ r g)
 
-pub after_good : {A : Type 0} {R : A → List Tok → List Tok → Type 0} → Keeps R → {s : Sign} {x : A} {ts rest : List Tok} → IsAfter s R x ts rest → Good ts → Good rest
+pub after_good : {A : Type 0} {R : A → List Tok → List Tok → Type 0} → Keeps R →
+    {s : Sign} {x : A} {ts rest : List Tok} → IsAfter s R x ts rest → Good ts → Good rest
 after_good keeps (after r) g = keeps _ _ _ r g.1
 
-pub listed_good : {A : Type 0} {R : A → List Tok → List Tok → Type 0} → Keeps R → {xs : List A} {ts rest : List Tok} → AreListed R xs ts rest → Good ts → Good rest
+pub listed_good : {A : Type 0} {R : A → List Tok → List Tok → Type 0} → Keeps R → {xs : List A} {ts rest : List Tok} →
+    AreListed R xs ts rest → Good ts → Good rest
 listed_good keeps none_listed g = g
 listed_good keeps (listed r more) g = many_good (λ x ts rest a. after_good keeps a) more (keeps _ _ _ r g)
 
-pub optional_good : {A : Type 0} {R : A → List Tok → List Tok → Type 0} → Keeps R → {x : Option A} {ts rest : List Tok} → IsOptional R x ts rest → Good ts → Good rest
+pub optional_good : {A : Type 0} {R : A → List Tok → List Tok → Type 0} → Keeps R →
+    {x : Option A} {ts rest : List Tok} → IsOptional R x ts rest → Good ts → Good rest
 optional_good keeps left_out g = g
 optional_good keeps (given r) g = keeps _ _ _ r g
 

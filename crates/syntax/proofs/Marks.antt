@@ -1,5 +1,6 @@
 -- Tokens one behind the other in a text.
-use Rattle.std.proofs.Common.{◌≡◌, ℕ, ◌+◌, ◌-◌, ◌*◌, ◌/◌, ◌%◌, ◌<◌, ◌≤◌, Bool, true, false, List, [], ◌∷◌, ◌++◌, length, refl, sym, ◌∙◌, subst, arith, length-append}
+use Rattle.std.proofs.Common.{◌≡◌, ℕ, ◌+◌, ◌-◌, ◌*◌, ◌/◌, ◌%◌, ◌<◌, ◌≤◌, Bool, true, false, List, [], ◌∷◌, ◌++◌}
+use Rattle.std.proofs.Common.{length, refl, sym, ◌∙◌, subst, arith, length-append}
 use Rattle.std.specs.Prelude.{◌==◌, ◌&&◌, ◌||◌, not}
 use Rattle.std.specs.List.{list_all}
 use Rattle.std.specs.Fmt.{decimal}
@@ -8,11 +9,19 @@ use Rattle.std.proofs.lemmas.Fmt.{decimal_by_steps}
 use Rattle.std.proofs.lemmas.List.Folds.{list_all-append}
 use Rattle.std.proofs.lemmas.List.Sums.{fold-append}
 use Rattle.source.specs.declared.token.Keyword.{Keyword}
-use Rattle.source.specs.declared.token.Keyword.TheVariants.{Lock, Struct, Final, Ref, Int, Global, ProtectedBy, Pool, Init, Atomic, Let, Var, If, Else, While, Print, Return, Thread, Repeat, Null, Where, Call}
+use Rattle.source.specs.declared.token.Keyword.TheVariants.{Lock, Struct, Final, Ref, Int, Global, ProtectedBy, Pool}
+use Rattle.source.specs.declared.token.Keyword.TheVariants.{Init, Atomic, Let, Var, If, Else, While, Print, Return}
+use Rattle.source.specs.declared.token.Keyword.TheVariants.{Thread, Repeat, Null, Where, Call}
 use Rattle.source.specs.declared.token.Sign.{Sign}
-use Rattle.source.specs.declared.token.Sign.TheVariants.{OpenBrace, CloseBrace, OpenParen, CloseParen, OpenBracket, CloseBracket, Semicolon, Comma, Colon, Dot, Equals, DoubleEquals, NotEquals, Less, LessEquals, Greater, GreaterEquals, Plus, Minus, Star, Slash, Percent, And, Or, Not}
+use Rattle.source.specs.declared.token.Sign.TheVariants.{OpenBrace, CloseBrace, OpenParen, CloseParen, OpenBracket}
+use Rattle.source.specs.declared.token.Sign.TheVariants.{CloseBracket, Semicolon, Comma, Colon, Dot, Equals}
+use Rattle.source.specs.declared.token.Sign.TheVariants.{DoubleEquals, NotEquals, Less, LessEquals, Greater}
+use Rattle.source.specs.declared.token.Sign.TheVariants.{GreaterEquals, Plus, Minus, Star, Slash, Percent, And, Or}
+use Rattle.source.specs.declared.token.Sign.TheVariants.{Not}
 use Rattle.source.specs.Tokens.{Lexeme, name, int, mark, Tok}
-use Rattle.source.specs.Texts.{is_letter, is_digit, is_name_byte, is_white, keyword_text, sign_text, value_of, IsUnit, is_name, is_number, is_word, is_mark, IsLongest, NUMBER_LIMIT, IsWithin, no_gap, white, BeginsComment, tok_at, AreTokens, at_end, token}
+use Rattle.source.specs.Texts.{is_letter, is_digit, is_name_byte, is_white, keyword_text, sign_text, value_of, IsUnit}
+use Rattle.source.specs.Texts.{is_name, is_number, is_word, is_mark, IsLongest, NUMBER_LIMIT, IsWithin, no_gap, white}
+use Rattle.source.specs.Texts.{BeginsComment, tok_at, AreTokens, at_end, token}
 
 and_both : (a b : Bool) → (a && b) ≡ true → (a ≡ true) × (b ≡ true)
 and_both true b e = (refl, e)
@@ -93,7 +102,8 @@ name_tail b h = rw h refl
 digit_name : (b : ℕ) → is_digit b ≡ true → is_name_byte b ≡ true
 digit_name b h = grind (arith, nat_tests)
 
-all_more : (p q : ℕ → Bool) → ((b : ℕ) → p b ≡ true → q b ≡ true) → (bs : List ℕ) → list_all p bs ≡ true → list_all q bs ≡ true
+all_more : (p q : ℕ → Bool) → ((b : ℕ) → p b ≡ true → q b ≡ true) → (bs : List ℕ) → list_all p bs ≡ true →
+    list_all q bs ≡ true
 all_more p q h [] e = refl
 all_more p q h (b ∷ bs) e = let s = and_both (p b) (list_all p bs) e in rw (h b s.0, all_more p q h bs s.1) refl
 
@@ -156,7 +166,8 @@ apart_no_comment (b ∷ d ∷ bs) tail k u h c =
     let f : is_tail 47 ≡ true = subst (λ x. is_tail x ≡ true) e s.0 in
     absurd cc
 
-pub put : (total : ℕ) (bytes tail : List ℕ) (k : Lexeme) (us : List Tok) → IsUnit bytes k → IsWithin k → Apart tail → AreTokens total tail us → AreTokens total (bytes ++ tail) (tok_at total bytes tail k ∷ us)
+pub put : (total : ℕ) (bytes tail : List ℕ) (k : Lexeme) (us : List Tok) → IsUnit bytes k → IsWithin k → Apart tail →
+    AreTokens total tail us → AreTokens total (bytes ++ tail) (tok_at total bytes tail k ∷ us)
 put total bytes tail k us u w a h = token (record { gap = no_gap; no_comment = apart_no_comment bytes tail k u a; unit = u; longest = apart_longest bytes tail k u a }) w h
 
 -- ---- signs behind which a name may stand
@@ -174,7 +185,8 @@ lone_no_comment b tail lone c =
     let f : is_lone 47 ≡ true = subst (λ x. is_lone x ≡ true) e lone in
     absurd cc
 
-pub put_lone : (total b : ℕ) (tail : List ℕ) (k : Lexeme) (us : List Tok) → is_lone b ≡ true → IsUnit (b ∷ []) k → IsWithin k → AreTokens total tail us → AreTokens total (b ∷ tail) (tok_at total (b ∷ []) tail k ∷ us)
+pub put_lone : (total b : ℕ) (tail : List ℕ) (k : Lexeme) (us : List Tok) → is_lone b ≡ true → IsUnit (b ∷ []) k →
+    IsWithin k → AreTokens total tail us → AreTokens total (b ∷ tail) (tok_at total (b ∷ []) tail k ∷ us)
 put_lone total b tail k us lone u w h = token (record { gap = no_gap; no_comment = lone_no_comment b tail lone; unit = u; longest = lone_longest b tail lone }) w h
 
 -- a text that begins with a byte other than `=`
@@ -191,7 +203,8 @@ not_longest (d ∷ tail) h = λ c more other l e v.
     let r : (c == 61) ≡ true = t.1 in
     absurd cc
 
-pub put_not : (total : ℕ) (tail : List ℕ) (us : List Tok) → Begins tail → AreTokens total tail us → AreTokens total (33 ∷ tail) (tok_at total (33 ∷ []) tail (mark Not) ∷ us)
+pub put_not : (total : ℕ) (tail : List ℕ) (us : List Tok) → Begins tail → AreTokens total tail us →
+    AreTokens total (33 ∷ tail) (tok_at total (33 ∷ []) tail (mark Not) ∷ us)
 put_not total tail us b h = token (record { gap = no_gap; no_comment = λ c. let q = c.1 in absurd cc; unit = is_mark Not; longest = not_longest tail b }) tt h
 
 letter_begins : (b : ℕ) → is_letter b ≡ true → (b == 61) ≡ false
@@ -206,7 +219,8 @@ name_begins (is_name {b} {bs} letter all none) = letter_begins b letter
 pub number_begins : {bytes : List ℕ} {n : ℕ} → IsUnit bytes (int n) → Begins bytes
 number_begins (is_number {b} {bs} all) = let s = and_both (is_digit b) (list_all is_digit bs) all in digit_begins b s.0
 
-pub space : (total b : ℕ) (tail : List ℕ) (us : List Tok) → is_white b ≡ true → AreTokens total tail us → AreTokens total (b ∷ tail) us
+pub space : (total b : ℕ) (tail : List ℕ) (us : List Tok) → is_white b ≡ true → AreTokens total tail us →
+    AreTokens total (b ∷ tail) us
 space total b tail us w (at_end g) = at_end (white w g)
 space total b tail us w (token n l h) = token (record { gap = white w n.gap; no_comment = n.no_comment; unit = n.unit; longest = n.longest }) l h
 

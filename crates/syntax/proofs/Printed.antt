@@ -52,5 +52,6 @@ spelled_again {ds = ds} {ts = ts} (spells f) g shallow =
       same = i.same;
     }
 
-pub text_again : (ts : List Tok) (ds : List Decl) (text : List ℕ) → HasTokens text ts → HasTree ts ds → HasTextOf (tree_text ds) ds
+pub text_again : (ts : List Tok) (ds : List Decl) (text : List ℕ) → HasTokens text ts → HasTree ts ds →
+    HasTextOf (tree_text ds) ds
 text_again ts ds text h tree = spelled_again tree.0 (tokens_good h) tree.1

@@ -5,7 +5,10 @@ use Rattle.source.specs.declared.span.Span.{Span}
 use Rattle.source.specs.declared.token.Keyword.TheVariants as keyword
 use Rattle.source.specs.declared.token.Sign.{Sign}
 use Rattle.source.specs.declared.token.Sign.TheVariants as sign
-use Rattle.source.specs.declared.token.Sign.TheVariants.{OpenBrace, CloseBrace, OpenParen, CloseParen, OpenBracket, CloseBracket, Semicolon, Comma, Colon, Dot, Equals, DoubleEquals, NotEquals, LessEquals, GreaterEquals, Plus, Minus, Star, Slash, Percent}
+use Rattle.source.specs.declared.token.Sign.TheVariants.{OpenBrace, CloseBrace, OpenParen, CloseParen, OpenBracket}
+use Rattle.source.specs.declared.token.Sign.TheVariants.{CloseBracket, Semicolon, Comma, Colon, Dot, Equals}
+use Rattle.source.specs.declared.token.Sign.TheVariants.{DoubleEquals, NotEquals, LessEquals, GreaterEquals, Plus}
+use Rattle.source.specs.declared.token.Sign.TheVariants.{Minus, Star, Slash, Percent}
 use Rattle.source.specs.Tokens.{Lexeme, name, word, mark, end, Tok}
 use Rattle.source.specs.Tokens as lexeme
 use Rattle.syntax.specs.declared.tree.Operator.{Operator}
@@ -15,9 +18,17 @@ use Rattle.syntax.specs.declared.tree.Level.TheVariants.{Term, Sum, Conjunction,
 use Rattle.syntax.specs.declared.tree.Prefix.{Prefix}
 use Rattle.syntax.specs.declared.tree.Prefix.TheVariants.{Negate, Not}
 use Rattle.syntax.specs.declared.tree.Comparison.{Comparison}
-use Rattle.syntax.specs.declared.tree.Comparison.TheVariants.{Equal, NotEqual, Less, LessOrEqual, Greater, GreaterOrEqual}
+use Rattle.syntax.specs.declared.tree.Comparison.TheVariants.{Equal, NotEqual, Less, LessOrEqual, Greater}
+use Rattle.syntax.specs.declared.tree.Comparison.TheVariants.{GreaterOrEqual}
 use Rattle.source.specs.declared.token.Number.{Number}
-use Rattle.syntax.specs.Trees.{Ident, ValueType, int_type, ref_type, Const, int_const, negative, null_const, member_const, Place, lone, element, path, Expr, int, null, place, paren, prefix, chain, compare, Links, no_links, link, Local, Owner, HelperCall, CalledLocal, Stmt, let_local, let_owned, let_call, var_local, assign, if_then, while, print, return_value, Stmts, no_stmts, stmt, Otherwise, no_else, else_do, Block, Protection, Variable, Array, Final, Field, Member, lock_member, final_member, field_member, Struct, Pool, Init, Param, Section, Call, Item, repeat, Items, no_items, item, Thread, Decl, lock, struct, global, array, pool, init, atomic, helper, thread}
+use Rattle.syntax.specs.Trees.{Ident, ValueType, int_type, ref_type, Const, int_const, negative, null_const}
+use Rattle.syntax.specs.Trees.{member_const, Place, lone, element, path, Expr, int, null, place, paren, prefix, chain}
+use Rattle.syntax.specs.Trees.{compare, Links, no_links, link, Local, Owner, HelperCall, CalledLocal, Stmt, let_local}
+use Rattle.syntax.specs.Trees.{let_owned, let_call, var_local, assign, if_then, while, print, return_value, Stmts}
+use Rattle.syntax.specs.Trees.{no_stmts, stmt, Otherwise, no_else, else_do, Block, Protection, Variable, Array, Final}
+use Rattle.syntax.specs.Trees.{Field, Member, lock_member, final_member, field_member, Struct, Pool, Init, Param}
+use Rattle.syntax.specs.Trees.{Section, Call, Item, repeat, Items, no_items, item, Thread, Decl, lock, struct, global}
+use Rattle.syntax.specs.Trees.{array, pool, init, atomic, helper, thread}
 
 abbrev pub tok : Lexeme → Span → Tok
 tok k at = record { kind = k; span = at }
@@ -39,7 +50,8 @@ pub data IsOptional {A : Type 0} (R : A → List Tok → List Tok → Type 0) : 
 -- any number of parts, one after the other
 pub data AreMany {A : Type 0} (R : A → List Tok → List Tok → Type 0) : List A → List Tok → List Tok → Type 0 where
   no_more : {ts : List Tok} → AreMany R [] ts ts
-  one_more : {x : A} {xs : List A} {ts mid rest : List Tok} → R x ts mid → AreMany R xs mid rest → AreMany R (x ∷ xs) ts rest
+  one_more : {x : A} {xs : List A} {ts mid rest : List Tok} → R x ts mid → AreMany R xs mid rest →
+      AreMany R (x ∷ xs) ts rest
 
 -- a part behind a sign
 pub data IsAfter {A : Type 0} (s : Sign) (R : A → List Tok → List Tok → Type 0) : A → List Tok → List Tok → Type 0 where
@@ -48,7 +60,8 @@ pub data IsAfter {A : Type 0} (s : Sign) (R : A → List Tok → List Tok → Ty
 -- any number of parts, with commas between them
 pub data AreListed {A : Type 0} (R : A → List Tok → List Tok → Type 0) : List A → List Tok → List Tok → Type 0 where
   none_listed : {ts : List Tok} → AreListed R [] ts ts
-  listed : {x : A} {xs : List A} {ts mid rest : List Tok} → R x ts mid → AreMany (IsAfter Comma R) xs mid rest → AreListed R (x ∷ xs) ts rest
+  listed : {x : A} {xs : List A} {ts mid rest : List Tok} → R x ts mid → AreMany (IsAfter Comma R) xs mid rest →
+      AreListed R (x ∷ xs) ts rest
 
 -- ---- names, types, constants
 
@@ -57,11 +70,13 @@ pub data IsName : Ident → List Tok → List Tok → Type 0 where
 
 pub data IsType : ValueType → List Tok → List Tok → Type 0 where
   is_int_type : {at : Span} {ts : List Tok} → IsType int_type (tok (word keyword.Int) at ∷ ts) ts
-  is_ref_type : {target : Ident} {at : Span} {ts : List Tok} → IsType (ref_type target) (tok (word keyword.Ref) at ∷ name_tok target ∷ ts) ts
+  is_ref_type : {target : Ident} {at : Span} {ts : List Tok} →
+      IsType (ref_type target) (tok (word keyword.Ref) at ∷ name_tok target ∷ ts) ts
 
 pub data IsConst : Const → List Tok → List Tok → Type 0 where
   is_int_const : {n : Number} {ts : List Tok} → IsConst (int_const n) (int_tok n ∷ ts) ts
-  is_negative : {n : Number} {sign : Span} {ts : List Tok} → IsConst (negative sign n) (tok (mark Minus) sign ∷ int_tok n ∷ ts) ts
+  is_negative : {n : Number} {sign : Span} {ts : List Tok} →
+      IsConst (negative sign n) (tok (mark Minus) sign ∷ int_tok n ∷ ts) ts
   is_null_const : {at : Span} {ts : List Tok} → IsConst (null_const at) (tok (word keyword.Null) at ∷ ts) ts
   is_member_const : {x : Ident} {n : Number} {begin close : Span} {ts : List Tok}
       → IsConst (member_const x n) (name_tok x ∷ tok (mark OpenBracket) begin ∷ int_tok n ∷ tok (mark CloseBracket) close ∷ ts) ts
@@ -284,7 +299,8 @@ pub data IsField : Field → List Tok → List Tok → Type 0 where
 pub data IsMember : Member → List Tok → List Tok → Type 0 where
   is_lock_member : {x : Ident} {start semicolon : Span} {rest : List Tok}
       → IsMember (lock_member x) (tok (word keyword.Lock) start ∷ name_tok x ∷ tok (mark Semicolon) semicolon ∷ rest) rest
-  is_final_member : {f : Final} {start : Span} {ts rest : List Tok} → IsFinal f ts rest → IsMember (final_member f) (tok (word keyword.Final) start ∷ ts) rest
+  is_final_member : {f : Final} {start : Span} {ts rest : List Tok} → IsFinal f ts rest →
+      IsMember (final_member f) (tok (word keyword.Final) start ∷ ts) rest
   is_field_member : {f : Field} {ts rest : List Tok} → IsField f ts rest → IsMember (field_member f) ts rest
 
 pub data IsStruct : Struct → List Tok → List Tok → Type 0 where
@@ -340,14 +356,22 @@ pub data IsThread : Thread → List Tok → List Tok → Type 0 where
 pub data IsDecl : Decl → List Tok → List Tok → Type 0 where
   is_lock : {x : Ident} {start semicolon : Span} {rest : List Tok}
       → IsDecl (lock x) (tok (word keyword.Lock) start ∷ name_tok x ∷ tok (mark Semicolon) semicolon ∷ rest) rest
-  is_struct_decl : {s : Struct} {start : Span} {ts rest : List Tok} → IsStruct s ts rest → IsDecl (struct s) (tok (word keyword.Struct) start ∷ ts) rest
-  is_global : {v : Variable} {start : Span} {ts rest : List Tok} → IsVariable v ts rest → IsDecl (global v) (tok (word keyword.Global) start ∷ ts) rest
-  is_array_decl : {a : Array} {start : Span} {ts rest : List Tok} → IsArray a ts rest → IsDecl (array a) (tok (word keyword.Global) start ∷ ts) rest
-  is_pool_decl : {p : Pool} {start : Span} {ts rest : List Tok} → IsPool p ts rest → IsDecl (pool p) (tok (word keyword.Pool) start ∷ ts) rest
-  is_init_decl : {i : Init} {ts rest : List Tok} → IsInit i ts rest → IsDecl (init i) (tok (word keyword.Init) i.start ∷ ts) rest
-  is_atomic : {s : Section} {start : Span} {ts rest : List Tok} → IsSection s ts rest → IsDecl (atomic s) (tok (word keyword.Atomic) start ∷ ts) rest
-  is_helper : {s : Section} {start : Span} {ts rest : List Tok} → IsSection s ts rest → IsDecl (helper s) (tok (word keyword.Call) start ∷ ts) rest
-  is_thread_decl : {t : Thread} {start : Span} {ts rest : List Tok} → IsThread t ts rest → IsDecl (thread t) (tok (word keyword.Thread) start ∷ ts) rest
+  is_struct_decl : {s : Struct} {start : Span} {ts rest : List Tok} → IsStruct s ts rest →
+      IsDecl (struct s) (tok (word keyword.Struct) start ∷ ts) rest
+  is_global : {v : Variable} {start : Span} {ts rest : List Tok} → IsVariable v ts rest →
+      IsDecl (global v) (tok (word keyword.Global) start ∷ ts) rest
+  is_array_decl : {a : Array} {start : Span} {ts rest : List Tok} → IsArray a ts rest →
+      IsDecl (array a) (tok (word keyword.Global) start ∷ ts) rest
+  is_pool_decl : {p : Pool} {start : Span} {ts rest : List Tok} → IsPool p ts rest →
+      IsDecl (pool p) (tok (word keyword.Pool) start ∷ ts) rest
+  is_init_decl : {i : Init} {ts rest : List Tok} → IsInit i ts rest →
+      IsDecl (init i) (tok (word keyword.Init) i.start ∷ ts) rest
+  is_atomic : {s : Section} {start : Span} {ts rest : List Tok} → IsSection s ts rest →
+      IsDecl (atomic s) (tok (word keyword.Atomic) start ∷ ts) rest
+  is_helper : {s : Section} {start : Span} {ts rest : List Tok} → IsSection s ts rest →
+      IsDecl (helper s) (tok (word keyword.Call) start ∷ ts) rest
+  is_thread_decl : {t : Thread} {start : Span} {ts rest : List Tok} → IsThread t ts rest →
+      IsDecl (thread t) (tok (word keyword.Thread) start ∷ ts) rest
 
 -- the tokens spell the program, whatever the nesting: declarations, and the end of the text
 pub data Spells : List Decl → List Tok → Type 0 where

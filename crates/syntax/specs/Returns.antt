@@ -2,7 +2,8 @@
 -- helper that has a result, and stands nowhere else.
 use Rattle.std.specs.Prelude.{◌≡◌, ℕ, ◌≤◌, List, ◌∷◌, Some, None}
 use Rattle.source.specs.declared.span.Span.{Span}
-use Rattle.syntax.specs.Trees.{ValueType, Expr, Stmt, if_then, while, return_value, Stmts, no_stmts, stmt, Otherwise, else_do, Section, Decl, atomic, helper}
+use Rattle.syntax.specs.Trees.{ValueType, Expr, Stmt, if_then, while, return_value, Stmts, no_stmts, stmt, Otherwise}
+use Rattle.syntax.specs.Trees.{else_do, Section, Decl, atomic, helper}
 
 -- a `return` at this byte is this statement
 pub data IsReturn : Stmt → ℕ → Type 0 where
@@ -17,9 +18,12 @@ mutual
 
   -- one stands in a block of the statement
   pub data HasReturnInside : Stmt → ℕ → Type 0 where
-    in_then : {start close : Span} {e : Expr} {body : Stmts} {other : Otherwise} {at : ℕ} → HasReturn body at → HasReturnInside (if_then start e body close other) at
-    in_else : {start close end : Span} {e : Expr} {body other : Stmts} {at : ℕ} → HasReturn other at → HasReturnInside (if_then start e body close (else_do other end)) at
-    in_while : {start close : Span} {e : Expr} {body : Stmts} {at : ℕ} → HasReturn body at → HasReturnInside (while start e body close) at
+    in_then : {start close : Span} {e : Expr} {body : Stmts} {other : Otherwise} {at : ℕ} → HasReturn body at →
+        HasReturnInside (if_then start e body close other) at
+    in_else : {start close end : Span} {e : Expr} {body other : Stmts} {at : ℕ} → HasReturn other at →
+        HasReturnInside (if_then start e body close (else_do other end)) at
+    in_while : {start close : Span} {e : Expr} {body : Stmts} {at : ℕ} → HasReturn body at →
+        HasReturnInside (while start e body close) at
 
 -- a `return` stands there with a statement behind it, or in a block of a statement
 pub data HasStrayReturn : Stmts → ℕ → Type 0 where
@@ -35,8 +39,10 @@ pub data EndsInReturn : Stmts → Type 0 where
 -- the fault of a section or a helper, at this byte
 pub data IsSectionFault : Section → ℕ → Type 0 where
   no_result : {s : Section} {at : ℕ} → s.result ≡ None → HasReturn s.body.stmts at → IsSectionFault s at
-  stray : {s : Section} {t : ValueType} {at : ℕ} → s.result ≡ Some t → HasStrayReturn s.body.stmts at → IsSectionFault s at
-  missing : {s : Section} {t : ValueType} → s.result ≡ Some t → (EndsInReturn s.body.stmts → ⊥) → IsSectionFault s s.body.close.start
+  stray : {s : Section} {t : ValueType} {at : ℕ} → s.result ≡ Some t → HasStrayReturn s.body.stmts at →
+      IsSectionFault s at
+  missing : {s : Section} {t : ValueType} → s.result ≡ Some t → (EndsInReturn s.body.stmts → ⊥) →
+      IsSectionFault s s.body.close.start
 
 -- a program's
 pub data IsReturnFault : List Decl → ℕ → Type 0 where

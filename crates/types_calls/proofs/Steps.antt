@@ -1,5 +1,6 @@
 -- Statements and parameters one after another, blocks, and statements through their boxes.
-use Rattle.std.proofs.Common.{◌≡◌, Global, ℕ, ◌+◌, ◌<◌, List, ◌++◌, Option, length, drop, get_or, map, refl, sym, ap, ◌∙◌, append_assoc, arith}
+use Rattle.std.proofs.Common.{◌≡◌, Global, ℕ, ◌+◌, ◌<◌, List, ◌++◌, Option, length, drop, get_or, map, refl, sym, ap}
+use Rattle.std.proofs.Common.{◌∙◌, append_assoc, arith}
 use Rattle.std.specs.Prelude.{Box}
 use Rattle.syntax.specs.declared.tree.Stmt as tree_stmt
 use Rattle.syntax.specs.declared.tree.Stmt.{While, If}
@@ -9,7 +10,8 @@ use Rattle.syntax.specs.declared.tree.While as tree_while
 use Rattle.syntax.specs.declared.tree.Param as tree_param
 use Rattle.syntax.specs.Views.{stmt_of, if_of, stmts_of, else_of, param_of}
 use Rattle.syntax.specs.Theory.Rows.{while_of, stmt_of-While, if_of-out}
-use Rattle.syntax.specs.Trees.{Decl, Stmt, let_local, let_owned, let_call, var_local, assign, if_then, while, print, return_value, call, Stmts, no_stmts, stmt, no_else, else_do}
+use Rattle.syntax.specs.Trees.{Decl, Stmt, let_local, let_owned, let_call, var_local, assign, if_then, while, print}
+use Rattle.syntax.specs.Trees.{return_value, call, Stmts, no_stmts, stmt, no_else, else_do}
 use Rattle.core_lang.specs.declared.value.ValueType as core_type
 use Rattle.core_lang.specs.declared.tree.LocalKind.TheVariants.{Parameter}
 use Rattle.core_lang_calls.specs.declared.graph.CallSite.{CallSite}
@@ -23,7 +25,8 @@ use Rattle.types_symbols.specs.Theory.Steps.{step}
 
 -- ---- one after another
 
-pub scope_step : (sc sc' whole : Scope) (items : List tree_stmt.Stmt) (i : ℕ) (item : tree_stmt.Stmt) → i < length items → item ≡ get_or items i item → sc' ≡ after sc (stmt_of item) →
+pub scope_step : (sc sc' whole : Scope) (items : List tree_stmt.Stmt) (i : ℕ) (item : tree_stmt.Stmt) →
+    i < length items → item ≡ get_or items i item → sc' ≡ after sc (stmt_of item) →
     after_all sc (stmts_of (drop i items)) ≡ whole → after_all sc' (stmts_of (drop (i + 1) items)) ≡ whole
 scope_step sc sc' whole items i item lt is behind before =
     step (λ ss. after_all sc (stmts_of ss)) (λ ss. after_all sc' (stmts_of ss)) items i item whole lt is (ap (λ (z : Scope). after_all z (stmts_of (drop (i + 1) items))) behind) before
@@ -38,12 +41,14 @@ calls_step sc sc' old new whole items i item lt is behind more before =
     ∙ append_assoc old (stmt_calls sc (stmt_of item)) (stmts_calls (after sc (stmt_of item)) rest))
     before
 
-pub points_step : (old new whole : ℕ) (items : List tree_stmt.Stmt) (i : ℕ) (item : tree_stmt.Stmt) → i < length items → item ≡ get_or items i item →
+pub points_step : (old new whole : ℕ) (items : List tree_stmt.Stmt) (i : ℕ) (item : tree_stmt.Stmt) →
+    i < length items → item ≡ get_or items i item →
     new ≡ old + stmt_points (stmt_of item) → old + stmts_points (stmts_of (drop i items)) ≡ whole → new + stmts_points (stmts_of (drop (i + 1) items)) ≡ whole
 points_step old new whole items i item lt is more before =
     step (λ ss. old + stmts_points (stmts_of ss)) (λ ss. new + stmts_points (stmts_of ss)) items i item whole lt is (omega (arith, more)) before
 
-pub param_step : (sc sc' whole : Scope) (items : List tree_param.Param) (i : ℕ) (item : tree_param.Param) → i < length items → item ≡ get_or items i item →
+pub param_step : (sc sc' whole : Scope) (items : List tree_param.Param) (i : ℕ) (item : tree_param.Param) →
+    i < length items → item ≡ get_or items i item →
     sc' ≡ bound sc Parameter (param_of item).name (type_of (outside sc.decls) (param_of item).value_type) →
     entered sc (map param_of (drop i items)) ≡ whole → entered sc' (map param_of (drop (i + 1) items)) ≡ whole
 param_step sc sc' whole items i item lt is behind before =
@@ -90,7 +95,8 @@ all_limits sc no_stmts = refl
 all_limits sc (stmt s rest) = all_limits (after sc s) rest ∙ after_limits sc s
 
 -- behind a block, whose locals are hidden
-pub left_is : (decls : List Decl) (old inner new : KnownLocals) (number : ℕ) (ss : Stmts) → number ≡ length old.locals → scope_of decls inner ≡ after_all (scope_of decls old) ss →
+pub left_is : (decls : List Decl) (old inner new : KnownLocals) (number : ℕ) (ss : Stmts) →
+    number ≡ length old.locals → scope_of decls inner ≡ after_all (scope_of decls old) ss →
     new.locals ≡ hidden_from number inner.locals → new.result ≡ inner.result → new.limits ≡ inner.limits → scope_of decls new ≡ left (scope_of decls old) (after_all (scope_of decls old) ss)
 left_is decls old inner new number ss here within made result limits =
     let sc = scope_of decls old in
@@ -107,15 +113,18 @@ left_is decls old inner new number ss here within made result limits =
 
 -- ---- through their boxes
 
-pub while_seen : (s : tree_stmt.Stmt) (b : Box tree_while.While Global) (x : tree_while.While) → s ≡ While b → x ≡ b.value → while_of x ≡ stmt_of s
+pub while_seen : (s : tree_stmt.Stmt) (b : Box tree_while.While Global) (x : tree_while.While) → s ≡ While b →
+    x ≡ b.value → while_of x ≡ stmt_of s
 while_seen s b x is hx = ap while_of hx ∙ sym (ap stmt_of is ∙ stmt_of-While b)
 
 -- a choice by its parts, where the scope behind its block is sc2
 module _ (sc sc2 : Scope) (choice : tree_if.If) (behind : sc2 ≡ left sc (after_all sc (stmts_of (out-If choice).block.stmts.items))) where
-  pub if_scope : (sc3 : Scope) → sc3 ≡ after_else sc2 (else_of (out-If choice).otherwise) → sc3 ≡ after sc (if_of choice)
+  pub if_scope : (sc3 : Scope) → sc3 ≡ after_else sc2 (else_of (out-If choice).otherwise) →
+      sc3 ≡ after sc (if_of choice)
   if_scope sc3 made = made ∙ ap (λ z. after_else z (else_of (out-If choice).otherwise)) behind ∙ ap (after sc) (sym (if_of-out choice))
 
-  pub if_calls : (a b c : List CallSite) → b ≡ a ++ stmts_calls sc (stmts_of (out-If choice).block.stmts.items) → c ≡ b ++ else_calls sc2 (else_of (out-If choice).otherwise) →
+  pub if_calls : (a b c : List CallSite) → b ≡ a ++ stmts_calls sc (stmts_of (out-If choice).block.stmts.items) →
+      c ≡ b ++ else_calls sc2 (else_of (out-If choice).otherwise) →
       c ≡ a ++ stmt_calls sc (if_of choice)
   if_calls a b c first second =
       let body = stmts_calls sc (stmts_of (out-If choice).block.stmts.items) in
@@ -124,7 +133,9 @@ module _ (sc sc2 : Scope) (choice : tree_if.If) (behind : sc2 ≡ left sc (after
       ∙ ap (λ (z : Scope). a ++ (body ++ else_calls z (else_of (out-If choice).otherwise))) behind
       ∙ ap (λ (s : Stmt). a ++ stmt_calls sc s) (sym (if_of-out choice))
 
-pub if_points : (choice : tree_if.If) (a b c d : ℕ) → b ≡ a + 1 → c ≡ b + stmts_points (stmts_of (out-If choice).block.stmts.items) → d ≡ c + else_points (else_of (out-If choice).otherwise) →
+pub if_points : (choice : tree_if.If) (a b c d : ℕ) → b ≡ a + 1 →
+    c ≡ b + stmts_points (stmts_of (out-If choice).block.stmts.items) →
+    d ≡ c + else_points (else_of (out-If choice).otherwise) →
     d ≡ a + stmt_points (if_of choice)
 if_points choice a b c d one two three =
     let body : ℕ = stmts_points (stmts_of (out-If choice).block.stmts.items) in

@@ -1,5 +1,7 @@
 -- What threads do, one thing after another.
-use Rattle.std.proofs.Common.{◌≡◌, ◌<◌, ◌≤◌, ◌+◌, ℕ, zero, suc, List, [], ◌∷◌, ◌++◌, length, take, drop, get_or, Option, Some, None, Bool, true, false, Vec, Global, refl, sym, ap, subst, ◌∙◌, append_assoc, arith, add-one}
+use Rattle.std.proofs.Common.{◌≡◌, ◌<◌, ◌≤◌, ◌+◌, ℕ, zero, suc, List, [], ◌∷◌, ◌++◌, length, take, drop, get_or}
+use Rattle.std.proofs.Common.{Option, Some, None, Bool, true, false, Vec, Global, refl, sym, ap, subst, ◌∙◌}
+use Rattle.std.proofs.Common.{append_assoc, arith, add-one}
 use Rattle.std.specs.Prelude.{is_some}
 use Rattle.source.specs.declared.mistake.Mistake.{Mistake}
 use Rattle.source.specs.declared.token.Number.{Number}
@@ -16,7 +18,8 @@ use Rattle.resolution.specs.Resolution.{copies, typed_item, typed_items}
 use Rattle.source.specs.Mistakes.{least_of}
 use Rattle.resolution.specs.Working.FaultLists.{item_faults, items_faults}
 use Rattle.resolution.specs.CoreViews.{core_call}
-use Rattle.std.proofs.lemmas.List.{append-nil, length-map, length-append, length-drop, get_or-map, get_or-drop, get_or_append_left, drop-append-le}
+use Rattle.std.proofs.lemmas.List.{append-nil, length-map, length-append, length-drop, get_or-map, get_or-drop}
+use Rattle.std.proofs.lemmas.List.{get_or_append_left, drop-append-le}
 use Rattle.std.proofs.Math.ListN.{drop_of_length-le}
 use Rattle.std.proofs.Math.Seq.{take-suc, drop-append_seam, take-append_seam}
 
@@ -32,7 +35,9 @@ times_is : (n : ℕ) (o : Option (List core.Call)) → times n o ≡ (o >>= λ c
 times_is n None = refl
 times_is n (Some xs) = refl
 
-repeat_is : (decls : List Decl) (x : tree.Item) (n : Number) (vec : Vec tree.Item Global) (items : List tree.Item) → x ≡ Repeat n vec → items ≡ vec.items → typed_item decls (item_of x) ≡ times n.value (typed_items decls (items_of items))
+repeat_is : (decls : List Decl) (x : tree.Item) (n : Number) (vec : Vec tree.Item Global) (items : List tree.Item) →
+    x ≡ Repeat n vec → items ≡ vec.items →
+    typed_item decls (item_of x) ≡ times n.value (typed_items decls (items_of items))
 repeat_is decls x n vec items is all =
     ap (typed_item decls) (ap item_of is ∙ item_of_Repeat n vec)
     ∙ sym (times_is n.value (typed_items decls (items_of vec.items)))
@@ -46,7 +51,8 @@ pub repeat_some : (decls : List Decl) (x : tree.Item) (n : Number) (vec : Vec tr
 repeat_some decls x n vec items is all = sym (times_some n.value (typed_items decls (items_of items))) ∙ ap is_some (sym (repeat_is decls x n vec items is all))
 
 -- what is repeated no times adds nothing
-never : (right : Bool) (calls : List the_call.Call) (o : Option (List core.Call)) → right ≡ is_some o → Adds right calls calls (times 0 o)
+never : (right : Bool) (calls : List the_call.Call) (o : Option (List core.Call)) → right ≡ is_some o →
+    Adds right calls calls (times 0 o)
 never true calls None h = absurd (cc)
 never true calls (Some xs) h = ap Some (sym (append-nil (cores calls)))
 never false calls None h = refl
@@ -58,7 +64,8 @@ repeat_never decls x n vec items right calls is all none h =
     (never right calls (typed_items decls (items_of items)) h)
 
 -- where something is wrong, so it is repeated
-wrong : (n : ℕ) (before after : List the_call.Call) (o : Option (List core.Call)) → Adds false before after o → Adds false before after (times n o)
+wrong : (n : ℕ) (before after : List the_call.Call) (o : Option (List core.Call)) → Adds false before after o →
+    Adds false before after (times n o)
 wrong n before after None h = refl
 wrong n before after (Some xs) h = absurd (cc)
 
@@ -89,7 +96,8 @@ copies_snoc zero xs = sym (append-nil xs)
 copies_snoc (suc n) xs = append_assoc xs (copies n xs) xs ∙ ap (λ ys. xs ++ ys) (copies_snoc n xs)
 
 -- one more of the elements from one on
-pub again_more : {A : Type 0} (xs zs : List A) (from k : ℕ) (x : A) → from + k < length xs → zs ≡ xs ++ take k (drop from xs) → x ≡ get_or zs (from + k) x → zs ++ x ∷ [] ≡ xs ++ take (k + 1) (drop from xs)
+pub again_more : {A : Type 0} (xs zs : List A) (from k : ℕ) (x : A) → from + k < length xs →
+    zs ≡ xs ++ take k (drop from xs) → x ≡ get_or zs (from + k) x → zs ++ x ∷ [] ≡ xs ++ take (k + 1) (drop from xs)
 again_more xs zs from k x inside is at =
     let rest : k < length (drop from xs) = let e = length-drop from xs in omega (arith, e, inside) in
     let here : get_or (drop from xs) k x ≡ x = get_or-drop from xs k x ∙ sym (at ∙ ap (λ ys. get_or ys (from + k) x) is ∙ get_or_append_left xs (take k (drop from xs)) x (from + k) inside) in
@@ -97,7 +105,9 @@ again_more xs zs from k x inside is at =
     ap (λ ys. ys ++ x ∷ []) is ∙ append_assoc xs (take k (drop from xs)) (x ∷ []) ∙ ap (λ ys. xs ++ ys) (sym more)
 
 -- one copy more of all from one on
-pub copy_more : {A : Type 0} (xs ys zs : List A) (from count n : ℕ) → from + count ≡ length xs → ys ≡ xs ++ copies n (drop from xs) → zs ≡ ys ++ take count (drop from ys) → zs ≡ xs ++ copies (n + 1) (drop from xs)
+pub copy_more : {A : Type 0} (xs ys zs : List A) (from count n : ℕ) → from + count ≡ length xs →
+    ys ≡ xs ++ copies n (drop from xs) → zs ≡ ys ++ take count (drop from ys) →
+    zs ≡ xs ++ copies (n + 1) (drop from xs)
 copy_more xs ys zs from count n all is more =
     let d = drop from xs in
     let long : length d ≡ count = let e = length-drop from xs in omega (arith, e, all) in
@@ -112,11 +122,13 @@ no_copies xs from n past = sym (ap (λ l. xs ++ copies n l) (drop_of_length-le x
     of_none (suc n) = of_none n
 
 -- a copy stands where what it is a copy of does, as data
-pub copied : (xs : List the_call.Call) (i : ℕ) (x y : the_call.Call) → i < length xs → y ≡ get_or xs i y → core_call x ≡ core_call y → core_call x ≡ get_or (cores xs) i (core_call x)
+pub copied : (xs : List the_call.Call) (i : ℕ) (x y : the_call.Call) → i < length xs → y ≡ get_or xs i y →
+    core_call x ≡ core_call y → core_call x ≡ get_or (cores xs) i (core_call x)
 copied xs i x y inside at h = h ∙ ap core_call at ∙ sym (get_or-map core_call xs i y (core_call x) inside)
 
 -- what is added takes nothing away
-pub no_fewer : (xs ys : List the_call.Call) (more : List core.Call) → cores ys ≡ cores xs ++ more → length xs ≤ length ys
+pub no_fewer : (xs ys : List the_call.Call) (more : List core.Call) → cores ys ≡ cores xs ++ more →
+    length xs ≤ length ys
 no_fewer xs ys more h =
     let a = sym (length-map ys core_call) ∙ ap length h ∙ length-append (cores xs) more in
     let b = length-map xs core_call in

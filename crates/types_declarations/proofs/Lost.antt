@@ -1,5 +1,6 @@
 -- Behind what isn't right nothing more is built.
-use Rattle.std.proofs.Common.{◌≡◌, ℕ, ◌+◌, ◌<◌, ◌≤◌, true, arith, List, [], ◌∷◌, Option, None, length, drop, get_or, refl, sym, ap, ◌∙◌}
+use Rattle.std.proofs.Common.{◌≡◌, ℕ, ◌+◌, ◌<◌, ◌≤◌, true, arith, List, [], ◌∷◌, Option, None, length, drop, get_or}
+use Rattle.std.proofs.Common.{refl, sym, ap, ◌∙◌}
 use Rattle.std.specs.Prelude.{map}
 use Rattle.std.proofs.Math.Nat.{add-zero}
 use Rattle.syntax.specs.declared.tree.Member as tree
@@ -11,7 +12,8 @@ use Rattle.types_symbols.specs.Working.Counted.{field_if}
 use Rattle.types_symbols.specs.Theory.Steps.{drop-here}
 use Rattle.types_declarations.specs.Working.Slots.{member_with}
 
-parts_none : (decls : List Decl) (slot : Slot) (place fields : ℕ) (ms : List Member) → with_members decls slot place fields None ms ≡ None
+parts_none : (decls : List Decl) (slot : Slot) (place fields : ℕ) (ms : List Member) →
+    with_members decls slot place fields None ms ≡ None
 parts_none decls slot place fields [] = refl
 parts_none decls slot place fields (lock_member x ∷ ms) = parts_none decls slot (place + 1) fields ms
 parts_none decls slot place fields (final_member f ∷ ms) = parts_none decls slot (place + 1) fields ms
@@ -37,24 +39,28 @@ module _ (decls : List Decl) (items : List tree.Member) (n : ℕ) (item : tree.M
   here : map member_of (drop n items) ≡ member_of item ∷ map member_of (drop (n + 1) items)
   here = ap (map member_of) (drop-here items n item lt is)
 
-  parts_with : (slot : Slot) (place fields : ℕ) (p : Option core.Program) → with_members decls slot place fields p (map member_of (drop n items)) ≡ with_members decls slot (place + 1) (fields + field_if true (member_of item)) (member_with decls slot place fields p (member_of item)) (map member_of (drop (n + 1) items))
+  parts_with : (slot : Slot) (place fields : ℕ) (p : Option core.Program) →
+      with_members decls slot place fields p (map member_of (drop n items)) ≡ with_members decls slot (place + 1) (fields + field_if true (member_of item)) (member_with decls slot place fields p (member_of item)) (map member_of (drop (n + 1) items))
   parts_with slot place fields p = ap (with_members decls slot place fields p) here ∙ part_with decls slot place fields p (member_of item) (map member_of (drop (n + 1) items))
 
-  pub parts_next : (slot : Slot) (place fields count : ℕ) (p q whole : Option core.Program) → with_members decls slot place fields p (map member_of (drop n items)) ≡ whole →
+  pub parts_next : (slot : Slot) (place fields count : ℕ) (p q whole : Option core.Program) →
+      with_members decls slot place fields p (map member_of (drop n items)) ≡ whole →
       q ≡ member_with decls slot place fields p (member_of item) → count ≡ field_if true (member_of item) → with_members decls slot (place + 1) (fields + count) q (map member_of (drop (n + 1) items)) ≡ whole
   parts_next slot place fields count p q whole inv made few =
       ap (λ (k : ℕ). with_members decls slot (place + 1) (fields + k) q (map member_of (drop (n + 1) items))) few
       ∙ ap (λ (o : Option core.Program). with_members decls slot (place + 1) (fields + field_if true (member_of item)) o (map member_of (drop (n + 1) items))) made
       ∙ sym (parts_with slot place fields p) ∙ inv
 
-  pub parts_lost : (slot : Slot) (place fields : ℕ) (p whole : Option core.Program) → with_members decls slot place fields p (map member_of (drop n items)) ≡ whole →
+  pub parts_lost : (slot : Slot) (place fields : ℕ) (p whole : Option core.Program) →
+      with_members decls slot place fields p (map member_of (drop n items)) ≡ whole →
       None ≡ member_with decls slot place fields p (member_of item) → None ≡ whole
   parts_lost slot place fields p whole inv none =
       sym (parts_none decls slot (place + 1) (fields + field_if true (member_of item)) (map member_of (drop (n + 1) items)))
       ∙ ap (λ (o : Option core.Program). with_members decls slot (place + 1) (fields + field_if true (member_of item)) o (map member_of (drop (n + 1) items))) none
       ∙ sym (parts_with slot place fields p) ∙ inv
 
-  pub members_lost : (k i : ℕ) (all : List Member) (st whole : Option StructBuilder) → members_added decls k i all st (map member_of (drop n items)) ≡ whole →
+  pub members_lost : (k i : ℕ) (all : List Member) (st whole : Option StructBuilder) →
+      members_added decls k i all st (map member_of (drop n items)) ≡ whole →
       None ≡ member_added decls k i all st (member_of item) → None ≡ whole
   members_lost k i all st whole inv none =
       sym (ap (members_added decls k i all st) here ∙ ap (λ (o : Option StructBuilder). members_added decls k i all o (map member_of (drop (n + 1) items))) (sym none) ∙ members_none decls k i all (map member_of (drop (n + 1) items))) ∙ inv

@@ -1,5 +1,6 @@
 -- Blocks; statements and parameters one after another.
-use Rattle.std.proofs.Common.{◌≡◌, Global, ℕ, ◌+◌, ◌<◌, List, [], ◌∷◌, ◌++◌, Option, Some, None, length, drop, get_or, refl, sym, ap, ◌∙◌}
+use Rattle.std.proofs.Common.{◌≡◌, Global, ℕ, ◌+◌, ◌<◌, List, [], ◌∷◌, ◌++◌, Option, Some, None, length, drop, get_or}
+use Rattle.std.proofs.Common.{refl, sym, ap, ◌∙◌}
 use Rattle.std.specs.Prelude.{Box, option_map, map, nat_le}
 use Rattle.source.specs.declared.fault.Code.TheVariants.{LimitExceeded}
 use Rattle.source.specs.declared.mistake.Mistake.{Mistake}
@@ -12,7 +13,8 @@ use Rattle.syntax.specs.declared.tree.Block as tree_block
 use Rattle.syntax.specs.declared.tree.Local as tree_local
 use Rattle.syntax.specs.declared.tree.Param as tree_param
 use Rattle.syntax.specs.Views.{expr_of, stmt_of, if_of, local_of, stmts_of, else_of, param_of}
-use Rattle.syntax.specs.Trees.{Decl, Stmt, let_local, let_owned, let_call, var_local, assign, if_then, while, print, return_value, call, Stmts, no_stmts, stmt, no_else, else_do, Param, Section}
+use Rattle.syntax.specs.Trees.{Decl, Stmt, let_local, let_owned, let_call, var_local, assign, if_then, while, print}
+use Rattle.syntax.specs.Trees.{return_value, call, Stmts, no_stmts, stmt, no_else, else_do, Param, Section}
 use Rattle.core_lang.specs.declared.value.ValueType as core_type
 use Rattle.syntax.specs.Theory.Rows.{while_of, stmt_of-While, if_of-out}
 use Rattle.core_lang.specs.declared.tree.LocalKind.TheVariants.{Parameter}
@@ -27,10 +29,12 @@ use Rattle.types_sections.specs.Working.Targets.{Row, row_of, body_of, pushed_to
 use Rattle.resolution.specs.declared.body_limits.BodyLimits.{BodyLimits}
 use Rattle.resolution.specs.Scopes.{Scope, hidden_from, bound, entered, outside, type_of, result_of, left}
 use Rattle.resolution.specs.Expressions.{typed, test_resolved}
-use Rattle.resolution.specs.Statements.{Part, does, gives, Body, given_back, preceded, typed_body, typed_stmt, typed_if, after, after_else, after_all, block_of, repeats, chooses_between}
+use Rattle.resolution.specs.Statements.{Part, does, gives, Body, given_back, preceded, typed_body, typed_stmt}
+use Rattle.resolution.specs.Statements.{typed_if, after, after_else, after_all, block_of, repeats, chooses_between}
 use Rattle.resolution.specs.Resolution.{ahead_of, core_locals, section_of, section_in}
 use Rattle.source.specs.Mistakes.{least_of}
-use Rattle.resolution.specs.Working.FaultLists.{one_if, local_faults, type_faults, param_faults, stmt_faults, stmts_faults, wanted_faults, else_faults}
+use Rattle.resolution.specs.Working.FaultLists.{one_if, local_faults, type_faults, param_faults, stmt_faults}
+use Rattle.resolution.specs.Working.FaultLists.{stmts_faults, wanted_faults, else_faults}
 use Rattle.types_symbols.specs.Theory.Steps.{step, noted_one, noted_two, noted_three}
 use Rattle.resolution.specs.Theory.Facts.{after_result}
 
@@ -53,22 +57,26 @@ body_joined (Some b) (Some rest) = body_and b.stmts b.result rest.stmts rest.res
 body_joined (Some b) None = None
 body_joined None rest = None
 
-before_push : (xs : List core.Stmt) (x : core.Stmt) (rest : core.Stmts) → stmts_before (xs ++ x ∷ []) rest ≡ stmts_before xs (core.stmt x.start x.action rest)
+before_push : (xs : List core.Stmt) (x : core.Stmt) (rest : core.Stmts) →
+    stmts_before (xs ++ x ∷ []) rest ≡ stmts_before xs (core.stmt x.start x.action rest)
 before_push [] x rest = refl
 before_push (y ∷ xs) x rest = ap (core.stmt y.start y.action) (before_push xs x rest)
 
-body_step : (xs : List core.Stmt) (q : Option core.Return) (p : Part) (b : Body) → body_joined (pushed_to xs q p) (Some b) ≡ body_joined (Some (record { stmts = xs; result = q })) (preceded (Some p) (Some b))
+body_step : (xs : List core.Stmt) (q : Option core.Return) (p : Part) (b : Body) →
+    body_joined (pushed_to xs q p) (Some b) ≡ body_joined (Some (record { stmts = xs; result = q })) (preceded (Some p) (Some b))
 body_step xs None (does x) b = ap (λ (ys : core.Stmts). Some (record { stmts = ys; result = b.result })) (before_push xs x b.stmts)
 body_step xs None (gives r) b = behind b.stmts b.result
   where
-    behind : (ys : core.Stmts) (s : Option core.Return) → body_and xs (Some r) ys s ≡ body_joined (Some (record { stmts = xs; result = None })) (given_back r ys s)
+    behind : (ys : core.Stmts) (s : Option core.Return) →
+        body_and xs (Some r) ys s ≡ body_joined (Some (record { stmts = xs; result = None })) (given_back r ys s)
     behind core.no_stmts None = refl
     behind core.no_stmts (Some s) = refl
     behind (core.stmt y a ys) s = refl
 body_step xs (Some q) (does x) b = refl
 body_step xs (Some q) (gives r) b = behind b.stmts b.result
   where
-    behind : (ys : core.Stmts) (s : Option core.Return) → None ≡ body_joined (Some (record { stmts = xs; result = Some q })) (given_back r ys s)
+    behind : (ys : core.Stmts) (s : Option core.Return) →
+        None ≡ body_joined (Some (record { stmts = xs; result = Some q })) (given_back r ys s)
     behind core.no_stmts None = refl
     behind core.no_stmts (Some s) = refl
     behind (core.stmt y a ys) s = refl
@@ -82,7 +90,8 @@ preceded_none : (p : Part) → preceded (Some p) None ≡ None
 preceded_none (does x) = refl
 preceded_none (gives r) = refl
 
-pub body_more : (so_far : Option Row) (p : Option Part) (rest : Option Body) → body_joined (body_pushed so_far p) rest ≡ body_joined so_far (preceded p rest)
+pub body_more : (so_far : Option Row) (p : Option Part) (rest : Option Body) →
+    body_joined (body_pushed so_far p) rest ≡ body_joined so_far (preceded p rest)
 body_more None p rest = refl
 body_more (Some b) None rest = refl
 body_more (Some b) (Some p) None = none_step b.stmts b.result p ∙ sym (ap (body_joined (Some b)) (preceded_none p))
@@ -92,16 +101,19 @@ stmts_all : (xs : List r.Stmt) → stmts_before (map core_stmt xs) core.no_stmts
 stmts_all [] = refl
 stmts_all (x ∷ xs) = ap (core.stmt x.start (core_stmt x).action) (stmts_all xs)
 
-pub body_end : (o : Option the_body.Body) → body_joined (option_map row_of o) (Some (record { stmts = core.no_stmts; result = None })) ≡ option_map body_of o
+pub body_end : (o : Option the_body.Body) →
+    body_joined (option_map row_of o) (Some (record { stmts = core.no_stmts; result = None })) ≡ option_map body_of o
 body_end None = refl
 body_end (Some b) = last b.stmts.items (option_map core_return b.result)
   where
-    last : (xs : List r.Stmt) (q : Option core.Return) → body_and (map core_stmt xs) q core.no_stmts None ≡ Some (record { stmts = core_stmts xs; result = q })
+    last : (xs : List r.Stmt) (q : Option core.Return) →
+        body_and (map core_stmt xs) q core.no_stmts None ≡ Some (record { stmts = core_stmts xs; result = q })
     last xs None = ap (λ (ys : core.Stmts). Some (record { stmts = ys; result = None })) (stmts_all xs)
     last xs (Some q) = ap (λ (ys : core.Stmts). Some (record { stmts = ys; result = Some q })) (stmts_all xs)
 
 -- one statement more, and no `return`
-pub one_more : (b : the_body.Body) (xs : List r.Stmt) (x : r.Stmt) → b.stmts.items ≡ xs ++ x ∷ [] → b.result ≡ None → Some (row_of b) ≡ pushed_to (map core_stmt xs) None (does (core_stmt x))
+pub one_more : (b : the_body.Body) (xs : List r.Stmt) (x : r.Stmt) → b.stmts.items ≡ xs ++ x ∷ [] → b.result ≡ None →
+    Some (row_of b) ≡ pushed_to (map core_stmt xs) None (does (core_stmt x))
 one_more b xs x is none =
     ap (λ (q : Option r_return.Return). Some (record { stmts = map core_stmt b.stmts.items; result = option_map core_return q })) none
     ∙ ap (λ (ys : List core.Stmt). Some (record { stmts = ys; result = None })) (ap (map core_stmt) is ∙ map-append core_stmt xs (x ∷ []))
@@ -197,7 +209,8 @@ all_limits sc no_stmts = refl
 all_limits sc (stmt s rest) = all_limits (after sc s) rest ∙ after_limits sc s
 
 -- behind a block, whose locals are hidden
-pub left_is : (sc inner new : Scope) (number : ℕ) (ss : Stmts) → number ≡ length sc.locals → inner ≡ after_all sc ss → new ≡ record inner { locals = hidden_from number inner.locals } →
+pub left_is : (sc inner new : Scope) (number : ℕ) (ss : Stmts) → number ≡ length sc.locals → inner ≡ after_all sc ss →
+    new ≡ record inner { locals = hidden_from number inner.locals } →
     new ≡ left sc (after_all sc ss)
 left_is sc inner new number ss here within made =
     let end = after_all sc ss in
@@ -214,7 +227,8 @@ entered_decls sc [] = refl
 entered_decls sc (p ∷ ps) = entered_decls (bound sc Parameter p.name (type_of (outside sc.decls) p.value_type)) ps
 
 module _ (sc : Scope) (s : Section) (inner end : Scope) (locals : Option (List core.Local)) (body : Option Body) where
-  pub section_is : inner ≡ entered sc s.params → body ≡ typed_body inner s.body.stmts → end ≡ after_all inner s.body.stmts → locals ≡ core_locals end.locals →
+  pub section_is : inner ≡ entered sc s.params → body ≡ typed_body inner s.body.stmts →
+      end ≡ after_all inner s.body.stmts → locals ≡ core_locals end.locals →
       section_of end.decls s locals body ≡ section_in sc s
   section_is hi hb he hl =
       let begun = entered sc s.params in
@@ -231,34 +245,41 @@ begun_is ds limits s result start hr hs = hs ∙ ap (λ (r : Option core_type.Va
 -- ---- loops and choices
 
 -- a local, read through the box
-pub let_seen : (s : tree_stmt.Stmt) (b : Box tree_local.Local Global) (x : tree_local.Local) → s ≡ Let b → x ≡ b.value → let_local (local_of x) ≡ stmt_of s
+pub let_seen : (s : tree_stmt.Stmt) (b : Box tree_local.Local Global) (x : tree_local.Local) → s ≡ Let b →
+    x ≡ b.value → let_local (local_of x) ≡ stmt_of s
 let_seen s b x is hx = ap (λ (l : tree_local.Local). let_local (local_of l)) hx ∙ sym (ap stmt_of is)
 
-pub var_seen : (s : tree_stmt.Stmt) (b : Box tree_local.Local Global) (x : tree_local.Local) → s ≡ Var b → x ≡ b.value → var_local (local_of x) ≡ stmt_of s
+pub var_seen : (s : tree_stmt.Stmt) (b : Box tree_local.Local Global) (x : tree_local.Local) → s ≡ Var b →
+    x ≡ b.value → var_local (local_of x) ≡ stmt_of s
 var_seen s b x is hx = ap (λ (l : tree_local.Local). var_local (local_of l)) hx ∙ sym (ap stmt_of is)
 
 -- a choice, read through the box
-pub if_seen : (s : tree_stmt.Stmt) (b : Box tree_if.If Global) (x : tree_if.If) → s ≡ If b → x ≡ b.value → if_of x ≡ stmt_of s
+pub if_seen : (s : tree_stmt.Stmt) (b : Box tree_if.If Global) (x : tree_if.If) → s ≡ If b → x ≡ b.value →
+    if_of x ≡ stmt_of s
 if_seen s b x is hx = ap if_of hx ∙ sym (ap stmt_of is)
 
 -- a loop, read through the box
-pub while_seen : (s : tree_stmt.Stmt) (b : Box tree_while.While Global) (x : tree_while.While) → s ≡ While b → x ≡ b.value → while_of x ≡ stmt_of s
+pub while_seen : (s : tree_stmt.Stmt) (b : Box tree_while.While Global) (x : tree_while.While) → s ≡ While b →
+    x ≡ b.value → while_of x ≡ stmt_of s
 while_seen s b x is hx = ap while_of hx ∙ sym (ap stmt_of is ∙ stmt_of-While b)
 
 -- a loop by its parts
 module _ (sc : Scope) (loop : tree_while.While) where
-  pub while_value : (p : Option Part) (cond : Option core.Condition) (block : Option core.Stmts) → p ≡ repeats loop.start.start cond block →
+  pub while_value : (p : Option Part) (cond : Option core.Condition) (block : Option core.Stmts) →
+      p ≡ repeats loop.start.start cond block →
       cond ≡ test_resolved (typed sc (expr_of loop.condition)) → block ≡ block_of (typed_body sc (stmts_of loop.block.stmts.items)) → p ≡ typed_stmt sc (while_of loop)
   while_value p cond block hp hc hb =
       hp ∙ ap (λ c. repeats loop.start.start c block) hc ∙ ap (repeats loop.start.start (test_resolved (typed sc (expr_of loop.condition)))) hb
 
-  pub while_faults : (f g h : Option Mistake) → g ≡ least_of f (wanted_faults sc Condition (expr_of loop.condition)) → h ≡ least_of g (stmts_faults sc (stmts_of loop.block.stmts.items)) →
+  pub while_faults : (f g h : Option Mistake) → g ≡ least_of f (wanted_faults sc Condition (expr_of loop.condition)) →
+      h ≡ least_of g (stmts_faults sc (stmts_of loop.block.stmts.items)) →
       h ≡ least_of f (stmt_faults sc (while_of loop))
   while_faults f g h hg hh = hh ∙ noted_one f g (wanted_faults sc Condition (expr_of loop.condition)) (stmts_faults sc (stmts_of loop.block.stmts.items)) hg
 
 -- a choice by its parts, where the scope behind its block is sc2
 module _ (sc sc2 : Scope) (choice : tree_if.If) (behind : sc2 ≡ left sc (after_all sc (stmts_of (out-If choice).block.stmts.items))) where
-  pub if_value : (cond : Option core.Condition) (block : Option core.Stmts) (p : Option Part) → cond ≡ test_resolved (typed sc (expr_of (out-If choice).condition)) →
+  pub if_value : (cond : Option core.Condition) (block : Option core.Stmts) (p : Option Part) →
+      cond ≡ test_resolved (typed sc (expr_of (out-If choice).condition)) →
       block ≡ block_of (typed_body sc (stmts_of (out-If choice).block.stmts.items)) → p ≡ typed_if sc2 (out-If choice).start.start cond block (else_of (out-If choice).otherwise) →
       p ≡ typed_stmt sc (if_of choice)
   if_value cond block p hc hb hp =
@@ -270,7 +291,8 @@ module _ (sc sc2 : Scope) (choice : tree_if.If) (behind : sc2 ≡ left sc (after
       ∙ ap (λ b. typed_if (left sc (after_all sc body)) at (test_resolved (typed sc (expr_of (out-If choice).condition))) b other) hb
       ∙ ap (typed_stmt sc) (sym (if_of-out choice))
 
-  pub if_faults : (f g h k : Option Mistake) → g ≡ least_of f (wanted_faults sc Condition (expr_of (out-If choice).condition)) →
+  pub if_faults : (f g h k : Option Mistake) →
+      g ≡ least_of f (wanted_faults sc Condition (expr_of (out-If choice).condition)) →
       h ≡ least_of g (stmts_faults sc (stmts_of (out-If choice).block.stmts.items)) → k ≡ least_of h (else_faults sc2 (else_of (out-If choice).otherwise)) →
       k ≡ least_of f (stmt_faults sc (if_of choice))
   if_faults f g h k hg hh hk =
@@ -280,7 +302,8 @@ module _ (sc sc2 : Scope) (choice : tree_if.If) (behind : sc2 ≡ left sc (after
       ∙ noted_two f g h (wanted_faults sc Condition (expr_of (out-If choice).condition)) (stmts_faults sc body) (else_faults (left sc (after_all sc body)) other) hg hh
       ∙ ap (λ s. least_of f (stmt_faults sc s)) (sym (if_of-out choice))
 
-  pub if_scope : (sc3 : Scope) → sc3 ≡ after_else sc2 (else_of (out-If choice).otherwise) → sc3 ≡ after sc (if_of choice)
+  pub if_scope : (sc3 : Scope) → sc3 ≡ after_else sc2 (else_of (out-If choice).otherwise) →
+      sc3 ≡ after sc (if_of choice)
   if_scope sc3 made = made ∙ ap (λ z. after_else z (else_of (out-If choice).otherwise)) behind ∙ ap (after sc) (sym (if_of-out choice))
 
 -- what stands behind `else`

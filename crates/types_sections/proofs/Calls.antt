@@ -1,5 +1,6 @@
 -- Arguments of calls of helpers, one after another.
-use Rattle.std.proofs.Common.{◌≡◌, ℕ, suc, ◌+◌, ◌<◌, List, [], ◌∷◌, Option, Some, None, length, drop, get_or, refl, sym, ap, ◌∙◌, append_assoc}
+use Rattle.std.proofs.Common.{◌≡◌, ℕ, suc, ◌+◌, ◌<◌, List, [], ◌∷◌, Option, Some, None, length, drop, get_or, refl}
+use Rattle.std.proofs.Common.{sym, ap, ◌∙◌, append_assoc}
 use Rattle.source.specs.declared.mistake.Mistake.{Mistake}
 use Rattle.syntax.specs.declared.tree.Expr as rust_expr
 use Rattle.syntax.specs.declared.tree.Param as rust_param
@@ -19,7 +20,8 @@ use Rattle.types_symbols.specs.Theory.Steps.{drop-here, noted_one}
 use Rattle.types_sections.specs.Working.Calls.{numbered, values_of, values_blamed, values_passed}
 
 -- one value more
-joined_more : (so_far : Option (List core.Expr)) (v : Option core.Expr) (rest : Option (List core.Expr)) → joined (pushed so_far v) rest ≡ joined so_far (added v rest)
+joined_more : (so_far : Option (List core.Expr)) (v : Option core.Expr) (rest : Option (List core.Expr)) →
+    joined (pushed so_far v) rest ≡ joined so_far (added v rest)
 joined_more None v rest = refl
 joined_more (Some xs) None rest = refl
 joined_more (Some xs) (Some x) None = refl
@@ -28,7 +30,8 @@ joined_more (Some xs) (Some x) (Some ys) = ap (λ (zs : List core.Expr). Some zs
 -- a parameter and its argument
 module _ (sc : Scope) (ps : List rust_param.Param) (es : List rust_expr.Expr) (i : ℕ) (p : rust_param.Param) (e : rust_expr.Expr) (few : i < length ps) (less : i < length es) (is : p ≡ get_or ps i p) (here : e ≡ get_or es i e)
     (w : Want) (wanted : w ≡ want_of sc.decls (param_of p)) where
-  pub values_step : (so_far new : Option (List core.Expr)) (v : Option core.Expr) (whole : Option (List core.Expr)) → new ≡ pushed so_far v → v ≡ as_value (fitting w (typed sc (expr_of e))) →
+  pub values_step : (so_far new : Option (List core.Expr)) (v : Option core.Expr) (whole : Option (List core.Expr)) →
+      new ≡ pushed so_far v → v ≡ as_value (fitting w (typed sc (expr_of e))) →
       joined so_far (values_of sc (drop i ps) (drop i es)) ≡ whole → joined new (values_of sc (drop (i + 1) ps) (drop (i + 1) es)) ≡ whole
   values_step so_far new v whole made one before =
       let rest = values_of sc (drop (i + 1) ps) (drop (i + 1) es) in
@@ -49,7 +52,8 @@ module _ (sc : Scope) (ps : List rust_param.Param) (es : List rust_expr.Expr) (i
       ∙ before
 
 -- too many or too few have no values
-values_unlike : (sc : Scope) (ps : List Param) (es : List Expr) → (length ps ≡ length es → ⊥) → typed_values sc ps es ≡ None
+values_unlike : (sc : Scope) (ps : List Param) (es : List Expr) → (length ps ≡ length es → ⊥) →
+    typed_values sc ps es ≡ None
 values_unlike sc [] [] h = absurd (h refl)
 values_unlike sc [] (e ∷ es) h = refl
 values_unlike sc (p ∷ ps) [] h = refl
@@ -64,7 +68,8 @@ abbrev section_or : Section → Option (ℕ × Section) → Section
 section_or s None = s
 section_or s (Some q) = q.1
 
-pub none_passed : (sc : Scope) (h : Option (ℕ × Section)) (n : ℕ) (s : Section) (es : List Expr) → Some (n, s) ≡ numbered sc h → (length s.params ≡ length es → ⊥) → None ≡ values_passed sc h es
+pub none_passed : (sc : Scope) (h : Option (ℕ × Section)) (n : ℕ) (s : Section) (es : List Expr) →
+    Some (n, s) ≡ numbered sc h → (length s.params ≡ length es → ⊥) → None ≡ values_passed sc h es
 none_passed sc None n s es e other = refl
 none_passed sc (Some f) n s es e other =
     let same : s ≡ f.1 = ap (section_or s) e in

@@ -11,7 +11,8 @@ use Rattle.resolution.specs.Working.FaultLists.{final_faults, path_faults}
 use Rattle.types_symbols.specs.Theory.Steps.{noted_one}
 use Rattle.resolution.specs.Statements.{Assignee, Split, assignee_along, behind, last_field}
 
-pub last_push : (ys : List FieldStep) (k n : ℕ) → last_field (ys ++ Field k n ∷ []) ≡ Some (record { base = ys; structure = k; field = n })
+pub last_push : (ys : List FieldStep) (k n : ℕ) →
+    last_field (ys ++ Field k n ∷ []) ≡ Some (record { base = ys; structure = k; field = n })
 last_push [] k n = refl
 last_push (Field j m ∷ []) k n = refl
 last_push (Final j m ∷ []) k n = refl
@@ -28,12 +29,14 @@ last_final (Final j m ∷ s ∷ ys) k n = ap (λ (o : Option Split). o >>= λ p.
 -- ---- a path on the left, by what each part is
 
 module _ (decls : List Decl) (start : ℕ) (m n : Meaning) (fs gs : List Ident) (w : Walk) (named : m ≡ n) (same : fs ≡ gs) (reached : w ≡ walk_from decls m fs) where
-  pub along_seen : (a : Option Assignee) → a ≡ assignee_along start m w → a ≡ assignee_along start n (walk_from decls n gs)
+  pub along_seen : (a : Option Assignee) → a ≡ assignee_along start m w →
+      a ≡ assignee_along start n (walk_from decls n gs)
   along_seen a ha =
       ha ∙ ap (assignee_along start m) (reached ∙ ap (walk_from decls m) same)
       ∙ ap (λ (k : Meaning). assignee_along start k (walk_from decls k gs)) named
 
-  pub along_blamed : (f g h : Option Mistake) → g ≡ least_of f (path_faults decls start m fs) → h ≡ least_of g (final_faults start w) →
+  pub along_blamed : (f g h : Option Mistake) → g ≡ least_of f (path_faults decls start m fs) →
+      h ≡ least_of g (final_faults start w) →
       h ≡ least_of f (path_faults decls start n gs ++ final_faults start (walk_from decls n gs))
   along_blamed f g h hg hh =
       hh ∙ noted_one f g (path_faults decls start m fs) (final_faults start w) hg

@@ -24,25 +24,31 @@ pub added_capped : (t : Totals) (decls : List Decl) (d : Decl) → t ≡ added_b
 added_capped t decls d e =
     subst AreCapped (sym e) (below_cap (classes_of d) CLASS_LIMIT, below_cap (objects_of d) OBJECT_LIMIT, below_cap (cells_of decls d) CELL_LIMIT, below_cap (calls_of d) CALL_LIMIT)
 
-pub sum_step : (L sum k one new rest : ℕ) → one ≡ min k (L + 1) → new ≡ min (sum + one) (L + 1) → min (new + rest) (L + 1) ≡ min (sum + (k + rest)) (L + 1)
+pub sum_step : (L sum k one new rest : ℕ) → one ≡ min k (L + 1) → new ≡ min (sum + one) (L + 1) →
+    min (new + rest) (L + 1) ≡ min (sum + (k + rest)) (L + 1)
 sum_step L sum k one new rest e f = omega (arith, e, f)
 
-pub sum_done : (L sum rest all : ℕ) → sum ≤ L + 1 → rest ≡ 0 → min (sum + rest) (L + 1) ≡ min all (L + 1) → sum ≡ min all (L + 1)
+pub sum_done : (L sum rest all : ℕ) → sum ≤ L + 1 → rest ≡ 0 → min (sum + rest) (L + 1) ≡ min all (L + 1) →
+    sum ≡ min all (L + 1)
 sum_done L sum rest all le none e = omega (arith, le, none, e)
 
-pub few_more : (b : Bool) (n classes place L : ℕ) → n ≡ classes + lock_count b → classes ≤ L + place → n ≤ L + (place + 1)
+pub few_more : (b : Bool) (n classes place L : ℕ) → n ≡ classes + lock_count b → classes ≤ L + place →
+    n ≤ L + (place + 1)
 few_more true n classes place L e le = omega (arith, e, le)
 few_more false n classes place L e le = omega (arith, e, le)
 
 -- ---- lock fields
 
-lock_first : (rest : List Member) (n : ℕ) → count is_lock rest ≡ n → (x : Name) → count is_lock (member_of (Lock x) ∷ rest) ≡ 1 + n
+lock_first : (rest : List Member) (n : ℕ) → count is_lock rest ≡ n → (x : Name) →
+    count is_lock (member_of (Lock x) ∷ rest) ≡ 1 + n
 lock_first rest n e x = omega (arith, e)
 
-pub count_lock : (m : rust.Member) (x : Name) (rest : List Member) → m ≡ Lock x → count is_lock (member_of m ∷ rest) ≡ 1 + count is_lock rest
+pub count_lock : (m : rust.Member) (x : Name) (rest : List Member) → m ≡ Lock x →
+    count is_lock (member_of m ∷ rest) ≡ 1 + count is_lock rest
 count_lock m x rest is = ap (λ (y : rust.Member). count is_lock (member_of y ∷ rest)) is ∙ lock_first rest (count is_lock rest) refl x
 
-pub count_other : (m : rust.Member) (rest : List Member) → ((x : Name) → m ≡ Lock x → ⊥) → count is_lock (member_of m ∷ rest) ≡ count is_lock rest
+pub count_other : (m : rust.Member) (rest : List Member) → ((x : Name) → m ≡ Lock x → ⊥) →
+    count is_lock (member_of m ∷ rest) ≡ count is_lock rest
 count_other (Lock x) rest not = absurd (not x refl)
 count_other (Final f) rest not = refl
 count_other (Field f) rest not = refl

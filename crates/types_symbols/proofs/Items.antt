@@ -12,6 +12,7 @@ module _ {A : Type 0} (xs : List A) (i : ℕ) where
   pub item_past : IsItemAt xs i None → slice_get xs i ≡ None
   item_past h = slice_get_past xs i h.3
 
-pub item_seen : {A B : Type 0} (view : A → B) (xs : List A) (i : ℕ) (r : Option (Bor A)) → IsItemAt xs i r → option_map (λ b. view b.now) r ≡ slice_get (map view xs) i
+pub item_seen : {A B : Type 0} (view : A → B) (xs : List A) (i : ℕ) (r : Option (Bor A)) → IsItemAt xs i r →
+    option_map (λ b. view b.now) r ≡ slice_get (map view xs) i
 item_seen view xs i None h = sym (slice_get-map view xs i ∙ ap (option_map view) (item_past xs i h))
 item_seen view xs i (Some b) h = sym (slice_get-map view xs i ∙ ap (option_map view) (item_here xs i b h))

@@ -4,8 +4,10 @@ use Rattle.std.specs.Prelude.{nat_lt, option_map}
 use Rattle.std.proofs.lemmas.Bool.{lt-ltb}
 use Rattle.syntax.specs.Trees.{Decl, struct, pool, Struct, Pool, Member}
 use Rattle.resolution.specs.declared.init_target.InitTarget.{InitTarget}
-use Rattle.resolution.specs.Constants.{pool_members, init_target_to, init_target_in, init_target_at, members_in, members_of}
-use Rattle.resolution.specs.Scopes.{Scope, Local, a_local, declared_as, local_or, meaning, the_decl, the_local, the_member}
+use Rattle.resolution.specs.Constants.{pool_members, init_target_to, init_target_in, init_target_at, members_in}
+use Rattle.resolution.specs.Constants.{members_of}
+use Rattle.resolution.specs.Scopes.{Scope, Local, a_local, declared_as, local_or, meaning, the_decl, the_local}
+use Rattle.resolution.specs.Scopes.{the_member}
 use Rattle.types_symbols.specs.Working.Given.{struct_of_pool, pool_in}
 use Rattle.types_symbols.specs.Working.Views.{struct_in}
 
@@ -15,7 +17,8 @@ of_pool : List Decl → Option (ℕ × Pool) → ℕ → List ℕ → Option Ini
 of_pool decls (Some (i, p)) index q = if nat_lt index p.length.value then init_target_in i index (members_of decls p.target) q else None
 of_pool decls None index q = None
 
-by_pool : (decls : List Decl) (o : Option (ℕ × Decl)) (index : ℕ) (q : List ℕ) → init_target_to decls o index q ≡ of_pool decls (pool_in o) index q
+by_pool : (decls : List Decl) (o : Option (ℕ × Decl)) (index : ℕ) (q : List ℕ) →
+    init_target_to decls o index q ≡ of_pool decls (pool_in o) index q
 unfolding of_pool
 by_pool decls (Some (i, pool p)) index q = refl
 by_pool decls o index q = refl
@@ -37,7 +40,8 @@ module _ (decls : List Decl) (o : Option (ℕ × Decl)) (place : ℕ) (p : Pool)
       ∙ sym (ap (λ (f : Option (ℕ × Pool)). of_pool decls f index q) here)
       ∙ ap (λ (b : Bool). if b then init_target_in place index (members_of decls p.target) q else None) (lt-ltb index p.length.value lt)
 
-  pub of_struct : (k : ℕ) (s : Struct) → Some (k, s) ≡ struct_in (the_decl decls p.target.text) → init_target_to decls o index q ≡ init_target_at place index (the_member s.members q)
+  pub of_struct : (k : ℕ) (s : Struct) → Some (k, s) ≡ struct_in (the_decl decls p.target.text) →
+      init_target_to decls o index q ≡ init_target_at place index (the_member s.members q)
   unfolding members_by
   of_struct k s there =
       of_members ∙ ap (λ (ms : Option (List Member)). init_target_in place index ms q) (by_struct (the_decl decls p.target.text) ∙ sym (ap members_by there))
@@ -49,7 +53,8 @@ module _ (decls : List Decl) (o : Option (ℕ × Decl)) (place : ℕ) (p : Pool)
 
 -- ---- a local in scope
 
-pub local_meant : (sc : Scope) (q text : List ℕ) (place : ℕ) (l : Local) → Some (place, l) ≡ the_local sc.locals q → q ≡ text → l.is_visible ≡ true → meaning sc text ≡ a_local place l
+pub local_meant : (sc : Scope) (q text : List ℕ) (place : ℕ) (l : Local) → Some (place, l) ≡ the_local sc.locals q →
+    q ≡ text → l.is_visible ≡ true → meaning sc text ≡ a_local place l
 local_meant sc q text place l here same seen =
     let other = declared_as (the_decl sc.decls text) in
     ap (λ (o : Option (ℕ × Local)). local_or o other) (sym (here ∙ ap (the_local sc.locals) same)) ∙ ap (λ (b : Bool). if b then a_local place l else other) seen

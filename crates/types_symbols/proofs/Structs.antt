@@ -1,5 +1,6 @@
 -- Structs among declarations, and their members, one after another.
-use Rattle.std.proofs.Common.{◌≡◌, ℕ, ◌≤◌, List, [], ◌∷◌, ◌++◌, Option, Some, None, Bool, true, false, refl, sym, ap, ◌∙◌, arith}
+use Rattle.std.proofs.Common.{◌≡◌, ℕ, ◌≤◌, List, [], ◌∷◌, ◌++◌, Option, Some, None, Bool, true, false, refl, sym, ap}
+use Rattle.std.proofs.Common.{◌∙◌, arith}
 use Rattle.std.proofs.lemmas.List.{map-append, append-nil}
 use Rattle.std.specs.Prelude.{is_some, not, map}
 use Rattle.source.specs.declared.fault.Code.TheVariants.{DeclaredTwice}
@@ -8,7 +9,8 @@ use Rattle.source.specs.Mistakes.{least_of}
 use Rattle.syntax.specs.declared.tree.Decl as rust
 use Rattle.syntax.specs.declared.tree.Decl.TheVariants as variant
 use Rattle.syntax.specs.declared.tree.Struct as rust_struct
-use Rattle.syntax.specs.Trees.{Decl, lock, struct, global, array, pool, init, atomic, helper, thread, Struct, Member, lock_member, final_member, field_member}
+use Rattle.syntax.specs.Trees.{Decl, lock, struct, global, array, pool, init, atomic, helper, thread, Struct, Member}
+use Rattle.syntax.specs.Trees.{lock_member, final_member, field_member}
 use Rattle.syntax.specs.Views.{decl_of, struct_of}
 use Rattle.resolution.specs.Scopes.{structs_in}
 use Rattle.resolution.specs.Numbers.{new_field}
@@ -16,7 +18,8 @@ use Rattle.resolution.specs.Working.FaultLists.{one_if, again, member_twice_faul
 use Rattle.types_symbols.specs.Working.Counted.{field_if}
 use Rattle.types_symbols.specs.Working.Views.{AreStructures}
 
-pub again_if : (b : Bool) (o : Option ℕ) (start : ℕ) → is_some o ≡ not b → one_if (not b) DeclaredTwice start ≡ again start o
+pub again_if : (b : Bool) (o : Option ℕ) (start : ℕ) → is_some o ≡ not b →
+    one_if (not b) DeclaredTwice start ≡ again start o
 again_if true None start e = refl
 again_if true (Some i) start e = absurd (cc)
 again_if false None start e = absurd (cc)
@@ -53,7 +56,9 @@ structs_push (helper x ∷ ds) d = structs_push ds d
 structs_push (thread x ∷ ds) d = structs_push ds d
 
 -- what a declaration adds
-pub structures_more : (ds : List Decl) (d : Decl) (ss new : List rust_struct.Struct) → map struct_of new ≡ map struct_of ss ++ structs_in (d ∷ []) → AreStructures ds ss → AreStructures (ds ++ d ∷ []) new
+pub structures_more : (ds : List Decl) (d : Decl) (ss new : List rust_struct.Struct) →
+    map struct_of new ≡ map struct_of ss ++ structs_in (d ∷ []) → AreStructures ds ss →
+    AreStructures (ds ++ d ∷ []) new
 structures_more ds d ss new made all = made ∙ ap (λ (l : List Struct). l ++ structs_in (d ∷ [])) all ∙ sym (structs_push ds d)
 
 pub faults_more : (d : Decl) (ds : List Decl) → struct_faults (d ∷ []) ++ struct_faults ds ≡ struct_faults (d ∷ ds)
@@ -69,12 +74,14 @@ faults_more (thread x) ds = refl
 
 -- a struct
 module _ (d : rust.Decl) (x : rust_struct.Struct) where
-  pub structure_added : (y : rust_struct.Struct) (ss new : List rust_struct.Struct) → d ≡ variant.Struct x → y ≡ x → new ≡ ss ++ y ∷ [] → map struct_of new ≡ map struct_of ss ++ structs_in (decl_of d ∷ [])
+  pub structure_added : (y : rust_struct.Struct) (ss new : List rust_struct.Struct) → d ≡ variant.Struct x → y ≡ x →
+      new ≡ ss ++ y ∷ [] → map struct_of new ≡ map struct_of ss ++ structs_in (decl_of d ∷ [])
   structure_added y ss new is same made =
       ap (map struct_of) made ∙ map-append struct_of ss (y ∷ []) ∙ ap (λ (z : rust_struct.Struct). map struct_of ss ++ struct_of z ∷ []) same
       ∙ ap (λ (e : rust.Decl). map struct_of ss ++ structs_in (decl_of e ∷ [])) (sym is)
 
-  pub structure_blamed : (f g : Option Mistake) → d ≡ variant.Struct x → g ≡ least_of f (member_twice_faults [] (struct_of x).members) → g ≡ least_of f (struct_faults (decl_of d ∷ []))
+  pub structure_blamed : (f g : Option Mistake) → d ≡ variant.Struct x →
+      g ≡ least_of f (member_twice_faults [] (struct_of x).members) → g ≡ least_of f (struct_faults (decl_of d ∷ []))
   structure_blamed f g is noted =
       noted ∙ ap (least_of f) (sym (append-nil (member_twice_faults [] (struct_of x).members))) ∙ ap (λ (e : rust.Decl). least_of f (struct_faults (decl_of e ∷ []))) (sym is)
 
@@ -90,10 +97,13 @@ none_struct (variant.Atomic x) h = refl
 none_struct (variant.Helper x) h = refl
 none_struct (variant.Thread x) h = refl
 
-pub none_added : (d : rust.Decl) (ss : List rust_struct.Struct) → ((x : rust_struct.Struct) → d ≡ variant.Struct x → ⊥) → map struct_of ss ≡ map struct_of ss ++ structs_in (decl_of d ∷ [])
+pub none_added : (d : rust.Decl) (ss : List rust_struct.Struct) →
+    ((x : rust_struct.Struct) → d ≡ variant.Struct x → ⊥) →
+    map struct_of ss ≡ map struct_of ss ++ structs_in (decl_of d ∷ [])
 none_added d ss other = sym (ap (λ (l : List Struct). map struct_of ss ++ l) (none_struct d other) ∙ append-nil (map struct_of ss))
 
-pub none_blamed : (d : rust.Decl) (f : Option Mistake) → ((x : rust_struct.Struct) → d ≡ variant.Struct x → ⊥) → f ≡ least_of f (struct_faults (decl_of d ∷ []))
+pub none_blamed : (d : rust.Decl) (f : Option Mistake) → ((x : rust_struct.Struct) → d ≡ variant.Struct x → ⊥) →
+    f ≡ least_of f (struct_faults (decl_of d ∷ []))
 none_blamed (variant.Lock x) f h = refl
 none_blamed (variant.Struct x) f h = absurd (h x refl)
 none_blamed (variant.Global x) f h = refl

@@ -1,5 +1,6 @@
 -- Sums and products in which all past a limit count alike.
-use Rattle.std.proofs.Common.{◌≡◌, ℕ, zero, suc, ◌+◌, ◌*◌, ◌<◌, ◌≤◌, List, [], ◌∷◌, ◌++◌, Bool, true, false, refl, sym, ap, ◌∙◌, arith}
+use Rattle.std.proofs.Common.{◌≡◌, ℕ, zero, suc, ◌+◌, ◌*◌, ◌<◌, ◌≤◌, List, [], ◌∷◌, ◌++◌, Bool, true, false, refl}
+use Rattle.std.proofs.Common.{sym, ap, ◌∙◌, arith}
 use Rattle.std.specs.Prelude.{min, nat_le, nat_lt, ◌&&◌}
 use Rattle.std.proofs.lemmas.Bool.Decides.{nat_tests}
 use Rattle.source.specs.declared.fault.Code.TheVariants.{LimitExceeded}
@@ -30,7 +31,8 @@ total_push of (x ∷ ds) d = omega (arith, total_push of ds d)
 capped_sum : (L n m s : ℕ) → s ≡ n + m → min (min n (L + 1) + min m (L + 1)) (L + 1) ≡ min s (L + 1)
 capped_sum L n m s e = omega (arith, e)
 
-pub totals_push : (decls ds : List Decl) (d : Decl) → both_totals (totals_of decls ds) (added_by decls d) ≡ totals_of decls (ds ++ d ∷ [])
+pub totals_push : (decls ds : List Decl) (d : Decl) →
+    both_totals (totals_of decls ds) (added_by decls d) ≡ totals_of decls (ds ++ d ∷ [])
 totals_push decls ds d =
     same
     (capped_sum CLASS_LIMIT (total classes_of ds) (classes_of d) (total classes_of (ds ++ d ∷ [])) (total_push classes_of ds d))
@@ -38,15 +40,18 @@ totals_push decls ds d =
     (capped_sum CELL_LIMIT (total (cells_of decls) ds) (cells_of decls d) (total (cells_of decls) (ds ++ d ∷ [])) (total_push (cells_of decls) ds d))
     (capped_sum CALL_LIMIT (total calls_of ds) (calls_of d) (total calls_of (ds ++ d ∷ [])) (total_push calls_of ds d))
   where
-    same : {a b c d a' b' c' d' : ℕ} → a ≡ a' → b ≡ b' → c ≡ c' → d ≡ d' → ◌≡◌ {A = Totals} (record { classes = a; objects = b; cells = c; calls = d }) (record { classes = a'; objects = b'; cells = c'; calls = d' })
+    same : {a b c d a' b' c' d' : ℕ} → a ≡ a' → b ≡ b' → c ≡ c' → d ≡ d' →
+        ◌≡◌ {A = Totals} (record { classes = a; objects = b; cells = c; calls = d }) (record { classes = a'; objects = b'; cells = c'; calls = d' })
     same e f g h = cc
 
 -- ---- faults
 
-same_test : (L n m : ℕ) → (nat_le (min n (L + 1)) L && nat_lt L (min n (L + 1) + min m (L + 1))) ≡ (nat_le n L && nat_lt L (n + m))
+same_test : (L n m : ℕ) →
+    (nat_le (min n (L + 1)) L && nat_lt L (min n (L + 1) + min m (L + 1))) ≡ (nat_le n L && nat_lt L (n + m))
 same_test L n m = decide (nat_le (min n (L + 1)) L) (nat_lt L (min n (L + 1) + min m (L + 1))) (nat_le n L) (nat_lt L (n + m)) refl refl refl refl
   where
-    decide : (a b c d : Bool) → nat_le (min n (L + 1)) L ≡ a → nat_lt L (min n (L + 1) + min m (L + 1)) ≡ b → nat_le n L ≡ c → nat_lt L (n + m) ≡ d → (a && b) ≡ (c && d)
+    decide : (a b c d : Bool) → nat_le (min n (L + 1)) L ≡ a → nat_lt L (min n (L + 1) + min m (L + 1)) ≡ b →
+        nat_le n L ≡ c → nat_lt L (n + m) ≡ d → (a && b) ≡ (c && d)
     decide true true true true ea eb ec ed = refl
     decide true true true false ea eb ec ed = grind (arith, nat_tests)
     decide true true false d ea eb ec ed = grind (arith, nat_tests)
@@ -70,7 +75,8 @@ more_le : (L n m k : ℕ) → nat_le L n ≡ nat_le L m → n ≡ m → nat_le L
 more_le L n m k e h = ap (λ (x : ℕ). nat_le L (x + k)) h
 
 -- the counts of members look at the lock classes only by whether there are too many
-pub counts_same : (a b n : ℕ) (ms : List Member) → ((k : ℕ) → nat_le CLASS_LIMIT (a + k) ≡ nat_le CLASS_LIMIT (b + k)) → member_counts a n ms ≡ member_counts b n ms
+pub counts_same : (a b n : ℕ) (ms : List Member) →
+    ((k : ℕ) → nat_le CLASS_LIMIT (a + k) ≡ nat_le CLASS_LIMIT (b + k)) → member_counts a n ms ≡ member_counts b n ms
 counts_same a b n [] same = refl
 counts_same a b n (m ∷ ms) same =
     ap (λ (t : Bool). one_if (nat_le 32 n) LimitExceeded (member_name m).span.start ++ one_if (is_lock m && t) LimitExceeded (member_name m).span.start ++ member_counts (a + lock_count (is_lock m)) (n + 1) ms) (here (same 0))
@@ -104,10 +110,12 @@ both_full L n a b e = decide (nat_le L (min a L + min b L)) (nat_le L n) refl re
     decide false true ex ey = grind (arith, nat_tests)
     decide false false ex ey = refl
 
-bodies_full : (ds : List Decl) (s : Section) → nat_le SECTION_LIMIT (limited ds (atomic s)) ≡ nat_le SECTION_LIMIT (count has_body ds)
+bodies_full : (ds : List Decl) (s : Section) →
+    nat_le SECTION_LIMIT (limited ds (atomic s)) ≡ nat_le SECTION_LIMIT (count has_body ds)
 bodies_full ds s = both_full SECTION_LIMIT (count has_body ds) (count (alike (atomic s)) ds) (count (alike (helper s)) ds) (bodies_counted ds s s)
 
-pub faults_are : (decls ds : List Decl) (d : Decl) → faults_by (limited ds d) (totals_of decls ds) (added_by decls d) d ≡ count_faults decls ds d
+pub faults_are : (decls ds : List Decl) (d : Decl) →
+    faults_by (limited ds d) (totals_of decls ds) (added_by decls d) d ≡ count_faults decls ds d
 faults_are decls ds (lock x) = over_if _ _ x.span.start (same_le CLASS_LIMIT (total classes_of ds))
 faults_are decls ds (struct s) = ap (λ (fs : List Mistake). one_if (nat_le 64 (count (alike (struct s)) ds)) LimitExceeded s.name.span.start ++ fs) (counts_same (min (total classes_of ds) (CLASS_LIMIT + 1)) (total classes_of ds) 0 s.members (capped_le CLASS_LIMIT (total classes_of ds)))
 faults_are decls ds (global v) = over_if _ _ v.name.span.start (same_test CELL_LIMIT (total (cells_of decls) ds) (cells_of decls (global v)))

@@ -15,7 +15,8 @@ begins-trans xs ys zs a b = record {
 pub others_begin : (t : ℕ) (old new : List Commit) → SeesOthers t old new → Begins old new
 others_begin t old new seen = record { rest = seen.between; is = seen.is }
 
-pub others_own : (t position : ℕ) (e : Commit) (old new after : List Commit) → SeesOthers t old new → SeesOwn t position e new after →
+pub others_own : (t position : ℕ) (e : Commit) (old new after : List Commit) → SeesOthers t old new →
+    SeesOwn t position e new after →
     SeesOwn t position e old after
 others_own t position e old new after a b =
     let is : new ++ b.between ≡ old ++ (a.between ++ b.between) =
@@ -27,7 +28,8 @@ others_own t position e old new after a b =
       long = ap length (sym is) ∙ b.long;
     }
 
-pub own_at : (t t' position position' : ℕ) (e e' : Commit) (old new : List Commit) → t ≡ t' → position ≡ position' → e ≡ e' →
+pub own_at : (t t' position position' : ℕ) (e e' : Commit) (old new : List Commit) → t ≡ t' → position ≡ position' →
+    e ≡ e' →
     SeesOwn t position e old new → SeesOwn t' position' e' old new
 own_at t t' position position' e e' old new same here it own =
     subst (λ (x : Commit). SeesOwn t' position' x old new) it

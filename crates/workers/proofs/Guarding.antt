@@ -40,7 +40,8 @@ manager_kept plan m m' d k = record {
 }
 
 -- an entry is entered
-pub released_manager : (m m' : Managed) (o : OpenOf) (ready : ReadyOf) (receipt : ReceiptOf) → SectionsStayInOrder → TrueOfOneMore →
+pub released_manager : (m m' : Managed) (o : OpenOf) (ready : ReadyOf) (receipt : ReceiptOf) → SectionsStayInOrder →
+    TrueOfOneMore →
     IsManagerOf o.plan m → IsOpen o → CanBeReleased m o → Released m o ready receipt m' → IsManagerOf o.plan m'
 released_manager m m' o ready receipt laws more d is_open can r =
     let e = entry_of o r.outcome in

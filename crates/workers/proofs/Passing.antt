@@ -1,5 +1,6 @@
 -- The answers and the steps of a thread's entries, by parts of a log.
-use Rattle.std.proofs.Common.{◌≡◌, ◌≢◌, ℕ, ◌+◌, ◌<◌, ◌==◌, ◌&&◌, Bool, true, false, if◌then◌else◌, List, [], ◌∷◌, ◌++◌, length, drop, refl, sym, ap, ◌∙◌, subst, arith, ne_eqb, eq-eqb}
+use Rattle.std.proofs.Common.{◌≡◌, ◌≢◌, ℕ, ◌+◌, ◌<◌, ◌==◌, ◌&&◌, Bool, true, false, if◌then◌else◌, List, [], ◌∷◌}
+use Rattle.std.proofs.Common.{◌++◌, length, drop, refl, sym, ap, ◌∙◌, subst, arith, ne_eqb, eq-eqb}
 use Rattle.std.proofs.lemmas.List.{append-nil, drop_at}
 use Rattle.std.proofs.lemmas.List.Elements.{All-nil, All-cons, All-head, All-tail}
 use Rattle.history.specs.Commits.{Commit}
@@ -15,14 +16,16 @@ abbrev first_if : Bool → ReplyOf → List ReplyOf → List ReplyOf
 first_if b r rs = if b then r ∷ rs else rs
 
 -- those of the first entries, then those of the others
-pub replies-append : (t p : ℕ) (xs ys : List Commit) → replies_of t p (xs ++ ys) ≡ replies_of t p xs ++ replies_of t (p + length xs) ys
+pub replies-append : (t p : ℕ) (xs ys : List Commit) →
+    replies_of t p (xs ++ ys) ≡ replies_of t p xs ++ replies_of t (p + length xs) ys
 replies-append t p [] ys = ap (λ (n : ℕ). replies_of t n ys) (omega arith)
 replies-append t p (x ∷ xs) ys =
     let place : (p + 1) + length xs ≡ p + length (x ∷ xs) = omega arith in
     let rest = replies-append t (p + 1) xs ys ∙ ap (λ (n : ℕ). replies_of t (p + 1) xs ++ replies_of t n ys) place in
     put (x.thread == t) (reply_at p x) (replies_of t (p + 1) (xs ++ ys)) (replies_of t (p + 1) xs) (replies_of t (p + length (x ∷ xs)) ys) rest
   where
-    put : (b : Bool) (r : ReplyOf) (all front back : List ReplyOf) → all ≡ front ++ back → first_if b r all ≡ first_if b r front ++ back
+    put : (b : Bool) (r : ReplyOf) (all front back : List ReplyOf) → all ≡ front ++ back →
+        first_if b r all ≡ first_if b r front ++ back
     put true r all front back is = ap (λ (rs : List ReplyOf). r ∷ rs) is
     put false r all front back is = is
 
@@ -46,7 +49,8 @@ replies-below t p (x ∷ xs) =
     let rest = subst (λ (n : ℕ). AllBelow n (replies_of t (p + 1) xs)) place (replies-below t (p + 1) xs) in
     put (x.thread == t) (reply_at p x) (replies_of t (p + 1) xs) (omega arith) rest
   where
-    put : (b : Bool) (r : ReplyOf) (rs : List ReplyOf) → r.position < p + length (x ∷ xs) → AllBelow (p + length (x ∷ xs)) rs →
+    put : (b : Bool) (r : ReplyOf) (rs : List ReplyOf) → r.position < p + length (x ∷ xs) →
+        AllBelow (p + length (x ∷ xs)) rs →
         AllBelow (p + length (x ∷ xs)) (first_if b r rs)
     put true r rs here rest = All-cons (λ (r : ReplyOf). r.position < p + length (x ∷ xs)) r rs here rest
     put false r rs here rest = rest
@@ -54,7 +58,8 @@ replies-below t p (x ∷ xs) =
 -- ---- steps
 
 -- those of the first entries go up from a step, and those of the others from there on
-pub steps-append : (t k p : ℕ) (xs ys : List Commit) → in_step t k xs ≡ true → in_step t (k + length (replies_of t p xs)) ys ≡ true →
+pub steps-append : (t k p : ℕ) (xs ys : List Commit) → in_step t k xs ≡ true →
+    in_step t (k + length (replies_of t p xs)) ys ≡ true →
     in_step t k (xs ++ ys) ≡ true
 steps-append t k p [] ys front back = ap (λ (n : ℕ). in_step t n ys) (omega arith) ∙ back
 steps-append t k p (x ∷ xs) ys front back =

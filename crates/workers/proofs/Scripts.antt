@@ -1,5 +1,7 @@
 -- Where the seats are those of all threads, the history has their scripts.
-use Rattle.std.proofs.Common.{◌≡◌, ℕ, zero, suc, ◌+◌, ◌<◌, ◌==◌, Bool, true, false, if◌then◌else◌, List, [], ◌∷◌, ◌++◌, length, refl, sym, ◌∙◌, ap, subst, map, take, get_or, arith, Some, Option, None, slice_get, option_map}
+use Rattle.std.proofs.Common.{◌≡◌, ℕ, zero, suc, ◌+◌, ◌<◌, ◌==◌, Bool, true, false, if◌then◌else◌, List, [], ◌∷◌}
+use Rattle.std.proofs.Common.{◌++◌, length, refl, sym, ◌∙◌, ap, subst, map, take, get_or, arith, Some, Option, None}
+use Rattle.std.proofs.Common.{slice_get, option_map}
 use Rattle.std.specs.Prelude.{slice_index_or}
 use Rattle.std.proofs.lemmas.Bool.{cond-true, eq-eqb}
 use Rattle.std.proofs.lemmas.Option.{slice_get-map, slice_get_within, get_or_from_slice_get}
@@ -17,7 +19,8 @@ use Rattle.workers.specs.Seats.{SeatOf, ReplyOf}
 use Rattle.workers.specs.Working.Within.{AreInOrder, HasCalls}
 use Rattle.workers.specs.Answers.{AnswersAreIn, IsSeated, HasScript, call_in, reply_at, replies_of, in_step, script_at}
 
-pub has_script : (plan : Plan) (count : ℕ) (seats : List SeatOf) (log : List Commit) → AreInOrder plan count seats → All (AnswersAreIn log) seats → (t : ℕ) → t < count → HasScript plan log t
+pub has_script : (plan : Plan) (count : ℕ) (seats : List SeatOf) (log : List Commit) → AreInOrder plan count seats →
+    All (AnswersAreIn log) seats → (t : ℕ) → t < count → HasScript plan log t
 has_script plan count seats log order sit t below =
     let d : SeatOf = record { thread = 0; answers = []; row = []; seen = [] } in
     let s = get_or seats t d in
@@ -61,13 +64,15 @@ one_more_ran plan t step script call hs h is has same ran =
 seated_at : (P : Commit → Type 0) (log : List Commit) (p : ℕ) (c : Commit) → All P log → slice_get log p ≡ Some c → P c
 seated_at P log p c sit is = subst P (get_or_from_slice_get log p c c is) (All-get_or P log p c (slice_get_within log p c is) sit)
 
-mapped_or : {X Y : Type 0} (f : X → Y) (xs : List X) (k : ℕ) (d : X) (e : Y) → k < length xs → slice_index_or (map f xs) k e ≡ f (slice_index_or xs k d)
+mapped_or : {X Y : Type 0} (f : X → Y) (xs : List X) (k : ℕ) (d : X) (e : Y) → k < length xs →
+    slice_index_or (map f xs) k e ≡ f (slice_index_or xs k d)
 mapped_or f [] k d e lt = absurd (omega (arith, lt))
 mapped_or f (x ∷ xs) zero d e lt = refl
 mapped_or f (x ∷ xs) (suc k) d e lt = mapped_or f xs k d e (omega (arith, lt))
 
 -- a seated thread is one of the first
-thread_below : (plan : Plan) (count : ℕ) (seats : List SeatOf) (c : Commit) → AreInOrder plan count seats → IsSeated seats c → c.thread < count
+thread_below : (plan : Plan) (count : ℕ) (seats : List SeatOf) (c : Commit) → AreInOrder plan count seats →
+    IsSeated seats c → c.thread < count
 thread_below plan count seats c order (k, lt, is) =
     let d : SeatOf = record { thread = 0; answers = []; row = []; seen = [] } in
     let below : k < length seats = omega (arith, lt, length-map seats (λ (s : SeatOf). s.thread)) in
@@ -87,17 +92,20 @@ found_reply t position (x ∷ log) zero c is mine =
     (0, ap (λ (hs : List ReplyOf). slice_get (map call_in hs) 0) first ∙ ap (λ (z : Commit). Some (call_of z)) same)
 found_reply t position (x ∷ log) (suc p) c is mine = behind (x.thread == t) (reply_at position x) (found_reply t (position + 1) log p c is mine)
   where
-    behind : (b : Bool) (h : ReplyOf) → (k : ℕ) × (slice_get (map call_in (replies_of t (position + 1) log)) k ≡ Some (call_of c)) →
+    behind : (b : Bool) (h : ReplyOf) →
+        (k : ℕ) × (slice_get (map call_in (replies_of t (position + 1) log)) k ≡ Some (call_of c)) →
         (k : ℕ) × (slice_get (map call_in (if b then h ∷ replies_of t (position + 1) log else replies_of t (position + 1) log)) k ≡ Some (call_of c))
     behind true h r = (suc r.0, r.1)
     behind false h r = r
 
-each_of_script : (plan : Plan) (cs : List Commit) → ((p : ℕ) (c : Commit) → slice_get cs p ≡ Some c → (k : ℕ) × (call_at plan c.thread k ≡ Some (call_of c))) →
+each_of_script : (plan : Plan) (cs : List Commit) →
+    ((p : ℕ) (c : Commit) → slice_get cs p ≡ Some c → (k : ℕ) × (call_at plan c.thread k ≡ Some (call_of c))) →
     AreOfScripts plan cs
 each_of_script plan [] each = tt
 each_of_script plan (c ∷ cs) each = (each 0 c refl, each_of_script plan cs (λ p d is. each (suc p) d is))
 
-pub all_of_scripts : (plan : Plan) (count : ℕ) (seats : List SeatOf) (log : List Commit) → AreInOrder plan count seats → All (AnswersAreIn log) seats → All (IsSeated seats) log →
+pub all_of_scripts : (plan : Plan) (count : ℕ) (seats : List SeatOf) (log : List Commit) →
+    AreInOrder plan count seats → All (AnswersAreIn log) seats → All (IsSeated seats) log →
     AreOfScripts plan log
 all_of_scripts plan count seats log order sit seated =
     each_of_script plan log (λ p c is.

@@ -24,7 +24,8 @@ pub raised : (a b : ℕ) (hs : List ReplyOf) → a ≤ b → AllBelow a hs → A
 raised a b hs le h = All-weaker (λ (x : ReplyOf). x.position < a) (λ (x : ReplyOf). x.position < b) (λ x l. omega (arith, l, le)) hs h
 
 -- an entry that stands behind a sound log answers its call
-pub answer_from : (plan : Plan) (floor position : ℕ) (o : OpenOf) (e : Commit) → IsItsEntry o e → IsEntered plan floor o position →
+pub answer_from : (plan : Plan) (floor position : ℕ) (o : OpenOf) (e : Commit) → IsItsEntry o e →
+    IsEntered plan floor o position →
     IsAnswer plan o.activation.call position e.outcome e.prints
 answer_from plan floor position o e its entered =
     let c = entry_of o e.outcome in
@@ -96,7 +97,8 @@ answered plan position section arguments ready ready' b o e copy told old new be
 
 -- ---- the seat after an answered call
 
-pub seat_after : (plan : Plan) (call : Invocation) (ready ready' : ReadyOf) (told : Done) (old new : SeenOf) → IsSeat ready.thread ready.step old.log →
+pub seat_after : (plan : Plan) (call : Invocation) (ready ready' : ReadyOf) (told : Done) (old new : SeenOf) →
+    IsSeat ready.thread ready.step old.log →
     HasAnswer plan call ready old ready' told new → IsSeat ready'.thread ready'.step new.log
 seat_after plan call ready ready' told old new seat answered =
     let t = ready.thread in

@@ -1,5 +1,6 @@
 -- What an answer of a call says, and what a closed history says of all answers.
-use Rattle.std.specs.Prelude.{◌≡◌, ◌+◌, ◌==◌, ◌&&◌, ℕ, ℤ, Bool, true, List, [], ◌∷◌, length, map, if◌then◌else◌, Option, Some, slice_get}
+use Rattle.std.specs.Prelude.{◌≡◌, ◌+◌, ◌==◌, ◌&&◌, ℕ, ℤ, Bool, true, List, [], ◌∷◌, length, map, if◌then◌else◌}
+use Rattle.std.specs.Prelude.{Option, Some, slice_get}
 use Rattle.std.specs.List.{Contains}
 use Rattle.core_lang.specs.declared.value.Value.{Value}
 use Rattle.core_lang.specs.declared.value.Outcome.{Outcome}

@@ -1,10 +1,14 @@
 -- Chunks of a row, places in them, and the copies that lie there.
-use Rattle.std.proofs.Common.{◌≡◌, ◌≢◌, ◌<◌, ◌≤◌, ◌+◌, ℕ, zero, suc, List, [], ◌∷◌, ◌++◌, length, take, drop, min, map, Option, Some, None, refl, sym, ap, ◌∙◌, subst, arith, get_or, slice_get, option_map, true, false, Bool, MatchBool}
+use Rattle.std.proofs.Common.{◌≡◌, ◌≢◌, ◌<◌, ◌≤◌, ◌+◌, ℕ, zero, suc, List, [], ◌∷◌, ◌++◌, length, take, drop, min}
+use Rattle.std.proofs.Common.{map, Option, Some, None, refl, sym, ap, ◌∙◌, subst, arith, get_or, slice_get}
+use Rattle.std.proofs.Common.{option_map, true, false, Bool, MatchBool}
 use Rattle.std.proofs.lemmas.Bool.Decides.{nat_tests}
 use lib.Dec.{leb}
-use Rattle.std.proofs.lemmas.List.{append-nil, append_assoc, take_more, length_push, take_all, take-append-drop, length-append, map-append, get_or-take, length-map, take_at, take-map}
+use Rattle.std.proofs.lemmas.List.{append-nil, append_assoc, take_more, length_push, take_all, take-append-drop}
+use Rattle.std.proofs.lemmas.List.{length-append, map-append, get_or-take, length-map, take_at, take-map}
 use Rattle.std.proofs.lemmas.List.Elements.{All-nil, All-append}
-use Rattle.std.proofs.lemmas.Option.{slice_get-map, slice_get_within, slice_get-get_or, slice_get_read, slice_get_past, get_or_from_slice_get}
+use Rattle.std.proofs.lemmas.Option.{slice_get-map, slice_get_within, slice_get-get_or, slice_get_read}
+use Rattle.std.proofs.lemmas.Option.{slice_get_past, get_or_from_slice_get}
 use Rattle.core_lang.specs.declared.value.Value.{Value}
 use Rattle.core_lang.specs.Typing.{lookup}
 use Rattle.code.specs.Memory.{overwritten, Agrees}
@@ -13,7 +17,8 @@ use Rattle.history.specs.Commits.{Commit, committed, IsLegal, IsTrueCommit, AreT
 use Rattle.history.specs.Working.Laws.{CommittedOfOneMore, LegalOfOneMore, TrueOfOneMore}
 use Rattle.lowering.specs.Plans.{Plan}
 use Rattle.workers_copies.specs.Logs.{Begins}
-use Rattle.workers_copies.specs.Working.Rows.{KnownOf, GrowsTo, AreAlike, AreAt, IsSeen, SeesNext, SeesOthers, SeesOwn, name_at, chunk_of, offset_of}
+use Rattle.workers_copies.specs.Working.Rows.{KnownOf, GrowsTo, AreAlike, AreAt, IsSeen, SeesNext, SeesOthers}
+use Rattle.workers_copies.specs.Working.Rows.{SeesOwn, name_at, chunk_of, offset_of}
 
 -- ---- beginnings
 
@@ -37,7 +42,8 @@ grows-trans k l m a b = record { row = b.row ∙ a.row; chunks = begins-trans k.
 
 -- ---- lists of names
 
-pub get_or-map : {X Y : Type 0} (f : X → Y) (xs : List X) (i : ℕ) (d : X) → get_or (map f xs) i (f d) ≡ f (get_or xs i d)
+pub get_or-map : {X Y : Type 0} (f : X → Y) (xs : List X) (i : ℕ) (d : X) →
+    get_or (map f xs) i (f d) ≡ f (get_or xs i d)
 get_or-map f [] i d = refl
 get_or-map f (x ∷ xs) zero d = refl
 get_or-map f (x ∷ xs) (suc i) d = get_or-map f xs i d
@@ -48,22 +54,26 @@ slice_get-take (suc n) [] i lt = refl
 slice_get-take (suc n) (x ∷ xs) zero lt = refl
 slice_get-take (suc n) (x ∷ xs) (suc i) lt = slice_get-take n xs i (omega (arith, lt))
 
-pub slice_get-append : {X : Type 0} (xs ys : List X) (i : ℕ) (x : X) → slice_get xs i ≡ Some x → slice_get (xs ++ ys) i ≡ Some x
+pub slice_get-append : {X : Type 0} (xs ys : List X) (i : ℕ) (x : X) → slice_get xs i ≡ Some x →
+    slice_get (xs ++ ys) i ≡ Some x
 slice_get-append [] ys i x is = absurd (cc is)
 slice_get-append (y ∷ xs) ys zero x is = is
 slice_get-append (y ∷ xs) ys (suc i) x is = slice_get-append xs ys i x is
 
 -- the name of a thing that stands in a list
-pub name_there : {C : Type 0} {Y : Type 0} (id : C → Y) (cs : List C) (c : C) (i : ℕ) → c ≡ get_or cs i c → i < length cs →
+pub name_there : {C : Type 0} {Y : Type 0} (id : C → Y) (cs : List C) (c : C) (i : ℕ) → c ≡ get_or cs i c →
+    i < length cs →
     slice_get (map id cs) i ≡ Some (id c)
 name_there id cs c i is below = slice_get-map id cs i ∙ ap (option_map id) (slice_get_read cs (length cs) i c refl below is)
 
-pub no_name : {C : Type 0} {Y : Type 0} (id : C → Y) (cs : List C) (i : ℕ) → length cs ≤ i → slice_get (map id cs) i ≡ None
+pub no_name : {C : Type 0} {Y : Type 0} (id : C → Y) (cs : List C) (i : ℕ) → length cs ≤ i →
+    slice_get (map id cs) i ≡ None
 no_name id cs i past = slice_get-map id cs i ∙ ap (option_map id) (slice_get_past cs i past)
 
 -- ---- tokens of a row's chunks
 
-pub named_more : {T : Type 0} (of : T → ℕ) (ts us : List T) (t : T) (row : List ℕ) → us ≡ ts ++ t ∷ [] → slice_get row (length ts) ≡ Some (of t) →
+pub named_more : {T : Type 0} (of : T → ℕ) (ts us : List T) (t : T) (row : List ℕ) → us ≡ ts ++ t ∷ [] →
+    slice_get row (length ts) ≡ Some (of t) →
     map of ts ≡ take (length ts) row → map of us ≡ take (length us) row
 named_more of ts us t row items is named =
     let n = length ts in
@@ -73,13 +83,15 @@ named_more of ts us t row items is named =
     ∙ ap (λ (x : ℕ). take n row ++ x ∷ []) (sym (get_or_from_slice_get row n (of t) (of t) is)) ∙ sym (take_more row n (of t) below)
     ∙ ap (λ (k : ℕ). take k row) (sym long)
 
-pub token_at : {T : Type 0} (of : T → ℕ) (ts : List T) (t : T) (row : List ℕ) (name i : ℕ) → t ≡ get_or ts i t → i < length ts →
+pub token_at : {T : Type 0} (of : T → ℕ) (ts : List T) (t : T) (row : List ℕ) (name i : ℕ) → t ≡ get_or ts i t →
+    i < length ts →
     map of ts ≡ take (length ts) row → slice_get row i ≡ Some name → of t ≡ name
 token_at of ts t row name i is below named here =
     ap of is ∙ sym (get_or-map of ts i t) ∙ ap (λ (ys : List ℕ). get_or ys i (of t)) named ∙ get_or-take (length ts) row i (of t) below
     ∙ get_or_from_slice_get row i name (of t) here
 
-pub no_lock : {T : Type 0} (of : T → ℕ) (ts : List T) (row : List ℕ) (i : ℕ) → i < length ts → map of ts ≡ take (length ts) row →
+pub no_lock : {T : Type 0} (of : T → ℕ) (ts : List T) (row : List ℕ) (i : ℕ) → i < length ts →
+    map of ts ≡ take (length ts) row →
     slice_get row i ≡ None → ⊥
 no_lock of ts row i below named none =
     let lt : i < length (map of ts) = rw (length-map ts of) below in
@@ -88,7 +100,8 @@ no_lock of ts row i below named none =
     cc (sym gone ∙ there)
 
 -- two tokens of chunks of one row
-pub same_lock : {T : Type 0} (of : T → ℕ) (ts us : List T) (t u : T) (row other : List ℕ) (i : ℕ) → t ≡ get_or ts i t → u ≡ get_or us i u →
+pub same_lock : {T : Type 0} (of : T → ℕ) (ts us : List T) (t u : T) (row other : List ℕ) (i : ℕ) →
+    t ≡ get_or ts i t → u ≡ get_or us i u →
     i < length ts → i < length us → map of ts ≡ take (length ts) row → map of us ≡ take (length us) other → row ≡ other → of t ≡ of u
 same_lock of ts us t u row other i is here below beneath named others same =
     let lt : i < length (map of ts) = rw (length-map ts of) below in
@@ -99,7 +112,8 @@ same_lock of ts us t u row other i is here below beneath named others same =
     ∙ sym (token_at of us u other name i here beneath others (ap (λ (xs : List ℕ). slice_get xs i) (sym same) ∙ there))
 
 -- both lists show one value more
-pub more_shown : {T V : Type 0} (value : T → V) (xs ys : List T) (k : ℕ) (s t : T) → k < length xs → k < length ys → s ≡ get_or xs k s → t ≡ get_or ys k t →
+pub more_shown : {T V : Type 0} (value : T → V) (xs ys : List T) (k : ℕ) (s t : T) → k < length xs → k < length ys →
+    s ≡ get_or xs k s → t ≡ get_or ys k t →
     value s ≡ value t → take k (map value xs) ≡ take k (map value ys) → take (k + 1) (map value xs) ≡ take (k + 1) (map value ys)
 more_shown value xs ys k s t a b is here same before =
     let p : k < length (map value xs) = rw (length-map xs value) a in
@@ -117,22 +131,26 @@ pub lookup_more : (o o' : Option (List ℕ)) (f : List ℕ → Option ℕ) (x : 
 lookup_more None o' f x k e = absurd (cc e)
 lookup_more (Some y) o' f x k e = ap (λ (z : Option (List ℕ)). lookup z f) (k y refl) ∙ e
 
-pub lookup_some : (o : Option (List ℕ)) (f : List ℕ → Option ℕ) (x : ℕ) → lookup o f ≡ Some x → (y : List ℕ) × (o ≡ Some y)
+pub lookup_some : (o : Option (List ℕ)) (f : List ℕ → Option ℕ) (x : ℕ) → lookup o f ≡ Some x →
+    (y : List ℕ) × (o ≡ Some y)
 lookup_some None f x e = absurd (cc e)
 lookup_some (Some y) f x e = (y, refl)
 
-pub name_more : (chunks chunks' : List (List ℕ)) (at x : ℕ) → Begins chunks chunks' → name_at chunks at ≡ Some x → name_at chunks' at ≡ Some x
+pub name_more : (chunks chunks' : List (List ℕ)) (at x : ℕ) → Begins chunks chunks' → name_at chunks at ≡ Some x →
+    name_at chunks' at ≡ Some x
 name_more chunks chunks' at x more is =
     lookup_more (slice_get chunks (chunk_of at)) (slice_get chunks' (chunk_of at)) (λ (names : List ℕ). slice_get names (offset_of at)) x
     (λ y e. ap (λ (xs : List (List ℕ)). slice_get xs (chunk_of at)) more.is ∙ slice_get-append chunks more.rest (chunk_of at) y e) is
 
-pub name_is : (chunks : List (List ℕ)) (names : List ℕ) (at number offset : ℕ) → number ≡ chunk_of at → offset ≡ offset_of at →
+pub name_is : (chunks : List (List ℕ)) (names : List ℕ) (at number offset : ℕ) → number ≡ chunk_of at →
+    offset ≡ offset_of at →
     slice_get chunks number ≡ Some names → name_at chunks at ≡ slice_get names offset
 name_is chunks names at number offset is here got =
     let f : List ℕ → Option ℕ = λ ns. slice_get ns (offset_of at) in
     ap (λ (o : Option (List ℕ)). lookup o f) (ap (slice_get chunks) (sym is) ∙ got) ∙ ap (slice_get names) (sym here)
 
-pub name_none : (chunks : List (List ℕ)) (at number : ℕ) → number ≡ chunk_of at → slice_get chunks number ≡ None → name_at chunks at ≡ None
+pub name_none : (chunks : List (List ℕ)) (at number : ℕ) → number ≡ chunk_of at → slice_get chunks number ≡ None →
+    name_at chunks at ≡ None
 name_none chunks at number is got =
     let f : List ℕ → Option ℕ = λ ns. slice_get ns (offset_of at) in
     ap (λ (o : Option (List ℕ)). lookup o f) (ap (slice_get chunks) (sym is) ∙ got)
@@ -141,7 +159,8 @@ some_same : (x y : ℕ) → Some x ≡ Some y → x ≡ y
 some_same x y e = cc e
 
 -- one place of two rows' chunks that are alike
-pub same_name : (xs ys : List (List ℕ)) (at a b : ℕ) → AreAlike xs ys → name_at xs at ≡ Some a → name_at ys at ≡ Some b → a ≡ b
+pub same_name : (xs ys : List (List ℕ)) (at a b : ℕ) → AreAlike xs ys → name_at xs at ≡ Some a →
+    name_at ys at ≡ Some b → a ≡ b
 same_name xs ys at a b alike is here =
     let f : List ℕ → Option ℕ = λ ns. slice_get ns (offset_of at) in
     let i = chunk_of at in
@@ -157,7 +176,8 @@ same_name xs ys at a b alike is here =
 
 -- ---- tokens at places
 
-pub at_push : (chunks : List (List ℕ)) (at : ℕ) (names : List ℕ) (name : ℕ) → AreAt chunks at names → name_at chunks (at + length names) ≡ Some name →
+pub at_push : (chunks : List (List ℕ)) (at : ℕ) (names : List ℕ) (name : ℕ) → AreAt chunks at names →
+    name_at chunks (at + length names) ≡ Some name →
     AreAt chunks at (names ++ name ∷ [])
 at_push chunks at [] name h is =
     let e : at + length {A = ℕ} [] ≡ at = omega arith in (subst (λ (n : ℕ). name_at chunks n ≡ Some name) e is, tt)
@@ -165,16 +185,19 @@ at_push chunks at (x ∷ xs) name h is =
     let e : at + length (x ∷ xs) ≡ (at + 1) + length xs = omega arith in
     (h.0, at_push chunks (at + 1) xs name h.1 (subst (λ (n : ℕ). name_at chunks n ≡ Some name) e is))
 
-pub at_take : (chunks : List (List ℕ)) (at n : ℕ) (names : List ℕ) → AreAt chunks at names → AreAt chunks at (take n names)
+pub at_take : (chunks : List (List ℕ)) (at n : ℕ) (names : List ℕ) → AreAt chunks at names →
+    AreAt chunks at (take n names)
 at_take chunks at zero names h = tt
 at_take chunks at (suc n) [] h = tt
 at_take chunks at (suc n) (x ∷ xs) h = (h.0, at_take chunks (at + 1) n xs h.1)
 
-pub at_more : (chunks chunks' : List (List ℕ)) (at : ℕ) (names : List ℕ) → Begins chunks chunks' → AreAt chunks at names → AreAt chunks' at names
+pub at_more : (chunks chunks' : List (List ℕ)) (at : ℕ) (names : List ℕ) → Begins chunks chunks' →
+    AreAt chunks at names → AreAt chunks' at names
 at_more chunks chunks' at [] more h = tt
 at_more chunks chunks' at (x ∷ xs) more h = (name_more chunks chunks' at x more h.0, at_more chunks chunks' (at + 1) xs more h.1)
 
-pub at_lookup : (chunks : List (List ℕ)) (at : ℕ) (names : List ℕ) (i d : ℕ) → AreAt chunks at names → i < length names →
+pub at_lookup : (chunks : List (List ℕ)) (at : ℕ) (names : List ℕ) (i d : ℕ) → AreAt chunks at names →
+    i < length names →
     name_at chunks (at + i) ≡ Some (get_or names i d)
 at_lookup chunks at [] i d h lt = absurd (omega (arith, lt))
 at_lookup chunks at (x ∷ xs) zero d h lt =
@@ -184,7 +207,8 @@ at_lookup chunks at (x ∷ xs) (suc i) d h lt =
     subst (λ (n : ℕ). name_at chunks n ≡ Some (get_or xs i d)) e (at_lookup chunks (at + 1) xs i d h.1 (omega (arith, lt)))
 
 -- the place of a token that stands in a list
-pub token_place : {T : Type 0} (of : T → ℕ) (ts : List T) (t : T) (chunks : List (List ℕ)) (i : ℕ) → AreAt chunks 0 (map of ts) → i < length ts →
+pub token_place : {T : Type 0} (of : T → ℕ) (ts : List T) (t : T) (chunks : List (List ℕ)) (i : ℕ) →
+    AreAt chunks 0 (map of ts) → i < length ts →
     t ≡ get_or ts i t → name_at chunks i ≡ Some (of t)
 token_place of ts t chunks i h below is =
     let lt : i < length (map of ts) = rw (length-map ts of) below in
@@ -194,7 +218,8 @@ token_place of ts t chunks i h below is =
 
 -- ---- what was seen
 
-pub seen_none : {T : Type 0} (of : T → ℕ) (value : T → Commit) (plan : Plan) (chunks : List (List ℕ)) (ts : List T) (values : List Value) → ts ≡ [] →
+pub seen_none : {T : Type 0} (of : T → ℕ) (value : T →
+    Commit) (plan : Plan) (chunks : List (List ℕ)) (ts : List T) (values : List Value) → ts ≡ [] →
     values ≡ plan.layout.opening → IsSeen plan chunks (map of ts) (map value ts) values
 seen_none of value plan chunks ts values items is =
     let none : IsSeen plan chunks [] [] values = record {
@@ -227,7 +252,8 @@ seen_push plan chunks names log values name e heap legal all_true kept is met ag
       values_are = ap (λ (h : List Value). overwritten h e.writes) kept.values_are ∙ sym (heap opening log e);
     }
 
-pub seen_more : {T : Type 0} (of : T → ℕ) (value : T → Commit) (plan : Plan) (chunks chunks' : List (List ℕ)) (ts us : List T) (t : T)
+pub seen_more : {T : Type 0} (of : T → ℕ) (value : T →
+    Commit) (plan : Plan) (chunks chunks' : List (List ℕ)) (ts us : List T) (t : T)
     (values values' : List Value) → CommittedOfOneMore → LegalOfOneMore → TrueOfOneMore → IsSeen plan chunks (map of ts) (map value ts) values →
     Begins chunks chunks' → us ≡ ts ++ t ∷ [] → name_at chunks' (length ts) ≡ Some (of t) → IsTrueCommit plan.program (value t) →
     Agrees values (value t).reads → values' ≡ overwritten values (value t).writes → IsSeen plan chunks' (map of us) (map value us) values'
@@ -249,7 +275,8 @@ true_take program (suc n) [] h = tt
 true_take program (suc n) (c ∷ cs) h = (h.0, true_take program n cs h.1)
 
 -- fewer tokens, and the values that their copies leave
-pub seen_back : {T : Type 0} (of : T → ℕ) (value : T → Commit) (plan : Plan) (chunks : List (List ℕ)) (ts us : List T) (n : ℕ)
+pub seen_back : {T : Type 0} (of : T → ℕ) (value : T →
+    Commit) (plan : Plan) (chunks : List (List ℕ)) (ts us : List T) (n : ℕ)
     (opening values values' : List Value) → IsSeen plan chunks (map of ts) (map value ts) values → us ≡ take n ts →
     opening ≡ plan.layout.opening → values' ≡ committed opening (map value us) → IsSeen plan chunks (map of us) (map value us) values'
 seen_back of value plan chunks ts us n opening values values' kept items is left =
@@ -265,13 +292,15 @@ seen_back of value plan chunks ts us n opening values values' kept items is left
     }
 
 -- what is shown after one token more
-pub shown_more : {T : Type 0} (value : T → Commit) (ts us : List T) (t : T) (log : List Commit) (e : Commit) → map value ts ≡ log → us ≡ ts ++ t ∷ [] →
+pub shown_more : {T : Type 0} (value : T → Commit) (ts us : List T) (t : T) (log : List Commit) (e : Commit) →
+    map value ts ≡ log → us ≡ ts ++ t ∷ [] →
     value t ≡ e → map value us ≡ log ++ e ∷ []
 shown_more value ts us t log e before items shows =
     ap (map value) items ∙ map-append value ts (t ∷ []) ∙ ap (λ (zs : List Commit). zs ++ value t ∷ []) before ∙ ap (λ (x : Commit). log ++ x ∷ []) shows
 
 -- one entry more is entered, whose copy a token shows
-pub one_more_entered : {T : Type 0} (value : T → Commit) (ts : List T) (t : T) (e : Commit) (i : ℕ) (opening values values' : List Value) →
+pub one_more_entered : {T : Type 0} (value : T →
+    Commit) (ts : List T) (t : T) (e : Commit) (i : ℕ) (opening values values' : List Value) →
     CommittedOfOneMore → i < length ts → t ≡ get_or ts i t → e ≡ value t → values ≡ committed opening (take i (map value ts)) →
     values' ≡ overwritten values e.writes → values' ≡ committed opening (take (i + 1) (map value ts))
 one_more_entered value ts t e i opening values values' heap below is shows before after =
@@ -283,7 +312,8 @@ one_more_entered value ts t e i opening values values' heap below is shows befor
     ∙ sym (heap opening (take i (map value ts)) (value t)) ∙ ap (committed opening) (sym more)
 
 -- what a token shows is the next of a list
-pub more_same : {T : Type 0} (value : T → Commit) (ts : List T) (ys : List Commit) (k : ℕ) (t : T) (y : Commit) → k < length ts → k < length ys →
+pub more_same : {T : Type 0} (value : T → Commit) (ts : List T) (ys : List Commit) (k : ℕ) (t : T) (y : Commit) →
+    k < length ts → k < length ys →
     t ≡ get_or ts k t → y ≡ get_or ys k y → value t ≡ y → take k (map value ts) ≡ take k ys → take (k + 1) (map value ts) ≡ take (k + 1) ys
 more_same value ts ys k t y a b is here same before =
     let p : k < length (map value ts) = rw (length-map ts value) a in
@@ -296,21 +326,24 @@ more_same value ts ys k t y a b is here same before =
 pub others_none : (t : ℕ) (old : List Commit) → SeesOthers t old old
 others_none t old = record { between = []; is = sym (append-nil old); others = All-nil (λ (c : Commit). c.thread ≢ t) }
 
-pub others_more : (t : ℕ) (old new after : List Commit) → SeesOthers t old new → SeesNext t new after → SeesOthers t old after
+pub others_more : (t : ℕ) (old new after : List Commit) → SeesOthers t old new → SeesNext t new after →
+    SeesOthers t old after
 others_more t old new after seen next = record {
   between = seen.between ++ next.entry ∷ [];
   is = next.is ∙ ap (λ (xs : List Commit). xs ++ next.entry ∷ []) seen.is ∙ append_assoc old seen.between (next.entry ∷ []);
   others = All-append (λ (c : Commit). c.thread ≢ t) seen.between (next.entry ∷ []) seen.others next.other;
 }
 
-pub others_trans : (t : ℕ) (old new after : List Commit) → SeesOthers t old new → SeesOthers t new after → SeesOthers t old after
+pub others_trans : (t : ℕ) (old new after : List Commit) → SeesOthers t old new → SeesOthers t new after →
+    SeesOthers t old after
 others_trans t old new after a b = record {
   between = a.between ++ b.between;
   is = b.is ∙ ap (λ (xs : List Commit). xs ++ b.between) a.is ∙ append_assoc old a.between b.between;
   others = All-append (λ (c : Commit). c.thread ≢ t) a.between b.between a.others b.others;
 }
 
-pub own_after : (t position : ℕ) (e : Commit) (old new after : List Commit) → SeesOthers t old new → length new ≡ position → after ≡ new ++ e ∷ [] →
+pub own_after : (t position : ℕ) (e : Commit) (old new after : List Commit) → SeesOthers t old new →
+    length new ≡ position → after ≡ new ++ e ∷ [] →
     SeesOwn t position e old after
 own_after t position e old new after seen long is = record {
   between = seen.between;
@@ -327,7 +360,8 @@ begins_other xs ys n le same = record {
   is = sym (take-append-drop n ys) ∙ ap (λ (zs : List Commit). zs ++ drop n ys) (sym same ∙ take_all n xs le);
 }
 
-agreed_at : (xs ys : List Commit) (a b k : ℕ) → a ≡ length xs → b ≡ length ys → k ≡ min a b → take k xs ≡ take k ys → (t : Bool) → leb a b ≡ t →
+agreed_at : (xs ys : List Commit) (a b k : ℕ) → a ≡ length xs → b ≡ length ys → k ≡ min a b → take k xs ≡ take k ys →
+    (t : Bool) → leb a b ≡ t →
     MatchBool t (Begins xs ys) (Begins ys xs)
 agreed_at xs ys a b k one other least same true is =
     let le : a ≤ b = grind (arith, nat_tests) in begins_other xs ys k (omega arith) same
@@ -338,7 +372,8 @@ pub agreed : (xs ys : List Commit) (a b k : ℕ) → a ≡ length xs → b ≡ l
     MatchBool (leb a b) (Begins xs ys) (Begins ys xs)
 agreed xs ys a b k one other least same = agreed_at xs ys a b k one other least same (leb a b) refl
 
-pub agreed_forth : (xs ys : List Commit) (a b k : ℕ) → a ≡ length xs → b ≡ length ys → k ≡ min a b → take k xs ≡ take k ys → leb a b ≡ true → Begins xs ys
+pub agreed_forth : (xs ys : List Commit) (a b k : ℕ) → a ≡ length xs → b ≡ length ys → k ≡ min a b →
+    take k xs ≡ take k ys → leb a b ≡ true → Begins xs ys
 agreed_forth xs ys a b k one other least same is = agreed_at xs ys a b k one other least same true is
 
 pub agreed_back : (xs ys : List Commit) (a b : ℕ) → a ≡ length xs → b ≡ length ys → Begins xs ys → leb a b ≡ true

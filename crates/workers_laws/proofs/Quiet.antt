@@ -23,13 +23,15 @@ legal_with heap [] last c quiet legal =
     (subst (Agrees heap) (sym quiet.reads) tt, subst (λ h. IsLegal h last) (sym (same_heap heap c quiet)) legal)
 legal_with heap (x ∷ first) last c quiet legal = (legal.0, legal_with (overwritten heap x.writes) first last c quiet legal.1)
 
-legal_without : (heap : List Value) (first last : List Commit) (c : Commit) → IsQuiet c → IsLegal heap (first ++ c ∷ last) →
+legal_without : (heap : List Value) (first last : List Commit) (c : Commit) → IsQuiet c →
+    IsLegal heap (first ++ c ∷ last) →
     IsLegal heap (first ++ last)
 legal_without heap [] last c quiet legal = subst (λ h. IsLegal h last) (same_heap heap c quiet) legal.1
 legal_without heap (x ∷ first) last c quiet legal =
     (legal.0, legal_without (overwritten heap x.writes) first last c quiet legal.1)
 
-true_of : (program : Typed) (first last : List Commit) (c : Commit) → AreTrue program (first ++ c ∷ last) → IsTrueCommit program c
+true_of : (program : Typed) (first last : List Commit) (c : Commit) → AreTrue program (first ++ c ∷ last) →
+    IsTrueCommit program c
 true_of program [] last c are = are.0
 true_of program (x ∷ first) last c are = true_of program first last c are.1
 
@@ -38,7 +40,8 @@ true_without : (program : Typed) (first last : List Commit) (c : Commit) → Are
 true_without program [] last c are = are.1
 true_without program (x ∷ first) last c are = (are.0, true_without program first last c are.1)
 
-true_with : (program : Typed) (first last : List Commit) (c : Commit) → IsTrueCommit program c → AreTrue program (first ++ last) →
+true_with : (program : Typed) (first last : List Commit) (c : Commit) → IsTrueCommit program c →
+    AreTrue program (first ++ last) →
     AreTrue program (first ++ c ∷ last)
 true_with program [] last c is are = (is, are)
 true_with program (x ∷ first) last c is are = (are.0, true_with program first last c is are.1)

@@ -1,5 +1,6 @@
 -- A closed run of all scripts, call by call in the simulator.
-use Rattle.std.proofs.Common.{◌≡◌, ◌∙◌, ◌<◌, ◌+◌, ◌==◌, ◌&&◌, ℕ, zero, suc, true, List, [], ◌∷◌, ◌++◌, length, map, drop, replicate, Option, Some, None, slice_get, refl, sym, ap, subst, arith, inl, inr}
+use Rattle.std.proofs.Common.{◌≡◌, ◌∙◌, ◌<◌, ◌+◌, ◌==◌, ◌&&◌, ℕ, zero, suc, true, List, [], ◌∷◌, ◌++◌, length, map}
+use Rattle.std.proofs.Common.{drop, replicate, Option, Some, None, slice_get, refl, sym, ap, subst, arith, inl, inr}
 use Rattle.std.specs.Option.{option_map, option_map_or}
 use Rattle.std.proofs.lemmas.Bool.{cases_eq, cond-true, cond-false, eq-eqb, eqb-true, ne_eqb, and_parts}
 use Rattle.std.proofs.lemmas.List.{append-nil, length-map}
@@ -14,7 +15,8 @@ use Rattle.lowering.specs.Plans.{Plan, IsCompiled}
 use Rattle.source_steps.specs.declared.turn.Turn.{Turn}
 use Rattle.source_steps.specs.Turns.{steps_of}
 use Rattle.worlds.specs.Claims.{AreOfScripts}
-use Rattle.worlds.specs.Worlds.{World, ThreadState, Activation, HasOpen, script_of, scripts, call_at, at_first, happens, opening_world, world_after, final}
+use Rattle.worlds.specs.Worlds.{World, ThreadState, Activation, HasOpen, script_of, scripts, call_at, at_first}
+use Rattle.worlds.specs.Worlds.{happens, opening_world, world_after, final}
 use Rattle.workers.specs.Seats.{ReplyOf}
 use Rattle.workers.specs.Answers.{IsHistoryOf, HasScript, script_at, reply_at, replies_of, in_step, call_in}
 use Rattle.workers_laws.specs.Laws.{IsAtRest, RunWhole, HasAllScripts, ClosedRunsAreSimulated}
@@ -45,11 +47,13 @@ drop_all [] k none = refl
 drop_all (x ∷ xs) zero none = cc
 drop_all (x ∷ xs) (suc k) none = drop_all xs k none
 
-pushed : {X Y : Type 0} (f : X → Y) (xs : List X) (x : X) (y : Y) (ys : List Y) → f x ≡ y → map f (xs ++ x ∷ []) ++ ys ≡ map f xs ++ y ∷ ys
+pushed : {X Y : Type 0} (f : X → Y) (xs : List X) (x : X) (y : Y) (ys : List Y) → f x ≡ y →
+    map f (xs ++ x ∷ []) ++ ys ≡ map f xs ++ y ∷ ys
 pushed f [] x y ys is = ap (λ z. z ∷ ys) is
 pushed f (z ∷ xs) x y ys is = ap (λ zs. f z ∷ zs) (pushed f xs x y ys is)
 
-steps_more : (plan : Plan) (w : World) (xs ys : List ℕ) → world_after plan w (xs ++ ys) ≡ world_after plan (world_after plan w xs) ys
+steps_more : (plan : Plan) (w : World) (xs ys : List ℕ) →
+    world_after plan w (xs ++ ys) ≡ world_after plan (world_after plan w xs) ys
 steps_more plan w [] ys = refl
 steps_more plan w (t ∷ xs) ys = steps_more plan (happens plan w t).1 xs ys
 
@@ -73,7 +77,8 @@ record IsFirst (plan : Plan) (w : World) (at : ℕ) (c : Commit) (cs : List Comm
   steps : in_step c.thread (c.step + 1) cs ≡ true
 
 -- the entry's call is the next one of its thread
-first_of_its : (plan : Plan) (w : World) (at : ℕ) (c : Commit) (cs : List Commit) → Waits plan w at (c ∷ cs) c.thread → IsFirst plan w at c cs
+first_of_its : (plan : Plan) (w : World) (at : ℕ) (c : Commit) (cs : List Commit) →
+    Waits plan w at (c ∷ cs) c.thread → IsFirst plan w at c cs
 first_of_its plan w at c cs waits =
     let t = c.thread in
     let rest : List ReplyOf = replies_of t (at + 1) cs in
@@ -125,7 +130,8 @@ record IsLast (plan : Plan) (w : World) (heap : List Value) (cs : List Commit) (
   calls : map script_call last.history ≡ map script_call w.history ++ map script_call cs
   answers : map answer_of last.history ≡ map answer_of w.history ++ map answer_of cs
   rest : IsAtRest last (committed heap cs)
-  none_left : (t : ℕ) (thread : ThreadState) → slice_get last.threads t ≡ Some thread → call_at plan t thread.step ≡ None
+  none_left : (t : ℕ) (thread : ThreadState) → slice_get last.threads t ≡ Some thread →
+      call_at plan t thread.step ≡ None
 
 call_in_script : (plan : Plan) (t step : ℕ) (x : Option (List Invocation)) → script_at plan t ≡ x →
     call_at plan t step ≡ option_map_or (λ (calls : List Invocation). slice_get calls step) x None
@@ -144,7 +150,8 @@ has_thread plan t step call (Some script) is has =
     let many = count_scripts plan in
     omega (arith, within, many)
 
-none_comes : (plan : Plan) (w : World) (at t : ℕ) (thread : ThreadState) (x : Option (List Invocation)) → script_at plan t ≡ x →
+none_comes : (plan : Plan) (w : World) (at t : ℕ) (thread : ThreadState) (x : Option (List Invocation)) →
+    script_at plan t ≡ x →
     ((u : ℕ) → u < length plan.program.threads.items → Waits plan w at [] u) → slice_get w.threads t ≡ Some thread →
     call_at plan t thread.step ≡ None
 none_comes plan w at t thread None is waits here = call_in_script plan t thread.step None is
@@ -157,7 +164,8 @@ none_comes plan w at t thread (Some script) is waits here =
     ap (λ (x : ThreadState). call_at plan t x.step) now ∙ call_in_script plan t its.step (Some its.script) its.is
     ∙ drop_all its.script its.step its.calls
 
-at_end : Laws → (plan : Plan) (w : World) (heap : List Value) (at : ℕ) → Stands plan w heap at [] → IsLast plan w heap [] w
+at_end : Laws → (plan : Plan) (w : World) (heap : List Value) (at : ℕ) → Stands plan w heap at [] →
+    IsLast plan w heap [] w
 at_end laws plan w heap at stands = record {
   calls = sym (append-nil (map script_call w.history));
   answers = sym (append-nil (map answer_of w.history));
@@ -174,7 +182,8 @@ module _ (laws : Laws) (plan : Plan) (ok : IsCompiled plan) where
   abbrev done : List Value → Commit → Finished
   done heap c = finished_on c (overwritten heap c.writes)
 
-  whole_call : (w : World) (heap : List Value) (at : ℕ) (c : Commit) (cs : List Commit) → Stands plan w heap at (c ∷ cs) →
+  whole_call : (w : World) (heap : List Value) (at : ℕ) (c : Commit) (cs : List Commit) →
+      Stands plan w heap at (c ∷ cs) →
       WholeCall plan.program (call_of c) (committed plan.layout.opening w.history) (done heap c)
   whole_call w heap at c cs stands =
       let long : length heap ≡ length plan.program.cells.items =
@@ -185,21 +194,24 @@ module _ (laws : Laws) (plan : Plan) (ok : IsCompiled plan) where
   abbrev Turns : World → List Value → Commit → Type 0
   Turns w heap c = (count : ℕ) × IsOver plan w (script_call c) (done heap c) (world_after plan w (replicate count c.thread))
 
-  first_wait : (w : World) (heap : List Value) (at : ℕ) (c : Commit) (cs : List Commit) → Stands plan w heap at (c ∷ cs) →
+  first_wait : (w : World) (heap : List Value) (at : ℕ) (c : Commit) (cs : List Commit) →
+      Stands plan w heap at (c ∷ cs) →
       IsFirst plan w at c cs
   first_wait w heap at c cs stands =
       let its = stands.of_scripts.0 in
       let within = has_thread plan c.thread its.0 (call_of c) (script_at plan c.thread) refl its.1 in
       first_of_its plan w at c cs (stands.threads c.thread within)
 
-  turns : (w : World) (heap : List Value) (at : ℕ) (c : Commit) (cs : List Commit) → Stands plan w heap at (c ∷ cs) → Turns w heap c
+  turns : (w : World) (heap : List Value) (at : ℕ) (c : Commit) (cs : List Commit) → Stands plan w heap at (c ∷ cs) →
+      Turns w heap c
   turns w heap at c cs stands =
       let first = first_wait w heap at c cs stands in
       runs_whole laws plan ok w (script_call c) (done heap c) stands.is stands.none_open first.here
       (call_in_script plan c.thread c.step (Some first.script) first.is ∙ first.call)
       (whole_call w heap at c cs stands)
 
-  waits_then : (w : World) (heap : List Value) (at : ℕ) (c : Commit) (cs : List Commit) → Stands plan w heap at (c ∷ cs) → (after : World) →
+  waits_then : (w : World) (heap : List Value) (at : ℕ) (c : Commit) (cs : List Commit) →
+      Stands plan w heap at (c ∷ cs) → (after : World) →
       IsOver plan w (script_call c) (done heap c) after → (t : ℕ) → t < length plan.program.threads.items → Waits plan after (at + 1) cs t
   waits_then w heap at c cs stands after over t within = elim (cases_eq c.thread t) [
     | inl e ↦ (let first = first_wait w heap at c cs stands in
@@ -214,7 +226,8 @@ module _ (laws : Laws) (plan : Plan) (ok : IsCompiled plan) where
     | inr ne ↦ others_wait plan w after at c cs t ne (over.others t ne) (stands.threads t within)
   ]
 
-  stands_then : (w : World) (heap : List Value) (at : ℕ) (c : Commit) (cs : List Commit) → Stands plan w heap at (c ∷ cs) → (after : World) →
+  stands_then : (w : World) (heap : List Value) (at : ℕ) (c : Commit) (cs : List Commit) →
+      Stands plan w heap at (c ∷ cs) → (after : World) →
       IsOver plan w (script_call c) (done heap c) after → Stands plan after (overwritten heap c.writes) (at + 1) cs
   stands_then w heap at c cs stands after over = record {
     is = over.is;

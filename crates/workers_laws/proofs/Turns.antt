@@ -1,5 +1,6 @@
 -- A call run whole by steps of its thread alone.
-use Rattle.std.proofs.Common.{◌≡◌, ◌∙◌, ◌<◌, ℕ, zero, suc, ◌+◌, List, [], ◌∷◌, ◌++◌, length, map, replicate, Option, Some, None, slice_get, slice_set, refl, sym, ap, subst, arith, inl, inr}
+use Rattle.std.proofs.Common.{◌≡◌, ◌∙◌, ◌<◌, ℕ, zero, suc, ◌+◌, List, [], ◌∷◌, ◌++◌, length, map, replicate, Option}
+use Rattle.std.proofs.Common.{Some, None, slice_get, slice_set, refl, sym, ap, subst, arith, inl, inr}
 use Rattle.std.specs.Option.{option_map_or}
 use Rattle.std.proofs.lemmas.Bool.{cases_eq}
 use Rattle.std.proofs.lemmas.Option.{slice_get_within}
@@ -23,7 +24,9 @@ use Rattle.lowering.specs.Lowered.{lists_at}
 use Rattle.lowering.specs.Plans.{Plan, IsCompiled}
 use Rattle.worlds.specs.declared.event.Event.{Event}
 use Rattle.worlds.specs.declared.event.Event.TheVariants as event
-use Rattle.worlds.specs.Worlds.{World, ThreadState, Activation, HasOpen, activation, commit, call_at, code_at, locals_at, granted, taken, without, with_back, holder, asks, goes_on, thread_steps, begins, instructed, next_effect, happens, world_after, opening_world, final}
+use Rattle.worlds.specs.Worlds.{World, ThreadState, Activation, HasOpen, activation, commit, call_at, code_at}
+use Rattle.worlds.specs.Worlds.{locals_at, granted, taken, without, with_back, holder, asks, goes_on, thread_steps}
+use Rattle.worlds.specs.Worlds.{begins, instructed, next_effect, happens, world_after, opening_world, final}
 use Rattle.worlds.specs.Working.States.{IsSound, OpeningIsSound, StepsKeepSound}
 use Rattle.worlds.specs.Working.Ahead.{IsReadyWorld, WorldsStayReady}
 use Rattle.worlds.specs.Waiting.{IsNoWait, RisingGoesOn}
@@ -44,14 +47,16 @@ pub record Laws : Type 0 where
 
 -- ---- places of lists
 
-pub set_other : {X : Type 0} (xs : List X) (i j : ℕ) (y : X) → (i ≡ j → ⊥) → slice_get (slice_set xs i y) j ≡ slice_get xs j
+pub set_other : {X : Type 0} (xs : List X) (i j : ℕ) (y : X) → (i ≡ j → ⊥) →
+    slice_get (slice_set xs i y) j ≡ slice_get xs j
 set_other [] i j y ne = refl
 set_other (x ∷ xs) zero zero y ne = absurd (ne refl)
 set_other (x ∷ xs) zero (suc j) y ne = refl
 set_other (x ∷ xs) (suc i) zero y ne = refl
 set_other (x ∷ xs) (suc i) (suc j) y ne = set_other xs i j y (λ e. ne (ap suc e))
 
-pub set_same : {X : Type 0} (xs : List X) (i : ℕ) (x y : X) → slice_get xs i ≡ Some x → slice_get (slice_set xs i y) i ≡ Some y
+pub set_same : {X : Type 0} (xs : List X) (i : ℕ) (x y : X) → slice_get xs i ≡ Some x →
+    slice_get (slice_set xs i y) i ≡ Some y
 set_same [] i x y h = absurd cc
 set_same (z ∷ xs) zero x y h = refl
 set_same (z ∷ xs) (suc i) x y h = set_same xs i x y h
@@ -62,7 +67,8 @@ item_at (x ∷ xs) zero within = (x, refl)
 item_at (x ∷ xs) (suc k) within = item_at xs k (omega arith)
 
 -- cells that are all there, with these values
-full : (cells : List (Option Value)) (heap : List Value) → length cells ≡ length heap → ((k : ℕ) → slice_get cells k ≡ Some None → ⊥) →
+full : (cells : List (Option Value)) (heap : List Value) → length cells ≡ length heap →
+    ((k : ℕ) → slice_get cells k ≡ Some None → ⊥) →
     ((k : ℕ) (v : Value) → slice_get cells k ≡ Some (Some v) → slice_get heap k ≡ Some v) → cells ≡ map (λ (v : Value). Some v) heap
 full [] [] long there same = refl
 full [] (v ∷ heap) long there same = cc
@@ -79,15 +85,18 @@ full (Some u ∷ cells) (v ∷ heap) long there same =
 abbrev pub SoundAndReady : Plan → World → Type 0
 SoundAndReady plan w = IsSound plan w × IsReadyWorld plan w
 
-pub leads_on : Laws → (plan : Plan) → IsCompiled plan → (w : World) (t : ℕ) → SoundAndReady plan w → SoundAndReady plan (happens plan w t).1
+pub leads_on : Laws → (plan : Plan) → IsCompiled plan → (w : World) (t : ℕ) → SoundAndReady plan w →
+    SoundAndReady plan (happens plan w t).1
 leads_on laws plan ok w t is = (laws.step plan w t ok is.0, laws.ready.step plan w t ok is.0 is.1)
 
-pub stay : Laws → (plan : Plan) → IsCompiled plan → (w : World) (steps : List ℕ) → SoundAndReady plan w → SoundAndReady plan (world_after plan w steps)
+pub stay : Laws → (plan : Plan) → IsCompiled plan → (w : World) (steps : List ℕ) → SoundAndReady plan w →
+    SoundAndReady plan (world_after plan w steps)
 stay laws plan ok w [] is = is
 stay laws plan ok w (t ∷ ts) is = stay laws plan ok (happens plan w t).1 ts (leads_on laws plan ok w t is)
 
 -- where no section is open, the cells are what the history leaves
-pub at_rest : Laws → (plan : Plan) (w : World) (heap : List Value) → IsSound plan w → ((t : ℕ) (a : Activation) → HasOpen w t a → ⊥) →
+pub at_rest : Laws → (plan : Plan) (w : World) (heap : List Value) → IsSound plan w →
+    ((t : ℕ) (a : Activation) → HasOpen w t a → ⊥) →
     committed plan.layout.opening w.history ≡ heap → IsAtRest w heap
 at_rest laws plan w heap sound none is =
     let size = laws.size plan.layout.opening w.history in
@@ -243,7 +252,8 @@ module _ (laws : Laws) (plan : Plan) (ok : IsCompiled plan) (first : World) (nex
   same_begun a (Finishes outcome) = refl
   same_begun a Undefined = refl
 
-  behind : (w : World) (a : Activation) → Along w a → a.pending ≡ [] → a.outcome ≡ None → (x : Effect HeldCells) → next_effect plan a ≡ x →
+  behind : (w : World) (a : Activation) → Along w a → a.pending ≡ [] → a.outcome ≡ None → (x : Effect HeldCells) →
+      next_effect plan a ≡ x →
       Along (happens plan w next.thread).1 (instructed plan a x)
   behind w a along pending none x is =
       subst (λ (y : Effect HeldCells). Along (happens plan w next.thread).1 (instructed plan a y)) is
@@ -291,7 +301,8 @@ module _ (laws : Laws) (plan : Plan) (ok : IsCompiled plan) (first : World) (nex
       ∙ ap (λ locks. goes_on plan w next.thread (open_at next.step a) a locks a.outcome) pending
       ∙ ap (λ x. goes_on plan w next.thread (open_at next.step a) a [] x) out
 
-  none_left_open : (w after : World) (a b : Activation) → Along w a → slice_get after.threads next.thread ≡ Some (closed_at (next.step + 1)) →
+  none_left_open : (w after : World) (a b : Activation) → Along w a →
+      slice_get after.threads next.thread ≡ Some (closed_at (next.step + 1)) →
       ((u : ℕ) → (next.thread ≡ u → ⊥) → slice_get after.threads u ≡ slice_get w.threads u) →
       (u : ℕ) → HasOpen after u b → ⊥
   none_left_open w after a b along own same u o = elim (cases_eq next.thread u) [
@@ -306,7 +317,8 @@ module _ (laws : Laws) (plan : Plan) (ok : IsCompiled plan) (first : World) (nex
   EndsSo a outcome =
       Halted outcome (overwritten heap a.machine.memory.writes) a.machine.prints ≡ halted finished
 
-  ends_so : (w : World) (a : Activation) (outcome : Outcome) → Along w a → a.pending ≡ [] → a.outcome ≡ Some outcome → EndsSo a outcome →
+  ends_so : (w : World) (a : Activation) (outcome : Outcome) → Along w a → a.pending ≡ [] → a.outcome ≡ Some outcome →
+      EndsSo a outcome →
       IsOver plan first next finished (happens plan w next.thread).1
   ends_so w a outcome along pending out so =
       let world = ap (λ (r : Event × World). r.1) (over w a outcome along pending out) in
@@ -342,7 +354,8 @@ module _ (laws : Laws) (plan : Plan) (ok : IsCompiled plan) (first : World) (nex
   abbrev Goal : ℕ → Type 0
   Goal r = (w : World) (a : Activation) → Along w a → a.outcome ≡ None → Left r a → Leads w
 
-  by_effect : (r : ℕ) → Goal r → (w : World) (a : Activation) → Along w a → a.pending ≡ [] → a.outcome ≡ None → Left (suc r) a →
+  by_effect : (r : ℕ) → Goal r → (w : World) (a : Activation) → Along w a → a.pending ≡ [] → a.outcome ≡ None →
+      Left (suc r) a →
       (x : Effect HeldCells) → next_effect plan a ≡ x → Leads w
   by_effect r go w a along pending none left (Moves m) is =
       let now = behind w a along pending none (Moves m) is in
@@ -441,7 +454,8 @@ run_whole laws plan first next finished w over = record {
 }
 
 -- a thread at rest with its next call
-pub is_closed : (plan : Plan) (w : World) (next : Scheduled) (x : Option Activation) (is : IsNext plan w next) → is.thread.active ≡ x →
+pub is_closed : (plan : Plan) (w : World) (next : Scheduled) (x : Option Activation) (is : IsNext plan w next) →
+    is.thread.active ≡ x →
     ((u : ℕ) (b : Activation) → HasOpen w u b → ⊥) → slice_get w.threads next.thread ≡ Some (closed_at next.step)
 is_closed plan w next None is active none =
     let here : is.thread ≡ closed_at next.step = λ i. record { step = is.step i; active = active i } in

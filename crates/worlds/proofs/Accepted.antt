@@ -17,10 +17,12 @@ use Rattle.core_lang.specs.Scopes.{IsWellScoped}
 use Rattle.core_lang.specs.Theory.Checked.{checked}
 use Rattle.core_lang.specs.Expansion.{entered, IsWrittenOut}
 use Rattle.core_lang_expansion.specs.Data.{IsExpanded}
-use Rattle.core_lang.specs.WellFormed.{IsWithinLimits, IsLaidOut, IsProtected, IsGlobalClass, IsCell, IsCellOf, IsClassOf, CanCall, IsWellFormed}
+use Rattle.core_lang.specs.WellFormed.{IsWithinLimits, IsLaidOut, IsProtected, IsGlobalClass, IsCell, IsCellOf}
+use Rattle.core_lang.specs.WellFormed.{IsClassOf, CanCall, IsWellFormed}
 use Rattle.locks.specs.LockPaths.{LockPath, global_path, lock_path, paths_of, each_once, Uses}
 use Rattle.locks.specs.Accesses.{Access, access, global, accesses}
-use Rattle.locks.specs.Faults.{HasNoFault, Named, where_at, unstable, unstable_owner, one_too_many, unstable_base, unstable_owner_base, over_limit, HasSection}
+use Rattle.locks.specs.Faults.{HasNoFault, Named, where_at, unstable, unstable_owner, one_too_many, unstable_base}
+use Rattle.locks.specs.Faults.{unstable_owner_base, over_limit, HasSection}
 use Rattle.lockorder.specs.Edges.{Edge, AreRanksOf, RiseIn}
 use Rattle.flow.specs.Points.{Point, points, Binds, bound_at}
 use Rattle.flow.specs.Walks.{begin}
@@ -115,7 +117,8 @@ module _ (alloc : Global) (name : String Global) where
   first_of : {A : Type 0} (x y : A) → Some x ≡ Some y → x ≡ y
   first_of x y e = cc
 
-  scripts : (t k : ℕ) (thread : Thread) (call : Call) → slice_get (inc_program alloc name).threads.items t ≡ Some thread →
+  scripts : (t k : ℕ) (thread : Thread) (call : Call) →
+      slice_get (inc_program alloc name).threads.items t ≡ Some thread →
       slice_get thread.calls.items k ≡ Some call → CanCall (inc_program alloc name) call.section call.arguments.items
   scripts zero k thread call e is = in_thread thread call k (first_of the_thread thread e) is
   scripts (suc zero) k thread call e is = in_thread thread call k (first_of the_thread thread e) is

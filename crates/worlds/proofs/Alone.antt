@@ -3,7 +3,8 @@ use Rattle.std.proofs.Common.{◌≡◌, ℕ, zero, suc, List, slice_get, Option
 use Rattle.core_lang.specs.declared.value.Value.{Value}
 use Rattle.core_lang.specs.declared.shape.Shape.{Shape}
 use Rattle.code.specs.declared.instr.Instr.{Instr}
-use Rattle.code.specs.Machine.{Machine, Effect, Moves, Asks, Finishes, Undefined, Standing, At, act, passed, proceed, exec}
+use Rattle.code.specs.Machine.{Machine, Effect, Moves, Asks, Finishes, Undefined, Standing, At, act, passed, proceed}
+use Rattle.code.specs.Machine.{exec}
 
 module _ {M : Type 0} (load : M → ℕ → Option (Value × M)) (store : M → ℕ → Value → Option M) (shape : Shape) (code : List Instr) where
   same_machine : (m k : Machine M) → At m ≡ At k → m ≡ k
@@ -22,7 +23,8 @@ module _ {M : Type 0} (load : M → ℕ → Option (Value × M)) (store : M → 
   behind n m k (Finishes outcome) later e = absurd cc
   behind n m k Undefined later e = absurd cc
 
-  pub one_more : (n : ℕ) (m k : Machine M) → exec load store shape code n m ≡ At k → exec load store shape code (suc n) m ≡ goes k
+  pub one_more : (n : ℕ) (m k : Machine M) → exec load store shape code n m ≡ At k →
+      exec load store shape code (suc n) m ≡ goes k
   one_more zero m k e = ap goes (same_machine m k e)
   one_more (suc n) m k e =
       behind n m k (act load store shape (slice_get code m.place) m) (λ next h. one_more n next k h) e

@@ -1,6 +1,9 @@
 -- Cells that move between a world and its sections.
-use Rattle.std.proofs.Common.{◌≡◌, ◌⊎◌, ℕ, zero, suc, ◌+◌, Bool, true, false, if◌then◌else◌, List, [], ◌∷◌, ◌++◌, length, map, Option, Some, None, slice_get, set, refl, sym, ap, ◌∙◌, subst, arith, inl, inr, nat_eq, true≢false}
-use Rattle.std.proofs.lemmas.Bool.{eqb-true, eq-eqb, ne_eqb, cases_Bool, cases_eq, cond-true, cond-false, or_cases, or_left, or_right}
+use Rattle.std.proofs.Common.{◌≡◌, ◌⊎◌, ℕ, zero, suc, ◌+◌, Bool, true, false, if◌then◌else◌, List, [], ◌∷◌, ◌++◌}
+use Rattle.std.proofs.Common.{length, map, Option, Some, None, slice_get, set, refl, sym, ap, ◌∙◌, subst, arith, inl}
+use Rattle.std.proofs.Common.{inr, nat_eq, true≢false}
+use Rattle.std.proofs.lemmas.Bool.{eqb-true, eq-eqb, ne_eqb, cases_Bool, cases_eq, cond-true, cond-false, or_cases}
+use Rattle.std.proofs.lemmas.Bool.{or_left, or_right}
 use Rattle.std.proofs.lemmas.List.{length-set}
 use Rattle.core_lang.specs.declared.value.Value.{Value}
 use Rattle.locks.specs.declared.lock.Lock.{Lock}
@@ -44,7 +47,8 @@ Among [] c = ⊥
 Among (x ∷ xs) c = (x ≡ c) ⊎ Among xs c
 
 -- the cells of a lock are those that it protects
-cells_has : (n k : ℕ) (locks : List Lock) (lock : Lock) → slice_get locks k ≡ Some lock → Among (cells_from n locks lock) (n + k)
+cells_has : (n k : ℕ) (locks : List Lock) (lock : Lock) → slice_get locks k ≡ Some lock →
+    Among (cells_from n locks lock) (n + k)
 unfolding Among
 cells_has n k [] lock h = absurd cc
 cells_has n zero (l ∷ ls) lock h =
@@ -82,11 +86,13 @@ cells_only n (l ∷ ls) lock c h =
       by_lock true e (inr r) go = go r
       by_lock false e r go = go r
 
-pub cells_of_has : (locks : List Lock) (lock : Lock) (c : ℕ) → slice_get locks c ≡ Some lock → Among (cells_of locks lock) c
+pub cells_of_has : (locks : List Lock) (lock : Lock) (c : ℕ) → slice_get locks c ≡ Some lock →
+    Among (cells_of locks lock) c
 cells_of_has locks lock c h =
     let e : 0 + c ≡ c = omega arith in subst (Among (cells_of locks lock)) e (cells_has 0 c locks lock h)
 
-pub cells_of_only : (locks : List Lock) (lock : Lock) (c : ℕ) → Among (cells_of locks lock) c → slice_get locks c ≡ Some lock
+pub cells_of_only : (locks : List Lock) (lock : Lock) (c : ℕ) → Among (cells_of locks lock) c →
+    slice_get locks c ≡ Some lock
 cells_of_only locks lock c h =
     let x = cells_only 0 locks lock c h in
     let n = x.number in
@@ -94,7 +100,8 @@ cells_of_only locks lock c h =
 
 -- ---- values of cells
 
-pub value_more : (xs ys : List (ℕ × Value)) (c : ℕ) (v : Value) → value_at xs c ≡ Some v → value_at (xs ++ ys) c ≡ Some v
+pub value_more : (xs ys : List (ℕ × Value)) (c : ℕ) (v : Value) → value_at xs c ≡ Some v →
+    value_at (xs ++ ys) c ≡ Some v
 value_more [] ys c v h = absurd cc
 value_more (x ∷ xs) ys c v h = elim (cases_Bool (nat_eq x.0 c)) [
   | inl e ↦ cond-true (nat_eq x.0 c) (Some x.1) (value_at (xs ++ ys) c) e ∙ (sym (cond-true (nat_eq x.0 c) (Some x.1) (value_at xs c) e) ∙ h)
@@ -123,7 +130,8 @@ value_cases xs ys c v h = elim (some_or_none (value_at xs c)) [
 
 -- ---- cells that are taken
 
-taken_one : (d c : ℕ) (x : Option (Option Value)) (rest : List (ℕ × Value)) (v : Value) → value_at (with_taken d x rest) c ≡ Some v →
+taken_one : (d c : ℕ) (x : Option (Option Value)) (rest : List (ℕ × Value)) (v : Value) →
+    value_at (with_taken d x rest) c ≡ Some v →
     ((d ≡ c) × (x ≡ Some (Some v))) ⊎ (value_at rest c ≡ Some v)
 taken_one d c None rest v h = inr h
 taken_one d c (Some None) rest v h = inr h
@@ -132,7 +140,8 @@ taken_one d c (Some (Some w)) rest v h = elim (cases_Bool (nat_eq d c)) [
   | inr e ↦ inr (sym (cond-false (nat_eq d c) (Some w) (value_at rest c) e) ∙ h)
 ]
 
-pub taken_only : (cells : List (Option Value)) (cs : List ℕ) (c : ℕ) (v : Value) → value_at (taken cells cs) c ≡ Some v →
+pub taken_only : (cells : List (Option Value)) (cs : List ℕ) (c : ℕ) (v : Value) →
+    value_at (taken cells cs) c ≡ Some v →
     Among cs c × (slice_get cells c ≡ Some (Some v))
 unfolding Among
 taken_only cells [] c v h = absurd cc
@@ -150,7 +159,8 @@ skips_one d c (Some (Some w)) rest v same h = elim (cases_Bool (nat_eq d c)) [
   | inr e ↦ cond-false (nat_eq d c) (Some w) (value_at rest c) e ∙ h
 ]
 
-pub taken_has : (cells : List (Option Value)) (cs : List ℕ) (c : ℕ) (v : Value) → Among cs c → slice_get cells c ≡ Some (Some v) →
+pub taken_has : (cells : List (Option Value)) (cs : List ℕ) (c : ℕ) (v : Value) → Among cs c →
+    slice_get cells c ≡ Some (Some v) →
     value_at (taken cells cs) c ≡ Some v
 unfolding Among
 taken_has cells [] c v a h = absurd a
@@ -167,7 +177,8 @@ length-without cells [] = refl
 length-without cells (c ∷ cs) = length-set (without cells cs) c None ∙ length-without cells cs
 
 -- what is there no longer, and what stays
-pub without_some : (cells : List (Option Value)) (cs : List ℕ) (c : ℕ) (v : Value) → slice_get (without cells cs) c ≡ Some (Some v) →
+pub without_some : (cells : List (Option Value)) (cs : List ℕ) (c : ℕ) (v : Value) →
+    slice_get (without cells cs) c ≡ Some (Some v) →
     slice_get cells c ≡ Some (Some v)
 without_some cells [] c v h = h
 without_some cells (d ∷ ds) c v h = elim (cases_eq d c) [
@@ -175,7 +186,8 @@ without_some cells (d ∷ ds) c v h = elim (cases_eq d c) [
   | inr ne ↦ without_some cells ds c v (sym (get_set_other (without cells ds) d c None ne) ∙ h)
 ]
 
-pub without_none : (cells : List (Option Value)) (cs : List ℕ) (c : ℕ) → slice_get cells c ≡ Some None → slice_get (without cells cs) c ≡ Some None
+pub without_none : (cells : List (Option Value)) (cs : List ℕ) (c : ℕ) → slice_get cells c ≡ Some None →
+    slice_get (without cells cs) c ≡ Some None
 without_none cells [] c h = h
 without_none cells (d ∷ ds) c h = elim (cases_eq d c) [
   | inl e ↦ ap (slice_get (set (without cells ds) d None)) (sym e)
@@ -183,7 +195,8 @@ without_none cells (d ∷ ds) c h = elim (cases_eq d c) [
   | inr ne ↦ get_set_other (without cells ds) d c None ne ∙ without_none cells ds c h
 ]
 
-pub without_away : (cells : List (Option Value)) (cs : List ℕ) (c : ℕ) (x : Option Value) → Among cs c → slice_get cells c ≡ Some x →
+pub without_away : (cells : List (Option Value)) (cs : List ℕ) (c : ℕ) (x : Option Value) → Among cs c →
+    slice_get cells c ≡ Some x →
     slice_get (without cells cs) c ≡ Some None
 unfolding Among
 without_away cells [] c x a h = absurd a
@@ -205,7 +218,8 @@ without_away cells (d ∷ ds) c x (inl e) h =
       ]
 
 -- a cell that is away is one of these, or was away before
-pub without_none_cases : (cells : List (Option Value)) (cs : List ℕ) (c : ℕ) → slice_get (without cells cs) c ≡ Some None →
+pub without_none_cases : (cells : List (Option Value)) (cs : List ℕ) (c : ℕ) →
+    slice_get (without cells cs) c ≡ Some None →
     Among cs c ⊎ (slice_get cells c ≡ Some None)
 unfolding Among
 without_none_cases cells [] c h = inr h
@@ -219,11 +233,13 @@ without_none_cases cells (d ∷ ds) c h = elim (cases_eq d c) [
 
 -- ---- cells that come back
 
-pub length-with_back : (cells : List (Option Value)) (xs : List (ℕ × Value)) → length (with_back cells xs) ≡ length cells
+pub length-with_back : (cells : List (Option Value)) (xs : List (ℕ × Value)) →
+    length (with_back cells xs) ≡ length cells
 length-with_back cells [] = refl
 length-with_back cells (x ∷ xs) = length-set (with_back cells xs) x.0 (Some x.1) ∙ length-with_back cells xs
 
-pub back_other : (cells : List (Option Value)) (xs : List (ℕ × Value)) (c : ℕ) → value_at xs c ≡ None → slice_get (with_back cells xs) c ≡ slice_get cells c
+pub back_other : (cells : List (Option Value)) (xs : List (ℕ × Value)) (c : ℕ) → value_at xs c ≡ None →
+    slice_get (with_back cells xs) c ≡ slice_get cells c
 back_other cells [] c h = refl
 back_other cells (x ∷ xs) c h = elim (cases_eq x.0 c) [
   | inl e ↦ absurd (let bad : Some x.1 ≡ None = sym (cond-true (nat_eq x.0 c) (Some x.1) (value_at xs c) (eq-eqb x.0 c e)) ∙ h in cc bad)
@@ -231,7 +247,8 @@ back_other cells (x ∷ xs) c h = elim (cases_eq x.0 c) [
       ∙ back_other cells xs c (sym (cond-false (nat_eq x.0 c) (Some x.1) (value_at xs c) (ne_eqb x.0 c ne)) ∙ h)
 ]
 
-pub back_some : (cells : List (Option Value)) (xs : List (ℕ × Value)) (c : ℕ) (v : Value) → slice_get (with_back cells xs) c ≡ Some (Some v) →
+pub back_some : (cells : List (Option Value)) (xs : List (ℕ × Value)) (c : ℕ) (v : Value) →
+    slice_get (with_back cells xs) c ≡ Some (Some v) →
     (value_at xs c ≡ Some v) ⊎ ((value_at xs c ≡ None) × (slice_get cells c ≡ Some (Some v)))
 back_some cells [] c v h = inr (refl, h)
 back_some cells (x ∷ xs) c v h = elim (cases_eq x.0 c) [
@@ -243,7 +260,8 @@ back_some cells (x ∷ xs) c v h = elim (cases_eq x.0 c) [
   ]
 ]
 
-pub back_none : (cells : List (Option Value)) (xs : List (ℕ × Value)) (c : ℕ) → slice_get (with_back cells xs) c ≡ Some None →
+pub back_none : (cells : List (Option Value)) (xs : List (ℕ × Value)) (c : ℕ) →
+    slice_get (with_back cells xs) c ≡ Some None →
     (value_at xs c ≡ None) × (slice_get cells c ≡ Some None)
 back_none cells [] c h = (refl, h)
 back_none cells (x ∷ xs) c h = elim (cases_eq x.0 c) [
@@ -254,7 +272,8 @@ back_none cells (x ∷ xs) c h = elim (cases_eq x.0 c) [
 
 -- ---- heaps
 
-set_cong : (xs ys : List Value) (i j : ℕ) (v : Value) → slice_get xs j ≡ slice_get ys j → slice_get (set xs i v) j ≡ slice_get (set ys i v) j
+set_cong : (xs ys : List Value) (i j : ℕ) (v : Value) → slice_get xs j ≡ slice_get ys j →
+    slice_get (set xs i v) j ≡ slice_get (set ys i v) j
 set_cong [] [] i j v e = refl
 set_cong [] (y ∷ ys) i zero v e = absurd cc
 set_cong [] (y ∷ ys) zero (suc j) v e = e
@@ -274,14 +293,16 @@ overwritten_cong h k [] c e = e
 overwritten_cong h k (w ∷ ws) c e = set_cong (overwritten h ws) (overwritten k ws) w.0 c w.1 (overwritten_cong h k ws c e)
 
 -- a value that stands behind another is seen, or hidden by one of its own cell
-pub seen_before : (x : ℕ × Value) (xs : List (ℕ × Value)) (c : ℕ) (v : Value) → value_at xs c ≡ Some v → (w : Value) × (value_at (x ∷ xs) c ≡ Some w)
+pub seen_before : (x : ℕ × Value) (xs : List (ℕ × Value)) (c : ℕ) (v : Value) → value_at xs c ≡ Some v →
+    (w : Value) × (value_at (x ∷ xs) c ≡ Some w)
 seen_before x xs c v h = elim (cases_Bool (nat_eq x.0 c)) [
   | inl e ↦ (x.1, cond-true (nat_eq x.0 c) (Some x.1) (value_at xs c) e)
   | inr e ↦ (v, cond-false (nat_eq x.0 c) (Some x.1) (value_at xs c) e ∙ h)
 ]
 
 -- reads of cells that keep their values agree
-pub agrees_kept : (h k : List Value) (rs : List (ℕ × Value)) → ((c : ℕ) (v : Value) → value_at rs c ≡ Some v → slice_get k c ≡ slice_get h c) →
+pub agrees_kept : (h k : List Value) (rs : List (ℕ × Value)) →
+    ((c : ℕ) (v : Value) → value_at rs c ≡ Some v → slice_get k c ≡ slice_get h c) →
     Agrees h rs → Agrees k rs
 agrees_kept h k [] same g = tt
 agrees_kept h k (r ∷ rs) same g = (
@@ -290,7 +311,8 @@ agrees_kept h k (r ∷ rs) same g = (
 )
 
 -- a cell that has a value is one of the cells
-pub key_only : (xs : List (ℕ × Value)) (c : ℕ) (v : Value) → value_at xs c ≡ Some v → Among (map (λ (x : ℕ × Value). x.0) xs) c
+pub key_only : (xs : List (ℕ × Value)) (c : ℕ) (v : Value) → value_at xs c ≡ Some v →
+    Among (map (λ (x : ℕ × Value). x.0) xs) c
 unfolding Among
 key_only [] c v h = absurd cc
 key_only (x ∷ xs) c v h = elim (cases_eq x.0 c) [
@@ -298,7 +320,8 @@ key_only (x ∷ xs) c v h = elim (cases_eq x.0 c) [
   | inr ne ↦ inr (key_only xs c v (sym (cond-false (nat_eq x.0 c) (Some x.1) (value_at xs c) (ne_eqb x.0 c ne)) ∙ h))
 ]
 
-pub key_has : (xs : List (ℕ × Value)) (c : ℕ) → Among (map (λ (x : ℕ × Value). x.0) xs) c → (v : Value) × (value_at xs c ≡ Some v)
+pub key_has : (xs : List (ℕ × Value)) (c : ℕ) → Among (map (λ (x : ℕ × Value). x.0) xs) c →
+    (v : Value) × (value_at xs c ≡ Some v)
 unfolding Among
 key_has [] c a = absurd a
 key_has (x ∷ xs) c a = elim (cases_eq x.0 c) [

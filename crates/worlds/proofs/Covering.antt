@@ -1,5 +1,6 @@
 -- Where the listed locks of a point are held, the point can be executed on the cells of held locks.
-use Rattle.std.proofs.Common.{◌≡◌, ℕ, zero, suc, List, [], ◌∷◌, Option, Some, None, slice_get, sym, ap, ◌∙◌, subst, arith, inl, inr}
+use Rattle.std.proofs.Common.{◌≡◌, ℕ, zero, suc, List, [], ◌∷◌, Option, Some, None, slice_get, sym, ap, ◌∙◌, subst}
+use Rattle.std.proofs.Common.{arith, inl, inr}
 use Rattle.std.proofs.lemmas.List.Elements.{Contains-append_left, Contains-append_right}
 use Rattle.std.specs.List.{Contains, cons_option, filter_map, flat_map}
 use Rattle.core_lang.specs.declared.value.Value.{Value}
@@ -32,7 +33,8 @@ use Rattle.core_lang.specs.Theory.Items.{in_cases}
 
 -- ---- lists
 
-in_flat_map : {X Y : Type 0} (f : X → List Y) (xs : List X) (i : ℕ) (x : X) (y : Y) → slice_get xs i ≡ Some x → Contains (f x) y →
+in_flat_map : {X Y : Type 0} (f : X → List Y) (xs : List X) (i : ℕ) (x : X) (y : Y) → slice_get xs i ≡ Some x →
+    Contains (f x) y →
     Contains (flat_map f xs) y
 in_flat_map f [] i x y at c = absurd cc
 in_flat_map f (z ∷ xs) zero x y at c =
@@ -48,7 +50,8 @@ cons_further : {Y : Type 0} (o : Option Y) (ys : List Y) (y : Y) → Contains ys
 cons_further None ys y c = c
 cons_further (Some x) ys y c = in_rest x y ys c
 
-in_filter_map : {X Y : Type 0} (h : X → Option Y) (xs : List X) (x : X) (y : Y) → Contains xs x → h x ≡ Some y → Contains (filter_map h xs) y
+in_filter_map : {X Y : Type 0} (h : X → Option Y) (xs : List X) (x : X) (y : Y) → Contains xs x → h x ≡ Some y →
+    Contains (filter_map h xs) y
 in_filter_map h [] x y c e = absurd (let less = c.1 in omega (arith, less))
 in_filter_map h (z ∷ xs) x y c e = elim (in_cases z x xs c) [
   | inl s ↦ cons_here (h z) (filter_map h xs) y (ap h s ∙ e)
@@ -63,7 +66,8 @@ pub record CoverLaws : Type 0 where
   pub held : InRuns UsedAreHeld
 
 -- each access has a lock path
-has_path : (program : Typed) (section : Section) (p : ℕ) (point : Point) (a : Access) → HasNoFault program → HasSection program section →
+has_path : (program : Typed) (section : Section) (p : ℕ) (point : Point) (a : Access) → HasNoFault program →
+    HasSection program section →
     slice_get (points section) p ≡ Some point → Contains (accesses_at point) a → (path : LockPath) × (lock_path program section a ≡ Some path)
 has_path program section p point a none here at c = elim (some_or_none (lock_path program section a)) [
   | inl s ↦ s
@@ -98,7 +102,8 @@ module _ (laws : CoverLaws) (plan : Plan) (section : Section) (lists : List (Lis
   pub leads_typed : LeadsToTyped plan.program (local_types section.locals.items) (effect_at point plan.program.shape (state_of m heap))
   leads_typed = laws.typed plan.program ordered.here.0 p section point (state_of m heap) ordered.well_formed ordered.here.1 at typed_state
 
-  pub can_execute : ((lock : Lock) → IsListed plan.program section plan.ranks lists p m.locals lock → Contains held lock) →
+  pub can_execute : ((lock : Lock) → IsListed plan.program section plan.ranks lists p m.locals lock →
+      Contains held lock) →
       ((cell : ℕ) (lock : Lock) → lock_of_cell plan.program cell ≡ Some lock → Contains held lock → IsSeen (held_value m.memory) cell) →
       CanExecute plan.program.shape point (state_of m heap) (held_value m.memory)
   can_execute all has = record {

@@ -1,12 +1,14 @@
 -- Where sections stand in the history.
-use Rattle.std.proofs.Common.{◌≡◌, ◌≤◌, ◌<◌, ℕ, zero, suc, ◌+◌, List, [], ◌∷◌, ◌++◌, length, take, slice_get, Some, None, refl, sym, ap, ◌∙◌, subst, arith, inl, inr}
+use Rattle.std.proofs.Common.{◌≡◌, ◌≤◌, ◌<◌, ℕ, zero, suc, ◌+◌, List, [], ◌∷◌, ◌++◌, length, take, slice_get, Some}
+use Rattle.std.proofs.Common.{None, refl, sym, ap, ◌∙◌, subst, arith, inl, inr}
 use Rattle.std.proofs.lemmas.List.{length_push}
 use Rattle.std.proofs.lemmas.Bool.{cases_eq}
 use Rattle.history.specs.Commits.{Commit}
 use Rattle.lowering.specs.Plans.{Plan}
 use Rattle.worlds.specs.declared.event.Event.{Event}
 use Rattle.worlds.specs.declared.event.Event.TheVariants.{Began, Ended}
-use Rattle.worlds.specs.Worlds.{World, ThreadState, Activation, commit, taken, instructed, next_effect, happens, world_after, events, opening_world, HasOpen}
+use Rattle.worlds.specs.Worlds.{World, ThreadState, Activation, commit, taken, instructed, next_effect, happens}
+use Rattle.worlds.specs.Worlds.{world_after, events, opening_world, HasOpen}
 use Rattle.code.specs.Machine.{Effect, Moves, Asks, Finishes, Undefined}
 use Rattle.code.specs.Memory.{HeldCells}
 use Rattle.worlds.specs.Claims.{EndsInOrder, HaveEntries}
@@ -37,13 +39,15 @@ turn_end plan w t e after (moves at none out) = record { grows = omega arith; en
 step_end : (plan : Plan) (w : World) (t : ℕ) → IsEnd w (happens plan w t).0 (happens plan w t).1
 step_end plan w t = turn_end plan w t (happens plan w t).0 (happens plan w t).1 (turn plan w t)
 
-ends_from : (plan : Plan) (w : World) (steps : List ℕ) (k b : ℕ) → slice_get (events plan w steps) k ≡ Some (Ended b) → length w.history ≤ b
+ends_from : (plan : Plan) (w : World) (steps : List ℕ) (k b : ℕ) →
+    slice_get (events plan w steps) k ≡ Some (Ended b) → length w.history ≤ b
 ends_from plan w [] k b h = absurd cc
 ends_from plan w (t ∷ ts) zero b h =
     let e : (happens plan w t).0 ≡ Ended b = cc in omega (arith, ((step_end plan w t).ended b e).0)
 ends_from plan w (t ∷ ts) (suc k) b h = omega (arith, ends_from plan (happens plan w t).1 ts k b h, (step_end plan w t).grows)
 
-ends_rise : (plan : Plan) (w : World) (steps : List ℕ) (i k a b : ℕ) → i < k → slice_get (events plan w steps) i ≡ Some (Ended a) →
+ends_rise : (plan : Plan) (w : World) (steps : List ℕ) (i k a b : ℕ) → i < k →
+    slice_get (events plan w steps) i ≡ Some (Ended a) →
     slice_get (events plan w steps) k ≡ Some (Ended b) → a < b
 ends_rise plan w [] i k a b lt h g = absurd cc
 ends_rise plan w (t ∷ ts) zero zero a b lt h g = absurd (omega arith)
@@ -76,7 +80,8 @@ same_open w t thread a b at o =
     cc e
 
 -- other threads stay as they are
-pub others_stay : (plan : Plan) (w : World) (u : ℕ) (e : Event) (after : World) → Turn plan w u e after → (t : ℕ) → (u ≡ t → ⊥) →
+pub others_stay : (plan : Plan) (w : World) (u : ℕ) (e : Event) (after : World) → Turn plan w u e after → (t : ℕ) →
+    (u ≡ t → ⊥) →
     slice_get after.threads t ≡ slice_get w.threads t
 others_stay plan w u e after idles t ne = refl
 others_stay plan w u e after (starts at is call) t ne = get_set_other w.threads u t _ ne
@@ -85,7 +90,8 @@ others_stay plan w u e after (waits at want busy) t ne = get_set_other w.threads
 others_stay plan w u e after (over at none out) t ne = get_set_other w.threads u t _ ne
 others_stay plan w u e after (moves at none out) t ne = get_set_other w.threads u t _ ne
 
-own_stays : (plan : Plan) (w : World) (t : ℕ) (e : Event) (after : World) → Turn plan w t e after → (n : ℕ) → OpenSince w t n →
+own_stays : (plan : Plan) (w : World) (t : ℕ) (e : Event) (after : World) → Turn plan w t e after → (n : ℕ) →
+    OpenSince w t n →
     ((p : ℕ) → e ≡ Ended p → ⊥) → OpenSince after t n
 own_stays plan w t e after idles n o not = o
 own_stays plan w t e after (starts {thread} at is call) n o not =
@@ -103,7 +109,8 @@ own_stays plan w t e after (moves {thread} {a} at none out) n o not = (
   instructed_begun plan a (next_effect plan a) ∙ (ap (λ x. x.begun) (same_open w t thread a o.0 at o.1) ∙ o.2),
 )
 
-stays_open : (plan : Plan) (w : World) (u t n : ℕ) → OpenSince w t n → ((p : ℕ) → u ≡ t → (happens plan w u).0 ≡ Ended p → ⊥) →
+stays_open : (plan : Plan) (w : World) (u t n : ℕ) → OpenSince w t n →
+    ((p : ℕ) → u ≡ t → (happens plan w u).0 ≡ Ended p → ⊥) →
     OpenSince (happens plan w u).1 t n
 stays_open plan w u t n o not = elim (cases_eq u t) [
   | inl e ↦ subst (λ (k : ℕ). OpenSince (happens plan w k).1 t n) (sym e)
@@ -125,7 +132,8 @@ begun_turn plan w t e after (moves at none out) h = absurd cc
 abbrev Noted : World → ℕ → ℕ → ℕ → Type 0
 Noted after t p n = (c : Commit) × (slice_get after.history p ≡ Some c) × (c.thread ≡ t) × (c.begun ≡ n)
 
-ended_turn : (plan : Plan) (w : World) (t : ℕ) (e : Event) (after : World) → Turn plan w t e after → (n p : ℕ) → OpenSince w t n →
+ended_turn : (plan : Plan) (w : World) (t : ℕ) (e : Event) (after : World) → Turn plan w t e after → (n p : ℕ) →
+    OpenSince w t n →
     e ≡ Ended p → Noted after t p n
 ended_turn plan w t e after idles n p o h = absurd cc
 ended_turn plan w t e after (starts at is call) n p o h = absurd cc
@@ -146,7 +154,8 @@ kept_after : (plan : Plan) (w : World) (steps : List ℕ) (p : ℕ) (c : Commit)
 kept_after plan w [] p c h = h
 kept_after plan w (t ∷ ts) p c h = kept_after plan (happens plan w t).1 ts p c ((step_end plan w t).kept p c h)
 
-noted_after : (plan : Plan) (w : World) (steps : List ℕ) (t p n : ℕ) → Noted w t p n → Noted (world_after plan w steps) t p n
+noted_after : (plan : Plan) (w : World) (steps : List ℕ) (t p n : ℕ) → Noted w t p n →
+    Noted (world_after plan w steps) t p n
 noted_after plan w steps t p n noted = (noted.0, kept_after plan w steps p noted.0 noted.1, noted.2, noted.3)
 
 noted_from : (plan : Plan) (w : World) (steps : List ℕ) (t e p n : ℕ) → OpenSince w t n → slice_get steps e ≡ Some t →

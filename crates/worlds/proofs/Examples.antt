@@ -1,6 +1,7 @@
 -- Worked plans, written by hand, and what the definitions compute of their runs. Nothing rests on these: they show the
 -- definitions at work.
-use Rattle.std.specs.Prelude.{◌≡◌, ℕ, false, ◌+◌, ◌<◌, ◌^◌, length, List, [], ◌∷◌, ◌++◌, replicate, map, Some, None, pos, String}
+use Rattle.std.specs.Prelude.{◌≡◌, ℕ, false, ◌+◌, ◌<◌, ◌^◌, length, List, [], ◌∷◌, ◌++◌, replicate, map, Some, None}
+use Rattle.std.specs.Prelude.{pos, String}
 use Rattle.std.proofs.Common.{refl, Vec, Box, Global, arith}
 use denote.RawPtr.{null_ptr}
 use Rattle.core_lang.specs.declared.value.Value.{Value}
@@ -15,7 +16,8 @@ use Rattle.core_lang.specs.declared.tree.LocalKind.TheVariants.{Parameter}
 use Rattle.core_lang.specs.declared.tree.Path.{Path}
 use Rattle.core_lang.specs.declared.tree.FieldStep.{FieldStep}
 use Rattle.core_lang.specs.declared.tree.FieldStep.TheVariants as step
-use Rattle.core_lang.specs.declared.tree.Expr.{Expr, Number, Place, Global as GlobalExpr, Chain', end_of-Operation, more_of-Operation}
+use Rattle.core_lang.specs.declared.tree.Expr.{Expr, Number, Place, Global as GlobalExpr, Chain', end_of-Operation}
+use Rattle.core_lang.specs.declared.tree.Expr.{more_of-Operation}
 use Rattle.core_lang.specs.declared.tree.Condition.{Compare}
 use Rattle.core_lang.specs.declared.tree.Action.{SetGlobal, SetField, While', end_of-Stmt}
 use Rattle.core_lang.specs.declared.tree.Local.{Local}

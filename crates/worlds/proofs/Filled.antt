@@ -1,5 +1,6 @@
 -- Each call in a history has an argument for each parameter of its section.
-use Rattle.std.proofs.Common.{◌≡◌, ◌<◌, ◌≤◌, ◌==◌, ℕ, zero, suc, ◌+◌, Bool, true, false, if◌then◌else◌, List, [], ◌∷◌, length, map, take, slice_get, Option, Some, None, refl, sym, ap, ◌∙◌, subst, arith}
+use Rattle.std.proofs.Common.{◌≡◌, ◌<◌, ◌≤◌, ◌==◌, ℕ, zero, suc, ◌+◌, Bool, true, false, if◌then◌else◌, List, [], ◌∷◌}
+use Rattle.std.proofs.Common.{length, map, take, slice_get, Option, Some, None, refl, sym, ap, ◌∙◌, subst, arith}
 use Rattle.std.specs.Option.{option_map_or}
 use Rattle.std.proofs.lemmas.Bool.{cond-true, eq-eqb}
 use Rattle.std.proofs.lemmas.List.{length-append}
@@ -25,7 +26,8 @@ some_same : {X : Type 0} (o : Option X) (a b : X) → o ≡ Some a → o ≡ Som
 some_same None a b e f = absurd cc
 some_same (Some x) a b e f = let p : x ≡ a = cc in let q : x ≡ b = cc in sym p ∙ q
 
-mapped_there : {X Y : Type 0} (f : X → Y) (xs : List X) (k : ℕ) (y : Y) → slice_get (map f xs) k ≡ Some y → (x : X) × (slice_get xs k ≡ Some x) × (f x ≡ y)
+mapped_there : {X Y : Type 0} (f : X → Y) (xs : List X) (k : ℕ) (y : Y) → slice_get (map f xs) k ≡ Some y →
+    (x : X) × (slice_get xs k ≡ Some x) × (f x ≡ y)
 mapped_there f [] k y is = absurd cc
 mapped_there f (x ∷ xs) zero y is = let same : f x ≡ y = cc in (x, refl, same)
 mapped_there f (x ∷ xs) (suc k) y is = mapped_there f xs k y is
@@ -36,13 +38,15 @@ taken_there (suc n) k [] x is = is
 taken_there (suc n) zero (y ∷ xs) x is = is
 taken_there (suc n) (suc k) (y ∷ xs) x is = taken_there n k xs x is
 
-numbered_there : (t s k : ℕ) (script : List Invocation) (y : Scheduled) → slice_get (numbered t s script) k ≡ Some y → slice_get script k ≡ Some y.call
+numbered_there : (t s k : ℕ) (script : List Invocation) (y : Scheduled) → slice_get (numbered t s script) k ≡ Some y →
+    slice_get script k ≡ Some y.call
 numbered_there t s k [] y is = absurd cc
 numbered_there t s zero (call ∷ script) y is = let same : record { thread = t; step = s; call = call } ≡ y = cc in ap (λ (z : Scheduled). Some z.call) same
 numbered_there t s (suc k) (call ∷ script) y is = numbered_there t (s + 1) k script y is
 
 -- an entry of a thread is among its calls
-among_calls : (t : ℕ) (cs : List Commit) (p : ℕ) (c : Commit) → slice_get cs p ≡ Some c → c.thread ≡ t → (k : ℕ) × (slice_get (calls_by t cs) k ≡ Some (script_call c))
+among_calls : (t : ℕ) (cs : List Commit) (p : ℕ) (c : Commit) → slice_get cs p ≡ Some c → c.thread ≡ t →
+    (k : ℕ) × (slice_get (calls_by t cs) k ≡ Some (script_call c))
 among_calls t [] p c is mine = absurd cc
 among_calls t (d ∷ cs) zero c is mine =
     let same : d ≡ c = cc in
@@ -81,13 +85,15 @@ call_found : (plan : Plan) (t k : ℕ) (call : Invocation) → call_at plan t k 
     (script : List Invocation) × (slice_get (scripts plan) t ≡ Some script) × (slice_get script k ≡ Some call)
 call_found plan t k call is = in_script (slice_get (scripts plan) t) is refl
   where
-    in_script : (o : Option (List Invocation)) → option_map_or (λ (xs : List Invocation). slice_get xs k) o None ≡ Some call → slice_get (scripts plan) t ≡ o →
+    in_script : (o : Option (List Invocation)) →
+        option_map_or (λ (xs : List Invocation). slice_get xs k) o None ≡ Some call → slice_get (scripts plan) t ≡ o →
         (script : List Invocation) × (slice_get (scripts plan) t ≡ Some script) × (slice_get script k ≡ Some call)
     in_script (Some script) has there = (script, there, has)
     in_script None has there = absurd cc
 
 module _ (plan : Plan) (ok : IsCompiled plan) where
-  fills : (call : Invocation) → CanCall plan.program call.section call.arguments → (section : Section) → slice_get plan.accepted.sections.items call.section ≡ Some section →
+  fills : (call : Invocation) → CanCall plan.program call.section call.arguments → (section : Section) →
+      slice_get plan.accepted.sections.items call.section ≡ Some section →
       length call.arguments ≡ section.parameters
   unfolding CanCall
   fills call (mine, is, fit) section there =
@@ -98,7 +104,8 @@ module _ (plan : Plan) (ok : IsCompiled plan) where
       many ∙ taken_many mine.parameters mine.locals.items le ∙ ap (λ (z : Section). z.parameters) (sym same) ∙ found.2.parameters
 
   -- a call of a script fits
-  scripted : (t k : ℕ) (script : List Invocation) (call : Invocation) → slice_get (scripts plan) t ≡ Some script → slice_get script k ≡ Some call →
+  scripted : (t k : ℕ) (script : List Invocation) (call : Invocation) → slice_get (scripts plan) t ≡ Some script →
+      slice_get script k ≡ Some call →
       CanCall plan.program call.section call.arguments
   scripted t k script call is has =
       let thread = mapped_there script_of plan.program.threads.items t script is in
@@ -113,7 +120,9 @@ module _ (plan : Plan) (ok : IsCompiled plan) where
       (fills (call_of c) (scripted c.thread of.0.0 found.0 (call_of c) found.1 found.2), scripted_fill cs of.1)
 
 -- what a world's history has of a thread are calls of its script
-each_of_scripts : (plan : Plan) (cs : List Commit) → ((p : ℕ) (c : Commit) → slice_get cs p ≡ Some c → (k : ℕ) × (call_at plan c.thread k ≡ Some (call_of c))) → AreOfScripts plan cs
+each_of_scripts : (plan : Plan) (cs : List Commit) →
+    ((p : ℕ) (c : Commit) → slice_get cs p ≡ Some c → (k : ℕ) × (call_at plan c.thread k ≡ Some (call_of c))) →
+    AreOfScripts plan cs
 each_of_scripts plan [] each = tt
 each_of_scripts plan (c ∷ cs) each = (each 0 c refl, each_of_scripts plan cs (λ p d is. each (suc p) d is))
 

@@ -1,5 +1,6 @@
 -- A section stays ready: from its begin, along its instructions, and with each lock that it is granted.
-use Rattle.std.proofs.Common.{◌≡◌, ◌⊎◌, ◌≤◌, ℕ, ◌+◌, true, List, [], ◌∷◌, ◌++◌, length, Option, Some, None, slice_get, refl, sym, ap, ◌∙◌, subst, arith, inl, inr}
+use Rattle.std.proofs.Common.{◌≡◌, ◌⊎◌, ◌≤◌, ℕ, ◌+◌, true, List, [], ◌∷◌, ◌++◌, length, Option, Some, None, slice_get}
+use Rattle.std.proofs.Common.{refl, sym, ap, ◌∙◌, subst, arith, inl, inr}
 use Rattle.std.proofs.lemmas.Option.{slice_get_within}
 use Rattle.std.specs.Prelude.{unwrap_or}
 use Rattle.std.specs.Option.{option_map_or}
@@ -35,9 +36,11 @@ use Rattle.code.specs.Working.PointLaws.{PointsGoOn, SpotsArePoints, FirstPointI
 use Rattle.lowering.specs.Lowered.{lists_at}
 use Rattle.lowering.specs.Plans.{Plan, IsCompiled}
 use Rattle.worlds.specs.Asking.{to_ask}
-use Rattle.worlds.specs.Worlds.{Activation, activation, granted, section_at, code_at, locals_at, locks_before, instructed, next_effect}
+use Rattle.worlds.specs.Worlds.{Activation, activation, granted, section_at, code_at, locals_at, locks_before}
+use Rattle.worlds.specs.Worlds.{instructed, next_effect}
 use Rattle.worlds.specs.Working.InTurn.{RiseBehind, AskedInTurn}
-use Rattle.worlds.specs.Working.Ahead.{SeesTyped, Any, HasCome, IsAtPoint, IsAsking, IsRunning, CanGoOn, running, asking, over}
+use Rattle.worlds.specs.Working.Ahead.{SeesTyped, Any, HasCome, IsAtPoint, IsAsking, IsRunning, CanGoOn, running}
+use Rattle.worlds.specs.Working.Ahead.{asking, over}
 use Rattle.worlds.proofs.Places.{get_within}
 use Rattle.worlds.proofs.Cells.{value_cases}
 use Rattle.worlds.proofs.InTurn.{behind, with_none}
@@ -73,7 +76,8 @@ record HasLists (plan : Plan) (k : ℕ) : Type 0 where
   is : slice_get plan.lists k ≡ Some lists
   at : lists_at plan.lists k ≡ lists
 
-has_lists : (plan : Plan) → IsCompiled plan → (k : ℕ) (section : Section) → section_at plan k ≡ Some section → HasLists plan k
+has_lists : (plan : Plan) → IsCompiled plan → (k : ℕ) (section : Section) → section_at plan k ≡ Some section →
+    HasLists plan k
 has_lists plan ok k section is =
     let less = slice_get_within plan.program.sections.items k section is in
     let same = ok.placed.long in
@@ -122,7 +126,8 @@ module _ (laws : GoingLaws) (plan : Plan) (ok : IsCompiled plan) (k : ℕ) (sect
       let same = laws.scopes section in
       get_within (scopes section) x.number (omega (arith, less, same))
 
-  comes_on : (x : Spot) → InSection lists section x → (held : List Lock) (m : Machine HeldCells) (h : IsShown plan.program m.memory) →
+  comes_on : (x : Spot) → InSection lists section x →
+      (held : List Lock) (m : Machine HeldCells) (h : IsShown plan.program m.memory) →
       HasCome plan section lists x.number held m → HoldsListed x.number held m.locals → (next : Machine HeldCells) →
       HasComeOn held_value plan.program.shape lists section x (state_of m h.heap) (held_value m.memory) next →
       IsAtPoint plan section lists held next
@@ -186,14 +191,16 @@ module _ (laws : GoingLaws) (plan : Plan) (ok : IsCompiled plan) (k : ℕ) (sect
   IsMoving held m = IsStepping held m ⊎ IsAtAcquire held m
 
   -- nothing is acquired
-  nothing : (held : List Lock) (m : Machine HeldCells) (at : IsAtPoint plan section lists held m) → acquire_code lists at.point.number ≡ [] →
+  nothing : (held : List Lock) (m : Machine HeldCells) (at : IsAtPoint plan section lists held m) →
+      acquire_code lists at.point.number ≡ [] →
       HoldsListed at.point.number held m.locals → HasCells held m → IsMoving held m
   nothing held m at empty all has =
       let none : length (acquire_code lists at.point.number) ≡ 0 = ap (λ (xs : List Instr). length xs) empty in
       let place = at.place in
       inl (point_steps at.point at.inside held m (omega (arith, place, none)) at.stack at.come all has)
 
-  at_point : (held : List Lock) (m : Machine HeldCells) → IsAtPoint plan section lists held m → HasCells held m → IsMoving held m
+  at_point : (held : List Lock) (m : Machine HeldCells) → IsAtPoint plan section lists held m → HasCells held m →
+      IsMoving held m
   at_point held m at has = by (slice_get lists at.point.number) refl where
     by : (o : Option (List ℕ)) → slice_get lists at.point.number ≡ o → IsMoving held m
     by None e = nothing held m at (ap (λ o. acquire_any o at.point.number) e) (λ lock l. absurd (let bad : None ≡ Some l.list = sym e ∙ l.here in cc bad)) has
@@ -241,13 +248,15 @@ module _ (laws : GoingLaws) (plan : Plan) (ok : IsCompiled plan) (a : Activation
 
   -- ---- an instruction
 
-  kept_by : (x : Effect HeldCells) → a.pending ≡ [] → GoesOn laws plan ok k section is a.held x → CanGo (instructed plan a x)
+  kept_by : (x : Effect HeldCells) → a.pending ≡ [] → GoesOn laws plan ok k section is a.held x →
+      CanGo (instructed plan a x)
   kept_by (Moves m) p g = running p g
   kept_by (Asks point) p g = absurd g
   kept_by (Finishes outcome) p g = over p refl
   kept_by Undefined p g = absurd g
 
-  acquires : (x : IsAtAcquire laws plan ok k section is a.held a.machine) → CanGo (instructed plan a (Asks x.at.point.number))
+  acquires : (x : IsAtAcquire laws plan ok k section is a.held a.machine) →
+      CanGo (instructed plan a (Asks x.at.point.number))
   acquires x = asking (by (locks_before plan k x.at.point.number a.held a.machine.locals) locks_are) where
     locks_are : to_ask plan.program section plan.ranks a.held a.machine.locals x.list
         ≡ locks_before plan k x.at.point.number a.held a.machine.locals
@@ -274,7 +283,8 @@ module _ (laws : GoingLaws) (plan : Plan) (ok : IsCompiled plan) (a : Activation
           all = turn.2;
         })
 
-  pub instructed_on : CanGo a → a.pending ≡ [] → a.outcome ≡ None → HasCells laws plan ok k section is a.held a.machine →
+  pub instructed_on : CanGo a → a.pending ≡ [] → a.outcome ≡ None →
+      HasCells laws plan ok k section is a.held a.machine →
       CanGo (instructed plan a (next_effect plan a))
   instructed_on can p o has =
       subst (λ x. CanGo (instructed plan a x)) (sym does_same) (elim (moving can p o has) [
@@ -284,7 +294,8 @@ module _ (laws : GoingLaws) (plan : Plan) (ok : IsCompiled plan) (a : Activation
       ])
 
   -- it has its case, and its operands fit
-  pub has_case : CanGo a → a.pending ≡ [] → a.outcome ≡ None → HasCells laws plan ok k section is a.held a.machine → next_effect plan a ≡ Undefined → ⊥
+  pub has_case : CanGo a → a.pending ≡ [] → a.outcome ≡ None → HasCells laws plan ok k section is a.held a.machine →
+      next_effect plan a ≡ Undefined → ⊥
   has_case can p o has e =
       elim (moving can p o has) [
         | inl g ↦ subst (GoesOn laws plan ok k section is a.held) (sym does_same ∙ e) g.1

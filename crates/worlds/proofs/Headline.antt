@@ -8,7 +8,8 @@ use Rattle.lowering.specs.Plans.{Plan, IsCompiled, CompiledRunAlike}
 use Rattle.locks.specs.Locks.{among}
 use Rattle.worlds.specs.Worlds.{World, happens, world_after, opening_world, final}
 use Rattle.worlds.specs.Claims.{IsSerial, HeldCellsAre, FollowsScripts, EveryRunHasIt, EveryWorldKeepsTheRules}
-use Rattle.worlds.specs.Waiting.{RisingHasNoCycle, RisingWaitsForHolders, RisingGoesOn, InstructionsHaveTheirCase, PendingRises}
+use Rattle.worlds.specs.Waiting.{RisingHasNoCycle, RisingWaitsForHolders, RisingGoesOn, InstructionsHaveTheirCase}
+use Rattle.worlds.specs.Waiting.{PendingRises}
 use Rattle.worlds.specs.Working.States.{IsSound, OpeningIsSound, StepsKeepSound}
 use Rattle.worlds.specs.Working.Ahead.{IsReadyWorld, WorldsStayReady}
 use Rattle.locks.specs.Theory.Order.{contains_among, among_contains}
@@ -38,7 +39,8 @@ held_cells plan w ok s cell lock is =
           ((s.well h.by h.section h.is_open).all cell (lock, here, contains_among h.section.held lock h.holds)),
     )
 
-serial : LegalIsSerial → CompiledRunAlike → (plan : Plan) (w : World) → IsCompiled plan → IsSound plan w → FollowsScripts plan w →
+serial : LegalIsSerial → CompiledRunAlike → (plan : Plan) (w : World) → IsCompiled plan → IsSound plan w →
+    FollowsScripts plan w →
     IsSerial plan w (committed plan.layout.opening w.history)
 serial law alike plan w ok s follows =
     of_scripts_run_alike alike plan w.history (committed plan.layout.opening w.history) ok (history_of_scripts plan w follows)
@@ -62,7 +64,8 @@ record IsKept (plan : Plan) (w : World) : Type 0 where
   sound : IsSound plan w
   ready : IsReadyWorld plan w
 
-kept_after : StepsKeepSound → WorldsStayReady → (plan : Plan) (w : World) (steps : List ℕ) → IsCompiled plan → IsKept plan w →
+kept_after : StepsKeepSound → WorldsStayReady → (plan : Plan) (w : World) (steps : List ℕ) → IsCompiled plan →
+    IsKept plan w →
     IsKept plan (world_after plan w steps)
 kept_after step ready plan w [] ok x = x
 kept_after step ready plan w (t ∷ ts) ok x =
@@ -70,12 +73,14 @@ kept_after step ready plan w (t ∷ ts) ok x =
     (record { sound = step plan w t ok x.sound; ready = ready.step plan w t ok x.sound x.ready })
 
 -- what holds of each world that is reached
-kept : OpeningIsSound → StepsKeepSound → WorldsStayReady → (plan : Plan) (steps : List ℕ) → IsCompiled plan → IsKept plan (final plan steps)
+kept : OpeningIsSound → StepsKeepSound → WorldsStayReady → (plan : Plan) (steps : List ℕ) → IsCompiled plan →
+    IsKept plan (final plan steps)
 kept opening step ready plan steps ok =
     kept_after step ready plan (opening_world plan) steps ok (record { sound = opening plan; ready = ready.opening plan ok })
 
 -- no lock is held twice in any world that is reached
-once_after : PrecedesIsStrict → StepsKeepSound → WorldsStayReady → (plan : Plan) (w : World) (steps : List ℕ) → IsCompiled plan →
+once_after : PrecedesIsStrict → StepsKeepSound → WorldsStayReady → (plan : Plan) (w : World) (steps : List ℕ) →
+    IsCompiled plan →
     IsKept plan w → Once w → Once (world_after plan w steps)
 once_after strict step ready plan w [] ok x once = once
 once_after strict step ready plan w (t ∷ ts) ok x once =

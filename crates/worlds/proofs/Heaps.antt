@@ -1,5 +1,6 @@
 -- Held cells with values of their types, and a heap of the program that has them.
-use Rattle.std.proofs.Common.{◌≡◌, ◌<◌, ℕ, zero, suc, List, [], ◌∷◌, length, Some, slice_get, refl, sym, ◌∙◌, subst, arith, inl, inr}
+use Rattle.std.proofs.Common.{◌≡◌, ◌<◌, ℕ, zero, suc, List, [], ◌∷◌, length, Some, slice_get, refl, sym, ◌∙◌, subst}
+use Rattle.std.proofs.Common.{arith, inl, inr}
 use Rattle.std.proofs.lemmas.List.{length-map}
 use Rattle.std.proofs.lemmas.Option.{slice_get_within}
 use Rattle.std.specs.Prelude.{map, take, drop, ◌++◌}
@@ -23,7 +24,8 @@ use Rattle.worlds.proofs.Cells.{some_or_none}
 -- ---- a value for each type
 
 -- the type of a value
-pub type_at : (shape : Shape) (ts : List ValueType) (vs : List Value) → HaveTypes shape ts vs → (c : ℕ) (v : Value) → slice_get vs c ≡ Some v →
+pub type_at : (shape : Shape) (ts : List ValueType) (vs : List Value) → HaveTypes shape ts vs → (c : ℕ) (v : Value) →
+    slice_get vs c ≡ Some v →
     (t : ValueType) × (slice_get ts c ≡ Some t) × HasType shape t v
 type_at shape [] [] h c v e = absurd cc
 type_at shape [] (w ∷ vs) h c v e = absurd h
@@ -32,7 +34,8 @@ type_at shape (t ∷ ts) (w ∷ vs) h zero v e = (let same : w ≡ v = cc e in (
 type_at shape (t ∷ ts) (w ∷ vs) h (suc c) v e = type_at shape ts vs h.1 c v e
 
 -- a value of a type
-value_for : (shape : Shape) (ts : List ValueType) (vs : List Value) → HaveTypes shape ts vs → (c : ℕ) (t : ValueType) → slice_get ts c ≡ Some t →
+value_for : (shape : Shape) (ts : List ValueType) (vs : List Value) → HaveTypes shape ts vs →
+    (c : ℕ) (t : ValueType) → slice_get ts c ≡ Some t →
     (v : Value) × (slice_get vs c ≡ Some v) × HasType shape t v
 value_for shape [] vs h c t e = absurd cc
 value_for shape (s ∷ ts) [] h c t e = absurd h
@@ -95,7 +98,8 @@ defaults_have : (shape : Shape) (locals : List Local) → HaveTypes shape (local
 defaults_have shape [] = tt
 defaults_have shape (l ∷ ls) = (default_has shape l.value_type, defaults_have shape ls)
 
-pub opening_has : (shape : Shape) (k : ℕ) (locals : List Local) (arguments : List Value) → HaveTypes shape (local_types (take k locals)) arguments →
+pub opening_has : (shape : Shape) (k : ℕ) (locals : List Local) (arguments : List Value) →
+    HaveTypes shape (local_types (take k locals)) arguments →
     HaveTypes shape (local_types locals) (arguments ++ map default_local (drop (length arguments) locals))
 opening_has shape k locals [] h = defaults_have shape locals
 opening_has shape zero [] (v ∷ vs) h = absurd h

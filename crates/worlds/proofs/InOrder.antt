@@ -36,7 +36,8 @@ pub record InOrderLaws : Type 0 where
 
 -- ---- steps
 
-begins : InOrderLaws → (plan : Plan) (begun : ℕ) (call : Invocation) → IsCompiled plan → CanCall plan.program call.section call.arguments →
+begins : InOrderLaws → (plan : Plan) (begun : ℕ) (call : Invocation) → IsCompiled plan →
+    CanCall plan.program call.section call.arguments →
     IsInOrder plan (activation plan begun call)
 begins laws plan begun call ok can =
     let found = can_call plan.program call.section call.arguments can in
@@ -50,7 +51,8 @@ begins laws plan begun call ok can =
       };
     }
 
-moves : InOrderLaws → (plan : Plan) (a : Activation) → IsCompiled plan → IsInOrder plan a → a.pending ≡ [] → a.outcome ≡ None →
+moves : InOrderLaws → (plan : Plan) (a : Activation) → IsCompiled plan → IsInOrder plan a → a.pending ≡ [] →
+    a.outcome ≡ None →
     IsInOrder plan (instructed plan a (next_effect plan a))
 moves laws plan a ok order none out =
     let r = order.ready in
@@ -60,7 +62,8 @@ moves laws plan a ok order none out =
           (instructed_on laws.ready.going plan ok a r.section r.is r.goes_on none out (has_cells plan ok a order.well));
     }
 
-gets : InOrderLaws → (plan : Plan) (a : Activation) (lock : Lock) (rest : List Lock) (values : List (ℕ × Value)) → IsCompiled plan → IsInOrder plan a →
+gets : InOrderLaws → (plan : Plan) (a : Activation) (lock : Lock) (rest : List Lock) (values : List (ℕ × Value)) →
+    IsCompiled plan → IsInOrder plan a →
     a.pending ≡ lock ∷ rest → AreCellsOf plan lock values → IsInOrder plan (granted a lock rest values)
 gets laws plan a lock rest values ok order want cells =
     let r = order.ready in
@@ -77,7 +80,8 @@ gets laws plan a lock rest values ok order want cells =
       };
     }
 
-asks : InOrderLaws → (plan : Plan) (a : Activation) → IsCompiled plan → IsInOrder plan a → IsInOrder plan (record a { asked = true })
+asks : InOrderLaws → (plan : Plan) (a : Activation) → IsCompiled plan → IsInOrder plan a →
+    IsInOrder plan (record a { asked = true })
 asks laws plan a ok order =
     let r = order.ready in
     record {
@@ -128,7 +132,8 @@ module _ (laws : InOrderLaws) (plan : Plan) (a : Activation) (ok : IsCompiled pl
         (ok.laid_out.listed lock).1
         (laws.locks plan.program r.section user.0 path a.machine.locals lock ok.well_formed (a.call.section, r.is) f.come.locals user.1 x.1.2)
 
-    fit_all : (section : Section) (room : Room) → section_at plan a.call.section ≡ Some section → IsRoomOf plan.program plan.layout section room →
+    fit_all : (section : Section) (room : Room) → section_at plan a.call.section ≡ Some section →
+        IsRoomOf plan.program plan.layout section room →
         FitRoom plan all room
     fit_all section room is room_is =
         let same : section ≡ r.section = same_Some section r.section (sym is ∙ r.is) in

@@ -1,6 +1,9 @@
 -- What an acquire asks for, one lock after another.
-use Rattle.std.proofs.Common.{◌≡◌, ◌⊎◌, ◌==◌, ◌&&◌, ℕ, zero, suc, Bool, true, false, if◌then◌else◌, nat_lt, List, [], ◌∷◌, ◌++◌, Option, Some, None, slice_get, refl, sym, ap, ◌∙◌, subst, arith, inl, inr, true≢false}
-use Rattle.std.proofs.lemmas.Bool.{cases_Bool, cases_lt, eq-eqb, lt-ltb, and_from, or_cases, or_left, or_right, or_parts}
+use Rattle.std.proofs.Common.{◌≡◌, ◌⊎◌, ◌==◌, ◌&&◌, ℕ, zero, suc, Bool, true, false, if◌then◌else◌, nat_lt, List, []}
+use Rattle.std.proofs.Common.{◌∷◌, ◌++◌, Option, Some, None, slice_get, refl, sym, ap, ◌∙◌, subst, arith, inl, inr}
+use Rattle.std.proofs.Common.{true≢false}
+use Rattle.std.proofs.lemmas.Bool.{cases_Bool, cases_lt, eq-eqb, lt-ltb, and_from, or_cases, or_left, or_right}
+use Rattle.std.proofs.lemmas.Bool.{or_parts}
 use Rattle.std.proofs.lemmas.Option.{get_or_from_slice_get, slice_get_within, slice_get-get_or}
 use Rattle.std.proofs.lemmas.List.Elements.{Contains-append_left, Contains-push, Contains-append_cases}
 use Rattle.std.specs.Prelude.{slice_index}
@@ -46,7 +49,8 @@ rank_place program ranks ok l known =
     let here : slice_get ok.list c.0 ≡ Some l.class = slice_get-get_or ok.list c.0 l.class c.1 ∙ ap (λ (x : ℕ). Some x) c.2 in
     (c.0, here, get_or_from_slice_get ranks l.class c.0 0 (ok.places c.0 l.class here))
 
-same_rank : (program : Typed) (ranks : List ℕ) → AreRanksOf program ranks → (a b : Lock) → Known program a → Known program b →
+same_rank : (program : Typed) (ranks : List ℕ) → AreRanksOf program ranks → (a b : Lock) → Known program a →
+    Known program b →
     slice_index ranks a.class ≡ slice_index ranks b.class → a.class ≡ b.class
 same_rank program ranks ok a b ka kb e =
     let p = rank_place program ranks ok a ka in
@@ -56,7 +60,8 @@ same_rank program ranks ok a b ka kb e =
     cc classes
 
 -- of two locks that aren't the same one comes before the other
-total : (program : Typed) (ranks : List ℕ) → AreRanksOf program ranks → (a b : Lock) → Known program a → Known program b → same_lock a b ≡ false →
+total : (program : Typed) (ranks : List ℕ) → AreRanksOf program ranks → (a b : Lock) → Known program a →
+    Known program b → same_lock a b ≡ false →
     precedes ranks a b ≡ false → Precedes ranks b a
 total program ranks ok a b ka kb differ not =
     let parts = or_parts (nat_lt (slice_index ranks a.class) (slice_index ranks b.class)) ((a.class == b.class) && nat_lt a.object b.object) not in
@@ -84,7 +89,8 @@ abbrev Rising : List ℕ → List Lock → Type 0
 Rising ranks [] = Unit {0}
 Rising ranks (x ∷ xs) = ((y : Lock) → among xs y ≡ true → Precedes ranks x y) × Rising ranks xs
 
-insert_among : (ranks : List ℕ) (l : Lock) (xs : List Lock) (y : Lock) → among (insert ranks l xs) y ≡ true → (l ≡ y) ⊎ (among xs y ≡ true)
+insert_among : (ranks : List ℕ) (l : Lock) (xs : List Lock) (y : Lock) → among (insert ranks l xs) y ≡ true →
+    (l ≡ y) ⊎ (among xs y ≡ true)
 insert_among ranks l [] y h = elim (or_cases (same_lock l y) false h) [ inl e ↦ inl (same_is l y e) | inr e ↦ inr e ]
 insert_among ranks l (x ∷ xs) y h =
     by (same_lock l x) (precedes ranks l x) (insert_among ranks l xs y) h where
@@ -97,12 +103,14 @@ insert_among ranks l (x ∷ xs) y h =
         | inr e ↦ elim (go e) [ inl q ↦ inl q | inr q ↦ inr (or_right (same_lock x y) (among xs y) q) ]
       ]
 
-among_insert : (ranks : List ℕ) (l : Lock) (xs : List Lock) (y : Lock) → (l ≡ y) ⊎ (among xs y ≡ true) → among (insert ranks l xs) y ≡ true
+among_insert : (ranks : List ℕ) (l : Lock) (xs : List Lock) (y : Lock) → (l ≡ y) ⊎ (among xs y ≡ true) →
+    among (insert ranks l xs) y ≡ true
 among_insert ranks l [] y (inl e) = or_left (same_lock l y) false (same_refl l y e)
 among_insert ranks l [] y (inr e) = absurd (true≢false (sym e))
 among_insert ranks l (x ∷ xs) y h =
     by (same_lock l x) refl (precedes ranks l x) (among_insert ranks l xs y) h where
-      by : (b : Bool) → same_lock l x ≡ b → (d : Bool) → ((l ≡ y) ⊎ (among xs y ≡ true) → among (insert ranks l xs) y ≡ true) →
+      by : (b : Bool) → same_lock l x ≡ b → (d : Bool) →
+          ((l ≡ y) ⊎ (among xs y ≡ true) → among (insert ranks l xs) y ≡ true) →
           (l ≡ y) ⊎ (among (x ∷ xs) y ≡ true) → among (if b then x ∷ xs else if d then l ∷ x ∷ xs else x ∷ insert ranks l xs) y ≡ true
       by true same d go (inl e) = or_left (same_lock x y) (among xs y) (same_refl x y (sym (same_is l x same) ∙ e))
       by true same d go (inr h) = h
@@ -114,7 +122,8 @@ among_insert ranks l (x ∷ xs) y h =
         | inr e ↦ or_right (same_lock x y) (among (insert ranks l xs) y) (go (inr e))
       ]
 
-rising_insert : PrecedesIsStrict → (program : Typed) (ranks : List ℕ) → AreRanksOf program ranks → (l : Lock) (xs : List Lock) → Known program l →
+rising_insert : PrecedesIsStrict → (program : Typed) (ranks : List ℕ) → AreRanksOf program ranks →
+    (l : Lock) (xs : List Lock) → Known program l →
     ((y : Lock) → among xs y ≡ true → Known program y) → Rising ranks xs → Rising ranks (insert ranks l xs)
 rising_insert strict program ranks ok l [] kl known rise = (λ y h. absurd (true≢false (sym h)), tt)
 rising_insert strict program ranks ok l (x ∷ xs) kl known rise =
@@ -175,7 +184,8 @@ named_by program section locals i l (Some path) e h = record { path = path; is_p
 pub in_rest : {X : Type 0} (x y : X) (xs : List X) → Contains xs y → Contains (x ∷ xs) y
 in_rest x y xs c = (let less = c.1 in (suc c.0, omega (arith, less), c.2))
 
-known_named : OrderLaws → (program : Typed) (section : Section) (ranks : List ℕ) (lists : List (List ℕ)) → IsOrdered program section ranks lists →
+known_named : OrderLaws → (program : Typed) (section : Section) (ranks : List ℕ) (lists : List (List ℕ)) →
+    IsOrdered program section ranks lists →
     (locals : List Value) (i : ℕ) (l : Lock) → IsNamed program section locals i l → Known program l
 known_named laws program section ranks lists ok locals i l n =
     let inside : Contains (lock_paths program section) n.path =
@@ -185,7 +195,8 @@ known_named laws program section ranks lists ok locals i l n =
     (class.0, ap (slice_get program.classes.items) (path_class n.path.root n.path.finals n.path.class program.shape locals l n.named) ∙ class.1)
 
 -- one more number
-new_only : (ranks : List ℕ) (held : List Lock) (x : Option Lock) (xs : List Lock) (y : Lock) → among (insert_new ranks held x xs) y ≡ true →
+new_only : (ranks : List ℕ) (held : List Lock) (x : Option Lock) (xs : List Lock) (y : Lock) →
+    among (insert_new ranks held x xs) y ≡ true →
     ((x ≡ Some y) × (among held y ≡ false)) ⊎ (among xs y ≡ true)
 new_only ranks held None xs y h = inr h
 new_only ranks held (Some l) xs y h = by (among held l) refl h where
@@ -202,7 +213,8 @@ new_has : (ranks : List ℕ) (held : List Lock) (x : Option Lock) (xs : List Loc
 new_has ranks held None xs y new (inl e) = absurd cc
 new_has ranks held None xs y new (inr h) = h
 new_has ranks held (Some l) xs y new h = by (among held l) refl h where
-  by : (b : Bool) → among held l ≡ b → (Some l ≡ Some y) ⊎ (among xs y ≡ true) → among (if b then xs else insert ranks l xs) y ≡ true
+  by : (b : Bool) → among held l ≡ b → (Some l ≡ Some y) ⊎ (among xs y ≡ true) →
+      among (if b then xs else insert ranks l xs) y ≡ true
   by true e (inl same) = (let as_one : l ≡ y = cc same in absurd (true≢false (sym e ∙ (ap (among held) as_one ∙ new))))
   by true e (inr q) = q
   by false e (inl same) = (let as_one : l ≡ y = cc same in among_insert ranks l xs y (inl as_one))
@@ -229,7 +241,8 @@ asked_has program section ranks held locals (k ∷ is) y i c named new =
       | inr d ↦ inr (asked_has program section ranks held locals is y i d named new)
     ])
 
-new_rises : PrecedesIsStrict → (program : Typed) (ranks : List ℕ) → AreRanksOf program ranks → (held : List Lock) (x : Option Lock) (xs : List Lock) →
+new_rises : PrecedesIsStrict → (program : Typed) (ranks : List ℕ) → AreRanksOf program ranks →
+    (held : List Lock) (x : Option Lock) (xs : List Lock) →
     ((l : Lock) → x ≡ Some l → Known program l) → ((y : Lock) → among xs y ≡ true → Known program y) → Rising ranks xs →
     Rising ranks (insert_new ranks held x xs)
 new_rises strict program ranks ok held None xs first known rise = rise
@@ -239,7 +252,8 @@ new_rises strict program ranks ok held (Some l) xs first known rise =
       by true r = rise
       by false r = r
 
-asked_rises : OrderLaws → (program : Typed) (section : Section) (ranks : List ℕ) (lists : List (List ℕ)) → IsOrdered program section ranks lists →
+asked_rises : OrderLaws → (program : Typed) (section : Section) (ranks : List ℕ) (lists : List (List ℕ)) →
+    IsOrdered program section ranks lists →
     (held : List Lock) (locals : List Value) (list : List ℕ) → Rising ranks (to_ask program section ranks held locals list)
 asked_rises laws program section ranks lists ok held locals [] = tt
 asked_rises laws program section ranks lists ok held locals (i ∷ is) =
@@ -277,7 +291,8 @@ module _ (laws : OrderLaws) (program : Typed) (section : Section) (ranks : List 
       RiseBehind ranks held xs × Run program section ranks lists p locals (held ++ xs)
       × ((lock : Lock) → IsListed program section ranks lists p locals lock → Contains (held ++ xs) lock)
 
-  asks_first : (held : List Lock) (l : Lock) (rest : List Lock) → Filling held (l ∷ rest) → Asks program section ranks lists p locals held l
+  asks_first : (held : List Lock) (l : Lock) (rest : List Lock) → Filling held (l ∷ rest) →
+      Asks program section ranks lists p locals held l
   asks_first held l rest f =
       let mine = f.only l (or_left (same_lock l l) (among rest l) (same_refl l l refl)) in
       record {
@@ -289,7 +304,8 @@ module _ (laws : OrderLaws) (program : Typed) (section : Section) (ranks : List 
         ];
       }
 
-  next_filling : (held : List Lock) (l : Lock) (rest : List Lock) → Filling held (l ∷ rest) → Filling (held ++ l ∷ []) rest
+  next_filling : (held : List Lock) (l : Lock) (rest : List Lock) → Filling held (l ∷ rest) →
+      Filling (held ++ l ∷ []) rest
   next_filling held l rest f = record {
     order = f.order.1;
     only = λ y h. (let old = f.only y (or_right (same_lock l y) (among rest y) h) in (

@@ -1,14 +1,17 @@
 -- Places of lists.
-use Rattle.std.proofs.Common.{◌≡◌, ◌⊎◌, ℕ, zero, suc, List, [], ◌∷◌, ◌++◌, length, ◌<◌, Some, slice_get, set, refl, ap, arith, inl, inr}
+use Rattle.std.proofs.Common.{◌≡◌, ◌⊎◌, ℕ, zero, suc, List, [], ◌∷◌, ◌++◌, length, ◌<◌, Some, slice_get, set, refl}
+use Rattle.std.proofs.Common.{ap, arith, inl, inr}
 
-pub get_set_other : {X : Type 0} (xs : List X) (i j : ℕ) (y : X) → (i ≡ j → ⊥) → slice_get (set xs i y) j ≡ slice_get xs j
+pub get_set_other : {X : Type 0} (xs : List X) (i j : ℕ) (y : X) → (i ≡ j → ⊥) →
+    slice_get (set xs i y) j ≡ slice_get xs j
 get_set_other [] i j y ne = refl
 get_set_other (x ∷ xs) zero zero y ne = absurd (ne refl)
 get_set_other (x ∷ xs) zero (suc j) y ne = refl
 get_set_other (x ∷ xs) (suc i) zero y ne = refl
 get_set_other (x ∷ xs) (suc i) (suc j) y ne = get_set_other xs i j y (λ e. ne (ap suc e))
 
-pub get_set_same : {X : Type 0} (xs : List X) (i : ℕ) (x y : X) → slice_get xs i ≡ Some x → slice_get (set xs i y) i ≡ Some y
+pub get_set_same : {X : Type 0} (xs : List X) (i : ℕ) (x y : X) → slice_get xs i ≡ Some x →
+    slice_get (set xs i y) i ≡ Some y
 get_set_same [] i x y h = absurd cc
 get_set_same (z ∷ xs) zero x y h = refl
 get_set_same (z ∷ xs) (suc i) x y h = get_set_same xs i x y h

@@ -1,5 +1,6 @@
 -- Each step keeps a world ready; and in a ready world pending locks rise, and the next instruction has its case.
-use Rattle.std.proofs.Common.{◌≡◌, ℕ, ◌+◌, true, List, [], ◌∷◌, ◌++◌, length, Option, Some, None, sym, ◌∙◌, subst, inl, inr}
+use Rattle.std.proofs.Common.{◌≡◌, ℕ, ◌+◌, true, List, [], ◌∷◌, ◌++◌, length, Option, Some, None, sym, ◌∙◌, subst}
+use Rattle.std.proofs.Common.{inl, inr}
 use Rattle.std.proofs.lemmas.Bool.{cases_eq}
 use Rattle.std.specs.List.{Contains}
 use Rattle.core_lang.specs.declared.value.Value.{Value}
@@ -21,11 +22,13 @@ use Rattle.history.specs.Working.Laws.{CommittedOfOneMore, CommittedKeepsSize}
 use Rattle.lowering.specs.Lowered.{lists_at}
 use Rattle.lowering.specs.Plans.{Plan, IsCompiled}
 use Rattle.worlds.specs.declared.event.Event.{Event}
-use Rattle.worlds.specs.Worlds.{World, ThreadState, Activation, HasOpen, commit, activation, granted, taken, without, with_back, instructed, next_effect, happens, opening_world, scripts}
+use Rattle.worlds.specs.Worlds.{World, ThreadState, Activation, HasOpen, commit, activation, granted, taken, without}
+use Rattle.worlds.specs.Worlds.{with_back, instructed, next_effect, happens, opening_world, scripts}
 use Rattle.worlds.specs.Working.States.{IsWell, IsSound}
 use Rattle.worlds.specs.Working.InTurn.{RiseBehind}
 use Rattle.worlds.specs.Waiting.{PendingRises, AllHaveNext}
-use Rattle.worlds.specs.Working.Ahead.{SeesTyped, CanGoOn, running, asking, over, IsReady, IsReadyWorld, WorldsStayReady}
+use Rattle.worlds.specs.Working.Ahead.{SeesTyped, CanGoOn, running, asking, over, IsReady, IsReadyWorld}
+use Rattle.worlds.specs.Working.Ahead.{WorldsStayReady}
 use Rattle.worlds.proofs.Turns.{Turn, idles, starts, gets, waits, over as ends, moves, turn}
 use Rattle.worlds.proofs.Cells.{taken_only}
 use Rattle.locks.specs.Theory.Order.{contains_among}
@@ -62,7 +65,8 @@ section_changed plan w t thread a cells r ready =
     (λ b e. (let same : a ≡ b = cc e in subst (IsReady plan) same ready))
 
 -- each cell of a held lock is seen
-pub has_cells : (plan : Plan) → IsCompiled plan → (a : Activation) → IsWell plan a → (cell : ℕ) (lock : Lock) → lock_of_cell plan.program cell ≡ Some lock →
+pub has_cells : (plan : Plan) → IsCompiled plan → (a : Activation) → IsWell plan a → (cell : ℕ) (lock : Lock) →
+    lock_of_cell plan.program cell ≡ Some lock →
     Contains a.held lock → IsSeen (held_value a.machine.memory) cell
 has_cells plan ok a well cell lock is c = well.all cell (lock, ok.laid_out.cell_locks cell ∙ is, contains_among a.held lock c)
 
@@ -76,7 +80,8 @@ ready_instructed plan a r (Finishes outcome) can = record { section = r.section;
 ready_instructed plan a r Undefined can = record { section = r.section; is = r.is; fit = r.fit; goes_on = can }
 
 -- a finished section leaves a heap of the program so, where the heap has what it read
-pub heap_overwritten : ReadyLaws → (plan : Plan) → IsCompiled plan → (a : Activation) (outcome : Outcome) (heap : List Value) → IsWell plan a →
+pub heap_overwritten : ReadyLaws → (plan : Plan) → IsCompiled plan →
+    (a : Activation) (outcome : Outcome) (heap : List Value) → IsWell plan a →
     IsReady plan a → a.outcome ≡ Some outcome → length heap ≡ length plan.program.cells.items → IsHeap plan.program heap →
     Agrees heap a.machine.memory.reads → IsHeap plan.program (overwritten heap a.machine.memory.writes)
 heap_overwritten laws plan ok a outcome heap well ready out size is_heap reads =
@@ -88,7 +93,8 @@ heap_overwritten laws plan ok a outcome heap well ready out size is_heap reads =
     let after = subst (StaysTyped plan.program whole.0.result_type) whole.2.1 stays in
     after.0
 
-heap_after : ReadyLaws → (plan : Plan) → IsCompiled plan → (w : World) (t step : ℕ) (a : Activation) (outcome : Outcome) → IsSound plan w →
+heap_after : ReadyLaws → (plan : Plan) → IsCompiled plan →
+    (w : World) (t step : ℕ) (a : Activation) (outcome : Outcome) → IsSound plan w →
     HasOpen w t a → a.outcome ≡ Some outcome → IsReadyWorld plan w →
     IsHeap plan.program (committed plan.layout.opening (w.history ++ commit t step a outcome ∷ []))
 heap_after laws plan ok w t step a outcome s it out r =
@@ -97,7 +103,8 @@ heap_after laws plan ok w t step a outcome s it out r =
     let after = heap_overwritten laws plan ok a outcome heap (s.well t a it) (r.sections t a it) out size r.heap (s.fit t a it).part.reads in
     subst (IsHeap plan.program) (sym (laws.heap plan.layout.opening w.history (commit t step a outcome))) after
 
-turn_ready : ReadyLaws → (plan : Plan) (w : World) (t : ℕ) (e : Event) (after : World) → IsCompiled plan → IsSound plan w → IsReadyWorld plan w →
+turn_ready : ReadyLaws → (plan : Plan) (w : World) (t : ℕ) (e : Event) (after : World) → IsCompiled plan →
+    IsSound plan w → IsReadyWorld plan w →
     Turn plan w t e after → IsReadyWorld plan after
 turn_ready laws plan w t e after ok s r idles = r
 turn_ready laws plan w t e after ok s r (starts {thread} {call} at none called) =
@@ -149,7 +156,8 @@ opening_ready plan ok = record {
 
 -- ---- what it says
 
-pub rises_in : (plan : Plan) (a : Activation) (section : Section) (lists : List (List ℕ)) → CanGoOn plan section lists a → (lock other : Lock) (rest : List Lock) →
+pub rises_in : (plan : Plan) (a : Activation) (section : Section) (lists : List (List ℕ)) →
+    CanGoOn plan section lists a → (lock other : Lock) (rest : List Lock) →
     a.pending ≡ lock ∷ rest → Contains a.held other → Precedes plan.ranks other lock
 rises_in plan a section lists (running p m) lock other rest e c = absurd (let bad : [] ≡ lock ∷ rest = sym p ∙ e in cc bad)
 rises_in plan a section lists (over p o) lock other rest e c = absurd (let bad : [] ≡ lock ∷ rest = sym p ∙ e in cc bad)
@@ -160,7 +168,8 @@ pending_rises plan w r t a lock other rest it e c =
     let mine = r.sections t a it in
     rises_in plan a mine.section (lists_at plan.lists a.call.section) mine.goes_on lock other rest e c
 
-have_next : ReadyLaws → (plan : Plan) (w : World) → IsCompiled plan → IsSound plan w → IsReadyWorld plan w → AllHaveNext plan w
+have_next : ReadyLaws → (plan : Plan) (w : World) → IsCompiled plan → IsSound plan w → IsReadyWorld plan w →
+    AllHaveNext plan w
 have_next laws plan w ok s r t a it none out =
     let mine = r.sections t a it in
     let cells = has_cells plan ok a (s.well t a it) in

@@ -1,5 +1,7 @@
 -- Where pending locks rise, nobody waits in a circle, and someone goes on.
-use Rattle.std.proofs.Common.{◌≡◌, ◌⊎◌, ◌<◌, ◌≤◌, ℕ, zero, suc, ◌+◌, Bool, true, false, if◌then◌else◌, List, [], ◌∷◌, map, length, Option, Some, None, slice_get, refl, sym, ap, ◌∙◌, subst, arith, inl, inr, true≢false}
+use Rattle.std.proofs.Common.{◌≡◌, ◌⊎◌, ◌<◌, ◌≤◌, ℕ, zero, suc, ◌+◌, Bool, true, false, if◌then◌else◌, List, [], ◌∷◌}
+use Rattle.std.proofs.Common.{map, length, Option, Some, None, slice_get, refl, sym, ap, ◌∙◌, subst, arith, inl, inr}
+use Rattle.std.proofs.Common.{true≢false}
 use Rattle.std.proofs.lemmas.Bool.{cases_lt, cases_eq}
 use Rattle.std.specs.Option.{option_map_or}
 use Rattle.std.specs.List.{Contains}
@@ -11,8 +13,10 @@ use Rattle.locks.specs.Waiting.{Asker, AsksRise, NoCircle}
 use Rattle.lowering.specs.Plans.{Plan}
 use Rattle.worlds.specs.declared.event.Event.{Event}
 use Rattle.locks.specs.Locks.{among}
-use Rattle.worlds.specs.Worlds.{World, ThreadState, Activation, holds, holder_from, holder, asks, goes_on, steps_with, thread_steps, happens, HasOpen}
-use Rattle.worlds.specs.Waiting.{first_if, asker_of, asker, IsNoWait, IsWait, PendingRises, RisingHasNoCycle, RisingWaitsForHolders, RisingGoesOn}
+use Rattle.worlds.specs.Worlds.{World, ThreadState, Activation, holds, holder_from, holder, asks, goes_on, steps_with}
+use Rattle.worlds.specs.Worlds.{thread_steps, happens, HasOpen}
+use Rattle.worlds.specs.Waiting.{first_if, asker_of, asker, IsNoWait, IsWait, PendingRises, RisingHasNoCycle}
+use Rattle.worlds.specs.Waiting.{RisingWaitsForHolders, RisingGoesOn}
 use Rattle.worlds.specs.declared.event.Event.TheVariants.{Idle, Began, Got, Waits, Moved, Ended}
 use Rattle.locks.specs.Theory.Order.{IsBefore, is_before, by_rank, by_object, among_contains}
 use Rattle.worlds.proofs.Places.{get_set_same}
@@ -21,14 +25,16 @@ use Rattle.worlds.proofs.Steps.{got_map}
 
 -- ---- no circle
 
-first_pending : (b : Bool) (locks : List Lock) (lock : Lock) → first_if b locks ≡ Some lock → (rest : List Lock) × (locks ≡ lock ∷ rest)
+first_pending : (b : Bool) (locks : List Lock) (lock : Lock) → first_if b locks ≡ Some lock →
+    (rest : List Lock) × (locks ≡ lock ∷ rest)
 first_pending true [] lock h = absurd cc
 first_pending true (l ∷ rest) lock h =
     let e : l ≡ lock = cc h in (rest, ap (λ x. x ∷ rest) e)
 first_pending false locks lock h = absurd cc
 
 -- what a thread's section says, where it has one
-rises_at : (ranks : List ℕ) (w : World) → PendingRises ranks w → (t : ℕ) (thread : ThreadState) (lock other : Lock) (x : Option Activation) →
+rises_at : (ranks : List ℕ) (w : World) → PendingRises ranks w →
+    (t : ℕ) (thread : ThreadState) (lock other : Lock) (x : Option Activation) →
     slice_get w.threads t ≡ Some thread → thread.active ≡ x → (asker_of x).ask ≡ Some lock → Contains (asker_of x).held other →
     Precedes ranks other lock
 rises_at ranks w rise t thread lock other None at is ask held = absurd cc
@@ -56,7 +62,8 @@ precedes_or_not ranks a b = elim (cases_lt (slice_index ranks a.class) (slice_in
     | inr other ↦ inr (λ p. neither more (λ q. other q.0) (is_before ranks a b p))
   ]
 ] where
-  neither : slice_index ranks b.class ≤ slice_index ranks a.class → ((a.class ≡ b.class) × (a.object < b.object) → ⊥) → IsBefore ranks a b → ⊥
+  neither : slice_index ranks b.class ≤ slice_index ranks a.class →
+      ((a.class ≡ b.class) × (a.object < b.object) → ⊥) → IsBefore ranks a b → ⊥
   neither more not (inl less) = omega (arith, more, less)
   neither more not (inr q) = not q
 
@@ -75,7 +82,8 @@ record IsTop (ranks : List ℕ) (threads : List ThreadState) : Type 0 where
   lock : Lock
   at : slice_get threads by ≡ Some thread
   wants : wanted thread ≡ Some lock
-  top : (u : ℕ) (other : ThreadState) (m : Lock) → slice_get threads u ≡ Some other → wanted other ≡ Some m → Precedes ranks lock m → ⊥
+  top : (u : ℕ) (other : ThreadState) (m : Lock) → slice_get threads u ≡ Some other → wanted other ≡ Some m →
+      Precedes ranks lock m → ⊥
 
 abbrev WantNothing : List ThreadState → Type 0
 WantNothing threads = (t : ℕ) (thread : ThreadState) → slice_get threads t ≡ Some thread → wanted thread ≡ None
@@ -84,7 +92,8 @@ top_of : PrecedesIsStrict → (ranks : List ℕ) (threads : List ThreadState) �
 top_of strict ranks [] = inl (λ t thread at. absurd cc)
 top_of strict ranks (x ∷ xs) = with_first (wanted x) refl (top_of strict ranks xs) where
   -- nothing is wanted further on: the first one decides
-  alone_top : (l : Lock) → wanted x ≡ Some l → WantNothing xs → (u : ℕ) (other : ThreadState) (m : Lock) → slice_get (x ∷ xs) u ≡ Some other →
+  alone_top : (l : Lock) → wanted x ≡ Some l → WantNothing xs → (u : ℕ) (other : ThreadState) (m : Lock) →
+      slice_get (x ∷ xs) u ≡ Some other →
       wanted other ≡ Some m → Precedes ranks l m → ⊥
   alone_top l e none zero other m at wants p =
       let same : x ≡ other = cc at in
@@ -94,7 +103,8 @@ top_of strict ranks (x ∷ xs) = with_first (wanted x) refl (top_of strict ranks
   alone_top l e none (suc u) other m at wants p =
       (let bad : None ≡ Some m = sym (none u other at) ∙ wants in cc bad)
 
-  first_top : (l : Lock) → wanted x ≡ Some l → (r : IsTop ranks xs) → Precedes ranks r.lock l → (u : ℕ) (other : ThreadState) (m : Lock) →
+  first_top : (l : Lock) → wanted x ≡ Some l → (r : IsTop ranks xs) → Precedes ranks r.lock l →
+      (u : ℕ) (other : ThreadState) (m : Lock) →
       slice_get (x ∷ xs) u ≡ Some other → wanted other ≡ Some m → Precedes ranks l m → ⊥
   first_top l e r before zero other m at wants p =
       let same : x ≡ other = cc at in
@@ -103,20 +113,23 @@ top_of strict ranks (x ∷ xs) = with_first (wanted x) refl (top_of strict ranks
       strict.not_itself ranks m (subst (λ k. Precedes ranks k m) as_one p)
   first_top l e r before (suc u) other m at wants p = r.top u other m at wants (strict.goes_on ranks r.lock l m before p)
 
-  later_top : (o : Option Lock) → wanted x ≡ o → (r : IsTop ranks xs) → ((l : Lock) → o ≡ Some l → Precedes ranks r.lock l → ⊥) →
+  later_top : (o : Option Lock) → wanted x ≡ o → (r : IsTop ranks xs) →
+      ((l : Lock) → o ≡ Some l → Precedes ranks r.lock l → ⊥) →
       (u : ℕ) (other : ThreadState) (m : Lock) → slice_get (x ∷ xs) u ≡ Some other → wanted other ≡ Some m → Precedes ranks r.lock m → ⊥
   later_top o e r not zero other m at wants p =
       let same : x ≡ other = cc at in not m (sym e ∙ (ap wanted same ∙ wants)) p
   later_top o e r not (suc u) other m at wants p = r.top u other m at wants p
 
-  later : (o : Option Lock) → wanted x ≡ o → (r : IsTop ranks xs) → ((l : Lock) → o ≡ Some l → Precedes ranks r.lock l → ⊥) → IsTop ranks (x ∷ xs)
+  later : (o : Option Lock) → wanted x ≡ o → (r : IsTop ranks xs) →
+      ((l : Lock) → o ≡ Some l → Precedes ranks r.lock l → ⊥) → IsTop ranks (x ∷ xs)
   later o e r not = record { by = suc r.by; thread = r.thread; lock = r.lock; at = r.at; wants = r.wants; top = later_top o e r not }
 
   nothing_more : wanted x ≡ None → WantNothing xs → WantNothing (x ∷ xs)
   nothing_more e none zero thread at = (let same : x ≡ thread = cc at in ap wanted (sym same) ∙ e)
   nothing_more e none (suc t) thread at = none t thread at
 
-  with_first : (o : Option Lock) → wanted x ≡ o → WantNothing xs ⊎ IsTop ranks xs → WantNothing (x ∷ xs) ⊎ IsTop ranks (x ∷ xs)
+  with_first : (o : Option Lock) → wanted x ≡ o → WantNothing xs ⊎ IsTop ranks xs →
+      WantNothing (x ∷ xs) ⊎ IsTop ranks (x ∷ xs)
   with_first None e (inl none) = inl (nothing_more e none)
   with_first (Some l) e (inl none) =
       inr (record { by = 0; thread = x; lock = l; at = refl; wants = e; top = alone_top l e none })
@@ -127,11 +140,13 @@ top_of strict ranks (x ∷ xs) = with_first (wanted x) refl (top_of strict ranks
   ]
 
 -- what the step of an open section is
-happens_open : (plan : Plan) (w : World) (t : ℕ) (thread : ThreadState) (a : Activation) → slice_get w.threads t ≡ Some thread → thread.active ≡ Some a →
+happens_open : (plan : Plan) (w : World) (t : ℕ) (thread : ThreadState) (a : Activation) →
+    slice_get w.threads t ≡ Some thread → thread.active ≡ Some a →
     happens plan w t ≡ goes_on plan w t thread a a.pending a.outcome
 happens_open plan w t thread a at is = ap (thread_steps plan w t) at ∙ ap (steps_with plan w t thread) is
 
-no_wait_free : (plan : Plan) (w : World) (t : ℕ) (thread : ThreadState) (a : Activation) (x : Option Outcome) → IsNoWait (goes_on plan w t thread a [] x).0
+no_wait_free : (plan : Plan) (w : World) (t : ℕ) (thread : ThreadState) (a : Activation) (x : Option Outcome) →
+    IsNoWait (goes_on plan w t thread a [] x).0
 no_wait_free plan w t thread a None = tt
 no_wait_free plan w t thread a (Some outcome) = tt
 
@@ -139,7 +154,8 @@ abbrev Goer : Plan → World → Type 0
 Goer plan w = (u : ℕ) × (b : Activation) × HasOpen w u b × IsNoWait (happens plan w u).0
 
 -- a section that wants no lock goes on
-goes_without : (plan : Plan) (w : World) (t : ℕ) (thread : ThreadState) (a : Activation) → slice_get w.threads t ≡ Some thread → thread.active ≡ Some a →
+goes_without : (plan : Plan) (w : World) (t : ℕ) (thread : ThreadState) (a : Activation) →
+    slice_get w.threads t ≡ Some thread → thread.active ≡ Some a →
     a.pending ≡ [] → Goer plan w
 goes_without plan w t thread a at is none = (
   t,
@@ -162,7 +178,8 @@ holding : (lock : Lock) (thread : ThreadState) (x : Option Activation) → threa
 holding lock thread None e h = absurd (true≢false (sym h))
 holding lock thread (Some a) e h = (a, e, h)
 
-holder_is : (n : ℕ) (threads : List ThreadState) (lock : Lock) (h : ℕ) → holder_from n threads lock ≡ Some h → Holder n threads lock
+holder_is : (n : ℕ) (threads : List ThreadState) (lock : Lock) (h : ℕ) → holder_from n threads lock ≡ Some h →
+    Holder n threads lock
 holder_is n [] lock h e = absurd cc
 holder_is n (x ∷ xs) lock h e = first (holds lock x) refl e (λ f. holder_is (n + 1) xs lock h f) where
   first : (b : Bool) → holds lock x ≡ b → (if b then Some n else holder_from (n + 1) xs lock) ≡ Some h →
@@ -173,7 +190,8 @@ holder_is n (x ∷ xs) lock h e = first (holds lock x) refl e (λ f. holder_is (
   first false is e go =
       let r = go e in record { by = suc r.by; thread = r.thread; at = r.at; section = r.section; is_open = r.is_open; held = r.held }
 
-pending_of : (a : Activation) (lock : Lock) (locks : List Lock) → a.pending ≡ locks → first_of locks ≡ Some lock → (rest : List Lock) × (a.pending ≡ lock ∷ rest)
+pending_of : (a : Activation) (lock : Lock) (locks : List Lock) → a.pending ≡ locks → first_of locks ≡ Some lock →
+    (rest : List Lock) × (a.pending ≡ lock ∷ rest)
 pending_of a lock [] e h = absurd cc
 pending_of a lock (l ∷ rest) e h = (let same : l ≡ lock = cc h in (rest, e ∙ ap (λ x. x ∷ rest) same))
 
@@ -190,12 +208,14 @@ wants_of thread lock (Some a) e h =
     let p = pending_of a lock a.pending refl h in record { section = a; is_open = e; rest = p.0; pending = p.1 }
 
 -- by the locks that a section is to be granted
-by_pending : (a : Activation) (locks : List Lock) → a.pending ≡ locks → (a.pending ≡ []) ⊎ ((lock : Lock) × (rest : List Lock) × (a.pending ≡ lock ∷ rest))
+by_pending : (a : Activation) (locks : List Lock) → a.pending ≡ locks →
+    (a.pending ≡ []) ⊎ ((lock : Lock) × (rest : List Lock) × (a.pending ≡ lock ∷ rest))
 by_pending a [] e = inl e
 by_pending a (lock ∷ rest) e = inr (lock, rest, e)
 
 -- of a lock that comes before none that is wanted: nobody holds it, or its holder wants none
-at_top : (plan : Plan) (w : World) → PendingRises plan.ranks w → (r : IsTop plan.ranks w.threads) → Wants r.thread r.lock → (x : Option ℕ) →
+at_top : (plan : Plan) (w : World) → PendingRises plan.ranks w → (r : IsTop plan.ranks w.threads) →
+    Wants r.thread r.lock → (x : Option ℕ) →
     holder w r.lock ≡ x → Goer plan w
 at_top plan w rise r want None free = (
   r.by,
@@ -237,7 +257,8 @@ record HolderAt (n : ℕ) (threads : List ThreadState) (lock : Lock) (h : ℕ) :
   is_open : thread.active ≡ Some section
   held : among section.held lock ≡ true
 
-holder_at : (n : ℕ) (threads : List ThreadState) (lock : Lock) (h : ℕ) → holder_from n threads lock ≡ Some h → HolderAt n threads lock h
+holder_at : (n : ℕ) (threads : List ThreadState) (lock : Lock) (h : ℕ) → holder_from n threads lock ≡ Some h →
+    HolderAt n threads lock h
 holder_at n [] lock h e = absurd cc
 holder_at n (x ∷ xs) lock h e = first (holds lock x) refl e (λ f. holder_at (n + 1) xs lock h f) where
   first : (b : Bool) → holds lock x ≡ b → (if b then Some n else holder_from (n + 1) xs lock) ≡ Some h →

@@ -1,5 +1,6 @@
 -- Each open section keeps the rules of locking.
-use Rattle.std.proofs.Common.{◌≡◌, ℕ, zero, suc, ◌+◌, true, List, [], ◌∷◌, ◌++◌, slice_get, slice_set, Some, None, refl, sym, ap, ◌∙◌, subst, arith, inl, inr}
+use Rattle.std.proofs.Common.{◌≡◌, ℕ, zero, suc, ◌+◌, true, List, [], ◌∷◌, ◌++◌, slice_get, slice_set, Some, None}
+use Rattle.std.proofs.Common.{refl, sym, ap, ◌∙◌, subst, arith, inl, inr}
 use Rattle.std.proofs.lemmas.Bool.{cases_eq}
 use Rattle.std.specs.List.{Contains}
 use Rattle.locks.specs.declared.lock.Lock.{Lock}
@@ -10,7 +11,8 @@ use Rattle.code.specs.Machine.{Effect, Moves, Asks, Finishes, Undefined}
 use Rattle.code.specs.Memory.{HeldCells}
 use Rattle.lowering.specs.Plans.{Plan, IsCompiled}
 use Rattle.worlds.specs.declared.event.Event.{Event}
-use Rattle.worlds.specs.Worlds.{World, ThreadState, Activation, HasOpen, scripts, instructed, next_effect, happens, opening_world}
+use Rattle.worlds.specs.Worlds.{World, ThreadState, Activation, HasOpen, scripts, instructed, next_effect, happens}
+use Rattle.worlds.specs.Worlds.{opening_world}
 use Rattle.worlds.specs.Waiting.{PendingRises}
 use Rattle.worlds.specs.Claims.{KeepsTheRules}
 use Rattle.worlds.specs.Working.States.{IsSound}
@@ -31,7 +33,8 @@ contains_at [] i lock h = absurd cc
 contains_at (l ∷ ls) zero lock h = let e : l ≡ lock = cc in (0, omega arith, e)
 contains_at (l ∷ ls) (suc i) lock h = let c = contains_at ls i lock h in let less = c.1 in (suc c.0, omega (arith, less), c.2)
 
-distinct_push : (locks : List Lock) (next : Lock) → AreDistinct locks → (Contains locks next → ⊥) → AreDistinct (locks ++ next ∷ [])
+distinct_push : (locks : List Lock) (next : Lock) → AreDistinct locks → (Contains locks next → ⊥) →
+    AreDistinct (locks ++ next ∷ [])
 distinct_push locks next apart new i j lock at_i at_j = elim (get_push locks next lock i at_i) [
   | inl old_i ↦ elim (get_push locks next lock j at_j) [
     | inl old_j ↦ apart i j lock old_i old_j
@@ -80,7 +83,8 @@ once_own strict plan w t e after (moves {thread} {a} at none out) rises once b o
     subst (λ (x : Activation). AreDistinct x.held) same
     (subst AreDistinct (sym (instructed_held plan a (next_effect plan a))) (once t a (thread, at.at, at.is)))
 
-pub once_step : PrecedesIsStrict → (plan : Plan) (w : World) (t : ℕ) → PendingRises plan.ranks w → Once w → Once (happens plan w t).1
+pub once_step : PrecedesIsStrict → (plan : Plan) (w : World) (t : ℕ) → PendingRises plan.ranks w → Once w →
+    Once (happens plan w t).1
 unfolding Once
 once_step strict plan w t rises once u b o = elim (cases_eq t u) [
   | inl same ↦ once_own strict plan w t (happens plan w t).0 (happens plan w t).1 (turn plan w t) rises once b
@@ -95,7 +99,8 @@ once_at_first plan t a o =
 
 -- ---- the whole
 
-pub keeps_the_rules : (plan : Plan) (w : World) → IsCompiled plan → IsSound plan w → PendingRises plan.ranks w → Once w →
+pub keeps_the_rules : (plan : Plan) (w : World) → IsCompiled plan → IsSound plan w → PendingRises plan.ranks w →
+    Once w →
     KeepsTheRules plan w
 unfolding Once
 keeps_the_rules plan w ok s rises once = record {

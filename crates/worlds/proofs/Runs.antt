@@ -1,11 +1,13 @@
 -- Each end has its begin, and each entry its end.
-use Rattle.std.proofs.Common.{◌≡◌, ◌⊎◌, ◌<◌, ℕ, zero, suc, ◌+◌, List, [], ◌∷◌, slice_get, Some, None, refl, sym, ap, ◌∙◌, subst, arith, inl, inr}
+use Rattle.std.proofs.Common.{◌≡◌, ◌⊎◌, ◌<◌, ℕ, zero, suc, ◌+◌, List, [], ◌∷◌, slice_get, Some, None, refl, sym, ap}
+use Rattle.std.proofs.Common.{◌∙◌, subst, arith, inl, inr}
 use Rattle.std.proofs.lemmas.Bool.{cases_eq}
 use Rattle.history.specs.Commits.{Commit}
 use Rattle.lowering.specs.Plans.{Plan}
 use Rattle.worlds.specs.declared.event.Event.{Event}
 use Rattle.worlds.specs.declared.event.Event.TheVariants.{Began, Ended}
-use Rattle.worlds.specs.Worlds.{World, Activation, HasOpen, commit, scripts, happens, world_after, events, opening_world}
+use Rattle.worlds.specs.Worlds.{World, Activation, HasOpen, commit, scripts, happens, world_after, events}
+use Rattle.worlds.specs.Worlds.{opening_world}
 use Rattle.worlds.specs.Claims.{IsSectionRun, EndsAreRuns}
 use Rattle.worlds.proofs.Turns.{Turn, idles, starts, gets, waits, over, moves, turn}
 use Rattle.worlds.proofs.Places.{get_set_is, get_push}
@@ -46,7 +48,8 @@ open_before_any plan w u t o = elim (cases_eq u t) [
   )
 ]
 
-ends_open : (plan : Plan) (w : World) (t : ℕ) (e : Event) (after : World) → Turn plan w t e after → (p : ℕ) → e ≡ Ended p → IsOpen w t
+ends_open : (plan : Plan) (w : World) (t : ℕ) (e : Event) (after : World) → Turn plan w t e after → (p : ℕ) →
+    e ≡ Ended p → IsOpen w t
 ends_open plan w t e after idles p h = absurd cc
 ends_open plan w t e after (starts at is call) p h = absurd cc
 ends_open plan w t e after (gets at want free) p h = absurd cc
@@ -55,7 +58,8 @@ ends_open plan w t e after (over {thread} {a} at none out) p h = (a, (thread, at
 ends_open plan w t e after (moves at none out) p h = absurd cc
 
 -- an entry was there, or its thread's section ends with the step
-entry_before : (plan : Plan) (w : World) (t : ℕ) (e : Event) (after : World) → Turn plan w t e after → (p : ℕ) (c : Commit) →
+entry_before : (plan : Plan) (w : World) (t : ℕ) (e : Event) (after : World) → Turn plan w t e after →
+    (p : ℕ) (c : Commit) →
     slice_get after.history p ≡ Some c → (slice_get w.history p ≡ Some c) ⊎ ((t ≡ c.thread) × (e ≡ Ended p))
 entry_before plan w t e after idles p c h = inl h
 entry_before plan w t e after (starts at is call) p c h = inl h
@@ -86,7 +90,8 @@ Begins plan w steps t e =
     (b : ℕ) × (b < e) × (slice_get steps b ≡ Some t) × (slice_get (events plan w steps) b ≡ Some Began)
     × NoneEndsBetween plan w steps t b e
 
-between_later : (plan : Plan) (w : World) (u : ℕ) (us : List ℕ) (t b e : ℕ) → NoneEndsBetween plan (happens plan w u).1 us t b e →
+between_later : (plan : Plan) (w : World) (u : ℕ) (us : List ℕ) (t b e : ℕ) →
+    NoneEndsBetween plan (happens plan w u).1 us t b e →
     NoneEndsBetween plan w (u ∷ us) t (suc b) (suc e)
 between_later plan w u us t b e none zero q l m h g = absurd (omega (arith, l))
 between_later plan w u us t b e none (suc k) q l m h g = none k q (omega (arith, l)) (omega (arith, m)) h g
@@ -96,7 +101,8 @@ between_first : (plan : Plan) (w : World) (u : ℕ) (us : List ℕ) (t e : ℕ) 
 between_first plan w u us t e none zero q l m h g = absurd (omega (arith, l))
 between_first plan w u us t e none (suc k) q l m h g = none k q (omega (arith, m)) h g
 
-none_with : (plan : Plan) (w : World) (u : ℕ) (us : List ℕ) (t e : ℕ) → ((p : ℕ) → u ≡ t → (happens plan w u).0 ≡ Ended p → ⊥) →
+none_with : (plan : Plan) (w : World) (u : ℕ) (us : List ℕ) (t e : ℕ) →
+    ((p : ℕ) → u ≡ t → (happens plan w u).0 ≡ Ended p → ⊥) →
     NoneEnds plan (happens plan w u).1 us t e → NoneEnds plan w (u ∷ us) t (suc e)
 none_with plan w u us t e not none zero q m h g =
     let same : u ≡ t = cc in
@@ -130,7 +136,8 @@ begins_or_open plan w (u ∷ us) t (suc e) p at ended = elim (begins_or_open pla
 ]
 
 -- an entry was there before these steps, or one of them is its end
-entry_or_end : (plan : Plan) (w : World) (steps : List ℕ) (p : ℕ) (c : Commit) → slice_get (world_after plan w steps).history p ≡ Some c →
+entry_or_end : (plan : Plan) (w : World) (steps : List ℕ) (p : ℕ) (c : Commit) →
+    slice_get (world_after plan w steps).history p ≡ Some c →
     (slice_get w.history p ≡ Some c)
     ⊎ ((e : ℕ) × (slice_get steps e ≡ Some c.thread) × (slice_get (events plan w steps) e ≡ Some (Ended p)))
 entry_or_end plan w [] p c h = inl h
@@ -156,7 +163,8 @@ begun_of plan steps t e p at ended = elim (begins_or_open plan (opening_world pl
   | inr x ↦ absurd (none_open plan t x.0)
 ]
 
-end_of : (plan : Plan) (steps : List ℕ) (p : ℕ) (c : Commit) → slice_get (world_after plan (opening_world plan) steps).history p ≡ Some c →
+end_of : (plan : Plan) (steps : List ℕ) (p : ℕ) (c : Commit) →
+    slice_get (world_after plan (opening_world plan) steps).history p ≡ Some c →
     (e : ℕ) × (slice_get steps e ≡ Some c.thread) × (slice_get (events plan (opening_world plan) steps) e ≡ Some (Ended p))
 end_of plan steps p c h = elim (entry_or_end plan (opening_world plan) steps p c h) [
   | inl old ↦ absurd cc

@@ -1,5 +1,7 @@
 -- The history follows the scripts.
-use Rattle.std.proofs.Common.{◌≡◌, ◌<◌, ◌==◌, ℕ, zero, suc, ◌+◌, Bool, true, false, if◌then◌else◌, List, [], ◌∷◌, ◌++◌, length, map, take, set, slice_get, Option, Some, None, refl, sym, ap, ◌∙◌, arith, inl, inr}
+use Rattle.std.proofs.Common.{◌≡◌, ◌<◌, ◌==◌, ℕ, zero, suc, ◌+◌, Bool, true, false, if◌then◌else◌, List, [], ◌∷◌}
+use Rattle.std.proofs.Common.{◌++◌, length, map, take, set, slice_get, Option, Some, None, refl, sym, ap, ◌∙◌, arith}
+use Rattle.std.proofs.Common.{inl, inr}
 use Rattle.std.proofs.lemmas.List.{length-map, length-set}
 use Rattle.std.proofs.lemmas.Bool.{cases_eq, cond-true, cond-false, eq-eqb, ne_eqb}
 use Rattle.std.proofs.lemmas.Option.{slice_get_within}
@@ -9,14 +11,16 @@ use Rattle.lowering.specs.Plans.{Plan}
 use Rattle.code.specs.Machine.{Effect, Moves, Asks, Finishes, Undefined}
 use Rattle.code.specs.Memory.{HeldCells}
 use Rattle.worlds.specs.declared.event.Event.{Event}
-use Rattle.worlds.specs.Worlds.{World, ThreadState, Activation, scripts, call_at, at_first, instructed, next_effect, commit, happens, world_after, opening_world, final}
+use Rattle.worlds.specs.Worlds.{World, ThreadState, Activation, scripts, call_at, at_first, instructed, next_effect}
+use Rattle.worlds.specs.Worlds.{commit, happens, world_after, opening_world, final}
 use Rattle.worlds.specs.Claims.{calls_by, numbered, FollowsScripts}
 use Rattle.worlds.proofs.Places.{get_set_other, get_set_is, get_push}
 use Rattle.worlds.proofs.Turns.{Turn, idles, starts, gets, waits, over, moves, turn}
 
 -- ---- lists of calls
 
-calls_push_same : (t : ℕ) (h : List Commit) (c : Commit) → c.thread ≡ t → calls_by t (h ++ c ∷ []) ≡ calls_by t h ++ script_call c ∷ []
+calls_push_same : (t : ℕ) (h : List Commit) (c : Commit) → c.thread ≡ t →
+    calls_by t (h ++ c ∷ []) ≡ calls_by t h ++ script_call c ∷ []
 calls_push_same t [] c e = cond-true (c.thread == t) (script_call c ∷ []) [] (eq-eqb c.thread t e)
 calls_push_same t (x ∷ h) c e =
     by_thread (x.thread == t) (script_call x) (calls_push_same t h c e) where
@@ -55,7 +59,8 @@ call_is plan t k call x e h script is =
 -- ---- steps
 
 -- a thread's section changes, and is the next call
-same_step : (plan : Plan) (w : World) (t : ℕ) (thread : ThreadState) (a : Activation) → slice_get w.threads t ≡ Some thread → FollowsScripts plan w →
+same_step : (plan : Plan) (w : World) (t : ℕ) (thread : ThreadState) (a : Activation) →
+    slice_get w.threads t ≡ Some thread → FollowsScripts plan w →
     call_at plan t thread.step ≡ Some a.call → (after : World) → after.history ≡ w.history →
     after.threads ≡ set w.threads t (record { step = thread.step; active = Some a }) → FollowsScripts plan after
 same_step plan w t thread a at f call after h ts = record {
@@ -87,7 +92,8 @@ instructed_call plan a (Asks point) = refl
 instructed_call plan a (Finishes outcome) = refl
 instructed_call plan a Undefined = refl
 
-turn_follows : (plan : Plan) (w : World) (t : ℕ) (e : Event) (after : World) → Turn plan w t e after → FollowsScripts plan w → FollowsScripts plan after
+turn_follows : (plan : Plan) (w : World) (t : ℕ) (e : Event) (after : World) → Turn plan w t e after →
+    FollowsScripts plan w → FollowsScripts plan after
 turn_follows plan w t e after idles f = f
 turn_follows plan w t e after (starts {thread} at is call) f = same_step plan w t thread _ at f call _ refl refl
 turn_follows plan w t e after (gets {thread} {a} at want free) f = same_step plan w t thread _ at.at f (f.next_call t thread a at.at at.is) _ refl refl
@@ -129,7 +135,8 @@ turn_follows plan w t e after (over {thread} {a} {outcome} at none out) f =
 
 -- ---- runs
 
-pub at_first_is : (ss : List (List Invocation)) (t : ℕ) (thread : ThreadState) → slice_get (map at_first ss) t ≡ Some thread →
+pub at_first_is : (ss : List (List Invocation)) (t : ℕ) (thread : ThreadState) →
+    slice_get (map at_first ss) t ≡ Some thread →
     thread ≡ record { step = 0; active = None }
 at_first_is [] t thread h = absurd cc
 at_first_is (s ∷ ss) zero thread h = cc
@@ -143,7 +150,8 @@ opening_follows plan = record {
   all_threads = length-map (scripts plan) at_first;
 }
 
-follows_after : (plan : Plan) (w : World) (steps : List ℕ) → FollowsScripts plan w → FollowsScripts plan (world_after plan w steps)
+follows_after : (plan : Plan) (w : World) (steps : List ℕ) → FollowsScripts plan w →
+    FollowsScripts plan (world_after plan w steps)
 follows_after plan w [] f = f
 follows_after plan w (t ∷ ts) f =
     follows_after plan (happens plan w t).1 ts (turn_follows plan w t (happens plan w t).0 (happens plan w t).1 (turn plan w t) f)

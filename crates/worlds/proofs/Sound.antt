@@ -1,5 +1,6 @@
 -- What a change of one thread needs to keep a world sound.
-use Rattle.std.proofs.Common.{◌≡◌, ◌⊎◌, ℕ, true, List, length, Option, Some, None, slice_get, set, sym, ap, ◌∙◌, inl, inr}
+use Rattle.std.proofs.Common.{◌≡◌, ◌⊎◌, ℕ, true, List, length, Option, Some, None, slice_get, set, sym, ap, ◌∙◌, inl}
+use Rattle.std.proofs.Common.{inr}
 use Rattle.std.proofs.lemmas.Bool.{cases_eq}
 use Rattle.core_lang.specs.declared.value.Value.{Value}
 use Rattle.locks.specs.declared.lock.Lock.{Lock}
@@ -32,9 +33,12 @@ pub record Changes (plan : Plan) (w : World) (t : ℕ) (thread : ThreadState) (c
   pub legal : IsLegal plan.layout.opening history
   pub true_commits : AreTrue plan.program history
   pub size : length cells ≡ length plan.layout.opening
-  pub values : (c : ℕ) (v : Value) → slice_get cells c ≡ Some (Some v) → slice_get (committed plan.layout.opening history) c ≡ Some v
-  pub others : (u : ℕ) (b : Activation) → (t ≡ u → ⊥) → HasOpen w u b → IsFit cells (committed plan.layout.opening history) b
-  pub mine : (a : Activation) → thread.active ≡ Some a → IsWell plan a × IsFit cells (committed plan.layout.opening history) a
+  pub values : (c : ℕ) (v : Value) → slice_get cells c ≡ Some (Some v) →
+      slice_get (committed plan.layout.opening history) c ≡ Some v
+  pub others : (u : ℕ) (b : Activation) → (t ≡ u → ⊥) → HasOpen w u b →
+      IsFit cells (committed plan.layout.opening history) b
+  pub mine : (a : Activation) → thread.active ≡ Some a →
+      IsWell plan a × IsFit cells (committed plan.layout.opening history) a
   pub apart : (u : ℕ) (a b : Activation) (lock : Lock) → (t ≡ u → ⊥) → thread.active ≡ Some a → HasOpen w u b →
       among a.held lock ≡ true → among b.held lock ≡ true → ⊥
   pub somewhere : (c : ℕ) → slice_get cells c ≡ Some None → ElsewhereHeld w t c ⊎ HoldsHere thread c

@@ -1,5 +1,7 @@
 -- Each step keeps a world sound.
-use Rattle.std.proofs.Common.{◌≡◌, ◌⊎◌, ◌<◌, ℕ, zero, suc, ◌+◌, Bool, true, false, if◌then◌else◌, List, [], ◌∷◌, ◌++◌, length, map, Option, Some, None, slice_get, refl, sym, ap, ◌∙◌, subst, arith, inl, inr, true≢false}
+use Rattle.std.proofs.Common.{◌≡◌, ◌⊎◌, ◌<◌, ℕ, zero, suc, ◌+◌, Bool, true, false, if◌then◌else◌, List, [], ◌∷◌, ◌++◌}
+use Rattle.std.proofs.Common.{length, map, Option, Some, None, slice_get, refl, sym, ap, ◌∙◌, subst, arith, inl, inr}
+use Rattle.std.proofs.Common.{true≢false}
 use Rattle.std.proofs.lemmas.List.{length-map}
 use Rattle.std.proofs.lemmas.Bool.{cases_eq}
 use Rattle.std.proofs.lemmas.Option.{slice_get_within}
@@ -18,13 +20,19 @@ use Rattle.history.specs.Commits.{committed}
 use Rattle.lowering.specs.Plans.{Plan, IsCompiled}
 use Rattle.worlds.specs.declared.event.Event.{Event}
 use Rattle.locks.specs.Locks.{among}
-use Rattle.worlds.specs.Worlds.{World, ThreadState, Activation, activation, commit, granted, taken, without, with_back, holds, holder_from, holder, instructed, next_effect, script_of, scripts, call_at, section_at, at_first, happens, opening_world, HasOpen}
+use Rattle.worlds.specs.Worlds.{World, ThreadState, Activation, activation, commit, granted, taken, without}
+use Rattle.worlds.specs.Worlds.{with_back, holds, holder_from, holder, instructed, next_effect, script_of, scripts}
+use Rattle.worlds.specs.Worlds.{call_at, section_at, at_first, happens, opening_world, HasOpen}
 use Rattle.worlds.specs.Working.States.{IsWell, IsFit, IsSound}
 use Rattle.worlds.specs.Claims.{HoldsCell}
 use Rattle.worlds.proofs.Turns.{Active, Turn, idles, starts, gets, waits, over, moves, turn}
-use Rattle.worlds.proofs.Cells.{among_more, among_last, among_push, cells_of_has, cells_of_only, taken_only, taken_has, some_or_none, length-without, without_some, without_none, without_none_cases, length-with_back, back_other, back_some, back_none, overwritten_cong, agrees_kept}
+use Rattle.worlds.proofs.Cells.{among_more, among_last, among_push, cells_of_has, cells_of_only, taken_only}
+use Rattle.worlds.proofs.Cells.{taken_has, some_or_none, length-without, without_some, without_none}
+use Rattle.worlds.proofs.Cells.{without_none_cases, length-with_back, back_other, back_some, back_none}
+use Rattle.worlds.proofs.Cells.{overwritten_cong, agrees_kept}
 use Rattle.worlds.proofs.Sound.{ElsewhereHeld, changed, sound_changed}
-use Rattle.worlds.proofs.Well.{Laws, cells_are, well_instructed, Alike, alike_instructed, well_asked, well_begun, unwritten_of, well_granted, fit_granted, true_commit}
+use Rattle.worlds.proofs.Well.{Laws, cells_are, well_instructed, Alike, alike_instructed, well_asked, well_begun}
+use Rattle.worlds.proofs.Well.{unwritten_of, well_granted, fit_granted, true_commit}
 
 -- ---- what a program's script calls
 
@@ -39,7 +47,8 @@ pub can_call : (program : Typed) (k : ℕ) (arguments : List Value) → CanCall 
 unfolding CanCall
 can_call program k arguments c = c
 
-pub section_of_call : (plan : Plan) → IsWellFormed plan.program → (t step : ℕ) (call : Invocation) → call_at plan t step ≡ Some call →
+pub section_of_call : (plan : Plan) → IsWellFormed plan.program → (t step : ℕ) (call : Invocation) →
+    call_at plan t step ≡ Some call →
     (section : Section) × (section_at plan call.section ≡ Some section) × Fit plan.program section call.arguments
 section_of_call plan well t step call h = elim (some_or_none (slice_get (scripts plan) t)) [
   | inl s ↦ (let inside : slice_get s.0 step ≡ Some call =
@@ -57,7 +66,8 @@ section_of_call plan well t step call h = elim (some_or_none (slice_get (scripts
 
 -- ---- who holds a lock
 
-nobody : (n : ℕ) (threads : List ThreadState) (lock : Lock) → holder_from n threads lock ≡ None → (t : ℕ) (thread : ThreadState) (a : Activation) →
+nobody : (n : ℕ) (threads : List ThreadState) (lock : Lock) → holder_from n threads lock ≡ None →
+    (t : ℕ) (thread : ThreadState) (a : Activation) →
     slice_get threads t ≡ Some thread → thread.active ≡ Some a → among a.held lock ≡ true → ⊥
 nobody n [] lock e t thread a at is held = cc
 nobody n (x ∷ xs) lock e t thread a at is held =
@@ -81,7 +91,8 @@ same_open w t thread a b at o =
     cc e
 
 -- of what holds a cell: another thread, or this thread's section
-held_cases : (plan : Plan) (w : World) (t : ℕ) (thread : ThreadState) (a : Activation) → IsSound plan w → Active w t thread a → (c : ℕ) →
+held_cases : (plan : Plan) (w : World) (t : ℕ) (thread : ThreadState) (a : Activation) → IsSound plan w →
+    Active w t thread a → (c : ℕ) →
     slice_get w.cells c ≡ Some None → ElsewhereHeld w t c ⊎ HoldsCell a c
 held_cases plan w t thread a s at c none =
     let found = s.somewhere c none in
@@ -94,7 +105,8 @@ held_cases plan w t thread a s at c none =
 -- ---- the steps
 
 -- a thread's section changes, but not what it holds
-keeps_cells : (plan : Plan) (w : World) (t : ℕ) (thread : ThreadState) (a b : Activation) → IsSound plan w → Active w t thread a → IsWell plan b →
+keeps_cells : (plan : Plan) (w : World) (t : ℕ) (thread : ThreadState) (a b : Activation) → IsSound plan w →
+    Active w t thread a → IsWell plan b →
     Alike (committed plan.layout.opening w.history) a b →
     IsSound plan (changed w t (record { step = thread.step; active = Some b }) w.cells w.history)
 keeps_cells plan w t thread a b s at well like =
@@ -119,7 +131,8 @@ keeps_cells plan w t thread a b s at well like =
       ];
     })
 
-sound_starts : (plan : Plan) (w : World) (t : ℕ) (thread : ThreadState) (call : Invocation) → IsCompiled plan → IsSound plan w →
+sound_starts : (plan : Plan) (w : World) (t : ℕ) (thread : ThreadState) (call : Invocation) → IsCompiled plan →
+    IsSound plan w →
     slice_get w.threads t ≡ Some thread → thread.active ≡ None → call_at plan t thread.step ≡ Some call →
     IsSound plan (changed w t (record { step = thread.step; active = Some (activation plan (length w.history) call) }) w.cells w.history)
 sound_starts plan w t thread call ok s at none called =
@@ -152,7 +165,8 @@ sound_starts plan w t thread call ok s at none called =
     })
 
 -- the cells of a lock that nobody holds are there
-free_cells : (plan : Plan) → IsCompiled plan → (w : World) → IsSound plan w → (lock : Lock) → holder w lock ≡ None → (c : ℕ) →
+free_cells : (plan : Plan) → IsCompiled plan → (w : World) → IsSound plan w → (lock : Lock) → holder w lock ≡ None →
+    (c : ℕ) →
     slice_get plan.layout.cell_locks c ≡ Some lock → (v : Value) × (slice_get w.cells c ≡ Some (Some v))
 free_cells plan ok w s lock free c is =
     elim (some_or_none (slice_get w.cells c)) [
@@ -173,7 +187,9 @@ free_cells plan ok w s lock free c is =
       missing (x ∷ xs) zero less e = cc e
       missing (x ∷ xs) (suc c) less e = missing xs c (omega (arith, less)) e
 
-sound_gets : Laws → (plan : Plan) (w : World) (t : ℕ) (thread : ThreadState) (a : Activation) (lock : Lock) (rest : List Lock) → IsCompiled plan →
+sound_gets : Laws →
+    (plan : Plan) (w : World) (t : ℕ) (thread : ThreadState) (a : Activation) (lock : Lock) (rest : List Lock) →
+    IsCompiled plan →
     IsSound plan w → Active w t thread a → holder w lock ≡ None →
     IsSound plan (changed w t (record { step = thread.step; active = Some (granted a lock rest (taken w.cells (cells_of plan.layout.cell_locks lock))) })
     (without w.cells (cells_of plan.layout.cell_locks lock)) w.history)
@@ -220,7 +236,8 @@ sound_gets laws plan w t thread a lock rest ok s at free =
       more : (xs : List Lock) (k l : Lock) → among xs l ≡ true → among (xs ++ k ∷ []) l ≡ true
       more xs k l h = among_more xs (k ∷ []) l h
 
-sound_ends : Laws → (plan : Plan) (w : World) (t : ℕ) (thread : ThreadState) (a : Activation) (outcome : Outcome) → IsCompiled plan →
+sound_ends : Laws → (plan : Plan) (w : World) (t : ℕ) (thread : ThreadState) (a : Activation) (outcome : Outcome) →
+    IsCompiled plan →
     IsSound plan w → Active w t thread a → a.outcome ≡ Some outcome →
     IsSound plan (changed w t (record { step = thread.step + 1; active = None }) (with_back w.cells a.machine.memory.cells)
     (w.history ++ commit t thread.step a outcome ∷ []))
@@ -275,13 +292,15 @@ sound_ends laws plan w t thread a outcome ok s at out =
           ]);
     }) where
       -- what was read is held
-      read_held : (x : Activation) → IsWell plan x → (cell : ℕ) (v : Value) → value_at x.machine.memory.reads cell ≡ Some v → HoldsCell x cell
+      read_held : (x : Activation) → IsWell plan x → (cell : ℕ) (v : Value) →
+          value_at x.machine.memory.reads cell ≡ Some v → HoldsCell x cell
       read_held x well cell v h = elim (some_or_none (value_at x.machine.memory.writes cell)) [
         | inl y ↦ (y.0, well.consistent.written cell y.0 y.1)
         | inr n ↦ (v, well.consistent.read cell v n h)
       ]
 
-turn_sound : Laws → (plan : Plan) (w : World) (t : ℕ) (e : Event) (after : World) → IsCompiled plan → IsSound plan w → Turn plan w t e after → IsSound plan after
+turn_sound : Laws → (plan : Plan) (w : World) (t : ℕ) (e : Event) (after : World) → IsCompiled plan → IsSound plan w →
+    Turn plan w t e after → IsSound plan after
 turn_sound laws plan w t e after ok s idles = s
 turn_sound laws plan w t e after ok s (starts {thread} {call} at none called) = sound_starts plan w t thread call ok s at none called
 turn_sound laws plan w t e after ok s (gets {thread} {a} {lock} {rest} at want free) = sound_gets laws plan w t thread a lock rest ok s at free
@@ -294,12 +313,14 @@ turn_sound laws plan w t e after ok s (moves {thread} {a} at none out) =
     (well_instructed laws plan ok a (s.well t a (thread, at.at, at.is)) out (next_effect plan a) refl)
     (alike_instructed laws plan a (committed plan.layout.opening w.history) (next_effect plan a) refl)
 
-pub sound_step : Laws → (plan : Plan) (w : World) (t : ℕ) → IsCompiled plan → IsSound plan w → IsSound plan (happens plan w t).1
+pub sound_step : Laws → (plan : Plan) (w : World) (t : ℕ) → IsCompiled plan → IsSound plan w →
+    IsSound plan (happens plan w t).1
 sound_step laws plan w t ok s = turn_sound laws plan w t (happens plan w t).0 (happens plan w t).1 ok s (turn plan w t)
 
 -- ---- before any step
 
-opening_values : (xs : List Value) (c : ℕ) (v : Value) → slice_get (map (λ (v : Value). Some v) xs) c ≡ Some (Some v) → slice_get xs c ≡ Some v
+opening_values : (xs : List Value) (c : ℕ) (v : Value) →
+    slice_get (map (λ (v : Value). Some v) xs) c ≡ Some (Some v) → slice_get xs c ≡ Some v
 opening_values [] c v h = absurd cc
 opening_values (x ∷ xs) zero v h = cc
 opening_values (x ∷ xs) (suc c) v h = opening_values xs c v h
@@ -309,7 +330,8 @@ opening_there [] c h = cc
 opening_there (x ∷ xs) zero h = cc
 opening_there (x ∷ xs) (suc c) h = opening_there xs c h
 
-pub none_open : (ss : List (List Invocation)) (t : ℕ) (thread : ThreadState) (a : Activation) → slice_get (map at_first ss) t ≡ Some thread →
+pub none_open : (ss : List (List Invocation)) (t : ℕ) (thread : ThreadState) (a : Activation) →
+    slice_get (map at_first ss) t ≡ Some thread →
     thread.active ≡ Some a → ⊥
 none_open ss t thread a at is =
     let x = got_map at_first ss t thread at in

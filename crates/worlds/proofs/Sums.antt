@@ -1,5 +1,6 @@
 -- Locks that paths name, each its own, have no more cells together than the paths may name.
-use Rattle.std.proofs.Common.{◌≡◌, ℕ, zero, suc, ◌+◌, ◌≤◌, max, Bool, true, false, List, [], ◌∷◌, length, map, set, Option, Some, None, refl, sym, ap, ◌∙◌, subst, arith}
+use Rattle.std.proofs.Common.{◌≡◌, ℕ, zero, suc, ◌+◌, ◌≤◌, max, Bool, true, false, List, [], ◌∷◌, length, map, set}
+use Rattle.std.proofs.Common.{Option, Some, None, refl, sym, ap, ◌∙◌, subst, arith}
 use Rattle.std.specs.Prelude.{◌≢◌, ◌==◌, slice_get, if◌then◌else◌}
 use Rattle.std.specs.Option.{option_map}
 use Rattle.std.specs.List.{AllPairs, Contains, sum_by}
@@ -47,7 +48,8 @@ module _ {X : Type 0} (weight : X → ℕ) (HasNumber : ℕ → X → Type 0) (o
     pub at : slice_get ns number ≡ Some most
     pub less : weight x ≤ most
 
-  all_weigh : (xs : List X) (ns : List ℕ) → AllPairs ◌≢◌ xs → ((x : X) → Contains xs x → HasPlace ns x) → total (map weight xs) ≤ total ns
+  all_weigh : (xs : List X) (ns : List ℕ) → AllPairs ◌≢◌ xs → ((x : X) → Contains xs x → HasPlace ns x) →
+      total (map weight xs) ≤ total ns
   all_weigh [] ns d each = omega arith
   all_weigh (x ∷ xs) ns d each =
       let first = each x (in_first x xs) in
@@ -66,7 +68,8 @@ module _ {X : Type 0} (weight : X → ℕ) (HasNumber : ℕ → X → Type 0) (o
       let least = first.less in
       omega (arith, rest, whole, least)
 
-  pub sum_fits : {Y : Type 0} (xs : List X) (f : Y → ℕ) (ys : List Y) → AllPairs ◌≢◌ xs → ((x : X) → Contains xs x → HasPlace (map f ys) x) →
+  pub sum_fits : {Y : Type 0} (xs : List X) (f : Y → ℕ) (ys : List Y) → AllPairs ◌≢◌ xs →
+      ((x : X) → Contains xs x → HasPlace (map f ys) x) →
       sum_by weight xs ≤ sum_by f ys
   sum_fits xs f ys d each =
       let all = all_weigh xs (map f ys) d each in
@@ -74,7 +77,8 @@ module _ {X : Type 0} (weight : X → ℕ) (HasNumber : ℕ → X → Type 0) (o
       let right = total_is f ys in
       omega (arith, all, left, right)
 
-pub mapped_at : {X Y : Type 0} (f : X → Y) (xs : List X) (i : ℕ) (x : X) → slice_get xs i ≡ Some x → slice_get (map f xs) i ≡ Some (f x)
+pub mapped_at : {X Y : Type 0} (f : X → Y) (xs : List X) (i : ℕ) (x : X) → slice_get xs i ≡ Some x →
+    slice_get (map f xs) i ≡ Some (f x)
 mapped_at f [] i x e = absurd (none-some x e)
 mapped_at f (y ∷ ys) zero x e = let same : y ≡ x = cc e in ap (λ z. Some (f z)) same
 mapped_at f (y ∷ ys) (suc i) x e = mapped_at f ys i x e
@@ -104,7 +108,8 @@ within_most cells (l ∷ locks) lock class (suc i, lt, e) same =
 
 -- ---- the class of the lock that a path names
 
-of_object : (number : ℕ) (o : Option ℕ) (l : Lock) → option_map (λ object. record { class = number; object = object }) o ≡ Some l → l.class ≡ number
+of_object : (number : ℕ) (o : Option ℕ) (l : Lock) →
+    option_map (λ object. record { class = number; object = object }) o ≡ Some l → l.class ≡ number
 of_object number None l e = absurd (none-some l e)
 of_object number (Some object) l e =
     ap (λ (x : Lock). x.class) (sym (same_Some (record { class = number; object = object }) l e))
@@ -114,5 +119,6 @@ of_root : (root : Root) (finals : List ℕ) (number : ℕ) (shape : Shape) (loca
 of_root GlobalLock finals number shape locals l e = ap (λ (x : Lock). x.class) (sym (same_Some (global_lock number) l e))
 of_root (AtLocal k) finals number shape locals l e = of_object number (object_at shape locals k finals) l e
 
-pub named_class : (path : LockPath) (shape : Shape) (locals : List Value) (l : Lock) → lock_named path shape locals ≡ Some l → l.class ≡ path.class
+pub named_class : (path : LockPath) (shape : Shape) (locals : List Value) (l : Lock) →
+    lock_named path shape locals ≡ Some l → l.class ≡ path.class
 named_class path shape locals l e = of_root path.root path.finals path.class shape locals l e

@@ -6,7 +6,8 @@ use Rattle.locks.specs.declared.lock.Lock.{Lock}
 use Rattle.lowering.specs.Plans.{Plan}
 use Rattle.worlds.specs.declared.event.Event.{Event}
 use Rattle.worlds.specs.declared.event.Event.TheVariants.{Idle, Began, Got, Waits, Moved, Ended}
-use Rattle.worlds.specs.Worlds.{World, ThreadState, Activation, activation, with_active, holder, asks, ends, instructed, next_effect, begins, goes_on, steps_with, thread_steps, happens, call_at}
+use Rattle.worlds.specs.Worlds.{World, ThreadState, Activation, activation, with_active, holder, asks, ends}
+use Rattle.worlds.specs.Worlds.{instructed, next_effect, begins, goes_on, steps_with, thread_steps, happens, call_at}
 
 -- the thread has this section open
 pub record Active (w : World) (t : ℕ) (thread : ThreadState) (a : Activation) : Type 0 where

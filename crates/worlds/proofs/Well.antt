@@ -1,5 +1,6 @@
 -- What an open section carries by itself stays true along its own steps.
-use Rattle.std.proofs.Common.{◌≡◌, ◌<◌, ℕ, zero, suc, true, List, [], ◌∷◌, length, map, Option, Some, None, slice_get, refl, sym, ap, ◌∙◌, arith, inl, inr, true≢false}
+use Rattle.std.proofs.Common.{◌≡◌, ◌<◌, ℕ, zero, suc, true, List, [], ◌∷◌, length, map, Option, Some, None, slice_get}
+use Rattle.std.proofs.Common.{refl, sym, ap, ◌∙◌, arith, inl, inr, true≢false}
 use Rattle.std.proofs.lemmas.List.{length-map}
 use Rattle.std.proofs.Common.{nat_eq}
 use Rattle.std.proofs.lemmas.Bool.{cases_eq, cond-true, cond-false, eq-eqb, ne_eqb}
@@ -15,7 +16,8 @@ use Rattle.core_lang.specs.Whole.{opening}
 use Rattle.locks.specs.declared.lock.Lock.{Lock}
 use Rattle.layout.specs.LockCells.{cells_of}
 use Rattle.code.specs.Machine.{Effect, Moves, Asks, Finishes, Undefined, At, Halted, act, passed, exec, proceed}
-use Rattle.code.specs.Memory.{HeldCells, value_at, load_from, store_to, overwritten, Agrees, IsCovered, IsConsistent, IsPartOf}
+use Rattle.code.specs.Memory.{HeldCells, value_at, load_from, store_to, overwritten, Agrees, IsCovered, IsConsistent}
+use Rattle.code.specs.Memory.{IsPartOf}
 use Rattle.code.specs.Alone.{alone, starting}
 use Rattle.code.specs.Lowering.{section_code}
 use Rattle.code.specs.Working.Laws.{KeepsHeld, MovesAlike, AsksAlike, FinishesAlike, KeepsUnwritten, on_heap}
@@ -24,11 +26,13 @@ use Rattle.history.specs.Working.Laws.{CommittedOfOneMore, LegalOfOneMore, TrueO
 use Rattle.history.specs.Commits.{IsTrueCommit}
 use Rattle.lowering.specs.Lowered.{lists_at}
 use Rattle.lowering.specs.Plans.{Plan, IsCompiled}
-use Rattle.worlds.specs.Worlds.{Activation, activation, commit, granted, taken, section_at, code_at, locals_at, instructed, next_effect}
+use Rattle.worlds.specs.Worlds.{Activation, activation, commit, granted, taken, section_at, code_at, locals_at}
+use Rattle.worlds.specs.Worlds.{instructed, next_effect}
 use Rattle.worlds.specs.Working.States.{standing, IsWell, IsFit}
 use Rattle.worlds.specs.Claims.{HoldsCell}
 use Rattle.worlds.proofs.Alone.{one_more}
-use Rattle.worlds.proofs.Cells.{among_more, among_last, among_push, value_more, value_behind, value_cases, some_or_none, taken_only, without_none, without_away}
+use Rattle.worlds.proofs.Cells.{among_more, among_last, among_push, value_more, value_behind, value_cases}
+use Rattle.worlds.proofs.Cells.{some_or_none, taken_only, without_none, without_away}
 use Rattle.worlds.specs.Worlds.{without}
 
 -- the laws that this stands on
@@ -55,7 +59,8 @@ key_of : ℕ × Value → ℕ
 key_of x = x.0
 
 -- of lists with the same cells each has a value where the other has
-same_keys : (xs ys : List (ℕ × Value)) → map (λ (x : ℕ × Value). x.0) ys ≡ map (λ (x : ℕ × Value). x.0) xs → (c : ℕ) (v : Value) →
+same_keys : (xs ys : List (ℕ × Value)) → map (λ (x : ℕ × Value). x.0) ys ≡ map (λ (x : ℕ × Value). x.0) xs →
+    (c : ℕ) (v : Value) →
     value_at ys c ≡ Some v → (u : Value) × (value_at xs c ≡ Some u)
 same_keys xs [] e c v h = absurd cc
 same_keys [] (y ∷ ys) e c v h = absurd cc
@@ -73,7 +78,8 @@ same_keys (x ∷ xs) (y ∷ ys) e c v h =
 
 -- ---- an instruction
 
-covered : (plan : Plan) → IsCompiled plan → (a : Activation) → IsWell plan a → (heap : List Value) → length heap ≡ length plan.layout.opening →
+covered : (plan : Plan) → IsCompiled plan → (a : Activation) → IsWell plan a → (heap : List Value) →
+    length heap ≡ length plan.layout.opening →
     IsCovered a.machine.memory.cells heap
 covered plan ok a w heap n cell v h =
     let lock = w.only cell (v, h) in
@@ -82,13 +88,15 @@ covered plan ok a w heap n cell v h =
     omega (arith, less, same, n)
 
 -- where the section stands, alone
-there : (plan : Plan) (a : Activation) (w : IsWell plan a) (heap : List Value) → a.outcome ≡ None → length heap ≡ length plan.layout.opening →
+there : (plan : Plan) (a : Activation) (w : IsWell plan a) (heap : List Value) → a.outcome ≡ None →
+    length heap ≡ length plan.layout.opening →
     Agrees heap a.machine.memory.reads →
     alone plan.program.shape (code_at plan a.call.section) w.count (locals_at plan a.call) heap ≡ At (on_heap heap a.machine)
 there plan a w heap none n agree = w.truth heap n agree ∙ ap (λ x. standing x (on_heap heap a.machine)) none
 
 -- one instruction more, by what it does
-further : (plan : Plan) (a : Activation) (w : IsWell plan a) (heap : List Value) → a.outcome ≡ None → length heap ≡ length plan.layout.opening →
+further : (plan : Plan) (a : Activation) (w : IsWell plan a) (heap : List Value) → a.outcome ≡ None →
+    length heap ≡ length plan.layout.opening →
     Agrees heap a.machine.memory.reads → (x : Effect (List Value)) →
     act load_from store_to plan.program.shape (slice_get (code_at plan a.call.section) a.machine.place) (on_heap heap a.machine) ≡ x →
     alone plan.program.shape (code_at plan a.call.section) (suc w.count) (locals_at plan a.call) heap
@@ -99,7 +107,8 @@ further plan a w heap none n agree x is =
     one_more load_from store_to shape code w.count (starting (locals_at plan a.call) heap) (on_heap heap a.machine) (there plan a w heap none n agree)
     ∙ ap (λ y. proceed load_from store_to shape (on_heap heap a.machine) y (exec load_from store_to shape code zero)) is
 
-pub well_instructed : Laws → (plan : Plan) → IsCompiled plan → (a : Activation) → IsWell plan a → a.outcome ≡ None → (x : Effect HeldCells) →
+pub well_instructed : Laws → (plan : Plan) → IsCompiled plan → (a : Activation) → IsWell plan a → a.outcome ≡ None →
+    (x : Effect HeldCells) →
     next_effect plan a ≡ x → IsWell plan (instructed plan a x)
 well_instructed laws plan ok a w none (Moves m) is =
     let k = laws.keeps plan.program.shape (slice_get (code_at plan a.call.section) a.machine.place) a.machine m is in
@@ -148,7 +157,8 @@ pub record Alike (heap : List Value) (a b : Activation) : Type 0 where
   pub before : (cell : ℕ) → HoldsCell b cell → HoldsCell a cell
   pub part : IsPartOf heap a.machine.memory → IsPartOf heap b.machine.memory
 
-pub alike_instructed : Laws → (plan : Plan) (a : Activation) (heap : List Value) (x : Effect HeldCells) → next_effect plan a ≡ x →
+pub alike_instructed : Laws → (plan : Plan) (a : Activation) (heap : List Value) (x : Effect HeldCells) →
+    next_effect plan a ≡ x →
     Alike heap a (instructed plan a x)
 alike_instructed laws plan a heap (Moves m) is =
     let k = laws.keeps plan.program.shape (slice_get (code_at plan a.call.section) a.machine.place) a.machine m is in
@@ -175,7 +185,8 @@ well_asked plan a w = record {
   truth = w.truth;
 }
 
-pub well_begun : (plan : Plan) (n : ℕ) (call : Invocation) (section : Section) → section_at plan call.section ≡ Some section →
+pub well_begun : (plan : Plan) (n : ℕ) (call : Invocation) (section : Section) →
+    section_at plan call.section ≡ Some section →
     IsWell plan (activation plan n call)
 well_begun plan n call section is = record {
   section = section;
@@ -189,13 +200,15 @@ well_begun plan n call section is = record {
 
 -- ---- a lock that is granted
 
-pub unwritten_of : (a : Activation) → IsConsistent a.machine.memory → (cell : ℕ) → (HoldsCell a cell → ⊥) → value_at a.machine.memory.writes cell ≡ None
+pub unwritten_of : (a : Activation) → IsConsistent a.machine.memory → (cell : ℕ) → (HoldsCell a cell → ⊥) →
+    value_at a.machine.memory.writes cell ≡ None
 unwritten_of a ok cell not = elim (some_or_none (value_at a.machine.memory.writes cell)) [
   | inl s ↦ absurd (not (s.0, ok.written cell s.0 s.1))
   | inr n ↦ n
 ]
 
-pub well_granted : (plan : Plan) (a : Activation) (lock : Lock) (rest : List Lock) (more : List (ℕ × Value)) → IsWell plan a →
+pub well_granted : (plan : Plan) (a : Activation) (lock : Lock) (rest : List Lock) (more : List (ℕ × Value)) →
+    IsWell plan a →
     ((cell : ℕ) (v : Value) → value_at more cell ≡ Some v → slice_get plan.layout.cell_locks cell ≡ Some lock) →
     ((cell : ℕ) → slice_get plan.layout.cell_locks cell ≡ Some lock → (v : Value) × (value_at more cell ≡ Some v)) →
     IsWell plan (granted a lock rest more)
@@ -226,7 +239,8 @@ well_granted plan a lock rest more w only has =
       truth = w.truth;
     }
 
-pub fit_granted : Laws → (plan : Plan) (a : Activation) (lock : Lock) (rest : List Lock) (cells : List (Option Value)) (heap : List Value) →
+pub fit_granted : Laws →
+    (plan : Plan) (a : Activation) (lock : Lock) (rest : List Lock) (cells : List (Option Value)) (heap : List Value) →
     IsWell plan a → IsFit cells heap a → ((c : ℕ) (v : Value) → slice_get cells c ≡ Some (Some v) → slice_get heap c ≡ Some v) →
     IsFit (without cells (cells_of plan.layout.cell_locks lock)) heap (granted a lock rest (taken cells (cells_of plan.layout.cell_locks lock)))
 fit_granted laws plan a lock rest cells heap w f values =
@@ -251,7 +265,8 @@ fit_granted laws plan a lock rest cells heap w f values =
 
 -- ---- an end
 
-pub true_commit : EndsOnlyAsSection ℕ → (plan : Plan) → IsCompiled plan → (t step : ℕ) (a : Activation) (outcome : Outcome) → IsWell plan a →
+pub true_commit : EndsOnlyAsSection ℕ → (plan : Plan) → IsCompiled plan →
+    (t step : ℕ) (a : Activation) (outcome : Outcome) → IsWell plan a →
     a.outcome ≡ Some outcome → IsTrueCommit plan.program (commit t step a outcome)
 true_commit ends_only plan ok t step a outcome w is heap n agree =
     let size : length heap ≡ length plan.layout.opening = n ∙ (sym ok.laid_out.cells ∙ cells_are plan ok) in

@@ -1,5 +1,6 @@
 -- The bits of numbers, one at a time.
-use Rattle.std.proofs.Common.{◌≡◌, ℕ, ◌*◌, ◌%◌, ◌^◌, ◌<◌, max, Bool, true, false, ◌||◌, inl, inr, refl, sym, ap, ◌∙◌, arith}
+use Rattle.std.proofs.Common.{◌≡◌, ℕ, ◌*◌, ◌%◌, ◌^◌, ◌<◌, max, Bool, true, false, ◌||◌, inl, inr, refl, sym, ap, ◌∙◌}
+use Rattle.std.proofs.Common.{arith}
 use Rattle.std.specs.Prelude.{◌==◌, bit_or}
 use Rattle.std.specs.Int.{bit_at, Width}
 use mir.Val.{bits}
@@ -21,7 +22,8 @@ or_none true = refl
 or_none false = refl
 
 -- with one more bit of a number of so many bits
-pub bit_with : (w : Width) (n k : ℕ) → k < bits w → (j : ℕ) → bit (bit_or n (1 * 2 ^ k % 2 ^ bits w)) j ≡ (bit n j || (j == k))
+pub bit_with : (w : Width) (n k : ℕ) → k < bits w → (j : ℕ) →
+    bit (bit_or n (1 * 2 ^ k % 2 ^ bits w)) j ≡ (bit n j || (j == k))
 bit_with w n k h j =
     elim (cases_eq j k) [
       | inl e ↦ ap (λ x. bit (bit_or n (1 * 2 ^ k % 2 ^ bits w)) x) e ∙ ap (λ x. x == 1) (bit_at_set_same w n k h) ∙ sym (or_right (bit n j) (j == k) (eq-eqb j k e))

@@ -1,18 +1,23 @@
 -- Where the code of a point ends, jumps lead to the code of a point that follows it, or to the end of the section.
-use Rattle.std.proofs.Common.{◌≡◌, ℕ, ◌+◌, ◌-◌, List, [], ◌∷◌, ◌++◌, length, Option, Some, None, Bool, true, false, ◌⊎◌, inl, inr, refl, sym, ◌∙◌, subst, arith, length-append}
+use Rattle.std.proofs.Common.{◌≡◌, ℕ, ◌+◌, ◌-◌, List, [], ◌∷◌, ◌++◌, length, Option, Some, None, Bool, true, false}
+use Rattle.std.proofs.Common.{◌⊎◌, inl, inr, refl, sym, ◌∙◌, subst, arith, length-append}
 use Rattle.std.specs.Prelude.{slice_get}
 use Rattle.std.proofs.lemmas.Option.{none-some}
 use Rattle.core_lang.specs.declared.tree.Stmt.{Stmt}
-use Rattle.core_lang.specs.declared.tree.Action.{Action, Bind, SetLocal, SetGlobal, SetElement, SetField, Call, Print, If', IfElse', While', Row_of-Stmt, end_of-Stmt, more_of-Stmt}
+use Rattle.core_lang.specs.declared.tree.Action.{Action, Bind, SetLocal, SetGlobal, SetElement, SetField, Call, Print}
+use Rattle.core_lang.specs.declared.tree.Action.{If', IfElse', While', Row_of-Stmt, end_of-Stmt, more_of-Stmt}
 use Rattle.core_lang.specs.declared.tree.Return.{Return as Result_of}
 use Rattle.core_lang.specs.declared.tree.Section.{Section}
-use Rattle.flow.specs.Skeletons.{Skeleton, Nil, Step, Fork, Loop, count, in_front, all_in_front, return_skeleton, skeleton}
+use Rattle.flow.specs.Skeletons.{Skeleton, Nil, Step, Fork, Loop, count, in_front, all_in_front, return_skeleton}
+use Rattle.flow.specs.Skeletons.{skeleton}
 use Rattle.flow.specs.Skeletons as flow
-use Rattle.flow.specs.Flow.{Flow, head, step_on, fork_a, fork_b, loop_on, loop_end, in_step, in_fork_a, in_fork_b, in_fork_r, in_loop, in_loop_r, Follows}
+use Rattle.flow.specs.Flow.{Flow, head, step_on, fork_a, fork_b, loop_on, loop_end, in_step, in_fork_a, in_fork_b}
+use Rattle.flow.specs.Flow.{in_fork_r, in_loop, in_loop_r, Follows}
 use Rattle.flow.specs.Points.{Point, statement, result}
 use Rattle.code.specs.declared.instr.Instr.{Instr}
 use Rattle.code.specs.declared.instr.Instr.TheVariants.{Jump, JumpBack, JumpIfFalse, Return, End}
-use Rattle.code.specs.Lowering.{expr_code, test_code, points_of, points_in, acquire_code, stmt_code, block_code, body_code, section_code}
+use Rattle.code.specs.Lowering.{expr_code, test_code, points_of, points_in, acquire_code, stmt_code, block_code}
+use Rattle.code.specs.Lowering.{body_code, section_code}
 use Rattle.code.specs.Working.Spots.{HasAt, Spot, spot, InBlock, InAction, InBody, InSection}
 use Rattle.code.specs.Working.PointLaws.{FirstPointIsAtStart, EmptyHasEnd, SpotsAcquire}
 use Rattle.code.proofs.points.Places.{has_front, has_back, has_both, has_all}
@@ -117,10 +122,12 @@ module _ {P : Type 0} (lists : List (List P)) where
         by (statement start action) e = λ b. leaves_more To To' _ f (e b)
         by (result r) e = tt
 
-    lands_as : (a a' i i' : ℕ) (r : Skeleton) (k : Option ℕ) → a ≡ a' → i ≡ i' → Lands a (head r i k) → Lands a' (head r i' k)
+    lands_as : (a a' i i' : ℕ) (r : Skeleton) (k : Option ℕ) → a ≡ a' → i ≡ i' → Lands a (head r i k) →
+        Lands a' (head r i' k)
     lands_as a a' i i' r k e e' l = subst (λ n. Lands n (head r i' k)) e (subst (λ n. Lands a (head r n k)) e' l)
 
-    flow_later : (action : Action) (r : Skeleton) (n : ℕ) (k : Option ℕ) (p q : ℕ) → Flow r (n + points_of action) k p q → Flow (in_front action r) n k p q
+    flow_later : (action : Action) (r : Skeleton) (n : ℕ) (k : Option ℕ) (p q : ℕ) →
+        Flow r (n + points_of action) k p q → Flow (in_front action r) n k p q
     flow_later (If' c m block) r n k p q f =
         let e : n + points_of (If' c m block) ≡ n + 1 + count (flow.block_skeleton block) + count Nil = omega arith in
         in_fork_r (subst (λ i. Flow r i k p q) e f)
@@ -138,7 +145,8 @@ module _ {P : Type 0} (lists : List (List P)) where
     flow_later (Call h es v) r n k p q f = in_step f
     flow_later (Print e) r n k p q f = in_step f
 
-    block_lands : {m : _} (row : Row_of-Stmt m) (n place : ℕ) (k : Option ℕ) → ((y : Spot) → InBlock lists row n place y → Has y) →
+    block_lands : {m : _} (row : Row_of-Stmt m) (n place : ℕ) (k : Option ℕ) →
+        ((y : Spot) → InBlock lists row n place y → Has y) →
         Lands (place + length (block_code lists row n)) k → Lands place (head (flow.block_skeleton row) n k)
     block_lands end_of-Stmt n place k emb l =
         let e : place + 0 ≡ place = omega arith in
@@ -147,7 +155,8 @@ module _ {P : Type 0} (lists : List (List P)) where
         subst (Lands place) (sym (head_action action (flow.block_skeleton rest) n k)) (spot n place (statement start action), emb _ (inl (inl refl)), refl, none)
 
     -- a statement without blocks
-    simple_fine : (start : ℕ) (action : Action) (n place : ℕ) (k : Option ℕ) (To : ℕ → Type 0) → ((q : ℕ) → k ≡ Some q → To q) →
+    simple_fine : (start : ℕ) (action : Action) (n place : ℕ) (k : Option ℕ) (To : ℕ → Type 0) →
+        ((q : ℕ) → k ≡ Some q → To q) →
         ((b : Bool) → action_end action n place b ≡ place + length (stmt_code lists action n)) → HasAt code place (action_code action n) →
         Lands (place + length (stmt_code lists action n)) k → Fine To (spot n place (statement start action))
     simple_fine start action n place k To f end has l =
@@ -160,7 +169,8 @@ module _ {P : Type 0} (lists : List (List P)) where
         subst (λ y. Fine (Flow (Step r) n k y.number) y) (sym same) (simple_fine start action n place (head r (n + 1) k) _ (λ q e. step_on e) end has l)
 
     mutual
-      pub action_fine : (start : ℕ) (action : Action) (r : Skeleton) (n place : ℕ) (k : Option ℕ) (x : Spot) → HasAt code place (stmt_code lists action n) →
+      pub action_fine : (start : ℕ) (action : Action) (r : Skeleton) (n place : ℕ) (k : Option ℕ) (x : Spot) →
+          HasAt code place (stmt_code lists action n) →
           ((y : Spot) → InAction lists start action n place y → Has y) → Lands (place + length (stmt_code lists action n)) (head r (n + points_of action) k) →
           InAction lists start action n place x → Fine (Flow (in_front action r) n k x.number) x
       action_fine start (Bind j e) r n place k x has emb l h =
@@ -259,7 +269,8 @@ module _ {P : Type 0} (lists : List (List P)) where
             | inr inside ↦ fine_more _ _ x (λ q f. in_loop f) (block_fine body (n + 1) place_s (Some n) x (has_front code place_s cs _ back.1) (λ y h. emb y (inr h)) lb inside)
           ]
 
-      pub block_fine : {m : _} (row : Row_of-Stmt m) (n place : ℕ) (k : Option ℕ) (x : Spot) → HasAt code place (block_code lists row n) →
+      pub block_fine : {m : _} (row : Row_of-Stmt m) (n place : ℕ) (k : Option ℕ) (x : Spot) →
+          HasAt code place (block_code lists row n) →
           ((y : Spot) → InBlock lists row n place y → Has y) → Lands (place + length (block_code lists row n)) k →
           InBlock lists row n place x → Fine (Flow (flow.block_skeleton row) n k x.number) x
       block_fine end_of-Stmt n place k x has emb l h = absurd h
@@ -275,14 +286,16 @@ module _ {P : Type 0} (lists : List (List P)) where
                 (block_fine rest (n + points_of action) (place + length cx) k x (has_back code place cx _ has) (λ y h. emb y (inr h)) l' later)
           ]
 
-    body_lands : (ss : List Stmt) (r : Option Result_of) (n place : ℕ) → HasAt code place (body_code lists ss n r) → ((y : Spot) → InBody lists ss r n place y → Has y) →
+    body_lands : (ss : List Stmt) (r : Option Result_of) (n place : ℕ) → HasAt code place (body_code lists ss n r) →
+        ((y : Spot) → InBody lists ss r n place y → Has y) →
         Lands place (head (all_in_front ss (return_skeleton r)) n None)
     body_lands [] None n place has emb = (place, none, has.0)
     body_lands [] (Some r) n place has emb = (spot n place (result r), emb _ refl, refl, none)
     body_lands (s ∷ ss) r n place has emb =
         subst (Lands place) (sym (head_action s.action (all_in_front ss (return_skeleton r)) n None)) (spot n place (statement s.start s.action), emb _ (inl (inl refl)), refl, none)
 
-    body_fine : (ss : List Stmt) (r : Option Result_of) (n place : ℕ) (x : Spot) → HasAt code place (body_code lists ss n r) → ((y : Spot) → InBody lists ss r n place y → Has y) →
+    body_fine : (ss : List Stmt) (r : Option Result_of) (n place : ℕ) (x : Spot) →
+        HasAt code place (body_code lists ss n r) → ((y : Spot) → InBody lists ss r n place y → Has y) →
         InBody lists ss r n place x → Fine (Flow (all_in_front ss (return_skeleton r)) n None x.number) x
     body_fine [] None n place x has emb h = absurd h
     body_fine [] (Some r) n place x has emb h = subst (λ y. Fine (Flow (Step Nil) n None y.number) y) (sym h) (record { has = has; ends = tt })
@@ -303,7 +316,8 @@ section_fine lists section x h =
     body_fine lists (section_code lists section) (InSection lists section) section.body.items section.result 0 0 x (has_all (section_code lists section) []) (λ y h. h) h
 
 -- it starts with the first one
-first_at_start : {P : Type 0} (lists : List (List P)) (ss : List Stmt) (r : Option Result_of) (p : ℕ) → head (all_in_front ss (return_skeleton r)) 0 None ≡ Some p →
+first_at_start : {P : Type 0} (lists : List (List P)) (ss : List Stmt) (r : Option Result_of) (p : ℕ) →
+    head (all_in_front ss (return_skeleton r)) 0 None ≡ Some p →
     (x : Spot) × InBody lists ss r 0 0 x × (x.number ≡ p) × (x.place ≡ 0)
 first_at_start lists [] None p e = absurd (none-some p e)
 first_at_start lists [] (Some r) p e = (spot 0 0 (result r), refl, (let same : 0 ≡ p = cc in same), refl)
@@ -315,7 +329,8 @@ pub first_point_is_at_start : {P : Type 0} → FirstPointIsAtStart P
 first_point_is_at_start lists section p e = first_at_start lists section.body.items section.result p e
 
 -- or with its end
-end_at_start : {P : Type 0} (lists : List (List P)) (ss : List Stmt) (r : Option Result_of) → head (all_in_front ss (return_skeleton r)) 0 None ≡ None →
+end_at_start : {P : Type 0} (lists : List (List P)) (ss : List Stmt) (r : Option Result_of) →
+    head (all_in_front ss (return_skeleton r)) 0 None ≡ None →
     slice_get (body_code lists ss 0 r) 0 ≡ Some End
 end_at_start lists [] None e = refl
 end_at_start lists [] (Some r) e = absurd (none-some 0 (sym e))
@@ -326,7 +341,8 @@ empty_has_end lists section e = end_at_start lists section.body.items section.re
 
 -- ---- what is acquired
 
-acquires_first : {P : Type 0} (lists : List (List P)) (code : List Instr) (place n : ℕ) (point : Point) → HasAt code place (point_code lists point n) →
+acquires_first : {P : Type 0} (lists : List (List P)) (code : List Instr) (place n : ℕ) (point : Point) →
+    HasAt code place (point_code lists point n) →
     HasAt code place (acquire_code lists n)
 acquires_first lists code place n (result r) has = has_front code place (acquire_code lists n) _ has
 acquires_first lists code place n (statement start (Bind k e)) has = has_front code place (acquire_code lists n) _ has

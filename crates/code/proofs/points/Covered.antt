@@ -1,5 +1,6 @@
 -- Cells that accesses reach, and memories that have them.
-use Rattle.std.proofs.Common.{◌≡◌, ◌≢◌, ℕ, List, [], ◌∷◌, ◌++◌, Option, Some, true, false, Result, Ok, Err, refl, sym, ap, ◌∙◌, ⊎_elim, arith}
+use Rattle.std.proofs.Common.{◌≡◌, ◌≢◌, ℕ, List, [], ◌∷◌, ◌++◌, Option, Some, true, false, Result, Ok, Err, refl, sym}
+use Rattle.std.proofs.Common.{ap, ◌∙◌, ⊎_elim, arith}
 use Rattle.std.specs.Prelude.{slice_get, slice_set, nat_eq, ⊤}
 use Rattle.std.proofs.lemmas.Bool.Decides.{eqb_tells}
 use Rattle.std.proofs.lemmas.Option.{slice_get_within}
@@ -17,7 +18,8 @@ use Rattle.code.specs.Working.Seen.{Shows, IsSeen, IsAccessible, Covers}
 -- ---- values that are seen
 
 -- where one cell is written
-pub shows-set : (seen seen' : ℕ → Option Value) (heap : List Value) (cell : ℕ) (old v : Value) → Shows seen heap → slice_get heap cell ≡ Some old →
+pub shows-set : (seen seen' : ℕ → Option Value) (heap : List Value) (cell : ℕ) (old v : Value) → Shows seen heap →
+    slice_get heap cell ≡ Some old →
     seen' cell ≡ Some v → ((c : ℕ) → (c ≡ cell → ⊥) → seen' c ≡ seen c) → Shows seen' (slice_set heap cell v)
 shows-set seen seen' heap cell old v s at here others c w e =
     ⊎_elim
@@ -59,11 +61,13 @@ module _ (shape : Shape) (locals heap : List Value) (seen : ℕ → Option Value
 
 -- ---- results
 
-pub with-with : {A B C : Type 0} (r : Result A Failure) (f : A → Result B Failure) (g : B → Result C Failure) → with (with r f) g ≡ with r (λ a. with (f a) g)
+pub with-with : {A B C : Type 0} (r : Result A Failure) (f : A → Result B Failure) (g : B → Result C Failure) →
+    with (with r f) g ≡ with r (λ a. with (f a) g)
 with-with (Ok a) f g = refl
 with-with (Err x) f g = refl
 
-pub with-same : {A B : Type 0} (r : Result A Failure) (f g : A → Result B Failure) → ((a : A) → f a ≡ g a) → with r f ≡ with r g
+pub with-same : {A B : Type 0} (r : Result A Failure) (f g : A → Result B Failure) → ((a : A) → f a ≡ g a) →
+    with r f ≡ with r g
 with-same (Ok a) f g e = e a
 with-same (Err x) f g e = refl
 

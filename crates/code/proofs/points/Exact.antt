@@ -19,7 +19,8 @@ use Rattle.code.proofs.points.Results.{Gives, Leads}
 use Rattle.code.proofs.points.Points.{Does, point_safe}
 
 -- a flow that isn't astray, by its cases
-leads-exactly : (F : Outcome → Type 0) (P : State → Type 0) (f : Flow) → (f ≡ Astray → ⊥) → ((t : Cause) (later : State) → f ≡ Traps t later → F (out.Traps t)) →
+leads-exactly : (F : Outcome → Type 0) (P : State → Type 0) (f : Flow) → (f ≡ Astray → ⊥) →
+    ((t : Cause) (later : State) → f ≡ Traps t later → F (out.Traps t)) →
     ((later : State) → f ≡ GoesOn later → P later) → Leads F f P
 leads-exactly F P (GoesOn s) sound traps goes = goes s refl
 leads-exactly F P (Traps t s) sound traps goes = traps t s refl
@@ -27,7 +28,8 @@ leads-exactly F P Beyond sound traps goes = tt
 leads-exactly F P Astray sound traps goes = sound refl
 
 -- the value of a `return`
-gives-exactly : (F : Outcome → Type 0) (s : State) (r : Result Value Failure) → (given r s (λ v. GoesOn s) ≡ Astray → ⊥) →
+gives-exactly : (F : Outcome → Type 0) (s : State) (r : Result Value Failure) →
+    (given r s (λ v. GoesOn s) ≡ Astray → ⊥) →
     ((t : Cause) (later : State) → given r s (λ v. GoesOn s) ≡ Traps t later → F (out.Traps t)) → ((v : Value) → r ≡ Ok v → F (out.Returns v)) →
     Gives F r (λ v. F (out.Returns v))
 gives-exactly F s (Ok v) sound traps returns = returns v refl
@@ -36,7 +38,8 @@ gives-exactly F s (Err Wrong) sound traps returns = sound refl
 
 module _ {P M : Type 0} (load : M → ℕ → Option (Value × M)) (store : M → ℕ → Value → Option M) (view : M → ℕ → Option Value)
     (is : IsMemory load store view) (shape : Shape) (Q : Machine M → Type 0) (room : ℕ) (lists : List (List P)) (section : Section) (s : State) where
-  does_exactly : (point : Point) (A : State → Type 0) → (effect_at point shape s ≡ Astray → ⊥) → ((later : State) → effect_at point shape s ≡ GoesOn later → A later) →
+  does_exactly : (point : Point) (A : State → Type 0) → (effect_at point shape s ≡ Astray → ⊥) →
+      ((later : State) → effect_at point shape s ≡ GoesOn later → A later) →
       Does load store view is shape (MayEnd shape point s) Q room lists section point s (λ later. MayEnd shape point s out.Ends × A later)
   does_exactly (statement start action) A sound goes =
       leads-exactly (MayEnd shape (statement start action) s) _ (effect_at (statement start action) shape s) sound (λ t later e. (later, e))
@@ -44,7 +47,8 @@ module _ {P M : Type 0} (load : M → ℕ → Option (Value × M)) (store : M �
   does_exactly (result r) A sound goes =
       gives-exactly (MayEnd shape (result r) s) s (value_of r.value shape s.locals s.heap) sound (λ t later e. (later, e)) (λ v e. e)
 
-pub points_go_on : {P M : Type 0} (load : M → ℕ → Option (Value × M)) (store : M → ℕ → Value → Option M) (view : M → ℕ → Option Value) →
+pub points_go_on : {P M : Type 0} (load : M → ℕ → Option (Value × M)) (store : M → ℕ → Value → Option M) (view : M →
+    ℕ → Option Value) →
     IsMemory load store view → PointsGoOn P M load store view
 points_go_on load store view is shape lists section x s memory room only inside room_is can =
     let Q = HasComeOn view shape lists section x s (view memory) in

@@ -1,20 +1,25 @@
 -- Each point of a section is a spot of it, and each `Acquire` of its code stands at one.
-use Rattle.std.proofs.Common.{◌≡◌, ℕ, ◌+◌, List, [], ◌∷◌, ◌++◌, length, Option, Some, None, inl, inr, refl, sym, ap, subst, arith, append_assoc}
+use Rattle.std.proofs.Common.{◌≡◌, ℕ, ◌+◌, List, [], ◌∷◌, ◌++◌, length, Option, Some, None, inl, inr, refl, sym, ap}
+use Rattle.std.proofs.Common.{subst, arith, append_assoc}
 use Rattle.std.specs.Prelude.{slice_get}
 use Rattle.core_lang.specs.declared.tree.FieldStep.{FieldStep}
 use Rattle.core_lang.specs.declared.tree.FieldStep.TheVariants.{Final, Field}
 use Rattle.core_lang.specs.declared.tree.Path.{Path}
-use Rattle.core_lang.specs.declared.tree.Expr.{Expr, Number, Null, Place, Global, Element', Member', Negate', Owned', Chain', Row_of-Operation, end_of-Operation, more_of-Operation}
-use Rattle.core_lang.specs.declared.tree.Condition.{Condition, Compare, Not', And', Or', Row_of-Condition, end_of-Condition, more_of-Condition}
+use Rattle.core_lang.specs.declared.tree.Expr.{Expr, Number, Null, Place, Global, Element', Member', Negate', Owned'}
+use Rattle.core_lang.specs.declared.tree.Expr.{Chain', Row_of-Operation, end_of-Operation, more_of-Operation}
+use Rattle.core_lang.specs.declared.tree.Condition.{Condition, Compare, Not', And', Or', Row_of-Condition}
+use Rattle.core_lang.specs.declared.tree.Condition.{end_of-Condition, more_of-Condition}
 use Rattle.core_lang.specs.declared.tree.Stmt.{Stmt}
-use Rattle.core_lang.specs.declared.tree.Action.{Action, Bind, SetLocal, SetGlobal, SetElement, SetField, Call, Print, If', IfElse', While', Row_of-Stmt, end_of-Stmt, more_of-Stmt}
+use Rattle.core_lang.specs.declared.tree.Action.{Action, Bind, SetLocal, SetGlobal, SetElement, SetField, Call, Print}
+use Rattle.core_lang.specs.declared.tree.Action.{If', IfElse', While', Row_of-Stmt, end_of-Stmt, more_of-Stmt}
 use Rattle.core_lang.specs.declared.tree.Return.{Return as Result_of}
 use Rattle.flow.specs.Points.{Point, statement, result, inner_points, points_of_all, point_of_return}
 use Rattle.flow.specs.Points as flow
 use Rattle.flow.specs.Theory.Each.{Each, each_append}
 use Rattle.code.specs.declared.instr.Instr.{Instr}
 use Rattle.code.specs.declared.instr.Instr.TheVariants.{Jump, Acquire, Return}
-use Rattle.code.specs.Lowering.{fields_code, path_code, expr_code, chain_code, test_code, all_code, any_code, points_of, points_in, acquire_any, acquire_code, stmt_code, block_code, body_code}
+use Rattle.code.specs.Lowering.{fields_code, path_code, expr_code, chain_code, test_code, all_code, any_code}
+use Rattle.code.specs.Lowering.{points_of, points_in, acquire_any, acquire_code, stmt_code, block_code, body_code}
 use Rattle.code.specs.Working.Spots.{Spot, spot, behind_test, Inside, InBlock, InAction, InBody, InSection}
 use Rattle.code.specs.Working.PointLaws.{PointsHaveSpots, OnlySpotsAcquire}
 use Rattle.code.proofs.points.Numbers.{length_inner, length_block}
@@ -84,7 +89,8 @@ module _ {P : Type 0} (lists : List (List P)) (Has : Spot → Type 0) where
   IsSpotOf n point = (x : Spot) × Has x × (x.number ≡ n) × (x.point ≡ point)
 
   mutual
-    inner_found : (action : Action) (n place : ℕ) → ((y : Spot) → Inside lists action n place y → Has y) → EachAt IsSpotOf (n + 1) (inner_points action)
+    inner_found : (action : Action) (n place : ℕ) → ((y : Spot) → Inside lists action n place y → Has y) →
+        EachAt IsSpotOf (n + 1) (inner_points action)
     inner_found (If' c m block) n place emb = block_found block (n + 1) (behind_test lists (test_code c) n place) emb
     inner_found (IfElse' c m block k otherwise) n place emb =
         let b = behind_test lists (test_code c) n place in
@@ -100,7 +106,8 @@ module _ {P : Type 0} (lists : List (List P)) (Has : Spot → Type 0) where
     inner_found (Call f es r) n place emb = tt
     inner_found (Print e) n place emb = tt
 
-    block_found : {m : _} (row : Row_of-Stmt m) (n place : ℕ) → ((y : Spot) → InBlock lists row n place y → Has y) → EachAt IsSpotOf n (flow.points_in row)
+    block_found : {m : _} (row : Row_of-Stmt m) (n place : ℕ) → ((y : Spot) → InBlock lists row n place y → Has y) →
+        EachAt IsSpotOf n (flow.points_in row)
     block_found end_of-Stmt n place emb = tt
     block_found (more_of-Stmt start action rest) n place emb =
         let counted = length_inner action in
@@ -111,7 +118,8 @@ module _ {P : Type 0} (lists : List (List P)) (Has : Spot → Type 0) where
               (block_found rest (n + points_of action) (place + length (stmt_code lists action n)) (λ y h. emb y (inr h)))),
         )
 
-  body_found : (ss : List Stmt) (r : Option Result_of) (n place : ℕ) → ((y : Spot) → InBody lists ss r n place y → Has y) →
+  body_found : (ss : List Stmt) (r : Option Result_of) (n place : ℕ) →
+      ((y : Spot) → InBody lists ss r n place y → Has y) →
       EachAt IsSpotOf n (points_of_all ss ++ point_of_return r)
   body_found [] None n place emb = tt
   body_found [] (Some r) n place emb = ((spot n place (result r), emb _ refl, refl, refl), tt)
@@ -157,14 +165,16 @@ module _ {P : Type 0} (lists : List (List P)) (Has : Spot → Type 0) where
       by (Some (path ∷ paths)) at = ((x, has, e, e', ap (λ o. acquire_any o n) at), tt)
 
   -- a point's own code
-  own_asks : (start : ℕ) (action : Action) (n place : ℕ) (own : List Instr) → ((y : Spot) → InAction lists start action n place y → Has y) → Quiet own →
+  own_asks : (start : ℕ) (action : Action) (n place : ℕ) (own : List Instr) →
+      ((y : Spot) → InAction lists start action n place y → Has y) → Quiet own →
       Asking place (acquire_code lists n ++ own)
   own_asks start action n place own emb quiet =
       asks_both place (acquire_code lists n) own (acquire_asks (spot n place (statement start action)) n place (emb _ (inl refl)) refl refl)
       (quiet_asks own (place + length (acquire_code lists n)) quiet)
 
   mutual
-    action_asks : (start : ℕ) (action : Action) (n place : ℕ) → ((y : Spot) → InAction lists start action n place y → Has y) → Asking place (stmt_code lists action n)
+    action_asks : (start : ℕ) (action : Action) (n place : ℕ) →
+        ((y : Spot) → InAction lists start action n place y → Has y) → Asking place (stmt_code lists action n)
     action_asks start (Bind k e) n place emb = own_asks start (Bind k e) n place _ emb (quiet_both (expr_code e) _ (quiet_expr e) (tt, tt))
     action_asks start (SetLocal k e) n place emb = own_asks start (SetLocal k e) n place _ emb (quiet_both (expr_code e) _ (quiet_expr e) (tt, tt))
     action_asks start (SetGlobal cell e) n place emb = own_asks start (SetGlobal cell e) n place _ emb (quiet_both (expr_code e) _ (quiet_expr e) (tt, tt))
@@ -189,13 +199,15 @@ module _ {P : Type 0} (lists : List (List P)) (Has : Spot → Type 0) where
         asks_both place (acquire_code lists n ++ test_code c) _ (own_asks start (While' c m body) n place (test_code c) emb (quiet_test c))
         (tt, asks_both b (block_code lists body (n + 1)) _ (block_asks body (n + 1) b (λ y h. emb y (inr h))) (tt, tt))
 
-    block_asks : {m : _} (row : Row_of-Stmt m) (n place : ℕ) → ((y : Spot) → InBlock lists row n place y → Has y) → Asking place (block_code lists row n)
+    block_asks : {m : _} (row : Row_of-Stmt m) (n place : ℕ) → ((y : Spot) → InBlock lists row n place y → Has y) →
+        Asking place (block_code lists row n)
     block_asks end_of-Stmt n place emb = tt
     block_asks (more_of-Stmt start action rest) n place emb =
         asks_both place (stmt_code lists action n) _ (action_asks start action n place (λ y h. emb y (inl h)))
         (block_asks rest (n + points_of action) (place + length (stmt_code lists action n)) (λ y h. emb y (inr h)))
 
-  body_asks : (ss : List Stmt) (r : Option Result_of) (n place : ℕ) → ((y : Spot) → InBody lists ss r n place y → Has y) → Asking place (body_code lists ss n r)
+  body_asks : (ss : List Stmt) (r : Option Result_of) (n place : ℕ) →
+      ((y : Spot) → InBody lists ss r n place y → Has y) → Asking place (body_code lists ss n r)
   body_asks [] None n place emb = (tt, tt)
   body_asks [] (Some r) n place emb =
       asks_both place (acquire_code lists n) _ (acquire_asks (spot n place (result r)) n place (emb _ refl) refl refl)

@@ -3,7 +3,8 @@ use Rattle.std.proofs.Common.{◌≡◌, ℕ, Option, Some, None, refl, sym, ap}
 use Rattle.std.specs.Prelude.{slice_get, slice_set}
 use Rattle.std.proofs.lemmas.Option.{slice_get_within}
 use Rattle.core_lang.specs.declared.value.Value.{Value}
-use Rattle.code.specs.Memory.{HeldCells, value_at, with_value, with_changed, noted, read_if_held, load_held, write_if_held, store_held, beside, load_from, written_where, store_to}
+use Rattle.code.specs.Memory.{HeldCells, value_at, with_value, with_changed, noted, read_if_held, load_held}
+use Rattle.code.specs.Memory.{write_if_held, store_held, beside, load_from, written_where, store_to}
 use Rattle.code.specs.Working.Seen.{IsMemory, held_value}
 use Rattle.code.proofs.Values.{set_here, set_there, changed_same, changed_other}
 

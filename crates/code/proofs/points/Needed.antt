@@ -2,7 +2,8 @@
 use Rattle.std.proofs.Common.{◌≡◌, ℕ, ◌+◌, ◌≤◌, max, List, [], ◌∷◌, Option, Some, None, inl, inr, sym, subst, arith}
 use Rattle.std.proofs.Math.Nat.{le-max_left, le-max_right}
 use Rattle.core_lang.specs.declared.tree.Stmt.{Stmt}
-use Rattle.core_lang.specs.declared.tree.Action.{Action, Bind, SetLocal, SetGlobal, SetElement, SetField, Call, Print, If', IfElse', While', Row_of-Stmt, end_of-Stmt, more_of-Stmt}
+use Rattle.core_lang.specs.declared.tree.Action.{Action, Bind, SetLocal, SetGlobal, SetElement, SetField, Call, Print}
+use Rattle.core_lang.specs.declared.tree.Action.{If', IfElse', While', Row_of-Stmt, end_of-Stmt, more_of-Stmt}
 use Rattle.core_lang.specs.declared.tree.Return.{Return as Result_of}
 use Rattle.core_lang.specs.declared.tree.Section.{Section}
 use Rattle.flow.specs.Points.{Point, statement, result}
@@ -32,11 +33,13 @@ own_within (Call f es r) = omega arith
 own_within (Print e) = omega arith
 
 module _ {P : Type 0} (lists : List (List P)) where
-  here_within : (x : Spot) (n place start : ℕ) (action : Action) → x ≡ spot n place (statement start action) → point_need x.point ≤ stmt_need action
+  here_within : (x : Spot) (n place start : ℕ) (action : Action) → x ≡ spot n place (statement start action) →
+      point_need x.point ≤ stmt_need action
   here_within x n place start action e = subst (λ y. point_need y.point ≤ stmt_need action) (sym e) (own_within action)
 
   mutual
-    inside_within : (action : Action) (n place : ℕ) (x : Spot) → Inside lists action n place x → point_need x.point ≤ stmt_need action
+    inside_within : (action : Action) (n place : ℕ) (x : Spot) → Inside lists action n place x →
+        point_need x.point ≤ stmt_need action
     inside_within (If' c m block) n place x h = let a = block_within block (n + 1) _ x h in let l = le-max_right (test_need c) (block_need block) in omega (arith, a, l)
     inside_within (IfElse' c m block k otherwise) n place x h =
         let l = le-max_right (test_need c) (max (block_need block) (block_need otherwise)) in
@@ -53,7 +56,8 @@ module _ {P : Type 0} (lists : List (List P)) where
     inside_within (Call f es r) n place x h = absurd h
     inside_within (Print e) n place x h = absurd h
 
-    block_within : {m : _} (row : Row_of-Stmt m) (n place : ℕ) (x : Spot) → InBlock lists row n place x → point_need x.point ≤ block_need row
+    block_within : {m : _} (row : Row_of-Stmt m) (n place : ℕ) (x : Spot) → InBlock lists row n place x →
+        point_need x.point ≤ block_need row
     block_within end_of-Stmt n place x h = absurd h
     block_within (more_of-Stmt start action rest) n place x h =
         let l = le-max_left (stmt_need action) (block_need rest) in let r = le-max_right (stmt_need action) (block_need rest) in
@@ -65,7 +69,8 @@ module _ {P : Type 0} (lists : List (List P)) where
           | inr more ↦ let a = block_within rest _ _ x more in omega (arith, a, r)
         ]
 
-  body_within : (ss : List Stmt) (r : Option Result_of) (n place : ℕ) (x : Spot) → InBody lists ss r n place x → point_need x.point ≤ max (body_need ss) (end_need r)
+  body_within : (ss : List Stmt) (r : Option Result_of) (n place : ℕ) (x : Spot) → InBody lists ss r n place x →
+      point_need x.point ≤ max (body_need ss) (end_need r)
   body_within [] None n place x h = absurd h
   body_within [] (Some r) n place x h = subst (λ y. point_need y.point ≤ max 0 (expr_need r.value)) (sym h) (le-max_right 0 (expr_need r.value))
   body_within (s ∷ ss) r n place x h =
@@ -80,5 +85,6 @@ module _ {P : Type 0} (lists : List (List P)) where
         | inr more ↦ let a = body_within ss r _ _ x more in omega (arith, a, l, e, r')
       ]
 
-  pub spot_within : (section : Section) (x : Spot) → InSection lists section x → point_need x.point ≤ operand_need section
+  pub spot_within : (section : Section) (x : Spot) → InSection lists section x →
+      point_need x.point ≤ operand_need section
   spot_within section x h = body_within section.body.items section.result 0 0 x h

@@ -1,5 +1,6 @@
 -- A section of a well-formed program, run alone on a heap of the program, is never stuck.
-use Rattle.std.proofs.Common.{◌≡◌, ℕ, zero, suc, ◌+◌, ◌<◌, ◌≤◌, List, [], ◌∷◌, ◌++◌, length, drop, Option, Some, None, refl, sym, ap, ◌∙◌, subst, ⊎_elim, arith}
+use Rattle.std.proofs.Common.{◌≡◌, ℕ, zero, suc, ◌+◌, ◌<◌, ◌≤◌, List, [], ◌∷◌, ◌++◌, length, drop, Option, Some, None}
+use Rattle.std.proofs.Common.{refl, sym, ap, ◌∙◌, subst, ⊎_elim, arith}
 use Rattle.std.specs.Prelude.{slice_get, map, take}
 use Rattle.std.proofs.lemmas.Option.{none-some, slice_get_cases}
 use Rattle.core_lang.specs.declared.value.Value.{Value}
@@ -29,7 +30,8 @@ use Rattle.code.specs.Needs.{operand_need}
 use Rattle.code.specs.Alone.{IsNeverStuck}
 use Rattle.code.specs.Working.Seen.{IsSeen, Shows}
 use Rattle.code.specs.Working.Spots.{HasAt, Spot, InSection}
-use Rattle.code.specs.Working.Ahead.{Safe, there, moves, finishes, Goes, Steps, between_points, CanExecute, MayEnd, HasComeOn}
+use Rattle.code.specs.Working.Ahead.{Safe, there, moves, finishes, Goes, Steps, between_points, CanExecute, MayEnd}
+use Rattle.code.specs.Working.Ahead.{HasComeOn}
 use Rattle.code.specs.Working.PointLaws.{SectionsGoOn}
 use Rattle.code.specs.Theory.Safety.{safe, steps_more}
 use Rattle.code.proofs.points.Memories.{heap_is_memory}
@@ -40,7 +42,8 @@ use Rattle.code.proofs.points.Exact.{points_go_on}
 -- ---- lists
 
 -- a list that shows another, and has each of its places, is that list
-same_list : (xs ys : List Value) → Shows (slice_get xs) ys → ((c : ℕ) → c < length ys → IsSeen (slice_get xs) c) → xs ≡ ys
+same_list : (xs ys : List Value) → Shows (slice_get xs) ys → ((c : ℕ) → c < length ys → IsSeen (slice_get xs) c) →
+    xs ≡ ys
 same_list [] [] shows seen = refl
 same_list [] (y ∷ ys) shows seen = let h = seen 0 (omega arith) in absurd (none-some h.0 h.1)
 same_list (x ∷ xs) [] shows seen = absurd (none-some x (shows 0 x refl))
@@ -71,7 +74,8 @@ defaults_have : (shape : Shape) (locals : List Local) → HaveTypes shape (local
 defaults_have shape [] = tt
 defaults_have shape (l ∷ ls) = (default_has shape l.value_type, defaults_have shape ls)
 
-opening_has : (shape : Shape) (k : ℕ) (locals : List Local) (arguments : List Value) → HaveTypes shape (local_types (take k locals)) arguments →
+opening_has : (shape : Shape) (k : ℕ) (locals : List Local) (arguments : List Value) →
+    HaveTypes shape (local_types (take k locals)) arguments →
     HaveTypes shape (local_types locals) (arguments ++ map default_local (drop (length arguments) locals))
 opening_has shape k locals [] h = defaults_have shape locals
 opening_has shape zero [] (v ∷ vs) h = absurd h
@@ -112,7 +116,8 @@ module _ {P : Type 0} (typed : PointsStayTyped) (program : Typed) (section : Sec
   run n m = IsNeverStuck room (exec load_from store_to program.shape code n m)
 
   -- from a point to the next
-  comes_on : (x : Spot) (s : State) → IsTypedState program types s → LeadsToTyped program types (effect_at x.point program.shape s) →
+  comes_on : (x : Spot) (s : State) → IsTypedState program types s →
+      LeadsToTyped program types (effect_at x.point program.shape s) →
       (m : Machine (List Value)) → HasComeOn slice_get program.shape lists section x s (slice_get s.heap) m → IsAtPoint m
   comes_on x s fits leads m h =
       let later : IsTypedState program types h.later = subst (LeadsToTyped program types) h.leads leads in
@@ -136,7 +141,8 @@ module _ {P : Type 0} (typed : PointsStayTyped) (program : Typed) (section : Sec
       (points_go_on load_from store_to slice_get heap_is_memory program.shape lists section x s s.heap room (calls_nothing program here.0 section well here.1) inside (omega arith) can)
 
   -- after an instruction
-  goes_on : (n : ℕ) (m : Machine (List Value)) (x : Effect (List Value)) → Goes load_from store_to program.shape code Any IsAtPoint room x →
+  goes_on : (n : ℕ) (m : Machine (List Value)) (x : Effect (List Value)) →
+      Goes load_from store_to program.shape code Any IsAtPoint room x →
       ((next : Machine (List Value)) → IsSafe next → run n next) →
       IsNeverStuck room (proceed load_from store_to program.shape m x (exec load_from store_to program.shape code n))
   goes_on n m (Moves next) g k = k next g
@@ -144,7 +150,8 @@ module _ {P : Type 0} (typed : PointsStayTyped) (program : Typed) (section : Sec
   goes_on n m (Finishes outcome) g k = tt
   goes_on n m Undefined g k = absurd g
 
-  steps_on : (n : ℕ) (m : Machine (List Value)) → GoesOnSafely m → ((next : Machine (List Value)) → IsSafe next → run n next) → run (suc n) m
+  steps_on : (n : ℕ) (m : Machine (List Value)) → GoesOnSafely m →
+      ((next : Machine (List Value)) → IsSafe next → run n next) → run (suc n) m
   steps_on n m g k = goes_on n m (act load_from store_to program.shape (slice_get code m.place) m) g.1 k
 
   -- what is acquired before a point is passed over
@@ -162,7 +169,8 @@ module _ {P : Type 0} (typed : PointsStayTyped) (program : Typed) (section : Sec
       subst (λ o. IsNeverStuck room (proceed load_from store_to program.shape m (act load_from store_to program.shape o m) (exec load_from store_to program.shape code n))) (sym has.0)
       (k (between_points (place + 1) s s.heap) (safe load_from store_to program.shape code room Any IsAtPoint _ g))
 
-  point_on : (n : ℕ) (m : Machine (List Value)) → IsAtPoint m → ((next : Machine (List Value)) → IsSafe next → run n next) → run (suc n) m
+  point_on : (n : ℕ) (m : Machine (List Value)) → IsAtPoint m →
+      ((next : Machine (List Value)) → IsSafe next → run n next) → run (suc n) m
   point_on n m h k =
       let x = h.point in
       subst (run (suc n)) (sym h.is)
@@ -180,7 +188,8 @@ module _ {P : Type 0} (typed : PointsStayTyped) (program : Typed) (section : Sec
   never_stuck (suc n) m (finishes fit e f) =
       subst (λ x. IsNeverStuck room (proceed load_from store_to program.shape m x (exec load_from store_to program.shape code n))) (sym e) tt
 
-  starts : (s : State) (o : Option ℕ) → head (skeleton section) 0 None ≡ o → IsTypedState program types s → IsSafe (between_points 0 s s.heap)
+  starts : (s : State) (o : Option ℕ) → head (skeleton section) 0 None ≡ o → IsTypedState program types s →
+      IsSafe (between_points 0 s s.heap)
   starts s None e fits =
       finishes (omega arith) (ap (λ o. act load_from store_to program.shape o (between_points 0 s s.heap)) (empty_has_end lists section e)) tt
   starts s (Some p) e fits =

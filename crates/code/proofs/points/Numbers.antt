@@ -1,10 +1,12 @@
 -- A point of the code is the point of the flow with its number.
-use Rattle.std.proofs.Common.{◌≡◌, ℕ, ◌+◌, ◌<◌, List, [], ◌∷◌, ◌++◌, length, Option, Some, None, inl, inr, refl, sym, ap, ◌∙◌, subst, arith, length-append, append_assoc}
+use Rattle.std.proofs.Common.{◌≡◌, ℕ, ◌+◌, ◌<◌, List, [], ◌∷◌, ◌++◌, length, Option, Some, None, inl, inr, refl, sym}
+use Rattle.std.proofs.Common.{ap, ◌∙◌, subst, arith, length-append, append_assoc}
 use Rattle.std.specs.Prelude.{slice_get}
 use Rattle.std.proofs.Math.Seq.{get_or-append_seam}
 use Rattle.std.proofs.lemmas.Option.{slice_get-get_or}
 use Rattle.core_lang.specs.declared.tree.Stmt.{Stmt}
-use Rattle.core_lang.specs.declared.tree.Action.{Action, Bind, SetLocal, SetGlobal, SetElement, SetField, Call, Print, If', IfElse', While', Row_of-Stmt, end_of-Stmt, more_of-Stmt}
+use Rattle.core_lang.specs.declared.tree.Action.{Action, Bind, SetLocal, SetGlobal, SetElement, SetField, Call, Print}
+use Rattle.core_lang.specs.declared.tree.Action.{If', IfElse', While', Row_of-Stmt, end_of-Stmt, more_of-Stmt}
 use Rattle.core_lang.specs.declared.tree.Return.{Return as Result_of}
 use Rattle.core_lang.specs.declared.tree.Section.{Section}
 use Rattle.flow.specs.Points.{Point, statement, result, inner_points, points_of_all, point_of_return, points}
@@ -61,18 +63,21 @@ module _ {P : Type 0} (lists : List (List P)) where
   abbrev pub Numbered : List Point → ℕ → Spot → Type 0
   Numbered xs n x = (i : ℕ) × (x.number ≡ n + i) × StandsAt xs i x.point
 
-  numbered_here : (x : Spot) (n place : ℕ) (p : Point) (behind : List Point) → x ≡ spot n place p → Numbered (p ∷ behind) n x
+  numbered_here : (x : Spot) (n place : ℕ) (p : Point) (behind : List Point) → x ≡ spot n place p →
+      Numbered (p ∷ behind) n x
   numbered_here x n place p behind e =
       subst (Numbered (p ∷ behind) n) (sym e) (0, (let z : n ≡ n + 0 = omega arith in z), record { before = []; behind = behind; is = refl; count = refl })
 
   numbered_front : (xs ys : List Point) (n : ℕ) (x : Spot) → Numbered xs n x → Numbered (xs ++ ys) n x
   numbered_front xs ys n x h = (h.0, h.1, stands_front xs ys h.0 x.point h.2)
 
-  numbered_back : (xs ys : List Point) (n n' : ℕ) (x : Spot) → n' ≡ n + length xs → Numbered ys n' x → Numbered (xs ++ ys) n x
+  numbered_back : (xs ys : List Point) (n n' : ℕ) (x : Spot) → n' ≡ n + length xs → Numbered ys n' x →
+      Numbered (xs ++ ys) n x
   numbered_back xs ys n n' x e h = let a = h.1 in (length xs + h.0, omega (arith, a, e), stands_back xs ys h.0 (length xs + h.0) x.point refl h.2)
 
   mutual
-    pub inside_numbered : (action : Action) (n place : ℕ) (x : Spot) → Inside lists action n place x → Numbered (inner_points action) (n + 1) x
+    pub inside_numbered : (action : Action) (n place : ℕ) (x : Spot) → Inside lists action n place x →
+        Numbered (inner_points action) (n + 1) x
     inside_numbered (If' c m block) n place x h = block_numbered block (n + 1) _ x h
     inside_numbered (IfElse' c m block k otherwise) n place x h =
         elim h [
@@ -89,7 +94,8 @@ module _ {P : Type 0} (lists : List (List P)) where
     inside_numbered (Call f es r) n place x h = absurd h
     inside_numbered (Print e) n place x h = absurd h
 
-    pub block_numbered : {m : _} (row : Row_of-Stmt m) (n place : ℕ) (x : Spot) → InBlock lists row n place x → Numbered (flow.points_in row) n x
+    pub block_numbered : {m : _} (row : Row_of-Stmt m) (n place : ℕ) (x : Spot) → InBlock lists row n place x →
+        Numbered (flow.points_in row) n x
     block_numbered end_of-Stmt n place x h = absurd h
     block_numbered (more_of-Stmt start action rest) n place x h =
         let p = statement start action in
@@ -103,7 +109,8 @@ module _ {P : Type 0} (lists : List (List P)) where
               (numbered_back inner later (n + 1) (n + points_of action) x (let a = length_inner action in omega (arith, a)) (block_numbered rest (n + points_of action) _ x more))
         ]
 
-  pub body_numbered : (ss : List Stmt) (r : Option Result_of) (n place : ℕ) (x : Spot) → InBody lists ss r n place x → Numbered (points_of_all ss ++ point_of_return r) n x
+  pub body_numbered : (ss : List Stmt) (r : Option Result_of) (n place : ℕ) (x : Spot) → InBody lists ss r n place x →
+      Numbered (points_of_all ss ++ point_of_return r) n x
   body_numbered [] None n place x h = absurd h
   body_numbered [] (Some r) n place x h = numbered_here x n place (result r) [] h
   body_numbered (s ∷ ss) r n place x h =
@@ -120,7 +127,8 @@ module _ {P : Type 0} (lists : List (List P)) where
             (numbered_back inner later (n + 1) (n + points_of s.action) x (let a = length_inner s.action in omega (arith, a)) (body_numbered ss r (n + points_of s.action) _ x more))
       ])
 
-  pub spot_is_point : (section : Section) (x : Spot) → InSection lists section x → slice_get (points section) x.number ≡ Some x.point
+  pub spot_is_point : (section : Section) (x : Spot) → InSection lists section x →
+      slice_get (points section) x.number ≡ Some x.point
   spot_is_point section x h =
       let b = body_numbered section.body.items section.result 0 0 x h in
       let z = b.1 in

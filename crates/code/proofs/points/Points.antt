@@ -1,11 +1,13 @@
 -- From the start of a point's own code, with its accesses covered, each instruction has its case until a point that follows it begins.
-use Rattle.std.proofs.Common.{◌≡◌, ℕ, ◌+◌, ◌≤◌, List, [], ◌∷◌, ◌++◌, length, Option, Some, Bool, true, false, inl, inr, refl, sym, ◌∙◌, subst, arith, length-append}
+use Rattle.std.proofs.Common.{◌≡◌, ℕ, ◌+◌, ◌≤◌, List, [], ◌∷◌, ◌++◌, length, Option, Some, Bool, true, false, inl}
+use Rattle.std.proofs.Common.{inr, refl, sym, ◌∙◌, subst, arith, length-append}
 use Rattle.std.specs.Prelude.{slice_get}
 use Rattle.core_lang.specs.declared.value.Value.{Value}
 use Rattle.core_lang.specs.declared.value.Outcome.{Outcome}
 use Rattle.core_lang.specs.declared.value.Outcome.TheVariants as out
 use Rattle.core_lang.specs.declared.tree.Condition.{Condition}
-use Rattle.core_lang.specs.declared.tree.Action.{Action, Bind, SetLocal, SetGlobal, SetElement, SetField, Call, Print, If', IfElse', While'}
+use Rattle.core_lang.specs.declared.tree.Action.{Action, Bind, SetLocal, SetGlobal, SetElement, SetField, Call, Print}
+use Rattle.core_lang.specs.declared.tree.Action.{If', IfElse', While'}
 use Rattle.core_lang.specs.declared.tree.Section.{Section}
 use Rattle.core_lang.specs.declared.shape.Shape.{Shape}
 use Rattle.core_lang.specs.Meaning.{State, GoesOn, given, value_of, truth_of, effect_of}
@@ -49,13 +51,15 @@ module _ {P M : Type 0} (load : M → ℕ → Option (Value × M)) (store : M �
   abbrev code : List Instr
   code = section_code lists section
 
-  pub jumps_safe : {a b : ℕ} (s : State) (memory : M) → Jumps lists code (InSection lists section) a b → Safe load store shape code F Q room (machine b [] s.locals memory s.prints) →
+  pub jumps_safe : {a b : ℕ} (s : State) (memory : M) → Jumps lists code (InSection lists section) a b →
+      Safe load store shape code F Q room (machine b [] s.locals memory s.prints) →
       Safe load store shape code F Q room (machine a [] s.locals memory s.prints)
   jumps_safe s memory none k = k
   jumps_safe s memory (forth at j) k = takes load store shape code F Q room (Jump _) (machine _ [] s.locals memory s.prints) (omega arith) at (jumps_safe s memory j k)
   jumps_safe s memory (back at j) k = takes load store shape code F Q room (JumpBack _) (machine _ [] s.locals memory s.prints) (omega arith) at (jumps_safe s memory j k)
 
-  leaves_safe : (p a : ℕ) (s : State) (memory memory' : M) → Arrives p memory s → Shows (view memory') s.heap → ((c : ℕ) → IsSeen (view memory) c → IsSeen (view memory') c) →
+  leaves_safe : (p a : ℕ) (s : State) (memory memory' : M) → Arrives p memory s → Shows (view memory') s.heap →
+      ((c : ℕ) → IsSeen (view memory) c → IsSeen (view memory') c) →
       Leaves lists code (InSection lists section) (Follows (skeleton section) p) a → Safe load store shape code F Q room (machine a [] s.locals memory' s.prints)
   leaves_safe p a s memory memory' arrives shows seen l =
       elim l [
@@ -64,7 +68,8 @@ module _ {P M : Type 0} (load : M → ℕ → Option (Value × M)) (store : M �
         | inr x ↦ jumps_safe s memory' x.1 (takes load store shape code F Q room End (machine x.0 [] s.locals memory' s.prints) (omega arith) x.2 arrives.0)
       ]
 
-  simple_point : (start : ℕ) (action : Action) (p n place : ℕ) (s : State) (memory : M) → stmt_need action ≤ room → IsSimple action →
+  simple_point : (start : ℕ) (action : Action) (p n place : ℕ) (s : State) (memory : M) → stmt_need action ≤ room →
+      IsSimple action →
       HasAt code place (acquire_code lists n ++ own_code action) →
       ((b : Bool) → Leaves lists code (InSection lists section) (Follows (skeleton section) p) (place + length (acquire_code lists n ++ own_code action))) →
       Shows (view memory) s.heap → CoversEach shape s.locals s.heap (view memory) (in_action start action) →
@@ -79,7 +84,8 @@ module _ {P M : Type 0} (load : M → ℕ → Option (Value × M)) (store : M �
       (subst (Leaves lists code (InSection lists section) (Follows (skeleton section) p)) end (l true))) g)
       memory (λ c. refl)
 
-  test_point : (x : Condition) (p n place over : ℕ) (s : State) (memory : M) → test_need x ≤ room → HasAt code place ((acquire_code lists n ++ test_code x) ++ JumpIfFalse over ∷ []) →
+  test_point : (x : Condition) (p n place over : ℕ) (s : State) (memory : M) → test_need x ≤ room →
+      HasAt code place ((acquire_code lists n ++ test_code x) ++ JumpIfFalse over ∷ []) →
       ((b : Bool) → Leaves lists code (InSection lists section) (Follows (skeleton section) p) (place + length (acquire_code lists n ++ test_code x) + 1 + passed_over lists b over)) →
       Shows (view memory) s.heap → CoversEach shape s.locals s.heap (view memory) (in_condition x) →
       Leads F (given (truth_of x shape s.locals s.heap) s (λ b. GoesOn s)) (Arrives p memory) →
@@ -97,13 +103,15 @@ module _ {P M : Type 0} (load : M → ℕ → Option (Value × M)) (store : M �
       (gives-given F (truth_of x shape s.locals s.heap) s (λ b. GoesOn s) (Arrives p memory) g))
       memory (λ d. refl)
     where
-      by : (b : Bool) (a a' : ℕ) → a ≡ a' → Leaves lists code (InSection lists section) (Follows (skeleton section) p) (a + 1 + passed_over lists b over) →
+      by : (b : Bool) (a a' : ℕ) → a ≡ a' →
+          Leaves lists code (InSection lists section) (Follows (skeleton section) p) (a + 1 + passed_over lists b over) →
           Leaves lists code (InSection lists section) (Follows (skeleton section) p)
           (branch load store view is shape code F Q room s.locals s.heap s.prints (view memory) b a' over)
       by true a a' e h = let e' : a + 1 + 0 ≡ a' + 1 = omega (arith, e) in subst (Leaves lists code (InSection lists section) (Follows (skeleton section) p)) e' h
       by false a a' e h = subst (λ i. Leaves lists code (InSection lists section) (Follows (skeleton section) p) (i + 1 + over)) e h
 
-  by_point : (point : Point) (x : Spot) (s : State) (memory : M) → PointCalls NoHelper point → point_need point ≤ room → HasAt code x.place (point_code lists point x.number) →
+  by_point : (point : Point) (x : Spot) (s : State) (memory : M) → PointCalls NoHelper point →
+      point_need point ≤ room → HasAt code x.place (point_code lists point x.number) →
       Ends lists code (InSection lists section) (Follows (skeleton section) x.number) x point →
       Shows (view memory) s.heap → CoversEach shape s.locals s.heap (view memory) (accesses_at point) → Does point s (Arrives x.number memory) →
       Steps load store shape code F Q room (machine (x.place + length (acquire_code lists x.number)) [] s.locals memory s.prints)
@@ -124,7 +132,8 @@ module _ {P M : Type 0} (load : M → ℕ → Option (Value × M)) (store : M �
   by_point (statement start (Print v)) x s memory only fit has e shows c g = simple_point start (Print v) x.number x.number x.place s memory fit tt has e shows c g
 
   -- from a point's own code on
-  pub point_safe : (x : Spot) (s : State) (memory : M) → CallsNothing section → InSection lists section x → operand_need section ≤ room → Shows (view memory) s.heap →
+  pub point_safe : (x : Spot) (s : State) (memory : M) → CallsNothing section → InSection lists section x →
+      operand_need section ≤ room → Shows (view memory) s.heap →
       Covers shape s.locals s.heap (view memory) (accesses_at x.point) → Does x.point s (Arrives x.number memory) →
       Steps load store shape code F Q room (machine (x.place + length (acquire_code lists x.number)) [] s.locals memory s.prints)
   point_safe x s memory only h room_is shows c g =

@@ -34,7 +34,8 @@ module _ (F : Outcome → Type 0) where
   gives-given (Err (Trap t)) s f P g = g
   gives-given (Err Wrong) s f P g = g
 
-  pub gives-more : {A : Type 0} (r : Result A Failure) (P Q : A → Type 0) → ((a : A) → P a → Q a) → Gives r P → Gives r Q
+  pub gives-more : {A : Type 0} (r : Result A Failure) (P Q : A → Type 0) → ((a : A) → P a → Q a) → Gives r P →
+      Gives r Q
   gives-more (Ok a) P Q k g = k a g
   gives-more (Err (Trap t)) P Q k g = g
   gives-more (Err Wrong) P Q k g = g

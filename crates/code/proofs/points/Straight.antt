@@ -1,6 +1,7 @@
 -- The code of expressions, conditions and statements without blocks has its cases where the cells that their accesses reach are seen.
 use Rattle.std.proofs.Math.Nat.{le-max_left, le-max_right}
-use Rattle.std.proofs.Common.{◌≡◌, ℕ, suc, ◌+◌, ◌≤◌, List, [], ◌∷◌, ◌++◌, length, Option, Some, None, Result, Ok, Err, Bool, true, false, ℤ, pos, refl, sym, ap, ◌∙◌, subst, arith, length-append}
+use Rattle.std.proofs.Common.{◌≡◌, ℕ, suc, ◌+◌, ◌≤◌, List, [], ◌∷◌, ◌++◌, length, Option, Some, None, Result, Ok, Err}
+use Rattle.std.proofs.Common.{Bool, true, false, ℤ, pos, refl, sym, ap, ◌∙◌, subst, arith, length-append}
 use Rattle.std.specs.Prelude.{slice_get, slice_set, nat_lt, if◌then◌else◌, not}
 use Rattle.core_lang.specs.declared.value.Value.{Value}
 use Rattle.core_lang.specs.declared.value.Value.TheVariants.{Int, Ref}
@@ -10,21 +11,30 @@ use Rattle.core_lang.specs.declared.value.Outcome.{Outcome}
 use Rattle.core_lang.specs.declared.tree.FieldStep.{FieldStep}
 use Rattle.core_lang.specs.declared.tree.FieldStep.TheVariants.{Final, Field}
 use Rattle.core_lang.specs.declared.tree.Path.{Path}
-use Rattle.core_lang.specs.declared.tree.Expr.{Expr, Number, Null, Place, Global, Element', Member', Negate', Owned', Chain', Row_of-Operation, end_of-Operation, more_of-Operation}
-use Rattle.core_lang.specs.declared.tree.Condition.{Condition, Compare, Not', And', Or', Row_of-Condition, end_of-Condition, more_of-Condition}
-use Rattle.core_lang.specs.declared.tree.Action.{Action, Bind, SetLocal, SetGlobal, SetElement, SetField, Call, Print, If', IfElse', While'}
+use Rattle.core_lang.specs.declared.tree.Expr.{Expr, Number, Null, Place, Global, Element', Member', Negate', Owned'}
+use Rattle.core_lang.specs.declared.tree.Expr.{Chain', Row_of-Operation, end_of-Operation, more_of-Operation}
+use Rattle.core_lang.specs.declared.tree.Condition.{Condition, Compare, Not', And', Or', Row_of-Condition}
+use Rattle.core_lang.specs.declared.tree.Condition.{end_of-Condition, more_of-Condition}
+use Rattle.core_lang.specs.declared.tree.Action.{Action, Bind, SetLocal, SetGlobal, SetElement, SetField, Call, Print}
+use Rattle.core_lang.specs.declared.tree.Action.{If', IfElse', While'}
 use Rattle.core_lang.specs.declared.value.Outcome.TheVariants as out
 use Rattle.core_lang.specs.declared.value.Trap.TheVariants.{TooManyPrints}
 use Rattle.core_lang.specs.declared.shape.Shape.{Shape}
 use Rattle.core_lang.specs.Arithmetic.{on_values, negated, compared}
-use Rattle.core_lang.specs.Cells.{with, found, element_cell, member_of, field_cell, final_value, owned, not_null, read, step_value}
-use Rattle.core_lang.specs.Meaning.{State, GoesOn, Traps, given, written, stored, effect_of, along, place_of, joined, value_of, chained, and_then, or_else, truth_of, all_true, any_true}
+use Rattle.core_lang.specs.Cells.{with, found, element_cell, member_of, field_cell, final_value, owned, not_null}
+use Rattle.core_lang.specs.Cells.{read, step_value}
+use Rattle.core_lang.specs.Meaning.{State, GoesOn, Traps, given, written, stored, effect_of, along, place_of, joined}
+use Rattle.core_lang.specs.Meaning.{value_of, chained, and_then, or_else, truth_of, all_true, any_true}
 use Rattle.core_lang.specs.Meaning as meaning
 use Rattle.locks.specs.Accesses.{Access, in_path, in_expr, in_operations, in_condition, in_conditions, in_action}
 use Rattle.locks.specs.Accesses as accesses
 use Rattle.locks.specs.Working.Reached.{Reaches, to_global, to_element, to_field}
 use Rattle.code.specs.declared.instr.Instr.{Instr}
-use Rattle.code.specs.declared.instr.Instr.TheVariants.{PushNumber, PushNull, GetLocal, PutLocal, LoadGlobal, PutGlobal, LoadElement, Bound, PutElement, GetMember, LoadFinal, LoadField, NonNull, PutField, Where, NegateTop, NotTop, Operate, Test, Jump, JumpIfFalse, JumpIfTrue, PrintTop, Return}
+use Rattle.code.specs.declared.instr.Instr.TheVariants.{PushNumber, PushNull, GetLocal, PutLocal, LoadGlobal}
+use Rattle.code.specs.declared.instr.Instr.TheVariants.{PutGlobal, LoadElement, Bound, PutElement, GetMember}
+use Rattle.code.specs.declared.instr.Instr.TheVariants.{LoadFinal, LoadField, NonNull, PutField, Where, NegateTop}
+use Rattle.code.specs.declared.instr.Instr.TheVariants.{NotTop, Operate, Test, Jump, JumpIfFalse, JumpIfTrue}
+use Rattle.code.specs.declared.instr.Instr.TheVariants.{PrintTop, Return}
 use Rattle.code.specs.Machine.{Machine, Effect, truth, printed, act, or_trap, if_there, loads, stores, advances}
 use Rattle.code.specs.Lowering.{fields_code, path_code, expr_code, chain_code, test_code, all_code, any_code}
 use Rattle.code.specs.Needs.{expr_need, chain_need, test_need, tests_need, stmt_need}
@@ -35,7 +45,8 @@ use Rattle.code.proofs.points.Places.{has_front, has_back}
 use Rattle.code.proofs.points.Results.{Gives, Leads, gives-with, gives-given, gives-more, gives-noted}
 use Rattle.code.proofs.points.Taken.{steps, takes, goes-trap, goes-ok}
 use Rattle.code.specs.Theory.Safety.{safe}
-use Rattle.code.proofs.points.Covered.{shows-set, seen-set, CoversEach, covers-front, covers-back, with-with, along-append}
+use Rattle.code.proofs.points.Covered.{shows-set, seen-set, CoversEach, covers-front, covers-back, with-with}
+use Rattle.code.proofs.points.Covered.{along-append}
 
 -- a statement's own code, without what is acquired before it; of an `if` or a `while` nothing
 abbrev pub own_code : Action → List Instr
@@ -88,17 +99,21 @@ module _ {M : Type 0} (load : M → ℕ → Option (Value × M)) (store : M → 
   safe_here : (m : Machine M) → StepsHere m → SafeHere m
   safe_here = safe load store shape code room F Q
 
-  step : (i : Instr) (m : Machine M) → length m.stack ≤ room → slice_get code m.place ≡ Some i → GoesHere (act load store shape (Some i) m) → StepsHere m
+  step : (i : Instr) (m : Machine M) → length m.stack ≤ room → slice_get code m.place ≡ Some i →
+      GoesHere (act load store shape (Some i) m) → StepsHere m
   step = steps load store shape code F Q room
 
-  take : (i : Instr) (m : Machine M) → length m.stack ≤ room → slice_get code m.place ≡ Some i → GoesHere (act load store shape (Some i) m) → SafeHere m
+  take : (i : Instr) (m : Machine M) → length m.stack ≤ room → slice_get code m.place ≡ Some i →
+      GoesHere (act load store shape (Some i) m) → SafeHere m
   take = takes load store shape code F Q room
 
-  on_trap : {A : Type 0} (r : Result A Failure) (P : A → Type 0) (go : A → Effect M) → Gives F r P → ((a : A) → r ≡ Ok a → P a → GoesHere (go a)) →
+  on_trap : {A : Type 0} (r : Result A Failure) (P : A → Type 0) (go : A → Effect M) → Gives F r P →
+      ((a : A) → r ≡ Ok a → P a → GoesHere (go a)) →
       GoesHere (or_trap r go)
   on_trap = goes-trap load store shape code F Q room
 
-  on_ok : {A : Type 0} (r : Result A Failure) (a : A) (go : A → Effect M) → r ≡ Ok a → GoesHere (go a) → GoesHere (or_trap r go)
+  on_ok : {A : Type 0} (r : Result A Failure) (a : A) (go : A → Effect M) → r ≡ Ok a → GoesHere (go a) →
+      GoesHere (or_trap r go)
   on_ok = goes-ok load store shape code F Q room
 
   -- nothing has been written since
@@ -121,7 +136,8 @@ module _ {M : Type 0} (load : M → ℕ → Option (Value × M)) (store : M → 
   safely place stack f memory sees = safe_here (here place stack memory) (f memory sees)
 
   -- a load of a cell that is seen
-  load_goes : (cell place : ℕ) (old stack : List Value) (o : Option Value) (P : Value → Type 0) (memory : M) → slice_get heap cell ≡ o → Sees memory →
+  load_goes : (cell place : ℕ) (old stack : List Value) (o : Option Value) (P : Value → Type 0) (memory : M) →
+      slice_get heap cell ≡ o → Sees memory →
       ((v : Value) → slice_get heap cell ≡ Some v → seen cell ≡ Some v) → Gives F (found o) P →
       ((v : Value) → slice_get heap cell ≡ Some v → P v → Then (place + 1) stack v) →
       GoesHere (loads load store shape (here place old memory) cell stack)
@@ -144,14 +160,16 @@ module _ {M : Type 0} (load : M → ℕ → Option (Value × M)) (store : M → 
       by (Ok w) e = along-append shape heap base step w ∙ ap (λ r. with r (λ o. step_value shape heap o step)) e
       by (Err f) e = cc
 
-  reaches : (local : ℕ) (base : List FieldStep) (s f : ℕ) (v : Value) (cell : ℕ) → reached local base ≡ Ok v → field_cell shape v f ≡ Ok cell →
+  reaches : (local : ℕ) (base : List FieldStep) (s f : ℕ) (v : Value) (cell : ℕ) → reached local base ≡ Ok v →
+      field_cell shape v f ≡ Ok cell →
       Reaches shape locals heap (accesses.field local base s f) cell
   reaches local base s f v cell e h =
       to_field (sym (with-with (found (slice_get locals local)) (λ w. along shape heap w base) (λ o. field_cell shape o f))
       ∙ ap (λ r. with r (λ o. field_cell shape o f)) e ∙ h)
 
   -- an instruction on the value on top
-  top_safe : (i : Instr) (r : Result Value Failure) (place : ℕ) (stack : List Value) (top : Value) → length (top ∷ stack) ≤ room →
+  top_safe : (i : Instr) (r : Result Value Failure) (place : ℕ) (stack : List Value) (top : Value) →
+      length (top ∷ stack) ≤ room →
       slice_get code place ≡ Some i →
       ((memory : M) → act load store shape (Some i) (here place (top ∷ stack) memory) ≡ or_trap r (λ w. advances (here place (top ∷ stack) memory) (w ∷ stack))) →
       Gives F r (λ w. Then (place + 1) stack w) → Safely place (top ∷ stack)
@@ -160,7 +178,8 @@ module _ {M : Type 0} (load : M → ℕ → Option (Value × M)) (store : M → 
       (subst (GoesHere) (sym (op memory))
       (on_trap r (Then (place + 1) stack) _ g (λ w e k. k memory s)))
 
-  fields_safe : (start local : ℕ) (fs base : List FieldStep) (v : Value) (place : ℕ) (stack : List Value) → length (v ∷ stack) ≤ room →
+  fields_safe : (start local : ℕ) (fs base : List FieldStep) (v : Value) (place : ℕ) (stack : List Value) →
+      length (v ∷ stack) ≤ room →
       HasAt code place (fields_code fs) →
       CoveredHere (accesses.along start local base fs) → reached local base ≡ Ok v →
       Gives F (along shape heap v fs) (Then (place + length (fields_code fs)) stack) → Then place stack v
@@ -188,7 +207,8 @@ module _ {M : Type 0} (load : M → ℕ → Option (Value × M)) (store : M → 
       (reached-step local base (Field s f) v e ∙ ap (λ r. with r (read heap)) e' ∙ ap found er)
       (subst (λ n. Gives F (along shape heap w fs) (Then n stack)) p kk))))
 
-  path_safe : (path : Path) (place : ℕ) (stack : List Value) → length stack + 1 ≤ room → HasAt code place (path_code path) → CoveredHere (in_path path) →
+  path_safe : (path : Path) (place : ℕ) (stack : List Value) → length stack + 1 ≤ room →
+      HasAt code place (path_code path) → CoveredHere (in_path path) →
       Gives F (place_of path shape locals heap) (Then (place + length (path_code path)) stack) → From place stack
   path_safe path place stack fit has c g memory sees =
       let fs = path.fields.items in
@@ -228,7 +248,8 @@ module _ {M : Type 0} (load : M → ℕ → Option (Value × M)) (store : M → 
   test_needs (Or' m before p last) = let n = test_needs last in let l = le-max_right (tests_need before) (test_need last) in omega (arith, n, l)
 
   mutual
-    pub expr_safe : (e : Expr) (place : ℕ) (stack : List Value) → length stack + expr_need e ≤ room → HasAt code place (expr_code e) → CoveredHere (in_expr e) →
+    pub expr_safe : (e : Expr) (place : ℕ) (stack : List Value) → length stack + expr_need e ≤ room →
+        HasAt code place (expr_code e) → CoveredHere (in_expr e) →
         Gives F (value_of e shape locals heap) (Then (place + length (expr_code e)) stack) → From place stack
     expr_safe (Number n) place stack fit has c g =
         λ memory sees. step (PushNumber n) (here place stack memory) (omega (arith, fit)) has.0 (g memory sees)
@@ -293,7 +314,8 @@ module _ {M : Type 0} (load : M → ℕ → Option (Value × M)) (store : M → 
         (gives-chained rest (value_of first shape locals heap) (Then (place + length ca + length (chain_code rest)) stack)
         (subst (λ n. Gives F (value_of (Chain' p first m rest) shape locals heap) (Then n stack)) end g)))
 
-    chain_safe : {m : _} (row : Row_of-Operation m) (place : ℕ) (stack : List Value) (a : Value) → length (a ∷ stack) ≤ room →
+    chain_safe : {m : _} (row : Row_of-Operation m) (place : ℕ) (stack : List Value) (a : Value) →
+        length (a ∷ stack) ≤ room →
         length stack + chain_need row ≤ room → HasAt code place (chain_code row) →
         CoveredHere (in_operations row) →
         Gives F (chained row shape locals heap (Ok a)) (Then (place + length (chain_code row)) stack) → Then place stack a
@@ -329,12 +351,14 @@ module _ {M : Type 0} (load : M → ℕ → Option (Value × M)) (store : M → 
   abbrev pub Tells : ℕ → List Value → Bool → Type 0
   Tells place stack b = Then place stack (truth b)
 
-  gives-and : (r next : Result Bool Failure) (P : Bool → Type 0) → Gives F (and_then r next) P → Gives F r (λ b. Gives F (and_then (Ok b) next) P)
+  gives-and : (r next : Result Bool Failure) (P : Bool → Type 0) → Gives F (and_then r next) P →
+      Gives F r (λ b. Gives F (and_then (Ok b) next) P)
   gives-and (Ok b) next P g = g
   gives-and (Err (Trap t)) next P g = g
   gives-and (Err Wrong) next P g = g
 
-  gives-or : (r next : Result Bool Failure) (P : Bool → Type 0) → Gives F (or_else r next) P → Gives F r (λ b. Gives F (or_else (Ok b) next) P)
+  gives-or : (r next : Result Bool Failure) (P : Bool → Type 0) → Gives F (or_else r next) P →
+      Gives F r (λ b. Gives F (or_else (Ok b) next) P)
   gives-or (Ok b) next P g = g
   gives-or (Err (Trap t)) next P g = g
   gives-or (Err Wrong) next P g = g
@@ -360,20 +384,23 @@ module _ {M : Type 0} (load : M → ℕ → Option (Value × M)) (store : M → 
       take (JumpIfTrue n) (here place (truth true ∷ stack) memory) (omega (arith, fit)) at
       (subst (λ x. Safely x stack) (sym e) (λ memory sees. take (PushNumber (pos 1)) (here end stack memory) (omega (arith, fit)) push (g memory sees)) memory sees)
 
-  not_safe : (b : Bool) (place : ℕ) (stack : List Value) → length stack + 1 ≤ room → slice_get code place ≡ Some NotTop →
+  not_safe : (b : Bool) (place : ℕ) (stack : List Value) → length stack + 1 ≤ room →
+      slice_get code place ≡ Some NotTop →
       Tells (place + 1) stack (not b) → Tells place stack b
   not_safe true place stack fit at k memory sees = take NotTop (here place (truth true ∷ stack) memory) (omega (arith, fit)) at (k memory sees)
   not_safe false place stack fit at k memory sees = take NotTop (here place (truth false ∷ stack) memory) (omega (arith, fit)) at (k memory sees)
 
   -- the last operand, and a jump past the truth value behind it
-  last_safe : (b : Bool) (place end : ℕ) (stack : List Value) → length stack + 1 ≤ room → slice_get code place ≡ Some (Jump 1) → place + 1 ≡ end →
+  last_safe : (b : Bool) (place end : ℕ) (stack : List Value) → length stack + 1 ≤ room →
+      slice_get code place ≡ Some (Jump 1) → place + 1 ≡ end →
       Tells (end + 1) stack b → Tells place stack b
   last_safe b place end stack fit at e k memory sees =
       take (Jump 1) (here place (truth b ∷ stack) memory) (omega (arith, fit)) at
       (subst (λ x. Tells (x + 1) stack b) (sym e) k memory sees)
 
   mutual
-    pub test_safe : (c : Condition) (place : ℕ) (stack : List Value) → length stack + test_need c ≤ room → HasAt code place (test_code c) →
+    pub test_safe : (c : Condition) (place : ℕ) (stack : List Value) → length stack + test_need c ≤ room →
+        HasAt code place (test_code c) →
         CoveredHere (in_condition c) →
         Gives F (truth_of c shape locals heap) (Tells (place + length (test_code c)) stack) → From place stack
     test_safe (Compare comparison a b) place stack fit has c g =
@@ -490,7 +517,8 @@ module _ {M : Type 0} (load : M → ℕ → Option (Value × M)) (store : M → 
       SafeHere (machine place stack s.locals memory s.prints)
 
   -- a local
-  put_local_safe : (k place : ℕ) (stack : List Value) (v : Value) → length (v ∷ stack) ≤ room → slice_get code place ≡ Some (PutLocal k) → Shows seen heap →
+  put_local_safe : (k place : ℕ) (stack : List Value) (v : Value) → length (v ∷ stack) ≤ room →
+      slice_get code place ≡ Some (PutLocal k) → Shows seen heap →
       Leads F (stored k v state) (On (place + 1) stack) → Then place stack v
   put_local_safe k place stack v fit at shows g memory sees =
       take (PutLocal k) (here place (v ∷ stack) memory) fit at
@@ -498,7 +526,8 @@ module _ {M : Type 0} (load : M → ℕ → Option (Value × M)) (store : M → 
       (λ old e next. next memory (λ c w e. shows c w (sym (sees c) ∙ e)) (λ c h. (h.0, sees c ∙ h.1))))
 
   -- a cell
-  store_goes : (cell place : ℕ) (old stack : List Value) (v : Value) (o : Option Value) (memory : M) → slice_get heap cell ≡ o → Sees memory → Shows seen heap →
+  store_goes : (cell place : ℕ) (old stack : List Value) (v : Value) (o : Option Value) (memory : M) →
+      slice_get heap cell ≡ o → Sees memory → Shows seen heap →
       ((w : Value) → slice_get heap cell ≡ Some w → seen cell ≡ Some w) → Gives F (found o) (λ _. On (place + 1) stack (record { locals = locals; heap = slice_set heap cell v; prints = prints })) →
       GoesHere (stores load store shape (here place old memory) cell v stack)
   store_goes cell place old stack v None memory e sees shows c g = absurd g
@@ -512,7 +541,8 @@ module _ {M : Type 0} (load : M → ℕ → Option (Value × M)) (store : M → 
   printed_same (Ref r) P g = g
   printed_same (Int n) P g = by (nat_lt (length prints) 256) g
     where
-      by : (b : Bool) → Leads F (if b then GoesOn (record state { prints = prints ++ n ∷ [] }) else Traps TooManyPrints state) P →
+      by : (b : Bool) →
+          Leads F (if b then GoesOn (record state { prints = prints ++ n ∷ [] }) else Traps TooManyPrints state) P →
           Gives F (if b then Ok (prints ++ n ∷ []) else Err (Trap TooManyPrints)) (λ more. P (record { locals = locals; heap = heap; prints = more }))
       by true g = g
       by false g = g
@@ -523,7 +553,8 @@ module _ {M : Type 0} (load : M → ℕ → Option (Value × M)) (store : M → 
   not_null_same (Ref (Some o)) base e = cc
 
   -- a statement without blocks
-  pub simple_safe : (action : Action) (start place : ℕ) (stack : List Value) → length stack + stmt_need action ≤ room → IsSimple action →
+  pub simple_safe : (action : Action) (start place : ℕ) (stack : List Value) →
+      length stack + stmt_need action ≤ room → IsSimple action →
       HasAt code place (own_code action) → Shows seen heap →
       CoveredHere (in_action start action) →
       Leads F (effect_of action shape 0 state) (On (place + length (own_code action)) stack) → From place stack
@@ -635,13 +666,15 @@ module _ {M : Type 0} (load : M → ℕ → Option (Value × M)) (store : M → 
   branch true place over = place + 1
   branch false place over = place + 1 + over
 
-  jump_safe : (b : Bool) (place over : ℕ) (stack : List Value) → length stack + 1 ≤ room → slice_get code place ≡ Some (JumpIfFalse over) →
+  jump_safe : (b : Bool) (place over : ℕ) (stack : List Value) → length stack + 1 ≤ room →
+      slice_get code place ≡ Some (JumpIfFalse over) →
       Safely (branch b place over) stack → Tells place stack b
   jump_safe true place over stack fit at k memory sees = take (JumpIfFalse over) (here place (truth true ∷ stack) memory) (omega (arith, fit)) at (k memory sees)
   jump_safe false place over stack fit at k memory sees = take (JumpIfFalse over) (here place (truth false ∷ stack) memory) (omega (arith, fit)) at (k memory sees)
 
   -- a condition, and the jump behind it
-  pub branch_safe : (x : Condition) (place over : ℕ) (stack : List Value) → length stack + test_need x ≤ room → HasAt code place (test_code x) →
+  pub branch_safe : (x : Condition) (place over : ℕ) (stack : List Value) → length stack + test_need x ≤ room →
+      HasAt code place (test_code x) →
       slice_get code (place + length (test_code x)) ≡ Some (JumpIfFalse over) →
       CoveredHere (in_condition x) →
       Gives F (truth_of x shape locals heap) (λ b. Safely (branch b (place + length (test_code x)) over) stack) → From place stack
@@ -650,7 +683,8 @@ module _ {M : Type 0} (load : M → ℕ → Option (Value × M)) (store : M → 
       test_safe x place stack fit has c (gives-more F (truth_of x shape locals heap) _ _ (λ b k. jump_safe b (place + length (test_code x)) over stack (omega (arith, fit, n)) at k) g)
 
   -- a result
-  pub return_safe : (e : Expr) (place : ℕ) (stack : List Value) → length stack + expr_need e ≤ room → HasAt code place (expr_code e) →
+  pub return_safe : (e : Expr) (place : ℕ) (stack : List Value) → length stack + expr_need e ≤ room →
+      HasAt code place (expr_code e) →
       slice_get code (place + length (expr_code e)) ≡ Some Return →
       CoveredHere (in_expr e) → Gives F (value_of e shape locals heap) (λ v. F (out.Returns v)) → From place stack
   return_safe e place stack fit has at c g =

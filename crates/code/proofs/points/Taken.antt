@@ -18,19 +18,23 @@ module _ {M : Type 0} (load : M → ℕ → Option (Value × M)) (store : M → 
   GoesHere = Goes load store shape code F Q room
 
   -- one instruction
-  pub steps : (i : Instr) (m : Machine M) → length m.stack ≤ room → slice_get code m.place ≡ Some i → GoesHere (act load store shape (Some i) m) →
+  pub steps : (i : Instr) (m : Machine M) → length m.stack ≤ room → slice_get code m.place ≡ Some i →
+      GoesHere (act load store shape (Some i) m) →
       Steps load store shape code F Q room m
   steps i m fit at g = (fit, subst (λ o. GoesHere (act load store shape o m)) (sym at) g)
 
-  pub takes : (i : Instr) (m : Machine M) → length m.stack ≤ room → slice_get code m.place ≡ Some i → GoesHere (act load store shape (Some i) m) →
+  pub takes : (i : Instr) (m : Machine M) → length m.stack ≤ room → slice_get code m.place ≡ Some i →
+      GoesHere (act load store shape (Some i) m) →
       Safe load store shape code F Q room m
   takes i m fit at g = goes_on load store shape code room F Q m _ fit (ap (λ o. act load store shape o m) at) g
 
-  pub goes-trap : {A : Type 0} (r : Result A Failure) (P : A → Type 0) (go : A → Effect M) → Gives F r P → ((a : A) → r ≡ Ok a → P a → GoesHere (go a)) →
+  pub goes-trap : {A : Type 0} (r : Result A Failure) (P : A → Type 0) (go : A → Effect M) → Gives F r P →
+      ((a : A) → r ≡ Ok a → P a → GoesHere (go a)) →
       GoesHere (or_trap r go)
   goes-trap (Ok a) P go g k = k a refl g
   goes-trap (Err (Trap t)) P go g k = g
   goes-trap (Err Wrong) P go g k = g
 
-  pub goes-ok : {A : Type 0} (r : Result A Failure) (a : A) (go : A → Effect M) → r ≡ Ok a → GoesHere (go a) → GoesHere (or_trap r go)
+  pub goes-ok : {A : Type 0} (r : Result A Failure) (a : A) (go : A → Effect M) → r ≡ Ok a → GoesHere (go a) →
+      GoesHere (or_trap r go)
   goes-ok r a go e g = subst (λ x. GoesHere (or_trap x go)) (sym e) g

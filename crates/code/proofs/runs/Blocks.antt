@@ -1,5 +1,6 @@
 -- Statements with their points and blocks, and whole sections: their code settles what they lead to.
-use Rattle.std.proofs.Common.{◌≡◌, ℕ, zero, suc, ◌+◌, ◌-◌, ◌≤◌, List, [], ◌∷◌, ◌++◌, length, Option, Some, None, Result, Ok, Err, Bool, true, false, refl, sym, subst, arith, length-append}
+use Rattle.std.proofs.Common.{◌≡◌, ℕ, zero, suc, ◌+◌, ◌-◌, ◌≤◌, List, [], ◌∷◌, ◌++◌, length, Option, Some, None}
+use Rattle.std.proofs.Common.{Result, Ok, Err, Bool, true, false, refl, sym, subst, arith, length-append}
 use Rattle.std.specs.Prelude.{slice_get}
 use Rattle.core_lang.specs.declared.value.Value.{Value}
 use Rattle.core_lang.specs.declared.value.Failure.{Failure}
@@ -9,20 +10,26 @@ use Rattle.core_lang.specs.declared.shape.Shape.{Shape}
 use Rattle.core_lang.specs.declared.tree.Expr.{Expr}
 use Rattle.core_lang.specs.declared.tree.Condition.{Condition}
 use Rattle.core_lang.specs.declared.tree.Stmt.{Stmt}
-use Rattle.core_lang.specs.declared.tree.Action.{Action, Bind, SetLocal, SetGlobal, SetElement, SetField, Call, Print, If', IfElse', While', Row_of-Stmt, end_of-Stmt, more_of-Stmt}
+use Rattle.core_lang.specs.declared.tree.Action.{Action, Bind, SetLocal, SetGlobal, SetElement, SetField, Call, Print}
+use Rattle.core_lang.specs.declared.tree.Action.{If', IfElse', While', Row_of-Stmt, end_of-Stmt, more_of-Stmt}
 use Rattle.core_lang.specs.declared.tree.Return.{Return as Result_of}
 use Rattle.core_lang.specs.Cells.{with, element_cell, field_cell, not_null}
-use Rattle.core_lang.specs.Meaning.{State, Flow, GoesOn, Traps, Beyond, Astray, given, after, choose, turns, written, stored, place_of, value_of, truth_of, effect_of, effects_of, sequence}
+use Rattle.core_lang.specs.Meaning.{State, Flow, GoesOn, Traps, Beyond, Astray, given, after, choose, turns, written}
+use Rattle.core_lang.specs.Meaning.{stored, place_of, value_of, truth_of, effect_of, effects_of, sequence}
 use Rattle.core_lang.specs.Meaning as meaning
 use Rattle.core_lang.specs.Whole.{Run, over, returned, ending, concluded}
 use Rattle.core_lang.specs.Helpers.{CallsOnly, AllCallOnly, EachCallsOnly, NoHelper}
 use Rattle.code.specs.declared.instr.Instr.{Instr}
-use Rattle.code.specs.declared.instr.Instr.TheVariants.{Bound, PutElement, NonNull, PutField, PutLocal, PutGlobal, PrintTop, Jump, JumpBack, JumpIfFalse, Acquire, Return, End}
+use Rattle.code.specs.declared.instr.Instr.TheVariants.{Bound, PutElement, NonNull, PutField, PutLocal, PutGlobal}
+use Rattle.code.specs.declared.instr.Instr.TheVariants.{PrintTop, Jump, JumpBack, JumpIfFalse, Acquire, Return, End}
 use Rattle.code.specs.Machine.{truth}
-use Rattle.code.specs.Lowering.{path_code, expr_code, test_code, points_of, points_in, while_code, acquire_any, acquire_code, stmt_code, block_code, end_code, body_code}
+use Rattle.code.specs.Lowering.{path_code, expr_code, test_code, points_of, points_in, while_code, acquire_any}
+use Rattle.code.specs.Lowering.{acquire_code, stmt_code, block_code, end_code, body_code}
 use Rattle.code.proofs.runs.Places.{HasAt, has_front, has_back, has_length}
 use Rattle.code.proofs.runs.Settling.{resolve, conclude, machine, Settles, Onward, fewer, counts, takes}
-use Rattle.code.proofs.runs.Straight.{resolve-with, conclude-given, path_settles, expr_settles, test_settles, put_local_settles, put_global_settles, element_settles, field_settles, print_settles}
+use Rattle.code.proofs.runs.Straight.{resolve-with, conclude-given, path_settles, expr_settles, test_settles}
+use Rattle.code.proofs.runs.Straight.{put_local_settles, put_global_settles, element_settles, field_settles}
+use Rattle.code.proofs.runs.Straight.{print_settles}
 
 -- one instruction less, unless there is none to take away, for one turn less
 one_less : (k m : ℕ) → k ≤ suc m → (j : ℕ) × (k ≤ suc j) × (j ≤ m) × (j ≤ k)
@@ -46,7 +53,8 @@ module _ (shape : Shape) (code : List Instr) where
   conclude-after k place s Astray f go h = h
 
   -- a truth value is on the stack: on where it is true, else behind so many instructions
-  chosen : (k place over : ℕ) (s : State) (f g : Flow) (go : State → Run) → slice_get code place ≡ Some (JumpIfFalse over) →
+  chosen : (k place over : ℕ) (s : State) (f g : Flow) (go : State → Run) →
+      slice_get code place ≡ Some (JumpIfFalse over) →
       Runs k (place + 1) s (conclude f go) → Runs k (place + 1 + over) s (conclude g go) →
       (b : Bool) → Settles shape code (suc k) (machine place (truth b ∷ []) s) (conclude (choose b f g) go)
   chosen k place over s f g go at on_true on_false true = counts shape code k (JumpIfFalse over) (machine place (truth true ∷ []) s) (conclude f go) at on_true
@@ -55,14 +63,16 @@ module _ (shape : Shape) (code : List Instr) where
   -- over the turns that each execution of a loop makes at most, and the lists of lock paths before the points
   module _ {P : Type 0} (n : ℕ) (lists : List (List P)) where
     -- the locks that are asked for before a point: alone, the machine passes on
-    acquire_settles : (o : Option (List P)) (point k place end : ℕ) (s : State) (run : Run) → HasAt code place (acquire_any o point) end → Runs k end s run → Runs k place s run
+    acquire_settles : (o : Option (List P)) (point k place end : ℕ) (s : State) (run : Run) →
+        HasAt code place (acquire_any o point) end → Runs k end s run → Runs k place s run
     acquire_settles None point k place end s run has h = ends_at k place end s run has h
     acquire_settles (Some []) point k place end s run has h = ends_at k place end s run has h
     acquire_settles (Some (path ∷ paths)) point k place end s run has h =
         takes shape code k (Acquire point) (machine place [] s) run has.0 (ends_at k (place + 1) end s run has.1 h)
 
     -- behind what is acquired before a point
-    acquired : (point k place end : ℕ) (s : State) (rest : List Instr) (run : Run) → HasAt code place (acquire_code lists point ++ rest) end →
+    acquired : (point k place end : ℕ) (s : State) (rest : List Instr) (run : Run) →
+        HasAt code place (acquire_code lists point ++ rest) end →
         ((at : ℕ) → HasAt code at rest end → Runs k at s run) → Runs k place s run
     acquired point k place end s rest run has h =
         let first = acquire_code lists point in
@@ -70,7 +80,8 @@ module _ (shape : Shape) (code : List Instr) where
         (h (place + length first) (has_back code place end first rest has))
 
     -- a point's condition, and where its jump leads
-    condition_settles : (c : Condition) (point j k place mid over : ℕ) (s : State) (f g : Flow) (go : State → Run) → k ≤ suc j →
+    condition_settles : (c : Condition) (point j k place mid over : ℕ) (s : State) (f g : Flow) (go : State → Run) →
+        k ≤ suc j →
         HasAt code place (acquire_code lists point ++ test_code c) mid → slice_get code mid ≡ Some (JumpIfFalse over) →
         Runs j (mid + 1) s (conclude f go) → Runs j (mid + 1 + over) s (conclude g go) →
         Runs k place s (conclude (given (truth_of c shape s.locals s.heap) s (λ b. choose b f g)) go)
@@ -81,7 +92,8 @@ module _ (shape : Shape) (code : List Instr) where
         (λ b. fewer shape code k (suc j) (machine mid (truth b ∷ []) s) (conclude (choose b f g) go) le (chosen j mid over s f g go at true_leads false_leads b))))
 
     -- a loop: each turn makes an instruction at least, so m turns settle as many instructions
-    loop_settles : (c : Condition) (body : List Instr) (point place end : ℕ) (effect : State → Flow) (go : State → Run) →
+    loop_settles : (c : Condition) (body : List Instr) (point place end : ℕ) (effect : State → Flow) (go : State →
+        Run) →
         HasAt code place (while_code (acquire_code lists point ++ test_code c) body) end →
         ((at stop j : ℕ) (s : State) (next : State → Run) → j ≤ n → HasAt code at body stop → Onward shape code j stop next → Runs j at s (conclude (effect s) next)) →
         (m k : ℕ) → k ≤ m → m ≤ n → Onward shape code k end go →
@@ -128,7 +140,8 @@ module _ (shape : Shape) (code : List Instr) where
             (ends_at one.0 (mid + 1 + (length body + 1)) end s (go s) over_body (h' s))
 
     -- a value, and what stands behind it
-    value_settles : (e : Expr) (rest : List Instr) (k place end : ℕ) (s : State) (f : Value → Flow) (go : State → Run) → HasAt code place (expr_code e ++ rest) end →
+    value_settles : (e : Expr) (rest : List Instr) (k place end : ℕ) (s : State) (f : Value → Flow) (go : State →
+        Run) → HasAt code place (expr_code e ++ rest) end →
         ((v : Value) (at : ℕ) → HasAt code at rest end → Settles shape code k (machine at (v ∷ []) s) (conclude (f v) go)) →
         Runs k place s (conclude (given (value_of e shape s.locals s.heap) s f) go)
     value_settles e rest k place end s f go has h =
@@ -138,7 +151,8 @@ module _ (shape : Shape) (code : List Instr) where
         (λ v. h v (place + length ce) (has_back code place end ce rest has)))
 
     mutual
-      stmt_settles : (x : Action) (point k place end : ℕ) (s : State) (go : State → Run) → CallsOnly NoHelper x → k ≤ n → HasAt code place (stmt_code lists x point) end → Onward shape code k end go →
+      stmt_settles : (x : Action) (point k place end : ℕ) (s : State) (go : State → Run) → CallsOnly NoHelper x →
+          k ≤ n → HasAt code place (stmt_code lists x point) end → Onward shape code k end go →
           Runs k place s (conclude (effect_of x shape n s) go)
       stmt_settles (Bind local e) point k place end s go only le has h =
           acquired point k place end s (expr_code e ++ PutLocal local ∷ []) _ has (λ at here.
@@ -196,7 +210,8 @@ module _ (shape : Shape) (code : List Instr) where
           loop_settles c (block_code lists body (point + 1)) point place end (effects_of body shape n) go has
           (λ at stop j s next le here h. block_settles body (point + 1) j at stop s next only le here h) n k le (omega arith) h s
 
-      block_settles : {m : _} (row : Row_of-Stmt m) (point k place end : ℕ) (s : State) (go : State → Run) → AllCallOnly NoHelper row → k ≤ n → HasAt code place (block_code lists row point) end →
+      block_settles : {m : _} (row : Row_of-Stmt m) (point k place end : ℕ) (s : State) (go : State → Run) →
+          AllCallOnly NoHelper row → k ≤ n → HasAt code place (block_code lists row point) end →
           Onward shape code k end go → Runs k place s (conclude (effects_of row shape n s) go)
       block_settles end_of-Stmt point k place end s go only le has h = ends_at k place end s (go s) has (h s)
       block_settles (more_of-Stmt start x rest) point k place end s go only le has h =
@@ -209,12 +224,14 @@ module _ (shape : Shape) (code : List Instr) where
 
     -- ---- a whole section
 
-    settles-returned : (k place : ℕ) (s : State) (r : Result Value Failure) → Runs k place s (resolve r s (λ v. over (out.Returns v) s)) → Runs k place s (returned r s)
+    settles-returned : (k place : ℕ) (s : State) (r : Result Value Failure) →
+        Runs k place s (resolve r s (λ v. over (out.Returns v) s)) → Runs k place s (returned r s)
     settles-returned k place s (Ok v) h = h
     settles-returned k place s (Err (Trap t)) h = h
     settles-returned k place s (Err Wrong) h = h
 
-    end_settles : (result : Option Result_of) (point k place end : ℕ) (s : State) → HasAt code place (end_code lists result point) end → Runs k place s (ending result shape s)
+    end_settles : (result : Option Result_of) (point k place end : ℕ) (s : State) →
+        HasAt code place (end_code lists result point) end → Runs k place s (ending result shape s)
     end_settles None point k place end s has = takes shape code k End (machine place [] s) (over out.Ends s) has.0 refl
     end_settles (Some result) point k place end s has =
         let e = result.value in
@@ -231,7 +248,8 @@ module _ (shape : Shape) (code : List Instr) where
     settles-concluded result k place s Beyond f h = h
     settles-concluded result k place s Astray f h = h
 
-    pub body_settles : (xs : List Stmt) (result : Option Result_of) (point k place end : ℕ) (s : State) → EachCallsOnly NoHelper xs → k ≤ n → HasAt code place (body_code lists xs point result) end →
+    pub body_settles : (xs : List Stmt) (result : Option Result_of) (point k place end : ℕ) (s : State) →
+        EachCallsOnly NoHelper xs → k ≤ n → HasAt code place (body_code lists xs point result) end →
         Runs k place s (concluded result shape (sequence xs shape n s))
     body_settles [] result point k place end s only le has = end_settles result point k place end s has
     body_settles (x ∷ xs) result point k place end s only le has =

@@ -33,12 +33,14 @@ same_end x y e =
     ∙ ap (λ h. record { outcome = y.outcome; prints = y.prints; heap = h }) heap
 
 module _ (shape : Shape) (code : List Instr) (m : Machine (List Value)) where
-  one_end : (n j : ℕ) (x y : Standing (List Value)) → IsOver x → IsOver y → stands shape code n m ≡ x → stands shape code j m ≡ y → x ≡ y
+  one_end : (n j : ℕ) (x y : Standing (List Value)) → IsOver x → IsOver y → stands shape code n m ≡ x →
+      stands shape code j m ≡ y → x ≡ y
   one_end n j x y over_x over_y e f =
       sym e ∙ ends_once load_from store_to shape code m n j (subst IsOver (sym e) over_x) (subst IsOver (sym f) over_y) ∙ f
 
   -- where the machine has halted after n instructions, a run that it settles as far as these is over
-  is_over : (n : ℕ) (finished : Finished) (run : Run) → stands shape code n m ≡ halted finished → Settles shape code n m run → run ≡ Over finished
+  is_over : (n : ℕ) (finished : Finished) (run : Run) → stands shape code n m ≡ halted finished →
+      Settles shape code n m run → run ≡ Over finished
   is_over n finished (Over other) e settled = ap Over (same_end other finished (one_end settled.0 n (halted other) (halted finished) tt tt settled.1 e))
   is_over n finished Beyond_turns e settled = absurd (subst IsGoing e settled)
   is_over n finished Gone_astray e settled =

@@ -1,5 +1,6 @@
 -- Instructions at a place of a code.
-use Rattle.std.proofs.Common.{◌≡◌, ℕ, ◌+◌, ◌<◌, List, [], ◌∷◌, ◌++◌, length, Some, ap, ◌∙◌, subst, arith, append_assoc, length-append}
+use Rattle.std.proofs.Common.{◌≡◌, ℕ, ◌+◌, ◌<◌, List, [], ◌∷◌, ◌++◌, length, Some, ap, ◌∙◌, subst, arith}
+use Rattle.std.proofs.Common.{append_assoc, length-append}
 use Rattle.std.specs.Prelude.{slice_get}
 use Rattle.std.proofs.Math.Seq.{get_or-append_seam}
 use Rattle.std.proofs.lemmas.Option.{slice_get-get_or}
@@ -10,19 +11,22 @@ abbrev pub HasAt : List Instr → ℕ → List Instr → ℕ → Type 0
 HasAt code place [] end = place ≡ end
 HasAt code place (i ∷ is) end = (slice_get code place ≡ Some i) × HasAt code (place + 1) is end
 
-pub has_front : (code : List Instr) (place end : ℕ) (a b : List Instr) → HasAt code place (a ++ b) end → HasAt code place a (place + length a)
+pub has_front : (code : List Instr) (place end : ℕ) (a b : List Instr) → HasAt code place (a ++ b) end →
+    HasAt code place a (place + length a)
 has_front code place end [] b h = let e : place ≡ place + 0 = omega arith in e
 has_front code place end (i ∷ a) b h =
     let e : place + 1 + length a ≡ place + length (i ∷ a) = omega arith in
     (h.0, subst (HasAt code (place + 1) a) e (has_front code (place + 1) end a b h.1))
 
-pub has_back : (code : List Instr) (place end : ℕ) (a b : List Instr) → HasAt code place (a ++ b) end → HasAt code (place + length a) b end
+pub has_back : (code : List Instr) (place end : ℕ) (a b : List Instr) → HasAt code place (a ++ b) end →
+    HasAt code (place + length a) b end
 has_back code place end [] b h = let e : place ≡ place + 0 = omega arith in subst (λ p. HasAt code p b end) e h
 has_back code place end (i ∷ a) b h =
     let e : place + 1 + length a ≡ place + length (i ∷ a) = omega arith in
     subst (λ p. HasAt code p b end) e (has_back code (place + 1) end a b h.1)
 
-pub has_length : (code : List Instr) (place end : ℕ) (is : List Instr) → HasAt code place is end → place + length is ≡ end
+pub has_length : (code : List Instr) (place end : ℕ) (is : List Instr) → HasAt code place is end →
+    place + length is ≡ end
 has_length code place end [] h = omega (arith, h)
 has_length code place end (i ∷ is) h = let rest = has_length code (place + 1) end is h.1 in omega (arith, rest)
 

@@ -9,7 +9,8 @@ use Rattle.core_lang.specs.declared.shape.Shape.{Shape}
 use Rattle.core_lang.specs.Meaning.{State, Flow, GoesOn, Traps, Beyond, Astray}
 use Rattle.core_lang.specs.Whole.{Run, Over, Beyond_turns, Gone_astray, over}
 use Rattle.code.specs.declared.instr.Instr.{Instr}
-use Rattle.code.specs.Machine.{Machine, Effect, Moves, Asks, Finishes, Undefined, Standing, At, Halted, Stuck, passed, or_trap, act, proceed, exec}
+use Rattle.code.specs.Machine.{Machine, Effect, Moves, Asks, Finishes, Undefined, Standing, At, Halted, Stuck, passed}
+use Rattle.code.specs.Machine.{or_trap, act, proceed, exec}
 use Rattle.code.specs.Memory.{load_from, store_to}
 use Rattle.code.specs.Alone.{halted}
 use Rattle.code.specs.Working.Laws.{IsOver}
@@ -56,7 +57,8 @@ module _ (shape : Shape) (code : List Instr) where
   abbrev pub Onward : ℕ → ℕ → (State → Run) → Type 0
   Onward k place go = (s : State) → Settles k (machine place [] s) (go s)
 
-  going_before : (j k : ℕ) (m : Machine (List Value)) (x : Standing (List Value)) → j ≤ k → stands j m ≡ x → IsGoing (stands k m) → IsGoing x
+  going_before : (j k : ℕ) (m : Machine (List Value)) (x : Standing (List Value)) → j ≤ k → stands j m ≡ x →
+      IsGoing (stands k m) → IsGoing x
   going_before j k m (At next) le e g = tt
   going_before j k m (Halted outcome memory prints) le e g =
       subst IsGoing (stays_over load_from store_to shape code m j k le (subst IsOver (sym e) tt) ∙ e) g
@@ -68,7 +70,8 @@ module _ (shape : Shape) (code : List Instr) where
   fewer j k m Beyond_turns le h = going_before j k m (stands j m) le refl h
   fewer j k m Gone_astray le h = h
 
-  moved : (k : ℕ) (m next : Machine (List Value)) (run : Run) → ((n : ℕ) → stands (suc n) m ≡ stands n next) → Settles k next run → Settles (suc k) m run
+  moved : (k : ℕ) (m next : Machine (List Value)) (run : Run) → ((n : ℕ) → stands (suc n) m ≡ stands n next) →
+      Settles k next run → Settles (suc k) m run
   moved k m next (Over finished) step h = (suc h.0, step h.0 ∙ h.1)
   moved k m next Beyond_turns step h = subst IsGoing (sym (step k)) h
   moved k m next Gone_astray step h = (suc h.0, step h.0 ∙ h.1)
@@ -101,7 +104,8 @@ module _ (shape : Shape) (code : List Instr) where
   takes k i m run at g = fewer k (suc k) m run (omega arith) (counts k i m run at g)
 
   -- an instruction that may trap, beside the result that it takes
-  pub goes-or_trap : {A : Type 0} (k place : ℕ) (stack : List Value) (s : State) (r : Result A Failure) (go : A → Effect (List Value)) (next : A → Run) →
+  pub goes-or_trap : {A : Type 0} (k place : ℕ) (stack : List Value) (s : State) (r : Result A Failure) (go : A →
+      Effect (List Value)) (next : A → Run) →
       ((a : A) → r ≡ Ok a → Goes k (machine place stack s) (go a) (next a)) → Goes k (machine place stack s) (or_trap r go) (resolve r s next)
   goes-or_trap k place stack s (Ok a) go next h = h a refl
   goes-or_trap k place stack s (Err (Trap t)) go next h = refl

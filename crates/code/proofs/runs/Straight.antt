@@ -1,5 +1,6 @@
 -- Expressions, conditions and statements without blocks: their code settles what it leads to.
-use Rattle.std.proofs.Common.{◌≡◌, ℕ, ◌+◌, ℤ, pos, List, [], ◌∷◌, ◌++◌, length, Option, Some, None, Result, Ok, Err, Bool, true, false, refl, sym, ap, ◌∙◌, subst}
+use Rattle.std.proofs.Common.{◌≡◌, ℕ, ◌+◌, ℤ, pos, List, [], ◌∷◌, ◌++◌, length, Option, Some, None, Result, Ok, Err}
+use Rattle.std.proofs.Common.{Bool, true, false, refl, sym, ap, ◌∙◌, subst}
 use Rattle.std.specs.Prelude.{slice_get, slice_set, nat_lt, not, if◌then◌else◌}
 use Rattle.core_lang.specs.declared.value.Value.{Value}
 use Rattle.core_lang.specs.declared.value.Value.TheVariants.{Int, Ref}
@@ -10,15 +11,22 @@ use Rattle.core_lang.specs.declared.shape.Shape.{Shape}
 use Rattle.core_lang.specs.declared.tree.FieldStep.{FieldStep}
 use Rattle.core_lang.specs.declared.tree.FieldStep.TheVariants.{Final, Field}
 use Rattle.core_lang.specs.declared.tree.Path.{Path}
-use Rattle.core_lang.specs.declared.tree.Expr.{Expr, Number, Null, Place, Global, Element', Member', Negate', Owned', Chain', Row_of-Operation, end_of-Operation, more_of-Operation}
-use Rattle.core_lang.specs.declared.tree.Condition.{Condition, Compare, Not', And', Or', Row_of-Condition, end_of-Condition, more_of-Condition}
+use Rattle.core_lang.specs.declared.tree.Expr.{Expr, Number, Null, Place, Global, Element', Member', Negate', Owned'}
+use Rattle.core_lang.specs.declared.tree.Expr.{Chain', Row_of-Operation, end_of-Operation, more_of-Operation}
+use Rattle.core_lang.specs.declared.tree.Condition.{Condition, Compare, Not', And', Or', Row_of-Condition}
+use Rattle.core_lang.specs.declared.tree.Condition.{end_of-Condition, more_of-Condition}
 use Rattle.core_lang.specs.Arithmetic.{on_values, negated, compared}
 use Rattle.core_lang.specs.Cells.{with, found, element_cell, member_of, field_cell, final_value, owned, not_null, read}
-use Rattle.core_lang.specs.Meaning.{State, Flow, GoesOn, Traps, given, written, stored, along, place_of, value_of, chained, and_then, or_else, truth_of, all_true, any_true}
+use Rattle.core_lang.specs.Meaning.{State, Flow, GoesOn, Traps, given, written, stored, along, place_of, value_of}
+use Rattle.core_lang.specs.Meaning.{chained, and_then, or_else, truth_of, all_true, any_true}
 use Rattle.core_lang.specs.Meaning as meaning
 use Rattle.core_lang.specs.Whole.{Run}
 use Rattle.code.specs.declared.instr.Instr.{Instr}
-use Rattle.code.specs.declared.instr.Instr.TheVariants.{PushNumber, PushNull, GetLocal, PutLocal, LoadGlobal, PutGlobal, LoadElement, Bound, PutElement, GetMember, LoadFinal, LoadField, NonNull, PutField, Where, NegateTop, NotTop, Operate, Test, Jump, JumpIfFalse, JumpIfTrue, PrintTop}
+use Rattle.code.specs.declared.instr.Instr.TheVariants.{PushNumber, PushNull, GetLocal, PutLocal, LoadGlobal}
+use Rattle.code.specs.declared.instr.Instr.TheVariants.{PutGlobal, LoadElement, Bound, PutElement, GetMember}
+use Rattle.code.specs.declared.instr.Instr.TheVariants.{LoadFinal, LoadField, NonNull, PutField, Where, NegateTop}
+use Rattle.code.specs.declared.instr.Instr.TheVariants.{NotTop, Operate, Test, Jump, JumpIfFalse, JumpIfTrue}
+use Rattle.code.specs.declared.instr.Instr.TheVariants.{PrintTop}
 use Rattle.code.specs.Machine.{truth, printed, act, or_trap, if_there, loads, stores, advances}
 use Rattle.code.specs.Memory.{beside, load_from, written_where, store_to}
 use Rattle.code.specs.Lowering.{fields_code, path_code, expr_code, chain_code, test_code, all_code, any_code}
@@ -32,13 +40,15 @@ module _ (shape : Shape) (code : List Instr) (k : ℕ) (s : State) where
 
   -- ---- parts of a result
 
-  pub resolve-with : {A B : Type 0} (place : ℕ) (stack : List Value) (r : Result A Failure) (f : A → Result B Failure) (go : B → Run) →
+  pub resolve-with : {A B : Type 0} (place : ℕ) (stack : List Value) (r : Result A Failure) (f : A →
+      Result B Failure) (go : B → Run) →
       From place stack (resolve r s (λ a. resolve (f a) s go)) → From place stack (resolve (with r f) s go)
   resolve-with place stack (Ok a) f go h = h
   resolve-with place stack (Err (Trap t)) f go h = h
   resolve-with place stack (Err Wrong) f go h = h
 
-  pub conclude-given : {A : Type 0} (place : ℕ) (stack : List Value) (r : Result A Failure) (f : A → Flow) (go : State → Run) →
+  pub conclude-given : {A : Type 0} (place : ℕ) (stack : List Value) (r : Result A Failure) (f : A →
+      Flow) (go : State → Run) →
       From place stack (resolve r s (λ a. conclude (f a) go)) → From place stack (conclude (given r s f) go)
   conclude-given place stack (Ok a) f go h = h
   conclude-given place stack (Err (Trap t)) f go h = h
@@ -73,7 +83,8 @@ module _ (shape : Shape) (code : List Instr) (k : ℕ) (s : State) where
   ends_at : (place end : ℕ) (stack : List Value) (run : Run) → place ≡ end → From end stack run → From place stack run
   ends_at place end stack run e h = subst (λ p. From p stack run) (sym e) h
 
-  pub pushes : (i : Instr) (r : Result Value Failure) (place end : ℕ) (old stack : List Value) (go : Value → Run) → HasAt code place (i ∷ []) end →
+  pub pushes : (i : Instr) (r : Result Value Failure) (place end : ℕ) (old stack : List Value) (go : Value → Run) →
+      HasAt code place (i ∷ []) end →
       act load_from store_to shape (Some i) (machine place old s) ≡ or_trap r (λ w. advances (machine place old s) (w ∷ stack)) →
       ((w : Value) → From end (w ∷ stack) (go w)) → From place old (resolve r s go)
   pushes i r place end old stack go has op h =
@@ -82,7 +93,8 @@ module _ (shape : Shape) (code : List Instr) (k : ℕ) (s : State) where
       (goes-or_trap shape code k place old s r (λ w. advances (machine place old s) (w ∷ stack)) go
       (λ w e. ends_at (place + 1) end (w ∷ stack) (go w) has.1 (h w))))
 
-  load_goes : (cell place end : ℕ) (old stack : List Value) (go : Value → Run) → place + 1 ≡ end → ((v : Value) → From end (v ∷ stack) (go v)) →
+  load_goes : (cell place end : ℕ) (old stack : List Value) (go : Value → Run) → place + 1 ≡ end →
+      ((v : Value) → From end (v ∷ stack) (go v)) →
       Goes shape code k (machine place old s) (loads load_from store_to shape (machine place old s) cell stack) (resolve (read s.heap cell) s go)
   load_goes cell place end old stack go e h = by (slice_get s.heap cell)
     where
@@ -93,7 +105,8 @@ module _ (shape : Shape) (code : List Instr) (k : ℕ) (s : State) where
       by None = refl
 
   -- what a cell holds
-  pub loading : (i : Instr) (r : Result ℕ Failure) (place end : ℕ) (old stack : List Value) (go : Value → Run) → HasAt code place (i ∷ []) end →
+  pub loading : (i : Instr) (r : Result ℕ Failure) (place end : ℕ) (old stack : List Value) (go : Value → Run) →
+      HasAt code place (i ∷ []) end →
       act load_from store_to shape (Some i) (machine place old s) ≡ or_trap r (λ cell. loads load_from store_to shape (machine place old s) cell stack) →
       ((w : Value) → From end (w ∷ stack) (go w)) → From place old (resolve (with r (read s.heap)) s go)
   loading i r place end old stack go has op h =
@@ -105,7 +118,8 @@ module _ (shape : Shape) (code : List Instr) (k : ℕ) (s : State) where
 
   -- ---- expressions
 
-  fields_settle : (fs : List FieldStep) (v : Value) (place end : ℕ) (stack : List Value) (go : Value → Run) → HasAt code place (fields_code fs) end →
+  fields_settle : (fs : List FieldStep) (v : Value) (place end : ℕ) (stack : List Value) (go : Value → Run) →
+      HasAt code place (fields_code fs) end →
       ((w : Value) → From end (w ∷ stack) (go w)) → From place (v ∷ stack) (resolve (along shape s.heap v fs) s go)
   fields_settle [] v place end stack go has h = ends_at place end (v ∷ stack) (go v) has (h v)
   fields_settle (Final structure f ∷ fs) v place end stack go has h =
@@ -117,7 +131,8 @@ module _ (shape : Shape) (code : List Instr) (k : ℕ) (s : State) where
       (loading (LoadField f structure) (field_cell shape v f) place (place + 1) (v ∷ stack) stack (λ w. resolve (along shape s.heap w fs) s go) (has.0, refl) refl
       (λ w. fields_settle fs w (place + 1) end stack go has.1 h))
 
-  pub path_settles : (path : Path) (place end : ℕ) (stack : List Value) (go : Value → Run) → HasAt code place (path_code path) end →
+  pub path_settles : (path : Path) (place end : ℕ) (stack : List Value) (go : Value → Run) →
+      HasAt code place (path_code path) end →
       ((w : Value) → From end (w ∷ stack) (go w)) → From place stack (resolve (place_of path shape s.locals s.heap) s go)
   path_settles path place end stack go has h =
       let fs = path.fields.items in
@@ -127,7 +142,8 @@ module _ (shape : Shape) (code : List Instr) (k : ℕ) (s : State) where
       (λ v. fields_settle fs v (place + 1) end stack go has.1 h))
 
   mutual
-    pub expr_settles : (e : Expr) (place end : ℕ) (stack : List Value) (go : Value → Run) → HasAt code place (expr_code e) end →
+    pub expr_settles : (e : Expr) (place end : ℕ) (stack : List Value) (go : Value → Run) →
+        HasAt code place (expr_code e) end →
         ((v : Value) → From end (v ∷ stack) (go v)) → From place stack (resolve (value_of e shape s.locals s.heap) s go)
     expr_settles (Number n) place end stack go has h = pushes (PushNumber n) (Ok (Int n)) place end stack stack go has refl h
     expr_settles Null place end stack go has h = pushes PushNull (Ok (Ref None)) place end stack stack go has refl h
@@ -160,7 +176,8 @@ module _ (shape : Shape) (code : List Instr) (k : ℕ) (s : State) where
         (expr_settles first place (place + length ca) stack (λ a. resolve (chained rest shape s.locals s.heap (Ok a)) s go) (has_front code place end ca _ has)
         (λ a. chain_settles rest a (place + length ca) end stack go (has_back code place end ca _ has) h))
 
-    chain_settles : {m : _} (row : Row_of-Operation m) (a : Value) (place end : ℕ) (stack : List Value) (go : Value → Run) → HasAt code place (chain_code row) end →
+    chain_settles : {m : _} (row : Row_of-Operation m) (a : Value) (place end : ℕ) (stack : List Value) (go : Value →
+        Run) → HasAt code place (chain_code row) end →
         ((v : Value) → From end (v ∷ stack) (go v)) → From place (a ∷ stack) (resolve (chained row shape s.locals s.heap (Ok a)) s go)
     chain_settles end_of-Operation a place end stack go has h = ends_at place end (a ∷ stack) (go a) has (h a)
     chain_settles (more_of-Operation o e rest) a place end stack go has h =
@@ -186,7 +203,8 @@ module _ (shape : Shape) (code : List Instr) (k : ℕ) (s : State) where
       takes shape code k NotTop (machine place (truth false ∷ stack) s) (go true) has.0 (ends_at (place + 1) end (truth true ∷ stack) (go true) has.1 (h true))
 
   -- an operand of && is on the stack: on where it is true, else past the others
-  and_settles : (b : Bool) (next : Result Bool Failure) (over place stop end : ℕ) (stack : List Value) (go : Bool → Run) → slice_get code place ≡ Some (JumpIfFalse over) →
+  and_settles : (b : Bool) (next : Result Bool Failure) (over place stop end : ℕ) (stack : List Value) (go : Bool →
+      Run) → slice_get code place ≡ Some (JumpIfFalse over) →
       place + 1 + over ≡ stop → HasAt code stop (PushNumber (pos 0) ∷ []) end → ((b : Bool) → From end (truth b ∷ stack) (go b)) →
       From (place + 1) stack (resolve next s go) → From place (truth b ∷ stack) (resolve (and_then (Ok b) next) s go)
   and_settles true next over place stop end stack go at e push h more =
@@ -196,7 +214,8 @@ module _ (shape : Shape) (code : List Instr) (k : ℕ) (s : State) where
       (ends_at (place + 1 + over) stop stack (go false) e
       (takes shape code k (PushNumber (pos 0)) (machine stop stack s) (go false) push.0 (ends_at (stop + 1) end (truth false ∷ stack) (go false) push.1 (h false))))
 
-  or_settles : (b : Bool) (next : Result Bool Failure) (over place stop end : ℕ) (stack : List Value) (go : Bool → Run) → slice_get code place ≡ Some (JumpIfTrue over) →
+  or_settles : (b : Bool) (next : Result Bool Failure) (over place stop end : ℕ) (stack : List Value) (go : Bool →
+      Run) → slice_get code place ≡ Some (JumpIfTrue over) →
       place + 1 + over ≡ stop → HasAt code stop (PushNumber (pos 1) ∷ []) end → ((b : Bool) → From end (truth b ∷ stack) (go b)) →
       From (place + 1) stack (resolve next s go) → From place (truth b ∷ stack) (resolve (or_else (Ok b) next) s go)
   or_settles false next over place stop end stack go at e push h more =
@@ -207,14 +226,16 @@ module _ (shape : Shape) (code : List Instr) (k : ℕ) (s : State) where
       (takes shape code k (PushNumber (pos 1)) (machine stop stack s) (go true) push.0 (ends_at (stop + 1) end (truth true ∷ stack) (go true) push.1 (h true))))
 
   -- the last operand is on the stack, and a jump passes the truth value behind it
-  last_settles : (b : Bool) (place stop end : ℕ) (stack : List Value) (go : Bool → Run) → HasAt code place (Jump 1 ∷ []) stop → stop + 1 ≡ end →
+  last_settles : (b : Bool) (place stop end : ℕ) (stack : List Value) (go : Bool → Run) →
+      HasAt code place (Jump 1 ∷ []) stop → stop + 1 ≡ end →
       From end (truth b ∷ stack) (go b) → From place (truth b ∷ stack) (go b)
   last_settles b place stop end stack go has e h =
       let at : place + 1 + 1 ≡ end = ap (λ p. p + 1) has.1 ∙ e in
       takes shape code k (Jump 1) (machine place (truth b ∷ stack) s) (go b) has.0 (ends_at (place + 1 + 1) end (truth b ∷ stack) (go b) at h)
 
   mutual
-    pub test_settles : (c : Condition) (place end : ℕ) (stack : List Value) (go : Bool → Run) → HasAt code place (test_code c) end →
+    pub test_settles : (c : Condition) (place end : ℕ) (stack : List Value) (go : Bool → Run) →
+        HasAt code place (test_code c) end →
         ((b : Bool) → From end (truth b ∷ stack) (go b)) → From place stack (resolve (truth_of c shape s.locals s.heap) s go)
     test_settles (Compare comparison a b) place end stack go has h =
         let ca = expr_code a in let cb = expr_code b in
@@ -284,10 +305,12 @@ module _ (shape : Shape) (code : List Instr) (k : ℕ) (s : State) where
 
   -- ---- what a statement's last instruction does
 
-  onward_at : (place end : ℕ) (s' : State) (go : State → Run) → place ≡ end → Onward shape code k end go → Settles shape code k (machine place [] s') (go s')
+  onward_at : (place end : ℕ) (s' : State) (go : State → Run) → place ≡ end → Onward shape code k end go →
+      Settles shape code k (machine place [] s') (go s')
   onward_at place end s' go e h = subst (λ p. Settles shape code k (machine p [] s') (go s')) (sym e) (h s')
 
-  pub put_local_settles : (local place end : ℕ) (v : Value) (go : State → Run) → HasAt code place (PutLocal local ∷ []) end → Onward shape code k end go →
+  pub put_local_settles : (local place end : ℕ) (v : Value) (go : State → Run) →
+      HasAt code place (PutLocal local ∷ []) end → Onward shape code k end go →
       From place (v ∷ []) (conclude (stored local v s) go)
   put_local_settles local place end v go has h =
       let s' : State = record s { locals = slice_set s.locals local v } in
@@ -295,7 +318,8 @@ module _ (shape : Shape) (code : List Instr) (k : ℕ) (s : State) where
       (takes shape code k (PutLocal local) (machine place (v ∷ []) s) (resolve (found (slice_get s.locals local)) s (λ old. go s')) has.0
       (goes-or_trap shape code k place (v ∷ []) s (found (slice_get s.locals local)) _ (λ old. go s') (λ old e. onward_at (place + 1) end s' go has.1 h)))
 
-  pub store_goes : (cell place end : ℕ) (old : List Value) (v : Value) (go : State → Run) → place + 1 ≡ end → Onward shape code k end go →
+  pub store_goes : (cell place end : ℕ) (old : List Value) (v : Value) (go : State → Run) → place + 1 ≡ end →
+      Onward shape code k end go →
       Goes shape code k (machine place old s) (stores load_from store_to shape (machine place old s) cell v []) (conclude (written cell v s) go)
   store_goes cell place end old v go e h = by (slice_get s.heap cell)
     where
@@ -306,7 +330,8 @@ module _ (shape : Shape) (code : List Instr) (k : ℕ) (s : State) where
       by (Some w) = onward_at (place + 1) end (record s { heap = slice_set s.heap cell v }) go e h
       by None = refl
 
-  pub print_settles : (v : Value) (place end : ℕ) (go : State → Run) → HasAt code place (PrintTop ∷ []) end → Onward shape code k end go →
+  pub print_settles : (v : Value) (place end : ℕ) (go : State → Run) → HasAt code place (PrintTop ∷ []) end →
+      Onward shape code k end go →
       From place (v ∷ []) (conclude (meaning.printed v s) go)
   print_settles v place end go has h =
       takes shape code k PrintTop (machine place (v ∷ []) s) (conclude (meaning.printed v s) go) has.0 (goes v)
@@ -327,13 +352,15 @@ module _ (shape : Shape) (code : List Instr) (k : ℕ) (s : State) where
 
   -- ---- statements that write a cell
 
-  pub put_global_settles : (cell place end : ℕ) (v : Value) (go : State → Run) → HasAt code place (PutGlobal cell ∷ []) end → Onward shape code k end go →
+  pub put_global_settles : (cell place end : ℕ) (v : Value) (go : State → Run) →
+      HasAt code place (PutGlobal cell ∷ []) end → Onward shape code k end go →
       From place (v ∷ []) (conclude (written cell v s) go)
   put_global_settles cell place end v go has h =
       takes shape code k (PutGlobal cell) (machine place (v ∷ []) s) (conclude (written cell v s) go) has.0 (store_goes cell place end (v ∷ []) v go has.1 h)
 
   -- the index is on the stack
-  pub element_settles : (array : ℕ) (i : Value) (e : Expr) (place end : ℕ) (go : State → Run) → HasAt code place (Bound array ∷ (expr_code e ++ PutElement array ∷ [])) end →
+  pub element_settles : (array : ℕ) (i : Value) (e : Expr) (place end : ℕ) (go : State → Run) →
+      HasAt code place (Bound array ∷ (expr_code e ++ PutElement array ∷ [])) end →
       Onward shape code k end go →
       From place (i ∷ []) (conclude (given (element_cell shape array i) s (λ cell. given (value_of e shape s.locals s.heap) s (λ v. written cell v s))) go)
   element_settles array i e place end go has h =

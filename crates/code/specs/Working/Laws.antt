@@ -5,7 +5,8 @@ use Rattle.core_lang.specs.declared.value.Outcome.{Outcome}
 use Rattle.core_lang.specs.declared.shape.Shape.{Shape}
 use Rattle.code.specs.declared.instr.Instr.{Instr}
 use Rattle.code.specs.Machine.{Machine, Standing, At, Halted, Stuck, Moves, Asks, Finishes, act, exec}
-use Rattle.code.specs.Memory.{HeldCells, value_at, load_from, store_to, load_held, store_held, opened, overwritten, Agrees, IsCovered, IsConsistent, IsPartOf, Keeps}
+use Rattle.code.specs.Memory.{HeldCells, value_at, load_from, store_to, load_held, store_held, opened, overwritten}
+use Rattle.code.specs.Memory.{Agrees, IsCovered, IsConsistent, IsPartOf, Keeps}
 use Rattle.code.specs.Alone.{starting, alone}
 
 -- ---- over any memory

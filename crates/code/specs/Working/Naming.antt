@@ -1,12 +1,16 @@
 -- What the code of the listing computes: an index of the globals, and an instruction as a word and its operand.
-use Rattle.std.specs.Prelude.{◌≡◌, ℕ, ◌+◌, ◌-◌, ◌==◌, List, [], ◌++◌, map, slice_get, Some, codes, String, string_bytes, nat_eq}
+use Rattle.std.specs.Prelude.{◌≡◌, ℕ, ◌+◌, ◌-◌, ◌==◌, List, [], ◌++◌, map, slice_get, Some, codes, String}
+use Rattle.std.specs.Prelude.{string_bytes, nat_eq}
 use Rattle.std.specs.Fmt.{decimal, signed_decimal}
 use Rattle.std.specs.List.{find}
 use Rattle.std.specs.Option.{option_copied}
 use Rattle.std.specs.Borrow.{Bor}
 use Rattle.indexmap.specs.IndexMap.{IndexMap, get}
 use Rattle.code.specs.declared.instr.Instr.{Instr}
-use Rattle.code.specs.declared.instr.Instr.TheVariants.{PushNumber, GetLocal, PutLocal, LoadGlobal, PutGlobal, LoadElement, Bound, PutElement, GetMember, LoadFinal, LoadField, PutField, Where, Jump, JumpBack, JumpIfFalse, JumpIfTrue, Acquire}
+use Rattle.code.specs.declared.instr.Instr.TheVariants.{PushNumber, GetLocal, PutLocal, LoadGlobal, PutGlobal}
+use Rattle.code.specs.declared.instr.Instr.TheVariants.{LoadElement, Bound, PutElement, GetMember, LoadFinal}
+use Rattle.code.specs.declared.instr.Instr.TheVariants.{LoadField, PutField, Where, Jump, JumpBack, JumpIfFalse}
+use Rattle.code.specs.declared.instr.Instr.TheVariants.{JumpIfTrue, Acquire}
 use Rattle.code.specs.declared.names.GlobalName.{GlobalName}
 use Rattle.code.specs.declared.names.ListingNames.{ListingNames}
 use Rattle.code.specs.declared.section_code.SectionCode.{SectionCode}

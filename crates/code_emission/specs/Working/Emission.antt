@@ -6,7 +6,8 @@ use Rattle.core_lang.specs.declared.tree.Condition.{Condition}
 use Rattle.core_lang.specs.declared.tree.Stmt.{Stmt}
 use Rattle.core_lang.specs.declared.tree.Action.{Action}
 use Rattle.code.specs.declared.instr.Instr.{Instr}
-use Rattle.code.specs.declared.instr.Instr.TheVariants.{PushNull, PrintTop, Bound, PutElement, NonNull, Jump, JumpIfFalse}
+use Rattle.code.specs.declared.instr.Instr.TheVariants.{PushNull, PrintTop, Bound, PutElement, NonNull, Jump}
+use Rattle.code.specs.declared.instr.Instr.TheVariants.{JumpIfFalse}
 use Rattle.code.specs.Lowering.{path_code, expr_code, test_code, acquire_code, if_code, while_code, stmt_code}
 use Rattle.code_emission.specs.declared.emitter.Emitter.{Emitter}
 use Rattle.code_emission.specs.NumberLists.{number_lists}

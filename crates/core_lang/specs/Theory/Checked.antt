@@ -1,10 +1,12 @@
 -- A program whose helpers are written out is one that may be accepted, and calls nothing. Nobody has to believe this: it is proved
 -- here, for proofs of the crates above.
-use Rattle.std.specs.Prelude.{◌≡◌, ℕ, zero, suc, ◌+◌, ◌≤◌, List, [], ◌∷◌, ◌++◌, length, map, take, slice_get, Option, Some, None}
+use Rattle.std.specs.Prelude.{◌≡◌, ℕ, zero, suc, ◌+◌, ◌≤◌, List, [], ◌∷◌, ◌++◌, length, map, take, slice_get, Option}
+use Rattle.std.specs.Prelude.{Some, None}
 use Rattle.std.proofs.Common.{sym, ap, ◌∙◌, refl, arith, length-append}
 use Rattle.core_lang.specs.declared.tree.Local.{Local}
 use Rattle.core_lang.specs.declared.tree.Stmt.{Stmt}
-use Rattle.core_lang.specs.declared.tree.Action.{Action, Bind, SetLocal, SetGlobal, SetElement, SetField, Call, Print, If', IfElse', While', Row_of-Stmt, end_of-Stmt, more_of-Stmt}
+use Rattle.core_lang.specs.declared.tree.Action.{Action, Bind, SetLocal, SetGlobal, SetElement, SetField, Call, Print}
+use Rattle.core_lang.specs.declared.tree.Action.{If', IfElse', While', Row_of-Stmt, end_of-Stmt, more_of-Stmt}
 use Rattle.core_lang.specs.declared.tree.Section.{Section}
 use Rattle.core_lang.specs.declared.value.ValueType.{ValueType}
 use Rattle.core_lang.specs.declared.typed.Typed.{Typed}
@@ -12,12 +14,14 @@ use Rattle.core_lang.specs.Typing.{local_types, IsWellTyped, AreWellTyped, AllWe
 use Rattle.core_lang.specs.Scopes.{bound_by, bound_in, bound_in_all, numbers_from, IsWellScoped}
 use Rattle.core_lang.specs.Helpers.{CallsOnly, AllCallOnly, EachCallsOnly, NoHelper, CallsNothing}
 use Rattle.core_lang.specs.Meaning.{deepest}
-use Rattle.core_lang.specs.WrittenLocals.{LocalData, Brought, local_data, own_local, locals_by, locals_in, locals_in_all, brought, written_locals}
+use Rattle.core_lang.specs.WrittenLocals.{LocalData, Brought, local_data, own_local, locals_by, locals_in}
+use Rattle.core_lang.specs.WrittenLocals.{locals_in_all, brought, written_locals}
 use Rattle.core_lang.specs.WrittenPoints.{points_by, points_among, points_among_all, brought_points, helper_points}
 use Rattle.core_lang.specs.WellFormed.{IsChecked, IsWellFormed}
 use Rattle.core_lang.specs.Theory.Items.{numbers_many}
 
-no_helper : (program : Typed) (k : ℕ) (h : Section) → program.shape.helpers.items ≡ [] → slice_get program.shape.helpers.items k ≡ Some h → ⊥
+no_helper : (program : Typed) (k : ℕ) (h : Section) → program.shape.helpers.items ≡ [] →
+    slice_get program.shape.helpers.items k ≡ Some h → ⊥
 no_helper program k h none is =
     let here : None ≡ Some h = ap (λ (l : List Section). slice_get l k) (sym none) ∙ is in cc
 
@@ -44,7 +48,8 @@ module _ (program : Typed) (types : List ValueType) (none : program.shape.helper
   each_calls [] is = tt
   each_calls (x ∷ xs) is = (calls x.action is.0, each_calls xs is.1)
 
-pub calls_nothing : (program : Typed) (k : ℕ) (section : Section) → IsWellFormed program → slice_get program.sections.items k ≡ Some section →
+pub calls_nothing : (program : Typed) (k : ℕ) (section : Section) → IsWellFormed program →
+    slice_get program.sections.items k ≡ Some section →
     CallsNothing section
 calls_nothing program k section well is =
     let good = well.sections k section is in
@@ -77,7 +82,8 @@ own_few : (o : Option Local) → length (own_local o) ≤ 1
 own_few (Some local) = omega arith
 own_few None = omega arith
 
-both_few : (a b : List LocalData) (c d : List ℕ) → length a ≤ length c → length b ≤ length d → length (a ++ b) ≤ length (c ++ d)
+both_few : (a b : List LocalData) (c d : List ℕ) → length a ≤ length c → length b ≤ length d →
+    length (a ++ b) ≤ length (c ++ d)
 both_few a b c d h g = omega (arith, length-append a b, length-append c d)
 
 -- and no more locals than they bind
@@ -95,11 +101,13 @@ module _ (brings : ℕ → Brought) (own : List Local) where
     locals_few (IfElse' c m a k b) only = both_few _ _ _ _ (row_locals_few a only.0) (row_locals_few b only.1)
     locals_few (While' c m a) only = row_locals_few a only
 
-    row_locals_few : {m : _} (row : Row_of-Stmt m) → AllCallOnly NoHelper row → length (locals_in brings own row) ≤ length (bound_in row)
+    row_locals_few : {m : _} (row : Row_of-Stmt m) → AllCallOnly NoHelper row →
+        length (locals_in brings own row) ≤ length (bound_in row)
     row_locals_few end_of-Stmt only = omega arith
     row_locals_few (more_of-Stmt start x rest) only = both_few _ _ _ _ (locals_few x only.0) (row_locals_few rest only.1)
 
-  all_locals_few : (xs : List Stmt) → EachCallsOnly NoHelper xs → length (locals_in_all brings own xs) ≤ length (bound_in_all xs)
+  all_locals_few : (xs : List Stmt) → EachCallsOnly NoHelper xs →
+      length (locals_in_all brings own xs) ≤ length (bound_in_all xs)
   all_locals_few [] only = omega arith
   all_locals_few (x ∷ xs) only = both_few _ _ _ _ (locals_few x.action only.0) (all_locals_few xs only.1)
 

@@ -1,6 +1,8 @@
 -- What lists hold, and at which places. Nobody has to believe these facts: they are proved here, for proofs of this crate and of those
 -- above.
-use Rattle.std.proofs.Common.{◌≡◌, ◌≢◌, ◌⊎◌, ◌∙◌, ◌+◌, ◌<◌, ◌≤◌, ℕ, zero, suc, true, false, IsTrue, List, [], ◌∷◌, ◌++◌, length, map, set, drop, drop-cons, get_or, Option, Some, None, slice_get, inl, inr, refl, sym, ap, subst, add-one, arith}
+use Rattle.std.proofs.Common.{◌≡◌, ◌≢◌, ◌⊎◌, ◌∙◌, ◌+◌, ◌<◌, ◌≤◌, ℕ, zero, suc, true, false, IsTrue, List, [], ◌∷◌}
+use Rattle.std.proofs.Common.{◌++◌, length, map, set, drop, drop-cons, get_or, Option, Some, None, slice_get, inl}
+use Rattle.std.proofs.Common.{inr, refl, sym, ap, subst, add-one, arith}
 use Rattle.std.specs.Option.{option_map}
 use Rattle.std.specs.List.{All, AllPairs, Contains}
 use Rattle.std.proofs.lemmas.List.Elements.{Contains-append_cases}
@@ -52,7 +54,8 @@ get_some [] k lt = absurd (omega (arith, lt))
 get_some (x ∷ xs) zero lt = (x, refl)
 get_some (x ∷ xs) (suc k) lt = get_some xs k (omega (arith, lt))
 
-pub get_mapped : {A B : Type 0} (f : A → B) (xs : List A) (k : ℕ) → slice_get (map f xs) k ≡ option_map f (slice_get xs k)
+pub get_mapped : {A B : Type 0} (f : A → B) (xs : List A) (k : ℕ) →
+    slice_get (map f xs) k ≡ option_map f (slice_get xs k)
 get_mapped f [] k = refl
 get_mapped f (x ∷ xs) zero = refl
 get_mapped f (x ∷ xs) (suc k) = get_mapped f xs k
@@ -69,7 +72,8 @@ set_other (z ∷ xs) zero (suc j) x ne = refl
 set_other (z ∷ xs) (suc i) zero x ne = refl
 set_other (z ∷ xs) (suc i) (suc j) x ne = set_other xs i j x (λ e. ne (ap suc e))
 
-pub still_other : {X : Type 0} (xs : List X) (i j : ℕ) (x y : X) → j ≢ i → slice_get xs j ≡ Some y → slice_get (set xs i x) j ≡ Some y
+pub still_other : {X : Type 0} (xs : List X) (i j : ℕ) (x y : X) → j ≢ i → slice_get xs j ≡ Some y →
+    slice_get (set xs i x) j ≡ Some y
 still_other xs i j x y ne e = set_other xs i j x (λ same. ne (sym same)) ∙ e
 
 pub set_itself : {X : Type 0} (xs : List X) (i : ℕ) (x : X) → slice_get xs i ≡ Some x → set xs i x ≡ xs
@@ -77,7 +81,8 @@ set_itself [] i x e = refl
 set_itself (z ∷ xs) zero x e = let same : z ≡ x = cc in ap (λ y. y ∷ xs) (sym same)
 set_itself (z ∷ xs) (suc i) x e = ap (λ zs. z ∷ zs) (set_itself xs i x e)
 
-pub map_at : {A B : Type 0} (f : A → B) (xs : List A) (k : ℕ) (x : A) → slice_get xs k ≡ Some x → slice_get (map f xs) k ≡ Some (f x)
+pub map_at : {A B : Type 0} (f : A → B) (xs : List A) (k : ℕ) (x : A) → slice_get xs k ≡ Some x →
+    slice_get (map f xs) k ≡ Some (f x)
 map_at f xs k x e = get_mapped f xs k ∙ ap (option_map f) e
 
 pub map_back : {A B : Type 0} (f : A → B) (xs : List A) (k : ℕ) (y : B) → slice_get (map f xs) k ≡ Some y →
@@ -96,7 +101,8 @@ pushed_at (z ∷ xs) y (suc k) x e = elim (pushed_at xs y k x e) [ inl h ↦ inl
 pub read_at : {X : Type 0} (xs : List X) (k : ℕ) (x : X) → k < length xs → x ≡ get_or xs k x → slice_get xs k ≡ Some x
 read_at xs k x lt e = slice_get-get_or xs k x lt ∙ ap Some (sym e)
 
-pub next_of : {A : Type 0} (xs : List A) (i : ℕ) (x : A) → i < length xs → x ≡ get_or xs i x → drop i xs ≡ x ∷ drop (i + 1) xs
+pub next_of : {A : Type 0} (xs : List A) (i : ℕ) (x : A) → i < length xs → x ≡ get_or xs i x →
+    drop i xs ≡ x ∷ drop (i + 1) xs
 next_of {A = A} xs i x lt is =
     drop-cons xs i x lt ∙ ap (λ (y : A). y ∷ drop (suc i) xs) (sym is) ∙ ap (λ (k : ℕ). x ∷ drop k xs) (sym (add-one i))
 
@@ -117,7 +123,8 @@ lookup_at r a go e = ap (λ o. lookup o go) e
 pub lookup_none : {A B : Type 0} (r : Option A) (go : A → Option B) → r ≡ None → lookup r go ≡ None
 lookup_none r go e = ap (λ o. lookup o go) e
 
-pub map_some : {A B : Type 0} (f : A → B) (o : Option A) (b : B) → option_map f o ≡ Some b → (a : A) × (o ≡ Some a) × (f a ≡ b)
+pub map_some : {A B : Type 0} (f : A → B) (o : Option A) (b : B) → option_map f o ≡ Some b →
+    (a : A) × (o ≡ Some a) × (f a ≡ b)
 map_some f None b e = absurd (none-some b e)
 map_some f (Some a) b e = (a, refl, cc)
 

@@ -1,7 +1,8 @@
 -- The graph of a program: what its sections and helpers call, where each name is replaced by the number of what it means.
 use Rattle.std.specs.Prelude.{◌≡◌, ℕ, ◌+◌, ◌≤◌, Bool, List, [], ◌∷◌, ◌++◌, map, length, slice_get, Some, is_some}
 use Rattle.core_lang.specs.declared.tree.Stmt.{Stmt}
-use Rattle.core_lang.specs.declared.tree.Action.{Action, Call, If', IfElse', While', Row_of-Stmt, end_of-Stmt, more_of-Stmt}
+use Rattle.core_lang.specs.declared.tree.Action.{Action, Call, If', IfElse', While', Row_of-Stmt, end_of-Stmt}
+use Rattle.core_lang.specs.declared.tree.Action.{more_of-Stmt}
 use Rattle.core_lang.specs.declared.tree.Section.{Section}
 use Rattle.core_lang.specs.declared.typed.Typed.{Typed}
 use Rattle.core_lang.specs.Meaning.{deepest}
@@ -48,11 +49,16 @@ pub record IsBodyOf (section : Section) (b : Body) : Type 0 where
 -- the graph has what counts of each helper and each section, in their order
 pub record IsGraphOf (program : Typed) (graph : Graph) : Type 0 where
   pub few : length graph.helpers ≡ length program.shape.helpers.items
-  pub helpers : (k : ℕ) (h : Section) → slice_get program.shape.helpers.items k ≡ Some h → (b : Body) × (slice_get graph.helpers k ≡ Some b) × IsBodyOf h b
-  pub sections : (k : ℕ) (s : Section) → slice_get program.sections.items k ≡ Some s → (b : Body) × (slice_get graph.sections k ≡ Some b) × IsBodyOf s b
+  pub helpers : (k : ℕ) (h : Section) → slice_get program.shape.helpers.items k ≡ Some h →
+      (b : Body) × (slice_get graph.helpers k ≡ Some b) × IsBodyOf h b
+  pub sections : (k : ℕ) (s : Section) → slice_get program.sections.items k ≡ Some s →
+      (b : Body) × (slice_get graph.sections k ≡ Some b) × IsBodyOf s b
 
 -- calls of helpers keep to the limits: no helper is too deep, and no section gets too many locals or points from helpers
 pub record CallsKeepLimits (program : Typed) : Type 0 where
-  pub helper_depths : (k : ℕ) (h : Section) → slice_get program.shape.helpers.items k ≡ Some h → IsAtMostDeep program.shape deepest k
-  pub written_locals : (k : ℕ) (section : Section) → slice_get program.sections.items k ≡ Some section → length (written_locals program.shape section) ≤ 64
-  pub helper_points : (k : ℕ) (section : Section) → slice_get program.sections.items k ≡ Some section → helper_points program.shape section ≤ 65536
+  pub helper_depths : (k : ℕ) (h : Section) → slice_get program.shape.helpers.items k ≡ Some h →
+      IsAtMostDeep program.shape deepest k
+  pub written_locals : (k : ℕ) (section : Section) → slice_get program.sections.items k ≡ Some section →
+      length (written_locals program.shape section) ≤ 64
+  pub helper_points : (k : ℕ) (section : Section) → slice_get program.sections.items k ≡ Some section →
+      helper_points program.shape section ≤ 65536

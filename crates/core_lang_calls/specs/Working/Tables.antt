@@ -1,5 +1,6 @@
 -- What the tables of the code hold. Nobody has to believe these: what the faults are, says `Faults`.
-use Rattle.std.specs.Prelude.{◌≡◌, ℕ, zero, suc, ◌+◌, ◌<◌, ◌-◌, min, nat_lt, ◌==◌, ◌&&◌, ◌||◌, Bool, true, false, List, length, slice_get, slice_index_or, Option, Some, None}
+use Rattle.std.specs.Prelude.{◌≡◌, ℕ, zero, suc, ◌+◌, ◌<◌, ◌-◌, min, nat_lt, ◌==◌, ◌&&◌, ◌||◌, Bool, true, false}
+use Rattle.std.specs.Prelude.{List, length, slice_get, slice_index_or, Option, Some, None}
 use Rattle.std.specs.List.{list_any, sum_by}
 use Rattle.core_lang_calls.specs.declared.graph.CallSite.{CallSite}
 use Rattle.bit_set.specs.Working.Sets.{has_number}

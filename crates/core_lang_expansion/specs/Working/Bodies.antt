@@ -7,8 +7,10 @@ use Rattle.core_lang.specs.declared.tree.Action.{Action, Bind}
 use Rattle.core_lang.specs.declared.tree.Local.{Local}
 use Rattle.core_lang.specs.declared.tree.Return.{Return}
 use Rattle.core_lang.specs.declared.tree.Section.{Section}
-use Rattle.core_lang.specs.Expansion.{At, behind_bound, behind_block, one, Renames, Bodies, Writes, WritesAll, WritesBody, HelpersWritten}
-use Rattle.core_lang.specs.WrittenLocals.{LocalData, local_data, parameter_data, own_local, hidden_local, Brought, locals_by, locals_in_all, brought}
+use Rattle.core_lang.specs.Expansion.{At, behind_bound, behind_block, one, Renames, Bodies, Writes, WritesAll}
+use Rattle.core_lang.specs.Expansion.{WritesBody, HelpersWritten}
+use Rattle.core_lang.specs.WrittenLocals.{LocalData, local_data, parameter_data, own_local, hidden_local, Brought}
+use Rattle.core_lang.specs.WrittenLocals.{locals_by, locals_in_all, brought}
 use Rattle.core_lang_expansion.specs.declared.scope.Scope.{Scope}
 use Rattle.core_lang_expansion.specs.declared.body.Body.{Body}
 use Rattle.core_lang_expansion.specs.Working.Scopes.{at_of}

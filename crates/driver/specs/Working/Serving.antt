@@ -17,7 +17,8 @@ IsOut contents told answer old new status false =
     (status ≡ answer.status) × Writes contents old.out new.out (rope_text answer.out)
     × Tells told old.err new.err (string_bytes answer.err)
 
-abbrev pub GoesOut : {O E : Type 0} → (O → Option (List ℕ)) → (E → Option (List ℕ)) → Answer → Streams O E → Streams O E →
+abbrev pub GoesOut : {O E : Type 0} → (O → Option (List ℕ)) → (E → Option (List ℕ)) → Answer → Streams O E →
+    Streams O E →
     Status → Type 0
 GoesOut contents told answer old new status = IsOut contents told answer old new status (writing_failed new.out)
 

@@ -1,7 +1,8 @@
 -- The exit statuses.
 use Rattle.std.specs.Prelude.{ℕ}
 use Rattle.driver.specs.declared.status.Status.{Status}
-use Rattle.driver.specs.declared.status.Status.TheVariants.{Done, Refused, BadWords, Failed, OutOfMemory, Differs, BadInput, Unsettled, Strange}
+use Rattle.driver.specs.declared.status.Status.TheVariants.{Done, Refused, BadWords, Failed, OutOfMemory, Differs}
+use Rattle.driver.specs.declared.status.Status.TheVariants.{BadInput, Unsettled, Strange}
 
 -- with which a process ends
 abbrev pub exit_status : Status → ℕ

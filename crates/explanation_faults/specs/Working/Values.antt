@@ -1,5 +1,6 @@
 -- What values of the code are, in the words of the notes.
-use Rattle.std.specs.Prelude.{◌≡◌, ◌<◌, ◌≤◌, ℕ, Bool, true, if◌then◌else◌, List, map, slice_get, length, Option, Some, None, IsSome}
+use Rattle.std.specs.Prelude.{◌≡◌, ◌<◌, ◌≤◌, ℕ, Bool, true, if◌then◌else◌, List, map, slice_get, length, Option, Some}
+use Rattle.std.specs.Prelude.{None, IsSome}
 use denote.Ref.{Bor}
 use Rattle.std.specs.Option.{option_map}
 use Rattle.core_lang.specs.WellFormed.{IsWellFormed}
@@ -22,8 +23,10 @@ use Rattle.types_symbols.specs.Working.Views.{decls_of as decls_in, members_seen
 use Rattle.types_symbols.specs.declared.members.Structure.{Structure}
 use Rattle.types_symbols.specs.declared.table.SymbolTable.{SymbolTable}
 use Rattle.syntax.specs.Faults.{HasRightTree}
-use Rattle.syntax.specs.Trees.{Ident, Final, Init, Member, final_member, Param, Pool, Section, Stmt, let_local, let_owned, let_call, var_local, Decl, pool}
-use Rattle.syntax.specs.Views.{ident, decl_of, final_of, init_of, member_of, param_of, pool_of, protection_of, section_of, stmt_of}
+use Rattle.syntax.specs.Trees.{Ident, Final, Init, Member, final_member, Param, Pool, Section, Stmt, let_local}
+use Rattle.syntax.specs.Trees.{let_owned, let_call, var_local, Decl, pool}
+use Rattle.syntax.specs.Views.{ident, decl_of, final_of, init_of, member_of, param_of, pool_of, protection_of}
+use Rattle.syntax.specs.Views.{section_of, stmt_of}
 use Rattle.syntax.specs.declared.tree.Decl as written_decl
 use Rattle.syntax.specs.declared.tree.Final as written_final
 use Rattle.syntax.specs.declared.tree.Init as written_init

@@ -1,6 +1,7 @@
 -- The note that the code finds for the `var` that a name is. Nobody has to believe this file.
 use Rattle.explanation.specs.Notes.{Note}
-use Rattle.std.specs.Prelude.{ℕ, ◌&&◌, ◌||◌, nat_lt, Bool, false, if◌then◌else◌, List, [], ◌∷◌, slice_get, Option, Some, None}
+use Rattle.std.specs.Prelude.{ℕ, ◌&&◌, ◌||◌, nat_lt, Bool, false, if◌then◌else◌, List, [], ◌∷◌, slice_get, Option}
+use Rattle.std.specs.Prelude.{Some, None}
 use Rattle.std.specs.Str.{bytes_eq}
 use Rattle.resolution.specs.Scopes.{◌>>=◌}
 use Rattle.source.specs.Tokens.{Tok}

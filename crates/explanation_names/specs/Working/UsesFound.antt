@@ -1,7 +1,13 @@
 -- The uses of names that the code finds, one after another. Nobody has to believe this file.
 use Rattle.std.specs.List.{flat_map}
 use Rattle.std.specs.Prelude.{List, [], ◌∷◌, ◌++◌, map, Option, Some, None}
-use Rattle.syntax.specs.Trees.{Ident, ValueType, int_type, ref_type, Const, int_const, negative, null_const, member_const, Expr, int, null, place, paren, prefix, chain, compare, Place, lone, element, path, Links, no_links, link, HelperCall, Local, Stmt, let_local, let_owned, let_call, var_local, assign, if_then, while, print, return_value, Stmts, no_stmts, stmt, Otherwise, no_else, else_do, Protection, Member, lock_member, final_member, field_member, Param, Section, Call, Item, call, repeat, Items, no_items, item, Decl, lock, struct, global, array, pool, init, atomic, helper, thread}
+use Rattle.syntax.specs.Trees.{Ident, ValueType, int_type, ref_type, Const, int_const, negative, null_const}
+use Rattle.syntax.specs.Trees.{member_const, Expr, int, null, place, paren, prefix, chain, compare, Place, lone}
+use Rattle.syntax.specs.Trees.{element, path, Links, no_links, link, HelperCall, Local, Stmt, let_local, let_owned}
+use Rattle.syntax.specs.Trees.{let_call, var_local, assign, if_then, while, print, return_value, Stmts, no_stmts}
+use Rattle.syntax.specs.Trees.{stmt, Otherwise, no_else, else_do, Protection, Member, lock_member, final_member}
+use Rattle.syntax.specs.Trees.{field_member, Param, Section, Call, Item, call, repeat, Items, no_items, item, Decl}
+use Rattle.syntax.specs.Trees.{lock, struct, global, array, pool, init, atomic, helper, thread}
 use Rattle.syntax.specs.Trees as tree
 use Rattle.explanation_names.specs.declared.sought.Sought.TheVariants as kind
 use Rattle.explanation_names.specs.Locals.{LocalInScope, declared_by, param_in_scope}

@@ -51,7 +51,8 @@ abbrev pub typed_seen : List written_local.LocalInScope → List LocalInScope
 typed_seen xs = map typed_of xs
 
 -- where no growth was refused up to the end, the locals are those that there were, and these
-abbrev pub Grows : Found → Vec written_local.LocalInScope Global → Vec written_local.LocalInScope Global → List LocalInScope → Type 0
+abbrev pub Grows : Found → Vec written_local.LocalInScope Global → Vec written_local.LocalInScope Global →
+    List LocalInScope → Type 0
 Grows end before after more = end.is_refused ≡ false → typed_seen after.items ≡ typed_seen before.items ++ more
 
 abbrev pub Keeps : Found → Vec written_local.LocalInScope Global → Vec written_local.LocalInScope Global → Type 0

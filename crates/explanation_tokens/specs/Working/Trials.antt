@@ -1,5 +1,6 @@
 -- What is known while tokens are tried. Nobody has to believe this file.
-use Rattle.std.specs.Prelude.{◌≡◌, ℕ, ◌+◌, ◌≤◌, ◌==◌, Bool, true, false, List, [], ◌∷◌, length, take, slice_get, Some, None}
+use Rattle.std.specs.Prelude.{◌≡◌, ℕ, ◌+◌, ◌≤◌, ◌==◌, Bool, true, false, List, [], ◌∷◌, length, take, slice_get, Some}
+use Rattle.std.specs.Prelude.{None}
 use Rattle.explanation.specs.Notes.{Note}
 use Rattle.source.specs.Tokens.{Tok, seen}
 use Rattle.source.specs.declared.fault.Code.{Code}

@@ -4,7 +4,11 @@ use Rattle.std.specs.Prelude.{ℕ, List, [], ◌∷◌, ◌++◌, length, ◌==�
 use Rattle.explanation_types.specs.declared.clash.Clash.{Clash}
 use Rattle.core_lang.specs.declared.value.ValueType.TheVariants.{Integer}
 use Rattle.syntax.specs.declared.tree.Level.{Level}
-use Rattle.syntax.specs.Trees.{Const, Call, Item, repeat, Items, no_items, item, Place, lone, element, path, Expr, int, null, place, paren, prefix, chain, compare, Links, no_links, link, HelperCall, Stmt, let_local, let_owned, let_call, var_local, assign, if_then, while, print, return_value, call, Stmts, no_stmts, stmt, Otherwise, no_else, else_do, Param, Section, Decl, global, init, atomic, helper, thread}
+use Rattle.syntax.specs.Trees.{Const, Call, Item, repeat, Items, no_items, item, Place, lone, element, path, Expr}
+use Rattle.syntax.specs.Trees.{int, null, place, paren, prefix, chain, compare, Links, no_links, link, HelperCall}
+use Rattle.syntax.specs.Trees.{Stmt, let_local, let_owned, let_call, var_local, assign, if_then, while, print}
+use Rattle.syntax.specs.Trees.{return_value, call, Stmts, no_stmts, stmt, Otherwise, no_else, else_do, Param, Section}
+use Rattle.syntax.specs.Trees.{Decl, global, init, atomic, helper, thread}
 use Rattle.resolution.specs.declared.body_limits.BodyLimits.{BodyLimits}
 use Rattle.resolution.specs.declared.wanted.Want.{Want}
 use Rattle.resolution.specs.declared.wanted.Want.TheVariants.{Anything, Condition, Value}

@@ -1,6 +1,7 @@
 -- What values of the code are, and which clashes of types are found, in the words of the notes.
 use Rattle.std.proofs.Common.{Vec, Global}
-use Rattle.std.specs.Prelude.{◌≡◌, ◌++◌, ℕ, ◌==◌, Bool, true, false, is_some, if◌then◌else◌, List, [], ◌∷◌, map, option_map, Option, Some, None, codes}
+use Rattle.std.specs.Prelude.{◌≡◌, ◌++◌, ℕ, ◌==◌, Bool, true, false, is_some, if◌then◌else◌, List, [], ◌∷◌, map}
+use Rattle.std.specs.Prelude.{option_map, Option, Some, None, codes}
 use Rattle.std.specs.Borrow.{Bor}
 use Rattle.core_lang.specs.declared.value.ValueType as core_type
 use Rattle.explanation.specs.Notes.{Note, note_of}
@@ -15,7 +16,9 @@ use Rattle.syntax.specs.declared.tree.Param as the_param
 use Rattle.syntax.specs.declared.tree.Stmt as the_stmt
 use Rattle.syntax.specs.declared.tree.Section as the_section
 use Rattle.syntax.specs.declared.tree.Member as the_member
-use Rattle.syntax.specs.Trees.{ValueType, Const, Member, Call, Item, Items, Place, Expr, compare, Links, Ident, Local, Owner, HelperCall, CalledLocal, Stmt, Stmts, Otherwise, let_owned, let_call, assign, Section, Decl}
+use Rattle.syntax.specs.Trees.{ValueType, Const, Member, Call, Item, Items, Place, Expr, compare, Links, Ident, Local}
+use Rattle.syntax.specs.Trees.{Owner, HelperCall, CalledLocal, Stmt, Stmts, Otherwise, let_owned, let_call, assign}
+use Rattle.syntax.specs.Trees.{Section, Decl}
 use Rattle.syntax.specs.Views.{const_of, expr_of, member_of, param_of, section_of, stmts_of}
 use Rattle.resolution.specs.declared.body_limits.BodyLimits.{BodyLimits}
 use Rattle.resolution.specs.declared.owner_field.OwnerField.{OwnerField}
@@ -23,12 +26,16 @@ use Rattle.resolution.specs.declared.wanted.Sort.{Sort}
 use Rattle.resolution.specs.declared.wanted.Sort.TheVariants as sort
 use Rattle.resolution.specs.declared.wanted.Want.{Want}
 use Rattle.resolution.specs.Owners.{owner_field}
-use Rattle.resolution.specs.Scopes.{Scope, Meaning, a_decl, a_local, nothing, entered, helper_meant, meaning, result_of, type_of}
+use Rattle.resolution.specs.Scopes.{Scope, Meaning, a_decl, a_local, nothing, entered, helper_meant, meaning}
+use Rattle.resolution.specs.Scopes.{result_of, type_of}
 use Rattle.resolution.specs.Core as core
 use Rattle.resolution.specs.declared.wanted.Want.TheVariants.{Anything, Condition, Value}
-use Rattle.resolution.specs.Expressions.{ResolvedExpr, value, truth, alike_sorts, fits_sort, want, number_resolved, test_resolved, typed, typed_place, Walk, reached, at_lock, lost}
+use Rattle.resolution.specs.Expressions.{ResolvedExpr, value, truth, alike_sorts, fits_sort, want, number_resolved}
+use Rattle.resolution.specs.Expressions.{test_resolved, typed, typed_place, Walk, reached, at_lock, lost}
 use Rattle.resolution.specs.Statements.{last_field, target_of, wanted_by}
-use Rattle.explanation_types.specs.Working.Searches.{inside, in_links, of_expr, of_arguments, of_each, of_call, of_own, in_blocks, in_else, of_stmts, of_body, of_constants, of_call_in_thread, in_item, in_items, in_decl, in_decls}
+use Rattle.explanation_types.specs.Working.Searches.{inside, in_links, of_expr, of_arguments, of_each, of_call}
+use Rattle.explanation_types.specs.Working.Searches.{of_own, in_blocks, in_else, of_stmts, of_body, of_constants}
+use Rattle.explanation_types.specs.Working.Searches.{of_call_in_thread, in_item, in_items, in_decl, in_decls}
 use Rattle.resolution.specs.Faults.{start_of, const_start}
 use Rattle.resolution.specs.Constants.{const_sort}
 use Rattle.explanation_types.specs.TypeNotes.{types_note, sides_note, sort_words, want_words}

@@ -2,7 +2,8 @@
 use Rattle.std.proofs.Common.{◌≡◌, ℕ, List, [], ◌∷◌, Option, Some, None}
 use Rattle.std.specs.Prelude.{slice_get}
 use Rattle.core_lang.specs.declared.tree.Stmt.{Stmt}
-use Rattle.core_lang.specs.declared.tree.Action.{Action, Bind, SetLocal, SetGlobal, SetElement, SetField, Call, Print, If', IfElse', While', Row_of-Stmt, end_of-Stmt, more_of-Stmt}
+use Rattle.core_lang.specs.declared.tree.Action.{Action, Bind, SetLocal, SetGlobal, SetElement, SetField, Call, Print}
+use Rattle.core_lang.specs.declared.tree.Action.{If', IfElse', While', Row_of-Stmt, end_of-Stmt, more_of-Stmt}
 use Rattle.core_lang.specs.declared.tree.Return.{Return}
 use Rattle.core_lang.specs.declared.tree.Section.{Section}
 use Rattle.core_lang.specs.Helpers.{CallsOnly, AllCallOnly, EachCallsOnly}
@@ -41,7 +42,8 @@ module _ (P : ℕ → Type 0) where
   return_calls None = tt
   return_calls (Some r) = (tt, tt)
 
-  pub point_calls : (section : Section) (p : ℕ) (point : Point) → EachCallsOnly P section.body.items → slice_get (points section) p ≡ Some point → PointCalls point
+  pub point_calls : (section : Section) (p : ℕ) (point : Point) → EachCallsOnly P section.body.items →
+      slice_get (points section) p ≡ Some point → PointCalls point
   point_calls section p point only at =
       each_there PointCalls (points section) p point
       (each_append PointCalls (points_of_all section.body.items) (point_of_return section.result) (all_call section.body.items only) (return_calls section.result)) at

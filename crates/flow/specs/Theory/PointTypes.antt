@@ -4,13 +4,16 @@ use Rattle.core_lang.specs.declared.value.ValueType.{ValueType}
 use Rattle.core_lang.specs.declared.value.Failure.{Failure}
 use Rattle.core_lang.specs.declared.value.Failure.TheVariants.{Trap, Wrong}
 use Rattle.core_lang.specs.declared.tree.Stmt.{Stmt}
-use Rattle.core_lang.specs.declared.tree.Action.{Action, Bind, SetLocal, SetGlobal, SetElement, SetField, Call, Print, If', IfElse', While', Row_of-Stmt, end_of-Stmt, more_of-Stmt}
+use Rattle.core_lang.specs.declared.tree.Action.{Action, Bind, SetLocal, SetGlobal, SetElement, SetField, Call, Print}
+use Rattle.core_lang.specs.declared.tree.Action.{If', IfElse', While', Row_of-Stmt, end_of-Stmt, more_of-Stmt}
 use Rattle.core_lang.specs.declared.tree.Return.{Return}
 use Rattle.core_lang.specs.declared.tree.Section.{Section}
 use Rattle.core_lang.specs.declared.typed.Typed.{Typed}
 use Rattle.core_lang.specs.Meaning.{State, GoesOn, given, value_of, truth_of}
-use Rattle.core_lang.specs.Typing.{local_types, HasType, IsOf, IsWellTyped, AreWellTyped, AllWellTyped, IsResult, IsWellTypedSection}
-use Rattle.core_lang.specs.Working.Soundness.{Gives, IsTypedState, LeadsToTyped, ValuesHaveTheirTypes, TestsDecide, EffectsStayTyped}
+use Rattle.core_lang.specs.Typing.{local_types, HasType, IsOf, IsWellTyped, AreWellTyped, AllWellTyped, IsResult}
+use Rattle.core_lang.specs.Typing.{IsWellTypedSection}
+use Rattle.core_lang.specs.Working.Soundness.{Gives, IsTypedState, LeadsToTyped, ValuesHaveTheirTypes, TestsDecide}
+use Rattle.core_lang.specs.Working.Soundness.{EffectsStayTyped}
 use Rattle.core_lang.specs.WellFormed.{IsChecked}
 use Rattle.core_lang.specs.Theory.Checked.{checked}
 use Rattle.flow.specs.Points.{Point, statement, result, inner_points, points_in, points_of_all, point_of_return, points}
@@ -45,7 +48,8 @@ module _ (program : Typed) (types : List ValueType) where
   all_typed [] h = tt
   all_typed (s ∷ ss) h = (h.0, each_append IsTypedPoint (inner_points s.action) (points_of_all ss) (inner_typed s.action h.0) (all_typed ss h.1))
 
-  return_typed : (t : Option ValueType) (r : Option Return) → IsResult program types t r → Each IsTypedPoint (point_of_return r)
+  return_typed : (t : Option ValueType) (r : Option Return) → IsResult program types t r →
+      Each IsTypedPoint (point_of_return r)
   return_typed t None h = tt
   return_typed None (Some r) h = absurd h
   return_typed (Some t) (Some r) h = ((t, h), tt)
@@ -58,12 +62,14 @@ points_typed program section well =
     (all_typed program types section.body.items well.body) (return_typed program types section.result_type section.result well.result)
 
 module _ (values : ValuesHaveTheirTypes) (tests : TestsDecide) (effects : EffectsStayTyped) (program : Typed) (well : IsChecked program) (types : List ValueType) where
-  stays : {A : Type 0} (P : A → Type 0) (r : Result A Failure) (s : State) → IsTypedState program types s → Gives P r → LeadsToTyped program types (given r s (λ a. GoesOn s))
+  stays : {A : Type 0} (P : A → Type 0) (r : Result A Failure) (s : State) → IsTypedState program types s →
+      Gives P r → LeadsToTyped program types (given r s (λ a. GoesOn s))
   stays P (Ok a) s h g = h
   stays P (Err (Trap t)) s h g = h
   stays P (Err Wrong) s h g = g
 
-  at_point : (point : Point) (s : State) → IsTypedState program types s → IsTypedPoint program types point → LeadsToTyped program types (effect_at point program.shape s)
+  at_point : (point : Point) (s : State) → IsTypedState program types s → IsTypedPoint program types point →
+      LeadsToTyped program types (effect_at point program.shape s)
   at_point (statement start (Bind k e)) s h t = effects program types (Bind k e) 0 s well h t
   at_point (statement start (SetLocal k e)) s h t = effects program types (SetLocal k e) 0 s well h t
   at_point (statement start (SetGlobal c e)) s h t = effects program types (SetGlobal c e) 0 s well h t

@@ -4,7 +4,8 @@ use Rattle.core_lang.specs.declared.value.Value.{Value}
 use Rattle.core_lang.specs.declared.typed.Typed.{Typed}
 use Rattle.core_lang.specs.Serial.{Serial}
 use Rattle.code.specs.Memory.{overwritten, Agrees}
-use Rattle.history.specs.Commits.{Commit, call_of, answer_of, committed, IsLegal, IsTrueCommit, AreTrue, WritesNot, NoneWrites}
+use Rattle.history.specs.Commits.{Commit, call_of, answer_of, committed, IsLegal, IsTrueCommit, AreTrue, WritesNot}
+use Rattle.history.specs.Commits.{NoneWrites}
 
 -- writes that aren't of a cell leave its value
 abbrev pub WritesSpareOthers : Type 0

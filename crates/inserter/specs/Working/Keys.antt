@@ -1,5 +1,6 @@
 -- The numbers by which the lock paths of a section are sorted. Nobody has to believe these: what a list is, says `Placement`.
-use Rattle.std.specs.Prelude.{◌≡◌, ◌<◌, ◌+◌, ◌*◌, ◌++◌, ℕ, zero, suc, List, [], ◌∷◌, ◌%◌, ◌&&◌, not, length, slice_get, slice_index, Some, if◌then◌else◌}
+use Rattle.std.specs.Prelude.{◌≡◌, ◌<◌, ◌+◌, ◌*◌, ◌++◌, ℕ, zero, suc, List, [], ◌∷◌, ◌%◌, ◌&&◌, not, length}
+use Rattle.std.specs.Prelude.{slice_get, slice_index, Some, if◌then◌else◌}
 use Rattle.std.specs.List.{AllPairs, Contains}
 use Rattle.core_lang.specs.declared.tree.Section.{Section}
 use Rattle.core_lang.specs.declared.typed.Typed.{Typed}

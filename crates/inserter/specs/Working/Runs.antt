@@ -19,7 +19,8 @@ pub record AreAllowed (program : Typed) (section : Section) (ranks : List ℕ) (
   pub long : length lists ≡ length (points section)
   pub only : (p i : ℕ) (list : List ℕ) → slice_get lists p ≡ Some list → Contains list i →
       (path : LockPath) × IsPath program section i path × IsWanted program section ranks p path
-  pub all : (p i : ℕ) (list : List ℕ) (path : LockPath) → slice_get lists p ≡ Some list → IsPath program section i path →
+  pub all : (p i : ℕ) (list : List ℕ) (path : LockPath) → slice_get lists p ≡ Some list →
+      IsPath program section i path →
       IsDue program section ranks p path → Contains list i
 
 module _ (program : Typed) (section : Section) (ranks : List ℕ) (lists : List (List ℕ)) where
@@ -37,7 +38,8 @@ module _ (program : Typed) (section : Section) (ranks : List ℕ) (lists : List 
   pub record Asks (p : ℕ) (locals : List Value) (held : List Lock) (lock : Lock) : Type 0 where
     pub listed : IsListed p locals lock
     pub new : Contains held lock → ⊥
-    pub first : (other : Lock) → IsListed p locals other → (Contains held other → ⊥) → (other ≡ lock) ⊎ Precedes ranks lock other
+    pub first : (other : Lock) → IsListed p locals other → (Contains held other → ⊥) →
+        (other ≡ lock) ⊎ Precedes ranks lock other
 
   -- each lock path of the section names what it named, unless the point binds its root
   abbrev pub Keeps : ℕ → List Value → List Value → Type 0
@@ -50,7 +52,8 @@ module _ (program : Typed) (section : Section) (ranks : List ℕ) (lists : List 
     -- it begins at the first point, with any values, and holds nothing
     begins : {locals : List Value} → Run 0 locals []
     -- it is granted a lock that it asks for
-    gets : {p : ℕ} {locals : List Value} {held : List Lock} {lock : Lock} → Run p locals held → Asks p locals held lock →
+    gets : {p : ℕ} {locals : List Value} {held : List Lock} {lock : Lock} → Run p locals held →
+        Asks p locals held lock →
         Run p locals (held ++ lock ∷ [])
     -- with all listed locks held it does what the point says, and goes on by flow. The roots of used paths that the point doesn't bind go on naming what they named; all else may change
     goes : {p q : ℕ} {locals after : List Value} {held : List Lock} → Run p locals held →

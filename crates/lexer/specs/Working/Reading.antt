@@ -1,16 +1,25 @@
 -- What the functions of this crate compute.
-use Rattle.std.specs.Prelude.{◌≡◌, ℕ, ◌*◌, ◌+◌, ◌<◌, ◌^◌, Bool, List, [], ◌∷◌, ◌==◌, ◌&&◌, nat_le, bytes_eq, slice_index, slice_index_or, ◌%◌, length, if◌then◌else◌, true, false, Option, Some, None, Result, Ok, Err}
+use Rattle.std.specs.Prelude.{◌≡◌, ℕ, ◌*◌, ◌+◌, ◌<◌, ◌^◌, Bool, List, [], ◌∷◌, ◌==◌, ◌&&◌, nat_le, bytes_eq}
+use Rattle.std.specs.Prelude.{slice_index, slice_index_or, ◌%◌, length, if◌then◌else◌, true, false, Option, Some}
+use Rattle.std.specs.Prelude.{None, Result, Ok, Err}
 use Rattle.source.specs.declared.fault.Code.{Code}
 use Rattle.source.specs.declared.fault.Code.TheVariants.{BadCharacter, NumberTooLarge, LimitExceeded}
 use Rattle.source.specs.declared.fault.Refusal.{Refusal}
 use Rattle.source.specs.declared.fault.Refusal.TheVariants as refusal
 use Rattle.source.specs.declared.token.Keyword.{Keyword}
-use Rattle.source.specs.declared.token.Keyword.TheVariants.{Lock, Struct, Final, Ref, Int, Global, ProtectedBy, Pool, Init, Atomic, Let, Var, If, Else, While, Print, Return, Thread, Repeat, Null, Where, Call}
+use Rattle.source.specs.declared.token.Keyword.TheVariants.{Lock, Struct, Final, Ref, Int, Global, ProtectedBy, Pool}
+use Rattle.source.specs.declared.token.Keyword.TheVariants.{Init, Atomic, Let, Var, If, Else, While, Print, Return}
+use Rattle.source.specs.declared.token.Keyword.TheVariants.{Thread, Repeat, Null, Where, Call}
 use Rattle.source.specs.declared.token.Sign.{Sign}
-use Rattle.source.specs.declared.token.Sign.TheVariants.{OpenBrace, CloseBrace, OpenParen, CloseParen, OpenBracket, CloseBracket, Semicolon, Comma, Colon, Dot, Equals, DoubleEquals, NotEquals, Less, LessEquals, Greater, GreaterEquals, Plus, Minus, Star, Slash, Percent, And, Or, Not}
+use Rattle.source.specs.declared.token.Sign.TheVariants.{OpenBrace, CloseBrace, OpenParen, CloseParen, OpenBracket}
+use Rattle.source.specs.declared.token.Sign.TheVariants.{CloseBracket, Semicolon, Comma, Colon, Dot, Equals}
+use Rattle.source.specs.declared.token.Sign.TheVariants.{DoubleEquals, NotEquals, Less, LessEquals, Greater}
+use Rattle.source.specs.declared.token.Sign.TheVariants.{GreaterEquals, Plus, Minus, Star, Slash, Percent, And, Or}
+use Rattle.source.specs.declared.token.Sign.TheVariants.{Not}
 use Rattle.source.specs.Tokens.{Lexeme, name, int, word, mark}
 use Rattle.source.specs.Faults.{IsBare}
-use Rattle.source.specs.Texts.{is_letter, is_digit, is_name_byte, is_white, keyword_text, value_of, NUMBER_LIMIT, NAME_LIMIT}
+use Rattle.source.specs.Texts.{is_letter, is_digit, is_name_byte, is_white, keyword_text, value_of, NUMBER_LIMIT}
+use Rattle.source.specs.Texts.{NAME_LIMIT}
 use Rattle.std.specs.Rc.{rc_str_bytes}
 use Rattle.lexer.specs.declared.unit.Kind.{Kind}
 use Rattle.lexer.specs.declared.unit.Kind.TheVariants as kind

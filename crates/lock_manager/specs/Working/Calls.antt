@@ -1,5 +1,6 @@
 -- What each call of the manager does.
-use Rattle.std.specs.Prelude.{◌≡◌, ◌≢◌, ◌<◌, ℕ, List, [], ◌∷◌, ◌++◌, length, map, slice_get, slice_set, Option, Some, None}
+use Rattle.std.specs.Prelude.{◌≡◌, ◌≢◌, ◌<◌, ℕ, List, [], ◌∷◌, ◌++◌, length, map, slice_get, slice_set, Option, Some}
+use Rattle.std.specs.Prelude.{None}
 use Rattle.std.specs.List.{Contains, All}
 use Rattle.core_lang.specs.declared.value.Value.{Value}
 use Rattle.locks.specs.declared.lock.Lock.{Lock}
@@ -13,7 +14,8 @@ use Rattle.lock_manager.specs.declared.response.Response.{Response}
 use Rattle.lock_manager.specs.declared.response.Response.TheVariants.{Granted, Held}
 use Rattle.lock_manager.specs.Working.Sessions.{SessionOf, TicketOf, ReceiptOf, fresh, with_lock, with_ask}
 use Rattle.lock_manager.specs.Working.Queues.{waiting_in, leaving, joining}
-use Rattle.lock_manager.specs.Working.Managers.{Managed, place_of, session_of, put_for, given_back, as_committed, ComesAfter}
+use Rattle.lock_manager.specs.Working.Managers.{Managed, place_of, session_of, put_for, given_back, as_committed}
+use Rattle.lock_manager.specs.Working.Managers.{ComesAfter}
 
 -- with a thread's section as it is now
 abbrev pub with_session : Managed → ℕ → Option SessionOf → Managed

@@ -1,5 +1,6 @@
 -- What the manager's parts have to do with one another. Nobody has to believe these.
-use Rattle.std.specs.Prelude.{◌≡◌, ◌<◌, ◌≤◌, ℕ, ◌+◌, List, [], ◌∷◌, length, map, slice_set, slice_index_or, Option, Some, None}
+use Rattle.std.specs.Prelude.{◌≡◌, ◌<◌, ◌≤◌, ℕ, ◌+◌, List, [], ◌∷◌, length, map, slice_set, slice_index_or, Option}
+use Rattle.std.specs.Prelude.{Some, None}
 use Rattle.std.specs.List.{All}
 use Rattle.core_lang.specs.declared.value.Value.{Value}
 use Rattle.locks.specs.declared.lock.Lock.{Lock}

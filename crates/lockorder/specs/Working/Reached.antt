@@ -1,5 +1,6 @@
 -- How far classes are from a target. Nobody has to believe these: what a cycle is, says `Ranks`.
-use Rattle.std.specs.Prelude.{◌≡◌, ◌≢◌, ◌⊎◌, ◌<◌, ◌≤◌, nat_le, if◌then◌else◌, ℕ, List, length, slice_get, slice_index_or, MatchOption, Option, Some, None}
+use Rattle.std.specs.Prelude.{◌≡◌, ◌≢◌, ◌⊎◌, ◌<◌, ◌≤◌, nat_le, if◌then◌else◌, ℕ, List, length, slice_get}
+use Rattle.std.specs.Prelude.{slice_index_or, MatchOption, Option, Some, None}
 use Rattle.std.specs.List.{All, AllPairs, Contains}
 use Rattle.bit_set.specs.declared.set.BitSet.{BitSet}
 use Rattle.lockorder.specs.declared.cycles.Reached.{Reached}
@@ -23,7 +24,8 @@ IsDone before distances c = (b : ℕ) → InTable before b c → HasDistance dis
 pub record AreReached (before : List BitSet) (r : Reached) : Type 0 where
   pub long : length r.distances.items ≡ length before
   pub target : distance_of r.distances.items r.target ≡ Some 0
-  pub nearer : (c k : ℕ) → distance_of r.distances.items c ≡ Some k → (c ≡ r.target) ⊎ LeadsNearer before r.distances.items c k
+  pub nearer : (c k : ℕ) → distance_of r.distances.items c ≡ Some k →
+      (c ≡ r.target) ⊎ LeadsNearer before r.distances.items c k
   pub listed : (c : ℕ) → HasDistance r.distances.items c → Contains r.classes.items c
   pub known : All (HasDistance r.distances.items) r.classes.items
   pub small : (c k : ℕ) → distance_of r.distances.items c ≡ Some k → k < length r.classes.items

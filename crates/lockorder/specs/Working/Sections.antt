@@ -1,5 +1,6 @@
 -- Edges of one section by the sets of paths at its points. Nobody has to believe these: what makes an edge, says `Edges`.
-use Rattle.std.specs.Prelude.{◌≡◌, ◌⊎◌, ◌||◌, ◌<◌, ◌≤◌, ◌+◌, ℕ, Bool, true, false, List, [], ◌∷◌, slice_get, slice_index_or, Some, None, Option, MatchOption}
+use Rattle.std.specs.Prelude.{◌≡◌, ◌⊎◌, ◌||◌, ◌<◌, ◌≤◌, ◌+◌, ℕ, Bool, true, false, List, [], ◌∷◌, slice_get}
+use Rattle.std.specs.Prelude.{slice_index_or, Some, None, Option, MatchOption}
 use Rattle.std.specs.List.{All, Contains}
 use Rattle.flow.specs.Flow.{Plus, Before}
 use Rattle.flow.specs.Flow as control

@@ -1,5 +1,6 @@
 -- Edges between classes as a table. Nobody has to believe these: what an edge is, says `Edges`.
-use Rattle.std.specs.Prelude.{◌≡◌, ◌⊎◌, ◌==◌, ◌&&◌, ◌||◌, ◌<◌, ℕ, Bool, true, List, length, slice_index_or, MatchOption, Option, Vec}
+use Rattle.std.specs.Prelude.{◌≡◌, ◌⊎◌, ◌==◌, ◌&&◌, ◌||◌, ◌<◌, ℕ, Bool, true, List, length, slice_index_or}
+use Rattle.std.specs.Prelude.{MatchOption, Option, Vec}
 use Rattle.std.specs.Bool.{Decides}
 use Rattle.std.proofs.Common.{Global}
 use Rattle.flow.specs.Flow.{Plus}

@@ -1,5 +1,6 @@
 -- What is known of pairs of classes and the edges between them. Nobody has to believe these: what makes an edge, says `Edges`.
-use Rattle.std.specs.Prelude.{◌≡◌, ◌⊎◌, ◌<◌, ℕ, List, [], ◌∷◌, length, map, slice_index_or, MatchOption, Option, Some, None}
+use Rattle.std.specs.Prelude.{◌≡◌, ◌⊎◌, ◌<◌, ℕ, List, [], ◌∷◌, length, map, slice_index_or, MatchOption, Option, Some}
+use Rattle.std.specs.Prelude.{None}
 use Rattle.std.specs.List.{All, AllPairs, Contains}
 use Rattle.core_lang.specs.declared.typed.Typed.{Typed}
 use Rattle.points.specs.declared.table.Points.{Points}
@@ -52,7 +53,8 @@ IsTold program sections c d told =
 -- of each pair of classes
 pub record AreTold (program : Typed) (sections : ℕ) (pairs : List (ℕ × ℕ)) (told : List (Option Edge)) : Type 0 where
   pub long : length told ≡ length pairs
-  pub each : (i : ℕ) → i < length pairs → IsTold program sections (pair_at pairs i).0 (pair_at pairs i).1 (told_at told i)
+  pub each : (i : ℕ) → i < length pairs →
+      IsTold program sections (pair_at pairs i).0 (pair_at pairs i).1 (told_at told i)
 
 -- each pair is one of the program's edges
 abbrev pub AreEdges : Typed → List (ℕ × ℕ) → Type 0

@@ -1,6 +1,7 @@
 -- What a section's locals stand for, as a list in the order of their points. Nobody has to believe these: what a normal form is, says
 -- `locks`.
-use Rattle.std.specs.Prelude.{◌≡◌, ℕ, ◌==◌, Bool, true, false, if◌then◌else◌, List, [], ◌∷◌, ◌++◌, map, Option, Some, None}
+use Rattle.std.specs.Prelude.{◌≡◌, ℕ, ◌==◌, Bool, true, false, if◌then◌else◌, List, [], ◌∷◌, ◌++◌, map, Option, Some}
+use Rattle.std.specs.Prelude.{None}
 use Rattle.std.specs.Option.{option_map}
 use Rattle.std.specs.List.{cons_option, filter_map}
 use Rattle.core_lang.specs.declared.tree.Action.{Action}
@@ -8,7 +9,8 @@ use Rattle.core_lang.specs.declared.tree.Expr.{Expr}
 use Rattle.core_lang.specs.declared.tree.FieldStep.{FieldStep}
 use Rattle.core_lang.specs.declared.tree.Section.{Section}
 use Rattle.flow.specs.Points.{Point, statement}
-use Rattle.locks.specs.LockPaths.{StablePath, OwnerPath, Binding, binding_at, all_final, stable_value, owner_of, owned_path, or_behind}
+use Rattle.locks.specs.LockPaths.{StablePath, OwnerPath, Binding, binding_at, all_final, stable_value, owner_of}
+use Rattle.locks.specs.LockPaths.{owned_path, or_behind}
 use Rattle.lockpaths_forms.specs.declared.form.Form.{Form}
 use Rattle.lockpaths_forms.specs.declared.form.Owner.{Owner}
 use Rattle.lockpaths_forms.specs.declared.forms.Bound.{Bound}

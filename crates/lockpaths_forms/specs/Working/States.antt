@@ -1,5 +1,6 @@
 -- States of a walk along a stable path, and what is read from them on. Nobody has to believe these.
-use Rattle.std.specs.Prelude.{◌≡◌, ℕ, ◌+◌, ◌<◌, ◌==◌, Bool, false, List, [], ◌∷◌, ◌++◌, map, length, take, get_or, slice_get, Option, Some, None, ⊤}
+use Rattle.std.specs.Prelude.{◌≡◌, ℕ, ◌+◌, ◌<◌, ◌==◌, Bool, false, List, [], ◌∷◌, ◌++◌, map, length, take, get_or}
+use Rattle.std.specs.Prelude.{slice_get, Option, Some, None, ⊤}
 use Rattle.std.specs.Option.{option_map}
 use Rattle.core_lang.specs.declared.tree.FieldStep.{FieldStep}
 use Rattle.core_lang.specs.declared.tree.Section.{Section}

@@ -1,9 +1,11 @@
 -- Which locks are the same, which are among others, and which come before others. Nobody has to believe these facts: they are
 -- proved here, for proofs of this crate and of those above.
-use Rattle.std.proofs.Common.{◌≡◌, ◌≢◌, ◌⊎◌, ◌==◌, ◌&&◌, ◌<◌, ℕ, zero, suc, nat_lt, Bool, IsTrue, true, false, List, [], ◌∷◌, refl, sym, ap, ◌∙◌, arith, inl, inr, true≢false}
+use Rattle.std.proofs.Common.{◌≡◌, ◌≢◌, ◌⊎◌, ◌==◌, ◌&&◌, ◌<◌, ℕ, zero, suc, nat_lt, Bool, IsTrue, true, false, List}
+use Rattle.std.proofs.Common.{[], ◌∷◌, refl, sym, ap, ◌∙◌, arith, inl, inr, true≢false}
 use Rattle.std.specs.Prelude.{slice_index}
 use Rattle.std.specs.List.{Contains}
-use Rattle.std.proofs.lemmas.Bool.{cases_Bool, eq-eqb, eqb-true, lt-ltb, ltb-true, and_parts, and_from, or_cases, or_left, or_right}
+use Rattle.std.proofs.lemmas.Bool.{cases_Bool, eq-eqb, eqb-true, lt-ltb, ltb-true, and_parts, and_from, or_cases}
+use Rattle.std.proofs.lemmas.Bool.{or_left, or_right}
 use Rattle.locks.specs.declared.lock.Lock.{Lock}
 use Rattle.locks.specs.Locks.{same_lock, among}
 use Rattle.locks.specs.Order.{Precedes}
@@ -44,7 +46,8 @@ among_contains (x ∷ xs) l h = elim (or_cases (same_lock x l) (among xs l) h) [
 ]
 
 -- the same of a test's answer
-pub is_contained : (xs : List Lock) (l : Lock) (b : Bool) → b ≡ among xs l → (IsTrue b → Contains xs l) × (Contains xs l → IsTrue b)
+pub is_contained : (xs : List Lock) (l : Lock) (b : Bool) → b ≡ among xs l →
+    (IsTrue b → Contains xs l) × (Contains xs l → IsTrue b)
 is_contained xs l b e = (λ t. among_contains xs l (sym e ∙ t), λ c. e ∙ contains_among xs l c)
 
 -- ---- before others

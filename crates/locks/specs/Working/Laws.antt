@@ -23,7 +23,9 @@ use Rattle.locks.specs.declared.path.Root.TheVariants.{GlobalLock, Local as AtLo
 use Rattle.locks.specs.Accesses.{Access, accesses_at}
 use Rattle.locks.specs.Locks.{IsLock, lock_of_cell}
 use Rattle.locks.specs.Working.Reached.{Reaches}
-use Rattle.locks.specs.LockPaths.{LockPath, StablePath, Binding, IsLet, stable, stable_value, owner_of, owned_path, bindings, behind, normal_form, lock_path, lock_paths, lock_named, same_path, Uses, IsInScope, BindsRoot, LetsAgree}
+use Rattle.locks.specs.LockPaths.{LockPath, StablePath, Binding, IsLet, stable, stable_value, owner_of, owned_path}
+use Rattle.locks.specs.LockPaths.{bindings, behind, normal_form, lock_path, lock_paths, lock_named, same_path, Uses}
+use Rattle.locks.specs.LockPaths.{IsInScope, BindsRoot, LetsAgree}
 use Rattle.locks.specs.Faults.{HasSection}
 
 -- at a point of a well-formed program, where each local and cell has a value of its type, and each `let` in scope the value

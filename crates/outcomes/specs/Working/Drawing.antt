@@ -1,5 +1,6 @@
 -- What is known while orders are drawn. Nobody has to believe this file.
-use Rattle.std.specs.Prelude.{◌≡◌, ℕ, ◌<◌, zero, suc, Bool, List, [], ◌∷◌, ◌++◌, length, ◌⊎◌, Option, Some, None, MatchBool}
+use Rattle.std.specs.Prelude.{◌≡◌, ℕ, ◌<◌, zero, suc, Bool, List, [], ◌∷◌, ◌++◌, length, ◌⊎◌, Option, Some, None}
+use Rattle.std.specs.Prelude.{MatchBool}
 use Rattle.core_lang.specs.declared.typed.Typed.{Typed}
 use Rattle.core_lang.specs.declared.typed.Thread.{Thread}
 use Rattle.core_lang.specs.Serial.{Invocation, opening_heap}

@@ -1,5 +1,6 @@
 -- What a search's functions do. Nobody has to believe this file.
-use Rattle.std.specs.Prelude.{◌≡◌, ℕ, ◌+◌, ◌*◌, ◌^◌, ◌<◌, suc, Bool, List, length, slice_index, ◌⊎◌, Option, Some, None, MatchBool}
+use Rattle.std.specs.Prelude.{◌≡◌, ℕ, ◌+◌, ◌*◌, ◌^◌, ◌<◌, suc, Bool, List, length, slice_index, ◌⊎◌, Option, Some}
+use Rattle.std.specs.Prelude.{None, MatchBool}
 use Rattle.core_lang.specs.declared.value.Value.{Value}
 use Rattle.core_lang.specs.declared.typed.Call.{Call}
 use Rattle.core_lang.specs.declared.typed.Typed.{Typed}
@@ -18,7 +19,8 @@ use Rattle.outcomes.specs.Orders.{next_call, one_more, none_done, orders, orders
 use Rattle.outcomes.specs.Ends.{Finds}
 use Rattle.outcomes.specs.Working.States.{Reached, at, reached_of}
 use Rattle.outcomes.specs.Working.Trails.{IsLonger}
-use Rattle.outcomes.specs.Working.Searching.{Leads, order_at, IsGood, AreGood, sum_over, total, IsFound, IsAdded, Summand}
+use Rattle.outcomes.specs.Working.Searching.{Leads, order_at, IsGood, AreGood, sum_over, total, IsFound, IsAdded}
+use Rattle.outcomes.specs.Working.Searching.{Summand}
 
 -- the program is one that was accepted, and what was prepared is it
 pub record CanSearch (search : Search) : Type 0 where

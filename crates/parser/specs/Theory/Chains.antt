@@ -1,5 +1,6 @@
 -- Chains, a turn at a time.
-use Rattle.std.proofs.Common.{◌≡◌, ◌<◌, List, [], ◌∷◌, ◌++◌, length, Option, Some, None, Result, Ok, Err, refl, sym, ap, ◌∙◌, subst, arith, false}
+use Rattle.std.proofs.Common.{◌≡◌, ◌<◌, List, [], ◌∷◌, ◌++◌, length, Option, Some, None, Result, Ok, Err, refl, sym}
+use Rattle.std.proofs.Common.{ap, ◌∙◌, subst, arith, false}
 use Rattle.std.specs.Option.{is_some}
 use Rattle.std.specs.Prelude.{IfSome, option_map}
 use Rattle.std.proofs.lemmas.Option.{IfSome_then}
@@ -12,12 +13,14 @@ use Rattle.syntax.specs.Trees.{Expr, chain, Links, no_links, link}
 use Rattle.syntax.specs.Views.{expr_of, links_of}
 use Rattle.parser.specs.declared.stop.Stop.{Stop}
 use Rattle.parser.specs.Working.Reading.{◌>>=◌, Fails, Reader, turn}
-use Rattle.parser.specs.Working.Expressions.{op_of, before_rest, op_at, link_from, next_link, add_link, links_at, chained, chain_at, links_behind}
+use Rattle.parser.specs.Working.Expressions.{op_of, before_rest, op_at, link_from, next_link, add_link, links_at}
+use Rattle.parser.specs.Working.Expressions.{chained, chain_at, links_behind}
 use Rattle.parser.specs.Theory.Readers.{OnValue, on_then, fails_on, Shortens}
 use Rattle.parser.specs.Theory.Many.{NextShortens, many_at-turn, with_front, goes_on, ends, stops}
 use Rattle.parser.specs.Theory.Productions.{op_meant}
 
-op_found : (o : Option Operator) (t : Tok) (ts : List Tok) → IfSome (before_rest o ts) (λ f. length f.1 < length (t ∷ ts))
+op_found : (o : Option Operator) (t : Tok) (ts : List Tok) →
+    IfSome (before_rest o ts) (λ f. length f.1 < length (t ∷ ts))
 op_found None t ts = tt
 op_found (Some op) t ts = omega arith
 
@@ -26,7 +29,9 @@ unfolding op_at
 op_shortens k [] = tt
 op_shortens k (t ∷ ts) = op_found (op_of k t.kind) t ts
 
-link_shortens : (operand : Reader Expr) → Shortens operand → (o : Option (Operator × List Tok)) (ts : List Tok) → IfSome o (λ f. length f.1 < length ts) → IfSome (link_from operand o) (λ r. OnValue r (λ x. length x.1 < length ts))
+link_shortens : (operand : Reader Expr) → Shortens operand → (o : Option (Operator × List Tok)) (ts : List Tok) →
+    IfSome o (λ f. length f.1 < length ts) →
+    IfSome (link_from operand o) (λ r. OnValue r (λ x. length x.1 < length ts))
 link_shortens operand shorter None ts h = tt
 link_shortens operand shorter (Some o) ts h = on_then (operand o.1) _ (λ x. length x.1 < length o.1) _ (shorter o.1) (λ x less. omega arith)
 
@@ -44,7 +49,8 @@ pub links_before-nothing : (ls : List l.Link) → links_before ls no_links ≡ l
 links_before-nothing [] = refl
 links_before-nothing (x ∷ ls) = ap (link x.op (expr_of x.operand)) (links_before-nothing ls)
 
-pub links_before-push : (ls : List l.Link) (x : l.Link) (more : Links) → links_before (ls ++ x ∷ []) more ≡ links_before ls (link x.op (expr_of x.operand) more)
+pub links_before-push : (ls : List l.Link) (x : l.Link) (more : Links) →
+    links_before (ls ++ x ∷ []) more ≡ links_before ls (link x.op (expr_of x.operand) more)
 links_before-push [] x more = refl
 links_before-push (y ∷ ls) x more = ap (link y.op (expr_of y.operand)) (links_before-push ls x more)
 
@@ -54,11 +60,13 @@ module _ (operand : Reader Expr) (shorter : Shortens operand) (k : Level) where
   link_goes_on ls x ts after rest total found read =
       goes_on no_links add_link (next_link operand k) (next_link_shortens operand shorter k) (links_before ls) (links_before (ls ++ x ∷ [])) ts rest (x.op, expr_of x.operand) total (rw (found, read) refl) (links_before-push ls x)
 
-  pub link_ends : (ls : List l.Link) (ts : List Tok) (total : Result (Links × List Tok) Stop) → op_at k ts ≡ None → with_front (links_before ls) (links_at operand k ts) ≡ total → total ≡ Ok (links_of ls, ts)
+  pub link_ends : (ls : List l.Link) (ts : List Tok) (total : Result (Links × List Tok) Stop) → op_at k ts ≡ None →
+      with_front (links_before ls) (links_at operand k ts) ≡ total → total ≡ Ok (links_of ls, ts)
   link_ends ls ts total found so_far =
       ends no_links add_link (next_link operand k) (next_link_shortens operand shorter k) (links_before ls) ts total (rw found refl) so_far ∙ ap (λ (x : Links). Ok (x, ts)) (links_before-nothing ls)
 
-  pub link_stops : (e : Stop) (front : Links → Links) (ts after : List Tok) (op : Operator) (total : Result (Links × List Tok) Stop) → op_at k ts ≡ Some (op, after) → Fails e (operand after) → with_front front (links_at operand k ts) ≡ total → Fails e total
+  pub link_stops : (e : Stop) (front : Links →
+      Links) (ts after : List Tok) (op : Operator) (total : Result (Links × List Tok) Stop) → op_at k ts ≡ Some (op, after) → Fails e (operand after) → with_front front (links_at operand k ts) ≡ total → Fails e total
   link_stops e front ts after op total found fails =
       stops no_links add_link (next_link operand k) (next_link_shortens operand shorter k) e front ts (operand after >>= λ x. Ok ((op, x.0), x.1)) total (rw found refl) (fails_on e (operand after) (λ x. Ok ((op, x.0), x.1)) fails)
 
@@ -91,7 +99,8 @@ some_links k x y op (Ok l) = refl
 some_links k x y op (Err e) = refl
 
 module _ (operand : Reader Expr) (shorter : Shortens operand) (k : Level) (ts mid : List Tok) (x : Expr) (first : operand ts ≡ Ok (x, mid)) where
-  by_turn : (rest : List Tok) → links_at operand k rest ≡ turn no_links add_link (links_at operand k) (next_link operand k rest) rest
+  by_turn : (rest : List Tok) →
+      links_at operand k rest ≡ turn no_links add_link (links_at operand k) (next_link operand k rest) rest
   by_turn = many_at-turn no_links add_link (next_link operand k) (next_link_shortens operand shorter k)
 
   by_links : chain_at operand k ts ≡ chained_from k x (links_at operand k mid)
@@ -117,10 +126,12 @@ module _ (operand : Reader Expr) (shorter : Shortens operand) (k : Level) (ts mi
       with_links : chain_at operand k ts ≡ chain_from k x (links_behind operand k (op, y) rest)
       with_links = by_links ∙ ap (chained_from k x) (by_turn mid ∙ rw (found, read) refl) ∙ some_links k x y op (links_at operand k rest)
 
-      pub pair_done : op_at k rest ≡ None → chain_at operand k ts ≡ Ok (chain (level_of op) x (link op y no_links), rest)
+      pub pair_done : op_at k rest ≡ None →
+          chain_at operand k ts ≡ Ok (chain (level_of op) x (link op y no_links), rest)
       pair_done none = with_links ∙ rw (no_link rest none) (ap (λ l. Ok (chain l x (link op y no_links), rest)) (sym (level_found k mid after op found)))
 
-      pub chain_done : (ls : Links) (end : List Tok) → links_behind operand k (op, y) rest ≡ Ok (ls, end) → chain_at operand k ts ≡ Ok (chain k x ls, end)
+      pub chain_done : (ls : Links) (end : List Tok) → links_behind operand k (op, y) rest ≡ Ok (ls, end) →
+          chain_at operand k ts ≡ Ok (chain k x ls, end)
       chain_done ls end more = with_links ∙ ap (chain_from k x) more
 
       pub links_stop : (e : Stop) → Fails e (links_behind operand k (op, y) rest) → Fails e (chain_at operand k ts)

@@ -1,13 +1,19 @@
 -- Productions put together of parts: each a reader with its law, and some tokens that it reads.
-use Rattle.std.proofs.Common.{◌≡◌, ℕ, zero, suc, ◌+◌, ◌<◌, Bool, true, false, cond, List, [], ◌∷◌, Some, None, Ok, refl, sym, ap, ◌∙◌, subst, arith}
+use Rattle.std.proofs.Common.{◌≡◌, ℕ, zero, suc, ◌+◌, ◌<◌, Bool, true, false, cond, List, [], ◌∷◌, Some, None, Ok}
+use Rattle.std.proofs.Common.{refl, sym, ap, ◌∙◌, subst, arith}
 use Rattle.source.specs.declared.span.Span.{Span}
 use Rattle.source.specs.declared.token.Keyword.{Keyword}
 use Rattle.source.specs.declared.token.Sign.{Sign}
 use Rattle.source.specs.declared.token.Sign.TheVariants.{CloseParen, Comma}
 use Rattle.source.specs.Tokens.{Lexeme, name, int, word, mark, end, Tok}
-use Rattle.syntax.specs.Grammar.{tok, IsName, is_name, IsOptional, left_out, given, AreMany, no_more, one_more, IsAfter, after, AreListed, none_listed, listed, open_after, IsOpening}
-use Rattle.parser.specs.Working.Reading.{chosen, choose, ◌>>=◌, Reader, is_sign, sign_at, open_at, word_at, name_at, int_at, skip_at, is_next, next_unless, next_until, behind, next_after, after_each, listed_from, listed_at, maybe_from, maybe_at}
-use Rattle.parser.specs.Theory.Law.{SameNext, LawAt, Then, Says, Law, then_law, give_law, at_rest, said, implies, prefixed, same_sign-true, IsTok, is_tok, IsInt, is_int_tok, after_sign, sign_law, word_law, name_law, int_law, open_then_law}
+use Rattle.syntax.specs.Grammar.{tok, IsName, is_name, IsOptional, left_out, given, AreMany, no_more, one_more}
+use Rattle.syntax.specs.Grammar.{IsAfter, after, AreListed, none_listed, listed, open_after, IsOpening}
+use Rattle.parser.specs.Working.Reading.{chosen, choose, ◌>>=◌, Reader, is_sign, sign_at, open_at, word_at, name_at}
+use Rattle.parser.specs.Working.Reading.{int_at, skip_at, is_next, next_unless, next_until, behind, next_after}
+use Rattle.parser.specs.Working.Reading.{after_each, listed_from, listed_at, maybe_from, maybe_at}
+use Rattle.parser.specs.Theory.Law.{SameNext, LawAt, Then, Says, Law, then_law, give_law, at_rest, said, implies}
+use Rattle.parser.specs.Theory.Law.{prefixed, same_sign-true, IsTok, is_tok, IsInt, is_int_tok, after_sign, sign_law}
+use Rattle.parser.specs.Theory.Law.{word_law, name_law, int_law, open_then_law}
 use Rattle.parser.specs.Theory.Laws.{NextAt, NextLaw, SaysNext, many_law, weaken_at}
 
 -- nothing more, with y read
@@ -39,13 +45,15 @@ module _ (limit : ℕ) where
     pub law : P → (x : X) → Law limit (R x) (g x) n d e
     pub can : (rest : List Tok) → (ts : List Tok) × ((x : X) → (y : B) × R x y ts rest)
 
-  pub ends_with : {P : Type 0} {X B : Type 0} (make : X → B) {d : ℕ} → Rest P (λ x. Done (make x)) (λ x ts. Ok (make x, ts)) 0 d d
+  pub ends_with : {P : Type 0} {X B : Type 0} (make : X → B) {d : ℕ} →
+      Rest P (λ x. Done (make x)) (λ x ts. Ok (make x, ts)) 0 d d
   ends_with make {d} = record {
     law = λ p x. give_law limit (Done (make x)) (make x) d (λ ts. done);
     can = λ rest. (rest, λ x. (make x, done));
   }
 
-  pub then_part : {P X A B : Type 0} {RF : A → List Tok → List Tok → Type 0} {f : Reader A} {R : X × A → B → List Tok → List Tok → Type 0} {g : X × A → Reader B} {n m d e h : ℕ}
+  pub then_part : {P X A B : Type 0} {RF : A → List Tok → List Tok → Type 0} {f : Reader A} {R : X × A → B →
+      List Tok → List Tok → Type 0} {g : X × A → Reader B} {n m d e h : ℕ}
       → Part P RF f n d e → Rest P R g m e h
       → Rest P (λ (x : X). Both RF (λ a. R (x, a))) (λ (x : X) ts. f ts >>= λ a. g (x, a.0) a.1) n d h
   then_part {RF = RF} {f = f} {R = R} {g = g} {n = n} {m = m} {d = d} {e = e} {h = h} part more = record {
@@ -55,7 +63,8 @@ module _ (limit : ℕ) where
   }
 
   -- an opening sign, and what is behind it, which is read only where one may be opened
-  pub then_open : {P X B : Type 0} (s : Sign) (room : ℕ) {R : X × Span → B → List Tok → List Tok → Type 0} {g : X × Span → Reader B} {m d h : ℕ}
+  pub then_open : {P X B : Type 0} (s : Sign) (room : ℕ) {R : X × Span → B → List Tok → List Tok →
+      Type 0} {g : X × Span → Reader B} {m d h : ℕ}
       → d + room ≡ limit → IsOpening (mark s) → Rest (0 < room) R g m (after_sign d s) h
       → Rest P (λ (x : X). Both (IsTok (mark s)) (λ a. R (x, a))) (λ (x : X) ts. open_at s room ts >>= λ a. g (x, a.0) a.1) 1 d h
   then_open s room {R = R} {g = g} {m = m} {d = d} {h = h} sum opens more = record {
@@ -65,12 +74,16 @@ module _ (limit : ℕ) where
   }
 
   -- the law of the whole
-  pub production : {B : Type 0} {R : Unit {0} → B → List Tok → List Tok → Type 0} {g : Unit {0} → Reader B} {n d e : ℕ} (RH : B → List Tok → List Tok → Type 0) → Rest (Unit {0}) R g n d e → ((y : B) (ts rest : List Tok) → R tt y ts rest → RH y ts rest) → Law limit RH (g tt) n d e
+  pub production : {B : Type 0} {R : Unit {0} → B → List Tok → List Tok → Type 0} {g : Unit {0} →
+      Reader B} {n d e : ℕ} (RH : B → List Tok → List Tok →
+      Type 0) → Rest (Unit {0}) R g n d e → ((y : B) (ts rest : List Tok) → R tt y ts rest →
+      RH y ts rest) → Law limit RH (g tt) n d e
   production {R = R} {g = g} {n = n} {d = d} {e = e} RH rest is ts = implies limit (R tt) RH (Says (g tt)) n d e ts is (g tt ts) (rest.law tt tt ts)
 
   -- ---- single tokens
 
-  pub sign_part : {P : Type 0} (s : Sign) (d : ℕ) → (IsOpening (mark s) → ⊥) → Part P (IsTok (mark s)) (sign_at s) 1 d (after_sign d s)
+  pub sign_part : {P : Type 0} (s : Sign) (d : ℕ) → (IsOpening (mark s) → ⊥) →
+      Part P (IsTok (mark s)) (sign_at s) 1 d (after_sign d s)
   sign_part s d shut = record { law = λ p. sign_law limit s d (λ o. absurd (shut o)); can = λ rest. (nowhere, tok (mark s) nowhere ∷ rest, is_tok) }
 
   pub word_part : {P : Type 0} (w : Keyword) (d : ℕ) → Part P (IsTok (word w)) (word_at w) 1 d d
@@ -89,7 +102,8 @@ module _ (limit : ℕ) where
   is_next-same k (t ∷ ts) us h = ap (is_next k) h.1
 
   module _ {A : Type 0} (R : A → List Tok → List Tok → Type 0) where
-    unless_law : (k : Lexeme) (f : Reader A) (d : ℕ) (ts : List Tok) (b : Bool) → is_next k ts ≡ b → LawAt limit R (Says f) 1 d d ts (f ts) → NextAt limit R (next_until k f) d ts (next_unless b (f ts))
+    unless_law : (k : Lexeme) (f : Reader A) (d : ℕ) (ts : List Tok) (b : Bool) → is_next k ts ≡ b →
+        LawAt limit R (Says f) 1 d d ts (f ts) → NextAt limit R (next_until k f) d ts (next_unless b (f ts))
     unless_law k f d ts true e h = λ other same. ap (λ b. next_unless b (f other)) (is_next-same k ts other same ∙ e)
     unless_law k f d ts false e h = said limit R (Says f) (SaysNext (next_until k f)) 1 d d ts (λ us q same s. ap (λ b. next_unless b (f us)) (is_next-same k ts us same ∙ e) ∙ ap Some s) (f ts) h
 
@@ -104,7 +118,8 @@ module _ (limit : ℕ) where
       none_law : Law limit (IsOptional R) (maybe_from f false) 0 d d
       none_law = give_law limit (IsOptional R) None d (λ ts. left_out)
 
-      by_next : (k : Lexeme) (ts : List Tok) (b : Bool) → is_next k ts ≡ b → LawAt limit (IsOptional R) (Says (maybe_at k f)) 0 d d ts (maybe_from f b ts)
+      by_next : (k : Lexeme) (ts : List Tok) (b : Bool) → is_next k ts ≡ b →
+          LawAt limit (IsOptional R) (Says (maybe_at k f)) 0 d d ts (maybe_from f b ts)
       unfolding maybe_at
       by_next k ts true e = said limit (IsOptional R) (Says (maybe_from f true)) (Says (maybe_at k f)) 0 d d ts (λ us q same s. ap (λ b. maybe_from f b us) (is_next-same k ts us same ∙ e) ∙ s) (maybe_from f true ts) (weaken_at limit (IsOptional R) (Says (maybe_from f true)) d d ts (maybe_from f true ts) (some_law ts))
       by_next k ts false e = said limit (IsOptional R) (Says (maybe_from f false)) (Says (maybe_at k f)) 0 d d ts (λ us q same s. ap (λ b. maybe_from f b us) (is_next-same k ts us same ∙ e) ∙ s) (maybe_from f false ts) (none_law ts)
@@ -130,7 +145,8 @@ module _ (limit : ℕ) where
             let same : t ≡ tok (mark s) t.span = ap (λ (k : Lexeme). tok k t.span) e in
             subst (λ (n : ℕ). LawAt limit (at_rest (IsAfter s R) t) (Says f) 1 n d ts (f ts)) (sym (ap (open_after d) e ∙ flat)) (implies limit R (at_rest (IsAfter s R) t) (Says f) 1 d d ts (λ x us rest is. subst (λ (u : Tok). IsAfter s R x (u ∷ us) rest) (sym same) (after is)) (f ts) (law ts))
 
-        found_sign : (t : Tok) (ts : List Tok) (b : Bool) → is_sign s t.kind ≡ b → NextAt limit (IsAfter s R) (next_after s f) d (t ∷ ts) (behind f (cond b (Some ts) None))
+        found_sign : (t : Tok) (ts : List Tok) (b : Bool) → is_sign s t.kind ≡ b →
+            NextAt limit (IsAfter s R) (next_after s f) d (t ∷ ts) (behind f (cond b (Some ts) None))
         unfolding skip_at
         found_sign t ts false e = λ other same. ap (λ (us : List Tok). next_after s f us) same.1 ∙ ap (λ b. behind f (cond b (Some same.0) None)) e
         found_sign t ts true e =
@@ -158,7 +174,8 @@ module _ (limit : ℕ) where
       listed_none : Law limit (AreListed R) (listed_from f true) 0 d d
       listed_none = give_law limit (AreListed R) [] d (λ ts. none_listed)
 
-      by_close : (ts : List Tok) (b : Bool) → is_next (mark CloseParen) ts ≡ b → LawAt limit (AreListed R) (Says (listed_at f)) 0 d d ts (listed_from f b ts)
+      by_close : (ts : List Tok) (b : Bool) → is_next (mark CloseParen) ts ≡ b →
+          LawAt limit (AreListed R) (Says (listed_at f)) 0 d d ts (listed_from f b ts)
       unfolding listed_at
       by_close ts true e = said limit (AreListed R) (Says (listed_from f true)) (Says (listed_at f)) 0 d d ts (λ us q same s. ap (λ b. listed_from f b us) (is_next-same (mark CloseParen) ts us same ∙ e) ∙ s) (listed_from f true ts) (listed_none ts)
       by_close ts false e = said limit (AreListed R) (Says (listed_from f false)) (Says (listed_at f)) 0 d d ts (λ us q same s. ap (λ b. listed_from f b us) (is_next-same (mark CloseParen) ts us same ∙ e) ∙ s) (listed_from f false ts) (weaken_at limit (AreListed R) (Says (listed_from f false)) d d ts (listed_from f false ts) (listed_some ts))
@@ -168,19 +185,24 @@ module _ (limit : ℕ) where
       listed_law ts = by_close ts (is_next (mark CloseParen) ts) refl
 
   -- parts of these
-  pub maybe_part : {P A : Type 0} {R : A → List Tok → List Tok → Type 0} {f : Reader A} (k : Lexeme) (d : ℕ) → Part P R f 1 d d → Part P (IsOptional R) (maybe_at k f) 0 d d
+  pub maybe_part : {P A : Type 0} {R : A → List Tok → List Tok → Type 0} {f : Reader A} (k : Lexeme) (d : ℕ) →
+      Part P R f 1 d d → Part P (IsOptional R) (maybe_at k f) 0 d d
   maybe_part {R = R} {f = f} k d part = record { law = λ p. maybe_law R f d (part.law p) k; can = λ rest. (None, rest, left_out) }
 
-  pub listed_part : {P A : Type 0} {R : A → List Tok → List Tok → Type 0} {f : Reader A} (d : ℕ) → Part P R f 1 d d → Part P (AreListed R) (listed_at f) 0 d d
+  pub listed_part : {P A : Type 0} {R : A → List Tok → List Tok → Type 0} {f : Reader A} (d : ℕ) → Part P R f 1 d d →
+      Part P (AreListed R) (listed_at f) 0 d d
   listed_part {R = R} {f = f} d part = record { law = λ p. listed_law R f d (part.law p); can = λ rest. ([], rest, none_listed) }
 
-  pub after_each_part : {P A : Type 0} {R : A → List Tok → List Tok → Type 0} {f : Reader A} (s : Sign) (d : ℕ) → after_sign d s ≡ d → (IsOpening (mark s) → ⊥) → Part P R f 1 d d → Part P (AreMany (IsAfter s R)) (after_each s f) 0 d d
+  pub after_each_part : {P A : Type 0} {R : A → List Tok → List Tok → Type 0} {f : Reader A} (s : Sign) (d : ℕ) →
+      after_sign d s ≡ d → (IsOpening (mark s) → ⊥) → Part P R f 1 d d →
+      Part P (AreMany (IsAfter s R)) (after_each s f) 0 d d
   after_each_part {R = R} {f = f} s d flat shut part = record { law = λ p. after_each_law R f d (part.law p) s flat shut; can = λ rest. ([], rest, no_more) }
 
   -- ---- one part or another, by the next token
 
   module _ {A : Type 0} (R : A → List Tok → List Tok → Type 0) (k : Lexeme) (f g : Reader A) (m d e : ℕ) (law_f : Law limit R f m d e) (law_g : Law limit R g m d e) where
-    by_choice : (ts : List Tok) (b : Bool) → is_next k ts ≡ b → LawAt limit R (Says (choose k f g)) m d e ts (chosen f g b ts)
+    by_choice : (ts : List Tok) (b : Bool) → is_next k ts ≡ b →
+        LawAt limit R (Says (choose k f g)) m d e ts (chosen f g b ts)
     unfolding choose
     by_choice ts true e' = said limit R (Says f) (Says (choose k f g)) m d e ts (λ us q same s. ap (λ b. chosen f g b us) (is_next-same k ts us same ∙ e') ∙ s) (f ts) (law_f ts)
     by_choice ts false e' = said limit R (Says g) (Says (choose k f g)) m d e ts (λ us q same s. ap (λ b. chosen f g b us) (is_next-same k ts us same ∙ e') ∙ s) (g ts) (law_g ts)
@@ -189,9 +211,11 @@ module _ (limit : ℕ) where
     unfolding choose
     choose_law ts = by_choice ts (is_next k ts) refl
 
-  pub weaken_law : {A : Type 0} (R : A → List Tok → List Tok → Type 0) (f : Reader A) (d e : ℕ) → Law limit R f 1 d e → Law limit R f 0 d e
+  pub weaken_law : {A : Type 0} (R : A → List Tok → List Tok → Type 0) (f : Reader A) (d e : ℕ) →
+      Law limit R f 1 d e → Law limit R f 0 d e
   weaken_law R f d e law ts = weaken_at limit R (Says f) d e ts (f ts) (law ts)
 
   -- what is behind some parts, chosen so
-  pub either : {P X B : Type 0} {R : X → B → List Tok → List Tok → Type 0} {f g : X → Reader B} {m d e : ℕ} (k : Lexeme) → Rest P R f m d e → Rest P R g m d e → Rest P R (λ x. choose k (f x) (g x)) m d e
+  pub either : {P X B : Type 0} {R : X → B → List Tok → List Tok → Type 0} {f g : X →
+      Reader B} {m d e : ℕ} (k : Lexeme) → Rest P R f m d e → Rest P R g m d e → Rest P R (λ x. choose k (f x) (g x)) m d e
   either {R = R} {f = f} {g = g} {m = m} {d = d} {e = e} k a b = record { law = λ p x. choose_law (R x) k (f x) (g x) m d e (a.law p x) (b.law p x); can = b.can }

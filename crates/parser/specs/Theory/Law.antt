@@ -1,20 +1,29 @@
 -- What holds of every reader: it takes a stretch of tokens that stands in the relation and comes back to
 -- the nesting that it promises, and it looks at no token behind the next one.
-use Rattle.std.proofs.Common.{get_or, ◌≡◌, ℕ, zero, suc, ◌+◌, ◌<◌, ◌≤◌, Bool, true, false, cond, List, [], ◌∷◌, ◌++◌, length, Result, Ok, Err, refl, sym, ap, ◌∙◌, subst, append_assoc, length-append, arith}
+use Rattle.std.proofs.Common.{get_or, ◌≡◌, ℕ, zero, suc, ◌+◌, ◌<◌, ◌≤◌, Bool, true, false, cond, List, [], ◌∷◌, ◌++◌}
+use Rattle.std.proofs.Common.{length, Result, Ok, Err, refl, sym, ap, ◌∙◌, subst, append_assoc, length-append, arith}
 use Rattle.std.proofs.lemmas.Bool.{eqb-true, eq-eqb}
 use Rattle.std.proofs.lemmas.List.{append-nil}
 use Rattle.source.specs.declared.span.Span.{Span}
 use Rattle.source.specs.declared.token.Keyword.{Keyword}
-use Rattle.source.specs.declared.token.Keyword.TheVariants.{Lock, Struct, Final, Ref, Int, Global, ProtectedBy, Pool, Init, Atomic, Let, Var, If, Else, While, Print, Return, Thread, Repeat, Null, Where, Call}
+use Rattle.source.specs.declared.token.Keyword.TheVariants.{Lock, Struct, Final, Ref, Int, Global, ProtectedBy, Pool}
+use Rattle.source.specs.declared.token.Keyword.TheVariants.{Init, Atomic, Let, Var, If, Else, While, Print, Return}
+use Rattle.source.specs.declared.token.Keyword.TheVariants.{Thread, Repeat, Null, Where, Call}
 use Rattle.source.specs.declared.token.Sign.{Sign}
-use Rattle.source.specs.declared.token.Sign.TheVariants.{OpenBrace, CloseBrace, OpenParen, CloseParen, OpenBracket, CloseBracket, Semicolon, Comma, Colon, Dot, Equals, DoubleEquals, NotEquals, Less, LessEquals, Greater, GreaterEquals, Plus, Minus, Star, Slash, Percent, And, Or, Not}
+use Rattle.source.specs.declared.token.Sign.TheVariants.{OpenBrace, CloseBrace, OpenParen, CloseParen, OpenBracket}
+use Rattle.source.specs.declared.token.Sign.TheVariants.{CloseBracket, Semicolon, Comma, Colon, Dot, Equals}
+use Rattle.source.specs.declared.token.Sign.TheVariants.{DoubleEquals, NotEquals, Less, LessEquals, Greater}
+use Rattle.source.specs.declared.token.Sign.TheVariants.{GreaterEquals, Plus, Minus, Star, Slash, Percent, And, Or}
+use Rattle.source.specs.declared.token.Sign.TheVariants.{Not}
 use Rattle.source.specs.Tokens.{Lexeme, name, int, word, mark, end, Tok}
 use Rattle.source.specs.declared.token.Number.{Number}
 use Rattle.syntax.specs.Grammar.{tok, int_tok, IsName, is_name, open_after, nesting, IsOpening}
 use Rattle.syntax.specs.Faults.{NoEnd}
 use Rattle.parser.specs.declared.stop.Stop.{Stop}
 use Rattle.parser.specs.declared.stop.Stop.TheVariants.{Unexpected, TooDeep, NoMemory}
-use Rattle.parser.specs.Working.Reading.{◌>>=◌, Reader, refused, too_deep, first_at, sign_code, same_sign, keyword_code, same_keyword, sign_from, sign_at, word_from, word_at, opened, open_from, open_at, name_from, name_at, int_from, int_at}
+use Rattle.parser.specs.Working.Reading.{◌>>=◌, Reader, refused, too_deep, first_at, sign_code, same_sign}
+use Rattle.parser.specs.Working.Reading.{keyword_code, same_keyword, sign_from, sign_at, word_from, word_at, opened}
+use Rattle.parser.specs.Working.Reading.{open_from, open_at, name_from, name_at, int_from, int_at}
 
 -- ---- stretches of tokens
 
@@ -39,7 +48,8 @@ pub SameNext-at : (a : List Tok) (t : Tok) (b other : List Tok) → SameNext (a 
 SameNext-at a t b other = SameNext-append a (t ∷ b) (t ∷ other) (other, refl)
 
 -- what y has to be, once x was read
-abbrev pub Then : {A B : Type 0} → (A → List Tok → List Tok → Type 0) → (B → List Tok → List Tok → Type 0) → A → B → List Tok → List Tok → Type 0
+abbrev pub Then : {A B : Type 0} → (A → List Tok → List Tok → Type 0) → (B → List Tok → List Tok → Type 0) → A → B →
+    List Tok → List Tok → Type 0
 Then RF RH x y mid rest = (ts : List Tok) → RF x ts mid → RH y ts rest
 
 abbrev pub Says : {A : Type 0} → Reader A → List Tok → Result (A × List Tok) Stop → Type 0
@@ -143,7 +153,8 @@ module _ (limit : ℕ) where
   ShallowFrom d [] = Unit {0}
   ShallowFrom d (t ∷ ts) = (IsOpening t.kind → d < limit) × ShallowFrom (open_after d t.kind) ts
 
-  pub ShallowFrom-append : (d : ℕ) (a b : List Tok) → ShallowFrom d a → ShallowFrom (nesting d a) b → ShallowFrom d (a ++ b)
+  pub ShallowFrom-append : (d : ℕ) (a b : List Tok) → ShallowFrom d a → ShallowFrom (nesting d a) b →
+      ShallowFrom d (a ++ b)
   ShallowFrom-append d [] b h g = g
   ShallowFrom-append d (t ∷ a) b h g = (h.0, ShallowFrom-append (open_after d t.kind) a b h.1 g)
 
@@ -192,7 +203,8 @@ module _ (limit : ℕ) where
     LawAt (Err NoMemory) = ⊥
 
   module _ {A B : Type 0} (RF : A → List Tok → List Tok → Type 0) (RH : B → List Tok → List Tok → Type 0) (SF : List Tok → Result (A × List Tok) Stop → Type 0) (SG : A → List Tok → Result (B × List Tok) Stop → Type 0) (SH : List Tok → Result (B × List Tok) Stop → Type 0) (glue : (ts rest : List Tok) (x : A) (q : Result (B × List Tok) Stop) → SF ts (Ok (x, rest)) → SG x rest q → SH ts q) (stop : (ts : List Tok) (e : Stop) → SF ts (Err e) → SH ts (Err e)) (least m d e g : ℕ) (ts : List Tok) where
-    joined : (x : A) (rest : List Tok) (q : Result (B × List Tok) Stop) → Took RF SF least d e ts x rest → LawAt (Then RF RH x) (SG x) m e g rest q → LawAt RH SH least d g ts q
+    joined : (x : A) (rest : List Tok) (q : Result (B × List Tok) Stop) → Took RF SF least d e ts x rest →
+        LawAt (Then RF RH x) (SG x) m e g rest q → LawAt RH SH least d g ts q
     joined x rest (Ok y) f s = record {
       taken = f.taken ++ s.taken;
       parts = f.parts ∙ ap (λ (l : List Tok). f.taken ++ l) s.parts ∙ sym (append_assoc f.taken s.taken y.1);
@@ -227,7 +239,11 @@ module _ (limit : ℕ) where
     }
     joined x rest (Err NoMemory) f s = s
 
-    pub then_at : (r : Result (A × List Tok) Stop) (k : A → List Tok → Result (B × List Tok) Stop) → LawAt RF SF least d e ts r → ((rest : List Tok) → (mid : List Tok) × ((x : A) → (y : B) × Then RF RH x y mid rest)) → ((x : A) (rest : List Tok) → Took RF SF least d e ts x rest → LawAt (Then RF RH x) (SG x) m e g rest (k x rest)) → LawAt RH SH least d g ts (r >>= λ x. k x.0 x.1)
+    pub then_at : (r : Result (A × List Tok) Stop) (k : A → List Tok → Result (B × List Tok) Stop) →
+        LawAt RF SF least d e ts r →
+        ((rest : List Tok) → (mid : List Tok) × ((x : A) → (y : B) × Then RF RH x y mid rest)) →
+        ((x : A) (rest : List Tok) → Took RF SF least d e ts x rest →
+        LawAt (Then RF RH x) (SG x) m e g rest (k x rest)) → LawAt RH SH least d g ts (r >>= λ x. k x.0 x.1)
     then_at (Ok x) k f sample s = joined x.0 x.1 (k x.0 x.1) f (s x.0 x.1 f)
     then_at (Err (Unexpected zero)) k f sample s = f
     then_at (Err (Unexpected (suc n))) k f sample s = record { before = f.before; token = f.token; after = f.after; parts = f.parts; place = f.place; again = λ other. stop (f.before ++ f.token ∷ other) _ (f.again other); shallow = f.shallow; begun = λ rest. let m = sample rest in let p = f.begun m.0 in let q = m.1 p.0 in (q.0, p.1, q.1 (f.before ++ p.1) p.2) }
@@ -240,19 +256,22 @@ module _ (limit : ℕ) where
   abbrev pub Law : {A : Type 0} → (A → List Tok → List Tok → Type 0) → Reader A → ℕ → ℕ → ℕ → Type 0
   Law R f least d e = (ts : List Tok) → LawAt R (Says f) least d e ts (f ts)
 
-  pub then_law : {A B : Type 0} (RF : A → List Tok → List Tok → Type 0) (RH : B → List Tok → List Tok → Type 0) (f : Reader A) (g : A → Reader B) (least m d e h : ℕ) → Law RF f least d e
+  pub then_law : {A B : Type 0} (RF : A → List Tok → List Tok → Type 0) (RH : B → List Tok → List Tok →
+      Type 0) (f : Reader A) (g : A → Reader B) (least m d e h : ℕ) → Law RF f least d e
       → ((rest : List Tok) → (mid : List Tok) × ((x : A) → (y : B) × Then RF RH x y mid rest))
       → ((x : A) → Law (Then RF RH x) (g x) m e h) → Law RH (λ ts. f ts >>= λ x. g x.0 x.1) least d h
   then_law RF RH f g least m d e h lf sample lg ts =
       then_at RF RH (Says f) (λ x. Says (g x)) (Says (λ ts. f ts >>= λ x. g x.0 x.1)) (λ ts rest x q p s. ap (λ (r : Result (_ × List Tok) Stop). r >>= λ x. g x.0 x.1) p ∙ s) (λ ts e p. ap (λ (r : Result (_ × List Tok) Stop). r >>= λ x. g x.0 x.1) p) least m d e h ts (f ts) g (lf ts) sample (λ x rest took. lg x rest)
 
   -- the last symbol of a production
-  pub last_law : {A B : Type 0} (RF : A → List Tok → List Tok → Type 0) (RH : B → List Tok → List Tok → Type 0) (f : Reader A) (make : A → B) (least d e : ℕ) → Law RF f least d e
+  pub last_law : {A B : Type 0} (RF : A → List Tok → List Tok → Type 0) (RH : B → List Tok → List Tok →
+      Type 0) (f : Reader A) (make : A → B) (least d e : ℕ) → Law RF f least d e
       → ((x : A) (rest : List Tok) → Then RF RH x (make x) rest rest) → Law RH (λ ts. f ts >>= λ x. Ok (make x.0, x.1)) least d e
   last_law RF RH f make least d e lf is = then_law RF RH f (λ x ts. Ok (make x, ts)) least 0 d e e lf (λ rest. (rest, λ x. (make x, is x rest))) (λ x ts. record { taken = []; parts = refl; some = omega arith; no_end = tt; level = refl; shallow = tt; is = λ other. is x other; again = λ other same. refl })
 
   -- the end of a production
-  pub give_law : {A : Type 0} (R : A → List Tok → List Tok → Type 0) (x : A) (d : ℕ) → ((ts : List Tok) → R x ts ts) → Law R (λ ts. Ok (x, ts)) 0 d d
+  pub give_law : {A : Type 0} (R : A → List Tok → List Tok → Type 0) (x : A) (d : ℕ) → ((ts : List Tok) → R x ts ts) →
+      Law R (λ ts. Ok (x, ts)) 0 d d
   give_law R x d h ts = record { taken = []; parts = refl; some = omega arith; no_end = tt; level = refl; shallow = tt; is = h; again = λ other same. refl }
 
   -- ---- the first token
@@ -260,11 +279,16 @@ module _ (limit : ℕ) where
   -- what a reader does with a first token
   pub data Head {A : Type 0} (R : A → List Tok → List Tok → Type 0) (d e : ℕ) (k : Lexeme) (at : Span) (g : Reader A) : Type 0 where
     refuses : ((ts : List Tok) → g ts ≡ refused ts) → Head R d e k at g
-    deepens : IsOpening k → d ≡ limit → ((rest : List Tok) → (x : A) × (other : List Tok) × R x (tok k at ∷ other) rest) → ((ts : List Tok) → g ts ≡ too_deep ts) → Head R d e k at g
-    takes : (n : ℕ) → (k ≡ end → ⊥) → (IsOpening k → d < limit) → Law (at_rest R (tok k at)) g n (open_after d k) e → Head R d e k at g
+    deepens : IsOpening k → d ≡ limit →
+        ((rest : List Tok) → (x : A) × (other : List Tok) × R x (tok k at ∷ other) rest) →
+        ((ts : List Tok) → g ts ≡ too_deep ts) → Head R d e k at g
+    takes : (n : ℕ) → (k ≡ end → ⊥) → (IsOpening k → d < limit) → Law (at_rest R (tok k at)) g n (open_after d k) e →
+        Head R d e k at g
 
   module _ {A : Type 0} (R : A → List Tok → List Tok → Type 0) (S' S : List Tok → Result (A × List Tok) Stop → Type 0) (n d e : ℕ) (t : Tok) (glue : (us : List Tok) (q : Result (A × List Tok) Stop) → S' us q → S (t ∷ us) q) where
-    pub prefixed : (ts : List Tok) → (t.kind ≡ end → ⊥) → (IsOpening t.kind → d < limit) → (r : Result (A × List Tok) Stop) → LawAt (at_rest R t) S' n (open_after d t.kind) e ts r → LawAt R S 1 d e (t ∷ ts) r
+    pub prefixed : (ts : List Tok) → (t.kind ≡ end → ⊥) → (IsOpening t.kind → d < limit) →
+        (r : Result (A × List Tok) Stop) → LawAt (at_rest R t) S' n (open_after d t.kind) e ts r →
+        LawAt R S 1 d e (t ∷ ts) r
     prefixed ts no_end low (Ok x) s = record {
       taken = t ∷ s.taken;
       parts = ap (λ (l : List Tok). t ∷ l) s.parts;
@@ -281,7 +305,9 @@ module _ (limit : ℕ) where
     prefixed ts no_end low (Err NoMemory) s = s
 
   -- a weaker relation
-  pub implies : {A : Type 0} (R R' : A → List Tok → List Tok → Type 0) (S : List Tok → Result (A × List Tok) Stop → Type 0) (n d e : ℕ) (ts : List Tok) → ((x : A) (us rest : List Tok) → R x us rest → R' x us rest) → (r : Result (A × List Tok) Stop) → LawAt R S n d e ts r → LawAt R' S n d e ts r
+  pub implies : {A : Type 0} (R R' : A → List Tok → List Tok → Type 0) (S : List Tok → Result (A × List Tok) Stop →
+      Type 0) (n d e : ℕ) (ts : List Tok) → ((x : A) (us rest : List Tok) → R x us rest →
+      R' x us rest) → (r : Result (A × List Tok) Stop) → LawAt R S n d e ts r → LawAt R' S n d e ts r
   implies R R' S n d e ts h (Ok x) s = record { taken = s.taken; parts = s.parts; some = s.some; no_end = s.no_end; level = s.level; shallow = s.shallow; is = λ other. h x.0 (s.taken ++ other) other (s.is other); again = s.again }
   implies R R' S n d e ts h (Err (Unexpected zero)) s = s
   implies R R' S n d e ts h (Err (Unexpected (suc m))) s = record { before = s.before; token = s.token; after = s.after; parts = s.parts; place = s.place; again = s.again; shallow = s.shallow; begun = λ rest. let p = s.begun rest in (p.0, p.1, h p.0 (s.before ++ p.1) rest p.2) }
@@ -298,7 +324,8 @@ module _ (limit : ℕ) where
     said (Err NoMemory) s = s
 
   module _ {A : Type 0} (R : A → List Tok → List Tok → Type 0) (f : Lexeme → Span → Reader A) (d e : ℕ) (example : (rest : List Tok) → (x : A) × (other : List Tok) × R x other rest) where
-    headed : (t : Tok) (ts : List Tok) → Head R d e t.kind t.span (f t.kind t.span) → LawAt R (Says (first_at f)) 1 d e (t ∷ ts) (f t.kind t.span ts)
+    headed : (t : Tok) (ts : List Tok) → Head R d e t.kind t.span (f t.kind t.span) →
+        LawAt R (Says (first_at f)) 1 d e (t ∷ ts) (f t.kind t.span ts)
     headed t ts (refuses h) = rw (h ts) (record { before = []; token = t; after = ts; parts = refl; place = refl; again = λ other. h other; shallow = tt; begun = example })
     headed t ts (deepens opens deep sample h) = rw (h ts) (record { before = []; token = t; after = ts; parts = refl; place = refl; opens = opens; deep = deep; shallow = tt; expected = sample })
     headed t ts (takes n no_end low law) = prefixed R (Says (f t.kind t.span)) (Says (first_at f)) n d e t (λ us q h. h) ts no_end low (f t.kind t.span ts) (law ts)
@@ -309,24 +336,28 @@ module _ (limit : ℕ) where
 
   -- ---- single tokens
 
-  sign_head : (s m : Sign) (d : ℕ) (at : Span) (b : Bool) → same_sign m s ≡ b → (IsOpening (mark s) → d < limit) → Head (IsTok (mark s)) d (after_sign d s) (mark m) at (λ ts. cond b (Ok (at, ts)) (refused ts))
+  sign_head : (s m : Sign) (d : ℕ) (at : Span) (b : Bool) → same_sign m s ≡ b → (IsOpening (mark s) → d < limit) →
+      Head (IsTok (mark s)) d (after_sign d s) (mark m) at (λ ts. cond b (Ok (at, ts)) (refused ts))
   sign_head s m d at false e low = refuses (λ ts. refl)
   sign_head s m d at true e low =
       let same = same_sign-true m s e in
       subst (λ (x : Sign). Head (IsTok (mark s)) d (after_sign d s) (mark x) at (λ ts. Ok (at, ts))) (sym same) (takes 0 (λ e. cc) low (λ ts. record { taken = []; parts = refl; some = omega arith; no_end = tt; level = refl; shallow = tt; is = λ other. is_tok; again = λ other same. refl }))
 
-  sign_from_head : (s : Sign) (d : ℕ) → (IsOpening (mark s) → d < limit) → (k : Lexeme) (at : Span) → Head (IsTok (mark s)) d (after_sign d s) k at (sign_from s k at)
+  sign_from_head : (s : Sign) (d : ℕ) → (IsOpening (mark s) → d < limit) → (k : Lexeme) (at : Span) →
+      Head (IsTok (mark s)) d (after_sign d s) k at (sign_from s k at)
   sign_from_head s d low (mark m) at = sign_head s m d at (same_sign m s) refl low
   sign_from_head s d low (name x) at = refuses (λ ts. refl)
   sign_from_head s d low (int n) at = refuses (λ ts. refl)
   sign_from_head s d low (word w) at = refuses (λ ts. refl)
   sign_from_head s d low end at = refuses (λ ts. refl)
 
-  pub sign_law : (s : Sign) (d : ℕ) → (IsOpening (mark s) → d < limit) → Law (IsTok (mark s)) (sign_at s) 1 d (after_sign d s)
+  pub sign_law : (s : Sign) (d : ℕ) → (IsOpening (mark s) → d < limit) →
+      Law (IsTok (mark s)) (sign_at s) 1 d (after_sign d s)
   unfolding sign_at
   sign_law s d low = first_law (IsTok (mark s)) (sign_from s) d (after_sign d s) (tok_example (mark s)) (sign_from_head s d low)
 
-  word_head : (w v : Keyword) (d : ℕ) (at : Span) (b : Bool) → same_keyword v w ≡ b → Head (IsTok (word w)) d d (word v) at (λ ts. cond b (Ok (at, ts)) (refused ts))
+  word_head : (w v : Keyword) (d : ℕ) (at : Span) (b : Bool) → same_keyword v w ≡ b →
+      Head (IsTok (word w)) d d (word v) at (λ ts. cond b (Ok (at, ts)) (refused ts))
   word_head w v d at false e = refuses (λ ts. refl)
   word_head w v d at true e =
       let same = same_keyword-true v w e in
@@ -360,37 +391,43 @@ module _ (limit : ℕ) where
   int_law d = first_law IsInt int_from d d (λ rest. (record { value = 0; span = no_place }, tok (int 0) no_place ∷ rest, is_int_tok)) (int_head d)
 
   -- an opening sign, and what follows it with one sign less to open
-  open_head : (s m : Sign) (room d : ℕ) (at : Span) (b : Bool) → same_sign m s ≡ b → d < limit → Head (IsTok (mark s)) d (after_sign d s) (mark m) at (λ ts. cond b (opened (suc room) at ts) (refused ts))
+  open_head : (s m : Sign) (room d : ℕ) (at : Span) (b : Bool) → same_sign m s ≡ b → d < limit →
+      Head (IsTok (mark s)) d (after_sign d s) (mark m) at (λ ts. cond b (opened (suc room) at ts) (refused ts))
   open_head s m room d at false e low = refuses (λ ts. refl)
   open_head s m room d at true e low =
       let same = same_sign-true m s e in
       subst (λ (x : Sign). Head (IsTok (mark s)) d (after_sign d s) (mark x) at (λ ts. Ok (at, ts))) (sym same) (takes 0 (λ e. cc) (λ o. low) (λ ts. record { taken = []; parts = refl; some = omega arith; no_end = tt; level = refl; shallow = tt; is = λ other. is_tok; again = λ other same. refl }))
 
-  open_from_head : (s : Sign) (room d : ℕ) → d < limit → (k : Lexeme) (at : Span) → Head (IsTok (mark s)) d (after_sign d s) k at (open_from s (suc room) k at)
+  open_from_head : (s : Sign) (room d : ℕ) → d < limit → (k : Lexeme) (at : Span) →
+      Head (IsTok (mark s)) d (after_sign d s) k at (open_from s (suc room) k at)
   open_from_head s room d low (mark m) at = open_head s m room d at (same_sign m s) refl low
   open_from_head s room d low (name x) at = refuses (λ ts. refl)
   open_from_head s room d low (int n) at = refuses (λ ts. refl)
   open_from_head s room d low (word w) at = refuses (λ ts. refl)
   open_from_head s room d low end at = refuses (λ ts. refl)
 
-  no_room_head : (s m : Sign) (d e : ℕ) (at : Span) (b : Bool) → IsOpening (mark s) → d ≡ limit → same_sign m s ≡ b → Head (IsTok (mark s)) d e (mark m) at (λ ts. cond b (opened zero at ts) (refused ts))
+  no_room_head : (s m : Sign) (d e : ℕ) (at : Span) (b : Bool) → IsOpening (mark s) → d ≡ limit → same_sign m s ≡ b →
+      Head (IsTok (mark s)) d e (mark m) at (λ ts. cond b (opened zero at ts) (refused ts))
   no_room_head s m d e at false opens full eq = refuses (λ ts. refl)
   no_room_head s m d e at true opens full eq = deepens (subst (λ (x : Sign). IsOpening (mark x)) (sym (same_sign-true m s eq)) opens) full (λ rest. (at, rest, subst (λ (x : Sign). IsTok (mark s) at (tok (mark x) at ∷ rest) rest) (sym (same_sign-true m s eq)) is_tok)) (λ ts. refl)
 
-  no_room_from : (s : Sign) (d e : ℕ) → IsOpening (mark s) → d ≡ limit → (k : Lexeme) (at : Span) → Head (IsTok (mark s)) d e k at (open_from s zero k at)
+  no_room_from : (s : Sign) (d e : ℕ) → IsOpening (mark s) → d ≡ limit → (k : Lexeme) (at : Span) →
+      Head (IsTok (mark s)) d e k at (open_from s zero k at)
   no_room_from s d e opens full (mark m) at = no_room_head s m d e at (same_sign m s) opens full refl
   no_room_from s d e opens full (name x) at = refuses (λ ts. refl)
   no_room_from s d e opens full (int n) at = refuses (λ ts. refl)
   no_room_from s d e opens full (word w) at = refuses (λ ts. refl)
   no_room_from s d e opens full end at = refuses (λ ts. refl)
 
-  no_took : (s : Sign) (d e g : ℕ) (ts : List Tok) (x : Span) (rest : List Tok) → IsOpening (mark s) → d ≡ limit → Took (IsTok (mark s)) (Says (open_at s zero)) 1 e g ts x rest → e ≡ d → ⊥
+  no_took : (s : Sign) (d e g : ℕ) (ts : List Tok) (x : Span) (rest : List Tok) → IsOpening (mark s) → d ≡ limit →
+      Took (IsTok (mark s)) (Says (open_at s zero)) 1 e g ts x rest → e ≡ d → ⊥
   no_took s d e g ts x rest opens full took same =
       let one : took.taken ≡ tok (mark s) x ∷ [] = sym (append-nil took.taken) ∙ tok_first (took.is []) in
       let low : e < limit = (subst (ShallowFrom e) one took.shallow).0 opens in
       omega arith
 
-  pub open_then_law : {B : Type 0} (RH : B → List Tok → List Tok → Type 0) (s : Sign) (room : ℕ) (g : Span → Reader B) (m d h : ℕ) → d + room ≡ limit → IsOpening (mark s)
+  pub open_then_law : {B : Type 0} (RH : B → List Tok → List Tok → Type 0) (s : Sign) (room : ℕ) (g : Span →
+      Reader B) (m d h : ℕ) → d + room ≡ limit → IsOpening (mark s)
       → ((rest : List Tok) → (mid : List Tok) × ((x : Span) → (y : B) × Then (IsTok (mark s)) RH x y mid rest))
       → ((r : ℕ) → room ≡ suc r → (x : Span) → Law (Then (IsTok (mark s)) RH x) (g x) m (after_sign d s) h) → Law RH (λ ts. open_at s room ts >>= λ x. g x.0 x.1) 1 d h
   unfolding open_at

@@ -7,45 +7,65 @@ use Rattle.source.specs.declared.token.Sign.TheVariants.{OpenParen, CloseParen, 
 use Rattle.source.specs.Tokens.{Lexeme, name, word, mark, Tok}
 use Rattle.source.specs.Tokens as lexeme
 use Rattle.source.specs.declared.token.Number.{Number}
-use Rattle.syntax.specs.Trees.{Ident, ValueType, int_type, ref_type, Const, int_const, negative, null_const, member_const, Protection, Param}
-use Rattle.syntax.specs.Grammar.{tok, name_tok, IsOpening, IsOptional, AreMany, no_more, IsAfter, after, AreListed, none_listed, IsName, is_name, IsType, is_int_type, is_ref_type, IsConst, is_int_const, is_negative, is_null_const, is_member_const, IsIndex, is_index, IsProtection, is_protection, IsParam, is_param}
+use Rattle.syntax.specs.Trees.{Ident, ValueType, int_type, ref_type, Const, int_const, negative, null_const}
+use Rattle.syntax.specs.Trees.{member_const, Protection, Param}
+use Rattle.syntax.specs.Grammar.{tok, name_tok, IsOpening, IsOptional, AreMany, no_more, IsAfter, after, AreListed}
+use Rattle.syntax.specs.Grammar.{none_listed, IsName, is_name, IsType, is_int_type, is_ref_type, IsConst}
+use Rattle.syntax.specs.Grammar.{is_int_const, is_negative, is_null_const, is_member_const, IsIndex, is_index}
+use Rattle.syntax.specs.Grammar.{IsProtection, is_protection, IsParam, is_param}
 use Rattle.parser.specs.Working.Reading.{Reader, same_sign, refused, after_at}
-use Rattle.parser.specs.Working.Parts.{type_from, type_at, negative_from, index_at, const_from, const_at, protection_at, maybe_protection, param_at, params_at}
-use Rattle.parser.specs.Theory.Law.{same_sign-true, Law, give_law, at_rest, Head, refuses, takes, first_law, IsTok, is_tok, IsInt, is_int_tok, after_sign}
-use Rattle.parser.specs.Theory.Joined.{Done, done, Both, both, nowhere, Part, ends_with, then_part, then_open, production, sign_part, word_part, name_part, int_part, maybe_part, listed_part, after_each_part}
+use Rattle.parser.specs.Working.Parts.{type_from, type_at, negative_from, index_at, const_from, const_at}
+use Rattle.parser.specs.Working.Parts.{protection_at, maybe_protection, param_at, params_at}
+use Rattle.parser.specs.Theory.Law.{same_sign-true, Law, give_law, at_rest, Head, refuses, takes, first_law, IsTok}
+use Rattle.parser.specs.Theory.Law.{is_tok, IsInt, is_int_tok, after_sign}
+use Rattle.parser.specs.Theory.Joined.{Done, done, Both, both, nowhere, Part, ends_with, then_part, then_open}
+use Rattle.parser.specs.Theory.Joined.{production, sign_part, word_part, name_part, int_part, maybe_part, listed_part}
+use Rattle.parser.specs.Theory.Joined.{after_each_part}
 
 -- ---- what the parts of each production make
 
-negative_is : {y : Const} {at : Span} {ts rest : List Tok} → Both IsInt (λ n. Done (negative at n)) y ts rest → IsConst y (tok (mark Minus) at ∷ ts) rest
+negative_is : {y : Const} {at : Span} {ts rest : List Tok} → Both IsInt (λ n. Done (negative at n)) y ts rest →
+    IsConst y (tok (mark Minus) at ∷ ts) rest
 negative_is (both is_int_tok done) = is_negative
 
-after_is : {A : Type 0} {s : Sign} {R : A → List Tok → List Tok → Type 0} {y : A} {ts rest : List Tok} → Both (IsTok (mark s)) (λ at. Both R (λ x. Done x)) y ts rest → IsAfter s R y ts rest
+after_is : {A : Type 0} {s : Sign} {R : A → List Tok → List Tok → Type 0} {y : A} {ts rest : List Tok} →
+    Both (IsTok (mark s)) (λ at. Both R (λ x. Done x)) y ts rest → IsAfter s R y ts rest
 after_is (both is_tok (both r done)) = after r
 
-index_is : {y : Number} {ts rest : List Tok} → Both (IsTok (mark OpenBracket)) (λ b. Both IsInt (λ n. Both (IsTok (mark CloseBracket)) (λ c. Done n))) y ts rest → IsIndex y ts rest
+index_is : {y : Number} {ts rest : List Tok} →
+    Both (IsTok (mark OpenBracket)) (λ b. Both IsInt (λ n. Both (IsTok (mark CloseBracket)) (λ c. Done n))) y ts rest → IsIndex y ts rest
 index_is (both is_tok (both is_int_tok (both is_tok done))) = is_index
 
-member_const_is : {x : Ident} {y : Const} {ts rest : List Tok} → Both IsIndex (λ n. Done (member_const x n)) y ts rest → IsConst y (name_tok x ∷ ts) rest
+member_const_is : {x : Ident} {y : Const} {ts rest : List Tok} →
+    Both IsIndex (λ n. Done (member_const x n)) y ts rest → IsConst y (name_tok x ∷ ts) rest
 member_const_is (both is_index done) = is_member_const
 
-ref_type_is : {at : Span} {y : ValueType} {ts rest : List Tok} → Both IsName (λ x. Done (ref_type x)) y ts rest → IsType y (tok (word keyword.Ref) at ∷ ts) rest
+ref_type_is : {at : Span} {y : ValueType} {ts rest : List Tok} → Both IsName (λ x. Done (ref_type x)) y ts rest →
+    IsType y (tok (word keyword.Ref) at ∷ ts) rest
 ref_type_is (both is_name done) = is_ref_type
 
-protection_is : {y : Protection} {ts rest : List Tok} → Both (IsTok (word keyword.ProtectedBy)) (λ w. Both (IsTok (mark OpenParen)) (λ b. Both IsName (λ x. Both (AreMany (IsAfter Dot IsName)) (λ more. Both (IsTok (mark CloseParen)) (λ c. Done (record { first = x; rest = more })))))) y ts rest → IsProtection y ts rest
+protection_is : {y : Protection} {ts rest : List Tok} →
+    Both (IsTok (word keyword.ProtectedBy)) (λ w. Both (IsTok (mark OpenParen)) (λ b. Both IsName (λ x. Both (AreMany (IsAfter Dot IsName)) (λ more. Both (IsTok (mark CloseParen)) (λ c. Done (record { first = x; rest = more })))))) y ts rest → IsProtection y ts rest
 protection_is (both is_tok (both is_tok (both is_name (both more (both is_tok done))))) = is_protection more
 
-param_is : {y : Param} {ts rest : List Tok} → Both IsType (λ t. Both IsName (λ x. Done (record { name = x; value_type = t }))) y ts rest → IsParam y ts rest
+param_is : {y : Param} {ts rest : List Tok} →
+    Both IsType (λ t. Both IsName (λ x. Done (record { name = x; value_type = t }))) y ts rest → IsParam y ts rest
 param_is (both t (both is_name done)) = is_param t
 
 -- parameters in parentheses
 pub data IsParams (ps : List Param) : List Tok → List Tok → Type 0 where
-  is_params : {begin close : Span} {ts rest : List Tok} → AreListed IsParam ps ts (tok (mark CloseParen) close ∷ rest) → IsParams ps (tok (mark OpenParen) begin ∷ ts) rest
+  is_params : {begin close : Span} {ts rest : List Tok} →
+      AreListed IsParam ps ts (tok (mark CloseParen) close ∷ rest) →
+      IsParams ps (tok (mark OpenParen) begin ∷ ts) rest
 
-params_is : {y : List Param} {ts rest : List Tok} → Both (IsTok (mark OpenParen)) (λ b. Both (AreListed IsParam) (λ ps. Both (IsTok (mark CloseParen)) (λ c. Done ps))) y ts rest → IsParams y ts rest
+params_is : {y : List Param} {ts rest : List Tok} →
+    Both (IsTok (mark OpenParen)) (λ b. Both (AreListed IsParam) (λ ps. Both (IsTok (mark CloseParen)) (λ c. Done ps))) y ts rest → IsParams y ts rest
 params_is (both is_tok (both ps (both is_tok done))) = is_params ps
 
 -- one part alone
-pub one_is : {A B : Type 0} {R : A → List Tok → List Tok → Type 0} {make : A → B} (RH : B → List Tok → List Tok → Type 0) → ((x : A) (ts rest : List Tok) → R x ts rest → RH (make x) ts rest) → (y : B) (ts rest : List Tok) → Both R (λ x. Done (make x)) y ts rest → RH y ts rest
+pub one_is : {A B : Type 0} {R : A → List Tok → List Tok → Type 0} {make : A → B} (RH : B → List Tok → List Tok →
+    Type 0) → ((x : A) (ts rest : List Tok) → R x ts rest →
+    RH (make x) ts rest) → (y : B) (ts rest : List Tok) → Both R (λ x. Done (make x)) y ts rest → RH y ts rest
 one_is RH f _ ts rest (both {x = x} r done) = f x ts rest r
 
 -- ---- samples
@@ -78,14 +98,17 @@ module _ (limit : ℕ) where
   type_part d = record { law = λ p. type_law d; can = λ rest. (int_type, tok (word keyword.Int) nowhere ∷ rest, is_int_type) }
 
   -- a part behind a sign
-  pub after_part : {P A : Type 0} {R : A → List Tok → List Tok → Type 0} {f : Reader A} (s : Sign) (d : ℕ) → (IsOpening (mark s) → ⊥) → Part limit P R f 1 (after_sign d s) (after_sign d s) → Part limit P (IsAfter s R) (after_at s f) 1 d (after_sign d s)
+  pub after_part : {P A : Type 0} {R : A → List Tok → List Tok → Type 0} {f : Reader A} (s : Sign) (d : ℕ) →
+      (IsOpening (mark s) → ⊥) → Part limit P R f 1 (after_sign d s) (after_sign d s) →
+      Part limit P (IsAfter s R) (after_at s f) 1 d (after_sign d s)
   unfolding after_at
   after_part {P = P} {A = A} {R = R} {f = f} s d shut part = record {
     law = λ p. production limit (IsAfter s R) (then_part limit (sign_part limit s d shut) (then_part limit (given_part p part) (ends_with limit (λ (x : (Unit {0} × Span) × A). x.1)))) (λ y ts rest r. after_is r);
     can = λ rest. let k = part.can rest in (k.0, tok (mark s) nowhere ∷ k.1, after k.2);
   }
     where
-      given_part : {Q : Type 0} → P → Part limit P R f 1 (after_sign d s) (after_sign d s) → Part limit Q R f 1 (after_sign d s) (after_sign d s)
+      given_part : {Q : Type 0} → P → Part limit P R f 1 (after_sign d s) (after_sign d s) →
+          Part limit Q R f 1 (after_sign d s) (after_sign d s)
       given_part p part = record { law = λ q. part.law p; can = part.can }
 
   param_law_at : (d : ℕ) → Law limit IsParam param_at 1 d d
@@ -106,7 +129,8 @@ module _ (limit : ℕ) where
     pub index_part : {P : Type 0} → Part limit P IsIndex (index_at room) 1 d d
     index_part = record { law = λ p. index_law; can = λ rest. (no_count, tok (mark OpenBracket) nowhere ∷ zero_tok ∷ tok (mark CloseBracket) nowhere ∷ rest, is_index) }
 
-    negative_head : (m : Sign) (at : Span) (b : Bool) → same_sign m Minus ≡ b → Head limit IsConst d d (mark m) at (λ ts. cond b (negative_from at ts) (refused ts))
+    negative_head : (m : Sign) (at : Span) (b : Bool) → same_sign m Minus ≡ b →
+        Head limit IsConst d d (mark m) at (λ ts. cond b (negative_from at ts) (refused ts))
     negative_head m at true e =
         subst (λ (s : Sign). Head limit IsConst d d (mark s) at (negative_from at)) (sym (same_sign-true m Minus e))
         (takes 1 (λ e. cc) (λ o. absurd o) (production limit (at_rest IsConst (tok (mark Minus) at)) (then_part limit (int_part limit d) (ends_with limit (λ x. negative at x.1))) (λ y ts rest r. negative_is r)))

@@ -7,14 +7,19 @@ use Rattle.source.specs.declared.token.Sign.TheVariants.{OpenParen, CloseParen, 
 use Rattle.source.specs.Tokens.{word, mark, Tok}
 use Rattle.source.specs.declared.token.Number.{Number}
 use Rattle.syntax.specs.Trees.{Const, member_const, Protection, Param}
-use Rattle.syntax.specs.Grammar.{tok, int_tok, IsOptional, AreMany, IsAfter, after, AreListed, IsName, is_name, IsType, is_int_type, is_ref_type, IsConst, is_int_const, is_negative, is_null_const, is_member_const, IsIndex, is_index, IsProtection, is_protection, IsParam, is_param}
+use Rattle.syntax.specs.Grammar.{tok, int_tok, IsOptional, AreMany, IsAfter, after, AreListed, IsName, is_name}
+use Rattle.syntax.specs.Grammar.{IsType, is_int_type, is_ref_type, IsConst, is_int_const, is_negative, is_null_const}
+use Rattle.syntax.specs.Grammar.{is_member_const, IsIndex, is_index, IsProtection, is_protection, IsParam, is_param}
 use Rattle.parser.specs.Working.Reading.{Reader, name_at, int_at, skip_at, after_at}
-use Rattle.parser.specs.Working.Parts.{type_at, index_at, const_at, protection_at, maybe_protection, param_at, params_at}
+use Rattle.parser.specs.Working.Parts.{type_at, index_at, const_at, protection_at, maybe_protection, param_at}
+use Rattle.parser.specs.Working.Parts.{params_at}
 use Rattle.parser.specs.Theory.Law.{IsTok, is_tok, IsInt, is_int_tok}
 use Rattle.parser.specs.Theory.Joined.{Done, done, Both, both}
 use Rattle.parser.specs.Theory.PartLaws.{IsParams, is_params}
 use Rattle.parser.specs.Theory.Shorter.{next_name_shortens, next_param_shortens}
-use Rattle.parser.specs.Theory.Finding.{found, finds_then, FindsPart, Anything, ends_found, then_found, and_found, production_found, sign_found, word_found, open_then, name_found, int_found, NotNext, IsNext, maybe_found, NoSign, each_found, Closes, listed_found}
+use Rattle.parser.specs.Theory.Finding.{found, finds_then, FindsPart, Anything, ends_found, then_found, and_found}
+use Rattle.parser.specs.Theory.Finding.{production_found, sign_found, word_found, open_then, name_found, int_found}
+use Rattle.parser.specs.Theory.Finding.{NotNext, IsNext, maybe_found, NoSign, each_found, Closes, listed_found}
 
 -- ---- types and constants
 
@@ -23,7 +28,8 @@ unfolding type_at name_at
 type_found x ts mid is_int_type follow = found refl
 type_found x ts mid is_ref_type follow = found refl
 
-index_back : {y : Number} {ts rest : List Tok} → IsIndex y ts rest → Both (IsTok (mark OpenBracket)) (λ b. Both IsInt (λ n. Both (IsTok (mark CloseBracket)) (λ c. Done n))) y ts rest
+index_back : {y : Number} {ts rest : List Tok} → IsIndex y ts rest →
+    Both (IsTok (mark OpenBracket)) (λ b. Both IsInt (λ n. Both (IsTok (mark CloseBracket)) (λ c. Done n))) y ts rest
 index_back is_index = both is_tok (both is_int_tok (both is_tok done))
 
 pub index_found : (room : ℕ) → FindsPart Anything IsIndex (index_at room)
@@ -41,20 +47,24 @@ const_found room _ ts mid (is_member_const {x = x} {n = n} {begin = begin} {clos
 
 -- ---- a part behind a sign
 
-after_back : {A : Type 0} {s : Sign} {R : A → List Tok → List Tok → Type 0} {y : A} {ts rest : List Tok} → IsAfter s R y ts rest → Both (IsTok (mark s)) (λ at. Both R (λ x. Done x)) y ts rest
+after_back : {A : Type 0} {s : Sign} {R : A → List Tok → List Tok → Type 0} {y : A} {ts rest : List Tok} →
+    IsAfter s R y ts rest → Both (IsTok (mark s)) (λ at. Both R (λ x. Done x)) y ts rest
 after_back (after r) = both is_tok (both r done)
 
-pub after_found : {A : Type 0} {R : A → List Tok → List Tok → Type 0} {f : Reader A} (s : Sign) → FindsPart Anything R f → FindsPart Anything (IsAfter s R) (after_at s f)
+pub after_found : {A : Type 0} {R : A → List Tok → List Tok → Type 0} {f : Reader A} (s : Sign) →
+    FindsPart Anything R f → FindsPart Anything (IsAfter s R) (after_at s f)
 unfolding after_at
 after_found {A = A} {R = R} s part = production_found (IsAfter s R) (and_found (sign_found s) (and_found part (ends_found (λ (x : (Unit {0} × Span) × A). x.1)))) (λ y ts rest h. after_back h)
 
 -- ---- annotations
 
-close_no_dot : {A : Type 0} {R : Span → A → List Tok → List Tok → Type 0} {y : A} {ts rest : List Tok} → Both (IsTok (mark CloseParen)) R y ts rest → NoSign Dot ts
+close_no_dot : {A : Type 0} {R : Span → A → List Tok → List Tok → Type 0} {y : A} {ts rest : List Tok} →
+    Both (IsTok (mark CloseParen)) R y ts rest → NoSign Dot ts
 unfolding skip_at
 close_no_dot (both is_tok r) = refl
 
-protection_back : {y : Protection} {ts rest : List Tok} → IsProtection y ts rest → Both (IsTok (word keyword.ProtectedBy)) (λ w. Both (IsTok (mark OpenParen)) (λ b. Both IsName (λ x. Both (AreMany (IsAfter Dot IsName)) (λ more. Both (IsTok (mark CloseParen)) (λ c. Done (record { first = x; rest = more })))))) y ts rest
+protection_back : {y : Protection} {ts rest : List Tok} → IsProtection y ts rest →
+    Both (IsTok (word keyword.ProtectedBy)) (λ w. Both (IsTok (mark OpenParen)) (λ b. Both IsName (λ x. Both (AreMany (IsAfter Dot IsName)) (λ more. Both (IsTok (mark CloseParen)) (λ c. Done (record { first = x; rest = more })))))) y ts rest
 protection_back (is_protection h) = both is_tok (both is_tok (both is_name (both h (both is_tok done))))
 
 protection_found : (room : ℕ) → FindsPart Anything IsProtection (protection_at room)
@@ -64,19 +74,23 @@ protection_found room =
     (and_found (word_found keyword.ProtectedBy) (open_then OpenParen room (λ r e. and_found name_found (then_found {F = NoSign Dot} (each_found IsName name_at name_found Dot next_name_shortens) (λ x a y ts rest r f. close_no_dot r) (and_found (sign_found CloseParen) (ends_found (λ x. record { first = x.0.0.1; rest = x.0.1 })))))))
     (λ y ts rest h. protection_back h)
 
-protection_begins : (y : Protection) (ts rest : List Tok) → IsProtection y ts rest → IsNext (word keyword.ProtectedBy) ts
+protection_begins : (y : Protection) (ts rest : List Tok) → IsProtection y ts rest →
+    IsNext (word keyword.ProtectedBy) ts
 protection_begins y ts rest (is_protection h) = refl
 
-pub maybe_protection_found : (room : ℕ) → FindsPart (NotNext (word keyword.ProtectedBy)) (IsOptional IsProtection) (maybe_protection room)
+pub maybe_protection_found : (room : ℕ) →
+    FindsPart (NotNext (word keyword.ProtectedBy)) (IsOptional IsProtection) (maybe_protection room)
 maybe_protection_found room = maybe_found (word keyword.ProtectedBy) (protection_found room) protection_begins
 
 -- ---- parameters
 
-pub close_closes : {A : Type 0} {R : Span → A → List Tok → List Tok → Type 0} {y : A} {ts rest : List Tok} → Both (IsTok (mark CloseParen)) R y ts rest → Closes ts
+pub close_closes : {A : Type 0} {R : Span → A → List Tok → List Tok → Type 0} {y : A} {ts rest : List Tok} →
+    Both (IsTok (mark CloseParen)) R y ts rest → Closes ts
 unfolding skip_at
 close_closes (both is_tok r) = record { closing = refl; no_comma = refl }
 
-param_back : {y : Param} {ts rest : List Tok} → IsParam y ts rest → Both IsType (λ t. Both IsName (λ x. Done (record { name = x; value_type = t }))) y ts rest
+param_back : {y : Param} {ts rest : List Tok} → IsParam y ts rest →
+    Both IsType (λ t. Both IsName (λ x. Done (record { name = x; value_type = t }))) y ts rest
 param_back (is_param t) = both t (both is_name done)
 
 param_found : FindsPart Anything IsParam param_at
@@ -93,7 +107,8 @@ const_begins y ts rest is_negative = refl
 const_begins y ts rest is_null_const = refl
 const_begins y ts rest is_member_const = refl
 
-params_back : {y : List Param} {ts rest : List Tok} → IsParams y ts rest → Both (IsTok (mark OpenParen)) (λ b. Both (AreListed IsParam) (λ ps. Both (IsTok (mark CloseParen)) (λ c. Done ps))) y ts rest
+params_back : {y : List Param} {ts rest : List Tok} → IsParams y ts rest →
+    Both (IsTok (mark OpenParen)) (λ b. Both (AreListed IsParam) (λ ps. Both (IsTok (mark CloseParen)) (λ c. Done ps))) y ts rest
 params_back (is_params h) = both is_tok (both h (both is_tok done))
 
 pub params_found : (room : ℕ) → FindsPart Anything IsParams (params_at room)

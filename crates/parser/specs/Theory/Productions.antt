@@ -1,11 +1,14 @@
 -- The law of expressions, and of conditions.
-use Rattle.std.proofs.Common.{◌≡◌, ℕ, zero, suc, ◌+◌, ◌<◌, ◌≤◌, Bool, true, false, cond, List, [], ◌∷◌, Option, Some, None, Ok, refl, sym, ap, ◌∙◌, subst, arith, le_trans, le_refl}
+use Rattle.std.proofs.Common.{◌≡◌, ℕ, zero, suc, ◌+◌, ◌<◌, ◌≤◌, Bool, true, false, cond, List, [], ◌∷◌, Option, Some}
+use Rattle.std.proofs.Common.{None, Ok, refl, sym, ap, ◌∙◌, subst, arith, le_trans, le_refl}
 use Rattle.std.specs.Prelude.{IfSome}
 use Rattle.source.specs.declared.span.Span.{Span}
 use Rattle.source.specs.declared.token.Sign.{Sign}
 use Rattle.source.specs.declared.token.Keyword.TheVariants as keyword
 use Rattle.source.specs.declared.token.Sign.TheVariants as sign
-use Rattle.source.specs.declared.token.Sign.TheVariants.{OpenParen, CloseParen, OpenBracket, CloseBracket, Semicolon, Dot, DoubleEquals, NotEquals, LessEquals, GreaterEquals, Plus, Minus, Star, Slash, Percent}
+use Rattle.source.specs.declared.token.Sign.TheVariants.{OpenParen, CloseParen, OpenBracket, CloseBracket, Semicolon}
+use Rattle.source.specs.declared.token.Sign.TheVariants.{Dot, DoubleEquals, NotEquals, LessEquals, GreaterEquals}
+use Rattle.source.specs.declared.token.Sign.TheVariants.{Plus, Minus, Star, Slash, Percent}
 use Rattle.source.specs.Tokens.{Lexeme, name, word, mark, end, Tok}
 use Rattle.source.specs.Tokens as lexeme
 use Rattle.syntax.specs.declared.tree.Operator.{Operator}
@@ -15,14 +18,26 @@ use Rattle.syntax.specs.declared.tree.Level.TheVariants.{Term, Sum, Conjunction,
 use Rattle.syntax.specs.declared.tree.Prefix.{Prefix}
 use Rattle.syntax.specs.declared.tree.Prefix.TheVariants.{Negate, Not}
 use Rattle.syntax.specs.declared.tree.Comparison.{Comparison}
-use Rattle.syntax.specs.declared.tree.Comparison.TheVariants.{Equal, NotEqual, Less, LessOrEqual, Greater, GreaterOrEqual}
-use Rattle.syntax.specs.Trees.{Ident, Place, lone, element, path, Expr, int, null, place, paren, prefix, compare, Links, no_links, link}
-use Rattle.syntax.specs.Grammar.{tok, name_tok, sign_of, level_of, prefix_sign, comparison_sign, rank, below, PRIM, UNARY, SUM, COMPARED, ANY, AreMany, no_more, IsAfter, IsName, is_name, IsPlace, is_lone, is_element, is_path, IsExpr, is_int, is_null, is_place, is_paren, is_prefix, is_chain, is_compare, IsLinks, are_no_links, is_link, open_after, IsOpening}
+use Rattle.syntax.specs.declared.tree.Comparison.TheVariants.{Equal, NotEqual, Less, LessOrEqual, Greater}
+use Rattle.syntax.specs.declared.tree.Comparison.TheVariants.{GreaterOrEqual}
+use Rattle.syntax.specs.Trees.{Ident, Place, lone, element, path, Expr, int, null, place, paren, prefix, compare}
+use Rattle.syntax.specs.Trees.{Links, no_links, link}
+use Rattle.syntax.specs.Grammar.{tok, name_tok, sign_of, level_of, prefix_sign, comparison_sign, rank, below, PRIM}
+use Rattle.syntax.specs.Grammar.{UNARY, SUM, COMPARED, ANY, AreMany, no_more, IsAfter, IsName, is_name, IsPlace}
+use Rattle.syntax.specs.Grammar.{is_lone, is_element, is_path, IsExpr, is_int, is_null, is_place, is_paren, is_prefix}
+use Rattle.syntax.specs.Grammar.{is_chain, is_compare, IsLinks, are_no_links, is_link, open_after, IsOpening}
 use Rattle.parser.specs.Working.Reading.{◌>>=◌, Reader, same_sign, refused, choose}
-use Rattle.parser.specs.Working.Expressions.{op_of, before_rest, op_at, link_from, next_link, add_link, links_at, chained, chain_at, element_at, fields_at, path_at, alone_at, place_at, in_parens, parens_at, prim_from, prim_with, prefix_of, prefix_from, prefix_at, unary_from, unary_with, comparison_of, comparison_at, compared_from, compared_with, sum_with, operand_with, level_with, inside_at, prim_at, operand_at, expr_at, ended_at, condition_at}
-use Rattle.parser.specs.Theory.Law.{same_sign-true, LawAt, Then, Says, Law, then_law, last_law, give_law, at_rest, said, implies, Head, refuses, deepens, takes, first_law, prefixed, IsTok, is_tok}
+use Rattle.parser.specs.Working.Expressions.{op_of, before_rest, op_at, link_from, next_link, add_link, links_at}
+use Rattle.parser.specs.Working.Expressions.{chained, chain_at, element_at, fields_at, path_at, alone_at, place_at}
+use Rattle.parser.specs.Working.Expressions.{in_parens, parens_at, prim_from, prim_with, prefix_of, prefix_from}
+use Rattle.parser.specs.Working.Expressions.{prefix_at, unary_from, unary_with, comparison_of, comparison_at}
+use Rattle.parser.specs.Working.Expressions.{compared_from, compared_with, sum_with, operand_with, level_with}
+use Rattle.parser.specs.Working.Expressions.{inside_at, prim_at, operand_at, expr_at, ended_at, condition_at}
+use Rattle.parser.specs.Theory.Law.{same_sign-true, LawAt, Then, Says, Law, then_law, last_law, give_law, at_rest}
+use Rattle.parser.specs.Theory.Law.{said, implies, Head, refuses, deepens, takes, first_law, prefixed, IsTok, is_tok}
 use Rattle.parser.specs.Theory.Laws.{NextAt, NextLaw, SaysNext, many_law, weaken_at}
-use Rattle.parser.specs.Theory.Joined.{Done, done, Both, both, nowhere, Part, ends_with, then_part, then_open, production, sign_part, name_part, after_each_part, choose_law, weaken_law}
+use Rattle.parser.specs.Theory.Joined.{Done, done, Both, both, nowhere, Part, ends_with, then_part, then_open}
+use Rattle.parser.specs.Theory.Joined.{production, sign_part, name_part, after_each_part, choose_law, weaken_law}
 use Rattle.parser.specs.Theory.PartLaws.{zero_tok}
 
 abbrev pub zero_expr : Expr
@@ -33,23 +48,31 @@ no_ident = record { text = []; span = nowhere }
 
 -- what the parts of places and parentheses make
 
-parens_is : {y : Expr} {at : Span} {ts rest : List Tok} → Both (IsExpr ANY) (λ e. Both (IsTok (mark CloseParen)) (λ c. Done (paren at e))) y ts rest → IsExpr PRIM y (tok (mark OpenParen) at ∷ ts) rest
+parens_is : {y : Expr} {at : Span} {ts rest : List Tok} →
+    Both (IsExpr ANY) (λ e. Both (IsTok (mark CloseParen)) (λ c. Done (paren at e))) y ts rest →
+    IsExpr PRIM y (tok (mark OpenParen) at ∷ ts) rest
 parens_is (both e (both is_tok done)) = is_paren e
 
-place_is : {x : Ident} {y : Expr} {ts rest : List Tok} → Both (at_rest IsPlace (name_tok x)) (λ p. Done (place p)) y ts rest → IsExpr PRIM y (name_tok x ∷ ts) rest
+place_is : {x : Ident} {y : Expr} {ts rest : List Tok} →
+    Both (at_rest IsPlace (name_tok x)) (λ p. Done (place p)) y ts rest → IsExpr PRIM y (name_tok x ∷ ts) rest
 place_is (both p done) = is_place p
 
-element_is : {x : Ident} {y : Place} {ts rest : List Tok} → Both (IsTok (mark OpenBracket)) (λ b. Both (IsExpr ANY) (λ e. Both (IsTok (mark CloseBracket)) (λ c. Done (element x e)))) y ts rest → IsPlace y (name_tok x ∷ ts) rest
+element_is : {x : Ident} {y : Place} {ts rest : List Tok} →
+    Both (IsTok (mark OpenBracket)) (λ b. Both (IsExpr ANY) (λ e. Both (IsTok (mark CloseBracket)) (λ c. Done (element x e)))) y ts rest → IsPlace y (name_tok x ∷ ts) rest
 element_is (both is_tok (both e (both is_tok done))) = is_element e
 
 -- one field or more, each behind a dot
 pub data IsFields : List Ident → List Tok → List Tok → Type 0 where
-  is_fields : {first : Ident} {more : List Ident} {dot : Span} {ts rest : List Tok} → AreMany (IsAfter Dot IsName) more ts rest → IsFields (first ∷ more) (tok (mark Dot) dot ∷ name_tok first ∷ ts) rest
+  is_fields : {first : Ident} {more : List Ident} {dot : Span} {ts rest : List Tok} →
+      AreMany (IsAfter Dot IsName) more ts rest →
+      IsFields (first ∷ more) (tok (mark Dot) dot ∷ name_tok first ∷ ts) rest
 
-fields_is : {y : List Ident} {ts rest : List Tok} → Both (IsTok (mark Dot)) (λ d. Both IsName (λ first. Both (AreMany (IsAfter Dot IsName)) (λ more. Done (first ∷ more)))) y ts rest → IsFields y ts rest
+fields_is : {y : List Ident} {ts rest : List Tok} →
+    Both (IsTok (mark Dot)) (λ d. Both IsName (λ first. Both (AreMany (IsAfter Dot IsName)) (λ more. Done (first ∷ more)))) y ts rest → IsFields y ts rest
 fields_is (both is_tok (both is_name (both more done))) = is_fields more
 
-path_is : {x : Ident} {y : Place} {ts rest : List Tok} → Both IsFields (λ fs. Done (path x fs)) y ts rest → IsPlace y (name_tok x ∷ ts) rest
+path_is : {x : Ident} {y : Place} {ts rest : List Tok} → Both IsFields (λ fs. Done (path x fs)) y ts rest →
+    IsPlace y (name_tok x ∷ ts) rest
 path_is (both (is_fields more) done) = is_path more
 
 -- a chain of lower rank stands where one of higher rank may
@@ -68,12 +91,14 @@ below_rank Sum = omega arith
 below_rank Conjunction = omega arith
 below_rank Disjunction = omega arith
 
-pub chained_is : (k : Level) (x : Expr) (l : Links) (ts mid rest : List Tok) → IsExpr (below k) x ts mid → IsLinks k l mid rest → IsExpr (rank k) (chained k x l) ts rest
+pub chained_is : (k : Level) (x : Expr) (l : Links) (ts mid rest : List Tok) → IsExpr (below k) x ts mid →
+    IsLinks k l mid rest → IsExpr (rank k) (chained k x l) ts rest
 chained_is k x no_links ts mid rest first are_no_links = raise (below_rank k) first
 chained_is k x (link op y more) ts mid rest first ls = is_chain (le_refl (rank k)) first ls
 
 -- what an operator's token is
-pub op_meant : (k : Level) (kind : Lexeme) → IfSome (op_of k kind) (λ op. (kind ≡ mark (sign_of op)) × (level_of op ≡ k))
+pub op_meant : (k : Level) (kind : Lexeme) →
+    IfSome (op_of k kind) (λ op. (kind ≡ mark (sign_of op)) × (level_of op ≡ k))
 op_meant Sum (mark Plus) = (refl, refl)
 op_meant Sum (mark Minus) = (refl, refl)
 op_meant Term (mark Star) = (refl, refl)
@@ -109,7 +134,8 @@ pub record IsLink (k : Level) (o : Operator × Expr) (ts rest : List Tok) : Type
   pub first : ts ≡ tok (mark (sign_of o.0)) at ∷ operand
   pub is : IsExpr (below k) o.1 operand rest
 
-link_is : (k : Level) (o : Operator × Expr) (l : Links) (ts mid rest : List Tok) → IsLink k o ts mid → IsLinks k l mid rest → IsLinks k (link o.0 o.1 l) ts rest
+link_is : (k : Level) (o : Operator × Expr) (l : Links) (ts mid rest : List Tok) → IsLink k o ts mid →
+    IsLinks k l mid rest → IsLinks k (link o.0 o.1 l) ts rest
 link_is k o l ts mid rest a b =
     subst (λ (us : List Tok). IsLinks k (link o.0 o.1 l) us rest) (sym a.first) (subst (λ (j : Level). IsLinks j (link o.0 o.1 l) (tok (mark (sign_of o.0)) a.at ∷ a.operand) rest) a.level (is_link (subst (λ (j : Level). IsExpr (below j) o.1 a.operand mid) (sym a.level) a.is) (subst (λ (j : Level). IsLinks j l mid rest) (sym a.level) b)))
 
@@ -118,7 +144,9 @@ module _ (limit : ℕ) where
     abbrev linked : Operator → Reader (Operator × Expr)
     linked op ts = operand ts >>= λ x. Ok ((op, x.0), x.1)
 
-    found_link : (t : Tok) (ts : List Tok) (o : Option Operator) → op_of k t.kind ≡ o → IfSome o (λ op. (t.kind ≡ mark (sign_of op)) × (level_of op ≡ k)) → NextAt limit (IsLink k) (next_link operand k) d (t ∷ ts) (link_from operand (before_rest o ts))
+    found_link : (t : Tok) (ts : List Tok) (o : Option Operator) → op_of k t.kind ≡ o →
+        IfSome o (λ op. (t.kind ≡ mark (sign_of op)) × (level_of op ≡ k)) →
+        NextAt limit (IsLink k) (next_link operand k) d (t ∷ ts) (link_from operand (before_rest o ts))
     unfolding op_at
     found_link t ts None e h = λ other same. ap (λ (us : List Tok). next_link operand k us) same.1 ∙ ap (λ o. link_from operand (before_rest o same.0)) e
     found_link t ts (Some op) e h =
@@ -165,7 +193,9 @@ module _ (limit : ℕ) where
     abbrev prefixed_by : Prefix → Span → Reader Expr
     prefixed_by op at ts = prim ts >>= λ e. Ok (prefix op at e.0, e.1)
 
-    found_prefix : (t : Tok) (ts : List Tok) (o : Option Prefix) → prefix_of t.kind ≡ o → IfSome o (λ op. t.kind ≡ mark (prefix_sign op)) → LawAt limit (IsExpr UNARY) (Says (unary_with prim)) 1 d d (t ∷ ts) (unary_from prim (prefix_from o t.span ts) (t ∷ ts))
+    found_prefix : (t : Tok) (ts : List Tok) (o : Option Prefix) → prefix_of t.kind ≡ o →
+        IfSome o (λ op. t.kind ≡ mark (prefix_sign op)) →
+        LawAt limit (IsExpr UNARY) (Says (unary_with prim)) 1 d d (t ∷ ts) (unary_from prim (prefix_from o t.span ts) (t ∷ ts))
     unfolding unary_with prefix_at
     found_prefix t ts None e h = said limit (IsExpr UNARY) (Says prim) (Says (unary_with prim)) 1 d d (t ∷ ts) (λ us q same s. ap (λ (vs : List Tok). unary_with prim vs) same.1 ∙ ap (λ o. unary_from prim (prefix_from o t.span same.0) (t ∷ same.0)) e ∙ ap prim (sym same.1) ∙ s) (prim (t ∷ ts)) (implies limit (IsExpr PRIM) (IsExpr UNARY) (Says prim) 1 d d (t ∷ ts) (λ x us rest is. raise (omega arith) is) (prim (t ∷ ts)) (law (t ∷ ts)))
     found_prefix t ts (Some op) e h =
@@ -224,7 +254,9 @@ module _ (limit : ℕ) where
     abbrev compared_by : Comparison → Reader Expr
     compared_by c ts = sum ts >>= λ r. Ok (compare x c r.0, r.1)
 
-    found_comparison : (t : Tok) (ts : List Tok) (o : Option Comparison) → comparison_of t.kind ≡ o → IfSome o (λ c. t.kind ≡ mark (comparison_sign c)) → LawAt limit IsRight (Says right_at) 0 d d (t ∷ ts) (compared_from sum x (before_rest o ts) (t ∷ ts))
+    found_comparison : (t : Tok) (ts : List Tok) (o : Option Comparison) → comparison_of t.kind ≡ o →
+        IfSome o (λ c. t.kind ≡ mark (comparison_sign c)) →
+        LawAt limit IsRight (Says right_at) 0 d d (t ∷ ts) (compared_from sum x (before_rest o ts) (t ∷ ts))
     unfolding comparison_at
     found_comparison t ts None e h = record { taken = []; parts = refl; some = omega arith; no_end = tt; level = refl; shallow = tt; is = λ other us left. raise (omega arith) left; again = λ other same. ap right_at same.1 ∙ ap (λ o. compared_from sum x (before_rest o same.0) (t ∷ same.0)) e ∙ ap (λ (us : List Tok). Ok (x, us)) (sym same.1) }
     found_comparison t ts (Some c) e h =
@@ -239,14 +271,16 @@ module _ (limit : ℕ) where
     right_law [] = record { taken = []; parts = refl; some = omega arith; no_end = tt; level = refl; shallow = tt; is = λ other us left. raise (omega arith) left; again = λ other same. ap right_at same ∙ ap (λ (us : List Tok). Ok (x, us)) (sym same) }
     right_law (t ∷ ts) = found_comparison t ts (comparison_of t.kind) refl (comparison_meant t.kind)
 
-  pub compared_law : (sum : Reader Expr) (d : ℕ) → Law limit (IsExpr SUM) sum 1 d d → Law limit (IsExpr COMPARED) (compared_with sum) 1 d d
+  pub compared_law : (sum : Reader Expr) (d : ℕ) → Law limit (IsExpr SUM) sum 1 d d →
+      Law limit (IsExpr COMPARED) (compared_with sum) 1 d d
   unfolding compared_with
   compared_law sum d law =
       then_law limit (IsExpr SUM) (IsExpr COMPARED) sum (λ x ts. compared_from sum x (comparison_at ts) ts) 1 0 d d d law (λ rest. (rest, λ x. (x, λ ts left. raise (omega arith) left))) (λ x. right_law sum d law x)
 
   -- ---- places
 
-  pub any_part : {P : Type 0} (f : Reader Expr) (d : ℕ) → (P → Law limit (IsExpr ANY) f 1 d d) → Part limit P (IsExpr ANY) f 1 d d
+  pub any_part : {P : Type 0} (f : Reader Expr) (d : ℕ) → (P → Law limit (IsExpr ANY) f 1 d d) →
+      Part limit P (IsExpr ANY) f 1 d d
   any_part f d law = record { law = law; can = λ rest. (zero_expr, tok (lexeme.int 0) nowhere ∷ rest, is_int) }
 
   fields_law : (d : ℕ) → Law limit IsFields fields_at 1 d d
@@ -284,18 +318,22 @@ module _ (limit : ℕ) where
 
     -- ---- numbers, places and parentheses
 
-    parens_law : (Law limit (IsExpr ANY) inner 1 (suc d) (suc d)) → (at : Span) → Law limit (at_rest (IsExpr PRIM) (tok (mark OpenParen) at)) (in_parens inner at) 1 (suc d) d
+    parens_law : (Law limit (IsExpr ANY) inner 1 (suc d) (suc d)) → (at : Span) →
+        Law limit (at_rest (IsExpr PRIM) (tok (mark OpenParen) at)) (in_parens inner at) 1 (suc d) d
     parens_law law at =
         production limit (at_rest (IsExpr PRIM) (tok (mark OpenParen) at))
         (then_part limit (any_part inner (suc d) (λ p. law)) (then_part limit (sign_part limit CloseParen (suc d) (λ o. o)) (ends_with limit (λ x. paren at x.0.1))))
         (λ y ts rest r. parens_is r)
 
-  parens_head : (room d : ℕ) → d + room ≡ limit → (inner : Reader Expr) → (0 < room → Law limit (IsExpr ANY) inner 1 (suc d) (suc d)) → (at : Span) → Head limit (IsExpr PRIM) d d (mark OpenParen) at (parens_at room inner at)
+  parens_head : (room d : ℕ) → d + room ≡ limit → (inner : Reader Expr) →
+      (0 < room → Law limit (IsExpr ANY) inner 1 (suc d) (suc d)) → (at : Span) →
+      Head limit (IsExpr PRIM) d d (mark OpenParen) at (parens_at room inner at)
   parens_head zero d sum inner law at = deepens tt (omega arith) (λ rest. (paren at zero_expr, tok (lexeme.int 0) nowhere ∷ tok (mark CloseParen) at ∷ rest, is_paren is_int)) (λ ts. refl)
   parens_head (suc room) d sum inner law at = takes 1 (λ e. cc) (λ o. omega arith) (parens_law (suc room) d sum inner law (law (omega arith)) at)
 
   module _ (room d : ℕ) (sum : d + room ≡ limit) (inner : Reader Expr) (law : 0 < room → Law limit (IsExpr ANY) inner 1 (suc d) (suc d)) where
-    paren_head : (m : Sign) (at : Span) (b : Bool) → same_sign m OpenParen ≡ b → Head limit (IsExpr PRIM) d d (mark m) at (λ ts. cond b (parens_at room inner at ts) (refused ts))
+    paren_head : (m : Sign) (at : Span) (b : Bool) → same_sign m OpenParen ≡ b →
+        Head limit (IsExpr PRIM) d d (mark m) at (λ ts. cond b (parens_at room inner at ts) (refused ts))
     paren_head m at true e = subst (λ (s : Sign). Head limit (IsExpr PRIM) d d (mark s) at (parens_at room inner at)) (sym (same_sign-true m OpenParen e)) (parens_head room d sum inner law at)
     paren_head m at false e = refuses (λ ts. refl)
 
@@ -328,7 +366,8 @@ module _ (limit : ℕ) where
     pub level_with_law : (k : Level) → Law limit (IsExpr (rank k)) (level_with k prim) 1 d d
     level_with_law k = chain_law (operand_with k prim) k d (operand_with_law k)
 
-  pub inside_law : (room d : ℕ) → d + room ≡ limit → 0 < room → Law limit (IsExpr ANY) (inside_at room) 1 (suc d) (suc d)
+  pub inside_law : (room d : ℕ) → d + room ≡ limit → 0 < room →
+      Law limit (IsExpr ANY) (inside_at room) 1 (suc d) (suc d)
   unfolding inside_at
   inside_law zero d sum some = absurd (omega arith)
   inside_law (suc room) d sum some = level_with_law (prim_with room (inside_at room)) (suc d) (prim_with_law room (suc d) (omega arith) (inside_at room) (inside_law room (suc d) (omega arith))) Disjunction
@@ -346,7 +385,8 @@ module _ (limit : ℕ) where
 pub data IsEnded (e : Expr) (ts rest : List Tok) : Type 0 where
   ended : {semicolon : Span} → IsExpr ANY e ts (tok (mark Semicolon) semicolon ∷ rest) → IsEnded e ts rest
 
-ended_is : {e : Expr} {ts rest : List Tok} → Both (IsExpr ANY) (λ e. Both (IsTok (mark Semicolon)) (λ s. Done e)) e ts rest → IsEnded e ts rest
+ended_is : {e : Expr} {ts rest : List Tok} →
+    Both (IsExpr ANY) (λ e. Both (IsTok (mark Semicolon)) (λ s. Done e)) e ts rest → IsEnded e ts rest
 ended_is (both e (both is_tok done)) = ended e
 
 module _ (limit room d : ℕ) (sum : d + room ≡ limit) where
@@ -362,9 +402,11 @@ module _ (limit room d : ℕ) (sum : d + room ≡ limit) where
 
 -- an expression in parentheses
 pub data IsCondition (e : Expr) : List Tok → List Tok → Type 0 where
-  is_condition : {before after : Span} {ts rest : List Tok} → IsExpr ANY e ts (tok (mark CloseParen) after ∷ rest) → IsCondition e (tok (mark OpenParen) before ∷ ts) rest
+  is_condition : {before after : Span} {ts rest : List Tok} → IsExpr ANY e ts (tok (mark CloseParen) after ∷ rest) →
+      IsCondition e (tok (mark OpenParen) before ∷ ts) rest
 
-condition_is : {y : Expr} {ts rest : List Tok} → Both (IsTok (mark OpenParen)) (λ b. Both (IsExpr ANY) (λ e. Both (IsTok (mark CloseParen)) (λ c. Done e))) y ts rest → IsCondition y ts rest
+condition_is : {y : Expr} {ts rest : List Tok} →
+    Both (IsTok (mark OpenParen)) (λ b. Both (IsExpr ANY) (λ e. Both (IsTok (mark CloseParen)) (λ c. Done e))) y ts rest → IsCondition y ts rest
 condition_is (both is_tok (both e (both is_tok done))) = is_condition e
 
 module _ (limit room d : ℕ) (sum : d + room ≡ limit) where

@@ -1,5 +1,6 @@
 -- Readers of names, constants and parameters take a token at least.
-use Rattle.std.proofs.Common.{◌≡◌, ℕ, ◌<◌, length, Option, Some, Ok, Result, ◌∷◌, List, [], Bool, true, false, cond, None, refl, subst, arith}
+use Rattle.std.proofs.Common.{◌≡◌, ℕ, ◌<◌, length, Option, Some, Ok, Result, ◌∷◌, List, [], Bool, true, false, cond}
+use Rattle.std.proofs.Common.{None, refl, subst, arith}
 use Rattle.std.specs.Prelude.{IfSome}
 use Rattle.std.proofs.lemmas.List.{length-map}
 use Rattle.source.specs.declared.token.Sign.{Sign}
@@ -47,7 +48,8 @@ unfolding skip_at
 skip_found s [] = tt
 skip_found s (t ∷ ts) = skip_less (is_sign s t.kind) t ts
 
-pub each_less : {A : Type 0} (s : Sign) (f : Reader A) → Shortens f → (ts after rest : List Token) (x : A) → skip_at s (seen ts) ≡ Some (seen after) → f (seen after) ≡ Ok (x, seen rest) → length rest < length ts
+pub each_less : {A : Type 0} (s : Sign) (f : Reader A) → Shortens f → (ts after rest : List Token) (x : A) →
+    skip_at s (seen ts) ≡ Some (seen after) → f (seen after) ≡ Ok (x, seen rest) → length rest < length ts
 each_less s f shorter ts after rest x found read =
     let less = subst (λ (o : Option (List Tok)). IfSome o (λ us. length us < length (seen ts))) found (skip_found s (seen ts)) in
     let more = subst (λ (r : Result (_ × List Tok) Stop). OnValue r (λ x. length x.1 < length (seen after))) read (shorter (seen after)) in

@@ -28,7 +28,9 @@ expr_shortens room = law_shortens room (IsExpr ANY) (expr_at room) 0 0 (expr_law
 pub next_argument_shortens : (room : ℕ) → NextShortens (next_after Comma (expr_at room))
 next_argument_shortens room = next_shortens room (IsAfter Comma (IsExpr ANY)) (next_after Comma (expr_at room)) 0 (after_each_next room (IsExpr ANY) (expr_at room) 0 (expr_law room room 0 (omega arith)) Comma refl (λ o. o))
 
-pub one_turn_less : (k : Level) (room : ℕ) (ts after rest : List Token) (op : Operator) (x : Expr) → op_at k (seen ts) ≡ Some (op, seen after) → operand_at k room (seen after) ≡ Ok (x, seen rest) → length rest < length ts
+pub one_turn_less : (k : Level) (room : ℕ) (ts after rest : List Token) (op : Operator) (x : Expr) →
+    op_at k (seen ts) ≡ Some (op, seen after) → operand_at k room (seen after) ≡ Ok (x, seen rest) →
+    length rest < length ts
 one_turn_less k room ts after rest op x found read =
     let less = subst (λ (o : Option (Operator × List Tok)). IfSome o (λ f. length f.1 < length (seen ts))) found (op_shortens k (seen ts)) in
     let more = subst (λ (r : Result (Expr × List Tok) Stop). OnValue r (λ x. length x.1 < length (seen after))) read (operand_shortens k room (seen after)) in

@@ -14,12 +14,14 @@ module _ {A B : Type 0} (k : A → List Tok → Result B Stop) where
   behind_sign (Ok c) x = refl
   behind_sign (Err e) x = refl
 
-  behind_part : (s : Sign) (ts : List Tok) (r : Result (A × List Tok) Stop) → (r >>= λ x. sign_at s x.1 >>= λ c. k x.0 c.1) ≡ (closed_at s (λ us. r) ts >>= λ y. k y.0 y.1)
+  behind_part : (s : Sign) (ts : List Tok) (r : Result (A × List Tok) Stop) →
+      (r >>= λ x. sign_at s x.1 >>= λ c. k x.0 c.1) ≡ (closed_at s (λ us. r) ts >>= λ y. k y.0 y.1)
   behind_part s ts (Ok x) = behind_sign (sign_at s x.1) x.0
   behind_part s ts (Err e) = refl
 
   -- a part, a sign and what follows
-  pub closed_then : (s : Sign) (part : Reader A) (ts : List Tok) → (part ts >>= λ x. sign_at s x.1 >>= λ c. k x.0 c.1) ≡ (closed_at s part ts >>= λ y. k y.0 y.1)
+  pub closed_then : (s : Sign) (part : Reader A) (ts : List Tok) →
+      (part ts >>= λ x. sign_at s x.1 >>= λ c. k x.0 c.1) ≡ (closed_at s part ts >>= λ y. k y.0 y.1)
   closed_then s part ts = behind_part s ts (part ts)
 
 pub kind_is : (s : Sign) (k : Lexeme) → same_kind k (mark s) ≡ is_sign s k

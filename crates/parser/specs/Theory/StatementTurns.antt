@@ -27,14 +27,19 @@ before-stmts [] = refl
 before-stmts (x ∷ xs) = ap (stmt (stmt_of x)) (before-stmts xs)
 
 module _ (room : ℕ) (xs : List the_stmt.Stmt) (ts : List Tok) (total : Result (Stmts × List Tok) Stop) where
-  pub stmts_go_on : (x : the_stmt.Stmt) (rest : List Tok) → is_next (mark CloseBrace) ts ≡ false → stmt_at room ts ≡ Ok (stmt_of x, rest) → with_front (before stmt stmt_of xs) (stmts_with (stmt_at room) ts) ≡ total → with_front (before stmt stmt_of (xs ++ x ∷ [])) (stmts_with (stmt_at room) rest) ≡ total
+  pub stmts_go_on : (x : the_stmt.Stmt) (rest : List Tok) → is_next (mark CloseBrace) ts ≡ false →
+      stmt_at room ts ≡ Ok (stmt_of x, rest) →
+      with_front (before stmt stmt_of xs) (stmts_with (stmt_at room) ts) ≡ total →
+      with_front (before stmt stmt_of (xs ++ x ∷ [])) (stmts_with (stmt_at room) rest) ≡ total
   unfolding stmts_with
   stmts_go_on x rest more read so_far = until_goes_on no_stmts stmt stmt_of (mark CloseBrace) (stmt_at room) (next_stmt_shortens room) xs ts total x rest more read so_far
 
-  pub stmts_end : is_next (mark CloseBrace) ts ≡ true → with_front (before stmt stmt_of xs) (stmts_with (stmt_at room) ts) ≡ total → total ≡ Ok (stmts_of xs, ts)
+  pub stmts_end : is_next (mark CloseBrace) ts ≡ true →
+      with_front (before stmt stmt_of xs) (stmts_with (stmt_at room) ts) ≡ total → total ≡ Ok (stmts_of xs, ts)
   unfolding stmts_with
   stmts_end over so_far = until_ends no_stmts stmt stmt_of (mark CloseBrace) (stmt_at room) (next_stmt_shortens room) xs ts total over so_far ∙ ap (λ (l : Stmts). Ok (l, ts)) (before-stmts xs)
 
-  pub stmts_stop : (e : Stop) → is_next (mark CloseBrace) ts ≡ false → Fails e (stmt_at room ts) → with_front (before stmt stmt_of xs) (stmts_with (stmt_at room) ts) ≡ total → Fails e total
+  pub stmts_stop : (e : Stop) → is_next (mark CloseBrace) ts ≡ false → Fails e (stmt_at room ts) →
+      with_front (before stmt stmt_of xs) (stmts_with (stmt_at room) ts) ≡ total → Fails e total
   unfolding stmts_with
   stmts_stop e more fails so_far = until_stops no_stmts stmt stmt_of (mark CloseBrace) (stmt_at room) (next_stmt_shortens room) xs ts total e more fails so_far

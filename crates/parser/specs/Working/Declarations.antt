@@ -1,14 +1,18 @@
 -- Reading declarations and programs.
 use Rattle.std.specs.Prelude.{ℕ, zero, suc, List, [], ◌∷◌, length, Result, Ok, Err}
 use Rattle.source.specs.declared.span.Span.{Span}
-use Rattle.source.specs.declared.token.Keyword.TheVariants.{Lock, Struct, Final, Ref, Global, Pool, Init, Atomic, Thread, Repeat, Call}
-use Rattle.source.specs.declared.token.Sign.TheVariants.{OpenBrace, CloseBrace, OpenParen, CloseParen, OpenBracket, Semicolon, Colon, Dot, Equals}
+use Rattle.source.specs.declared.token.Keyword.TheVariants.{Lock, Struct, Final, Ref, Global, Pool, Init, Atomic}
+use Rattle.source.specs.declared.token.Keyword.TheVariants.{Thread, Repeat, Call}
+use Rattle.source.specs.declared.token.Sign.TheVariants.{OpenBrace, CloseBrace, OpenParen, CloseParen, OpenBracket}
+use Rattle.source.specs.declared.token.Sign.TheVariants.{Semicolon, Colon, Dot, Equals}
 use Rattle.source.specs.Tokens.{Lexeme, word, mark, end, Tok}
 use Rattle.syntax.specs.Trees as tree
-use Rattle.syntax.specs.Trees.{Ident, ValueType, Const, Member, lock_member, final_member, field_member, Section, Items, no_items, Decl, lock, struct, global, array, pool, init, atomic, helper, thread}
+use Rattle.syntax.specs.Trees.{Ident, ValueType, Const, Member, lock_member, final_member, field_member, Section}
+use Rattle.syntax.specs.Trees.{Items, no_items, Decl, lock, struct, global, array, pool, init, atomic, helper, thread}
 use Rattle.parser.specs.declared.stop.Stop.{Stop}
 use Rattle.parser.specs.declared.stop.Stop.TheVariants.{Unexpected}
-use Rattle.parser.specs.Working.Reading.{◌>>=◌, Reader, many_at, first_at, refused, sign_at, open_at, word_at, name_at, int_at, next_until, listed_at, maybe_at, after_at, choose}
+use Rattle.parser.specs.Working.Reading.{◌>>=◌, Reader, many_at, first_at, refused, sign_at, open_at, word_at}
+use Rattle.parser.specs.Working.Reading.{name_at, int_at, next_until, listed_at, maybe_at, after_at, choose}
 use Rattle.parser.specs.Working.Parts.{type_at, index_at, const_at, maybe_protection, params_at}
 use Rattle.parser.specs.Working.Statements.{braced_at}
 

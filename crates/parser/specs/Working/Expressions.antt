@@ -2,7 +2,10 @@
 use Rattle.std.specs.Prelude.{ℕ, zero, suc, List, [], ◌∷◌, Option, Some, None, Result, Ok, if◌then◌else◌}
 use Rattle.source.specs.declared.span.Span.{Span}
 use Rattle.source.specs.declared.token.Keyword.TheVariants.{Null}
-use Rattle.source.specs.declared.token.Sign.TheVariants.{OpenParen, CloseParen, OpenBracket, CloseBracket, Semicolon, Dot, DoubleEquals, NotEquals, Less, LessEquals, Greater, GreaterEquals, Plus, Minus, Star, Slash, Percent, And, Or, Not}
+use Rattle.source.specs.declared.token.Sign.TheVariants.{OpenParen, CloseParen, OpenBracket, CloseBracket, Semicolon}
+use Rattle.source.specs.declared.token.Sign.TheVariants.{Dot, DoubleEquals, NotEquals, Less, LessEquals, Greater}
+use Rattle.source.specs.declared.token.Sign.TheVariants.{GreaterEquals, Plus, Minus, Star, Slash, Percent, And, Or}
+use Rattle.source.specs.declared.token.Sign.TheVariants.{Not}
 use Rattle.source.specs.Tokens.{Lexeme, name, word, mark, Tok}
 use Rattle.source.specs.Tokens as lexeme
 use Rattle.syntax.specs.declared.tree.Operator.{Operator}
@@ -14,9 +17,11 @@ use Rattle.syntax.specs.declared.tree.Prefix.{Prefix}
 use Rattle.syntax.specs.declared.tree.Prefix.TheVariants as prefix_case
 use Rattle.syntax.specs.declared.tree.Comparison.{Comparison}
 use Rattle.syntax.specs.declared.tree.Comparison.TheVariants as comparison
-use Rattle.syntax.specs.Trees.{Ident, Place, lone, element, path, Expr, int, null, place, paren, prefix, chain, compare, Links, no_links, link}
+use Rattle.syntax.specs.Trees.{Ident, Place, lone, element, path, Expr, int, null, place, paren, prefix, chain}
+use Rattle.syntax.specs.Trees.{compare, Links, no_links, link}
 use Rattle.parser.specs.declared.stop.Stop.{Stop}
-use Rattle.parser.specs.Working.Reading.{◌>>=◌, Reader, Next, many_at, same_sign, first_at, refused, too_deep, sign_at, open_at, name_at, after_each, choose}
+use Rattle.parser.specs.Working.Reading.{◌>>=◌, Reader, Next, many_at, same_sign, first_at, refused, too_deep}
+use Rattle.parser.specs.Working.Reading.{sign_at, open_at, name_at, after_each, choose}
 
 abbrev pub op_of : Level → Lexeme → Option Operator
 op_of Sum (mark Plus) = Some Add

@@ -2,12 +2,15 @@
 use Rattle.std.specs.Prelude.{ℕ, List, Option, Ok, if◌then◌else◌}
 use Rattle.source.specs.declared.span.Span.{Span}
 use Rattle.source.specs.declared.token.Keyword.TheVariants.{Ref, Int, ProtectedBy, Null}
-use Rattle.source.specs.declared.token.Sign.TheVariants.{OpenParen, CloseParen, OpenBracket, CloseBracket, Colon, Dot, Equals, Minus}
+use Rattle.source.specs.declared.token.Sign.TheVariants.{OpenParen, CloseParen, OpenBracket, CloseBracket, Colon, Dot}
+use Rattle.source.specs.declared.token.Sign.TheVariants.{Equals, Minus}
 use Rattle.source.specs.Tokens.{Lexeme, name, word, mark}
 use Rattle.source.specs.Tokens as lexeme
 use Rattle.source.specs.declared.token.Number.{Number}
-use Rattle.syntax.specs.Trees.{Ident, ValueType, int_type, ref_type, Const, int_const, negative, null_const, member_const, Protection, Param}
-use Rattle.parser.specs.Working.Reading.{Reader, same_sign, first_at, refused, sign_at, open_at, word_at, name_at, int_at, after_each, listed_at, maybe_at, after_at, ◌>>=◌}
+use Rattle.syntax.specs.Trees.{Ident, ValueType, int_type, ref_type, Const, int_const, negative, null_const}
+use Rattle.syntax.specs.Trees.{member_const, Protection, Param}
+use Rattle.parser.specs.Working.Reading.{Reader, same_sign, first_at, refused, sign_at, open_at, word_at, name_at}
+use Rattle.parser.specs.Working.Reading.{int_at, after_each, listed_at, maybe_at, after_at, ◌>>=◌}
 
 -- ---- types and constants
 

@@ -1,10 +1,17 @@
 -- Reading from left to right, with the first fault that is met: what the functions of this crate compute of single tokens and lists.
-use Rattle.std.specs.Prelude.{◌≡◌, ℕ, zero, suc, Bool, true, false, List, [], ◌∷◌, length, Option, Some, None, Result, Ok, Err, ◌==◌, if◌then◌else◌}
+use Rattle.std.specs.Prelude.{◌≡◌, ℕ, zero, suc, Bool, true, false, List, [], ◌∷◌, length, Option, Some, None, Result}
+use Rattle.std.specs.Prelude.{Ok, Err, ◌==◌, if◌then◌else◌}
 use Rattle.source.specs.declared.span.Span.{Span}
 use Rattle.source.specs.declared.token.Keyword.{Keyword}
-use Rattle.source.specs.declared.token.Keyword.TheVariants.{Lock, Struct, Final, Ref, Int, Global, ProtectedBy, Pool, Init, Atomic, Let, Var, If, Else, While, Print, Return, Thread, Repeat, Null, Where, Call}
+use Rattle.source.specs.declared.token.Keyword.TheVariants.{Lock, Struct, Final, Ref, Int, Global, ProtectedBy, Pool}
+use Rattle.source.specs.declared.token.Keyword.TheVariants.{Init, Atomic, Let, Var, If, Else, While, Print, Return}
+use Rattle.source.specs.declared.token.Keyword.TheVariants.{Thread, Repeat, Null, Where, Call}
 use Rattle.source.specs.declared.token.Sign.{Sign}
-use Rattle.source.specs.declared.token.Sign.TheVariants.{OpenBrace, CloseBrace, OpenParen, CloseParen, OpenBracket, CloseBracket, Semicolon, Comma, Colon, Dot, Equals, DoubleEquals, NotEquals, Less, LessEquals, Greater, GreaterEquals, Plus, Minus, Star, Slash, Percent, And, Or, Not}
+use Rattle.source.specs.declared.token.Sign.TheVariants.{OpenBrace, CloseBrace, OpenParen, CloseParen, OpenBracket}
+use Rattle.source.specs.declared.token.Sign.TheVariants.{CloseBracket, Semicolon, Comma, Colon, Dot, Equals}
+use Rattle.source.specs.declared.token.Sign.TheVariants.{DoubleEquals, NotEquals, Less, LessEquals, Greater}
+use Rattle.source.specs.declared.token.Sign.TheVariants.{GreaterEquals, Plus, Minus, Star, Slash, Percent, And, Or}
+use Rattle.source.specs.declared.token.Sign.TheVariants.{Not}
 use Rattle.source.specs.Tokens.{Lexeme, name, word, mark, end, Tok}
 use Rattle.source.specs.Tokens as lexeme
 use Rattle.source.specs.declared.token.Number.{Number}

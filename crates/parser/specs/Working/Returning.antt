@@ -1,6 +1,7 @@
 -- The first misplaced or missing `return`: what the functions of this crate compute.
 use Rattle.std.specs.Prelude.{ℕ, Bool, true, false, List, [], ◌∷◌, Option, Some, None, min}
-use Rattle.syntax.specs.Trees.{ValueType, Stmt, if_then, while, return_value, Stmts, no_stmts, stmt, Otherwise, no_else, else_do, Section, Decl, atomic, helper}
+use Rattle.syntax.specs.Trees.{ValueType, Stmt, if_then, while, return_value, Stmts, no_stmts, stmt, Otherwise}
+use Rattle.syntax.specs.Trees.{no_else, else_do, Section, Decl, atomic, helper}
 
 -- the lesser place of two, where there is one
 abbrev pub earlier : Option ℕ → Option ℕ → Option ℕ

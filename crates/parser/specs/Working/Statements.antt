@@ -2,10 +2,14 @@
 use Rattle.std.specs.Prelude.{ℕ, zero, suc, Ok}
 use Rattle.source.specs.declared.span.Span.{Span}
 use Rattle.source.specs.declared.token.Keyword.TheVariants.{Let, Var, If, Else, While, Print, Return, Where, Call}
-use Rattle.source.specs.declared.token.Sign.TheVariants.{OpenBrace, CloseBrace, OpenParen, CloseParen, Semicolon, Colon, Equals, DoubleEquals}
+use Rattle.source.specs.declared.token.Sign.TheVariants.{OpenBrace, CloseBrace, OpenParen, CloseParen, Semicolon}
+use Rattle.source.specs.declared.token.Sign.TheVariants.{Colon, Equals, DoubleEquals}
 use Rattle.source.specs.Tokens.{Lexeme, name, word, mark}
-use Rattle.syntax.specs.Trees.{Ident, ValueType, Expr, Local, Owner, HelperCall, CalledLocal, Stmt, let_local, let_owned, let_call, var_local, assign, if_then, while, print, return_value, Stmts, no_stmts, stmt, Otherwise, no_else, else_do}
-use Rattle.parser.specs.Working.Reading.{◌>>=◌, Reader, many_at, first_at, refused, sign_at, open_at, word_at, name_at, next_until, listed_at, choose}
+use Rattle.syntax.specs.Trees.{Ident, ValueType, Expr, Local, Owner, HelperCall, CalledLocal, Stmt, let_local}
+use Rattle.syntax.specs.Trees.{let_owned, let_call, var_local, assign, if_then, while, print, return_value, Stmts}
+use Rattle.syntax.specs.Trees.{no_stmts, stmt, Otherwise, no_else, else_do}
+use Rattle.parser.specs.Working.Reading.{◌>>=◌, Reader, many_at, first_at, refused, sign_at, open_at, word_at}
+use Rattle.parser.specs.Working.Reading.{name_at, next_until, listed_at, choose}
 use Rattle.parser.specs.Working.Parts.{type_at}
 use Rattle.syntax.specs.Views.{ident, type_of}
 use Rattle.parser.specs.declared.local.TypedName as the_typed_name

@@ -1,5 +1,6 @@
 -- What is wanted by the ranks of paths, by their numbers. Nobody has to believe these: what is wanted, says `Wanted`.
-use Rattle.std.specs.Prelude.{◌≡◌, ◌<◌, ◌≤◌, ◌↔◌, ◌⊎◌, ◌&&◌, ℕ, true, not, nat_lt, List, map, length, slice_index, Option, Some, None}
+use Rattle.std.specs.Prelude.{◌≡◌, ◌<◌, ◌≤◌, ◌↔◌, ◌⊎◌, ◌&&◌, ℕ, true, not, nat_lt, List, map, length, slice_index}
+use Rattle.std.specs.Prelude.{Option, Some, None}
 use Rattle.std.specs.Bool.{Decides}
 use Rattle.std.proofs.Common.{get_or}
 use Rattle.locks.specs.declared.path_set.PathSet.{PathSet}

@@ -51,7 +51,8 @@ abbrev pub IsAfter : List written.LockPath → PathSet → (List ℕ → List �
 IsAfter paths scope after set = (locals : List ℕ) → AreThose paths (is_among locals) scope → AreThose paths (is_among (after locals)) set
 
 -- to some sets were added those of points with scopes that begin with this one
-abbrev pub AreScopes : List written.LockPath → PathSet → (List ℕ → List (List ℕ)) → Vec PathSet Global → Vec PathSet Global → Type 0
+abbrev pub AreScopes : List written.LockPath → PathSet → (List ℕ → List (List ℕ)) → Vec PathSet Global →
+    Vec PathSet Global → Type 0
 AreScopes paths scope scopes was sets =
     (locals : List ℕ) → AreThose paths (is_among locals) scope → (i : ℕ) →
     column i sets.items ≡ column i was.items ++ map (in_scope paths i) (scopes locals)

@@ -1,5 +1,6 @@
 -- What the parts of a reading tell each other. It mirrors the code: nobody has to believe it.
-use Rattle.std.specs.Prelude.{◌≡◌, ◌≤◌, ◌<◌, ◌↔◌, ℕ, Bool, true, false, IsTrue, ◌&&◌, nat_le, List, [], ◌∷◌, ◌++◌, length, drop, slice_get, codes, Option, Some, None, ⊤}
+use Rattle.std.specs.Prelude.{◌≡◌, ◌≤◌, ◌<◌, ◌↔◌, ℕ, Bool, true, false, IsTrue, ◌&&◌, nat_le, List, [], ◌∷◌, ◌++◌}
+use Rattle.std.specs.Prelude.{length, drop, slice_get, codes, Option, Some, None, ⊤}
 use Rattle.std.specs.Option.{option_map_or}
 use Rattle.core_lang.specs.declared.typed.Call.{Call}
 use Rattle.core_lang.specs.declared.typed.Thread.{Thread}
@@ -21,7 +22,8 @@ use Rattle.replay.specs.declared.progress.Stage.TheVariants.{Calls, Cells, Ended
 use Rattle.replay.specs.declared.progress.Progress.{Progress}
 use Rattle.replay.specs.declared.progress.Finding.{Finding}
 use Rattle.replay.specs.declared.progress.Finding.TheVariants.{Came, Other, EndsOtherwise, Beyond}
-use Rattle.replay.specs.Readers.{Reader, Comes, IsUnsettled, IsNextCall, MayBegin, calls_by, next_call, script_of, IsAfter, print_lines, cell_lines}
+use Rattle.replay.specs.Readers.{Reader, Comes, IsUnsettled, IsNextCall, MayBegin, calls_by, next_call, script_of}
+use Rattle.replay.specs.Readers.{IsAfter, print_lines, cell_lines}
 use Rattle.replay.specs.Verdicts.{IsOther}
 use Rattle.replay.specs.declared.wanted.Wanted.{Wanted}
 use Rattle.replay.specs.Wanted.{MayCome, NamesNone, KeepsCall, IsWanted}
@@ -132,7 +134,8 @@ pub record IsOnlyCall (format : Format) (program : Typed) (at : Progress) (text 
   pub counted : called_at at.seats.items this.thread ≡ this.step
   pub seated : this.thread < length at.seats.items
   pub few : this.step < 100000
-  pub scripted : (reader : Reader) → IsAt program at reader → next_call program reader.order this.thread ≡ Some (scheduled_called this)
+  pub scripted : (reader : Reader) → IsAt program at reader →
+      next_call program reader.order this.thread ≡ Some (scheduled_called this)
   pub begins : (reader : Reader) → IsAt program at reader → MayBegin format reader.order this.thread this.begun
   pub fits : CanCall program this.section this.arguments.now
   pub only : (reader : Reader) (call : Scheduled) (begun : ℕ) (end : List ℕ) → IsAt program at reader →

@@ -1,12 +1,16 @@
 -- What holds of names, structs, scopes and `init`s. Nobody has to believe these facts: they are proved here, for proofs of this crate
 -- and of the crates above.
 use Rattle.std.specs.Prelude.{slice_get, ◌==◌, ◌&&◌, if◌then◌else◌}
-use Rattle.std.proofs.Common.{◌≡◌, ℕ, zero, suc, ◌+◌, List, [], ◌∷◌, Option, Some, None, Bool, true, false, refl, sym, ap, ◌∙◌, arith}
+use Rattle.std.proofs.Common.{◌≡◌, ℕ, zero, suc, ◌+◌, List, [], ◌∷◌, Option, Some, None, Bool, true, false, refl, sym}
+use Rattle.std.proofs.Common.{ap, ◌∙◌, arith}
 use Rattle.std.proofs.Math.Nat.{add-zero, add-suc, suc-add}
 use Rattle.std.proofs.lemmas.Bool.{eqb-true}
 use Rattle.std.proofs.lemmas.Option.{none-some}
-use Rattle.syntax.specs.Trees.{Struct, Section, Decl, lock, struct, global, array, pool, init, atomic, helper, thread, Stmt, let_local, let_owned, let_call, var_local, assign, if_then, while, print, return_value, call, Otherwise, no_else, else_do}
-use Rattle.resolution.specs.Scopes.{◌>>=◌, place_from, place_of, count, bears, the_decl, alike, has_body, number_at, the_struct, Scope, left}
+use Rattle.syntax.specs.Trees.{Struct, Section, Decl, lock, struct, global, array, pool, init, atomic, helper, thread}
+use Rattle.syntax.specs.Trees.{Stmt, let_local, let_owned, let_call, var_local, assign, if_then, while, print}
+use Rattle.syntax.specs.Trees.{return_value, call, Otherwise, no_else, else_do}
+use Rattle.resolution.specs.Scopes.{◌>>=◌, place_from, place_of, count, bears, the_decl, alike, has_body, number_at}
+use Rattle.resolution.specs.Scopes.{the_struct, Scope, left}
 use Rattle.resolution.specs.Statements.{after, after_else, after_all}
 use Rattle.resolution.specs.Constants.{same_init_target}
 use Rattle.resolution.specs.declared.init_target.InitTarget.{InitTarget}
@@ -25,7 +29,9 @@ abbrev number_or : ℕ → Option ℕ → ℕ
 number_or n (Some i) = i
 number_or n None = n
 
-passing_if : {A : Type 0} (p : A → Bool) (x : A) (xs : List A) (n i : ℕ) (b : Bool) → p x ≡ b → (if b then Some n else place_from p (suc n) xs) ≡ Some i → (place_from p (suc n) xs ≡ Some i → Passing p xs (suc n) i) → Passing p (x ∷ xs) n i
+passing_if : {A : Type 0} (p : A → Bool) (x : A) (xs : List A) (n i : ℕ) (b : Bool) → p x ≡ b →
+    (if b then Some n else place_from p (suc n) xs) ≡ Some i →
+    (place_from p (suc n) xs ≡ Some i → Passing p xs (suc n) i) → Passing p (x ∷ xs) n i
 passing_if p x xs n i true is e rest = record { by = 0; place = sym (ap (number_or n) e) ∙ sym (add-zero n); item = x; here = refl; passed = is }
 passing_if p x xs n i false is e rest =
     let r = rest e in
@@ -43,7 +49,8 @@ abbrev item_in : {A : Type 0} → A → Option (ℕ × A) → A
 item_in x (Some f) = f.1
 item_in x None = x
 
-found_at : {A : Type 0} (get : ℕ → Option A) (k i : ℕ) (x : A) (o : Option A) → get k ≡ o → ◌>>=◌ {B = ℕ × A} o (λ y. Some (k, y)) ≡ Some (i, x) → get i ≡ Some x
+found_at : {A : Type 0} (get : ℕ → Option A) (k i : ℕ) (x : A) (o : Option A) → get k ≡ o →
+    ◌>>=◌ {B = ℕ × A} o (λ y. Some (k, y)) ≡ Some (i, x) → get i ≡ Some x
 found_at {A = A} get k i x None is e = absurd (none-some (i, x) e)
 found_at {A = A} get k i x (Some y) is e =
     let same : ◌≡◌ {A = Option (ℕ × A)} (Some (k, y)) (Some (i, x)) = e in
@@ -51,12 +58,14 @@ found_at {A = A} get k i x (Some y) is e =
     let item : y ≡ x = ap (item_in x) same in
     sym (ap get place) ∙ is ∙ ap Some item
 
-named_at : {A : Type 0} (get : ℕ → Option A) (i : ℕ) (x : A) (o : Option ℕ) → ◌>>=◌ {B = ℕ × A} o (λ k. ◌>>=◌ {B = ℕ × A} (get k) (λ y. Some (k, y))) ≡ Some (i, x) → get i ≡ Some x
+named_at : {A : Type 0} (get : ℕ → Option A) (i : ℕ) (x : A) (o : Option ℕ) →
+    ◌>>=◌ {B = ℕ × A} o (λ k. ◌>>=◌ {B = ℕ × A} (get k) (λ y. Some (k, y))) ≡ Some (i, x) → get i ≡ Some x
 named_at {A = A} get i x None e = absurd (none-some (i, x) e)
 named_at {A = A} get i x (Some k) e = found_at get k i x (get k) refl e
 
 -- a declaration that is found by a name stands where it is found
-pub decl_at : (decls : List Decl) (q : List ℕ) (i : ℕ) (d : Decl) → the_decl decls q ≡ Some (i, d) → slice_get decls i ≡ Some d
+pub decl_at : (decls : List Decl) (q : List ℕ) (i : ℕ) (d : Decl) → the_decl decls q ≡ Some (i, d) →
+    slice_get decls i ≡ Some d
 decl_at decls q i d e = named_at (slice_get decls) i d (place_of bears decls q) e
 
 -- ---- structs
@@ -66,7 +75,8 @@ as_struct (Some (struct s)) = Some s
 as_struct _ = None
 
 -- a struct is found by its number
-pub struct_at : (decls : List Decl) (n : ℕ) (s : Struct) → slice_get decls n ≡ Some (struct s) → the_struct decls (number_at decls n (struct s)) ≡ Some s
+pub struct_at : (decls : List Decl) (n : ℕ) (s : Struct) → slice_get decls n ≡ Some (struct s) →
+    the_struct decls (number_at decls n (struct s)) ≡ Some s
 struct_at [] n s e = absurd (none-some (struct s) e)
 struct_at (struct r ∷ ds) zero s e = ap as_struct e
 struct_at (lock x ∷ ds) zero s e = absurd (none-some s (ap as_struct e))
@@ -90,7 +100,8 @@ struct_at (thread t ∷ ds) (suc n) s e = struct_at ds n s e
 -- ---- sections and helpers
 
 -- together they are those of the one kind and those of the other
-pub bodies_counted : (decls : List Decl) (s r : Section) → count has_body decls ≡ count (alike (atomic s)) decls + count (alike (helper r)) decls
+pub bodies_counted : (decls : List Decl) (s r : Section) →
+    count has_body decls ≡ count (alike (atomic s)) decls + count (alike (helper r)) decls
 bodies_counted [] s r = refl
 bodies_counted (lock x ∷ ds) s r = bodies_counted ds s r
 bodies_counted (struct x ∷ ds) s r = bodies_counted ds s r

@@ -1,6 +1,7 @@
 -- What a rope says, and how its code keeps that. Nobody has to believe this file: a rope is what an answer is kept in until it is
 -- written, and what is written is promised where that is done.
-use Rattle.std.specs.Prelude.{◌≡◌, ◌≤◌, ◌<◌, ℕ, ◌-◌, List, [], ◌++◌, drop, take, map, slice_get, slice_index_or, string_bytes, Vec, String}
+use Rattle.std.specs.Prelude.{◌≡◌, ◌≤◌, ◌<◌, ℕ, ◌-◌, List, [], ◌++◌, drop, take, map, slice_get, slice_index_or}
+use Rattle.std.specs.Prelude.{string_bytes, Vec, String}
 use Rattle.std.specs.Option.{option_map_or}
 use Rattle.std.specs.List.{flat_map}
 use Rattle.std.proofs.Common.{Global}

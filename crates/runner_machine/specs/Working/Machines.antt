@@ -1,5 +1,6 @@
 -- Machines of open sections, and what one instruction does to them.
-use Rattle.std.specs.Prelude.{◌≡◌, ◌<◌, ◌≤◌, ◌-◌, ◌^◌, ℕ, Bool, true, false, not, List, [], ◌∷◌, length, slice_get, slice_set, Some, None, Result}
+use Rattle.std.specs.Prelude.{◌≡◌, ◌<◌, ◌≤◌, ◌-◌, ◌^◌, ℕ, Bool, true, false, not, List, [], ◌∷◌, length, slice_get}
+use Rattle.std.specs.Prelude.{slice_set, Some, None, Result}
 use Rattle.std.specs.List.{All}
 use Rattle.core_lang.specs.declared.value.Value.{Value}
 use Rattle.core_lang.specs.declared.value.Failure.{Failure}
@@ -14,7 +15,8 @@ use Rattle.layout.specs.declared.room.Room.{Room}
 use Rattle.layout.specs.Layouts.{LayoutOf}
 use Rattle.code.specs.Alone.{starting}
 use Rattle.code.specs.declared.instr.Instr.{Instr}
-use Rattle.code.specs.Machine.{Machine, Effect, Moves, Asks, Finishes, Undefined, act, advances, jumps_if, or_trap, on_top, on_two, if_there, is_true, truth, printed}
+use Rattle.code.specs.Machine.{Machine, Effect, Moves, Asks, Finishes, Undefined, act, advances, jumps_if, or_trap}
+use Rattle.code.specs.Machine.{on_top, on_two, if_there, is_true, truth, printed}
 use Rattle.code.specs.Memory.{HeldCells, none_held, value_at, load_held, store_held}
 use Rattle.moved_cells.specs.Working.Grants.{GrantOf, IsWhole, locks_of}
 use Rattle.runner_cells.specs.Working.Held as held

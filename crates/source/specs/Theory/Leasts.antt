@@ -1,9 +1,17 @@
 -- The fault that is kept of several is one of them, and none of them goes before it. Nobody has to believe these lemmas: they are
 -- checked, and stand here for proofs of the crates above.
-use Rattle.std.proofs.Common.{◌≡◌, ℕ, ◌+◌, ◌*◌, ◌<◌, ◌≤◌, ◌==◌, ◌||◌, ◌&&◌, ◌⊎◌, nat_lt, List, [], ◌∷◌, ◌++◌, Option, Some, None, Bool, true, false, inl, inr, refl, sym, ap, ◌∙◌, subst, if◌then◌else◌, arith}
+use Rattle.std.proofs.Common.{◌≡◌, ℕ, ◌+◌, ◌*◌, ◌<◌, ◌≤◌, ◌==◌, ◌||◌, ◌&&◌, ◌⊎◌, nat_lt, List, [], ◌∷◌, ◌++◌, Option}
+use Rattle.std.proofs.Common.{Some, None, Bool, true, false, inl, inr, refl, sym, ap, ◌∙◌, subst, if◌then◌else◌}
+use Rattle.std.proofs.Common.{arith}
 use Rattle.std.proofs.lemmas.Bool.Decides.{nat_tests}
 use Rattle.source.specs.declared.fault.Code.{Code}
-use Rattle.source.specs.declared.fault.Code.TheVariants.{BadCharacter, NumberTooLarge, UnexpectedToken, NestedTooDeep, DeclaredTwice, UnknownName, WrongType, WrongArgumentCount, NotAssignable, NeitherFinalNorProtected, ProtectedByNoLock, ProtectedByPassesNonFinal, UnstableBase, LockOrderCycle, LimitExceeded, FinalWithoutOpeningValue, InitOutOfRangeOrRepeated, MisplacedReturn, LockAsValue, RecursiveHelper}
+use Rattle.source.specs.declared.fault.Code.TheVariants.{BadCharacter, NumberTooLarge, UnexpectedToken, NestedTooDeep}
+use Rattle.source.specs.declared.fault.Code.TheVariants.{DeclaredTwice, UnknownName, WrongType, WrongArgumentCount}
+use Rattle.source.specs.declared.fault.Code.TheVariants.{NotAssignable, NeitherFinalNorProtected, ProtectedByNoLock}
+use Rattle.source.specs.declared.fault.Code.TheVariants.{ProtectedByPassesNonFinal, UnstableBase, LockOrderCycle}
+use Rattle.source.specs.declared.fault.Code.TheVariants.{LimitExceeded, FinalWithoutOpeningValue}
+use Rattle.source.specs.declared.fault.Code.TheVariants.{InitOutOfRangeOrRepeated, MisplacedReturn, LockAsValue}
+use Rattle.source.specs.declared.fault.Code.TheVariants.{RecursiveHelper}
 use Rattle.source.specs.declared.mistake.Mistake.{Mistake}
 use Rattle.source.specs.Mistakes.{code_number, goes_before, lesser, least_of}
 
@@ -16,7 +24,9 @@ pub least_append : (f : Option Mistake) (a b : List Mistake) → least_of f (a +
 least_append f [] b = refl
 least_append f (g ∷ a) b = least_append (lesser f g) a b
 
-lesser_in : (b : Bool) (f g h : Mistake) (gs : List Mistake) → ((x : Mistake) → least_of (Some x) gs ≡ Some f → (f ≡ x) ⊎ IsAmong f gs) → least_of (if b then Some g else Some h) gs ≡ Some f → (f ≡ h) ⊎ IsAmong f (g ∷ gs)
+lesser_in : (b : Bool) (f g h : Mistake) (gs : List Mistake) →
+    ((x : Mistake) → least_of (Some x) gs ≡ Some f → (f ≡ x) ⊎ IsAmong f gs) →
+    least_of (if b then Some g else Some h) gs ≡ Some f → (f ≡ h) ⊎ IsAmong f (g ∷ gs)
 lesser_in true f g h gs rest e = elim (rest g e) [ inl s ↦ inr (inl s) | inr i ↦ inr (inr i) ]
 lesser_in false f g h gs rest e = elim (rest h e) [ inl s ↦ inl s | inr i ↦ inr (inr i) ]
 
@@ -28,7 +38,8 @@ pub least_in : (f : Mistake) (gs : List Mistake) → least_of None gs ≡ Some f
 least_in f [] e = cc
 least_in f (g ∷ gs) e = least_among f g gs e
 
-lesser_some : (b : Bool) (g h : Mistake) (gs : List Mistake) → ((x : Mistake) → least_of (Some x) gs ≡ None → ⊥) → least_of (if b then Some g else Some h) gs ≡ None → ⊥
+lesser_some : (b : Bool) (g h : Mistake) (gs : List Mistake) → ((x : Mistake) → least_of (Some x) gs ≡ None → ⊥) →
+    least_of (if b then Some g else Some h) gs ≡ None → ⊥
 lesser_some true g h gs rest e = rest g e
 lesser_some false g h gs rest e = rest h e
 
@@ -68,14 +79,17 @@ small RecursiveHelper = omega arith
 before_true : (a b c d : ℕ) → c < 32 → d < 32 → (nat_lt a b || (a == b) && nat_lt c d) ≡ true → a * 32 + c < b * 32 + d
 before_true a b c d lc ld e = grind (arith, nat_tests)
 
-before_false : (a b c d : ℕ) → c < 32 → d < 32 → (nat_lt a b || (a == b) && nat_lt c d) ≡ false → b * 32 + d ≤ a * 32 + c
+before_false : (a b c d : ℕ) → c < 32 → d < 32 → (nat_lt a b || (a == b) && nat_lt c d) ≡ false →
+    b * 32 + d ≤ a * 32 + c
 before_false a b c d lc ld e = grind (arith, nat_tests)
 
 not_before : (b : Bool) (f g : Mistake) → goes_before g f ≡ b → key f ≤ key g → goes_before g f ≡ false
 not_before true f g e le = let lt : key g < key f = before_true g.start f.start (code_number g.code) (code_number f.code) (small g.code) (small f.code) e in absurd (omega arith)
 not_before false f g e le = e
 
-least_step : (b : Bool) (f g h : Mistake) (gs : List Mistake) → goes_before g h ≡ b → ((x : Mistake) → least_of (Some x) gs ≡ Some f → key f ≤ key x) → least_of (if b then Some g else Some h) gs ≡ Some f → (key f ≤ key h) × (key f ≤ key g)
+least_step : (b : Bool) (f g h : Mistake) (gs : List Mistake) → goes_before g h ≡ b →
+    ((x : Mistake) → least_of (Some x) gs ≡ Some f → key f ≤ key x) →
+    least_of (if b then Some g else Some h) gs ≡ Some f → (key f ≤ key h) × (key f ≤ key g)
 least_step true f g h gs e rest is =
     let lt : key g < key h = before_true g.start h.start (code_number g.code) (code_number h.code) (small g.code) (small h.code) e in
     let le : key f ≤ key g = rest g is in
@@ -89,7 +103,9 @@ least_first : (f h : Mistake) (gs : List Mistake) → least_of (Some h) gs ≡ S
 least_first f h [] e = let same : h ≡ f = cc in let k : key h ≡ key f = ap key same in omega arith
 least_first f h (g ∷ gs) e = (least_step (goes_before g h) f g h gs refl (λ x. least_first f x gs) e).0
 
-again_if : (b : Bool) (f g h x : Mistake) (gs : List Mistake) → ((y : Mistake) → least_of (Some y) gs ≡ Some f → key f ≤ key x) → least_of (if b then Some g else Some h) gs ≡ Some f → key f ≤ key x
+again_if : (b : Bool) (f g h x : Mistake) (gs : List Mistake) →
+    ((y : Mistake) → least_of (Some y) gs ≡ Some f → key f ≤ key x) →
+    least_of (if b then Some g else Some h) gs ≡ Some f → key f ≤ key x
 again_if true f g h x gs rest e = rest g e
 again_if false f g h x gs rest e = rest h e
 
@@ -100,7 +116,8 @@ least_of_all f h x (g ∷ gs) (inl s) e =
     let k : key x ≡ key g = ap key s in omega arith
 least_of_all f h x (g ∷ gs) (inr i) e = again_if (goes_before g h) f g h x gs (λ y. least_of_all f y x gs i) e
 
-pub none_before : (f x : Mistake) (gs : List Mistake) → IsAmong x gs → least_of None gs ≡ Some f → goes_before x f ≡ false
+pub none_before : (f x : Mistake) (gs : List Mistake) → IsAmong x gs → least_of None gs ≡ Some f →
+    goes_before x f ≡ false
 none_before f x [] i e = absurd i
 none_before f x (g ∷ gs) (inl s) e =
     let le : key f ≤ key g = least_first f g gs e in

@@ -1,5 +1,7 @@
 -- What `decimal` writes is a count. Only proofs need it.
-use Rattle.std.proofs.Common.{◌≡◌, ◌≢◌, ◌∙◌, ◌<◌, ◌≤◌, ◌+◌, ◌*◌, ◌-◌, ◌/◌, ◌%◌, ◌^◌, ℕ, Bool, true, false, List, [], ◌∷◌, ◌++◌, length, take, drop, get_or, arith, sym, ap, refl, subst, inl, inr, Option, Some, length-append, append_assoc}
+use Rattle.std.proofs.Common.{◌≡◌, ◌≢◌, ◌∙◌, ◌<◌, ◌≤◌, ◌+◌, ◌*◌, ◌-◌, ◌/◌, ◌%◌, ◌^◌, ℕ, Bool, true, false, List, []}
+use Rattle.std.proofs.Common.{◌∷◌, ◌++◌, length, take, drop, get_or, arith, sym, ap, refl, subst, inl, inr, Option}
+use Rattle.std.proofs.Common.{Some, length-append, append_assoc}
 use Rattle.std.specs.Prelude.{◌==◌, ◌&&◌, ◌||◌, not, zero, suc}
 use Rattle.std.specs.List.{list_all, position_or_len, before_first, after_first}
 use Rattle.std.specs.Fmt.{decimal}
@@ -51,7 +53,8 @@ more_digits n ds h d = record {
 decimal_is : (n : ℕ) → n < 2 ^ 63 → IsDecimal n (decimal n)
 decimal_is n small = decimal_by_steps IsDecimal one_digit more_digits n (omega arith)
 
-numeral_at : (n : ℕ) (ds : List ℕ) → IsDecimal n ds → (0 < n → 48 < get_or ds 0 0) → (n ≡ 0 → length ds ≡ 1) → is_numeral ds ≡ true
+numeral_at : (n : ℕ) (ds : List ℕ) → IsDecimal n ds → (0 < n → 48 < get_or ds 0 0) → (n ≡ 0 → length ds ≡ 1) →
+    is_numeral ds ≡ true
 numeral_at n [] d lead alone = absurd (omega (arith, d.some))
 numeral_at n (first ∷ []) d lead alone = rw d.digits refl
 numeral_at n (first ∷ second ∷ rest) d lead alone = elim (cases_lt 0 n) [

@@ -8,20 +8,25 @@ use Rattle.syntax.specs.declared.tree.Level.{Level}
 use Rattle.source.specs.declared.token.Number.{Number}
 use Rattle.syntax.specs.declared.tree.Expr as the_expr
 use Rattle.syntax.specs.declared.tree.Joined as the_joined
-use Rattle.syntax.specs.declared.tree.Joined.{Chain, Row_of-Link, end_of-Link, more_of-Link, items-the_row-Link, items_hidden-the_row-Link-0}
+use Rattle.syntax.specs.declared.tree.Joined.{Chain, Row_of-Link, end_of-Link, more_of-Link, items-the_row-Link}
+use Rattle.syntax.specs.declared.tree.Joined.{items_hidden-the_row-Link-0}
 use Rattle.syntax.specs.declared.tree.Link as the_link
 use Rattle.syntax.specs.declared.tree.Stmt as the_stmt
-use Rattle.syntax.specs.declared.tree.Stmt.{While, If, Row_of-Stmt, end_of-Stmt, more_of-Stmt, items-the_row-Stmt, items_hidden-the_row-Stmt-0}
-use Rattle.syntax.specs.declared.tree.Stmt.TheBlock.{view-If-otherwise, shown-the_row-Stmt-0, items_shown-the_row-Stmt-0}
+use Rattle.syntax.specs.declared.tree.Stmt.{While, If, Row_of-Stmt, end_of-Stmt, more_of-Stmt, items-the_row-Stmt}
+use Rattle.syntax.specs.declared.tree.Stmt.{items_hidden-the_row-Stmt-0}
+use Rattle.syntax.specs.declared.tree.Stmt.TheBlock.{view-If-otherwise, shown-the_row-Stmt-0}
+use Rattle.syntax.specs.declared.tree.Stmt.TheBlock.{items_shown-the_row-Stmt-0}
 use Rattle.syntax.specs.declared.tree.If as the_if
 use Rattle.syntax.specs.declared.tree.If.{out-If, roll-If, out-roll-If}
 use Rattle.syntax.specs.declared.tree.While as the_while
 use Rattle.syntax.specs.declared.tree.While.{roll-While}
 use Rattle.syntax.specs.declared.tree.Block as the_block
 use Rattle.syntax.specs.declared.tree.Item as the_item
-use Rattle.syntax.specs.declared.tree.Item.{Repeat, Row_of-Item, end_of-Item, more_of-Item, items-the_row-Item, items_hidden-the_row-Item-0}
+use Rattle.syntax.specs.declared.tree.Item.{Repeat, Row_of-Item, end_of-Item, more_of-Item, items-the_row-Item}
+use Rattle.syntax.specs.declared.tree.Item.{items_hidden-the_row-Item-0}
 use Rattle.syntax.specs.Trees.{chain, link, Stmt, while, if_then, stmt, else_do, repeat, item}
-use Rattle.syntax.specs.Views.{expr_of, joined_of, links_of_row, links_of, stmt_of, if_of, otherwise_of, stmts_of_row, stmts_of, else_of, item_of, items_of_row, items_of}
+use Rattle.syntax.specs.Views.{expr_of, joined_of, links_of_row, links_of, stmt_of, if_of, otherwise_of, stmts_of_row}
+use Rattle.syntax.specs.Views.{stmts_of, else_of, item_of, items_of_row, items_of}
 
 links_of_row-items : (n : _) (row : Row_of-Link n) → links_of_row row ≡ links_of (items-the_row-Link n row)
 links_of_row-items n end_of-Link = refl
@@ -31,7 +36,8 @@ abbrev link_row : the_joined.Joined → (n : Count) × Row_of-Link n
 link_row (the_joined.Chain' _ _ _ row) = (_, row)
 link_row _ = (_, end_of-Link)
 
-pub joined_of-Chain : (k : Level) (first : the_expr.Expr) (links : Vec the_link.Link Global) → joined_of (Chain k first links) ≡ chain k (expr_of first) (links_of links.items)
+pub joined_of-Chain : (k : Level) (first : the_expr.Expr) (links : Vec the_link.Link Global) →
+    joined_of (Chain k first links) ≡ chain k (expr_of first) (links_of links.items)
 joined_of-Chain k first links =
     let row = link_row (Chain k first links) in
     ap (chain k (expr_of first)) (links_of_row-items row.0 row.1 ∙ ap links_of (items_hidden-the_row-Link-0 links))
@@ -67,7 +73,8 @@ held_other : (o : the_if.Held-If-otherwise) → otherwise_of o ≡ else_of (view
 held_other the_if.None' = refl
 held_other (the_if.Some' n row close) = ap (λ ss. else_do ss close) (stmts_of_row-shown n row)
 
-pub if_of-out : (i : the_if.If) → if_of i ≡ if_then (out-If i).start (expr_of (out-If i).condition) (stmts_of (out-If i).block.stmts.items) (out-If i).block.close (else_of (out-If i).otherwise)
+pub if_of-out : (i : the_if.If) →
+    if_of i ≡ if_then (out-If i).start (expr_of (out-If i).condition) (stmts_of (out-If i).block.stmts.items) (out-If i).block.close (else_of (out-If i).otherwise)
 unfolding out-If shown-the_row-Stmt-0 denote.Hole.Carrier.out
 if_of-out (the_if.If' start e n row close other) =
     ap (λ ss. if_then start (expr_of e) ss close (otherwise_of other)) (stmts_of_row-shown n row)
@@ -90,7 +97,8 @@ abbrev item_row : the_item.Item → (n : Count) × Row_of-Item n
 item_row (the_item.Repeat' _ _ row) = (_, row)
 item_row _ = (_, end_of-Item)
 
-pub item_of_Repeat : (n : Number) (items : Vec the_item.Item Global) → item_of (Repeat n items) ≡ repeat n (items_of items.items)
+pub item_of_Repeat : (n : Number) (items : Vec the_item.Item Global) →
+    item_of (Repeat n items) ≡ repeat n (items_of items.items)
 item_of_Repeat n items =
     let row = item_row (Repeat n items) in
     ap (repeat n) (items_of_row-items row.0 row.1 ∙ ap items_of (items_hidden-the_row-Item-0 items))

@@ -6,7 +6,14 @@ use Rattle.syntax.specs.declared.tree.Operator.{Operator}
 use Rattle.syntax.specs.declared.tree.Comparison.{Comparison}
 use Rattle.syntax.specs.declared.tree.Prefix.{Prefix}
 use Rattle.source.specs.declared.token.Number.{Number}
-use Rattle.syntax.specs.Trees.{Ident, ValueType, int_type, ref_type, Const, int_const, negative, null_const, member_const, Place, lone, element, path, Expr, int, null, place, paren, prefix, chain, compare, Links, no_links, link, Local, Owner, HelperCall, CalledLocal, Stmt, let_local, let_owned, let_call, var_local, assign, if_then, while, print, return_value, Stmts, no_stmts, stmt, Otherwise, no_else, else_do, Protection, Variable, Array, Member, lock_member, final_member, field_member, Struct, Pool, Init, Param, Section, Call, Item, call, repeat, Items, no_items, item, Thread, Decl, lock, struct, global, array, pool, init, atomic, helper, thread}
+use Rattle.syntax.specs.Trees.{Ident, ValueType, int_type, ref_type, Const, int_const, negative, null_const}
+use Rattle.syntax.specs.Trees.{member_const, Place, lone, element, path, Expr, int, null, place, paren, prefix, chain}
+use Rattle.syntax.specs.Trees.{compare, Links, no_links, link, Local, Owner, HelperCall, CalledLocal, Stmt, let_local}
+use Rattle.syntax.specs.Trees.{let_owned, let_call, var_local, assign, if_then, while, print, return_value, Stmts}
+use Rattle.syntax.specs.Trees.{no_stmts, stmt, Otherwise, no_else, else_do, Protection, Variable, Array, Member}
+use Rattle.syntax.specs.Trees.{lock_member, final_member, field_member, Struct, Pool, Init, Param, Section, Call}
+use Rattle.syntax.specs.Trees.{Item, call, repeat, Items, no_items, item, Thread, Decl, lock, struct, global, array}
+use Rattle.syntax.specs.Trees.{pool, init, atomic, helper, thread}
 use Rattle.syntax.specs.Grammar.{sign_of, prefix_sign, comparison_sign}
 
 -- ---- lists, and parts that may be left out

@@ -14,7 +14,8 @@ use Rattle.resolution.specs.Core as core
 use Rattle.resolution.specs.CoreViews.{core_expr}
 use Rattle.resolution.specs.Scopes.{Scope, meaning, helper_meant, number_at}
 use Rattle.resolution.specs.Statements.{Part, typed_values, type_given, can_take, acts_if}
-use Rattle.resolution.specs.Working.FaultLists.{no_helper, values_faults, each_value_faults, passed_values_faults, given_back_faults}
+use Rattle.resolution.specs.Working.FaultLists.{no_helper, values_faults, each_value_faults, passed_values_faults}
+use Rattle.resolution.specs.Working.FaultLists.{given_back_faults}
 
 -- the helper that a call names, and its place
 abbrev pub helper_named : Scope → HelperCall → Option (ℕ × Section)

@@ -20,7 +20,8 @@ abbrev pub section_from : List Decl → Section → Vec the_local.Local Global �
 section_from decls s locals body = section_with decls s (core_locals locals.items) (core_stmts body.stmts.items) s.result (option_map core_return body.result)
 
 -- if none of its parts is missing
-abbrev pub section_if : List Decl → Section → Option (Vec the_local.Local Global) → Option the_body.Body → Option core.Section
+abbrev pub section_if : List Decl → Section → Option (Vec the_local.Local Global) → Option the_body.Body →
+    Option core.Section
 section_if decls s locals body = section_of decls s (locals_of locals) (option_map body_of body)
 
 -- the faults of its parameters and of its statements, from the scope ahead of the parameters

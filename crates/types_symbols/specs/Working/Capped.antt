@@ -3,7 +3,8 @@ use Rattle.std.specs.Prelude.{ℕ, ◌≤◌, ◌+◌, nat_le, min, List, [], �
 use Rattle.source.specs.declared.fault.Code.TheVariants.{LimitExceeded}
 use Rattle.syntax.specs.Trees.{Decl, lock, struct, global, array, pool, init, atomic, helper, thread}
 use Rattle.source.specs.declared.mistake.Mistake.{Mistake}
-use Rattle.resolution.specs.Limits.{STRUCT_LIMIT, CLASS_LIMIT, OBJECT_LIMIT, CELL_LIMIT, SECTION_LIMIT, THREAD_LIMIT, CALL_LIMIT}
+use Rattle.resolution.specs.Limits.{STRUCT_LIMIT, CLASS_LIMIT, OBJECT_LIMIT, CELL_LIMIT, SECTION_LIMIT, THREAD_LIMIT}
+use Rattle.resolution.specs.Limits.{CALL_LIMIT}
 use Rattle.resolution.specs.Numbers.{classes_of, objects_of, cells_of, calls_of, total}
 use Rattle.resolution.specs.Working.FaultLists.{one_if, first_too_many, member_counts}
 use Rattle.types_symbols.specs.declared.totals.Totals.{Totals}

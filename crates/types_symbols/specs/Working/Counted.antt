@@ -1,6 +1,7 @@
 -- How many there are of each kind.
 use Rattle.std.specs.Prelude.{ℕ, ◌+◌, min, List, [], ◌∷◌, Bool, if◌then◌else◌}
-use Rattle.syntax.specs.Trees.{Decl, lock, struct, global, array, pool, init, atomic, helper, thread, Member, lock_member, final_member, field_member}
+use Rattle.syntax.specs.Trees.{Decl, lock, struct, global, array, pool, init, atomic, helper, thread, Member}
+use Rattle.syntax.specs.Trees.{lock_member, final_member, field_member}
 use Rattle.resolution.specs.Limits.{SECTION_LIMIT}
 use Rattle.resolution.specs.Scopes.{count, alike}
 use Rattle.types_symbols.specs.declared.declarations.Counts.{Counts}

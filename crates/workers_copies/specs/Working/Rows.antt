@@ -1,5 +1,6 @@
 -- How a seat keeps what it has seen of a row. It mirrors the code: nobody has to believe it.
-use Rattle.std.specs.Prelude.{◌≡◌, ◌+◌, ◌-◌, ◌*◌, ◌/◌, ◌%◌, ◌^◌, ℕ, List, [], ◌∷◌, ◌++◌, length, take, min, slice_get, Option, Some}
+use Rattle.std.specs.Prelude.{◌≡◌, ◌+◌, ◌-◌, ◌*◌, ◌/◌, ◌%◌, ◌^◌, ℕ, List, [], ◌∷◌, ◌++◌, length, take, min, slice_get}
+use Rattle.std.specs.Prelude.{Option, Some}
 use lib.Count.{count_leading_zeros}
 use Rattle.core_lang.specs.declared.value.Value.{Value}
 use Rattle.core_lang.specs.Typing.{lookup}

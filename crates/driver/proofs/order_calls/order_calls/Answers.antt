@@ -1,4 +1,5 @@
-use Rattle.std.proofs.Common.{◌≡◌, ℕ, ◌+◌, ◌<◌, List, [], ◌∷◌, ◌++◌, length, map, drop, drop-cons, add-one, get_or, slice_set, ap, sym, subst, refl}
+use Rattle.std.proofs.Common.{◌≡◌, ℕ, ◌+◌, ◌<◌, List, [], ◌∷◌, ◌++◌, length, map, drop, drop-cons, add-one, get_or}
+use Rattle.std.proofs.Common.{slice_set, ap, sym, subst, refl}
 use Rattle.std.proofs.lemmas.List.{map-append}
 use Rattle.driver.specs.Working.Running.{scheduled_of}
 use Rattle.driver.proofs.OrderLemmas.{IsAlong, along_further, never_stuck, step_is}

@@ -1,5 +1,6 @@
 use Rattle.std.proofs.Common.{rules}
-use Rattle.driver_words.specs.Commands.{IsCommand, program, with_check, with_explain, with_order, with_listing, with_serial, with_outcomes, with_simulate, with_trace, with_run}
+use Rattle.driver_words.specs.Commands.{IsCommand, program, with_check, with_explain, with_order, with_listing}
+use Rattle.driver_words.specs.Commands.{with_serial, with_outcomes, with_simulate, with_trace, with_run}
 use Rattle.driver_words.proofs.command.command.Goals as goal
 
 pub returns : goal.returns

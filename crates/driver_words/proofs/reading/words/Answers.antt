@@ -1,6 +1,7 @@
 use Rattle.std.proofs.Common.{◌≡◌, ◌∙◌, ap, sym, subst, map, inl, inr, List, [], Option}
 use Rattle.std.proofs.lemmas.Result.{err_from_is_err_and}
-use Rattle.clap.specs.Words.{App, HasKind, HasMatchesOf, Row, Text, fault_of, is_simple, is_simple_and_free, subcommand_of, subcommand_rows_of}
+use Rattle.clap.specs.Words.{App, HasKind, HasMatchesOf, Row, Text, fault_of, is_simple, is_simple_and_free}
+use Rattle.clap.specs.Words.{subcommand_of, subcommand_rows_of}
 use Rattle.clap.specs.declared.parser.matches.ArgMatches.{ArgMatches}
 use Rattle.clap.specs.declared.parser.matches.ArgMatches.TheViews.{out-ArgMatches}
 use Rattle.driver_words.specs.Commands.{autolock}
@@ -11,7 +12,8 @@ use Rattle.driver_words.proofs.reading.words.Goals as goal
 use Rattle.driver_words.proofs.reading.words.Goals.{in-Some+in_default-line, in_default}
 
 -- the subcommand that the words name by clap's definitions is the one that the matches have
-met_is : (app : App) (words : List Text) (m : ArgMatches) → app ≡ autolock → HasMatchesOf app words m → subcommand_rows_of m ≡ subcommand_of autolock words
+met_is : (app : App) (words : List Text) (m : ArgMatches) → app ≡ autolock → HasMatchesOf app words m →
+    subcommand_rows_of m ≡ subcommand_of autolock words
 met_is app words m app_is has =
     (has (ap is_simple app_is ∙ is_simple-autolock)).1 ∙ ap (λ (a : App). subcommand_of a words) app_is
 

@@ -1,4 +1,5 @@
-use Rattle.std.proofs.Common.{◌∙◌, ◌+◌, ◌++◌, ◌-◌, ◌≡◌, ◌∷◌, [], List, ℕ, suc, take, drop, length, map, get_or, sym, ap, subst, refl, add-one, arith, append_assoc, ◌≤◌}
+use Rattle.std.proofs.Common.{◌∙◌, ◌+◌, ◌++◌, ◌-◌, ◌≡◌, ◌∷◌, [], List, ℕ, suc, take, drop, length, map, get_or, sym}
+use Rattle.std.proofs.Common.{ap, subst, refl, add-one, arith, append_assoc, ◌≤◌}
 use Rattle.std.proofs.lemmas.List.{append-nil, drop_all, take_all, length-drop}
 use Rattle.std.proofs.lemmas.Option.{slice_get-get_or}
 use Rattle.std.proofs.Math.Seq.{drop-cons}

@@ -7,7 +7,8 @@ use Rattle.explanation_faults.specs.Working.AmountsFound.{begins}
 use Rattle.explanation_faults.proofs.AmountsPassed.{is_last, ends_there}
 use Rattle.explanation_faults.proofs.Places.{viewed_at, within_view}
 use Rattle.explanation_faults.proofs.amounts_passed.are_calls_past.Goals as goal
-use Rattle.explanation_faults.proofs.amounts_passed.are_calls_past.Goals.{then-begins_there+in_ok-ends_few_calls+else-branch, else-begins_there}
+use Rattle.explanation_faults.proofs.amounts_passed.are_calls_past.Goals.{then-begins_there+in_ok-ends_few_calls+else-branch}
+use Rattle.explanation_faults.proofs.amounts_passed.are_calls_past.Goals.{else-begins_there}
 
 pub returns-then-branch : goal.returns-then-branch
 returns-then-branch c =

@@ -8,7 +8,8 @@ use Rattle.explanation_faults.specs.Inits.{IsFirstGiver}
 use Rattle.explanation_faults.proofs.FirstInits.{no_init}
 use Rattle.explanation_faults.proofs.Places.{viewed_at, within_view}
 use Rattle.explanation_faults.proofs.first_inits.first_given.Goals as goal
-use Rattle.explanation_faults.proofs.first_inits.first_given.Goals.{in-Init+then-init-at+in_default-first_giver, in-Init+else-init-at, in_default}
+use Rattle.explanation_faults.proofs.first_inits.first_given.Goals.{in-Init+then-init-at+in_default-first_giver}
+use Rattle.explanation_faults.proofs.first_inits.first_given.Goals.{in-Init+else-init-at, in_default}
 
 pub returns-in-Some : goal.returns-in-Some
 returns-in-Some c =

@@ -9,7 +9,8 @@ use Rattle.explanation_faults.specs.Working.HelpersFound.{is_deep}
 use Rattle.explanation_faults.proofs.HelperLimits.{deep_so}
 use Rattle.explanation_faults.proofs.Places.{viewed_at}
 use Rattle.explanation_faults.proofs.helper_limits.is_deep_there.Goals as goal
-use Rattle.explanation_faults.proofs.helper_limits.is_deep_there.Goals.{else-helper-at-via-then-helper-at+else-is_deep, else-helper-at-via-else-helper-at}
+use Rattle.explanation_faults.proofs.helper_limits.is_deep_there.Goals.{else-helper-at-via-then-helper-at+else-is_deep}
+use Rattle.explanation_faults.proofs.helper_limits.is_deep_there.Goals.{else-helper-at-via-else-helper-at}
 
 pub loop-number-preserved : goal.loop-number-preserved
 loop-number-preserved c =

@@ -1,7 +1,8 @@
 use Rattle.std.proofs.Common.{refl, arith}
 use Rattle.explanation_faults.proofs.TextTrees.{limit_found, name_limit, no_limit, source_limit}
 use Rattle.explanation_faults.proofs.text_notes.text_limit.Goals as goal
-use Rattle.explanation_faults.proofs.text_notes.text_limit.Goals.{else-is_limit_at-via-then-is_limit_at+else-is_limit_at-2, else-is_limit_at-via-else-is_limit_at}
+use Rattle.explanation_faults.proofs.text_notes.text_limit.Goals.{else-is_limit_at-via-then-is_limit_at+else-is_limit_at-2}
+use Rattle.explanation_faults.proofs.text_notes.text_limit.Goals.{else-is_limit_at-via-else-is_limit_at}
 
 pub returns-then-text-gt-MOST_BYTES : goal.returns-then-text-gt-MOST_BYTES
 returns-then-text-gt-MOST_BYTES c =

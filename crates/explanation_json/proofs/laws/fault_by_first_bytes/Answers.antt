@@ -1,4 +1,5 @@
-use Rattle.std.proofs.Common.{◌≡◌, ◌∙◌, ◌<◌, ◌≤◌, ◌+◌, ℕ, suc, List, [], ◌∷◌, Option, None, map, take, drop, length, max, min, refl, sym, ap, ap₂, subst, arith, ⊎_elim}
+use Rattle.std.proofs.Common.{◌≡◌, ◌∙◌, ◌<◌, ◌≤◌, ◌+◌, ℕ, suc, List, [], ◌∷◌, Option, None, map, take, drop, length}
+use Rattle.std.proofs.Common.{max, min, refl, sym, ap, ap₂, subst, arith, ⊎_elim}
 use Rattle.std.specs.List.{prefix_len}
 use Rattle.std.specs.Prelude.{◌++◌, All, false, codes, string_bytes}
 use Rattle.std.proofs.lemmas.Bool.{cases_lt}
@@ -53,13 +54,15 @@ told_same : (t u : List ℕ) (note : Note) → note.start ≡ None → note_data
 told_same t u note none =
     ap (λ (start : Option ℕ). told_data t start note.words) none ∙ sym (ap (λ (start : Option ℕ). told_data u start note.words) none)
 
-all_same : (t u : List ℕ) (notes : List Note) → All (λ (note : Note). note.start ≡ None) notes → map (note_data t) notes ≡ map (note_data u) notes
+all_same : (t u : List ℕ) (notes : List Note) → All (λ (note : Note). note.start ≡ None) notes →
+    map (note_data t) notes ≡ map (note_data u) notes
 all_same t u [] none = refl
 all_same t u (note ∷ notes) none =
     ap₂ (λ (d : Data) (ds : List Data). d ∷ ds) (told_same t u note (none 0 note (omega arith))) (all_same t u notes (λ k d lt. none (suc k) d (omega arith)))
 
 -- the object, by where the fault begins and ends
-alike : (file t u : List ℕ) (fault : Fault) (notes : List Note) → fault.start ≡ 0 → map (note_data t) notes ≡ map (note_data u) notes →
+alike : (file t u : List ℕ) (fault : Fault) (notes : List Note) → fault.start ≡ 0 →
+    map (note_data t) notes ≡ map (note_data u) notes →
     position_data t 0 ≡ position_data u 0 → position_data t (end_of t 0) ≡ position_data u (end_of u 0) →
     fault_json file t fault notes ≡ fault_json file u fault notes
 alike file t u fault notes first said begin finish =

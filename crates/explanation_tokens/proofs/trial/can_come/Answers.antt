@@ -4,7 +4,8 @@ use Rattle.source.specs.declared.token.Token.TheVariants.{End}
 use Rattle.source.specs.Tokens.{seen, seen_token}
 use Rattle.explanation_tokens.specs.Expected.{token_at}
 use Rattle.explanation_tokens.specs.Working.Trials.{before_in}
-use Rattle.explanation_tokens.proofs.Tried.{tried_with, seen_parts, before_still, behind_still, can_if_fault, says_if_fault, comes_if_tree}
+use Rattle.explanation_tokens.proofs.Tried.{tried_with, seen_parts, before_still, behind_still, can_if_fault}
+use Rattle.explanation_tokens.proofs.Tried.{says_if_fault, comes_if_tree}
 use Rattle.explanation_tokens.proofs.trial.can_come.Goals as goal
 
 pub returns-in-Ok-clause-behind : goal.returns-in-Ok-clause-behind

@@ -1,6 +1,7 @@
 use Rattle.std.proofs.Common.{◌∙◌, ◌^◌, length, sym}
 use Rattle.std.proofs.lemmas.Option.{slice_get_within}
-use Rattle.layout.proofs.Found.{below_bound, no_object, no_pool, of_pool, no_struct, struct_missing, field_missing, field_here}
+use Rattle.layout.proofs.Found.{below_bound, no_object, no_pool, of_pool, no_struct, struct_missing, field_missing}
+use Rattle.layout.proofs.Found.{field_here}
 use Rattle.locks.specs.Theory.Written.{item_here, item_past}
 use Rattle.layout.proofs.protection.of_field.Goals as goal
 

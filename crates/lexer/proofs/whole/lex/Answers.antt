@@ -3,7 +3,8 @@ use Rattle.source.specs.declared.token.Token.TheVariants.{End}
 use Rattle.lexer.specs.Working.Reading.{seen_kind}
 use Rattle.source.specs.Texts.{too_big}
 use Rattle.lexer.proofs.Steps.{begun, skip_le, unit_shortens}
-use Rattle.lexer.proofs.Ends.{tok_of, none_left, some_left, end_seen, went_on, all_found, all_rise, all_sliced, all_only, none_refused, stop_fault, stop_only, stop_refused}
+use Rattle.lexer.proofs.Ends.{tok_of, none_left, some_left, end_seen, went_on, all_found, all_rise, all_sliced}
+use Rattle.lexer.proofs.Ends.{all_only, none_refused, stop_fault, stop_only, stop_refused}
 use Rattle.lexer.proofs.First.{less_behind, here_within, behind_within, can_stand}
 use Rattle.lexer.proofs.whole.lex.Goals as goal
 

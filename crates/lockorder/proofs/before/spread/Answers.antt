@@ -4,7 +4,8 @@ use Rattle.std.proofs.lemmas.List.Elements.{All-get_or}
 use Rattle.lockorder.specs.Working.Sections.{is_found}
 use Rattle.lockorder.proofs.Spreading.{IsTurn, turn_takes, turn_skips, pair_read}
 use Rattle.lockorder.proofs.before.spread.Goals as goal
-use Rattle.lockorder.proofs.before.spread.Goals.{else-not-found-from-via-then-not-found-from+else-leads_on, else-not-found-from-via-else-not-found-from}
+use Rattle.lockorder.proofs.before.spread.Goals.{else-not-found-from-via-then-not-found-from+else-leads_on}
+use Rattle.lockorder.proofs.before.spread.Goals.{else-not-found-from-via-else-not-found-from}
 
 pub loop-i-preserved-then-leads_on : goal.loop-i-preserved-then-leads_on
 loop-i-preserved-then-leads_on c =

@@ -8,7 +8,8 @@ use Rattle.lockorder.proofs.Blame.{no_fault}
 use Rattle.lockorder.proofs.class_order.order.Goals as goal
 use Rattle.lockorder.proofs.class_order.order.Goals.{After-drop-table-in-Some}
 
-are : (c : After-drop-table-in-Some) → AreRanks (Edge c.args.program.now) (length c.args.program.now.classes.items) c.in-Some.ranks.items
+are : (c : After-drop-table-in-Some) →
+    AreRanks (Edge c.args.program.now) (length c.args.program.now.classes.items) c.in-Some.ranks.items
 are c =
     let before = c.in_ok-table.table.before.items in
     let edges = c.in_ok-table.ensures.edges in

@@ -2,7 +2,8 @@ use Rattle.std.proofs.Common.{◌<◌, ℕ, List, length, ◌∙◌, sym, ap, su
 use Rattle.lockorder.specs.Working.Tellings.{IsToldMore, AreBetween, AreClosed, pair_at, told_at}
 use Rattle.std.specs.List.{All}
 use Rattle.std.proofs.lemmas.Option.{slice_get_within}
-use Rattle.lockorder.proofs.Bridge.{classes_within, edges_between, made_somewhere, at_makes, makes_at_points, makes_somewhere}
+use Rattle.lockorder.proofs.Bridge.{classes_within, edges_between, made_somewhere, at_makes, makes_at_points}
+use Rattle.lockorder.proofs.Bridge.{makes_somewhere}
 use Rattle.lockorder.proofs.Tells.{none_are_told, are_told_more, all_told, closed_pairs}
 use Rattle.lockorder.proofs.class_order.told.Goals as goal
 use Rattle.core_lang.specs.Theory.Items.{get_some}

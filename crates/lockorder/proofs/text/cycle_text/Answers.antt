@@ -1,4 +1,5 @@
-use Rattle.std.proofs.Common.{◌≡◌, ℕ, ◌+◌, ◌<◌, List, ◌++◌, length, drop, get_or, append_assoc, refl, sym, ap, ◌∙◌, string_bytes, String, Global}
+use Rattle.std.proofs.Common.{◌≡◌, ℕ, ◌+◌, ◌<◌, List, ◌++◌, length, drop, get_or, append_assoc, refl, sym, ap, ◌∙◌}
+use Rattle.std.proofs.Common.{string_bytes, String, Global}
 use Rattle.std.specs.Prelude.{codes}
 use Rattle.std.proofs.lemmas.List.{at_drop_more}
 use Rattle.core_lang.specs.declared.typed.Typed.{Typed}
@@ -10,7 +11,8 @@ use Rattle.lockorder.proofs.text.cycle_text.Goals as goal
 use Rattle.lockorder.proofs.text.cycle_text.Goals.{in-Some+in_ok-push_class-2, in_default}
 
 -- a class more, and its arrow
-arrow_more : (program : Typed) (edges : List Edge) (k : ℕ) (d : Edge) (was mid now arrow : List ℕ) → k < length edges → arrow ≡ codes " -> " →
+arrow_more : (program : Typed) (edges : List Edge) (k : ℕ) (d : Edge) (was mid now arrow : List ℕ) →
+    k < length edges → arrow ≡ codes " -> " →
     mid ≡ was ++ class_name program (get_or edges k d).class → now ≡ mid ++ arrow →
     now ++ arrows program (classes_of (drop (k + 1) edges)) ≡ was ++ arrows program (classes_of (drop k edges))
 arrow_more program edges k d was mid now arrow lt an_arrow named written =

@@ -6,6 +6,7 @@ use Rattle.lockpaths.proofs.program.sets_of.Given as goal
 
 abbrev pub invariant-loop-end : goal.invariant-loop-end
 invariant-loop-end l = record {
-  sets : (more : List PathSet) → AllZip IsSetOf more (cut l.start l.numbers (drop l.end-index l.ends)) → AllZip IsSetOf (l.sets.items ++ more) (cut 0 l.numbers l.ends);
+  sets : (more : List PathSet) → AllZip IsSetOf more (cut l.start l.numbers (drop l.end-index l.ends)) →
+      AllZip IsSetOf (l.sets.items ++ more) (cut 0 l.numbers l.ends);
   rising : AreRising l.start (length l.numbers) (drop l.end-index l.ends);
 }

@@ -5,5 +5,6 @@ use Rattle.lowering.proofs.program_rooms.most_by_class.Given as goal
 abbrev pub invariant-loop-lock : goal.invariant-loop-lock
 invariant-loop-lock l = record {
   long : length l.most.items ≡ length l.program.classes.items;
-  each : (class : ℕ) → slice_index l.most.items class ≡ most_among l.layout.cell_locks (take l.lock-index l.lock-items) class;
+  each : (class : ℕ) →
+      slice_index l.most.items class ≡ most_among l.layout.cell_locks (take l.lock-index l.lock-items) class;
 }

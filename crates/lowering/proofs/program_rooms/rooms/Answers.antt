@@ -1,4 +1,5 @@
-use Rattle.std.proofs.Common.{◌≡◌, ◌∙◌, ◌<◌, ◌≤◌, length, slice_index, get_or, map, Some, inl, inr, refl, sym, ap, subst, arith, ℕ}
+use Rattle.std.proofs.Common.{◌≡◌, ◌∙◌, ◌<◌, ◌≤◌, length, slice_index, get_or, map, Some, inl, inr, refl, sym, ap}
+use Rattle.std.proofs.Common.{subst, arith, ℕ}
 use Rattle.std.specs.Prelude.{slice_get}
 use Rattle.std.specs.List.{sum_by}
 use Rattle.std.proofs.lemmas.List.{length-map}
@@ -16,7 +17,8 @@ use Rattle.lowering.proofs.Most.{cells_same}
 use Rattle.lowering.proofs.program_rooms.rooms.Goals as goal
 
 -- what is known of the lock paths of the section at hand
-known : (program : Typed) (paths : Paths) (k : ℕ) (section : Section) (found : SectionPaths) → ArePaths program paths → k < length program.sections.items →
+known : (program : Typed) (paths : Paths) (k : ℕ) (section : Section) (found : SectionPaths) →
+    ArePaths program paths → k < length program.sections.items →
     section ≡ get_or program.sections.items k section → found ≡ get_or paths.sections.items k found → AreSectionPaths program section found
 known program paths k section found are lt at is =
     are.each k section found (slice_get_read program.sections.items (length program.sections.items) k section refl lt at)

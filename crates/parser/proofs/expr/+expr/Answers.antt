@@ -9,10 +9,13 @@ use Rattle.syntax.specs.declared.tree.Path as the_path
 use Rattle.syntax.specs.Theory.Rows.{joined_of-Chain}
 use Rattle.syntax.specs.Trees.{paren, Place, Ident, Expr, int, place, prefix}
 use Rattle.syntax.specs.Views.{ident, expr_of, path_of, element_of}
-use Rattle.parser.specs.Working.Expressions.{operand_at, inside_at, expr_at, place_at, unary_with, compared_with, prim_at, prim_with, prim_from, parens_at}
-use Rattle.parser.specs.Theory.Chains.{links_before, link_goes_on, link_ends, link_stops, operand_alone, operand_stops, pair_done, chain_done, links_stop, none_found}
+use Rattle.parser.specs.Working.Expressions.{operand_at, inside_at, expr_at, place_at, unary_with, compared_with}
+use Rattle.parser.specs.Working.Expressions.{prim_at, prim_with, prim_from, parens_at}
+use Rattle.parser.specs.Theory.Chains.{links_before, link_goes_on, link_ends, link_stops, operand_alone}
+use Rattle.parser.specs.Theory.Chains.{operand_stops, pair_done, chain_done, links_stop, none_found}
 use Rattle.parser.specs.Theory.ShorterStatements.{operand_shortens, one_turn_less}
-use Rattle.parser.proofs.Closed.{element_done, element_unopened, element_stops, parens_done, parens_stop, path_stops, path_done}
+use Rattle.parser.proofs.Closed.{element_done, element_unopened, element_stops, parens_done, parens_stop, path_stops}
+use Rattle.parser.proofs.Closed.{path_done}
 use Rattle.parser.specs.Theory.Ended.{ended_gives}
 use Rattle.source.specs.declared.token.Keyword.TheVariants.{Null}
 use Rattle.source.specs.declared.token.Number.{Number}

@@ -1,5 +1,6 @@
 use Rattle.std.proofs.Common.{sym}
-use Rattle.source.specs.declared.token.Sign.TheVariants.{DoubleEquals, NotEquals, Less, LessEquals, Greater, GreaterEquals}
+use Rattle.source.specs.declared.token.Sign.TheVariants.{DoubleEquals, NotEquals, Less, LessEquals, Greater}
+use Rattle.source.specs.declared.token.Sign.TheVariants.{GreaterEquals}
 use Rattle.parser.specs.Working.Expressions.{comparison_at}
 use Rattle.parser.specs.Theory.First.{mark_first}
 use Rattle.parser.proofs.expr.comparison.Goals as goal

@@ -3,7 +3,9 @@ use Rattle.std.proofs.Common.{◌≡◌, ◌∙◌, ℕ, ap, refl}
 use Rattle.std.specs.Prelude.{◌==◌}
 use Rattle.source.specs.contracts.token.Keyword.{the_type}
 use Rattle.source.specs.declared.token.Keyword.{Keyword}
-use Rattle.source.specs.declared.token.Keyword.TheVariants.{Lock, Struct, Final, Ref, Int, Global, ProtectedBy, Pool, Init, Atomic, Let, Var, If, Else, While, Print, Return, Thread, Repeat, Null, Where, Call}
+use Rattle.source.specs.declared.token.Keyword.TheVariants.{Lock, Struct, Final, Ref, Int, Global, ProtectedBy, Pool}
+use Rattle.source.specs.declared.token.Keyword.TheVariants.{Init, Atomic, Let, Var, If, Else, While, Print, Return}
+use Rattle.source.specs.declared.token.Keyword.TheVariants.{Thread, Repeat, Null, Where, Call}
 use Rattle.parser.specs.Working.Reading.{keyword_code}
 use Rattle.parser.proofs.take.is_same_word.Goals as goal
 

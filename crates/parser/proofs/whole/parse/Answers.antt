@@ -6,7 +6,8 @@ use Rattle.parser.specs.declared.stop.Stop.TheVariants.{Unexpected, TooDeep}
 use Rattle.parser.specs.Working.Declarations.{program_at}
 use Rattle.parser.specs.Working.Returning.{least_fault}
 use Rattle.parser.proofs.Programs.{start_seen}
-use Rattle.parser.proofs.Verdicts.{right_tree, right_only, no_misplaced, not_answered, is_misplaced, same_misplaced, not_read, never_misplaced, is_unexpected, is_too_deep}
+use Rattle.parser.proofs.Verdicts.{right_tree, right_only, no_misplaced, not_answered, is_misplaced, same_misplaced}
+use Rattle.parser.proofs.Verdicts.{not_read, never_misplaced, is_unexpected, is_too_deep}
 use Rattle.parser.proofs.whole.parse.Goals as goal
 
 pub returns-in-None-clause-found : goal.returns-in-None-clause-found

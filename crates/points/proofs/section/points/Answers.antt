@@ -29,7 +29,8 @@ known program paths k section found are at lt is =
     are.each k section found at (slice_get_read paths.sections.items (length paths.sections.items) k found refl (omega (arith, lt, are.sections)) is)
 
 -- there is a set for each point
-used_length : (program : Typed) (section : Section) (found : SectionPaths) (counted : PointsAreCounted) → AreSectionPaths program section found →
+used_length : (program : Typed) (section : Section) (found : SectionPaths) (counted : PointsAreCounted) →
+    AreSectionPaths program section found →
     (used : _) → used ≡ found.used.items → (parts ps : _) → skeleton_of parts ≡ skeleton section → ps ≡ parts → length used ≡ count (skeleton_of ps)
 used_length program section found counted are used same parts ps is e =
     ap length same ∙ are.used.0 ∙ sym (counted section) ∙ ap count (sym is ∙ ap skeleton_of (sym e))
@@ -62,15 +63,19 @@ invariant_of-roots c =
 -- of the roots, at each point
 module _ (program : Typed) (section : Section) (found : SectionPaths) (counted : PointsAreCounted) (are : AreSectionPaths program section found)
     (paths : List written.LockPath) (same : paths ≡ found.paths.items) where
-  bound_are : (sets : List PathSet) (ps qs : List PointRef) → ps ≡ qs → map point_at qs ≡ points section → ((i : ℕ) → column i sets ≡ map (binds paths i) (map point_at ps)) →
+  bound_are : (sets : List PathSet) (ps qs : List PointRef) → ps ≡ qs → map point_at qs ≡ points section →
+      ((i : ℕ) → column i sets ≡ map (binds paths i) (map point_at ps)) →
       AreSets program section (BindsRoot section) sets
   bound_are sets ps qs e listed columns =
       bound_sets program section counted paths (ap (map lock_path_of) same ∙ are.paths) sets (map point_at ps) (ap (map point_at) e ∙ listed) columns
 
-  scope_are : (sets : List PathSet) → ScopesAreCounted → ((i : ℕ) → column i sets ≡ map (in_scope paths i) (scopes section)) → AreSets program section (IsInScope section) sets
+  scope_are : (sets : List PathSet) → ScopesAreCounted →
+      ((i : ℕ) → column i sets ≡ map (in_scope paths i) (scopes section)) →
+      AreSets program section (IsInScope section) sets
   scope_are sets each columns = scope_sets program section counted paths (ap (map lock_path_of) same ∙ are.paths) sets each columns
 
-  classes_of : (ws : List written.LockPath) (classes : List ℕ) → ws ≡ found.paths.items → classes ≡ map (λ (w : written.LockPath). w.class) ws →
+  classes_of : (ws : List written.LockPath) (classes : List ℕ) → ws ≡ found.paths.items →
+      classes ≡ map (λ (w : written.LockPath). w.class) ws →
       classes ≡ map (λ (path : LockPath). path.class) (lock_paths program section)
   classes_of ws classes e is =
       is ∙ ap (map (λ (w : written.LockPath). w.class)) e ∙ classes_are found.paths.items ∙ ap (map (λ (path : LockPath). path.class)) are.paths

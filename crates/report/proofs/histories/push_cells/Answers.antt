@@ -1,4 +1,5 @@
-use Rattle.std.proofs.Common.{◌≡◌, ◌∙◌, ℕ, ◌≤◌, List, [], ◌∷◌, ◌++◌, length, drop, false, nat_lt, string_bytes, refl, sym, ap, append-nil, arith}
+use Rattle.std.proofs.Common.{◌≡◌, ◌∙◌, ℕ, ◌≤◌, List, [], ◌∷◌, ◌++◌, length, drop, false, nat_lt, string_bytes, refl}
+use Rattle.std.proofs.Common.{sym, ap, append-nil, arith}
 use Rattle.std.proofs.lemmas.List.{drop_all}
 use Rattle.core_lang.specs.declared.typed.Cell.{Cell}
 use Rattle.core_lang.specs.declared.typed.Typed.{Typed}
@@ -7,7 +8,8 @@ use Rattle.report.specs.History.{cell_texts}
 use Rattle.report.proofs.histories.push_cells.Goals as goal
 
 -- cells behind the last value have no line
-none_left : (program : Typed) (cells : List Cell) (values : List Value) → values ≡ [] → cell_texts program cells values ≡ []
+none_left : (program : Typed) (cells : List Cell) (values : List Value) → values ≡ [] →
+    cell_texts program cells values ≡ []
 none_left program [] values none = refl
 none_left program (c ∷ cells) values none = ap (λ (vs : List Value). cell_texts program (c ∷ cells) vs) none
 

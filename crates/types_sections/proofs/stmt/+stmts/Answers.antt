@@ -13,7 +13,9 @@ use Rattle.resolution.specs.Scopes.{left}
 use Rattle.types_expressions.specs.Working.Checkers.{scope}
 use Rattle.types_sections.specs.Working.Targets.{row_of, part_of}
 use Rattle.types_symbols.specs.Theory.Steps.{on_ok, on_ok_by}
-use Rattle.types_sections.proofs.Blocks.{let_seen, var_seen, body_joined, body_end, stmt_step, stmt_fault_step, stmt_scope_step, left_is, while_seen, while_value, while_faults, if_seen, if_value, if_faults, if_scope, otherwise_value}
+use Rattle.types_sections.proofs.Blocks.{let_seen, var_seen, body_joined, body_end, stmt_step, stmt_fault_step}
+use Rattle.types_sections.proofs.Blocks.{stmt_scope_step, left_is, while_seen, while_value, while_faults, if_seen}
+use Rattle.types_sections.proofs.Blocks.{if_value, if_faults, if_scope, otherwise_value}
 use Rattle.types_sections.proofs.stmt.+stmts.Goals as goal
 
 pub judge_body-loop-s-preserved : goal.judge_body-loop-s-preserved

@@ -7,5 +7,6 @@ abbrev pub invariant-loop-step : goal.invariant-loop-step
 invariant-loop-step g l = record {
   same : l.seat.thread ≡ l.thread;
   within : l.step ≤ l.count;
-  ran : (script : List Invocation) → script_at g.J.Naming.plan l.thread ≡ Some script → map call_in l.seat.answers ≡ take l.step script;
+  ran : (script : List Invocation) → script_at g.J.Naming.plan l.thread ≡ Some script →
+      map call_in l.seat.answers ≡ take l.step script;
 }

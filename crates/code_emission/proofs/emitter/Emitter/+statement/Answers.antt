@@ -6,7 +6,8 @@ use Rattle.core_lang.specs.declared.tree.Stmt.{Stmt}
 use Rattle.code_emission.specs.Working.CodeLists.{points_of_all}
 use Rattle.code_emission.specs.Working.Emission.{Emits, statements_code}
 use Rattle.code_emission.proofs.Steps.{block_turn}
-use Rattle.code_emission.proofs.Statements.{emits_as, open_within, open_grows, choice_emitted, loop_emitted, either_emitted, skip_within, if_is, if_else_is, while_is}
+use Rattle.code_emission.proofs.Statements.{emits_as, open_within, open_grows, choice_emitted, loop_emitted}
+use Rattle.code_emission.proofs.Statements.{either_emitted, skip_within, if_is, if_else_is, while_is}
 use Rattle.code_emission.proofs.emitter.Emitter.+statement.Goals as goal
 
 pub block-loop-statement-preserved : goal.block-loop-statement-preserved

@@ -4,7 +4,9 @@ use Rattle.core_lang_calls.specs.declared.graph.CallSite.{CallSite}
 use Rattle.core_lang_calls.specs.Working.Knowledge.{bodies}
 use Rattle.core_lang_calls.proofs.Noting.{recursion_noted, recursion_passed, one_path}
 use Rattle.core_lang_calls.proofs.judge.Known.note_recursion.Goals as goal
-use Rattle.core_lang_calls.proofs.judge.Known.note_recursion.Goals.{then-call-from, then-call-from-via-then-call-from, then-call-from-via-else-call-from+then-leads, else-call-from+else-leads}
+use Rattle.core_lang_calls.proofs.judge.Known.note_recursion.Goals.{then-call-from, then-call-from-via-then-call-from}
+use Rattle.core_lang_calls.proofs.judge.Known.note_recursion.Goals.{then-call-from-via-else-call-from+then-leads}
+use Rattle.core_lang_calls.proofs.judge.Known.note_recursion.Goals.{else-call-from+else-leads}
 
 pub loop-call-preserved : goal.loop-call-preserved
 loop-call-preserved c =

@@ -4,7 +4,8 @@ use Rattle.core_lang.specs.Expansion.{one}
 use Rattle.core_lang_expansion.specs.Working.Bodies.{bodies, at}
 use Rattle.core_lang_expansion.proofs.Rows.{if_written, if_else_written, while_written}
 use Rattle.core_lang_expansion.proofs.Steps.{wrote_one_more, block_written, body_written, call_written, result_written}
-use Rattle.core_lang_expansion.proofs.Named.{named_one_more, named_if, named_if_else, named_while, named_call, named_nothing}
+use Rattle.core_lang_expansion.proofs.Named.{named_one_more, named_if, named_if_else, named_while, named_call}
+use Rattle.core_lang_expansion.proofs.Named.{named_nothing}
 use Rattle.core_lang_expansion.proofs.Sizes.{size, sizes, size_if, size_if_else, size_while, within, call_falls}
 use Rattle.core_lang_expansion.proofs.IdleCalls.{nothing_written, nothing_more}
 use Rattle.core_lang_expansion.proofs.body.Body.+write.Goals as goal

@@ -8,7 +8,8 @@ use Rattle.driver.proofs.sink.Sink.put_text.Given as goal
 abbrev pub invariant-loop-insert : goal.invariant-loop-insert
 invariant-loop-insert g l = record {
   stopped : writing_failed l.initial.self ≡ true → writer_of l.self ≡ writer_of l.initial.self;
-  appends : writing_failed l.self ≡ false → Appends (g.W.Write.contents (writer_of l.initial.self)) (g.W.Write.contents (writer_of l.self))
+  appends : writing_failed l.self ≡ false →
+      Appends (g.W.Write.contents (writer_of l.initial.self)) (g.W.Write.contents (writer_of l.self))
       (flat_map both (take l.insert l.text.inserted));
   sticky : writing_failed l.self ≡ false → writing_failed l.initial.self ≡ false;
   failed : writing_failed l.initial.self ≡ true → writing_failed l.self ≡ true;

@@ -1,6 +1,10 @@
-use Rattle.source.specs.declared.fault.Code.TheVariants.{DeclaredTwice, UnknownName, WrongType, NeitherFinalNorProtected, ProtectedByPassesNonFinal, UnstableBase, LimitExceeded, FinalWithoutOpeningValue, InitOutOfRangeOrRepeated}
+use Rattle.source.specs.declared.fault.Code.TheVariants.{DeclaredTwice, UnknownName, WrongType}
+use Rattle.source.specs.declared.fault.Code.TheVariants.{NeitherFinalNorProtected, ProtectedByPassesNonFinal}
+use Rattle.source.specs.declared.fault.Code.TheVariants.{UnstableBase, LimitExceeded, FinalWithoutOpeningValue}
+use Rattle.source.specs.declared.fault.Code.TheVariants.{InitOutOfRangeOrRepeated}
 use Rattle.explanation_faults.specs.Working.Values.{decls_of}
-use Rattle.explanation_faults.proofs.Telling.{told_as, told_so, twice_told, type_told, lock_told, passed_told, again_told, var_told}
+use Rattle.explanation_faults.proofs.Telling.{told_as, told_so, twice_told, type_told, lock_told, passed_told}
+use Rattle.explanation_faults.proofs.Telling.{again_told, var_told}
 use Rattle.explanation_faults.proofs.tree_notes.Faulty.note.Goals as goal
 
 pub returns-in-DeclaredTwice : goal.returns-in-DeclaredTwice

@@ -12,7 +12,8 @@ use Rattle.layout.proofs.table.Layout.add.Goals.{In_ok-push}
 use Rattle.core_lang.specs.Theory.Items.{read_at}
 
 -- the size of the lock is the offset
-size_is : (c : In_ok-push) → slice_get c.self.inside.sizes.items c.number_of-number.result ≡ Some c.index-offset.result.now
+size_is : (c : In_ok-push) →
+    slice_get c.self.inside.sizes.items c.number_of-number.result ≡ Some c.index-offset.result.now
 size_is c =
     let x = c.self.inside in
     read_at x.sizes.items c.number_of-number.result c.index-offset.result.now

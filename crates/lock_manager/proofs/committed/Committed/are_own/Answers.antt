@@ -1,4 +1,5 @@
-use Rattle.std.proofs.Common.{◌≡◌, ◌≤◌, ◌<◌, ◌+◌, ℕ, Bool, List, Some, length, take, get_or, true, false, sym, ap, ◌∙◌, subst, arith, IsTrue}
+use Rattle.std.proofs.Common.{◌≡◌, ◌≤◌, ◌<◌, ◌+◌, ℕ, Bool, List, Some, length, take, get_or, true, false, sym, ap}
+use Rattle.std.proofs.Common.{◌∙◌, subst, arith, IsTrue}
 use Rattle.std.specs.Prelude.{slice_get}
 use Rattle.std.specs.List.{All, Contains}
 use Rattle.std.proofs.lemmas.Option.{slice_get_within}
@@ -20,14 +21,16 @@ module _ (inside locks held : List Lock) (same : inside ≡ locks) (writes : Lis
       (λ own. absurd (omega (arith, slice_get_within locks (get_or writes i d).0 own.lock own.lock_is, past, is, ap length same)))
 
   -- a write of a cell whose lock isn't held
-  not_held : (lock : Lock) (b : Bool) → slice_get inside (get_or writes i d).0 ≡ Some lock → (Contains held lock → b ≡ true) → b ≡ false →
+  not_held : (lock : Lock) (b : Bool) → slice_get inside (get_or writes i d).0 ≡ Some lock →
+      (Contains held lock → b ≡ true) → b ≡ false →
       (IsTrue false → All (IsOwnWrite locks held) writes) × (All (IsOwnWrite locks held) writes → IsTrue false)
   not_held lock b at held_if fails =
       let here = sym (ap (λ ls. slice_get ls (get_or writes i d).0) same) ∙ at in
       all_fails (IsOwnWrite locks held) writes i d lt
       (λ own. never_both (held_if (subst (Contains held) (one_place locks (get_or writes i d).0 own.lock lock own.lock_is here) own.is_held)) fails)
 
-  one_more : (lock : Lock) → slice_get inside (get_or writes i d).0 ≡ Some lock → Contains held lock → All (IsOwnWrite locks held) (take i writes) →
+  one_more : (lock : Lock) → slice_get inside (get_or writes i d).0 ≡ Some lock → Contains held lock →
+      All (IsOwnWrite locks held) (take i writes) →
       All (IsOwnWrite locks held) (take (i + 1) writes)
   one_more lock at is_held all =
       let here = sym (ap (λ ls. slice_get ls (get_or writes i d).0) same) ∙ at in

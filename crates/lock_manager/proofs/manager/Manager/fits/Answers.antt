@@ -7,7 +7,8 @@ use Rattle.lock_manager.specs.Working.Sessions.{SessionOf}
 use Rattle.lock_manager.specs.Working.Managers.{Managed, managed}
 use Rattle.lock_manager.specs.Working.Calls.{AreOf, Knows, IsOwnWrite}
 use Rattle.lock_manager.proofs.Rules.{listed_held, listed_grants}
-use Rattle.lock_manager.proofs.manager.Manager.fits.Goals.{then-thread-via-then-thread, then-thread-via-else-thread+then-begun}
+use Rattle.lock_manager.proofs.manager.Manager.fits.Goals.{then-thread-via-then-thread}
+use Rattle.lock_manager.proofs.manager.Manager.fits.Goals.{then-thread-via-else-thread+then-begun}
 use Rattle.core_lang.specs.declared.value.Value.{Value}
 use Rattle.code.specs.Memory.{overwritten, Agrees}
 use Rattle.moved_cells.specs.Working.Grants.{GrantOf, cells_in}

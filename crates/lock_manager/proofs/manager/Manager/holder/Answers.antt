@@ -5,7 +5,9 @@ use Rattle.locks.specs.declared.lock.Lock.{Lock}
 use Rattle.lock_manager.proofs.Rules.{held_by, held_by_none}
 use Rattle.lock_manager.proofs.manager.Manager.holder.Goals as goal
 
-by_answer : (m : Managed) (lock : Lock) (answer : Option ℕ) → IsKept m → MatchOption answer ((t : ℕ) → Holds m.slots t lock → ⊥) (λ (t : ℕ). Holds m.slots t lock) → answer ≡ holder_of m lock
+by_answer : (m : Managed) (lock : Lock) (answer : Option ℕ) → IsKept m →
+    MatchOption answer ((t : ℕ) → Holds m.slots t lock → ⊥) (λ (t : ℕ). Holds m.slots t lock) →
+    answer ≡ holder_of m lock
 by_answer m lock None k told = held_by_none m lock k told
 by_answer m lock (Some t) k told = held_by m lock t k told
 

@@ -1,11 +1,13 @@
-use Rattle.std.proofs.Common.{◌≡◌, ◌∙◌, ◌<◌, ◌≤◌, ◌++◌, ◌∷◌, [], ℕ, List, length, length-append, sym, ap, subst, arith, vec_len, vec_capacity}
+use Rattle.std.proofs.Common.{◌≡◌, ◌∙◌, ◌<◌, ◌≤◌, ◌++◌, ◌∷◌, [], ℕ, List, length, length-append, sym, ap, subst}
+use Rattle.std.proofs.Common.{arith, vec_len, vec_capacity}
 use Rattle.locks.specs.declared.lock.Lock.{Lock}
 use Rattle.lock_manager.specs.Working.Sessions.{SessionOf, TicketOf, with_lock}
 use Rattle.lock_manager.specs.Working.Ties.{HasWakingRoom}
 use Rattle.lock_manager.specs.declared.ticket.Pass.{Pass}
 use Rattle.lock_manager.proofs.ticket.Ticket.grant.Goals as goal
 
-one_more_held : (held : List Lock) (lock : Lock) (room capacity : ℕ) → length held < room → room ≤ capacity → length (held ++ lock ∷ []) ≤ capacity
+one_more_held : (held : List Lock) (lock : Lock) (room capacity : ℕ) → length held < room → room ≤ capacity →
+    length (held ++ lock ∷ []) ≤ capacity
 one_more_held held lock room capacity lt le = omega (arith, lt, le, length-append held (lock ∷ []))
 
 pub invariant_of-self : goal.invariant_of-self

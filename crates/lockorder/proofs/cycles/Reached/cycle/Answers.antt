@@ -1,5 +1,6 @@
 use Rattle.std.proofs.Common.{◌++◌, ◌∷◌, [], ap, ◌∙◌}
-use Rattle.lockorder.proofs.Reaching.{way_starts, way_goes_on, way_closes, way_within, nearest_is_some, nearest_is_nearer, none_if_not_some, on_no_cycle}
+use Rattle.lockorder.proofs.Reaching.{way_starts, way_goes_on, way_closes, way_within, nearest_is_some}
+use Rattle.lockorder.proofs.Reaching.{nearest_is_nearer, none_if_not_some, on_no_cycle}
 use Rattle.lockorder.proofs.cycles.Reached.cycle.Goals as goal
 
 pub returns-in_default : goal.returns-in_default

@@ -4,7 +4,8 @@ use Rattle.lockorder.specs.Working.Tables.{has_edge}
 use Rattle.lockorder.specs.Working.Reached.{IsNearestBelow}
 use Rattle.lockorder.proofs.Reaching.{nearest_skip, nearest_take, distance_read, distance_unread}
 use Rattle.lockorder.proofs.cycles.Reached.nearest.Goals as goal
-use Rattle.lockorder.proofs.cycles.Reached.nearest.Goals.{then-has_edge+in-Some, then-has_edge+in_default, else-has_edge}
+use Rattle.lockorder.proofs.cycles.Reached.nearest.Goals.{then-has_edge+in-Some, then-has_edge+in_default}
+use Rattle.lockorder.proofs.cycles.Reached.nearest.Goals.{else-has_edge}
 
 pub loop-next-preserved : goal.loop-next-preserved
 loop-next-preserved c =

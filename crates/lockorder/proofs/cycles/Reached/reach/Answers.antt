@@ -2,9 +2,12 @@ use Rattle.std.proofs.Common.{◌<◌, not, length, sym, ap, ◌∙◌, arith}
 use Rattle.std.proofs.lemmas.Bool.{both_ways}
 use Rattle.lockorder.specs.Working.Tables.{has_edge}
 use Rattle.lockorder.specs.declared.cycles.Reached.{Reached}
-use Rattle.lockorder.proofs.Reaching.{all_kept, reached_within, reached_room, reaching_take, reaching_skip, distance_read, distance_none, distance_some}
+use Rattle.lockorder.proofs.Reaching.{all_kept, reached_within, reached_room, reaching_take, reaching_skip}
+use Rattle.lockorder.proofs.Reaching.{distance_read, distance_none, distance_some}
 use Rattle.lockorder.proofs.cycles.Reached.reach.Goals as goal
-use Rattle.lockorder.proofs.cycles.Reached.reach.Goals.{then-has_edge+then-is_none+in_ok-push, else-has_edge, else-has_edge-via-then-has_edge+else-is_none, else-has_edge-via-else-has_edge}
+use Rattle.lockorder.proofs.cycles.Reached.reach.Goals.{then-has_edge+then-is_none+in_ok-push, else-has_edge}
+use Rattle.lockorder.proofs.cycles.Reached.reach.Goals.{else-has_edge-via-then-has_edge+else-is_none}
+use Rattle.lockorder.proofs.cycles.Reached.reach.Goals.{else-has_edge-via-else-has_edge}
 
 pub loop-before-preserved : goal.loop-before-preserved
 loop-before-preserved c =

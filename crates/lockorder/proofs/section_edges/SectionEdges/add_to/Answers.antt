@@ -10,7 +10,8 @@ use Rattle.lockorder.specs.declared.table.Table.{Table}
 use Rattle.lockorder.specs.Working.Tables.{has_edge, InSet, InTable}
 use Rattle.lockorder.specs.Working.Sections.{UsesSoFar, BindsAt, HasClass, set_at}
 use Rattle.lockorder.proofs.Added.{below_few}
-use Rattle.lockorder.proofs.InSection.{joined_by, not_joined, used_in_union, union_has, set_read, same_set, set_within, same_bits}
+use Rattle.lockorder.proofs.InSection.{joined_by, not_joined, used_in_union, union_has, set_read, same_set}
+use Rattle.lockorder.proofs.InSection.{set_within, same_bits}
 use Rattle.lockorder.proofs.section_edges.SectionEdges.add_to.Goals as goal
 use Rattle.lockorder.proofs.section_edges.SectionEdges.add_to.Goals.{then-ne, else-ne}
 
@@ -59,7 +60,8 @@ returns-clause-edges c b d =
       ]),
     )
 
-class_below : (x : Points) (limit : ℕ) → All (λ c. c < limit) x.classes.items → (set : PathSet) (c : ℕ) → HasClass x set c → c < limit
+class_below : (x : Points) (limit : ℕ) → All (λ c. c < limit) x.classes.items → (set : PathSet) (c : ℕ) →
+    HasClass x set c → c < limit
 class_below x limit all set c h =
     subst (λ n. n < limit) (get_or_from_slice_get x.classes.items h.0 c c h.2) (all h.0 c (slice_get_within x.classes.items h.0 c h.2))
 

@@ -8,5 +8,6 @@ use Rattle.lockorder.proofs.section_edges.SectionEdges.add_to.Given as goal
 abbrev pub invariant-loop-point : goal.invariant-loop-point
 invariant-loop-point l = record {
   classes : length l.table.before.items ≡ length l.initial.table.before.items;
-  edges : (c d : ℕ) → Decides (has_edge l.table.before.items c d) (InTable l.initial.table.before.items c d ⊎ Below (λ p. UsesSoFar l.self.points.now p c × BindsAt l.self.points.now p d) l.point);
+  edges : (c d : ℕ) →
+      Decides (has_edge l.table.before.items c d) (InTable l.initial.table.before.items c d ⊎ Below (λ p. UsesSoFar l.self.points.now p c × BindsAt l.self.points.now p d) l.point);
 }

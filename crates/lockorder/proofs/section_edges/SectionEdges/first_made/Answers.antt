@@ -5,7 +5,8 @@ use Rattle.std.proofs.lemmas.Option.{MatchOption-at_some}
 use Rattle.lockorder.specs.Working.Sections.{IsFirstUseFor, MakesAt}
 use Rattle.lockorder.proofs.Making.{IsFirstOrNone, making_skip, making_take, made_at, made_first, match_none}
 use Rattle.lockorder.proofs.section_edges.SectionEdges.first_made.Goals as goal
-use Rattle.lockorder.proofs.section_edges.SectionEdges.first_made.Goals.{then-share+in_ok-used+in-Some, then-share+in_ok-used+in_default, else-share}
+use Rattle.lockorder.proofs.section_edges.SectionEdges.first_made.Goals.{then-share+in_ok-used+in-Some}
+use Rattle.lockorder.proofs.section_edges.SectionEdges.first_made.Goals.{then-share+in_ok-used+in_default, else-share}
 
 pub loop-bound-preserved : goal.loop-bound-preserved
 loop-bound-preserved c =

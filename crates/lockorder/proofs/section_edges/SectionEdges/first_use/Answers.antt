@@ -6,7 +6,8 @@ use Rattle.lockorder.proofs.Added.{below_end}
 use Rattle.lockorder.proofs.Flows.{by_flow, by_pairs, pairs_within}
 use Rattle.lockorder.proofs.InSection.{none_next, set_read, set_within}
 use Rattle.lockorder.proofs.section_edges.SectionEdges.first_use.Goals as goal
-use Rattle.lockorder.proofs.section_edges.SectionEdges.first_use.Goals.{else-leads_on-via-then-leads_on+else-share, else-leads_on-via-else-leads_on}
+use Rattle.lockorder.proofs.section_edges.SectionEdges.first_use.Goals.{else-leads_on-via-then-leads_on+else-share}
+use Rattle.lockorder.proofs.section_edges.SectionEdges.first_use.Goals.{else-leads_on-via-else-leads_on}
 
 pub loop-used-preserved : goal.loop-used-preserved
 loop-used-preserved c =

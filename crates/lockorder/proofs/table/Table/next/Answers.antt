@@ -4,7 +4,8 @@ use Rattle.lockorder.specs.Working.Tables.{IsReadyIn}
 use Rattle.bit_set.specs.Working.Sets.{has_number}
 use Rattle.lockorder.proofs.InSection.{none_next}
 use Rattle.lockorder.proofs.table.Table.next.Goals as goal
-use Rattle.lockorder.proofs.table.Table.next.Goals.{else-not-contains-via-then-not-contains+else-is_behind, else-not-contains-via-else-not-contains}
+use Rattle.lockorder.proofs.table.Table.next.Goals.{else-not-contains-via-then-not-contains+else-is_behind}
+use Rattle.lockorder.proofs.table.Table.next.Goals.{else-not-contains-via-else-not-contains}
 
 pub returns-then-is_behind : goal.returns-then-is_behind
 returns-then-is_behind c = record {

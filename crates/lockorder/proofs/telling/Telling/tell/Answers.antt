@@ -6,7 +6,9 @@ use Rattle.lockorder.specs.Working.Sections.{MakesSomewhere, MakesFirstAt}
 use Rattle.lockorder.specs.Working.Tellings.{pair_at}
 use Rattle.lockorder.proofs.Tells.{tell_starts, tell_here, tell_none, tell_kept, told_read, not_told, is_told}
 use Rattle.lockorder.proofs.telling.Telling.tell.Goals as goal
-use Rattle.lockorder.proofs.telling.Telling.tell.Goals.{then-is_none+then-has_edge+in_ok-made, else-is_none, else-is_none-via-then-is_none+else-has_edge, else-is_none-via-else-is_none}
+use Rattle.lockorder.proofs.telling.Telling.tell.Goals.{then-is_none+then-has_edge+in_ok-made, else-is_none}
+use Rattle.lockorder.proofs.telling.Telling.tell.Goals.{else-is_none-via-then-is_none+else-has_edge}
+use Rattle.lockorder.proofs.telling.Telling.tell.Goals.{else-is_none-via-else-is_none}
 
 pub loop-place-init : goal.loop-place-init
 loop-place-init c = record { pairs = refl; told = tell_starts c.args.points.now c.args.section c.args.self.now.pairs.now c.args.self.now.told.items }

@@ -4,10 +4,12 @@ use Rattle.std.specs.Option.{option_map}
 use Rattle.std.proofs.lemmas.Result.{on_ok_weaker}
 use Rattle.locks.specs.LockPaths.{LockPath, global_path}
 use Rattle.lockpaths.specs.Working.Told.{met_told}
-use Rattle.lockpaths.proofs.Reading.{item_here, item_past, of_cell, cell_past, global_here, global_past, no_global, not_global}
+use Rattle.lockpaths.proofs.Reading.{item_here, item_past, of_cell, cell_past, global_here, global_past, no_global}
+use Rattle.lockpaths.proofs.Reading.{not_global}
 use Rattle.lockpaths.proofs.finder.Finder.global.Goals as goal
 use Rattle.lockpaths.specs.Working.Told.{seen}
-use Rattle.lockpaths.proofs.finder.Finder.global.Goals.{in-Some+in-Global+in-Some-get, in-Some+in-Global+in-None-get, in-Some+in-Element, in-None}
+use Rattle.lockpaths.proofs.finder.Finder.global.Goals.{in-Some+in-Global+in-Some-get, in-Some+in-Global+in-None-get}
+use Rattle.lockpaths.proofs.finder.Finder.global.Goals.{in-Some+in-Element, in-None}
 
 pub returns : goal.returns
 returns c =

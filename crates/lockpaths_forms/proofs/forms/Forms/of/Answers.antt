@@ -1,4 +1,5 @@
-use Rattle.std.proofs.Common.{◌≡◌, ◌∙◌, ℕ, ◌+◌, ◌<◌, List, [], ◌∷◌, ◌++◌, length, map, drop, get_or, Option, Some, None, refl, sym, ap, append_assoc}
+use Rattle.std.proofs.Common.{◌≡◌, ◌∙◌, ℕ, ◌+◌, ◌<◌, List, [], ◌∷◌, ◌++◌, length, map, drop, get_or, Option, Some}
+use Rattle.std.proofs.Common.{None, refl, sym, ap, append_assoc}
 use Rattle.std.specs.List.{cons_option, filter_map}
 use Rattle.std.proofs.lemmas.List.{drop_more}
 use Rattle.core_lang.specs.declared.tree.Section.{Section}
@@ -8,11 +9,13 @@ use Rattle.locks.specs.LockPaths.{Binding, binding_at}
 use Rattle.lockpaths_forms.specs.Working.Forms.{Replacement, of_binding, replacements_at}
 use Rattle.lockpaths_forms.proofs.forms.Forms.of.Goals as goal
 
-first_of : (section : Section) (o : Option Binding) (bs : List Binding) → map (of_binding section) (cons_option o []) ++ map (of_binding section) bs ≡ map (of_binding section) (cons_option o bs)
+first_of : (section : Section) (o : Option Binding) (bs : List Binding) →
+    map (of_binding section) (cons_option o []) ++ map (of_binding section) bs ≡ map (of_binding section) (cons_option o bs)
 first_of section None bs = refl
 first_of section (Some b) bs = refl
 
-one_point : {A : Type 0} (section : Section) (at : A → Point) (xs : List A) (i : ℕ) (x : A) (before after all : List Replacement) → i < length xs → x ≡ get_or xs i x →
+one_point : {A : Type 0} (section : Section) (at : A →
+    Point) (xs : List A) (i : ℕ) (x : A) (before after all : List Replacement) → i < length xs → x ≡ get_or xs i x →
     after ≡ before ++ replacements_at section (at x ∷ []) → before ++ replacements_at section (map at (drop i xs)) ≡ all →
     after ++ replacements_at section (map at (drop (i + 1) xs)) ≡ all
 one_point {A} section at xs i x before after all lt is one rest =

@@ -6,5 +6,6 @@ abbrev pub invariant-loop-number : goal.invariant-loop-number
 invariant-loop-number l = record {
   kept : IsKept l.fn.self l.self;
   is : IsState l.self l.at;
-  same : (ns : List ℕ) → reads l.self l.at (drop l.number-index l.numbers ++ ns) ≡ reads l.fn.self l.fn.state (l.fn.numbers ++ ns);
+  same : (ns : List ℕ) →
+      reads l.self l.at (drop l.number-index l.numbers ++ ns) ≡ reads l.fn.self l.fn.state (l.fn.numbers ++ ns);
 }

@@ -1,5 +1,8 @@
 use Rattle.core_lang.specs.Cells.{not_null}
-use Rattle.meaning_trees.proofs.Leads.{value_there, place_there, truth_there, with_both, stops, global_value, print_value, element_at, element_value, field_base, field_value, field_at, if_fails, if_else_fails, turns_fail, sequence_goes, sequence_ends, sequence_stops}
+use Rattle.meaning_trees.proofs.Leads.{value_there, place_there, truth_there, with_both, stops, global_value}
+use Rattle.meaning_trees.proofs.Leads.{print_value, element_at, element_value, field_base, field_value, field_at}
+use Rattle.meaning_trees.proofs.Leads.{if_fails, if_else_fails, turns_fail, sequence_goes, sequence_ends}
+use Rattle.meaning_trees.proofs.Leads.{sequence_stops}
 use Rattle.std.proofs.Common.{◌∙◌, ◌++◌, refl, sym, ap, subst, arith, length, map, drop, Vec, Global}
 use Rattle.std.specs.Prelude.{slice_get}
 use Rattle.std.proofs.lemmas.Option.{slice_get_read}

@@ -1,4 +1,5 @@
-use Rattle.std.proofs.Common.{◌≡◌, ◌∙◌, ℕ, List, reverse, ◌<◌, ◌-◌, ◌++◌, [], suc, length, get_or, slice_get, Some, ap, sym, refl, arith}
+use Rattle.std.proofs.Common.{◌≡◌, ◌∙◌, ℕ, List, reverse, ◌<◌, ◌-◌, ◌++◌, [], suc, length, get_or, slice_get, Some}
+use Rattle.std.proofs.Common.{ap, sym, refl, arith}
 use Rattle.std.proofs.lemmas.Option.{slice_get_read}
 use Rattle.outcomes.specs.Working.Trails.{orders_of}
 use Rattle.outcomes.proofs.TrailLemmas.{length-orders, first_order, order_at, found_more}

@@ -10,9 +10,11 @@ use Rattle.points.proofs.held.Held.+push.Given as goal
 
 abbrev pub invariant-push-loop-part : goal.invariant-push-loop-part
 invariant-push-loop-part l = record {
-  sets : (i : ℕ) → column i l.sets.items ++ holds (past_point l.self i) and (skeleton_of (drop l.part-index l.parts)) (vec_len l.sets) (has l.all i) ≡ column i l.initial.sets.items ++ holds (past_point l.self i) and (skeleton_of l.parts) (vec_len l.initial.sets) (has l.initial.all i);
+  sets : (i : ℕ) →
+      column i l.sets.items ++ holds (past_point l.self i) and (skeleton_of (drop l.part-index l.parts)) (vec_len l.sets) (has l.all i) ≡ column i l.initial.sets.items ++ holds (past_point l.self i) and (skeleton_of l.parts) (vec_len l.initial.sets) (has l.initial.all i);
   len : vec_len l.sets + count (skeleton_of (drop l.part-index l.parts)) ≡ vec_len l.initial.sets + count (skeleton_of l.parts);
-  set : (i : ℕ) → through (past_point l.self i) and (skeleton_of (drop l.part-index l.parts)) (vec_len l.sets) (has l.all i) ≡ through (past_point l.self i) and (skeleton_of l.parts) (vec_len l.initial.sets) (has l.initial.all i);
+  set : (i : ℕ) →
+      through (past_point l.self i) and (skeleton_of (drop l.part-index l.parts)) (vec_len l.sets) (has l.all i) ≡ through (past_point l.self i) and (skeleton_of l.parts) (vec_len l.initial.sets) (has l.initial.all i);
 }
 
 abbrev pub decreases-push : goal.decreases-push

@@ -9,7 +9,8 @@ use Rattle.points.proofs.held.Held.+through.Given as goal
 
 abbrev pub invariant-through-loop-part : goal.invariant-through-loop-part
 invariant-through-loop-part l = record {
-  set : (i : ℕ) → through (past_point l.self i) and (skeleton_of (drop l.part-index l.parts)) l.at (has l.all i) ≡ through (past_point l.self i) and (skeleton_of l.parts) l.n (has l.initial.all i);
+  set : (i : ℕ) →
+      through (past_point l.self i) and (skeleton_of (drop l.part-index l.parts)) l.at (has l.all i) ≡ through (past_point l.self i) and (skeleton_of l.parts) l.n (has l.initial.all i);
   next : l.at + count (skeleton_of (drop l.part-index l.parts)) ≡ l.n + count (skeleton_of l.parts);
 }
 

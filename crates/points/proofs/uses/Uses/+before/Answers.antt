@@ -4,7 +4,8 @@ use Rattle.flow.specs.Working.Parts.{skeleton_of, part_in_front}
 use Rattle.flow.specs.Theory.Gather.{or}
 use Rattle.flow.specs.Theory.Joined.{count_turn, count_drop, gather_turn, before_turn}
 use Rattle.points.specs.Working.Passes.{uses, column}
-use Rattle.points.proofs.Arms.{as_point, as_if, as_while, with_point, gathered_step, gathered_fork, gathered_loop, before_step, before_fork, before_loop}
+use Rattle.points.proofs.Arms.{as_point, as_if, as_while, with_point, gathered_step, gathered_fork, gathered_loop}
+use Rattle.points.proofs.Arms.{before_step, before_fork, before_loop}
 use Rattle.points.proofs.PairLists.{has_point}
 use Rattle.std.proofs.lemmas.List.{at_drop_all}
 use Rattle.flow.specs.Theory.Passes.{gather, befores}

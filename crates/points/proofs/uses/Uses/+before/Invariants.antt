@@ -9,9 +9,11 @@ use Rattle.points.proofs.uses.Uses.+before.Given as goal
 
 abbrev pub invariant-before-loop-part : goal.invariant-before-loop-part
 invariant-before-loop-part l = record {
-  sets : (i : ℕ) → column i l.sets.items ++ befores or (uses l.self i) (skeleton_of (drop l.part-index l.parts)) (vec_len l.sets) (has l.all i) ≡ column i l.initial.sets.items ++ befores or (uses l.self i) (skeleton_of l.parts) (vec_len l.initial.sets) (has l.initial.all i);
+  sets : (i : ℕ) →
+      column i l.sets.items ++ befores or (uses l.self i) (skeleton_of (drop l.part-index l.parts)) (vec_len l.sets) (has l.all i) ≡ column i l.initial.sets.items ++ befores or (uses l.self i) (skeleton_of l.parts) (vec_len l.initial.sets) (has l.initial.all i);
   len : vec_len l.sets + count (skeleton_of (drop l.part-index l.parts)) ≡ vec_len l.initial.sets + count (skeleton_of l.parts);
-  set : (i : ℕ) → gather or (uses l.self i) (skeleton_of (drop l.part-index l.parts)) (vec_len l.sets) (has l.all i) ≡ gather or (uses l.self i) (skeleton_of l.parts) (vec_len l.initial.sets) (has l.initial.all i);
+  set : (i : ℕ) →
+      gather or (uses l.self i) (skeleton_of (drop l.part-index l.parts)) (vec_len l.sets) (has l.all i) ≡ gather or (uses l.self i) (skeleton_of l.parts) (vec_len l.initial.sets) (has l.initial.all i);
 }
 
 abbrev pub decreases-before : goal.decreases-before

@@ -9,7 +9,8 @@ use Rattle.points.proofs.uses.Uses.+gather.Given as goal
 
 abbrev pub invariant-gather-loop-part : goal.invariant-gather-loop-part
 invariant-gather-loop-part l = record {
-  set : (i : ℕ) → gather or (uses l.self i) (skeleton_of (drop l.part-index l.parts)) l.at (has l.all i) ≡ gather or (uses l.self i) (skeleton_of l.parts) l.n (has l.initial.all i);
+  set : (i : ℕ) →
+      gather or (uses l.self i) (skeleton_of (drop l.part-index l.parts)) l.at (has l.all i) ≡ gather or (uses l.self i) (skeleton_of l.parts) l.n (has l.initial.all i);
   next : l.at + count (skeleton_of (drop l.part-index l.parts)) ≡ l.n + count (skeleton_of l.parts);
 }
 

@@ -4,7 +4,8 @@ use Rattle.flow.specs.Working.Parts.{skeleton_of, part_in_front}
 use Rattle.flow.specs.Theory.Gather.{or}
 use Rattle.flow.specs.Theory.Joined.{later_turn, behind_turn, start_turn, count_room}
 use Rattle.points.specs.Working.Passes.{uses, column}
-use Rattle.points.proofs.Arms.{as_point, as_if, as_while, with_point, behind_step, behind_fork, behind_loop, later_step, later_fork, later_loop_of}
+use Rattle.points.proofs.Arms.{as_point, as_if, as_while, with_point, behind_step, behind_fork, behind_loop}
+use Rattle.points.proofs.Arms.{later_step, later_fork, later_loop_of}
 use Rattle.points.proofs.PairLists.{has_point}
 use Rattle.std.specs.Prelude.{reverse}
 use Rattle.std.proofs.lemmas.List.{at_drop_all}

@@ -11,7 +11,8 @@ use Rattle.points.proofs.uses.Uses.+later.Given as goal
 abbrev pub invariant-later-loop-i : goal.invariant-later-loop-i
 invariant-later-loop-i l = record {
   within : l.i ≤ length l.parts;
-  sets : (i : ℕ) → column i l.sets.items ≡ column i l.initial.sets.items ++ reverse (laters or (uses l.self i) (skeleton_of (drop l.i l.parts)) l.at (has l.initial.all i));
+  sets : (i : ℕ) →
+      column i l.sets.items ≡ column i l.initial.sets.items ++ reverse (laters or (uses l.self i) (skeleton_of (drop l.i l.parts)) l.at (has l.initial.all i));
   start : l.at + count (skeleton_of (drop l.i l.parts)) ≡ l.end;
   set : (i : ℕ) → has l.all i ≡ behind or (uses l.self i) (skeleton_of (drop l.i l.parts)) l.at (has l.initial.all i);
 }

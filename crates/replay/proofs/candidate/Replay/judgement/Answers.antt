@@ -4,7 +4,8 @@ use Rattle.replay.specs.Verdicts.{Holds, IsDiffering}
 use Rattle.replay.specs.declared.wanted.Wanted.TheVariants.{Line}
 use Rattle.replay.specs.Working.Reading.{IsAt}
 use Rattle.replay.specs.Wanted.{IsWantedAt}
-use Rattle.replay.proofs.Replays.{read_more, read_other, read_beyond, read_same, read_short, wanted_here, wanted_short, explained}
+use Rattle.replay.proofs.Replays.{read_more, read_other, read_beyond, read_same, read_short, wanted_here}
+use Rattle.replay.proofs.Replays.{wanted_short, explained}
 use Rattle.replay.proofs.candidate.Replay.judgement.Goals as goal
 
 pub returns-in-Other-clause-holds : goal.returns-in-Other-clause-holds

@@ -1,4 +1,5 @@
-use Rattle.std.proofs.Common.{rules, arith, ◌≡◌, ◌∙◌, ◌+◌, ◌∷◌, ◌++◌, drop, sym, ap, List, ℕ, string_bytes, to_z, of_z, w64}
+use Rattle.std.proofs.Common.{rules, arith, ◌≡◌, ◌∙◌, ◌+◌, ◌∷◌, ◌++◌, drop, sym, ap, List, ℕ, string_bytes, to_z}
+use Rattle.std.proofs.Common.{of_z, w64}
 use Rattle.std.proofs.lemmas.Int.{ints, to_z-of_z}
 use Rattle.report.specs.History.{print_line}
 use Rattle.replay.specs.Readers.{print_lines}

@@ -1,4 +1,5 @@
-use Rattle.std.proofs.Common.{◌≡◌, ℕ, ◌<◌, ◌++◌, ◌∷◌, [], List, Some, map, length, get_or, slice_get, string_bytes, refl, sym, ap, ◌∙◌, arith}
+use Rattle.std.proofs.Common.{◌≡◌, ℕ, ◌<◌, ◌++◌, ◌∷◌, [], List, Some, map, length, get_or, slice_get, string_bytes}
+use Rattle.std.proofs.Common.{refl, sym, ap, ◌∙◌, arith}
 use Rattle.std.proofs.Props.{props}
 use Rattle.std.proofs.Math.Logic.{∥∥₁_elim}
 use Rattle.std.proofs.lemmas.Option.{slice_get_read}
@@ -21,7 +22,8 @@ table_has program paths i s x are lt here there =
     (slice_get_read paths.sections.items k i x (sym are.sections) lt there)).paths
 
 -- a group that was kept last
-last_is : (groups : List (List (List ℕ))) (parts : List (List ℕ)) → slice_get (groups ++ parts ∷ []) (length groups) ≡ Some parts
+last_is : (groups : List (List (List ℕ))) (parts : List (List ℕ)) →
+    slice_get (groups ++ parts ∷ []) (length groups) ≡ Some parts
 last_is [] parts = refl
 last_is (g ∷ gs) parts = last_is gs parts
 

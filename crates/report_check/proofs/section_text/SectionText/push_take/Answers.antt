@@ -13,7 +13,8 @@ step : (old mid new p q : List ℕ) → mid ≡ old ++ p → new ≡ mid ++ q �
 step old mid new p q first second = second ∙ ap (λ (m : List ℕ). m ++ q) first ∙ append_assoc old p q
 
 -- the line of a list that is not empty
-line_is : (text : List ℕ) (program : Typed) (section : Section) (start : ℕ) (list : List ℕ) → (length list == 0) ≡ false →
+line_is : (text : List ℕ) (program : Typed) (section : Section) (start : ℕ) (list : List ℕ) →
+    (length list == 0) ≡ false →
     codes "at " ++ position_text (line_of text start) (column_of text start) ++ codes " take" ++ taken_text program section list ++ codes "\n"
     ≡ take_text text program section start list
 line_is text program section start [] some = absurd (true≢false some)

@@ -1,6 +1,8 @@
 use Rattle.std.proofs.Common.{◌≡◌, ◌++◌, List, ℕ, sym, ap, ◌∙◌}
 use Rattle.std.specs.Prelude.{codes}
-use Rattle.test_files.proofs.Words.{named_simulate, named_check, named_lists, named_graph, named_listing, named_outcomes, named_tokens, named_tree, named_print, named_again, named_paths, named_points, named_order}
+use Rattle.test_files.proofs.Words.{named_simulate, named_check, named_lists, named_graph, named_listing}
+use Rattle.test_files.proofs.Words.{named_outcomes, named_tokens, named_tree, named_print, named_again, named_paths}
+use Rattle.test_files.proofs.Words.{named_points, named_order}
 use Rattle.test_files.proofs.asked.Asked.named.Goals as goal
 
 pub returns-in-check : goal.returns-in-check

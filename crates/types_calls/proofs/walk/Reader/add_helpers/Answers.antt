@@ -5,7 +5,8 @@ use Rattle.core_lang_calls.specs.Graphs.{body_of, graph_of}
 use Rattle.types_symbols.specs.{decls_of}
 use Rattle.types_calls.proofs.Adding.{helper_added, helper_left, helper_none}
 use Rattle.types_calls.proofs.walk.Reader.add_helpers.Goals as goal
-use Rattle.types_calls.proofs.walk.Reader.add_helpers.Goals.{in-Helper+then-len-lt-HELPER_LIMIT+in_ok-helper+in_ok-add_helper, in-Helper+else-len-lt-HELPER_LIMIT, in_default}
+use Rattle.types_calls.proofs.walk.Reader.add_helpers.Goals.{in-Helper+then-len-lt-HELPER_LIMIT+in_ok-helper+in_ok-add_helper}
+use Rattle.types_calls.proofs.walk.Reader.add_helpers.Goals.{in-Helper+else-len-lt-HELPER_LIMIT, in_default}
 
 pub loop-d-preserved : goal.loop-d-preserved
 loop-d-preserved c =

@@ -9,7 +9,8 @@ use Rattle.types_symbols.specs.Working.Views.{decls_of}
 use Rattle.types_symbols.proofs.declarations.Declarations.struct_of.Goals as goal
 
 -- a struct that is found by its name is found by its number
-here : (decls : List Decl) (q : List ℕ) (place : ℕ) (s : Struct) → the_decl decls q ≡ Some (place, struct s) → the_struct decls (number_at decls place (struct s)) ≡ Some s
+here : (decls : List Decl) (q : List ℕ) (place : ℕ) (s : Struct) → the_decl decls q ≡ Some (place, struct s) →
+    the_struct decls (number_at decls place (struct s)) ≡ Some s
 here decls q place s e = struct_at decls place s (decl_at decls q place (struct s) e)
 
 pub returns-in_err-structure-in-Struct : goal.returns-in_err-structure-in-Struct

@@ -7,7 +7,8 @@ use Rattle.types_symbols.specs.Theory.Steps.{noted_one}
 use Rattle.types_symbols.specs.Working.Views.{decls_of}
 use Rattle.types_symbols.proofs.table.SymbolTable.new.Goals as goal
 
-noted_four : (f g h k : Option Mistake) (a b c d : List Mistake) → g ≡ least_of f (a ++ b) → h ≡ least_of g c → k ≡ least_of h d → k ≡ least_of f (a ++ b ++ c ++ d)
+noted_four : (f g h k : Option Mistake) (a b c d : List Mistake) → g ≡ least_of f (a ++ b) → h ≡ least_of g c →
+    k ≡ least_of h d → k ≡ least_of f (a ++ b ++ c ++ d)
 noted_four f g h k a b c d hg hh hk = hk ∙ noted_one f h (a ++ b ++ c) d (hh ∙ noted_one f g (a ++ b) c hg)
 
 pub returns : goal.returns
