@@ -212,15 +212,7 @@ impl Forms {
                 result: Some(local),
                 ..
             } => self.bind(*local, None, None),
-            Action::Call { result: None, .. }
-            | Action::SetLocal { .. }
-            | Action::SetGlobal { .. }
-            | Action::SetElement { .. }
-            | Action::SetField { .. }
-            | Action::Print(_)
-            | Action::If { .. }
-            | Action::IfElse { .. }
-            | Action::While { .. } => Ok(self),
+            _ => Ok(self),
         }
     }
 

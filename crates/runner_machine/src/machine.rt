@@ -649,7 +649,6 @@ impl<'p> Machine<'p> {
 impl<'p> Machine<'p> {
     /// Does one instruction. The machine is moved where the answer says so, and else as it was; an instruction that asks for
     /// locks doesn't move it yet.
-    #[inline(always)]
     pub fn step(&mut self, shape: &Shape, instruction: Instr) -> Progress
         requires small { HasSmallCells self.old.machine.memory }
         requires fits { FitsRoom self.old.operand_room (effect_of shape.now instruction self.old) }
