@@ -21,11 +21,10 @@ use Rattle.locks.specs.declared.path.LockPath as written
 use Rattle.locks.specs.declared.path_set.PathSet.{PathSet}
 use Rattle.locks.specs.LockPaths.{LockPath, Uses, IsRootInScope, IsInScope, BindsRoot, lock_path_of, lock_paths}
 use Rattle.locks.specs.Sets.{has, AreSets}
-use Rattle.points.specs.declared.uses.Uses as walk
 use Rattle.points.specs.declared.table.Points.{Points}
 use Rattle.points.specs.Working.Points.{ArePoints}
 use Rattle.points.specs.Used.{IsUsedBefore, IsUsedLater}
-use Rattle.points.specs.Working.Passes.{column, marks, uses, AreUsedBefore, AreUsedLater}
+use Rattle.points.specs.Working.Dataflow.{column, marks, AreForwardMay, AreBackwardMay}
 use Rattle.points.specs.Working.Scoping.{is_at, is_among, test_at, test_root, in_scope, binds_at, binds}
 use Rattle.points.proofs.Sets.{marks_at, marks_past}
 
@@ -72,29 +71,29 @@ module _ (program : Typed) (section : Section) (counted : PointsAreCounted) wher
 
   -- ---- what is used
 
-  module _ (u : walk.Uses) (used : AreSets program section (Uses program section) u.used.now) where
+  module _ (gens : List PathSet) (used : AreSets program section (Uses program section) gens) where
     uses_tell : (i : ℕ) (path : LockPath) → slice_get (lock_paths program section) i ≡ Some path → (q : ℕ) →
-        Decides (uses u i q) (Uses program section q path)
-    uses_tell i path is q = tell_all (Uses program section) u.used.now used i path is (λ q x. slice_get_within (points section) q x.0 x.1) q
+        Decides (marks i gens q) (Uses program section q path)
+    uses_tell i path is q = tell_all (Uses program section) gens used i path is (λ q x. slice_get_within (points section) q x.0 x.1) q
 
     pub before_sets : (c : Skeleton) (sets : List PathSet) → c ≡ skeleton section → length sets ≡ count c →
-        AreUsedBefore u c sets →
+        AreForwardMay gens c sets →
         AreSets program section (IsUsedBefore program section) sets
     before_sets c sets same len exact =
         sets_by (IsUsedBefore program section) sets (len ∙ ap count same ∙ counted section)
         (λ p i path lt is.
         let tell = uses_tell i path is in
-        let d = subst (λ s. AreUsedBefore u s sets) same exact i p (omega (arith, lt, counted section)) in
+        let d = subst (λ s. AreForwardMay gens s sets) same exact i p (omega (arith, lt, counted section)) in
         ((λ t. let h = d.0 t in (h.0, h.1, (tell h.0).0 h.2)), (λ h. d.1 (h.0, h.1, (tell h.0).1 h.2))))
 
     pub later_sets : (c : Skeleton) (sets : List PathSet) → c ≡ skeleton section → length sets ≡ count c →
-        AreUsedLater u c sets →
+        AreBackwardMay gens c sets →
         AreSets program section (IsUsedLater program section) sets
     later_sets c sets same len exact =
         sets_by (IsUsedLater program section) sets (len ∙ ap count same ∙ counted section)
         (λ p i path lt is.
         let tell = uses_tell i path is in
-        let d = subst (λ s. AreUsedLater u s sets) same exact i p (omega (arith, lt, counted section)) in
+        let d = subst (λ s. AreBackwardMay gens s sets) same exact i p (omega (arith, lt, counted section)) in
         ((λ t. let h = d.0 t in (h.0, h.1, (tell h.0).0 h.2)), (λ h. d.1 (h.0, h.1, (tell h.0).1 h.2))))
 
   -- ---- what is bound, and what is in scope

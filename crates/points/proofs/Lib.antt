@@ -5,7 +5,7 @@ pub mod EndLists
 pub mod Scopings
 pub mod Exact
 pub mod Whole
-pub mod HeldArms
+pub mod GenOnly
 pub mod RankLists
 pub mod Taken
 pub mod WantedSets

@@ -21,7 +21,7 @@ use Rattle.locks.specs.declared.path.Root.TheVariants.{GlobalLock, Local as AtLo
 use Rattle.locks.specs.declared.path.LockPath as written
 use Rattle.locks.specs.declared.path_set.PathSet.{PathSet}
 use Rattle.locks.specs.Sets.{has}
-use Rattle.points.specs.Working.Passes.{column}
+use Rattle.points.specs.Working.Dataflow.{column}
 use Rattle.points.specs.Working.Scoping.{is_at, is_among, test_at, test_root, AreThose, in_scope, binds, IsAfter}
 use Rattle.points.specs.Working.Scoping.{AreScopes, of_block, of_inner, behind_block, behind_action}
 use Rattle.points.proofs.Sets.{column-push}

@@ -7,7 +7,7 @@ use Rattle.std.proofs.lemmas.Bool.{cases_lt, cases_eq, lt-ltb, le-ltb, eq-eqb, n
 use Rattle.std.proofs.lemmas.Option.{get_or_from_slice_get, slice_get_within}
 use Rattle.locks.specs.declared.path_set.PathSet.{PathSet}
 use Rattle.locks.specs.Sets.{has}
-use Rattle.points.specs.Working.Passes.{column, marks}
+use Rattle.points.specs.Working.Dataflow.{column, marks}
 
 -- one set more
 pub column-push : (i : ℕ) (was sets : List PathSet) (set : PathSet) → sets ≡ was ++ set ∷ [] →

@@ -17,11 +17,10 @@ use Rattle.locks.specs.LockPaths.{LockPath, Uses, BindsRoot, lock_paths}
 use Rattle.locks.specs.Working.Laws.{UsedAreListed}
 use Rattle.locks.specs.Sets.{has, AreSets}
 use Rattle.points.specs.declared.table.Points.{Points}
-use Rattle.points.specs.declared.held.Held.{Held}
 use Rattle.points.specs.Working.Points.{ArePoints}
 use Rattle.points.specs.Working.Ranks.{IsReached, IsWantedBy, AreWantedBy, set_at}
 use Rattle.points.specs.Wanted.{rank_of, IsWanted, IsSurelyHeld}
-use Rattle.points.specs.Working.HeldPasses.{AreHeldAlong, wanted_at, bound_at}
+use Rattle.points.specs.Working.Dataflow.{marks, AreForwardMust}
 use Rattle.points.proofs.Exact.{sets_by, tell_all}
 use Rattle.points.proofs.Taken.{held_decided}
 
@@ -123,15 +122,15 @@ module _ (program : Typed) (section : Section) (counted : PointsAreCounted) (lis
         (decided p i path (has (set_at sets p) i) lt is (exact p i (omega (arith, lt, count_is)) (omega (arith, as_many, slice_get_within (lock_paths program section) i path is)))),
   )
 
-  pub held_sets : (h : Held) (c : Skeleton) (sets : List PathSet) →
-      AreSets program section (IsWanted program section ranks) h.wanted.now → h.bound.now ≡ x.bound.items →
+  pub held_sets : (gens kills : List PathSet) (c : Skeleton) (sets : List PathSet) →
+      AreSets program section (IsWanted program section ranks) gens → kills ≡ x.bound.items →
       c ≡ skeleton section →
-      length sets ≡ count c → AreHeldAlong h c sets → AreSets program section (IsSurelyHeld program section ranks) sets
-  held_sets h c sets wanted bound same len exact =
-      let binds : AreSets program section (BindsRoot section) h.bound.now = subst (AreSets program section (BindsRoot section)) (sym bound) are.bound in
+      length sets ≡ count c → AreForwardMust gens kills c sets → AreSets program section (IsSurelyHeld program section ranks) sets
+  held_sets gens kills c sets wanted bound same len exact =
+      let binds : AreSets program section (BindsRoot section) kills = subst (AreSets program section (BindsRoot section)) (sym bound) are.bound in
       sets_by program section counted (IsSurelyHeld program section ranks) sets (len ∙ ap count same ∙ counted section)
       (λ p i path lt is.
-      held_decided program section ranks path (wanted_at h i) (bound_at h i)
-      (tell_all program section counted (IsWanted program section ranks) h.wanted.now wanted i path is (λ q (w : IsWanted program section ranks q path). slice_get_within (points section) q w.below.1.0 w.below.1.1))
-      (tell_all program section counted (BindsRoot section) h.bound.now binds i path is (λ q b. slice_get_within (points section) q b.2.0 b.2.1))
-      p _ (subst (λ s. AreHeldAlong h s sets) same exact i p (omega (arith, lt, counted section))))
+      held_decided program section ranks path (marks i gens) (marks i kills)
+      (tell_all program section counted (IsWanted program section ranks) gens wanted i path is (λ q (w : IsWanted program section ranks q path). slice_get_within (points section) q w.below.1.0 w.below.1.1))
+      (tell_all program section counted (BindsRoot section) kills binds i path is (λ q b. slice_get_within (points section) q b.2.0 b.2.1))
+      p _ (subst (λ s. AreForwardMust gens kills s sets) same exact i p (omega (arith, lt, counted section))))

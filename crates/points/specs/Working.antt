@@ -1,8 +1,7 @@
 -- What the code computes and values of its types, for proofs and for the crates above. Nobody has to believe these files: no promise
 -- cites them.
 pub mod Points
-pub mod Passes
+pub mod Dataflow
 pub mod Scoping
 pub mod Ranks
-pub mod HeldPasses
 pub mod Ends

@@ -12,14 +12,13 @@
 #![tactic(auto)]
 
 mod counting;
+mod dataflow;
 mod ends;
-mod held;
 mod pairs;
 mod ranking;
 mod roots;
 mod section;
 pub mod table;
-mod uses;
 mod wanted;
 
 pub use section::points;

@@ -5,7 +5,7 @@ ghost use Rattle.core_lang.specs.Scopes.{numbers_from};
 ghost use Rattle.flow.specs.Points.{scopes};
 ghost use Rattle.flow.specs.Working.PointList.{point_at};
 ghost use Rattle.locks.specs.Sets.{has};
-ghost use Rattle.points.specs.Working.Passes.{column};
+ghost use Rattle.points.specs.Working.Dataflow.{column};
 ghost use Rattle.points.specs.Working.Scoping.{AreThose, AreScopes, IsAfter, is_at, is_among, in_scope, binds, of_block, of_inner, behind_block, behind_action};
 
 use core_lang::tree::{Action, Section, Stmt};

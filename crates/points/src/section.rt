@@ -5,9 +5,9 @@ ghost use Rattle.locks.specs.declared.path.LockPath as written;
 ghost use Rattle.lockpaths.specs.Paths.{ArePaths};
 ghost use Rattle.points.specs.Working.Points.{ArePointsOf};
 
+use crate::dataflow::{backward_may, forward_may};
 use crate::roots::Roots;
 use crate::table::Points;
-use crate::uses::Uses;
 use core_lang::typed::Typed;
 use flow::points::points_of;
 use flow::skeleton::parts_of;
@@ -58,11 +58,10 @@ pub fn points(
     let roots = Roots {
         paths: &found.paths,
     };
-    let uses = Uses { used: &found.used };
     let bound = roots.bound(alloc, &points_of(alloc, declared)?)?;
     let in_scope = roots.in_scope(alloc, declared)?;
-    let used_before = uses.used_before(alloc, &parts)?;
-    let used_later = uses.used_later(alloc, &parts)?;
+    let used_before = forward_may(alloc, &parts, &found.used)?;
+    let used_later = backward_may(alloc, &parts, &found.used)?;
     let classes = classes_of(alloc, &found.paths)?;
     let used = copy_of(alloc, &found.used)?;
     Ok(Points {

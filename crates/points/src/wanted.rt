@@ -6,7 +6,7 @@ ghost use Rattle.flow.specs.Working.Parts.{skeleton_of};
 ghost use Rattle.points.specs.Working.Ranks.{AreWantedBy, ranks_by_path};
 ghost use Rattle.points.specs.Wanted.{AreWanted, AreSurelyHeld};
 
-use crate::held::Held;
+use crate::dataflow::forward_must;
 use crate::ranking::Ranking;
 use crate::table::Points;
 use locks::path_set::PathSet;
@@ -58,11 +58,7 @@ impl Points {
         flow::laws::points_are_counted();
         locks::laws::each_path_once();
         let wanted = self.wanted_by(alloc, ranks)?;
-        let held = Held {
-            wanted: &wanted,
-            bound: &self.bound,
-        };
-        let sets = held.surely_held(alloc, &self.parts)?;
+        let sets = forward_must(alloc, &self.parts, &wanted, &self.bound)?;
         Ok(sets)
     }
 

@@ -12,7 +12,7 @@ use Rattle.locks.specs.declared.path.Root.TheVariants.{GlobalLock, Local as AtLo
 use Rattle.locks.specs.declared.path.LockPath as written
 use Rattle.locks.specs.declared.path_set.PathSet.{PathSet}
 use Rattle.locks.specs.Sets.{has}
-use Rattle.points.specs.Working.Passes.{column}
+use Rattle.points.specs.Working.Dataflow.{column}
 
 abbrev pub is_at : ℕ → Root → Bool
 is_at k GlobalLock = false

@@ -1,6 +1,6 @@
 use Rattle.std.proofs.Common.{◌≡◌, ℕ, map, take}
 use Rattle.flow.specs.Working.PointList.{point_at}
-use Rattle.points.specs.Working.Passes.{column}
+use Rattle.points.specs.Working.Dataflow.{column}
 use Rattle.points.specs.Working.Scoping.{binds}
 use Rattle.points.proofs.roots.Roots.bound.Given as goal
 

@@ -17,15 +17,10 @@ returns c = λ program section are.
     let wanted =
     wanted_sets program section counted listed x ranks by_path are refl c.in_ok-wanted.wanted.len c.in_ok-wanted.wanted.items
     (c.in_ok-wanted.ensures.len ∙ ap count are.parts ∙ counted section) (sym c.in_ok-wanted.wanted.ok.0) c.in_ok-wanted.ensures.sets in
-    held_sets program section counted listed x ranks by_path are refl (record { wanted = c.deref.result; bound = c.deref-2.result }) (skeleton_of c.deref-3.result.now)
-    c.in_ok-sets.sets.items (subst (AreSets program section (IsWanted program section ranks)) (sym c.deref.ensures.value) wanted) c.deref-2.ensures.value
-    (ap skeleton_of c.deref-3.ensures.value ∙ are.parts) (sym c.in_ok-sets.sets.ok.0 ∙ c.in_ok-sets.ensures.len) c.in_ok-sets.ensures.sets
+    held_sets program section counted listed x ranks by_path are refl c.deref-2.result.now c.deref-3.result.now (skeleton_of c.deref.result.now)
+    c.in_ok-sets.sets.items (subst (AreSets program section (IsWanted program section ranks)) (sym c.deref-2.ensures.value) wanted) c.deref-3.ensures.value
+    (ap skeleton_of c.deref.ensures.value ∙ are.parts) (sym c.in_ok-sets.sets.ok.0 ∙ c.in_ok-sets.ensures.len) c.in_ok-sets.ensures.sets
 
-pub surely_held-requires-clause-wanted : goal.surely_held-requires-clause-wanted
-surely_held-requires-clause-wanted c =
-    ap length c.deref.ensures.value ∙ sym c.in_ok-wanted.wanted.ok.0 ∙ c.in_ok-wanted.ensures.len ∙ ap (λ ps. count (skeleton_of ps)) (sym c.deref-3.ensures.value)
-
-pub surely_held-requires-clause-bound : goal.surely_held-requires-clause-bound
-surely_held-requires-clause-bound c =
-    let x = c.args.self.now in
-    ap length c.deref-2.ensures.value ∙ sym x.bound.ok.0 ∙ x.of_bound ∙ ap (λ ps. count (skeleton_of ps)) (sym c.deref-3.ensures.value)
+pub forward_must-requires : goal.forward_must-requires
+forward_must-requires c =
+    ap length c.deref-2.ensures.value ∙ sym c.in_ok-wanted.wanted.ok.0 ∙ c.in_ok-wanted.ensures.len ∙ ap (λ ps. count (skeleton_of ps)) (sym c.deref.ensures.value)

@@ -1,0 +1,12 @@
+use Rattle.std.proofs.Common.{refl}
+use Rattle.flow.specs.Working.Parts.{skeleton_of}
+use Rattle.points.specs.declared.dataflow.Join.TheVariants.{Meet}
+use Rattle.points.proofs.Whole.{must_whole}
+use Rattle.points.proofs.dataflow.forward_must.Goals as goal
+
+pub returns-clause-sets : goal.returns-clause-sets
+returns-clause-sets c =
+    must_whole (record { gens = c.args.gens; kills = c.args.kills; join = Meet }) (skeleton_of c.args.parts.now)
+    c.new.result c.new.ensures c.in_ok-sets.sets c.forward.new.sets c.in_ok-sets.ensures.items refl
+    c.in_ok-sets.ensures.len
+    c.in_ok-forward.ensures.sets
