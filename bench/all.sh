@@ -10,7 +10,7 @@ here=$(cd "$(dirname "$0")" && pwd)
 top=$(dirname "$here")
 export AUTOLOCK=$top/crates/autolock/out/autolock
 [ -x "$AUTOLOCK" ] || "$top/autolock" --build || exit
-for name in lexer parser types analysis compile manager meaning workers; do
+for name in lexer parser types analysis compile manager meaning workers unseen; do
   "$here/build.sh" "$name" >/dev/null || echo "$name was not built"
 done
 failed=0

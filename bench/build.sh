@@ -4,9 +4,9 @@
 #
 #     bench/build.sh NAME
 #
-# A program bench/NAME is main.rattle and crate.txt, the line "NAME: what it stands on", and FUNCTION.answers
-# for what the search doesn't prove of one of its functions. The endings keep it out of the gate, which wants
-# every .rt file and .antt file to be part of a crate of the repository.
+# A program bench/NAME is main.rattle and crate.txt, the line "NAME: what it stands on", and FUNCTION.answers and
+# FUNCTION.invariants for what the search doesn't prove of one of its functions (TYPE.FUNCTION of a method). The
+# endings keep it out of the gate, which wants every .rt file and .antt file to be part of a crate of the repository.
 set -euo pipefail
 name=$1
 top=$(cd "$(dirname "$0")/.." && pwd)
@@ -25,15 +25,17 @@ program="bench_$name"
 mkdir -p "$work/crates/$program"
 mkdir -p "$work/crates/$program/src"
 cp "$top/bench/$name/main.rattle" "$work/crates/$program/src/main.rt"
-for answers in "$top/bench/$name"/*.answers; do
-  [ -f "$answers" ] || continue
-  to="$work/crates/$program/proofs/$(basename "$answers" .answers)"
+for given in "$top/bench/$name"/*.answers "$top/bench/$name"/*.invariants; do
+  [ -f "$given" ] || continue
+  kind=${given##*.}
+  function=$(basename "$given" ".$kind")
+  to="$work/crates/$program/proofs/${function//./\/}"
   mkdir -p "$to"
-  cp "$answers" "$to/Answers.antt"
+  cp "$given" "$to/${kind^}.antt"
   : > "$work/crates/$program/proofs/Lib.antt"
 done
 cp "$top/HANDLES" "$work/HANDLES"
-{ cat "$top/crates.txt"; sed "s/^$name:/$program:/" "$top/bench/$name/crate.txt"; } > "$work/crates.txt"
+{ cat "$top/crates.txt"; sed "s/^$name\b/$program/" "$top/bench/$name/crate.txt"; } > "$work/crates.txt"
 cd "$work/crates/$program"
 : > stdin
 rm -f "out/$program"
