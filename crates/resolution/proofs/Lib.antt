@@ -7,6 +7,7 @@ pub mod TrueDeclarations
 pub mod TrueFaults
 pub mod Parts
 pub mod HelperFaults
+pub mod AllPaths
 pub mod AllFaults
 pub mod FaultlessExpressions
 pub mod FaultlessResolvedExprs
