@@ -6,7 +6,7 @@ use Rattle.syntax.specs.Trees.{Ident, Stmt, let_local, let_owned, let_call, var_
 use Rattle.syntax.specs.Trees.{return_value, call, Stmts, no_stmts, stmt, Otherwise, no_else, else_do, Param, Section}
 use Rattle.syntax.specs.Trees.{Decl, atomic, helper}
 use Rattle.resolution.specs.declared.body_limits.BodyLimits.{BodyLimits}
-use Rattle.resolution.specs.Resolution.{ahead_of, entry}
+use Rattle.resolution.specs.Statements.{ahead_of, entry}
 use Rattle.resolution.specs.Scopes as scopes
 use Rattle.resolution.specs.Scopes.{Scope, outside, type_of, has_body, bound, entered, hidden_from, left}
 use Rattle.core_lang.specs.declared.tree.LocalKind.TheVariants.{Parameter}

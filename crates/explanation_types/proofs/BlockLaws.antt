@@ -15,7 +15,7 @@ use Rattle.core_lang.specs.declared.value.ValueType as core_type
 use Rattle.resolution.specs.declared.body_limits.BodyLimits.{BodyLimits}
 use Rattle.core_lang.specs.declared.tree.LocalKind.TheVariants.{Parameter}
 use Rattle.resolution.specs.Scopes.{Scope, outside, type_of, bound, entered, hidden_from, left}
-use Rattle.resolution.specs.Resolution.{ahead_of}
+use Rattle.resolution.specs.Statements.{ahead_of}
 use Rattle.resolution.specs.Where.{Among, here, later, in_then, in_else, in_while, HasStmt, in_body}
 use Rattle.resolution.specs.Statements.{after, after_else, after_all}
 use Rattle.resolution.specs.Theory.Facts.{after_result}

@@ -6,7 +6,7 @@ use Rattle.resolution.specs.declared.wanted.Want.{Want}
 use Rattle.resolution.specs.Limits.{section_limits, helper_limits}
 use Rattle.resolution.specs.Scopes.{Scope, outside, type_of}
 use Rattle.resolution.specs.Expressions.{want}
-use Rattle.resolution.specs.Resolution.{entry}
+use Rattle.resolution.specs.Statements.{entry}
 use Rattle.resolution.specs.Where.{Has, first, further, of_section, of_helper, HasStmt, in_body, HasConst, opening}
 use Rattle.resolution.specs.Where.{initial, argument, in_thread}
 use Rattle.explanation_types.specs.Working.Searches.{of_opening, in_decl, in_decls}

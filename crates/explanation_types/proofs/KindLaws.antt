@@ -15,9 +15,10 @@ use Rattle.syntax.specs.Views.{expr_of, joined_of, links_of_row}
 use Rattle.core_lang.specs.declared.tree.Comparison.{Comparison}
 use Rattle.resolution.specs.Core as core
 use Rattle.resolution.specs.Scopes.{Scope}
-use Rattle.resolution.specs.Expressions.{ResolvedExpr, value, truth, Tests, alike_sorts, all_hold, one_holds, chained}
-use Rattle.resolution.specs.Expressions.{ordered, equated, compared, number_resolved, test_resolved, typed}
-use Rattle.resolution.specs.Expressions.{typed_links, typed_tests}
+use Rattle.resolution.specs.Expressions.{ResolvedExpr, value, truth, alike_sorts}
+use Rattle.resolution.specs.Working.TypedExpressions.{Tests, all_hold, one_holds, chained}
+use Rattle.resolution.specs.Working.TypedExpressions.{ordered, equated, compared, number_resolved, test_resolved, typed}
+use Rattle.resolution.specs.Working.TypedExpressions.{typed_links, typed_tests}
 use Rattle.explanation_types.specs.Working.Values.{kind_if, whole_kind}
 
 abbrev IsWhole : Option ResolvedExpr → Type 0

@@ -3,7 +3,7 @@ use Rattle.std.proofs.Common.{◌≡◌, ℕ, List, [], ◌∷◌, ◌++◌, Opt
 use Rattle.core_lang.specs.declared.tree.FieldStep.{FieldStep}
 use Rattle.core_lang.specs.declared.tree.FieldStep.TheVariants.{Final, Field}
 use Rattle.resolution.specs.Scopes.{◌>>=◌}
-use Rattle.resolution.specs.Statements.{Split, behind, last_field}
+use Rattle.resolution.specs.Working.TypedStatements.{Split, behind, last_field}
 
 pub last_push : (ys : List FieldStep) (k n : ℕ) →
     last_field (ys ++ Field k n ∷ []) ≡ Some (record { base = ys; structure = k; field = n })

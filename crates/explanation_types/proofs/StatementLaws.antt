@@ -12,7 +12,8 @@ use Rattle.syntax.specs.Trees.{else_do, Param, Section}
 use Rattle.resolution.specs.declared.wanted.Want.{Want}
 use Rattle.resolution.specs.declared.wanted.Want.TheVariants.{Anything, Value}
 use Rattle.resolution.specs.Scopes.{Scope, meaning, helper_meant, left}
-use Rattle.resolution.specs.Statements.{target_of, wanted_by, after, after_all}
+use Rattle.resolution.specs.Working.TypedStatements.{target_of, wanted_by}
+use Rattle.resolution.specs.Statements.{after, after_all}
 use Rattle.resolution.specs.Constants.{want_of}
 use Rattle.resolution.specs.Where.{Has, first, further, Among, here, later, in_then, in_else, in_while, IsArgument}
 use Rattle.resolution.specs.Where.{for_parameter, for_nothing, Asks, of_let, of_owned, of_let_call, of_var, of_assign}

@@ -18,10 +18,12 @@ use Rattle.resolution.specs.declared.wanted.Sort.{Sort}
 use Rattle.resolution.specs.declared.wanted.Sort.TheVariants as sort
 use Rattle.resolution.specs.declared.wanted.Want.{Want}
 use Rattle.resolution.specs.declared.wanted.Want.TheVariants.{Anything, Condition, Value}
-use Rattle.resolution.specs.Expressions.{ResolvedExpr, value, truth, alike_sorts, fits, fits_sort, fits_type, typed}
+use Rattle.resolution.specs.Expressions.{ResolvedExpr, value, truth, alike_sorts, fits, fits_sort, fits_type}
+use Rattle.resolution.specs.Working.TypedExpressions.{typed}
 use Rattle.resolution.specs.Constants.{const_sort}
-use Rattle.resolution.specs.Faults.{AreUnlike, IsEquality, start_of, const_start}
-use Rattle.resolution.specs.Owners.{owner_field}
+use Rattle.resolution.specs.Faults.{AreUnlike, start_of, const_start}
+use Rattle.resolution.specs.Expressions.{IsEquality}
+use Rattle.resolution.specs.Working.TypedOwners.{owner_field}
 use Rattle.resolution.specs.Scopes as local
 use Rattle.resolution.specs.Scopes.{◌>>=◌, Scope, Meaning, a_decl, a_local, nothing, helper_meant, meaning, outside}
 use Rattle.resolution.specs.Scopes.{result_of, type_of}

@@ -13,12 +13,14 @@ use Rattle.resolution.specs.declared.wanted.Sort.TheVariants as sort
 use Rattle.resolution.specs.declared.wanted.Want.{Want}
 use Rattle.resolution.specs.declared.wanted.Want.TheVariants.{Anything, Condition, Value}
 use Rattle.resolution.specs.Core as core
-use Rattle.resolution.specs.Owners.{owner_field}
+use Rattle.resolution.specs.Working.TypedOwners.{owner_field}
 use Rattle.resolution.specs.Scopes as local
 use Rattle.resolution.specs.Scopes.{Scope, a_local, helper_meant, meaning, result_of, the_struct, type_of}
-use Rattle.resolution.specs.Expressions.{ResolvedExpr, value, truth, fits, fits_sort, fits_type, typed}
+use Rattle.resolution.specs.Expressions.{ResolvedExpr, value, truth, fits, fits_sort, fits_type}
+use Rattle.resolution.specs.Working.TypedExpressions.{typed}
 use Rattle.resolution.specs.Constants.{const_sort}
-use Rattle.resolution.specs.Faults.{AreUnlike, IsEquality, start_of, const_start}
+use Rattle.resolution.specs.Faults.{AreUnlike, start_of, const_start}
+use Rattle.resolution.specs.Expressions.{IsEquality}
 use Rattle.resolution.specs.Where.{Has, HasExpr, HasConst, HasStmt}
 
 -- ---- types in words

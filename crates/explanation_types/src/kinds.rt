@@ -2,7 +2,7 @@
 
 ghost use Rattle.std.specs.Prelude.{◌≡◌, IfOk};
 ghost use Rattle.syntax.specs.Views.{expr_of};
-ghost use Rattle.resolution.specs.Expressions.{typed};
+ghost use Rattle.resolution.specs.Working.TypedExpressions.{typed};
 ghost use Rattle.types_expressions.specs.Working.Checkers.{scope};
 ghost use Rattle.explanation_types.specs.Working.Values.{kind_if, whole_kind};
 

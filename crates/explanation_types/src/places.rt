@@ -3,7 +3,7 @@
 ghost use Rattle.std.specs.Prelude.{◌≡◌, IfOk, is_some};
 ghost use Rattle.syntax.specs.Trees.{lone};
 ghost use Rattle.syntax.specs.Views.{element_of, expr_of, ident, path_of, place_of};
-ghost use Rattle.resolution.specs.Expressions.{number_resolved, typed};
+ghost use Rattle.resolution.specs.Working.TypedExpressions.{number_resolved, typed};
 ghost use Rattle.types_expressions.specs.Working.Checkers.{scope};
 ghost use Rattle.types_expressions.specs.Working.Walks.{walk_of};
 ghost use Rattle.explanation_types.specs.Working.Values.{spot_at, spot_of, spot_reached};

@@ -34,18 +34,20 @@ use Rattle.resolution.specs.Scopes.{the_member, the_local, has_type, member_has_
 use Rattle.resolution.specs.Scopes.{struct_named, entered}
 use Rattle.resolution.specs.Numbers.{is_lock, total, classes_of, objects_of, cells_of, calls_of}
 use Rattle.resolution.specs.Expressions.{ResolvedExpr, value, truth, fits, fits_type, fits_sort, alike_sorts}
-use Rattle.resolution.specs.Expressions.{typed, operator_of, Walk, reached, at_lock, lost}
+use Rattle.resolution.specs.Working.TypedExpressions.{typed}
+use Rattle.resolution.specs.Expressions.{operator_of, Walk, reached, at_lock, lost}
 use Rattle.resolution.specs.Expressions.{walk_from}
 use Rattle.resolution.specs.declared.owner_field.OwnerField.{OwnerField}
-use Rattle.resolution.specs.Owners.{owner_field}
+use Rattle.resolution.specs.Working.TypedOwners.{owner_field}
 use Rattle.resolution.specs.Constants.{pool_members, initialised, member_want, given}
-use Rattle.resolution.specs.Resolution.{ahead_of}
+use Rattle.resolution.specs.Statements.{ahead_of}
 use Rattle.resolution.specs.Where.{Has, first, further, HasStmt, HasExpr, Binds}
 use Rattle.resolution.specs.Where.{HasCall, HasConst}
 use Rattle.resolution.specs.Faults as fault
 use Rattle.resolution.specs.Faults.{start_of, const_start, IsTooLarge, IsDeclaredTwice, Reaches, stays, goes_on}
 use Rattle.resolution.specs.Faults.{Walks, walks, NamesGlobal, IsLockDecl, IsLockMember, IsFinalMember, IsUnknown}
-use Rattle.resolution.specs.Faults.{AreUnlike, IsEquality, IsOfNumbers, IsNoValue, HasNoElements, IsNoReference}
+use Rattle.resolution.specs.Faults.{AreUnlike, IsNoValue, HasNoElements, IsNoReference}
+use Rattle.resolution.specs.Expressions.{IsEquality, IsOfNumbers}
 use Rattle.resolution.specs.Faults.{IsNoStruct, IsSection, IsPool, IsWrongType, IsWrongCount, IsNotAssignable}
 use Rattle.resolution.specs.Faults.{IsUnprotected, EndsAtNoLock, PassesNonFinal, limit_of, IsOverLimit}
 use Rattle.resolution.specs.Faults.{IsFinalMissing, IsOutOfRange, IsLockAsValue, IsFault, too_large, declared_twice}

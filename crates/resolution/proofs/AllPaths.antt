@@ -17,10 +17,12 @@ use Rattle.resolution.specs.Scopes.{Scope, outside, Meaning, a_local, a_decl, no
 use Rattle.resolution.specs.Scopes.{the_decl, the_struct}
 use Rattle.resolution.specs.Scopes.{the_member, type_of}
 use Rattle.resolution.specs.Expressions.{want}
-use Rattle.resolution.specs.Expressions.{typed, Walk, reached, stepped, walked, at_local}
+use Rattle.resolution.specs.Working.TypedExpressions.{typed}
+use Rattle.resolution.specs.Expressions.{Walk, reached, stepped, walked, at_local}
 use Rattle.resolution.specs.Expressions.{walk_from}
-use Rattle.resolution.specs.Owners.{owner_field}
-use Rattle.resolution.specs.Statements.{first_name, target_of, wanted_by}
+use Rattle.resolution.specs.Working.TypedOwners.{owner_field}
+use Rattle.resolution.specs.Statements.{first_name}
+use Rattle.resolution.specs.Working.TypedStatements.{target_of, wanted_by}
 use Rattle.resolution.specs.Constants.{pool_members, initialised, member_want}
 use Rattle.resolution.specs.Annotations.{AnnotationCursor, stepped_on, cursor_at}
 use Rattle.resolution.specs.Where.{Has, HasStmt, HasPlace, is_read, is_written}
@@ -29,7 +31,8 @@ use Rattle.resolution.specs.Where.{annotates}
 use Rattle.resolution.specs.Faults as fault
 use Rattle.resolution.specs.Faults.{start_of, const_start, IsTooLarge, IsDeclaredTwice, Reaches, stays, goes_on}
 use Rattle.resolution.specs.Faults.{Walks, walks, NamesGlobal, IsLockDecl, IsLockMember, IsFinalMember, IsUnknown}
-use Rattle.resolution.specs.Faults.{AreUnlike, IsEquality, IsOfNumbers, IsNoValue, HasNoElements, IsNoReference}
+use Rattle.resolution.specs.Faults.{AreUnlike, IsNoValue, HasNoElements, IsNoReference}
+use Rattle.resolution.specs.Expressions.{IsEquality, IsOfNumbers}
 use Rattle.resolution.specs.Faults.{IsNoStruct, IsSection, IsPool, IsWrongType, IsWrongCount, IsNotAssignable}
 use Rattle.resolution.specs.Faults.{IsUnprotected, EndsAtNoLock, PassesNonFinal, limit_of, IsOverLimit}
 use Rattle.resolution.specs.Faults.{IsFinalMissing, IsOutOfRange, IsLockAsValue, IsFault, too_large, declared_twice}

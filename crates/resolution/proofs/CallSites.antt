@@ -16,13 +16,19 @@ use Rattle.core_lang_calls.specs.Working.Programs.{site_of, sites_by, sites_in, 
 use Rattle.resolution.specs.Core as core
 use Rattle.resolution.specs.CoreViews.{core_action, core_stmts_row, core_stmts}
 use Rattle.resolution.specs.Scopes.{◌>>=◌, Scope, meaning, helper_meant, number_at, type_of, left}
-use Rattle.resolution.specs.Expressions.{want, fitting, as_value, number_resolved, test_resolved, typed}
-use Rattle.resolution.specs.Owners.{owned_by}
-use Rattle.resolution.specs.Statements.{Target, to_local, to_global, to_element, to_field, Assignee, target_of}
-use Rattle.resolution.specs.Statements.{wanted_by, first_name, Part, does, gives, acts_if, binds, set_to, assigns}
-use Rattle.resolution.specs.Statements.{prints, returns, repeats, chooses, chooses_between, Body, given_back}
-use Rattle.resolution.specs.Statements.{preceded, block_without, block_of, typed_values, called, call_resolved}
-use Rattle.resolution.specs.Statements.{type_given, can_take, after, after_all, first_value, typed_stmt, typed_body}
+use Rattle.resolution.specs.Expressions.{want}
+use Rattle.resolution.specs.Working.TypedExpressions.{fitting, as_value, number_resolved, test_resolved, typed}
+use Rattle.resolution.specs.Working.TypedOwners.{owned_by}
+use Rattle.resolution.specs.Working.TypedStatements.{Target, to_local, to_global, to_element, to_field, Assignee}
+use Rattle.resolution.specs.Working.TypedStatements.{target_of}
+use Rattle.resolution.specs.Working.TypedStatements.{wanted_by, Part, does, gives, acts_if, binds, set_to, assigns}
+use Rattle.resolution.specs.Statements.{first_name}
+use Rattle.resolution.specs.Working.TypedStatements.{prints, returns, repeats, chooses, chooses_between, Body}
+use Rattle.resolution.specs.Working.TypedStatements.{given_back}
+use Rattle.resolution.specs.Working.TypedStatements.{preceded, block_without, block_of, typed_values, called}
+use Rattle.resolution.specs.Working.TypedStatements.{call_resolved}
+use Rattle.resolution.specs.Working.TypedStatements.{type_given, can_take, first_value, typed_stmt, typed_body}
+use Rattle.resolution.specs.Statements.{after, after_all}
 use Rattle.resolution.specs.CallGraphs.{site_at, call_sites, stmt_calls, stmts_calls, stmt_points, stmts_points}
 
 -- ---- of resolved statements as data

@@ -12,10 +12,11 @@ use Rattle.resolution.specs.Core as core
 use Rattle.resolution.specs.Limits.{helper_limits}
 use Rattle.resolution.specs.Scopes.{◌>>=◌, Scope, outside, Meaning, a_local, a_decl, nothing, meaning, helper_meant}
 use Rattle.resolution.specs.Scopes.{number_at, type_of}
-use Rattle.resolution.specs.Expressions.{want, fits_type, fitting, as_value, typed}
-use Rattle.resolution.specs.Owners.{is_of}
+use Rattle.resolution.specs.Expressions.{want, fits_type}
+use Rattle.resolution.specs.Working.TypedExpressions.{fitting, as_value, typed}
+use Rattle.resolution.specs.Working.TypedOwners.{is_of}
 use Rattle.resolution.specs.Constants.{added, want_of}
-use Rattle.resolution.specs.Statements.{typed_values, called, call_resolved, type_given, can_take}
+use Rattle.resolution.specs.Working.TypedStatements.{typed_values, called, call_resolved, type_given, can_take}
 use Rattle.resolution.specs.Where.{Has, HasBody, of_helper, of_parameter, of_result, first, further}
 use Rattle.resolution.specs.Working.FaultLists as list
 use Rattle.resolution.specs.Working.FaultLists.{one, one_if, unfit, wanted_faults, values_faults}

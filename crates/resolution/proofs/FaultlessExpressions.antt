@@ -19,9 +19,12 @@ use Rattle.resolution.specs.Core as core
 use Rattle.resolution.specs.Scopes.{Scope, Local, outside, Meaning, a_local, a_decl, nothing, meaning, declared_as}
 use Rattle.resolution.specs.Scopes.{local_or, bears, local_bears, ◌>>=◌, number_at, the_decl, the_local, structs_in}
 use Rattle.resolution.specs.Scopes.{the_struct, the_member, has_type, type_of, struct_meant, struct_named}
-use Rattle.resolution.specs.Expressions.{ResolvedExpr, value, truth, fits, value_of, member_value, local_path}
-use Rattle.resolution.specs.Expressions.{cell_of, fitting, as_value, as_truth, test_resolved, named_value}
-use Rattle.resolution.specs.Expressions.{element_value, path_value, Walk, reached, at_lock, lost, stepped, walked}
+use Rattle.resolution.specs.Expressions.{ResolvedExpr, value, truth, fits, local_path}
+use Rattle.resolution.specs.Working.TypedExpressions.{value_of, member_value}
+use Rattle.resolution.specs.Expressions.{cell_of}
+use Rattle.resolution.specs.Working.TypedExpressions.{fitting, as_value, as_truth, test_resolved, named_value}
+use Rattle.resolution.specs.Working.TypedExpressions.{element_value, path_value}
+use Rattle.resolution.specs.Expressions.{Walk, reached, at_lock, lost, stepped, walked}
 use Rattle.resolution.specs.Expressions.{at_local, walk_from, over_step, over_member, over, member_number}
 use Rattle.resolution.specs.Where.{Has, first, further, HasType, of_global, of_array, of_pool, of_final, of_field}
 use Rattle.resolution.specs.Working.FaultLists as list

@@ -15,8 +15,9 @@ use Rattle.resolution.specs.Scopes.{◌>>=◌, Scope, Local, outside, Meaning, a
 use Rattle.resolution.specs.Scopes.{alike, structs_in, the_struct, the_member, the_local, the_decl, member_has_type}
 use Rattle.resolution.specs.Expressions.{fits_type, member_number}
 use Rattle.resolution.specs.declared.owner_field.OwnerField.{OwnerField}
-use Rattle.resolution.specs.Owners.{final_of, owner_member, owner_field, is_of, owner_local, tested_by, owned_value}
-use Rattle.resolution.specs.Owners.{owned_by}
+use Rattle.resolution.specs.Working.TypedOwners.{final_of, owner_member, owner_field, is_of, owner_local, tested_by}
+use Rattle.resolution.specs.Working.TypedOwners.{owned_value}
+use Rattle.resolution.specs.Working.TypedOwners.{owned_by}
 use Rattle.resolution.specs.Where.{Has, of_final, of_field}
 use Rattle.resolution.specs.Working.FaultLists as list
 use Rattle.resolution.specs.Working.FaultLists.{one, one_if, unfit, unfit_member, taken, local_faults, no_final_in}

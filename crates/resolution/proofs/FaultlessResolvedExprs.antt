@@ -23,11 +23,15 @@ use Rattle.resolution.specs.declared.wanted.Want.{Want}
 use Rattle.resolution.specs.declared.wanted.Want.TheVariants.{Condition, Value}
 use Rattle.resolution.specs.Core as core
 use Rattle.resolution.specs.Scopes.{Scope, meaning}
-use Rattle.resolution.specs.Expressions.{ResolvedExpr, value, truth, fits, fitting, as_value, number_resolved}
-use Rattle.resolution.specs.Expressions.{test_resolved, alike_sorts, number_value, literal, operator_of, negated}
-use Rattle.resolution.specs.Expressions.{not_so, parenthesised, chained, linked, Tests, one_test, tested, all_hold}
-use Rattle.resolution.specs.Expressions.{one_holds, ordered, equated, compared, typed, typed_place, typed_links}
-use Rattle.resolution.specs.Expressions.{typed_tests, element_value}
+use Rattle.resolution.specs.Expressions.{ResolvedExpr, value, truth, fits}
+use Rattle.resolution.specs.Working.TypedExpressions.{fitting, as_value, number_resolved}
+use Rattle.resolution.specs.Working.TypedExpressions.{test_resolved, literal, negated}
+use Rattle.resolution.specs.Expressions.{alike_sorts, number_value, operator_of}
+use Rattle.resolution.specs.Working.TypedExpressions.{not_so, parenthesised, chained, linked, Tests, one_test, tested}
+use Rattle.resolution.specs.Working.TypedExpressions.{all_hold}
+use Rattle.resolution.specs.Working.TypedExpressions.{one_holds, ordered, equated, compared, typed, typed_place}
+use Rattle.resolution.specs.Working.TypedExpressions.{typed_links}
+use Rattle.resolution.specs.Working.TypedExpressions.{typed_tests, element_value}
 use Rattle.resolution.specs.Where.{operand_want, side_want}
 use Rattle.resolution.specs.Faults.{start_of}
 use Rattle.resolution.specs.Working.FaultLists.{one_if, number_faults, no_elements, misfit, unlike, side_faults}

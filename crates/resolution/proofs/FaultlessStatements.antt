@@ -20,14 +20,20 @@ use Rattle.resolution.specs.Core as core
 use Rattle.resolution.specs.Scopes as scope
 use Rattle.resolution.specs.Scopes.{Scope, outside, Meaning, a_local, a_decl, nothing, meaning, helper_meant}
 use Rattle.resolution.specs.Scopes.{number_at, has_type, type_of, bound, hidden, hidden_from, left}
-use Rattle.resolution.specs.Expressions.{want, fitting, as_value, typed, Walk, reached, walk_from, local_path, cell_of}
-use Rattle.resolution.specs.Statements.{Target, to_local, to_global, to_element, to_field, Assignee, assignee, is_var}
-use Rattle.resolution.specs.Statements.{assignee_at, assignee_at_element, Split, last_field, field_target}
-use Rattle.resolution.specs.Statements.{assignee_along, target_of, wanted_by, first_name, Part, does, gives, binds}
-use Rattle.resolution.specs.Statements.{set_to, assigns, prints, returns, repeats, chooses_between, Body, preceded}
-use Rattle.resolution.specs.Statements.{block_of, call_resolved, acts_if, called_bound, after, after_else, after_all}
-use Rattle.resolution.specs.Statements.{first_value, typed_stmt, typed_if, typed_body}
-use Rattle.resolution.specs.Owners.{owned_by}
+use Rattle.resolution.specs.Expressions.{want, Walk, reached, walk_from, local_path, cell_of}
+use Rattle.resolution.specs.Working.TypedExpressions.{fitting, as_value, typed}
+use Rattle.resolution.specs.Working.TypedStatements.{Target, to_local, to_global, to_element, to_field, Assignee}
+use Rattle.resolution.specs.Working.TypedStatements.{assignee}
+use Rattle.resolution.specs.Statements.{is_var}
+use Rattle.resolution.specs.Working.TypedStatements.{assignee_at, assignee_at_element, Split, last_field, field_target}
+use Rattle.resolution.specs.Working.TypedStatements.{assignee_along, target_of, wanted_by, Part, does, gives, binds}
+use Rattle.resolution.specs.Statements.{first_name}
+use Rattle.resolution.specs.Working.TypedStatements.{set_to, assigns, prints, returns, repeats, chooses_between, Body}
+use Rattle.resolution.specs.Working.TypedStatements.{preceded}
+use Rattle.resolution.specs.Working.TypedStatements.{block_of, call_resolved, acts_if, called_bound}
+use Rattle.resolution.specs.Statements.{after, after_else, after_all}
+use Rattle.resolution.specs.Working.TypedStatements.{first_value, typed_stmt, typed_if, typed_body}
+use Rattle.resolution.specs.Working.TypedOwners.{owned_by}
 use Rattle.resolution.specs.Where.{of_global, of_array}
 use Rattle.resolution.specs.Working.FaultLists.{unfit, type_faults, no_elements, path_faults, wanted_faults}
 use Rattle.resolution.specs.Working.FaultLists.{local_faults, no_target, no_array, final_faults, target_faults}

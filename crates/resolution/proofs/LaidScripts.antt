@@ -14,9 +14,11 @@ use Rattle.resolution.specs.Scopes as scope
 use Rattle.resolution.specs.Scopes.{◌>>=◌, Scope, outside, bears, the_decl, type_of, result_of, number_at, bound}
 use Rattle.resolution.specs.Scopes.{entered}
 use Rattle.resolution.specs.Expressions.{want}
-use Rattle.resolution.specs.Statements.{Body, typed_body, after_all}
+use Rattle.resolution.specs.Working.TypedStatements.{Body, typed_body}
+use Rattle.resolution.specs.Statements.{after_all}
 use Rattle.resolution.specs.Constants.{typed_const, want_of, typed_arguments}
-use Rattle.resolution.specs.Resolution.{ahead_of, entry, core_locals, section_with, section_of, typed_section}
+use Rattle.resolution.specs.Statements.{ahead_of, entry}
+use Rattle.resolution.specs.Working.TypedSections.{core_locals, section_with, section_of, typed_section}
 use Rattle.resolution.specs.Resolution.{call_of, copies, joined, one_call, typed_item, typed_items, nothing_yet}
 use Rattle.resolution.specs.Resolution.{resolved}
 use Rattle.resolution.proofs.Named.{named_is}

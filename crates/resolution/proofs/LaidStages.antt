@@ -16,7 +16,8 @@ use Rattle.resolution.specs.Limits.{final_at}
 use Rattle.resolution.specs.Scopes.{◌>>=◌, outside, type_of, struct_named, number_in}
 use Rattle.resolution.specs.Constants.{members_of, opened, default_of, referred}
 use Rattle.resolution.specs.Annotations.{class_of, protection_of}
-use Rattle.resolution.specs.Resolution.{few_calls, typed_calls, typed_items, typed_section, StructBuilder, lock_added}
+use Rattle.resolution.specs.Resolution.{few_calls, typed_calls, typed_items, StructBuilder, lock_added}
+use Rattle.resolution.specs.Working.TypedSections.{typed_section}
 use Rattle.resolution.specs.Resolution.{final_added, field_added, member_added, members_added, empty_struct}
 use Rattle.resolution.specs.Resolution.{with_class, with_struct, with_cell, with_section, with_helper, with_thread}
 use Rattle.resolution.specs.Resolution.{global_added, with_global, opening_of, with_elements, array_added, with_array}

@@ -20,10 +20,11 @@ use Rattle.resolution.specs.declared.wanted.Want.{Want}
 use Rattle.resolution.specs.declared.wanted.Want.TheVariants.{Anything, Condition, Value}
 use Rattle.resolution.specs.declared.body_limits.BodyLimits.{BodyLimits}
 use Rattle.resolution.specs.Scopes.{Scope, outside, meaning, helper_meant, the_decl, type_of, bound, entered, left}
-use Rattle.resolution.specs.Expressions.{ResolvedExpr, value, truth, want, typed}
+use Rattle.resolution.specs.Expressions.{ResolvedExpr, value, truth, want}
+use Rattle.resolution.specs.Working.TypedExpressions.{typed}
 use Rattle.resolution.specs.Statements.{after, after_all}
 use Rattle.resolution.specs.Constants.{want_of, members_of, pool_members, initialised, member_want}
-use Rattle.resolution.specs.Resolution.{ahead_of, entry}
+use Rattle.resolution.specs.Statements.{ahead_of, entry}
 use Rattle.resolution.specs.Where as site
 use Rattle.resolution.specs.Where.{Has, first, further, HasLink, this_link, later_link, operand_want, prefix_want}
 use Rattle.resolution.specs.Where.{side_want, Within, itself, in_parentheses, in_prefix, in_first, in_operand}

@@ -29,24 +29,35 @@ use Rattle.resolution.specs.Core as core
 use Rattle.resolution.specs.Scopes as scopes
 use Rattle.resolution.specs.Scopes.{◌>>=◌, Scope, outside, Meaning, a_local, a_decl, nothing, meaning, helper_meant}
 use Rattle.resolution.specs.Scopes.{number_at, type_of, struct_named, bound, hidden, hidden_from, left}
-use Rattle.resolution.specs.Expressions.{ResolvedExpr, value, truth, fits, alike_sorts, want, fitting, as_value}
-use Rattle.resolution.specs.Expressions.{number_resolved, test_resolved, number_value, literal, value_of, local_path}
-use Rattle.resolution.specs.Expressions.{cell_of, named_value, member_value, element_value, Walk, reached, at_lock}
-use Rattle.resolution.specs.Expressions.{lost, walk_from, path_value, operator_of, negated, not_so, parenthesised}
-use Rattle.resolution.specs.Expressions.{chained, linked, Tests, one_test, tested, all_hold, one_holds, ordered}
-use Rattle.resolution.specs.Expressions.{equated, compared, typed, typed_place, typed_links, typed_tests}
-use Rattle.resolution.specs.Statements.{Target, to_local, to_global, to_element, to_field, Assignee, assignee, is_var}
-use Rattle.resolution.specs.Statements.{assignee_at, assignee_at_element, Split, last_field, field_target}
-use Rattle.resolution.specs.Statements.{assignee_along, target_of, wanted_by, first_name, Part, does, gives, binds}
-use Rattle.resolution.specs.Statements.{set_to, assigns, prints, returns, repeats, chooses, chooses_between, Body}
-use Rattle.resolution.specs.Statements.{given_back, preceded, block_without, block_of, typed_values, called}
-use Rattle.resolution.specs.Statements.{call_resolved, type_given, can_take, acts_if, after, after_all, first_value}
-use Rattle.resolution.specs.Statements.{typed_stmt, typed_body}
+use Rattle.resolution.specs.Expressions.{ResolvedExpr, value, truth, fits, alike_sorts, want}
+use Rattle.resolution.specs.Working.TypedExpressions.{fitting, as_value}
+use Rattle.resolution.specs.Working.TypedExpressions.{number_resolved, test_resolved, literal, value_of}
+use Rattle.resolution.specs.Expressions.{number_value, local_path}
+use Rattle.resolution.specs.Expressions.{cell_of, Walk, reached, at_lock}
+use Rattle.resolution.specs.Working.TypedExpressions.{named_value, member_value, element_value}
+use Rattle.resolution.specs.Expressions.{lost, walk_from, operator_of}
+use Rattle.resolution.specs.Working.TypedExpressions.{path_value, negated, not_so, parenthesised}
+use Rattle.resolution.specs.Working.TypedExpressions.{chained, linked, Tests, one_test, tested, all_hold, one_holds}
+use Rattle.resolution.specs.Working.TypedExpressions.{ordered}
+use Rattle.resolution.specs.Working.TypedExpressions.{equated, compared, typed, typed_place, typed_links, typed_tests}
+use Rattle.resolution.specs.Working.TypedStatements.{Target, to_local, to_global, to_element, to_field, Assignee}
+use Rattle.resolution.specs.Working.TypedStatements.{assignee}
+use Rattle.resolution.specs.Statements.{is_var}
+use Rattle.resolution.specs.Working.TypedStatements.{assignee_at, assignee_at_element, Split, last_field, field_target}
+use Rattle.resolution.specs.Working.TypedStatements.{assignee_along, target_of, wanted_by, Part, does, gives, binds}
+use Rattle.resolution.specs.Statements.{first_name}
+use Rattle.resolution.specs.Working.TypedStatements.{set_to, assigns, prints, returns, repeats, chooses}
+use Rattle.resolution.specs.Working.TypedStatements.{chooses_between, Body}
+use Rattle.resolution.specs.Working.TypedStatements.{given_back, preceded, block_without, block_of, typed_values}
+use Rattle.resolution.specs.Working.TypedStatements.{called}
+use Rattle.resolution.specs.Working.TypedStatements.{call_resolved, type_given, can_take, acts_if, first_value}
+use Rattle.resolution.specs.Statements.{after, after_all}
+use Rattle.resolution.specs.Working.TypedStatements.{typed_stmt, typed_body}
 use Rattle.resolution.specs.Constants.{added, want_of}
 use Rattle.source.specs.Texts.{SOURCE_LIMIT}
 use Rattle.resolution.specs.Limits.{STRUCT_LIMIT}
 use Rattle.resolution.specs.declared.owner_field.OwnerField.{OwnerField}
-use Rattle.resolution.specs.Owners.{owner_field, is_of, owner_local, owned_value, owned_by}
+use Rattle.resolution.specs.Working.TypedOwners.{owner_field, is_of, owner_local, owned_value, owned_by}
 use Rattle.resolution.proofs.TypedResolvedExprs.{IsLocal, meant_local}
 use Rattle.resolution.proofs.TypedStatements.{Kept, kept_hidden, Front, all_front}
 use Rattle.resolution.proofs.Scoped.{Names, AllName, EachNames, TestNames, AllTestName, behind, ActNames, StmtsName}

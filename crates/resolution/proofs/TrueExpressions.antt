@@ -23,7 +23,8 @@ use Rattle.resolution.specs.declared.wanted.Want.{Want}
 use Rattle.resolution.specs.declared.wanted.Want.TheVariants.{Anything, Value}
 use Rattle.resolution.specs.Scopes.{Scope, Local, Meaning, a_local, a_decl, nothing, meaning, the_decl, the_struct}
 use Rattle.resolution.specs.Scopes.{the_member, has_type}
-use Rattle.resolution.specs.Expressions.{ResolvedExpr, value, truth, fits, fits_sort, alike_sorts, typed, operator_of}
+use Rattle.resolution.specs.Expressions.{ResolvedExpr, value, truth, fits, fits_sort, alike_sorts, operator_of}
+use Rattle.resolution.specs.Working.TypedExpressions.{typed}
 use Rattle.resolution.specs.Expressions.{Walk, reached, at_lock, lost, stepped, walked, at_local, walk_from}
 use Rattle.resolution.specs.Statements.{first_name}
 use Rattle.resolution.specs.Constants.{const_sort, want_of}
@@ -32,7 +33,8 @@ use Rattle.resolution.specs.Where.{itself, in_parentheses, in_prefix, in_first, 
 use Rattle.resolution.specs.Where.{in_index, HasExpr, HasPlace, is_read, HasType, HasConst}
 use Rattle.resolution.specs.Faults as fault
 use Rattle.resolution.specs.Faults.{start_of, const_start, IsNoValue, HasNoElements, IsNoReference, IsNoStruct}
-use Rattle.resolution.specs.Faults.{IsPool, IsEquality, IsOfNumbers, AreUnlike, too_large, unknown, wrong_type}
+use Rattle.resolution.specs.Faults.{IsPool, AreUnlike, too_large, unknown, wrong_type}
+use Rattle.resolution.specs.Expressions.{IsEquality, IsOfNumbers}
 use Rattle.resolution.specs.Faults.{out_of_range, lock_as_value}
 use Rattle.resolution.specs.Working.FaultLists as list
 use Rattle.resolution.specs.Working.FaultLists.{one, one_if, unfit, number_faults, index_faults, own_faults}

@@ -26,10 +26,11 @@ use Rattle.resolution.specs.Scopes.{the_decl, the_struct, the_member, the_local,
 use Rattle.resolution.specs.Scopes.{result_of, bound, entered, left}
 use Rattle.resolution.specs.Expressions.{fits_type, want, Walk, reached, at_lock, lost, walk_from}
 use Rattle.resolution.specs.declared.owner_field.OwnerField.{OwnerField}
-use Rattle.resolution.specs.Owners.{owner_field}
-use Rattle.resolution.specs.Statements.{is_var, last_field, target_of, wanted_by, after, after_else, after_all}
+use Rattle.resolution.specs.Working.TypedOwners.{owner_field}
+use Rattle.resolution.specs.Statements.{is_var, after, after_else, after_all}
+use Rattle.resolution.specs.Working.TypedStatements.{last_field, target_of, wanted_by}
 use Rattle.resolution.specs.Constants.{want_of}
-use Rattle.resolution.specs.Resolution.{ahead_of, entry}
+use Rattle.resolution.specs.Statements.{ahead_of, entry}
 use Rattle.resolution.specs.Where as site
 use Rattle.resolution.specs.Where.{Has, first, further, Among, here, later, in_then, in_else, in_while, IsArgument}
 use Rattle.resolution.specs.Where.{for_parameter, for_nothing, Asks, of_let, of_owned, of_let_call, of_var, of_assign}

@@ -8,9 +8,10 @@ use Rattle.resolution.specs.declared.wanted.Want.TheVariants.{Value}
 use Rattle.resolution.specs.Core as core
 use Rattle.resolution.specs.Scopes.{◌>>=◌, Scope, outside, Meaning, a_local, a_decl, nothing, helper_meant, number_at}
 use Rattle.resolution.specs.Scopes.{type_of, result_of}
-use Rattle.resolution.specs.Expressions.{want, fitting, as_value, typed}
+use Rattle.resolution.specs.Expressions.{want}
+use Rattle.resolution.specs.Working.TypedExpressions.{fitting, as_value, typed}
 use Rattle.resolution.specs.Constants.{want_of}
-use Rattle.resolution.specs.Statements.{typed_values, called, type_given, can_take}
+use Rattle.resolution.specs.Working.TypedStatements.{typed_values, called, type_given, can_take}
 use Rattle.resolution.proofs.FaultlessExpressions.{IsMeant}
 use Rattle.resolution.proofs.Typed.{types_of, Is, AreAll, Taken, Acts}
 use Rattle.resolution.proofs.TypedResolvedExprs.{Sound, Have, GoodValue, value_good_of}

@@ -14,7 +14,8 @@ use Rattle.resolution.specs.Scopes.{◌>>=◌, Scope, Meaning, a_local, a_decl, 
 use Rattle.resolution.specs.Scopes.{struct_named}
 use Rattle.resolution.specs.Expressions.{fits_type, member_number}
 use Rattle.resolution.specs.declared.owner_field.OwnerField.{OwnerField}
-use Rattle.resolution.specs.Owners.{final_of, owner_member, owner_field, is_of, owner_local, owned_value, owned_by}
+use Rattle.resolution.specs.Working.TypedOwners.{final_of, owner_member, owner_field, is_of, owner_local, owned_value}
+use Rattle.resolution.specs.Working.TypedOwners.{owned_by}
 use Rattle.resolution.proofs.Named.{member_is}
 use Rattle.resolution.proofs.Typed.{final_in, Is}
 use Rattle.resolution.proofs.TypedResolvedExprs.{Sound, Have, IsLocal, meant_local, GoodValue}

@@ -26,13 +26,18 @@ use Rattle.resolution.specs.Core as core
 use Rattle.resolution.specs.Scopes.{◌>>=◌, Scope, Local, outside, Meaning, a_local, a_decl, nothing, meaning}
 use Rattle.resolution.specs.Scopes.{declared_as, local_or, local_bears, number_at, the_decl, the_local, the_struct}
 use Rattle.resolution.specs.Scopes.{the_member, type_of, struct_named}
-use Rattle.resolution.specs.Expressions.{ResolvedExpr, value, truth, fits_type, fitting, as_value, number_resolved}
-use Rattle.resolution.specs.Expressions.{test_resolved, alike_sorts, number_value, literal, value_of, local_path}
-use Rattle.resolution.specs.Expressions.{cell_of, named_value, member_value, element_value, Walk, reached, at_lock}
+use Rattle.resolution.specs.Expressions.{ResolvedExpr, value, truth, fits_type}
+use Rattle.resolution.specs.Working.TypedExpressions.{fitting, as_value, number_resolved}
+use Rattle.resolution.specs.Working.TypedExpressions.{test_resolved, literal, value_of}
+use Rattle.resolution.specs.Expressions.{alike_sorts, number_value, local_path}
+use Rattle.resolution.specs.Expressions.{cell_of, Walk, reached, at_lock}
+use Rattle.resolution.specs.Working.TypedExpressions.{named_value, member_value, element_value}
 use Rattle.resolution.specs.Expressions.{lost, over_step, over_member, over, member_number, stepped, walked, at_local}
-use Rattle.resolution.specs.Expressions.{walk_from, path_value, operator_of, negated, not_so, parenthesised, chained}
-use Rattle.resolution.specs.Expressions.{linked, Tests, one_test, tested, all_hold, one_holds, ordered, equated}
-use Rattle.resolution.specs.Expressions.{compared, typed, typed_place, typed_links, typed_tests}
+use Rattle.resolution.specs.Expressions.{walk_from, operator_of}
+use Rattle.resolution.specs.Working.TypedExpressions.{path_value, negated, not_so, parenthesised, chained}
+use Rattle.resolution.specs.Working.TypedExpressions.{linked, Tests, one_test, tested, all_hold, one_holds, ordered}
+use Rattle.resolution.specs.Working.TypedExpressions.{equated}
+use Rattle.resolution.specs.Working.TypedExpressions.{compared, typed, typed_place, typed_links, typed_tests}
 use Rattle.resolution.proofs.Named.{named_is, member_is}
 use Rattle.resolution.proofs.FaultlessExpressions.{IsMeant, meant}
 use Rattle.resolution.proofs.Typed as well

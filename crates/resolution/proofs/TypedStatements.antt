@@ -18,19 +18,28 @@ use Rattle.resolution.specs.Core as core
 use Rattle.resolution.specs.Scopes as scope
 use Rattle.resolution.specs.Scopes.{◌>>=◌, Scope, outside, Meaning, a_local, a_decl, nothing, meaning, helper_meant}
 use Rattle.resolution.specs.Scopes.{number_at, type_of, result_of, bound, hidden, hidden_from, left, entered}
-use Rattle.resolution.specs.Expressions.{want, fitting, as_value, number_resolved, test_resolved, typed, Walk}
+use Rattle.resolution.specs.Expressions.{want, Walk}
+use Rattle.resolution.specs.Working.TypedExpressions.{fitting, as_value, number_resolved, test_resolved, typed}
 use Rattle.resolution.specs.Expressions.{reached, at_lock, lost, walked, at_local, walk_from, cell_of}
-use Rattle.resolution.specs.Statements.{Target, to_local, to_global, to_element, to_field, Assignee, assignee, is_var}
-use Rattle.resolution.specs.Statements.{assignee_at, assignee_at_element, Split, behind, last_field, field_target}
-use Rattle.resolution.specs.Statements.{assignee_along, target_of, wanted_by, first_name, Part, does, gives, binds}
-use Rattle.resolution.specs.Statements.{set_to, assigns, prints, returns, repeats, chooses, chooses_between, Body}
-use Rattle.resolution.specs.Statements.{given_back, preceded, block_without, block_of, call_resolved, type_given}
-use Rattle.resolution.specs.Statements.{can_take, acts_if, called_bound, after, after_else, after_all, first_value}
-use Rattle.resolution.specs.Statements.{typed_stmt, typed_if, typed_body}
-use Rattle.resolution.specs.Owners.{owned_by}
+use Rattle.resolution.specs.Working.TypedStatements.{Target, to_local, to_global, to_element, to_field, Assignee}
+use Rattle.resolution.specs.Working.TypedStatements.{assignee}
+use Rattle.resolution.specs.Statements.{is_var}
+use Rattle.resolution.specs.Working.TypedStatements.{assignee_at, assignee_at_element, Split, behind, last_field}
+use Rattle.resolution.specs.Working.TypedStatements.{field_target}
+use Rattle.resolution.specs.Working.TypedStatements.{assignee_along, target_of, wanted_by, Part, does, gives, binds}
+use Rattle.resolution.specs.Statements.{first_name}
+use Rattle.resolution.specs.Working.TypedStatements.{set_to, assigns, prints, returns, repeats, chooses}
+use Rattle.resolution.specs.Working.TypedStatements.{chooses_between, Body}
+use Rattle.resolution.specs.Working.TypedStatements.{given_back, preceded, block_without, block_of, call_resolved}
+use Rattle.resolution.specs.Working.TypedStatements.{type_given}
+use Rattle.resolution.specs.Working.TypedStatements.{can_take, acts_if, called_bound, first_value}
+use Rattle.resolution.specs.Statements.{after, after_else, after_all}
+use Rattle.resolution.specs.Working.TypedStatements.{typed_stmt, typed_if, typed_body}
+use Rattle.resolution.specs.Working.TypedOwners.{owned_by}
 use Rattle.resolution.specs.Constants.{added}
-use Rattle.resolution.specs.Resolution.{ahead_of, entry, core_local, core_locals, section_with, section_of}
-use Rattle.resolution.specs.Resolution.{typed_section}
+use Rattle.resolution.specs.Statements.{ahead_of, entry}
+use Rattle.resolution.specs.Working.TypedSections.{core_local, core_locals, section_with, section_of}
+use Rattle.resolution.specs.Working.TypedSections.{typed_section}
 use Rattle.resolution.proofs.TrueStatements.{after_same, entered_same}
 use Rattle.resolution.proofs.FaultlessExpressions.{IsMeant, meant}
 use Rattle.resolution.proofs.FaultlessSections.{entered_result}

@@ -19,10 +19,12 @@ use Rattle.resolution.specs.CoreViews.{core_expr, core_stmts, core_return, core_
 use Rattle.resolution.specs.CoreViews.{core_section, core_of}
 use Rattle.resolution.specs.Scopes as scopes
 use Rattle.resolution.specs.Scopes.{◌>>=◌, Scope, outside, type_of, bound, hidden, hidden_from, left, entered}
-use Rattle.resolution.specs.Statements.{Body, typed_body, after, after_else, after_all}
+use Rattle.resolution.specs.Working.TypedStatements.{Body, typed_body}
+use Rattle.resolution.specs.Statements.{after, after_else, after_all}
 use Rattle.resolution.specs.Constants.{added}
-use Rattle.resolution.specs.Resolution.{ahead_of, entry, core_local as local_of, core_locals, section_with}
-use Rattle.resolution.specs.Resolution.{section_of, typed_section}
+use Rattle.resolution.specs.Statements.{ahead_of, entry}
+use Rattle.resolution.specs.Working.TypedSections.{core_local as local_of, core_locals, section_with}
+use Rattle.resolution.specs.Working.TypedSections.{section_of, typed_section}
 use Rattle.resolution.proofs.Typed.{types_of, AllAct, Returns, get_map, body_typed, result_typed}
 use Rattle.resolution.proofs.TypedResolvedExprs.{Sound}
 use Rattle.resolution.proofs.TypedCalls.{HasHelpers}

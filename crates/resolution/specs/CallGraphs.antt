@@ -9,7 +9,7 @@ use Rattle.core_lang_calls.specs.Graphs.{Body, Graph}
 use Rattle.resolution.specs.Limits.{SECTION_LIMIT, section_limits, helper_limits}
 use Rattle.resolution.specs.Scopes.{Scope, meaning, helper_meant, number_at, entered, left}
 use Rattle.resolution.specs.Statements.{after, after_all}
-use Rattle.resolution.specs.Resolution.{ahead_of}
+use Rattle.resolution.specs.Statements.{ahead_of}
 
 -- a call that starts there, of the helper that is meant
 abbrev pub site_at : List Decl → ℕ → Bool → Option (ℕ × Section) → List CallSite

@@ -15,7 +15,6 @@ use Rattle.source.specs.declared.fault.Refusal.TheVariants as refusal
 use Rattle.source.specs.declared.token.Number.{Number}
 use Rattle.syntax.specs.declared.tree.Operator.{Operator}
 use Rattle.syntax.specs.declared.tree.Level.{Level}
-use Rattle.syntax.specs.declared.tree.Level.TheVariants.{Term, Sum}
 use Rattle.syntax.specs.declared.tree.Comparison as written
 use Rattle.syntax.specs.declared.tree.Comparison.TheVariants as sign
 use Rattle.syntax.specs.Trees as tree
@@ -37,14 +36,16 @@ use Rattle.resolution.specs.Limits.{STRUCT_LIMIT, MEMBER_LIMIT, FINAL_LIMIT, CLA
 use Rattle.resolution.specs.Limits.{SECTION_LIMIT, THREAD_LIMIT, CALL_LIMIT}
 use Rattle.resolution.specs.Scopes.{Scope, Local, Meaning, a_local, a_decl, nothing, meaning, helper_meant, place_of}
 use Rattle.resolution.specs.Scopes.{count, declared, bears, the_decl, alike, has_body, the_struct, member_name}
-use Rattle.resolution.specs.Scopes.{member_bears, the_member, the_local, has_type, member_has_type, type_of}
-use Rattle.resolution.specs.Scopes.{result_of, struct_named}
+use Rattle.resolution.specs.Scopes.{member_bears, the_member, the_local, has_type, member_has_type, type_of, result_of}
+use Rattle.resolution.specs.Scopes.{struct_named}
 use Rattle.resolution.specs.Numbers.{is_lock, total, classes_of, objects_of, cells_of, calls_of}
-use Rattle.resolution.specs.Expressions.{ResolvedExpr, value, truth, fits, fits_type, fits_sort, alike_sorts, typed}
-use Rattle.resolution.specs.Expressions.{operator_of, Walk, reached, at_lock, walk_from}
+use Rattle.resolution.specs.Expressions.{ResolvedExpr, value, truth, fits, fits_type, fits_sort, alike_sorts}
+use Rattle.resolution.specs.Working.TypedExpressions.{typed}
+use Rattle.resolution.specs.Expressions.{operator_of, Walk, reached, at_lock, walk_from, IsEquality, IsOfNumbers}
 use Rattle.resolution.specs.declared.owner_field.OwnerField.{OwnerField}
-use Rattle.resolution.specs.Owners.{owner_field}
-use Rattle.resolution.specs.Statements.{is_var, last_field, first_name}
+use Rattle.resolution.specs.Working.TypedOwners.{owner_field}
+use Rattle.resolution.specs.Statements.{is_var, first_name}
+use Rattle.resolution.specs.Working.TypedStatements.{last_field}
 use Rattle.resolution.specs.Constants.{const_sort, members_of, pool_members, initialised, init_target_of, giver, given}
 use Rattle.resolution.specs.Annotations.{AnnotationCursor, through_member, cursor_at}
 use Rattle.core_lang_calls.specs.Faults.{IsGraphFault}
@@ -163,17 +164,6 @@ AreUnlike (value a s) (value b t) = alike_sorts s t ≡ false
 AreUnlike (value a s) (truth d) = Unit {0}
 AreUnlike (truth c) (value b t) = Unit {0}
 AreUnlike (truth c) (truth d) = ⊥
-
-abbrev pub IsEquality : written.Comparison → Type 0
-IsEquality sign.Equal = Unit {0}
-IsEquality sign.NotEqual = Unit {0}
-IsEquality _ = ⊥
-
--- a chain of numbers
-abbrev pub IsOfNumbers : Level → Type 0
-IsOfNumbers Term = Unit {0}
-IsOfNumbers Sum = Unit {0}
-IsOfNumbers _ = ⊥
 
 -- a declaration whose name alone is no value and can't be assigned to. A global is a value, and a lock has a fault of its own
 abbrev pub IsNoValue : Decl → Type 0

@@ -4,9 +4,9 @@ pub mod Limits
 pub mod Scopes
 pub mod Numbers
 pub mod Expressions
-pub mod Owners
 pub mod Statements
 pub mod Constants
+pub mod Typing
 pub mod Annotations
 pub mod Resolution
 pub mod Resolved

@@ -1,63 +1,20 @@
 -- The program that a tree stands for.
 use Rattle.std.specs.Prelude.{ℕ, zero, suc, ◌+◌, nat_le, Bool, List, [], ◌∷◌, ◌++◌, length, Option, Some, None}
 use Rattle.std.specs.Prelude.{if◌then◌else◌}
-use Rattle.syntax.specs.Trees.{ValueType, Const, Variable, Array, Section, Item, call, repeat, Items, no_items, item}
-use Rattle.syntax.specs.Trees.{Member, lock_member, final_member, field_member, Decl, lock, struct, global, array}
-use Rattle.syntax.specs.Trees.{pool, init, atomic, helper, thread}
+use Rattle.syntax.specs.Trees.{Const, Variable, Array, Item, call, repeat, Items, no_items, item, Member, lock_member}
+use Rattle.syntax.specs.Trees.{final_member, field_member, Decl, lock, struct, global, array, pool, init, atomic}
+use Rattle.syntax.specs.Trees.{helper, thread}
 use Rattle.core_lang.specs.declared.value.Value.{Value}
 use Rattle.core_lang.specs.declared.value.ValueType as core_type
 use Rattle.core_lang.specs.declared.typed.Owner.{Owner}
 use Rattle.core_lang.specs.declared.typed.Owner.TheVariants as owner
 use Rattle.resolution.specs.Core as core
-use Rattle.resolution.specs.declared.body_limits.BodyLimits.{BodyLimits}
 use Rattle.resolution.specs.Limits.{CALL_LIMIT, section_limits, helper_limits, object_at, cell_at, final_at}
-use Rattle.resolution.specs.Scopes.{◌>>=◌, Scope, Local, outside, the_decl, number_at, type_of, result_of}
-use Rattle.resolution.specs.Scopes.{struct_named, entered}
+use Rattle.resolution.specs.Scopes.{◌>>=◌, outside, the_decl, number_at, type_of, struct_named}
 use Rattle.resolution.specs.Numbers.{total, calls_of}
-use Rattle.resolution.specs.Statements.{Body, typed_body, after_all}
-use Rattle.resolution.specs.Constants.{added, typed_arguments, members_of, given, default_of, opened, referred}
+use Rattle.resolution.specs.Constants.{typed_arguments, members_of, given, default_of, opened, referred}
 use Rattle.resolution.specs.Annotations.{class_of, protection_of}
-
--- ---- sections and helpers
-
--- the scope ahead of the parameters of a section or a helper
-abbrev pub ahead_of : List Decl → BodyLimits → Section → Scope
-ahead_of decls limits s = record { decls = decls; locals = []; result = result_of decls s; limits = limits }
-
--- the scope at its first statement
-abbrev pub entry : List Decl → BodyLimits → Section → Scope
-entry decls limits s = entered (ahead_of decls limits s) s.params
-
-abbrev pub core_local : Local → Option core.Local
-core_local l = l.value_type >>= λ t. Some (record { name = l.name; kind = l.kind; value_type = t })
-
--- locals, if the types of all have no fault
-abbrev pub core_locals : List Local → Option (List core.Local)
-core_locals [] = Some []
-core_locals (l ∷ ls) = added (core_local l) (core_locals ls)
-
--- a section or a helper that has a result has a `return` at its end, and no other one has one
-abbrev pub section_with : List Decl → Section → List core.Local → core.Stmts → Option ValueType → Option core.Return →
-    Option core.Section
-section_with decls s locals body None None =
-    Some (record { name = s.name.text; parameters = length s.params; locals = locals; result_type = None; body = body; result = None })
-section_with decls s locals body (Some t) (Some r) =
-    type_of (outside decls) t >>= λ v. Some (record { name = s.name.text; parameters = length s.params; locals = locals; result_type = Some v; body = body; result = Some r })
-section_with decls s locals body None (Some r) = None
-section_with decls s locals body (Some t) None = None
-
-abbrev pub section_of : List Decl → Section → Option (List core.Local) → Option Body → Option core.Section
-section_of decls s (Some locals) (Some b) = section_with decls s locals b.stmts s.result b.result
-section_of decls s (Some locals) None = None
-section_of decls s None b = None
-
--- what a section or a helper is, from the scope ahead of its parameters
-abbrev pub section_in : Scope → Section → Option core.Section
-section_in sc s =
-    section_of sc.decls s (core_locals (after_all (entered sc s.params) s.body.stmts).locals) (typed_body (entered sc s.params) s.body.stmts)
-
-abbrev pub typed_section : List Decl → BodyLimits → Section → Option core.Section
-typed_section decls limits s = section_in (ahead_of decls limits s) s
+use Rattle.resolution.specs.Working.TypedSections.{typed_section}
 
 -- ---- threads
 

@@ -22,9 +22,10 @@ use Rattle.resolution.specs.declared.body_limits.BodyLimits.{BodyLimits}
 use Rattle.resolution.specs.Limits.{section_limits, helper_limits}
 use Rattle.resolution.specs.Scopes.{Scope, outside, meaning, helper_meant, the_decl, the_struct, type_of, entered, left}
 use Rattle.resolution.specs.Expressions.{want}
-use Rattle.resolution.specs.Statements.{target_of, wanted_by, after, after_all}
+use Rattle.resolution.specs.Working.TypedStatements.{target_of, wanted_by}
+use Rattle.resolution.specs.Statements.{after, after_all}
 use Rattle.resolution.specs.Constants.{want_of, initialised, member_want}
-use Rattle.resolution.specs.Resolution.{ahead_of, entry}
+use Rattle.resolution.specs.Statements.{ahead_of, entry}
 
 -- it is one of the list
 pub data Has {A : Type 0} : List A → A → Type 0 where

@@ -9,7 +9,7 @@ use Rattle.syntax.specs.Trees.{Section, Decl, lock, struct, global, array, pool,
 use Rattle.syntax.specs.Views.{decl_of}
 use Rattle.core_lang_calls.specs.Graphs.{Body, Graph, with_helper, with_section}
 use Rattle.resolution.specs.Limits.{SECTION_LIMIT, section_limits, helper_limits}
-use Rattle.resolution.specs.Resolution.{ahead_of}
+use Rattle.resolution.specs.Statements.{ahead_of}
 use Rattle.resolution.specs.CallGraphs.{body_in, helper_bodies, section_bodies}
 
 helpers_push : (all ds : List Decl) (d : Decl) →

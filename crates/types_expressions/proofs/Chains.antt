@@ -21,7 +21,9 @@ use Rattle.syntax.specs.Theory.Rows.{joined_of-Chain}
 use Rattle.resolution.specs.Core as core
 use Rattle.resolution.specs.CoreViews.{core_expr, core_condition, core_operations, core_conditions}
 use Rattle.resolution.specs.Scopes.{Scope}
-use Rattle.resolution.specs.Expressions.{ResolvedExpr, Tests, tested, compared, typed, typed_links, typed_tests, chained, linked, operator_of, number_resolved, test_resolved, all_hold, one_holds}
+use Rattle.resolution.specs.Expressions.{ResolvedExpr, operator_of}
+use Rattle.resolution.specs.Working.TypedExpressions.{Tests, tested, compared, typed, typed_links, typed_tests, chained}
+use Rattle.resolution.specs.Working.TypedExpressions.{linked, number_resolved, test_resolved, all_hold, one_holds}
 use Rattle.resolution.specs.Faults.{start_of}
 use Rattle.resolution.specs.Where.{side_want}
 use Rattle.resolution.specs.declared.wanted.Want.{Want}

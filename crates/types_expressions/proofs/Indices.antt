@@ -6,7 +6,7 @@ use Rattle.core_lang.specs.declared.value.ValueType.{ValueType}
 use Rattle.core_lang.specs.declared.value.ValueType.TheVariants.{Reference}
 use Rattle.resolution.specs.Core as core
 use Rattle.resolution.specs.Scopes.{◌>>=◌, outside, Meaning, a_decl, number_at, type_of, struct_named}
-use Rattle.resolution.specs.Expressions.{member_value, value_of, element_value}
+use Rattle.resolution.specs.Working.TypedExpressions.{member_value, value_of, element_value}
 use Rattle.resolution.specs.Working.FaultLists.{no_elements}
 use Rattle.source.specs.Mistakes.{least_of}
 use Rattle.types_symbols.specs.Theory.Steps.{noted_one}

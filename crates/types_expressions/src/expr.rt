@@ -6,7 +6,7 @@ ghost use Rattle.syntax.specs.declared.tree.Level.TheVariants.{Sum, Conjunction}
 ghost use Rattle.core_lang.specs.declared.value.ValueType.TheVariants.{Integer};
 ghost use Rattle.resolution.specs.declared.wanted.Want.TheVariants as wanted;
 ghost use Rattle.resolution.specs.CoreViews.{core_expr, core_condition};
-ghost use Rattle.resolution.specs.Expressions.{typed, typed_place, typed_links, compared, fitting, as_value, number_resolved, test_resolved};
+ghost use Rattle.resolution.specs.Working.TypedExpressions.{typed, typed_place, typed_links, compared, fitting, as_value, number_resolved, test_resolved};
 ghost use Rattle.resolution.specs.Faults.{start_of};
 ghost use Rattle.source.specs.Mistakes.{least_of};
 ghost use Rattle.resolution.specs.Working.FaultLists.{expr_faults, place_faults, link_faults, wanted_faults};

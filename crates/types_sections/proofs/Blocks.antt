@@ -28,10 +28,13 @@ use Rattle.types_sections.specs.declared.stmt.Body as the_body
 use Rattle.types_sections.specs.Working.Targets.{Row, row_of, body_of, pushed_to, body_pushed}
 use Rattle.resolution.specs.declared.body_limits.BodyLimits.{BodyLimits}
 use Rattle.resolution.specs.Scopes.{Scope, hidden_from, bound, entered, outside, type_of, result_of, left}
-use Rattle.resolution.specs.Expressions.{typed, test_resolved}
-use Rattle.resolution.specs.Statements.{Part, does, gives, Body, given_back, preceded, typed_body, typed_stmt}
-use Rattle.resolution.specs.Statements.{typed_if, after, after_else, after_all, block_of, repeats, chooses_between}
-use Rattle.resolution.specs.Resolution.{ahead_of, core_locals, section_of, section_in}
+use Rattle.resolution.specs.Working.TypedExpressions.{typed, test_resolved}
+use Rattle.resolution.specs.Working.TypedStatements.{Part, does, gives, Body, given_back, preceded, typed_body}
+use Rattle.resolution.specs.Working.TypedStatements.{typed_stmt}
+use Rattle.resolution.specs.Working.TypedStatements.{typed_if, block_of, repeats, chooses_between}
+use Rattle.resolution.specs.Statements.{after, after_else, after_all}
+use Rattle.resolution.specs.Statements.{ahead_of}
+use Rattle.resolution.specs.Working.TypedSections.{core_locals, section_of, section_in}
 use Rattle.source.specs.Mistakes.{least_of}
 use Rattle.resolution.specs.Working.FaultLists.{one_if, local_faults, type_faults, param_faults, stmt_faults}
 use Rattle.resolution.specs.Working.FaultLists.{stmts_faults, wanted_faults, else_faults}

@@ -9,9 +9,9 @@ use Rattle.syntax.specs.Views.{expr_of, param_of}
 use Rattle.resolution.specs.declared.wanted.Want.{Want}
 use Rattle.resolution.specs.Core as core
 use Rattle.resolution.specs.Scopes.{Scope}
-use Rattle.resolution.specs.Expressions.{fitting, as_value, typed}
+use Rattle.resolution.specs.Working.TypedExpressions.{fitting, as_value, typed}
 use Rattle.resolution.specs.Constants.{added, want_of}
-use Rattle.resolution.specs.Statements.{typed_values}
+use Rattle.resolution.specs.Working.TypedStatements.{typed_values}
 use Rattle.resolution.specs.Resolution.{joined}
 use Rattle.source.specs.Mistakes.{least_of}
 use Rattle.resolution.specs.Working.FaultLists.{wanted_faults}

@@ -6,7 +6,7 @@ use Rattle.core_lang.specs.declared.value.ValueType.{ValueType}
 use Rattle.core_lang.specs.declared.value.ValueType.TheVariants.{Reference}
 use Rattle.resolution.specs.Core as core
 use Rattle.resolution.specs.Scopes.{◌>>=◌, outside, Meaning, a_decl, number_at, type_of, struct_named}
-use Rattle.resolution.specs.Statements.{assignee, to_element, assignee_at_element}
+use Rattle.resolution.specs.Working.TypedStatements.{assignee, to_element, assignee_at_element}
 use Rattle.resolution.specs.Working.FaultLists.{no_array, no_elements}
 use Rattle.source.specs.Mistakes.{least_of}
 use Rattle.types_symbols.specs.Theory.Steps.{noted_one}

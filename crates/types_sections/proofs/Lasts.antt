@@ -9,7 +9,7 @@ use Rattle.resolution.specs.Scopes.{◌>>=◌, Meaning}
 use Rattle.resolution.specs.Expressions.{Walk, walk_from}
 use Rattle.resolution.specs.Working.FaultLists.{final_faults, path_faults}
 use Rattle.types_symbols.specs.Theory.Steps.{noted_one}
-use Rattle.resolution.specs.Statements.{Assignee, Split, assignee_along, behind, last_field}
+use Rattle.resolution.specs.Working.TypedStatements.{Assignee, Split, assignee_along, behind, last_field}
 
 pub last_push : (ys : List FieldStep) (k n : ℕ) →
     last_field (ys ++ Field k n ∷ []) ≡ Some (record { base = ys; structure = k; field = n })

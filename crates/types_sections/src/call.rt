@@ -4,7 +4,7 @@ ghost use Rattle.std.specs.Prelude.{◌≡◌, OnOk, IfOk, Some, option_map, len
 ghost use Rattle.syntax.specs.Views.{ident, section_of, param_of, helper_call_of};
 ghost use Rattle.resolution.specs.CoreViews.{core_expr, core_action};
 ghost use Rattle.resolution.specs.Constants.{want_of};
-ghost use Rattle.resolution.specs.Statements.{call_resolved};
+ghost use Rattle.resolution.specs.Working.TypedStatements.{call_resolved};
 ghost use Rattle.source.specs.Mistakes.{least_of};
 ghost use Rattle.resolution.specs.Working.FaultLists.{helper_call_faults};
 ghost use Rattle.types_expressions.specs.Working.Checkers.{scope};

@@ -6,7 +6,7 @@ ghost use Rattle.core_lang.specs.declared.value.ValueType.TheVariants.{Reference
 ghost use Rattle.resolution.specs.CoreViews.{core_expr};
 ghost use Rattle.resolution.specs.Limits.{up_to};
 ghost use Rattle.resolution.specs.Scopes.{meaning};
-ghost use Rattle.resolution.specs.Owners.{owner_field, owner_local};
+ghost use Rattle.resolution.specs.Working.TypedOwners.{owner_field, owner_local};
 ghost use Rattle.source.specs.Mistakes.{least_of};
 ghost use Rattle.resolution.specs.Working.FaultLists.{owner_field_faults};
 ghost use Rattle.types_expressions.specs.Working.Checkers.{scope};

@@ -6,7 +6,7 @@ ghost use Rattle.resolution.specs.CoreViews as core;
 ghost use Rattle.resolution.specs.CoreViews.{core_section};
 ghost use Rattle.resolution.specs.Limits.{section_limits, helper_limits};
 ghost use Rattle.resolution.specs.Scopes.{entered, result_of};
-ghost use Rattle.resolution.specs.Resolution.{core_locals, core_local, section_in, typed_section};
+ghost use Rattle.resolution.specs.Working.TypedSections.{core_locals, core_local, section_in, typed_section};
 ghost use Rattle.source.specs.Mistakes.{least_of};
 ghost use Rattle.resolution.specs.Working.FaultLists.{param_faults, result_faults, section_faults};
 ghost use Rattle.types_symbols.specs.{decls_of, local_seen};

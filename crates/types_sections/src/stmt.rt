@@ -7,7 +7,8 @@ ghost use Rattle.syntax.specs.Views.{ident, expr_of, place_of, stmt_of, if_of, s
 ghost use Rattle.core_lang.specs.declared.tree.LocalKind.TheVariants.{Let};
 ghost use Rattle.resolution.specs.CoreViews.{core_expr, core_stmt, core_action};
 ghost use Rattle.resolution.specs.Scopes.{bound, type_of};
-ghost use Rattle.resolution.specs.Statements.{does, acts, first_value, local_bound, owned_bound, called_bound, acts_if, binds, assigns, prints, returns, repeats, chooses, chooses_between, block_of, after, after_else, after_all, typed_stmt, typed_body};
+ghost use Rattle.resolution.specs.Working.TypedStatements.{does, acts, first_value, local_bound, owned_bound, called_bound, acts_if, binds, assigns, prints, returns, repeats, chooses, chooses_between, block_of, typed_stmt, typed_body};
+ghost use Rattle.resolution.specs.Statements.{after, after_else, after_all};
 ghost use Rattle.source.specs.Mistakes.{least_of};
 ghost use Rattle.resolution.specs.Working.FaultLists.{binding_faults, called_faults, stmt_faults, else_faults, stmts_faults};
 ghost use Rattle.types_expressions.specs.Working.Checkers.{scope};

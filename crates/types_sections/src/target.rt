@@ -3,7 +3,8 @@
 ghost use Rattle.std.specs.Prelude.{◌≡◌, OnOk, IfOk, option_map, Some};
 ghost use Rattle.syntax.specs.Views.{ident, element_of, path_of, place_of};
 ghost use Rattle.resolution.specs.CoreViews.{core_expr};
-ghost use Rattle.resolution.specs.Statements.{first_name, assignee, assignee_at, assignee_along, target_of, wanted_by};
+ghost use Rattle.resolution.specs.Statements.{first_name};
+ghost use Rattle.resolution.specs.Working.TypedStatements.{assignee, assignee_at, assignee_along, target_of, wanted_by};
 ghost use Rattle.source.specs.Mistakes.{least_of};
 ghost use Rattle.resolution.specs.Working.FaultLists.{no_target, final_faults, target_faults};
 ghost use Rattle.types_symbols.specs.{meaning_of};

@@ -15,9 +15,10 @@ use Rattle.resolution.specs.declared.wanted.Want.TheVariants.{Anything, Conditio
 use Rattle.resolution.specs.Limits.{section_limits, helper_limits}
 use Rattle.resolution.specs.Scopes.{Scope, outside, the_decl, meaning, helper_meant, type_of, left}
 use Rattle.resolution.specs.Expressions.{want}
-use Rattle.resolution.specs.Statements.{target_of, wanted_by, after, after_all}
+use Rattle.resolution.specs.Working.TypedStatements.{target_of, wanted_by}
+use Rattle.resolution.specs.Statements.{after, after_all}
 use Rattle.resolution.specs.Constants.{want_of, initialised, member_want}
-use Rattle.resolution.specs.Resolution.{entry}
+use Rattle.resolution.specs.Statements.{entry}
 use Rattle.resolution.specs.Where.{operand_want, prefix_want, side_want}
 
 -- ---- expressions

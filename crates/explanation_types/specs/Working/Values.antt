@@ -25,14 +25,16 @@ use Rattle.resolution.specs.declared.owner_field.OwnerField.{OwnerField}
 use Rattle.resolution.specs.declared.wanted.Sort.{Sort}
 use Rattle.resolution.specs.declared.wanted.Sort.TheVariants as sort
 use Rattle.resolution.specs.declared.wanted.Want.{Want}
-use Rattle.resolution.specs.Owners.{owner_field}
+use Rattle.resolution.specs.Working.TypedOwners.{owner_field}
 use Rattle.resolution.specs.Scopes.{Scope, Meaning, a_decl, a_local, nothing, entered, helper_meant, meaning}
 use Rattle.resolution.specs.Scopes.{result_of, type_of}
 use Rattle.resolution.specs.Core as core
 use Rattle.resolution.specs.declared.wanted.Want.TheVariants.{Anything, Condition, Value}
-use Rattle.resolution.specs.Expressions.{ResolvedExpr, value, truth, alike_sorts, fits_sort, want, number_resolved}
-use Rattle.resolution.specs.Expressions.{test_resolved, typed, typed_place, Walk, reached, at_lock, lost}
-use Rattle.resolution.specs.Statements.{last_field, target_of, wanted_by}
+use Rattle.resolution.specs.Expressions.{ResolvedExpr, value, truth, alike_sorts, fits_sort, want}
+use Rattle.resolution.specs.Working.TypedExpressions.{number_resolved}
+use Rattle.resolution.specs.Working.TypedExpressions.{test_resolved, typed, typed_place}
+use Rattle.resolution.specs.Expressions.{Walk, reached, at_lock, lost}
+use Rattle.resolution.specs.Working.TypedStatements.{last_field, target_of, wanted_by}
 use Rattle.explanation_types.specs.Working.Searches.{inside, in_links, of_expr, of_arguments, of_each, of_call}
 use Rattle.explanation_types.specs.Working.Searches.{of_own, in_blocks, in_else, of_stmts, of_body, of_constants}
 use Rattle.explanation_types.specs.Working.Searches.{of_call_in_thread, in_item, in_items, in_decl, in_decls}

@@ -41,15 +41,17 @@ use Rattle.resolution.specs.Scopes.{member_name, member_bears, the_member, the_l
 use Rattle.resolution.specs.Scopes.{member_has_type, struct_named, bound, entered, left}
 use Rattle.resolution.specs.Numbers.{is_lock, classes_of, objects_of, cells_of, calls_of, total}
 use Rattle.resolution.specs.Expressions.{ResolvedExpr, value, truth, fits, fits_type, fits_sort, alike_sorts, want}
-use Rattle.resolution.specs.Expressions.{typed, operator_of, Walk, reached, at_lock, lost, stepped, at_local}
+use Rattle.resolution.specs.Working.TypedExpressions.{typed}
+use Rattle.resolution.specs.Expressions.{operator_of, Walk, reached, at_lock, lost, stepped, at_local}
 use Rattle.resolution.specs.Expressions.{walk_from}
 use Rattle.resolution.specs.declared.owner_field.OwnerField.{OwnerField}
-use Rattle.resolution.specs.Owners.{owner_field}
-use Rattle.resolution.specs.Statements.{is_var, last_field, target_of, wanted_by, after, after_all}
+use Rattle.resolution.specs.Working.TypedOwners.{owner_field}
+use Rattle.resolution.specs.Statements.{is_var, after, after_all}
+use Rattle.resolution.specs.Working.TypedStatements.{last_field, target_of, wanted_by}
 use Rattle.resolution.specs.Constants.{const_sort, want_of, members_of, pool_members, member_want, initialised}
 use Rattle.resolution.specs.Constants.{init_target_of, giver, given}
 use Rattle.resolution.specs.Annotations.{AnnotationCursor, stepped_on, cursor_at}
-use Rattle.resolution.specs.Resolution.{ahead_of}
+use Rattle.resolution.specs.Statements.{ahead_of}
 use Rattle.resolution.specs.Where.{operand_want, prefix_want, side_want}
 use Rattle.resolution.specs.Faults.{start_of, const_start}
 use Rattle.core_lang_calls.specs.Working.FaultLists.{graph_faults}

@@ -4,7 +4,7 @@ use Rattle.syntax.specs.Trees.{Decl, Section}
 use Rattle.core_lang_calls.specs.Graphs.{Body}
 use Rattle.resolution.specs.declared.body_limits.BodyLimits.{BodyLimits}
 use Rattle.resolution.specs.Limits.{SECTION_LIMIT}
-use Rattle.resolution.specs.Resolution.{ahead_of}
+use Rattle.resolution.specs.Statements.{ahead_of}
 use Rattle.resolution.specs.CallGraphs.{body_in, helper_bodies, section_bodies}
 
 -- the helpers, as many as there may be

@@ -10,7 +10,8 @@ use Rattle.core_lang.specs.declared.tree.Expr as the_expr
 use Rattle.core_lang.specs.declared.tree.Condition as the_condition
 use Rattle.resolution.specs.CoreViews.{core_expr, core_condition}
 use Rattle.resolution.specs.Scopes.{Scope}
-use Rattle.resolution.specs.Expressions.{ResolvedExpr, Tests, typed, typed_links, typed_tests, chained}
+use Rattle.resolution.specs.Expressions.{ResolvedExpr}
+use Rattle.resolution.specs.Working.TypedExpressions.{Tests, typed, typed_links, typed_tests, chained}
 use Rattle.resolution.specs.Faults.{start_of}
 use Rattle.resolution.specs.Where.{side_want}
 use Rattle.resolution.specs.Working.FaultLists.{link_faults, side_faults, wanted_faults}

@@ -7,7 +7,8 @@ use Rattle.core_lang.specs.declared.tree.Operation as the_operation
 use Rattle.core_lang.specs.declared.tree.Condition as the_condition
 use Rattle.resolution.specs.Core as core
 use Rattle.resolution.specs.CoreViews.{core_expr, core_operations, core_condition, core_conditions}
-use Rattle.resolution.specs.Expressions.{ResolvedExpr, value, truth, Tests, all_hold, one_holds}
+use Rattle.resolution.specs.Expressions.{ResolvedExpr, value, truth}
+use Rattle.resolution.specs.Working.TypedExpressions.{Tests, all_hold, one_holds}
 use Rattle.types_expressions.specs.declared.resolved_expr.ResolvedExpr as s
 use Rattle.types_expressions.specs.declared.resolved_expr.ResolvedExpr.TheVariants as v
 use Rattle.types_expressions.specs.declared.resolved_expr.Side as the_side

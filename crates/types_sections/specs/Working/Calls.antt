@@ -13,7 +13,7 @@ use Rattle.core_lang.specs.declared.value.ValueType.{ValueType}
 use Rattle.resolution.specs.Core as core
 use Rattle.resolution.specs.CoreViews.{core_expr}
 use Rattle.resolution.specs.Scopes.{Scope, meaning, helper_meant, number_at}
-use Rattle.resolution.specs.Statements.{Part, typed_values, type_given, can_take, acts_if}
+use Rattle.resolution.specs.Working.TypedStatements.{Part, typed_values, type_given, can_take, acts_if}
 use Rattle.resolution.specs.Working.FaultLists.{no_helper, values_faults, each_value_faults, passed_values_faults}
 use Rattle.resolution.specs.Working.FaultLists.{given_back_faults}
 

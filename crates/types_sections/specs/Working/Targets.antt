@@ -11,10 +11,12 @@ use Rattle.core_lang.specs.declared.tree.Stmt as the_stmt
 use Rattle.resolution.specs.Core as core
 use Rattle.resolution.specs.CoreViews.{core_expr, core_condition, core_path, core_stmt, core_stmts, core_return}
 use Rattle.resolution.specs.Scopes.{Scope, Meaning, meaning, bound, left, type_of}
-use Rattle.resolution.specs.Statements.{Target, to_local, to_global, to_element, to_field, Assignee, Part, does}
-use Rattle.resolution.specs.Statements.{gives, binds, Body, after_all, typed_if}
+use Rattle.resolution.specs.Working.TypedStatements.{Target, to_local, to_global, to_element, to_field, Assignee, Part}
+use Rattle.resolution.specs.Working.TypedStatements.{does}
+use Rattle.resolution.specs.Working.TypedStatements.{gives, binds, Body, typed_if}
+use Rattle.resolution.specs.Statements.{after_all}
 use Rattle.resolution.specs.declared.owner_field.OwnerField.{OwnerField}
-use Rattle.resolution.specs.Owners.{tested_by, owned_by}
+use Rattle.resolution.specs.Working.TypedOwners.{tested_by, owned_by}
 use Rattle.resolution.specs.Working.FaultLists.{no_array, no_elements, no_owner, owner_field_faults, owner_faults}
 use Rattle.resolution.specs.Working.FaultLists.{stmt_faults}
 use Rattle.types_expressions.specs.declared.place.Indexed.{Indexed}

@@ -7,7 +7,7 @@ use Rattle.resolution.specs.Core as core
 use Rattle.resolution.specs.CoreViews.{core_locals, core_stmts, core_return}
 use Rattle.source.specs.declared.mistake.Mistake.{Mistake}
 use Rattle.resolution.specs.Scopes.{Scope, entered}
-use Rattle.resolution.specs.Resolution.{section_with, section_of}
+use Rattle.resolution.specs.Working.TypedSections.{section_with, section_of}
 use Rattle.resolution.specs.Working.FaultLists.{param_faults, stmts_faults}
 use Rattle.types_sections.specs.Working.Targets.{body_of}
 use Rattle.types_sections.specs.declared.stmt.Body as the_body

@@ -3,8 +3,9 @@ use Rattle.std.specs.Prelude.{IfOk, map, option_map}
 use Rattle.syntax.specs.Views.{param_of, stmts_of, section_of as section_view}
 use Rattle.resolution.specs.CoreViews.{core_section}
 use Rattle.resolution.specs.Scopes.{entered}
-use Rattle.resolution.specs.Statements.{typed_body, after_all}
-use Rattle.resolution.specs.Resolution.{core_locals}
+use Rattle.resolution.specs.Working.TypedStatements.{typed_body}
+use Rattle.resolution.specs.Statements.{after_all}
+use Rattle.resolution.specs.Working.TypedSections.{core_locals}
 use Rattle.types_expressions.specs.Working.Checkers.{scope}
 use Rattle.types_sections.proofs.Blocks.{section_is}
 use Rattle.types_sections.proofs.section.judge_in.Goals as goal

@@ -5,8 +5,10 @@ use Rattle.std.specs.Prelude.{option_map, IfOk, OnOk}
 use Rattle.syntax.specs.declared.tree.Stmt as tree
 use Rattle.syntax.specs.Trees.{Stmt}
 use Rattle.syntax.specs.Views.{expr_of, stmt_of, stmts_of, else_of}
-use Rattle.resolution.specs.Statements.{prints, returns, block_of, typed_body, typed_stmt, after, after_else, after_all}
-use Rattle.resolution.specs.Expressions.{as_value, fitting, typed, want}
+use Rattle.resolution.specs.Working.TypedStatements.{prints, returns, block_of, typed_body, typed_stmt}
+use Rattle.resolution.specs.Statements.{after, after_else, after_all}
+use Rattle.resolution.specs.Working.TypedExpressions.{as_value, fitting, typed}
+use Rattle.resolution.specs.Expressions.{want}
 use Rattle.source.specs.Mistakes.{least_of}
 use Rattle.resolution.specs.Working.FaultLists.{stmt_faults, stmts_faults, wanted_faults}
 use Rattle.resolution.specs.Scopes.{left}

@@ -1,7 +1,7 @@
 use Rattle.std.proofs.Common.{ap, sym, ◌∙◌}
 use Rattle.std.specs.Prelude.{option_map}
 use Rattle.resolution.specs.CoreViews.{core_expr}
-use Rattle.resolution.specs.Statements.{acts, assigns, set_to}
+use Rattle.resolution.specs.Working.TypedStatements.{acts, assigns, set_to}
 use Rattle.types_sections.specs.Working.Targets.{assignee_of, target_seen}
 use Rattle.types_sections.specs.declared.target.Target.{Target}
 use Rattle.types_expressions.specs.Theory.Zips.{zipped}

@@ -2,9 +2,10 @@ use Rattle.std.proofs.Common.{ap, ◌∙◌}
 use Rattle.std.specs.Prelude.{option_map}
 use Rattle.syntax.specs.Trees.{Ident}
 use Rattle.syntax.specs.Views.{expr_of, place_of}
-use Rattle.resolution.specs.Expressions.{as_value, fitting, typed}
+use Rattle.resolution.specs.Working.TypedExpressions.{as_value, fitting, typed}
 use Rattle.resolution.specs.CoreViews.{core_expr}
-use Rattle.resolution.specs.Statements.{assigns, first_name, target_of, wanted_by}
+use Rattle.resolution.specs.Working.TypedStatements.{assigns, target_of, wanted_by}
+use Rattle.resolution.specs.Statements.{first_name}
 use Rattle.source.specs.Mistakes.{least_of}
 use Rattle.resolution.specs.Working.FaultLists.{target_faults, wanted_faults}
 use Rattle.types_expressions.specs.Working.Checkers.{scope}

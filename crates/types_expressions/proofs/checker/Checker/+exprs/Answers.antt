@@ -7,7 +7,8 @@ use Rattle.syntax.specs.Views.{ident, expr_of, joined_of, element_of, path_of, l
 use Rattle.syntax.specs.declared.tree.Expr as tree
 use Rattle.syntax.specs.declared.tree.Link as tree_link
 use Rattle.syntax.specs.declared.tree.Level.TheVariants.{Sum, Conjunction, Disjunction}
-use Rattle.resolution.specs.Expressions.{chained, compared, named_value, number_resolved, parenthesised, test_resolved, typed, typed_links, typed_place}
+use Rattle.resolution.specs.Working.TypedExpressions.{chained, compared, named_value, number_resolved, parenthesised}
+use Rattle.resolution.specs.Working.TypedExpressions.{test_resolved, typed, typed_links, typed_place}
 use Rattle.resolution.specs.CoreViews.{core_expr}
 use Rattle.source.specs.Mistakes.{least_of}
 use Rattle.resolution.specs.Working.FaultLists.{expr_faults, link_faults, misfit, wanted_faults}

@@ -1,7 +1,8 @@
 use Rattle.std.proofs.Common.{ap, ◌∙◌}
 use Rattle.std.specs.Prelude.{map}
 use Rattle.syntax.specs.Views.{ident}
-use Rattle.resolution.specs.Expressions.{path_value, walk_from}
+use Rattle.resolution.specs.Working.TypedExpressions.{path_value}
+use Rattle.resolution.specs.Expressions.{walk_from}
 use Rattle.types_symbols.specs.{meaning_of}
 use Rattle.types_expressions.specs.Working.Checkers.{scope}
 use Rattle.types_expressions.proofs.checker.Checker.path.Goals as goal

@@ -1,4 +1,4 @@
--- What stands behind the `where` of a `let`: which final reference of its value has to name what which local names.
+-- What the code computes: what stands behind the `where` of a `let`, the final reference of its value that is named there and the local.
 use Rattle.std.specs.Prelude.{ℕ, Bool, false, List, Option, Some, None, if◌then◌else◌}
 use Rattle.syntax.specs.Trees.{Ident, ref_type, Owner, Member, lock_member, final_member, field_member, Decl}
 use Rattle.core_lang.specs.declared.value.ValueType as core_type
