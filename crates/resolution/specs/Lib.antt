@@ -21,3 +21,5 @@ pub use Rattle.resolution.specs.Faults.{IsFault, IsRefusal, HasNoFault}
 pub use Rattle.resolution.specs.Working.Laws.{TheLeastIsAFault, NoneGoesBeforeTheLeast, NoLeastIsNoFault}
 pub use Rattle.resolution.specs.Working.Laws.{HaveAtMostOneLeast, FaultlessAreResolved, GraphOfResolved}
 pub use Rattle.resolution.specs.Working.Laws.{ResolvedAreChecked, DeclaresNoHelper, WithoutHelpersAreWellFormed}
+pub use Rattle.resolution.specs.Working.Laws.{ExpressionsByRules, FoundAreAssigned, AssignedAreFound}
+pub use Rattle.resolution.specs.Working.Laws.{StatementsByRules, BodiesByRules, SectionsByRules}

@@ -1,5 +1,6 @@
 //! What holds of resolution and of faults: functions that do nothing, and whose contracts are the laws.
 
+ghost use Rattle.resolution.specs.Working.Laws.{ExpressionsByRules, FoundAreAssigned, AssignedAreFound, StatementsByRules, BodiesByRules, SectionsByRules};
 ghost use Rattle.resolution.specs.Working.Laws.{TheLeastIsAFault, NoneGoesBeforeTheLeast, NoLeastIsNoFault, HaveAtMostOneLeast, FaultlessAreResolved, GraphOfResolved, ResolvedAreChecked, WithoutHelpersAreWellFormed};
 
 use core_lang_calls::laws::{faultless_keep_limits, listed_faults};
@@ -40,4 +41,15 @@ pub fn resolved_are_checked()
 /// What a program with no fault, in which no helper is declared, is resolved to is well formed.
 pub fn without_helpers()
     ensures { WithoutHelpersAreWellFormed }
+{}
+
+/// What the code computes of expressions, the left sides of assignments, statements, bodies and sections is what the
+/// rules of typing say of them, and the other way round.
+pub fn typed_by_rules()
+    ensures expressions { ExpressionsByRules }
+    ensures found { FoundAreAssigned }
+    ensures assigned { AssignedAreFound }
+    ensures statements { StatementsByRules }
+    ensures bodies { BodiesByRules }
+    ensures sections { SectionsByRules }
 {}

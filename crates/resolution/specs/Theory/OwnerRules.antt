@@ -108,32 +108,44 @@ place_assigns sc (element x e) =
     element_assigns sc x e (meaning sc x.text) refl (number_resolved (typed sc e)) (number_when (Types sc e) (typed sc e) (expr_types sc e))
 place_assigns sc (path x fs) = path_assigns sc x fs (meaning sc x.text) refl (walk_from sc.decls (meaning sc x.text) fs) refl
 
+pub target_types : (sc : Scope) (p : Place) (a : Assignee) → target_of sc p ≡ Some a → AssignsTo sc p a
+target_types sc p a is = when (AssignsTo sc p) (target_of sc p) (place_assigns sc p) a is
+
 -- what is assigned to by the rules is found
 abbrev pub Found : Scope → Place → ValueType → (core.Expr → core.Action) → Type 0
 Found sc p t set = (a : Assignee) × (target_of sc p ≡ Some a) × (a.value_type ≡ t) × (set_to a.target ≡ set)
 
 pub target_is : {sc : Scope} {p : Place} {t : ValueType} {set : core.Expr → core.Action} → Assigns sc p t set → Found sc p t set
-target_is {sc = sc} (assigns_local {x = x} {i = i} {l = l} {t = t} is can h) =
-    (record { target = to_local i; value_type = t },
-      ap (assignee_at sc.decls) is
+target_is {sc = sc} (assigns_local {x = x} {i = i} {l = l} {t = t} is can h) = (
+  record { target = to_local i; value_type = t },
+  ap (assignee_at sc.decls) is
       ∙ ap (λ (b : Bool). if b then assignee (Some (to_local i)) l.value_type else None) can
       ∙ ap (assignee (Some (to_local i))) h,
-      refl, refl)
-target_is {sc = sc} (assigns_global {x = x} {i = i} {v = v} {t = t} is h) =
-    (record { target = to_global (cell_of sc.decls i); value_type = t },
-      ap (assignee_at sc.decls) is ∙ ap (assignee (Some (to_global (cell_of sc.decls i)))) h, refl, refl)
-target_is {sc = sc} (assigns_element {x = x} {e = e} {i = i} {a = a} {t = t} {index = y} is h d) =
-    (record { target = to_element (number_at sc.decls i (array a)) y; value_type = t },
-      ap (λ (m : Meaning). assignee_at_element sc.decls m (number_resolved (typed sc e))) is
+  refl,
+  refl,
+)
+target_is {sc = sc} (assigns_global {x = x} {i = i} {v = v} {t = t} is h) = (
+  record { target = to_global (cell_of sc.decls i); value_type = t },
+  ap (assignee_at sc.decls) is ∙ ap (assignee (Some (to_global (cell_of sc.decls i)))) h,
+  refl,
+  refl,
+)
+target_is {sc = sc} (assigns_element {x = x} {e = e} {i = i} {a = a} {t = t} {index = y} is h d) = (
+  record { target = to_element (number_at sc.decls i (array a)) y; value_type = t },
+  ap (λ (m : Meaning). assignee_at_element sc.decls m (number_resolved (typed sc e))) is
       ∙ ap (λ (o : Option ResolvedExpr). assignee_at_element sc.decls (a_decl i (array a)) (number_resolved o)) (typed_is d)
       ∙ ap (assignee (Some (to_element (number_at sc.decls i (array a)) y))) h,
-      refl, refl)
-target_is {sc = sc} (assigns_field {x = x} {fs = fs} {i = i} {k = k} {n = n} {l = l} {base = base} {t = t} is at) =
-    (record { target = to_field (local_path x.span.start i base) k n; value_type = t },
-      ap (λ (m : Meaning). assignee_along x.span.start m (walk_from sc.decls m fs)) is
+  refl,
+  refl,
+)
+target_is {sc = sc} (assigns_field {x = x} {fs = fs} {i = i} {k = k} {n = n} {l = l} {base = base} {t = t} is at) = (
+  record { target = to_field (local_path x.span.start i base) k n; value_type = t },
+  ap (λ (m : Meaning). assignee_along x.span.start m (walk_from sc.decls m fs)) is
       ∙ ap (assignee_along x.span.start (a_local i l)) at
       ∙ ap (λ (o : Option Split). assignee (field_target x.span.start i o) (Some t)) (last_of base k n),
-      refl, refl)
+  refl,
+  refl,
+)
 
 -- ---- behind `where`
 

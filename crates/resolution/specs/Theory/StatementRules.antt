@@ -152,7 +152,7 @@ let_call_types sc l = by_meaning (meaning sc l.call.helper.text) refl
 
     by_meaning : (m : Meaning) → meaning sc l.call.helper.text ≡ m →
         When (PartIs sc (let_call l))
-          (if can_take (type_of sc l.value_type) (type_given sc.decls (helper_meant m)) then acts_if l.start.start (called sc (helper_meant m) l.call.arguments (Some (length sc.locals))) else None)
+        (if can_take (type_of sc l.value_type) (type_given sc.decls (helper_meant m)) then acts_if l.start.start (called sc (helper_meant m) l.call.arguments (Some (length sc.locals))) else None)
     by_meaning (a_decl i (helper s)) is = by_test i s is (can_take (type_of sc l.value_type) (result_of sc.decls s)) refl
     by_meaning m is = no_helper (type_of sc l.value_type) (can_take (type_of sc l.value_type) None) refl
 
@@ -272,6 +272,9 @@ mutual
   body_types : (sc : Scope) (stmts : Stmts) → When (BodyIs sc stmts) (typed_body sc stmts)
   body_types sc no_stmts = types_none
   body_types sc (stmt s rest) = next_types sc s rest (typed_stmt sc s) (stmt_types sc s) (typed_body (after sc s) rest) (body_types (after sc s) rest)
+
+pub types_stmt : (sc : Scope) (s : Stmt) (x : core.Stmt) → typed_stmt sc s ≡ Some (does x) → TypesStmt sc s x.start x.action
+types_stmt sc s x is = when (PartIs sc s) (typed_stmt sc s) (stmt_types sc s) (does x) is
 
 pub types_body : (sc : Scope) (stmts : Stmts) (b : Body) → typed_body sc stmts ≡ Some b → TypesBody sc stmts b.stmts b.result
 types_body sc stmts b is = when (BodyIs sc stmts) (typed_body sc stmts) (body_types sc stmts) b is

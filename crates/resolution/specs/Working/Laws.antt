@@ -15,6 +15,15 @@ use Rattle.resolution.specs.Faults.{IsFault, HasNoFault}
 use Rattle.resolution.specs.Working.FaultLists.{program_faults}
 use Rattle.core_lang_calls.specs.Working.Programs.{IsGraphOf}
 use Rattle.resolution.specs.CallGraphs.{tree_graph}
+use Rattle.syntax.specs.Trees.{Expr, Place, Stmt, Stmts}
+use Rattle.core_lang.specs.declared.value.ValueType.{ValueType}
+use Rattle.resolution.specs.declared.body_limits.BodyLimits.{BodyLimits}
+use Rattle.resolution.specs.Scopes.{Scope}
+use Rattle.resolution.specs.Expressions.{ResolvedExpr}
+use Rattle.resolution.specs.Typing.{Types, Assigns, TypesStmt, TypesBody, TypesSection}
+use Rattle.resolution.specs.Working.TypedExpressions.{typed}
+use Rattle.resolution.specs.Working.TypedStatements.{Assignee, target_of, set_to, does, typed_stmt, Body, typed_body}
+use Rattle.resolution.specs.Working.TypedSections.{typed_section}
 
 -- the least fault of the program's list, if there is one
 abbrev pub the_least : List Decl → Option Mistake
@@ -61,3 +70,35 @@ DeclaresNoHelper decls = (s : Section) → Has decls (helper s) → ⊥
 abbrev pub WithoutHelpersAreWellFormed : Type 0
 WithoutHelpersAreWellFormed =
     (decls : List Decl) (program : Typed) → the_least decls ≡ None → Resolves decls program → DeclaresNoHelper decls → IsWellFormed program
+
+-- ---- what the code computes is what the rules say, and the other way round
+
+abbrev pub ExpressionsByRules : Type 0
+ExpressionsByRules =
+    (sc : Scope) (e : Expr) (r : ResolvedExpr) → (typed sc e ≡ Some r → Types sc e r) × (Types sc e r → typed sc e ≡ Some r)
+
+-- what the code finds to assign to is a left side by the rules
+abbrev pub FoundAreAssigned : Type 0
+FoundAreAssigned =
+    (sc : Scope) (p : Place) (a : Assignee) → target_of sc p ≡ Some a → Assigns sc p a.value_type (set_to a.target)
+
+-- and a left side by the rules is found
+abbrev pub AssignedAreFound : Type 0
+AssignedAreFound =
+    (sc : Scope) (p : Place) (t : ValueType) (set : core.Expr → core.Action) → Assigns sc p t set →
+    (a : Assignee) × (target_of sc p ≡ Some a) × (a.value_type ≡ t) × (set_to a.target ≡ set)
+
+abbrev pub StatementsByRules : Type 0
+StatementsByRules =
+    (sc : Scope) (s : Stmt) (x : core.Stmt) →
+    (typed_stmt sc s ≡ Some (does x) → TypesStmt sc s x.start x.action) × (TypesStmt sc s x.start x.action → typed_stmt sc s ≡ Some (does x))
+
+abbrev pub BodiesByRules : Type 0
+BodiesByRules =
+    (sc : Scope) (stmts : Stmts) (b : Body) →
+    (typed_body sc stmts ≡ Some b → TypesBody sc stmts b.stmts b.result) × (TypesBody sc stmts b.stmts b.result → typed_body sc stmts ≡ Some b)
+
+abbrev pub SectionsByRules : Type 0
+SectionsByRules =
+    (decls : List Decl) (limits : BodyLimits) (s : Section) (x : core.Section) →
+    (typed_section decls limits s ≡ Some x → TypesSection decls limits s x) × (TypesSection decls limits s x → typed_section decls limits s ≡ Some x)

@@ -1,0 +1,22 @@
+use Rattle.resolution.specs.Theory.ExpressionRules.{types_is, typed_is}
+use Rattle.resolution.specs.Theory.OwnerRules.{target_types, target_is}
+use Rattle.resolution.specs.Theory.StatementRules.{types_stmt, stmt_is, types_body, body_is, types_the_section, section_is}
+use Rattle.resolution.proofs.laws.typed_by_rules.Goals as goal
+
+pub returns-clause-expressions : goal.returns-clause-expressions
+returns-clause-expressions c = λ sc e r. (types_is sc e r, typed_is)
+
+pub returns-clause-found : goal.returns-clause-found
+returns-clause-found c = λ sc p a. target_types sc p a
+
+pub returns-clause-assigned : goal.returns-clause-assigned
+returns-clause-assigned c = λ sc p t set h. target_is h
+
+pub returns-clause-statements : goal.returns-clause-statements
+returns-clause-statements c = λ sc s x. (types_stmt sc s x, stmt_is)
+
+pub returns-clause-bodies : goal.returns-clause-bodies
+returns-clause-bodies c = λ sc stmts b. (types_body sc stmts b, body_is)
+
+pub returns-clause-sections : goal.returns-clause-sections
+returns-clause-sections c = λ decls limits s x. (types_the_section decls limits s x, section_is)
