@@ -43,6 +43,8 @@ use Rattle.resolution.specs.Constants.{pool_members, initialised, member_want, g
 use Rattle.resolution.specs.Statements.{ahead_of}
 use Rattle.resolution.specs.Where.{Has, first, further, HasStmt, HasExpr, Binds}
 use Rattle.resolution.specs.Where.{HasCall, HasConst}
+use Rattle.resolution.specs.Theory.ExpressionRules.{typed_is}
+use Rattle.resolution.specs.Theory.OwnerRules.{final_is, has_no_last}
 use Rattle.resolution.specs.Faults as fault
 use Rattle.resolution.specs.Faults.{start_of, const_start, IsTooLarge, IsDeclaredTwice, Reaches, stays, goes_on}
 use Rattle.resolution.specs.Faults.{Walks, walks, NamesGlobal, IsLockDecl, IsLockMember, IsFinalMember, IsUnknown}
@@ -311,13 +313,13 @@ has_same decls ds x same e = ap (λ (cs : List Decl). has_type cs x) same ∙ e
 
 wrong_in : (decls : List Decl) (p : ℕ) → IsWrongType decls p → listed decls WrongType p
 wrong_in decls p (fault.unwanted {sc = sc} {w = w} {e = e} {s = s} h is no_fit) =
-    of_wanted decls sc w e h _ (m.in_right _ (expr_faults sc e) _ (at WrongType (start_of e) _ (ap (misfit w (start_of e)) is ∙ misfit_is (start_of e) (fits w s) no_fit)))
+    of_wanted decls sc w e h _ (m.in_right _ (expr_faults sc e) _ (at WrongType (start_of e) _ (ap (misfit w (start_of e)) (typed_is is) ∙ misfit_is (start_of e) (fits w s) no_fit)))
 wrong_in decls p (fault.unwanted_constant {w = w} {c = c} {s = s} h is no_fit) =
     of_const decls w c h _ (m.in_right _ (own_faults decls c) _ (at WrongType (const_start c) _ (ap (sort_misfit w (const_start c)) is ∙ misfit_is (const_start c) (fits_sort w s) no_fit)))
 wrong_in decls p (fault.unlike_sides {sc = sc} {w = w} {a = a} {b = b} {c = c} {s = s} {t = t} h so x y un) =
-    of_sides decls sc w a b c h so (start_of b) (ap (λ (q : Option ResolvedExpr). unlike (start_of a) (start_of b) q (typed sc b)) x ∙ ap (unlike (start_of a) (start_of b) (Some s)) y ∙ unlike_is (start_of a) (start_of b) s t un)
+    of_sides decls sc w a b c h so (start_of b) (ap (λ (q : Option ResolvedExpr). unlike (start_of a) (start_of b) q (typed sc b)) (typed_is x) ∙ ap (unlike (start_of a) (start_of b) (Some s)) (typed_is y) ∙ unlike_is (start_of a) (start_of b) s t un)
 wrong_in decls p (fault.truths_compared {sc = sc} {w = w} {a = a} {b = b} {c = c} {x = x} h so e g) =
-    of_sides decls sc w a b c h so (start_of a) (ap (λ (q : Option ResolvedExpr). unlike (start_of a) (start_of b) q (typed sc b)) e ∙ ap (unlike (start_of a) (start_of b) (Some (truth x))) g)
+    of_sides decls sc w a b c h so (start_of a) (ap (λ (q : Option ResolvedExpr). unlike (start_of a) (start_of b) q (typed sc b)) (typed_is e) ∙ ap (unlike (start_of a) (start_of b) (Some (truth x))) (typed_is g))
 wrong_in decls p (fault.no_value {sc = sc} {w = w} {x = x} {i = k} {d = d} h is not_so e) =
     of_expr decls sc w (place (lone x)) h _ (at WrongType x.span.start _ (ap (list.no_value sc.decls x.span.start) is ∙ no_value_is sc.decls x.span.start k d not_so (has_same decls sc.decls (a_decl k d) (expr_decls decls sc w (place (lone x)) h) e)))
 wrong_in decls p (fault.no_elements {sc = sc} {x = x} {e = e} h not_so t) =
@@ -345,14 +347,14 @@ wrong_in decls p (fault.number_owned {sc = sc} {l = l} {o = o} h is) =
 wrong_in decls p (fault.owner_no_local {sc = sc} {l = l} {o = o} {i = n} {d = d} h is t) =
     of_owner_name decls sc l o h WrongType
     (ap (list.no_owner sc.decls o.local.span.start (owner_field sc.decls (type_of sc l.value_type) o.field)) is ∙ unfit_in sc.decls WrongType o.local.span.start (a_decl n d) (has_same decls sc.decls (a_decl n d) (stmt_decls decls sc (let_owned l o) h) t))
-wrong_in decls p (fault.other_owner {sc = sc} {l = l} {o = o} {f = g} {b = b} {t = t} h of is has_it no_fit) =
+wrong_in decls p (fault.other_owner {sc = sc} {l = l} {o = o} {f = g} {b = b} {t = t} {u = u} h typed_so of is has_it no_fit) =
     let same = stmt_decls decls sc (let_owned l o) h in
-    let field : owner_field sc.decls (type_of sc l.value_type) o.field ≡ Some g = ap (λ (ds : List Decl). owner_field ds (type_of sc l.value_type) o.field) same ∙ of in
+    let field : owner_field sc.decls (type_of sc l.value_type) o.field ≡ Some g = ap (λ (ds : List Decl). owner_field ds (type_of sc l.value_type) o.field) same ∙ ap (λ (v : Option core_type.ValueType). owner_field decls v o.field) typed_so ∙ final_is of in
     of_owner_name decls sc l o h WrongType
     (ap (list.no_owner sc.decls o.local.span.start (owner_field sc.decls (type_of sc l.value_type) o.field)) is
     ∙ ap (λ (q : Option OwnerField). other_type o.local.span.start q b.value_type) field
     ∙ ap (other_type o.local.span.start (Some g)) has_it
-    ∙ misfit_is o.local.span.start (fits_type g.value_type (sort.Of t)) no_fit)
+    ∙ misfit_is o.local.span.start (fits_type g.value_type (sort.Of u)) no_fit)
 wrong_in decls p (fault.misplaced_operator {sc = sc} {w = w} {level = level} {e = a} {f = g} {links = links} {o = o} h of l e) =
     of_expr decls sc w (chain level a links) h _ (chain_link sc level a links o g l _ (m.in_left _ (operator_faults level (start_of g) o ++ expr_faults sc g) _ (m.in_left _ (operator_faults level (start_of g) o) _ (at WrongType (start_of g) _ (operators_are level (start_of g) o of e)))))
 
@@ -392,7 +394,7 @@ fixed_in decls p (fault.to_member {sc = sc} {x = x} {j = j} {e = e} {i = n} {p =
     (at NotAssignable x.span.start _ (ap (no_array sc.decls x.span.start) is ∙ unfit_in sc.decls NotAssignable x.span.start (a_decl n (pool q)) (has_same decls sc.decls (a_decl n (pool q)) same t)))))
 fixed_in decls p (fault.to_final {sc = sc} {x = x} {fs = fs} {e = e} steps t h to none) =
     of_target decls sc (path x fs) e NotAssignable x.span.start h (λ same. m.in_right _ (path_faults sc.decls x.span.start (meaning sc x.text) fs) _
-    (at NotAssignable x.span.start _ (ap (λ (cs : List Decl). final_faults x.span.start (walk_from cs (meaning sc x.text) fs)) same ∙ ap (final_faults x.span.start) to ∙ ap (λ (o : Option _). one_if (not (is_some o)) NotAssignable x.span.start) none)))
+    (at NotAssignable x.span.start _ (ap (λ (cs : List Decl). final_faults x.span.start (walk_from cs (meaning sc x.text) fs)) same ∙ ap (final_faults x.span.start) to ∙ ap (λ (o : Option _). one_if (not (is_some o)) NotAssignable x.span.start) (has_no_last steps none))))
 
 bare_in : (decls : List Decl) (p : ℕ) → IsUnprotected decls p → listed decls NeitherFinalNorProtected p
 bare_in decls p (fault.bare_global {v = v} h e) =

@@ -30,13 +30,14 @@ use Rattle.resolution.specs.Where.{Has, first, further, HasLink, this_link, late
 use Rattle.resolution.specs.Where.{side_want, Within, itself, in_parentheses, in_prefix, in_first, in_operand}
 use Rattle.resolution.specs.Where.{in_left, in_right, in_index, Among, here, later, in_then, in_else, in_while}
 use Rattle.resolution.specs.Where.{IsArgument, for_parameter, for_nothing, Asks, of_let, of_owned, of_let_call}
-use Rattle.resolution.specs.Where.{of_var, of_assign, of_index, of_while, of_print, of_return, of_call_alone, HasBody}
+use Rattle.resolution.specs.Where.{of_var, of_assign, of_unassignable, of_index, of_while, of_print, of_return, of_call_alone, HasBody}
 use Rattle.resolution.specs.Where.{of_section, of_helper, HasStmt, in_body, HasHelperCall, by_let, by_itself, HasExpr}
 use Rattle.resolution.specs.Where.{in_stmt, Binds, parameter, a_let, an_owned_let, a_called_let, a_var, HasType}
 use Rattle.resolution.specs.Where.{of_global, of_array, of_pool, of_final, of_field, of_parameter, of_result}
 use Rattle.resolution.specs.Where.{of_a_let, of_an_owned_let, of_a_called_let, of_a_var, InItems, this_call}
 use Rattle.resolution.specs.Where.{in_repeat, later_call, HasCall, in_thread, HasConst, opening, initial, argument}
 use Rattle.resolution.specs.Faults.{start_of}
+use Rattle.resolution.specs.Theory.OwnerRules.{wanted_right, wanted_nothing}
 use Rattle.resolution.specs.Working.FaultLists as list
 use Rattle.resolution.specs.Working.FaultLists.{one, one_if, misfit, no_elements, no_array, operator_faults}
 use Rattle.resolution.specs.Working.FaultLists.{side_faults, expr_faults, link_faults, wanted_faults, local_faults}
@@ -149,7 +150,8 @@ asked sc (let_call l) w e (of_let_call p) f i =
     m.in_right f (local_faults sc l.name ++ type_faults sc l.value_type ++ given_back_faults sc.decls l.call.helper.span.start (type_of sc l.value_type) (helper_meant (meaning sc l.call.helper.text))) _
     (passed_in sc l.call w e p f i)
 asked sc (var_local l) w e of_var f i = m.in_right f (local_faults sc l.name ++ type_faults sc l.value_type) _ i
-asked sc (assign p e) w x of_assign f i = m.in_right f (target_faults sc p) _ i
+asked sc (assign p e) w x (of_assign h) f i = m.in_right f (target_faults sc p) _ (subst (λ (v : Want). IsAmong f (wanted_faults sc v e)) (sym (wanted_right h)) i)
+asked sc (assign p e) w x (of_unassignable never) f i = m.in_right f (target_faults sc p) _ (subst (λ (v : Want). IsAmong f (wanted_faults sc v e)) (sym (wanted_nothing sc p never)) i)
 asked sc (assign (element y j) e) w x of_index f i =
     m.in_left f (target_faults sc (element y j)) _ (m.in_right f (no_elements sc.decls y.span.start (meaning sc y.text) ++ no_array sc.decls y.span.start (meaning sc y.text)) _ i)
 asked sc (if_then start e body close other) w x site.of_if f i = m.in_left f (wanted_faults sc Condition e ++ stmts_faults sc body) _ (m.in_left f (wanted_faults sc Condition e) _ i)

@@ -31,6 +31,7 @@ use Rattle.resolution.specs.Constants.{const_sort, want_of}
 use Rattle.resolution.specs.Where.{operand_want, prefix_want, side_want, HasLink, this_link, later_link, Within}
 use Rattle.resolution.specs.Where.{itself, in_parentheses, in_prefix, in_first, in_operand, in_left, in_right}
 use Rattle.resolution.specs.Where.{in_index, HasExpr, HasPlace, is_read, HasType, HasConst}
+use Rattle.resolution.specs.Theory.ExpressionRules.{types_is}
 use Rattle.resolution.specs.Faults as fault
 use Rattle.resolution.specs.Faults.{start_of, const_start, IsNoValue, HasNoElements, IsNoReference, IsNoStruct}
 use Rattle.resolution.specs.Faults.{IsPool, AreUnlike, too_large, unknown, wrong_type}
@@ -231,15 +232,15 @@ true_path sc x fs h nothing is f i = true_unknown sc (path x fs) h is f i
 true_misfit : (sc : Scope) (w : Want) (e : Expr) → HasExpr sc.decls sc w e → (s : Option ResolvedExpr) →
     typed sc e ≡ s → (f : Mistake) → IsAmong f (misfit w (start_of e) s) → IsTrue_of sc.decls f
 true_misfit sc w e h None is f i = absurd i
-true_misfit sc w e h (Some s) is f i = misfit_if sc.decls (start_of e) (fits w s) (λ t. wrong_type (fault.unwanted h is t)) f i
+true_misfit sc w e h (Some s) is f i = misfit_if sc.decls (start_of e) (fits w s) (λ t. wrong_type (fault.unwanted h (types_is sc e s is) t)) f i
 
 true_unlike : (sc : Scope) (w : Want) (a b : Expr) (c : written.Comparison) → HasExpr sc.decls sc w (compare a c b) →
     IsEquality c → (s t : Option ResolvedExpr) → typed sc a ≡ s → typed sc b ≡ t → (f : Mistake) →
     IsAmong f (unlike (start_of a) (start_of b) s t) → IsTrue_of sc.decls f
-true_unlike sc w a b c h so (Some (value x s)) (Some (value y t)) p q f i = misfit_if sc.decls (start_of b) (alike_sorts s t) (λ e. wrong_type (fault.unlike_sides h so p q e)) f i
-true_unlike sc w a b c h so (Some (value x s)) (Some (truth d)) p q f i = of_one sc.decls WrongType (start_of b) f (wrong_type (fault.unlike_sides h so p q tt)) i
-true_unlike sc w a b c h so (Some (truth d)) (Some (value y t)) p q f i = of_one sc.decls WrongType (start_of b) f (wrong_type (fault.unlike_sides h so p q tt)) i
-true_unlike sc w a b c h so (Some (truth d)) (Some (truth g)) p q f i = of_one sc.decls WrongType (start_of a) f (wrong_type (fault.truths_compared h so p q)) i
+true_unlike sc w a b c h so (Some (value x s)) (Some (value y t)) p q f i = misfit_if sc.decls (start_of b) (alike_sorts s t) (λ e. wrong_type (fault.unlike_sides h so (types_is sc a (value x s) p) (types_is sc b (value y t) q) e)) f i
+true_unlike sc w a b c h so (Some (value x s)) (Some (truth d)) p q f i = of_one sc.decls WrongType (start_of b) f (wrong_type (fault.unlike_sides h so (types_is sc a (value x s) p) (types_is sc b (truth d) q) tt)) i
+true_unlike sc w a b c h so (Some (truth d)) (Some (value y t)) p q f i = of_one sc.decls WrongType (start_of b) f (wrong_type (fault.unlike_sides h so (types_is sc a (truth d) p) (types_is sc b (value y t) q) tt)) i
+true_unlike sc w a b c h so (Some (truth d)) (Some (truth g)) p q f i = of_one sc.decls WrongType (start_of a) f (wrong_type (fault.truths_compared h so (types_is sc a (truth d) p) (types_is sc b (truth g) q))) i
 true_unlike sc w a b c h so (Some s) None p q f i = absurd i
 true_unlike sc w a b c h so None t p q f i = absurd i
 

@@ -33,7 +33,7 @@ use Rattle.resolution.specs.Constants.{want_of}
 use Rattle.resolution.specs.Statements.{ahead_of, entry}
 use Rattle.resolution.specs.Where as site
 use Rattle.resolution.specs.Where.{Has, first, further, Among, here, later, in_then, in_else, in_while, IsArgument}
-use Rattle.resolution.specs.Where.{for_parameter, for_nothing, Asks, of_let, of_owned, of_let_call, of_var, of_assign}
+use Rattle.resolution.specs.Where.{for_parameter, for_nothing, Asks, of_let, of_owned, of_let_call, of_var}
 use Rattle.resolution.specs.Where.{of_index, of_while, of_print, of_return, of_call_alone, HasBody, HasStmt, in_body}
 use Rattle.resolution.specs.Where.{HasHelperCall, by_let, by_itself, HasExpr, in_stmt, HasPlace, is_written, Binds}
 use Rattle.resolution.specs.Where.{parameter, a_let, an_owned_let, a_called_let, a_var, HasType, of_parameter}
@@ -42,6 +42,7 @@ use Rattle.resolution.specs.Where.{names_owner}
 use Rattle.resolution.specs.Faults as fault
 use Rattle.resolution.specs.Faults.{IsNoValue, IsNoHelper, declared_twice, unknown, wrong_type, miscounted}
 use Rattle.resolution.specs.Faults.{not_assignable, over_limit, lock_as_value}
+use Rattle.resolution.specs.Theory.OwnerRules.{asks_right, ends_with_none, final_types}
 use Rattle.resolution.specs.Working.FaultLists as list
 use Rattle.resolution.specs.Working.FaultLists.{one, one_if, unfit, no_elements, path_faults, wanted_faults}
 use Rattle.resolution.specs.Working.FaultLists.{type_faults, taken, local_faults, no_target, no_array, final_faults}
@@ -119,7 +120,7 @@ true_array sc x j e h nothing is f i = absurd i
 true_final : (sc : Scope) (x : Ident) (fs : List Ident) (e : Expr) → HasStmt sc.decls sc (assign (path x fs) e) →
     (w : Walk) → walk_from sc.decls (meaning sc x.text) fs ≡ w → (f : Mistake) →
     IsAmong f (final_faults x.span.start w) → IsTrue_of sc.decls f
-true_final sc x fs e h (reached steps t) is f i = of_if sc.decls (not (is_some (last_field steps))) NotAssignable x.span.start f (λ b. not_assignable (fault.to_final steps t h is (none_is (last_field steps) b))) i
+true_final sc x fs e h (reached steps t) is f i = of_if sc.decls (not (is_some (last_field steps))) NotAssignable x.span.start f (λ b. not_assignable (fault.to_final steps t h is (λ base k n. ends_with_none steps base k n (none_is (last_field steps) b)))) i
 true_final sc x fs e h at_lock is f i = absurd i
 true_final sc x fs e h lost is f i = absurd i
 
@@ -165,7 +166,7 @@ module _ (sc : Scope) (l : tree.Local) (o : Owner) (h : HasStmt sc.decls sc (let
       (f : Mistake) → IsAmong f (other_type o.local.span.start g t) → IsTrue_of sc.decls f
   true_other n b is None of t at f i = absurd i
   true_other n b is (Some g) of None at f i = absurd i
-  true_other n b is (Some g) of (Some t) at f i = misfit_if sc.decls o.local.span.start (fits_type g.value_type (sort.Of t)) (λ e. wrong_type (fault.other_owner h of is at e)) f i
+  true_other n b is (Some g) of (Some t) at f i = misfit_if sc.decls o.local.span.start (fits_type g.value_type (sort.Of t)) (λ e. let final = final_types sc.decls (type_of sc l.value_type) o.field g of in wrong_type (fault.other_owner h final.1 final.2 is at e)) f i
 
   true_no_owner : (m : Meaning) → meaning sc o.local.text ≡ m → (f : Mistake) →
       IsAmong f (list.no_owner sc.decls o.local.span.start (owner_field sc.decls (type_of sc l.value_type) o.field) m) → IsTrue_of sc.decls f
@@ -343,7 +344,7 @@ mutual
       moved decls sc f same (true_typed_local sc (var_local l) l.name l.value_type l.value g (a_var g) (of_a_var g) of_var f i)
   true_stmt decls sc (assign p e) h same up f i =
       let g = has_moved decls sc (assign p e) same h in
-      moved decls sc f same (both f (target_faults sc p) (wanted_faults sc (wanted_by (target_of sc p)) e) (true_target sc p e g f) (true_asked sc (assign p e) (wanted_by (target_of sc p)) e g of_assign f) i)
+      moved decls sc f same (both f (target_faults sc p) (wanted_faults sc (wanted_by (target_of sc p)) e) (true_target sc p e g f) (true_asked sc (assign p e) (wanted_by (target_of sc p)) e g (asks_right sc p e) f) i)
   true_stmt decls sc (if_then start e body close other) h same up f i =
       both f (wanted_faults sc Condition e ++ stmts_faults sc body) (else_faults (left sc (after_all sc body)) other)
       (both f (wanted_faults sc Condition e) (stmts_faults sc body)

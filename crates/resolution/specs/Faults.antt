@@ -26,6 +26,7 @@ use Rattle.syntax.specs.Trees.{Section, Call, Decl, lock, struct, global, array,
 use Rattle.core_lang.specs.declared.value.ValueType as core_type
 use Rattle.core_lang.specs.declared.value.ValueType.TheVariants.{Integer, Reference}
 use Rattle.core_lang.specs.declared.tree.FieldStep.{FieldStep}
+use Rattle.core_lang.specs.declared.tree.FieldStep.TheVariants as step
 use Rattle.resolution.specs.declared.body_limits.BodyLimits.{BodyLimits}
 use Rattle.resolution.specs.declared.init_target.InitTarget.{InitTarget}
 use Rattle.resolution.specs.declared.wanted.Sort.{Sort}
@@ -40,13 +41,11 @@ use Rattle.resolution.specs.Scopes.{member_bears, the_member, the_local, has_typ
 use Rattle.resolution.specs.Scopes.{struct_named}
 use Rattle.resolution.specs.Numbers.{is_lock, total, classes_of, objects_of, cells_of, calls_of}
 use Rattle.resolution.specs.Expressions.{ResolvedExpr, value, truth, fits, fits_type, fits_sort, alike_sorts}
-use Rattle.resolution.specs.Working.TypedExpressions.{typed}
 use Rattle.resolution.specs.Expressions.{operator_of, Walk, reached, at_lock, walk_from, IsEquality, IsOfNumbers}
 use Rattle.resolution.specs.declared.owner_field.OwnerField.{OwnerField}
-use Rattle.resolution.specs.Working.TypedOwners.{owner_field}
 use Rattle.resolution.specs.Statements.{is_var, first_name}
-use Rattle.resolution.specs.Working.TypedStatements.{last_field}
 use Rattle.resolution.specs.Constants.{const_sort, members_of, pool_members, initialised, init_target_of, giver, given}
+use Rattle.resolution.specs.Typing.{Types, IsFinalOf}
 use Rattle.resolution.specs.Annotations.{AnnotationCursor, through_member, cursor_at}
 use Rattle.core_lang_calls.specs.Faults.{IsGraphFault}
 use Rattle.resolution.specs.CallGraphs.{tree_graph}
@@ -206,14 +205,14 @@ IsPool _ = ⊥
 -- an expression, a constant or an owner that isn't what is wanted, sides of `==` that are unlike, a name of the wrong kind
 pub data IsWrongType (decls : List Decl) : ℕ → Type 0 where
   unwanted : {sc : Scope} {w : Want} {e : Expr} {s : ResolvedExpr} →
-      HasExpr decls sc w e → typed sc e ≡ Some s → fits w s ≡ false → IsWrongType decls (start_of e)
+      HasExpr decls sc w e → Types sc e s → fits w s ≡ false → IsWrongType decls (start_of e)
   unwanted_constant : {w : Want} {c : Const} {s : Sort} →
       HasConst decls w c → const_sort decls c ≡ Some s → fits_sort w s ≡ false → IsWrongType decls (const_start c)
   unlike_sides : {sc : Scope} {w : Want} {a b : Expr} {c : written.Comparison} {s t : ResolvedExpr} →
-      HasExpr decls sc w (compare a c b) → IsEquality c → typed sc a ≡ Some s → typed sc b ≡ Some t → AreUnlike s t →
+      HasExpr decls sc w (compare a c b) → IsEquality c → Types sc a s → Types sc b t → AreUnlike s t →
       IsWrongType decls (start_of b)
   truths_compared : {sc : Scope} {w : Want} {a b : Expr} {c : written.Comparison} {x y : core.Condition} →
-      HasExpr decls sc w (compare a c b) → IsEquality c → typed sc a ≡ Some (truth x) → typed sc b ≡ Some (truth y) →
+      HasExpr decls sc w (compare a c b) → IsEquality c → Types sc a (truth x) → Types sc b (truth y) →
       IsWrongType decls (start_of a)
   no_value : {sc : Scope} {w : Want} {x : Ident} {i : ℕ} {d : Decl} →
       HasExpr decls sc w (place (lone x)) → meaning sc x.text ≡ a_decl i d → IsNoValue d →
@@ -258,9 +257,9 @@ pub data IsWrongType (decls : List Decl) : ℕ → Type 0 where
   owner_no_local : {sc : Scope} {l : tree.Local} {o : Owner} {i : ℕ} {d : Decl} →
       HasStmt decls sc (let_owned l o) → meaning sc o.local.text ≡ a_decl i d → has_type decls (a_decl i d) ≡ true →
       IsWrongType decls o.local.span.start
-  other_owner : {sc : Scope} {l : tree.Local} {o : Owner} {f : OwnerField} {i : ℕ} {b : Local} {t : core_type.ValueType} →
-      HasStmt decls sc (let_owned l o) → owner_field decls (type_of sc l.value_type) o.field ≡ Some f →
-      meaning sc o.local.text ≡ a_local i b → b.value_type ≡ Some t → fits_type f.value_type (sort.Of t) ≡ false →
+  other_owner : {sc : Scope} {l : tree.Local} {o : Owner} {f : OwnerField} {i : ℕ} {b : Local} {t u : core_type.ValueType} →
+      HasStmt decls sc (let_owned l o) → type_of sc l.value_type ≡ Some t → IsFinalOf decls t o.field f →
+      meaning sc o.local.text ≡ a_local i b → b.value_type ≡ Some u → fits_type f.value_type (sort.Of u) ≡ false →
       IsWrongType decls o.local.span.start
   -- an operator of conditions in a chain of numbers; no tree of tokens has one
   misplaced_operator : {sc : Scope} {w : Want} {level : Level} {e f : Expr} {links : Links} {o : Operator} →
@@ -291,7 +290,8 @@ pub data IsNotAssignable (decls : List Decl) : ℕ → Type 0 where
       has_type decls (a_decl i (pool p)) ≡ true → IsNotAssignable decls x.span.start
   to_final : {sc : Scope} {x : Ident} {fs : List Ident} {e : Expr} (steps : List FieldStep) (t : core_type.ValueType) →
       HasStmt decls sc (assign (path x fs) e) → walk_from decls (meaning sc x.text) fs ≡ reached steps t →
-      last_field steps ≡ None → IsNotAssignable decls x.span.start
+      ((base : List FieldStep) (k n : ℕ) → steps ≡ base ++ step.Field k n ∷ [] → ⊥) →
+      IsNotAssignable decls x.span.start
 
 -- ---- E10, E11, E12: annotations
 

@@ -15,15 +15,17 @@ use Rattle.syntax.specs.Trees.{let_owned, let_call, var_local, assign, if_then, 
 use Rattle.syntax.specs.Trees.{stmt, Otherwise, else_do, Protection, Final, Field, Member, final_member, field_member}
 use Rattle.syntax.specs.Trees.{Struct, Variable, Array, Pool, Init, Param, Section, Call, Item, call, repeat, Items}
 use Rattle.syntax.specs.Trees.{item, Thread, Decl, struct, global, array, pool, init, atomic, helper, thread}
+use Rattle.core_lang.specs.declared.value.ValueType as core_type
 use Rattle.core_lang.specs.declared.value.ValueType.TheVariants.{Integer, Reference}
 use Rattle.resolution.specs.declared.wanted.Want.{Want}
 use Rattle.resolution.specs.declared.wanted.Want.TheVariants.{Anything, Condition, Value}
 use Rattle.resolution.specs.declared.body_limits.BodyLimits.{BodyLimits}
 use Rattle.resolution.specs.Limits.{section_limits, helper_limits}
+use Rattle.resolution.specs.Core as core
 use Rattle.resolution.specs.Scopes.{Scope, outside, meaning, helper_meant, the_decl, the_struct, type_of, entered, left}
 use Rattle.resolution.specs.Expressions.{want}
-use Rattle.resolution.specs.Working.TypedStatements.{target_of, wanted_by}
 use Rattle.resolution.specs.Statements.{after, after_all}
+use Rattle.resolution.specs.Typing.{Assigns}
 use Rattle.resolution.specs.Constants.{want_of, initialised, member_want}
 use Rattle.resolution.specs.Statements.{ahead_of, entry}
 
@@ -108,7 +110,10 @@ pub data Asks : Scope → Stmt → Want → Expr → Type 0 where
   of_owned : {sc : Scope} {l : Local} {o : Owner} → Asks sc (let_owned l o) (want (type_of sc l.value_type)) l.value
   of_let_call : {sc : Scope} {l : CalledLocal} {w : Want} {e : Expr} → Passes sc l.call w e → Asks sc (let_call l) w e
   of_var : {sc : Scope} {l : Local} → Asks sc (var_local l) (want (type_of sc l.value_type)) l.value
-  of_assign : {sc : Scope} {p : Place} {e : Expr} → Asks sc (assign p e) (wanted_by (target_of sc p)) e
+  of_assign : {sc : Scope} {p : Place} {e : Expr} {t : core_type.ValueType} {set : core.Expr → core.Action} →
+      Assigns sc p t set → Asks sc (assign p e) (Value t) e
+  of_unassignable : {sc : Scope} {p : Place} {e : Expr} →
+      ((t : core_type.ValueType) (set : core.Expr → core.Action) → Assigns sc p t set → ⊥) → Asks sc (assign p e) Anything e
   of_index : {sc : Scope} {x : Ident} {i e : Expr} → Asks sc (assign (element x i) e) (Value Integer) i
   of_if : {sc : Scope} {start close : Span} {e : Expr} {body : Stmts} {other : Otherwise} →
       Asks sc (if_then start e body close other) Condition e

@@ -8,7 +8,7 @@ use Rattle.std.proofs.lemmas.Bool.Decides.{nat_tests}
 use Rattle.source.specs.Texts.{SOURCE_LIMIT}
 use Rattle.syntax.specs.Trees.{Ident, ref_type, Place, lone, element, path, Expr, Owner, Decl, lock, struct, global, array}
 use Rattle.syntax.specs.Trees.{pool, init, atomic, helper, thread, Member, lock_member, final_member, field_member}
-use Rattle.syntax.specs.Trees.{Struct}
+use Rattle.syntax.specs.Trees.{Struct, assign}
 use Rattle.core_lang.specs.declared.value.ValueType.{ValueType}
 use Rattle.core_lang.specs.declared.value.ValueType.TheVariants.{Integer, Reference}
 use Rattle.core_lang.specs.declared.tree.FieldStep.{FieldStep}
@@ -22,6 +22,8 @@ use Rattle.resolution.specs.Scopes.{type_of, the_struct, the_member}
 use Rattle.resolution.specs.Expressions.{ResolvedExpr, value, fits_type, cell_of, local_path, member_number, Walk}
 use Rattle.resolution.specs.Expressions.{reached, at_lock, lost, walk_from}
 use Rattle.resolution.specs.Statements.{is_var}
+use Rattle.resolution.specs.declared.wanted.Want.TheVariants.{Anything, Value}
+use Rattle.resolution.specs.Where.{Asks, of_assign, of_unassignable}
 use Rattle.resolution.specs.Typing.{Types, Assigns, assigns_local, assigns_global, assigns_element, assigns_field}
 use Rattle.resolution.specs.Typing.{IsFinalOf, is_final_of, TypesOwner, types_owner}
 use Rattle.resolution.specs.Working.TypedExpressions.{number_resolved, typed}
@@ -29,7 +31,7 @@ use Rattle.resolution.specs.Working.TypedOwners.{final_of, owner_member, owner_f
 use Rattle.resolution.specs.Working.TypedOwners.{owned_value, owned_by}
 use Rattle.resolution.specs.Working.TypedStatements.{Target, to_local, to_global, to_element, to_field, Assignee, assignee}
 use Rattle.resolution.specs.Working.TypedStatements.{assignee_at, assignee_at_element, Split, behind, last_field}
-use Rattle.resolution.specs.Working.TypedStatements.{field_target, assignee_along, target_of, set_to}
+use Rattle.resolution.specs.Working.TypedStatements.{wanted_by, field_target, assignee_along, target_of, set_to}
 use Rattle.resolution.specs.Theory.ExpressionRules.{When, when, number_when, expr_types, typed_is}
 
 -- ---- the left side of an assignment
@@ -147,6 +149,29 @@ target_is {sc = sc} (assigns_field {x = x} {fs = fs} {i = i} {k = k} {n = n} {l 
   refl,
 )
 
+-- what is wanted of the right side, by what the code finds on the left one
+pub asks_right : (sc : Scope) (p : Place) (e : Expr) → Asks sc (assign p e) (wanted_by (target_of sc p)) e
+asks_right sc p e = by_target (target_of sc p) refl
+  where
+    none_some : (a : Assignee) → ◌≡◌ {A = Option Assignee} None (Some a) → ⊥
+    none_some a k = cc
+
+    by_target : (o : Option Assignee) → target_of sc p ≡ o → Asks sc (assign p e) (wanted_by o) e
+    by_target (Some a) is = of_assign (target_types sc p a is)
+    by_target None is = of_unassignable (λ t set h. let found = target_is h in none_some found.0 (sym is ∙ found.1))
+
+pub wanted_right : {sc : Scope} {p : Place} {t : ValueType} {set : core.Expr → core.Action} → Assigns sc p t set →
+    wanted_by (target_of sc p) ≡ Value t
+wanted_right h = let found = target_is h in ap wanted_by found.1 ∙ ap Value found.2
+
+pub wanted_nothing : (sc : Scope) (p : Place) →
+    ((t : ValueType) (set : core.Expr → core.Action) → Assigns sc p t set → ⊥) → wanted_by (target_of sc p) ≡ Anything
+wanted_nothing sc p never = by_target (target_of sc p) refl
+  where
+    by_target : (o : Option Assignee) → target_of sc p ≡ o → wanted_by o ≡ Anything
+    by_target None is = refl
+    by_target (Some a) is = absurd (never a.value_type (set_to a.target) (target_types sc p a is))
+
 -- ---- behind `where`
 
 pub same_type : (t u : ValueType) → fits_type t (Of u) ≡ true → u ≡ t
@@ -256,3 +281,25 @@ owned_is {sc = sc} (types_owner {o = o} {x = x} {f = f} {i = i} {l = l} final is
     ∙ tested_is o.local.span.start x f i (nat_le f.structure STRUCT_LIMIT) (nat_le i SOURCE_LIMIT)
     ∙ ap (λ (b : Bool). tested_if b (nat_le i SOURCE_LIMIT) (core.owned x f.structure f.number o.local.span.start i)) (at_most_is f.structure STRUCT_LIMIT within)
     ∙ ap (λ (b : Bool). tested_if true b (core.owned x f.structure f.number o.local.span.start i)) (at_most_is i SOURCE_LIMIT few)
+
+-- the final reference that the code finds for a type, if it has one, is one by the rules
+pub final_types : (decls : List Decl) (o : Option ValueType) (x : Ident) (f : OwnerField) → owner_field decls o x ≡ Some f →
+    (t : ValueType) × (o ≡ Some t) × IsFinalOf decls t x f
+final_types decls None x f e = cc
+final_types decls (Some t) x f e = (t, refl, when (IsFinalOf decls t x) (owner_field decls (Some t) x) (field_final decls t x) f e)
+
+-- steps of which the code finds no last field end with none
+pub ends_with_none : (steps base : List FieldStep) (k n : ℕ) → last_field steps ≡ None →
+    steps ≡ base ++ step.Field k n ∷ [] → ⊥
+ends_with_none steps base k n none ends = none_some (sym none ∙ ap last_field ends ∙ last_of base k n)
+  where
+    none_some : ◌≡◌ {A = Option Split} None (Some (record { base = base; structure = k; field = n })) → ⊥
+    none_some e = cc
+
+pub has_no_last : (steps : List FieldStep) → ((base : List FieldStep) (k n : ℕ) → steps ≡ base ++ step.Field k n ∷ [] → ⊥) →
+    last_field steps ≡ None
+has_no_last steps never = by_last (last_field steps) (last_ends steps)
+  where
+    by_last : (o : Option Split) → When (EndsWith steps) o → o ≡ None
+    by_last None h = refl
+    by_last (Some q) h = absurd (never q.base q.structure q.field h)
