@@ -66,7 +66,8 @@ module _ (decls : List Decl) where
   asked there.of_owned has = of_owned has
   asked (there.of_let_call is) has = of_argument (by_let has) (passed is)
   asked there.of_var has = of_var has
-  asked there.of_assign has = of_assign has
+  asked (there.of_assign left) has = of_assign has
+  asked (there.of_unassignable never) has = of_assign has
   asked there.of_index has = of_index has
   asked there.of_if has = of_if has
   asked there.of_while has = of_while has

@@ -19,6 +19,8 @@ use Rattle.resolution.specs.declared.wanted.Sort.TheVariants as sort
 use Rattle.resolution.specs.declared.wanted.Want.{Want}
 use Rattle.resolution.specs.declared.wanted.Want.TheVariants.{Anything, Condition, Value}
 use Rattle.resolution.specs.Expressions.{ResolvedExpr, value, truth, alike_sorts, fits, fits_sort, fits_type}
+use Rattle.resolution.specs.Theory.ExpressionRules.{types_is, typed_is}
+use Rattle.resolution.specs.Theory.OwnerRules.{final_types, final_is}
 use Rattle.resolution.specs.Working.TypedExpressions.{typed}
 use Rattle.resolution.specs.Constants.{const_sort}
 use Rattle.resolution.specs.Faults.{AreUnlike, start_of, const_start}
@@ -280,7 +282,7 @@ module _ (at : ℕ) (decls : List Decl) where
         from_here Told n (start_of e) at (unfit w (kind_if (typed sc e)))
         (λ there. from_said Told n w (typed sc e)
         (λ s is no_fit said. tell (types_clash w (kind_of s)) (λ ds. types_note (want_words ds w) (found_words ds s)) (expr_decls b) (expr_words decls w s) said
-        (of_expression b is no_fit there))) h
+        (of_expression b (types_is sc e s is) no_fit there))) h
 
     true_sides : (sc : Scope) (w : Want) (e : Expr) → HasExpr decls sc w e → Has (sides_at at sc e) n → Told
     true_sides sc w (compare a c f) b h =
@@ -288,10 +290,10 @@ module _ (at : ℕ) (decls : List Decl) where
         (λ equal. from_judged at (start_of a) (start_of f) Told n (typed sc a) (typed sc f)
         (λ s t first_is second_is is said. blamed_if at (start_of a) (start_of f) Told s t is
         (λ unlike there. tell (sides s t) (λ ds. sides_note (found_words ds s) (found_words ds t)) (expr_decls b) (sides_words decls s t) said
-        (of_sides b (equal_if c equal) first_is second_is unlike there))
+        (of_sides b (equal_if c equal) (types_is sc a s first_is) (types_is sc f t second_is) unlike there))
         (λ y z left_is right_is there. tell (sides (truth y) (truth z)) (λ ds. sides_note (codes "a condition") (codes "a condition")) {ds = decls} refl refl
         (sym (ap (λ (r : ResolvedExpr). sides r t) left_is ∙ ap (sides (truth y)) right_is) ∙ said)
-        (of_conditions b (equal_if c equal) (first_is ∙ ap Some left_is) (second_is ∙ ap Some right_is) there)))) h
+        (of_conditions b (equal_if c equal) (types_is sc a (truth y) (first_is ∙ ap Some left_is)) (types_is sc f (truth z) (second_is ∙ ap Some right_is)) there)))) h
     true_sides sc w (int k) b h = elim h [ ]
     true_sides sc w (null at) b h = elim h [ ]
     true_sides sc w (place p) b h = elim h [ ]
@@ -323,8 +325,9 @@ module _ (at : ℕ) (decls : List Decl) where
     true_owner sc k o b h =
         from_here Told n o.local.span.start at (local_owned sc (type_of sc k.value_type) o)
         (λ there. from_owner Told n (owner_field sc.decls (type_of sc k.value_type) o.field) (meaning sc o.local.text)
-        (λ f i c t field_is meant is no_fit said. tell (types_clash (Value f.value_type) (kind.Value (sort.Of t)))
-        (λ ds. types_note (type_words ds f.value_type) (type_words ds t)) (decls_there b) refl said (of_owner b field_is meant is no_fit there))) h
+        (λ f i c t field_is meant is no_fit said. let final = final_types sc.decls (type_of sc k.value_type) o.field f field_is in
+        tell (types_clash (Value f.value_type) (kind.Value (sort.Of t)))
+        (λ ds. types_note (type_words ds f.value_type) (type_words ds t)) (decls_there b) refl said (of_owner b final.1 final.2 meant is no_fit there))) h
 
     true_own : (sc : Scope) (s : Stmt) → HasStmt decls sc s → Has (of_own (said_by at) sc s) n → Told
     true_own sc s b h = from_exprs (said_by at) n Told sc s (λ w v e y a i. true_expression sc v y (in_stmt b a i)) h
@@ -415,7 +418,7 @@ module _ (at : ℕ) (decls : List Decl) where
       let c = types_clash w (kind_of s) in
       in_words c (λ ds. types_note (want_words ds w) (found_words ds s)) (expr_decls b) (expr_words decls w s)
       (expr_has c b
-      (l.in_left (misfit_at at sc w e) (sides_at at sc e) (here_has (start_of e) at (unfit w (kind_if (typed sc e))) c there (said_has w (typed sc e) s is no_fit))))
+      (l.in_left (misfit_at at sc w e) (sides_at at sc e) (here_has (start_of e) at (unfit w (kind_if (typed sc e))) c there (said_has w (typed sc e) s (typed_is is) no_fit))))
   each_told m (of_constant {w = w} {c = c} {s = s} b is no_fit there) =
       let k = types_clash w (kind.Value s) in
       in_words k (λ ds. types_note (want_words ds w) (sort_words ds s)) {ds = decls} refl refl
@@ -423,10 +426,10 @@ module _ (at : ℕ) (decls : List Decl) where
       (here_has (const_start c) at (unfit w (const_kind (const_sort decls c))) k there (const_has w (const_sort decls c) s is no_fit)))
   each_told m (of_sides {a = a} {b = f} {s = s} {t = t} b equal first_is second_is unlike there) =
       in_words (sides s t) (λ ds. sides_note (found_words ds s) (found_words ds t)) (expr_decls b) (sides_words decls s t)
-      (sides_told b equal first_is second_is (blamed_unlike at (start_of a) (start_of f) s t unlike there))
+      (sides_told b equal (typed_is first_is) (typed_is second_is) (blamed_unlike at (start_of a) (start_of f) s t unlike there))
   each_told m (of_conditions {a = a} {x = x} {y = y} b equal first_is second_is there) =
       in_words (sides (truth x) (truth y)) (λ ds. sides_note (codes "a condition") (codes "a condition")) {ds = decls} refl refl
-      (sides_told b equal first_is second_is (same (start_of a) at there))
+      (sides_told b equal (typed_is first_is) (typed_is second_is) (same (start_of a) at there))
   each_told m (of_no_result {sc = sc} {t = t} {s = s} b type_is meant none there) =
       let c = no_result_clash t in
       in_words c (λ ds. types_note (type_words ds t) (codes "no result")) (decls_there b) refl
@@ -442,13 +445,13 @@ module _ (at : ℕ) (decls : List Decl) where
       (l.in_left (member_owned_at at (type_of sc k.value_type) o) (local_owned_at at sc (type_of sc k.value_type) o)
       (here_has o.field.span.start at (number_said (type_of sc k.value_type)) c there
       (subst (λ (q : Option core_type.ValueType). Has (number_said q) c) (sym is) first))))
-  each_told m (of_owner {sc = sc} {l = k} {o = o} {f = f} {i = i} {b = d} {t = t} b field_is meant is no_fit there) =
-      let c = types_clash (Value f.value_type) (kind.Value (sort.Of t)) in
-      in_words c (λ ds. types_note (type_words ds f.value_type) (type_words ds t)) (decls_there b) refl
+  each_told m (of_owner {sc = sc} {l = k} {o = o} {f = f} {i = i} {b = d} {u = u} b type_is final meant is no_fit there) =
+      let c = types_clash (Value f.value_type) (kind.Value (sort.Of u)) in
+      in_words c (λ ds. types_note (type_words ds f.value_type) (type_words ds u)) (decls_there b) refl
       (owner_told c b
       (l.in_right (member_owned_at at (type_of sc k.value_type) o) _
       (here_has o.local.span.start at (local_owned sc (type_of sc k.value_type) o) c there
-      (owner_has (owner_field sc.decls (type_of sc k.value_type) o.field) (meaning sc o.local.text) f i d t field_is meant is no_fit))))
+      (owner_has (owner_field sc.decls (type_of sc k.value_type) o.field) (meaning sc o.local.text) f i d u (ap (λ (q : Option core_type.ValueType). owner_field sc.decls q o.field) type_is ∙ final_is final) meant is no_fit))))
 
   -- ---- one of them
 

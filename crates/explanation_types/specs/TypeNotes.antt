@@ -13,11 +13,10 @@ use Rattle.resolution.specs.declared.wanted.Sort.TheVariants as sort
 use Rattle.resolution.specs.declared.wanted.Want.{Want}
 use Rattle.resolution.specs.declared.wanted.Want.TheVariants.{Anything, Condition, Value}
 use Rattle.resolution.specs.Core as core
-use Rattle.resolution.specs.Working.TypedOwners.{owner_field}
 use Rattle.resolution.specs.Scopes as local
 use Rattle.resolution.specs.Scopes.{Scope, a_local, helper_meant, meaning, result_of, the_struct, type_of}
 use Rattle.resolution.specs.Expressions.{ResolvedExpr, value, truth, fits, fits_sort, fits_type}
-use Rattle.resolution.specs.Working.TypedExpressions.{typed}
+use Rattle.resolution.specs.Typing.{Types, IsFinalOf}
 use Rattle.resolution.specs.Constants.{const_sort}
 use Rattle.resolution.specs.Faults.{AreUnlike, start_of, const_start}
 use Rattle.resolution.specs.Expressions.{IsEquality}
@@ -61,16 +60,16 @@ sides_note left right = record { start = None; words = codes "the left side is "
 -- isn't; or the right one of two sides of `==` or `!=` that are unlike, or the left one of two conditions
 pub data IsTypeNote (decls : List Decl) (at : ℕ) : Note → Type 0 where
   of_expression : {sc : Scope} {w : Want} {e : Expr} {s : ResolvedExpr} →
-      HasExpr decls sc w e → typed sc e ≡ Some s → fits w s ≡ false → start_of e ≡ at →
+      HasExpr decls sc w e → Types sc e s → fits w s ≡ false → start_of e ≡ at →
       IsTypeNote decls at (types_note (want_words sc.decls w) (found_words sc.decls s))
   of_constant : {w : Want} {c : Const} {s : Sort} →
       HasConst decls w c → const_sort decls c ≡ Some s → fits_sort w s ≡ false → const_start c ≡ at →
       IsTypeNote decls at (types_note (want_words decls w) (sort_words decls s))
   of_sides : {sc : Scope} {w : Want} {a b : Expr} {c : written.Comparison} {s t : ResolvedExpr} →
-      HasExpr decls sc w (compare a c b) → IsEquality c → typed sc a ≡ Some s → typed sc b ≡ Some t → AreUnlike s t → start_of b ≡ at →
+      HasExpr decls sc w (compare a c b) → IsEquality c → Types sc a s → Types sc b t → AreUnlike s t → start_of b ≡ at →
       IsTypeNote decls at (sides_note (found_words sc.decls s) (found_words sc.decls t))
   of_conditions : {sc : Scope} {w : Want} {a b : Expr} {c : written.Comparison} {x y : core.Condition} →
-      HasExpr decls sc w (compare a c b) → IsEquality c → typed sc a ≡ Some (truth x) → typed sc b ≡ Some (truth y) → start_of a ≡ at →
+      HasExpr decls sc w (compare a c b) → IsEquality c → Types sc a (truth x) → Types sc b (truth y) → start_of a ≡ at →
       IsTypeNote decls at (sides_note (codes "a condition") (codes "a condition"))
   of_no_result : {sc : Scope} {l : CalledLocal} {t : core_type.ValueType} {i : ℕ} {s : Section} →
       HasStmt decls sc (let_call l) → type_of sc l.value_type ≡ Some t → helper_meant (meaning sc l.call.helper.text) ≡ Some (i, s) →
@@ -83,7 +82,7 @@ pub data IsTypeNote (decls : List Decl) (at : ℕ) : Note → Type 0 where
   of_number_owned : {sc : Scope} {l : Local} {o : Owner} →
       HasStmt decls sc (let_owned l o) → type_of sc l.value_type ≡ Some Integer → o.field.span.start ≡ at →
       IsTypeNote decls at (types_note (codes "a reference") (codes "int"))
-  of_owner : {sc : Scope} {l : Local} {o : Owner} {f : OwnerField} {i : ℕ} {b : local.Local} {t : core_type.ValueType} →
-      HasStmt decls sc (let_owned l o) → owner_field sc.decls (type_of sc l.value_type) o.field ≡ Some f →
-      meaning sc o.local.text ≡ a_local i b → b.value_type ≡ Some t → fits_type f.value_type (sort.Of t) ≡ false → o.local.span.start ≡ at →
-      IsTypeNote decls at (types_note (type_words sc.decls f.value_type) (type_words sc.decls t))
+  of_owner : {sc : Scope} {l : Local} {o : Owner} {f : OwnerField} {i : ℕ} {b : local.Local} {t u : core_type.ValueType} →
+      HasStmt decls sc (let_owned l o) → type_of sc l.value_type ≡ Some t → IsFinalOf sc.decls t o.field f →
+      meaning sc o.local.text ≡ a_local i b → b.value_type ≡ Some u → fits_type f.value_type (sort.Of u) ≡ false → o.local.span.start ≡ at →
+      IsTypeNote decls at (types_note (type_words sc.decls f.value_type) (type_words sc.decls u))

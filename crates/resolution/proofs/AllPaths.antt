@@ -32,7 +32,6 @@ use Rattle.resolution.specs.Faults as fault
 use Rattle.resolution.specs.Faults.{start_of, const_start, IsTooLarge, IsDeclaredTwice, Reaches, stays, goes_on}
 use Rattle.resolution.specs.Faults.{Walks, walks, NamesGlobal, IsLockDecl, IsLockMember, IsFinalMember, IsUnknown}
 use Rattle.resolution.specs.Faults.{AreUnlike, IsNoValue, HasNoElements, IsNoReference}
-use Rattle.resolution.specs.Expressions.{IsEquality, IsOfNumbers}
 use Rattle.resolution.specs.Faults.{IsNoStruct, IsSection, IsPool, IsWrongType, IsWrongCount, IsNotAssignable}
 use Rattle.resolution.specs.Faults.{IsUnprotected, EndsAtNoLock, PassesNonFinal, limit_of, IsOverLimit}
 use Rattle.resolution.specs.Faults.{IsFinalMissing, IsOutOfRange, IsLockAsValue, IsFault, too_large, declared_twice}

@@ -35,7 +35,7 @@ use Rattle.resolution.specs.Theory.ExpressionRules.{types_is}
 use Rattle.resolution.specs.Faults as fault
 use Rattle.resolution.specs.Faults.{start_of, const_start, IsNoValue, HasNoElements, IsNoReference, IsNoStruct}
 use Rattle.resolution.specs.Faults.{IsPool, AreUnlike, too_large, unknown, wrong_type}
-use Rattle.resolution.specs.Expressions.{IsEquality, IsOfNumbers}
+use Rattle.resolution.specs.Expressions.{IsEquality}
 use Rattle.resolution.specs.Faults.{out_of_range, lock_as_value}
 use Rattle.resolution.specs.Working.FaultLists as list
 use Rattle.resolution.specs.Working.FaultLists.{one, one_if, unfit, number_faults, index_faults, own_faults}

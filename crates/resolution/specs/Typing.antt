@@ -1,21 +1,21 @@
--- Which expressions, statements and sections are well typed, and what they are with each name replaced by the number of what it
--- means: a rule for each form.
+-- Which expressions, statements and sections are well typed, and what each of them is when every name in it is replaced
+-- by the number of what it means. There is a rule for each form; what no rule says isn't so.
 use Rattle.std.specs.Prelude.{◌≡◌, ℕ, ◌≤◌, pos, List, [], ◌∷◌, ◌++◌, length, Option, Some, None, true}
 use Rattle.source.specs.Texts.{NUMBER_LIMIT, SOURCE_LIMIT}
 use Rattle.source.specs.declared.span.Span.{Span}
 use Rattle.source.specs.declared.token.Number.{Number}
-use Rattle.syntax.specs.declared.tree.Operator as written_operator
+use Rattle.syntax.specs.declared.tree.Operator as sign
 use Rattle.syntax.specs.declared.tree.Level.{Level}
-use Rattle.syntax.specs.declared.tree.Level.TheVariants.{Term, Sum, Conjunction, Disjunction}
+use Rattle.syntax.specs.declared.tree.Level.TheVariants.{Conjunction, Disjunction}
 use Rattle.syntax.specs.declared.tree.Prefix.TheVariants.{Negate, Not}
 use Rattle.syntax.specs.declared.tree.Comparison as written
 use Rattle.syntax.specs.Trees as tree
-use Rattle.syntax.specs.Trees.{Ident, ref_type, Place, lone, element, path, Expr, int, null, place, paren, prefix, chain}
-use Rattle.syntax.specs.Trees.{compare, Links, no_links, link, Owner, HelperCall, CalledLocal, Stmt, let_local}
-use Rattle.syntax.specs.Trees.{let_owned, let_call, var_local, assign, if_then, while, print, return_value, call, Stmts}
-use Rattle.syntax.specs.Trees.{no_stmts, stmt, no_else, else_do, Param, Section, Decl, global, array, pool, helper}
-use Rattle.syntax.specs.Trees.{Struct, Member, Final, final_member, Variable, Array, Pool}
-use Rattle.core_lang.specs.declared.value.ValueType as core_type
+use Rattle.syntax.specs.Trees.{Ident, ref_type, Place, lone, element, path, Expr, int, null, place, paren, prefix}
+use Rattle.syntax.specs.Trees.{chain, compare, Links, no_links, link, Owner, HelperCall, CalledLocal, Stmt, let_local}
+use Rattle.syntax.specs.Trees.{let_owned, let_call, var_local, assign, if_then, while, print, return_value, call}
+use Rattle.syntax.specs.Trees.{Stmts, no_stmts, stmt, no_else, else_do, Param, Section, Decl, global, array, pool}
+use Rattle.syntax.specs.Trees.{helper, Struct, Member, Final, final_member, Variable, Array, Pool}
+use Rattle.core_lang.specs.declared.value.ValueType.{ValueType}
 use Rattle.core_lang.specs.declared.value.ValueType.TheVariants.{Integer, Reference}
 use Rattle.core_lang.specs.declared.tree.Operator.{Operator}
 use Rattle.core_lang.specs.declared.tree.FieldStep.{FieldStep}
@@ -44,13 +44,13 @@ mutual
     types_int : {n : Number} →
         n.value ≤ NUMBER_LIMIT → Types sc (int n) (value (core.number (pos n.value)) (Of Integer))
     types_null : {at : Span} → Types sc (null at) (value core.null Null)
-    types_local : {x : Ident} {i : ℕ} {l : Local} {t : core_type.ValueType} →
+    types_local : {x : Ident} {i : ℕ} {l : Local} {t : ValueType} →
         meaning sc x.text ≡ a_local i l → l.value_type ≡ Some t →
         Types sc (place (lone x)) (value (core.place (local_path x.span.start i [])) (Of t))
-    types_global : {x : Ident} {i : ℕ} {v : Variable} {t : core_type.ValueType} →
+    types_global : {x : Ident} {i : ℕ} {v : Variable} {t : ValueType} →
         meaning sc x.text ≡ a_decl i (global v) → type_of (outside sc.decls) v.value_type ≡ Some t →
         Types sc (place (lone x)) (value (core.global x.span.start (cell_of sc.decls i)) (Of t))
-    types_element : {x : Ident} {e : Expr} {i : ℕ} {a : Array} {t : core_type.ValueType} {index : core.Expr} →
+    types_element : {x : Ident} {e : Expr} {i : ℕ} {a : Array} {t : ValueType} {index : core.Expr} →
         meaning sc x.text ≡ a_decl i (array a) → type_of (outside sc.decls) a.value_type ≡ Some t →
         Types sc e (value index (Of Integer)) →
         Types sc (place (element x e)) (value (core.element x.span.start (number_at sc.decls i (array a)) index) (Of t))
@@ -58,7 +58,7 @@ mutual
         meaning sc x.text ≡ a_decl i (pool p) → struct_named sc.decls p.target ≡ Some s →
         Types sc e (value index (Of Integer)) →
         Types sc (place (element x e)) (value (core.member (number_at sc.decls i (pool p)) index) (Of (Reference s)))
-    types_path : {x : Ident} {fs : List Ident} {i : ℕ} {l : Local} {steps : List FieldStep} {t : core_type.ValueType} →
+    types_path : {x : Ident} {fs : List Ident} {i : ℕ} {l : Local} {steps : List FieldStep} {t : ValueType} →
         meaning sc x.text ≡ a_local i l → walk_from sc.decls (a_local i l) fs ≡ reached steps t →
         Types sc (place (path x fs)) (value (core.place (local_path x.span.start i steps)) (Of t))
     types_paren : {at : Span} {e : Expr} {r : ResolvedExpr} → Types sc e r → Types sc (paren at e) (marked r)
@@ -85,14 +85,15 @@ mutual
   -- the further operands of a chain of numbers
   pub data TypesOperands (sc : Scope) : Links → core.Operations → Type 0 where
     no_operand : TypesOperands sc no_links core.no_operations
-    one_operand : {o : written_operator.Operator} {p : Operator} {e : Expr} {links : Links} {x : core.Expr} {rest : core.Operations} →
+    one_operand : {o : sign.Operator} {p : Operator} {e : Expr} {links : Links} {x : core.Expr}
+        {rest : core.Operations} →
         operator_of o ≡ Some p → Types sc e (value x (Of Integer)) → TypesOperands sc links rest →
         TypesOperands sc (link o e links) (core.operation p x rest)
 
   -- a condition and the further operands of its chain: those ahead of the last, and the last
   pub data TypesTests (sc : Scope) : core.Condition → Links → core.Conditions → core.Condition → Type 0 where
     last_test : {c : core.Condition} → TypesTests sc c no_links core.no_conditions c
-    one_test : {c d last : core.Condition} {o : written_operator.Operator} {e : Expr} {links : Links} {before : core.Conditions} →
+    one_test : {c d last : core.Condition} {o : sign.Operator} {e : Expr} {links : Links} {before : core.Conditions} →
         Types sc e (truth d) → TypesTests sc d links before last →
         TypesTests sc c (link o e links) (core.condition c before) last
 
@@ -103,32 +104,33 @@ pub data Gives (sc : Scope) (w : Want) : Expr → core.Expr → Type 0 where
 -- ---- what statements consist of
 
 -- the left side of an assignment: the type of what is assigned, and what the statement does with it
-pub data Assigns (sc : Scope) : Place → core_type.ValueType → (core.Expr → core.Action) → Type 0 where
-  assigns_local : {x : Ident} {i : ℕ} {l : Local} {t : core_type.ValueType} →
+pub data Assigns (sc : Scope) : Place → ValueType → (core.Expr → core.Action) → Type 0 where
+  assigns_local : {x : Ident} {i : ℕ} {l : Local} {t : ValueType} →
       meaning sc x.text ≡ a_local i l → is_var l.kind ≡ true → l.value_type ≡ Some t →
       Assigns sc (lone x) t (core.set_local i)
-  assigns_global : {x : Ident} {i : ℕ} {v : Variable} {t : core_type.ValueType} →
+  assigns_global : {x : Ident} {i : ℕ} {v : Variable} {t : ValueType} →
       meaning sc x.text ≡ a_decl i (global v) → type_of (outside sc.decls) v.value_type ≡ Some t →
       Assigns sc (lone x) t (core.set_global (cell_of sc.decls i))
-  assigns_element : {x : Ident} {e : Expr} {i : ℕ} {a : Array} {t : core_type.ValueType} {index : core.Expr} →
+  assigns_element : {x : Ident} {e : Expr} {i : ℕ} {a : Array} {t : ValueType} {index : core.Expr} →
       meaning sc x.text ≡ a_decl i (array a) → type_of (outside sc.decls) a.value_type ≡ Some t →
       Types sc e (value index (Of Integer)) →
       Assigns sc (element x e) t (core.set_element (number_at sc.decls i (array a)) index)
-  assigns_field : {x : Ident} {fs : List Ident} {i k n : ℕ} {l : Local} {base : List FieldStep} {t : core_type.ValueType} →
+  assigns_field : {x : Ident} {fs : List Ident} {i k n : ℕ} {l : Local} {base : List FieldStep} {t : ValueType} →
       meaning sc x.text ≡ a_local i l → walk_from sc.decls (a_local i l) fs ≡ reached (base ++ step.Field k n ∷ []) t →
       Assigns sc (path x fs) t (core.set_field (local_path x.span.start i base) k n)
 
 -- behind `where`: the final reference of a type that a name means
-pub data IsFinalOf (decls : List Decl) : core_type.ValueType → Ident → OwnerField → Type 0 where
-  is_final_of : {k i : ℕ} {s : Struct} {x : Ident} {f : Final} {t : core_type.ValueType} →
+pub data IsFinalOf (decls : List Decl) : ValueType → Ident → OwnerField → Type 0 where
+  is_final_of : {k i : ℕ} {s : Struct} {x : Ident} {f : Final} {t : ValueType} →
       the_struct decls k ≡ Some s → the_member s.members x.text ≡ Some (i, final_member f) →
       type_of (outside decls) (ref_type f.target) ≡ Some t →
       IsFinalOf decls (Reference k) x
       (record { structure = k; number = member_number s.members i (final_member f); value_type = t })
 
--- a value of a type, and what it is where it is tested: one whose final reference names the same as a local of its type. A struct past
--- its limit has no number here, and the program has a fault; no source has so many locals
-pub data TypesOwner (sc : Scope) (t : core_type.ValueType) : Owner → core.Expr → core.Expr → Type 0 where
+-- a value of a type, and what it is when it is tested: whether its final reference names what a local names, which has
+-- the reference's type. A struct past its limit has no number here, and the program has a fault; no source has so many
+-- locals
+pub data TypesOwner (sc : Scope) (t : ValueType) : Owner → core.Expr → core.Expr → Type 0 where
   types_owner : {o : Owner} {x : core.Expr} {f : OwnerField} {i : ℕ} {l : Local} →
       IsFinalOf sc.decls t o.field f → meaning sc o.local.text ≡ a_local i l → l.value_type ≡ Some f.value_type →
       f.structure ≤ STRUCT_LIMIT → i ≤ SOURCE_LIMIT →
@@ -152,29 +154,31 @@ pub data TypesCall (sc : Scope) : HelperCall → Section → ℕ → List core.E
 mutual
   -- a statement that is no `return`, with its scope: where it starts, and what it does
   pub data TypesStmt : Scope → Stmt → ℕ → core.Action → Type 0 where
-    types_let : {sc : Scope} {l : tree.Local} {t : core_type.ValueType} {x : core.Expr} →
+    types_let : {sc : Scope} {l : tree.Local} {t : ValueType} {x : core.Expr} →
         type_of sc l.value_type ≡ Some t → Gives sc (Value t) l.value x →
         TypesStmt sc (let_local l) l.start.start (core.bind (length sc.locals) x)
-    types_owned : {sc : Scope} {l : tree.Local} {o : Owner} {t : core_type.ValueType} {x y : core.Expr} →
+    types_owned : {sc : Scope} {l : tree.Local} {o : Owner} {t : ValueType} {x y : core.Expr} →
         type_of sc l.value_type ≡ Some t → Gives sc (Value t) l.value x → TypesOwner sc t o x y →
         TypesStmt sc (let_owned l o) l.start.start (core.bind (length sc.locals) y)
-    types_let_call : {sc : Scope} {l : CalledLocal} {t : core_type.ValueType} {s : Section} {n : ℕ} {xs : List core.Expr} →
+    types_let_call : {sc : Scope} {l : CalledLocal} {t : ValueType} {s : Section} {n : ℕ} {xs : List core.Expr} →
         TypesCall sc l.call s n xs → type_of sc l.value_type ≡ Some t → result_of sc.decls s ≡ Some t →
         TypesStmt sc (let_call l) l.start.start (core.call n xs (Some (length sc.locals)))
-    types_var : {sc : Scope} {l : tree.Local} {t : core_type.ValueType} {x : core.Expr} →
+    types_var : {sc : Scope} {l : tree.Local} {t : ValueType} {x : core.Expr} →
         type_of sc l.value_type ≡ Some t → Gives sc (Value t) l.value x →
         TypesStmt sc (var_local l) l.start.start (core.bind (length sc.locals) x)
-    types_assign : {sc : Scope} {p : Place} {e : Expr} {t : core_type.ValueType} {x : core.Expr} {set : core.Expr → core.Action} →
+    types_assign : {sc : Scope} {p : Place} {e : Expr} {t : ValueType} {x : core.Expr} {set : core.Expr → core.Action} →
         Assigns sc p t set → Gives sc (Value t) e x →
         TypesStmt sc (assign p e) (first_name p).span.start (set x)
     types_if : {sc : Scope} {start close : Span} {e : Expr} {body : Stmts} {c : core.Condition} {block : core.Stmts} →
         Types sc e (truth c) → TypesBody sc body block None →
         TypesStmt sc (if_then start e body close no_else) start.start (core.if_true c block)
-    types_if_else : {sc : Scope} {start close end : Span} {e : Expr} {body other : Stmts} {c : core.Condition} {block otherwise : core.Stmts} →
+    types_if_else : {sc : Scope} {start close end : Span} {e : Expr} {body other : Stmts} {c : core.Condition}
+        {block otherwise : core.Stmts} →
         Types sc e (truth c) → TypesBody sc body block None →
         TypesBody (left sc (after_all sc body)) other otherwise None →
         TypesStmt sc (if_then start e body close (else_do other end)) start.start (core.if_else c block otherwise)
-    types_while : {sc : Scope} {start close : Span} {e : Expr} {body : Stmts} {c : core.Condition} {block : core.Stmts} →
+    types_while : {sc : Scope} {start close : Span} {e : Expr} {body : Stmts} {c : core.Condition}
+        {block : core.Stmts} →
         Types sc e (truth c) → TypesBody sc body block None →
         TypesStmt sc (while start e body close) start.start (core.while_true c block)
     types_print : {sc : Scope} {start : Span} {e : Expr} {x : core.Expr} →
@@ -187,8 +191,10 @@ mutual
     types_none : {sc : Scope} → TypesBody sc no_stmts core.no_stmts None
     types_return : {sc : Scope} {start : Span} {e : Expr} {x : core.Expr} →
         Gives sc (want sc.result) e x →
-        TypesBody sc (stmt (return_value start e) no_stmts) core.no_stmts (Some (record { start = start.start; value = x }))
-    types_next : {sc : Scope} {s : Stmt} {rest : Stmts} {start : ℕ} {action : core.Action} {stmts : core.Stmts} {result : Option core.Return} →
+        TypesBody sc (stmt (return_value start e) no_stmts) core.no_stmts
+        (Some (record { start = start.start; value = x }))
+    types_next : {sc : Scope} {s : Stmt} {rest : Stmts} {start : ℕ} {action : core.Action} {stmts : core.Stmts}
+        {result : Option core.Return} →
         TypesStmt sc s start action → TypesBody (after sc s) rest stmts result →
         TypesBody sc (stmt s rest) (core.stmt start action stmts) result
 
@@ -197,20 +203,28 @@ mutual
 -- locals, the types of all without a fault
 pub data TypesLocals : List Local → List core.Local → Type 0 where
   no_local : TypesLocals [] []
-  one_local : {l : Local} {t : core_type.ValueType} {ls : List Local} {rest : List core.Local} →
+  one_local : {l : Local} {t : ValueType} {ls : List Local} {rest : List core.Local} →
       l.value_type ≡ Some t → TypesLocals ls rest →
       TypesLocals (l ∷ ls) (record { name = l.name; kind = l.kind; value_type = t } ∷ rest)
 
 -- the type of a result, and the `return`: both, or neither
-pub data TypesResult (decls : List Decl) : Option tree.ValueType → Option core.Return → Option core_type.ValueType → Type 0 where
+pub data TypesResult (decls : List Decl) : Option tree.ValueType → Option core.Return → Option ValueType → Type 0 where
   no_result : TypesResult decls None None None
-  one_result : {t : tree.ValueType} {r : core.Return} {u : core_type.ValueType} →
+  one_result : {t : tree.ValueType} {r : core.Return} {u : ValueType} →
       type_of (outside decls) t ≡ Some u → TypesResult decls (Some t) (Some r) (Some u)
 
 -- a section or a helper, with how many parameters and locals it may have
 pub data TypesSection (decls : List Decl) (limits : BodyLimits) : Section → core.Section → Type 0 where
-  types_section : {s : Section} {locals : List core.Local} {stmts : core.Stmts} {r : Option core.Return} {t : Option core_type.ValueType} →
+  types_section : {s : Section} {locals : List core.Local} {stmts : core.Stmts} {r : Option core.Return}
+      {t : Option ValueType} →
       TypesBody (entry decls limits s) s.body.stmts stmts r → TypesResult decls s.result r t →
       TypesLocals (after_all (entry decls limits s) s.body.stmts).locals locals →
       TypesSection decls limits s
-      (record { name = s.name.text; parameters = length s.params; locals = locals; result_type = t; body = stmts; result = r })
+      (record {
+        name = s.name.text;
+        parameters = length s.params;
+        locals = locals;
+        result_type = t;
+        body = stmts;
+        result = r;
+      })

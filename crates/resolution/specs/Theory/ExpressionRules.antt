@@ -1,6 +1,6 @@
 -- What the code computes of an expression is what the rules say of it. Nobody has to believe these facts: they are proved here, for
 -- proofs of this crate and of the crates above.
-use Rattle.std.proofs.Common.{◌≡◌, ℕ, ◌≤◌, List, [], ◌∷◌, Option, Some, None, Bool, true, false, refl, sym, ap, ◌∙◌}
+use Rattle.std.proofs.Common.{◌≡◌, ℕ, ◌≤◌, List, [], Option, Some, None, Bool, true, false, refl, ap, ◌∙◌}
 use Rattle.std.proofs.Common.{subst, arith, if◌then◌else◌}
 use Rattle.std.specs.Prelude.{nat_le, pos}
 use Rattle.std.proofs.lemmas.Bool.Decides.{nat_tests}
@@ -13,9 +13,8 @@ use Rattle.syntax.specs.declared.tree.Level.TheVariants.{Term, Sum, Conjunction,
 use Rattle.syntax.specs.declared.tree.Prefix.TheVariants.{Negate, Not}
 use Rattle.syntax.specs.declared.tree.Comparison as written
 use Rattle.syntax.specs.declared.tree.Comparison.TheVariants as sign
-use Rattle.syntax.specs.Trees.{Ident, Place, lone, element, path, Expr, int, null, place, paren, prefix, chain, compare}
-use Rattle.syntax.specs.Trees.{Links, no_links, link, Decl, lock, struct, global, array, pool, init, atomic, helper}
-use Rattle.syntax.specs.Trees.{thread}
+use Rattle.syntax.specs.Trees.{Ident, lone, element, path, Expr, int, null, place, paren, prefix, chain, compare}
+use Rattle.syntax.specs.Trees.{Links, no_links, link, global, array, pool}
 use Rattle.core_lang.specs.declared.value.ValueType.{ValueType}
 use Rattle.core_lang.specs.declared.value.ValueType.TheVariants.{Integer, Reference}
 use Rattle.core_lang.specs.declared.tree.Operator.{Operator}
@@ -33,7 +32,6 @@ use Rattle.resolution.specs.Typing.{Types, types_int, types_null, types_local, t
 use Rattle.resolution.specs.Typing.{types_path, types_paren, types_minus, types_not, types_numbers, types_and, types_or}
 use Rattle.resolution.specs.Typing.{types_order, types_equality, TypesOperands, no_operand, one_operand, TypesTests}
 use Rattle.resolution.specs.Typing.{last_test, one_test, Gives, gives}
-use Rattle.resolution.specs.Working.TypedExpressions as code
 use Rattle.resolution.specs.Working.TypedExpressions.{fitting, as_value, literal, value_of, named_value, member_value}
 use Rattle.resolution.specs.Working.TypedExpressions.{element_value, path_value, parenthesised, negated, not_so, chained}
 use Rattle.resolution.specs.Working.TypedExpressions.{linked, Tests, tested, all_hold, one_holds, ordered, equated}

@@ -6,8 +6,8 @@ use Rattle.std.specs.Prelude.{nat_le, ◌==◌}
 use Rattle.std.proofs.lemmas.Bool.{eqb-true}
 use Rattle.std.proofs.lemmas.Bool.Decides.{nat_tests}
 use Rattle.source.specs.Texts.{SOURCE_LIMIT}
-use Rattle.syntax.specs.Trees.{Ident, ref_type, Place, lone, element, path, Expr, Owner, Decl, lock, struct, global, array}
-use Rattle.syntax.specs.Trees.{pool, init, atomic, helper, thread, Member, lock_member, final_member, field_member}
+use Rattle.syntax.specs.Trees.{Ident, ref_type, Place, lone, element, path, Expr, Owner, Decl, global, array}
+use Rattle.syntax.specs.Trees.{Member, lock_member, final_member, field_member}
 use Rattle.syntax.specs.Trees.{Struct, assign}
 use Rattle.core_lang.specs.declared.value.ValueType.{ValueType}
 use Rattle.core_lang.specs.declared.value.ValueType.TheVariants.{Integer, Reference}
@@ -16,7 +16,7 @@ use Rattle.core_lang.specs.declared.tree.FieldStep.TheVariants as step
 use Rattle.resolution.specs.declared.owner_field.OwnerField.{OwnerField}
 use Rattle.resolution.specs.declared.wanted.Sort.TheVariants.{Of}
 use Rattle.resolution.specs.Core as core
-use Rattle.resolution.specs.Limits.{STRUCT_LIMIT, up_to}
+use Rattle.resolution.specs.Limits.{STRUCT_LIMIT}
 use Rattle.resolution.specs.Scopes.{◌>>=◌, Scope, Local, outside, Meaning, a_local, a_decl, nothing, meaning, number_at}
 use Rattle.resolution.specs.Scopes.{type_of, the_struct, the_member}
 use Rattle.resolution.specs.Expressions.{ResolvedExpr, value, fits_type, cell_of, local_path, member_number, Walk}
@@ -27,7 +27,7 @@ use Rattle.resolution.specs.Where.{Asks, of_assign, of_unassignable}
 use Rattle.resolution.specs.Typing.{Types, Assigns, assigns_local, assigns_global, assigns_element, assigns_field}
 use Rattle.resolution.specs.Typing.{IsFinalOf, is_final_of, TypesOwner, types_owner}
 use Rattle.resolution.specs.Working.TypedExpressions.{number_resolved, typed}
-use Rattle.resolution.specs.Working.TypedOwners.{final_of, owner_member, owner_field, is_of, owner_local, tested_by}
+use Rattle.resolution.specs.Working.TypedOwners.{final_of, owner_member, owner_field, is_of, owner_local}
 use Rattle.resolution.specs.Working.TypedOwners.{owned_value, owned_by}
 use Rattle.resolution.specs.Working.TypedStatements.{Target, to_local, to_global, to_element, to_field, Assignee, assignee}
 use Rattle.resolution.specs.Working.TypedStatements.{assignee_at, assignee_at_element, Split, behind, last_field}

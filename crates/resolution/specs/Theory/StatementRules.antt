@@ -12,14 +12,14 @@ use Rattle.core_lang.specs.declared.value.ValueType.{ValueType}
 use Rattle.core_lang.specs.declared.value.ValueType.TheVariants.{Integer}
 use Rattle.resolution.specs.declared.body_limits.BodyLimits.{BodyLimits}
 use Rattle.resolution.specs.declared.wanted.Sort.TheVariants.{Of}
-use Rattle.resolution.specs.declared.wanted.Want.TheVariants.{Anything, Value}
+use Rattle.resolution.specs.declared.wanted.Want.TheVariants.{Value}
 use Rattle.resolution.specs.Core as core
-use Rattle.resolution.specs.Scopes.{◌>>=◌, Scope, Local, outside, Meaning, a_local, a_decl, nothing, meaning}
+use Rattle.resolution.specs.Scopes.{◌>>=◌, Scope, Local, outside, Meaning, a_decl, meaning}
 use Rattle.resolution.specs.Scopes.{helper_meant, number_at, type_of, result_of, left}
-use Rattle.resolution.specs.Expressions.{ResolvedExpr, value, truth, fits_type, want}
+use Rattle.resolution.specs.Expressions.{ResolvedExpr, value, truth, want}
 use Rattle.resolution.specs.Constants.{added, want_of}
 use Rattle.resolution.specs.Statements.{first_name, after, after_all, entry}
-use Rattle.resolution.specs.Typing.{Types, Gives, Assigns, TypesOwner, TypesArguments, no_argument, one_argument, TypesCall}
+use Rattle.resolution.specs.Typing.{Types, Gives, TypesOwner, TypesArguments, no_argument, one_argument, TypesCall}
 use Rattle.resolution.specs.Typing.{types_call, TypesStmt, types_let, types_owned, types_let_call, types_var, types_assign}
 use Rattle.resolution.specs.Typing.{types_if, types_if_else, types_while, types_print, types_call_alone, TypesBody}
 use Rattle.resolution.specs.Typing.{types_none, types_return, types_next, TypesLocals, no_local, one_local, TypesResult}
@@ -27,9 +27,9 @@ use Rattle.resolution.specs.Typing.{no_result, one_result, TypesSection, types_s
 use Rattle.resolution.specs.Working.TypedExpressions.{fitting, as_value, number_resolved, test_resolved, typed}
 use Rattle.resolution.specs.Working.TypedOwners.{is_of, owned_by}
 use Rattle.resolution.specs.Working.TypedStatements.{Assignee, target_of, wanted_by, typed_values, called, call_resolved}
-use Rattle.resolution.specs.Working.TypedStatements.{type_given, can_take, Part, does, gives, acts_if, binds, set_to}
+use Rattle.resolution.specs.Working.TypedStatements.{type_given, can_take, Part, does, gives, acts_if, binds}
 use Rattle.resolution.specs.Working.TypedStatements.{assigns, prints, returns, repeats, chooses, chooses_between, Body}
-use Rattle.resolution.specs.Working.TypedStatements.{given_back, preceded, block_without, block_of, typed_stmt, typed_if}
+use Rattle.resolution.specs.Working.TypedStatements.{given_back, preceded, block_without, block_of, typed_stmt}
 use Rattle.resolution.specs.Working.TypedStatements.{typed_body}
 use Rattle.resolution.specs.Working.TypedSections.{core_locals, section_with, section_of, typed_section}
 use Rattle.resolution.specs.Theory.ExpressionRules.{When, when, number_when, test_when, expr_types, typed_is, gives_when}
