@@ -82,7 +82,9 @@ pub data IsTypeNote (decls : List Decl) (at : ℕ) : Note → Type 0 where
   of_number_owned : {sc : Scope} {l : Local} {o : Owner} →
       HasStmt decls sc (let_owned l o) → type_of sc l.value_type ≡ Some Integer → o.field.span.start ≡ at →
       IsTypeNote decls at (types_note (codes "a reference") (codes "int"))
-  of_owner : {sc : Scope} {l : Local} {o : Owner} {f : OwnerField} {i : ℕ} {b : local.Local} {t u : core_type.ValueType} →
+  of_owner : {sc : Scope} {l : Local} {o : Owner} {f : OwnerField} {i : ℕ} {b : local.Local}
+      {t u : core_type.ValueType} →
       HasStmt decls sc (let_owned l o) → type_of sc l.value_type ≡ Some t → IsFinalOf sc.decls t o.field f →
-      meaning sc o.local.text ≡ a_local i b → b.value_type ≡ Some u → fits_type f.value_type (sort.Of u) ≡ false → o.local.span.start ≡ at →
+      meaning sc o.local.text ≡ a_local i b → b.value_type ≡ Some u → fits_type f.value_type (sort.Of u) ≡ false →
+      o.local.span.start ≡ at →
       IsTypeNote decls at (types_note (type_words sc.decls f.value_type) (type_words sc.decls u))
