@@ -18,8 +18,10 @@ use Rattle.resolution.specs.Scopes.{structs_in, the_struct}
 use Rattle.resolution.specs.Numbers.{total, classes_of, objects_of, cells_of, classes_ahead, cells_ahead, objects_ahead}
 use Rattle.resolution.specs.Expressions.{cell_of, member_number}
 use Rattle.resolution.specs.Constants.{opened}
-use Rattle.resolution.specs.Resolution.{StructBuilder, empty_struct, nothing_yet, array_added, pool_added}
-use Rattle.resolution.specs.Resolution.{typed_section, resolved}
+use Rattle.resolution.specs.Tables.{nothing_yet}
+use Rattle.resolution.specs.Working.Building.{StructBuilder, empty_struct, array_added, pool_added}
+use Rattle.resolution.specs.Resolution.{typed_section}
+use Rattle.resolution.specs.Working.Building.{resolved}
 use Rattle.resolution.proofs.FaultlessExpressions.{struct_has, Clean}
 use Rattle.resolution.proofs.FaultlessMembers.{is_field, is_final, count_few}
 use Rattle.resolution.proofs.FaultlessPrograms.{struct_few}

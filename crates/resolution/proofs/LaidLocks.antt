@@ -16,7 +16,8 @@ use Rattle.resolution.specs.Annotations.{class_number, class_in, class_of, Annot
 use Rattle.resolution.specs.Annotations.{through_member, stepped_on, ended_at, along, protection_by, cursor_at}
 use Rattle.resolution.specs.Annotations.{protection_of}
 use Rattle.resolution.specs.Where.{Has, first, further}
-use Rattle.resolution.specs.Resolution.{StructBuilder, empty_struct, nothing_yet, array_added, resolved}
+use Rattle.resolution.specs.Tables.{nothing_yet}
+use Rattle.resolution.specs.Working.Building.{StructBuilder, empty_struct, array_added, resolved}
 use Rattle.resolution.specs.Working.FaultLists as list
 use Rattle.resolution.specs.Working.FaultLists.{one_if, member_counts, count_faults, total_faults, passed_faults}
 use Rattle.resolution.specs.Working.FaultLists.{along_faults, annotation_faults, protection_faults, type_faults}

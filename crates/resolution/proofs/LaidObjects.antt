@@ -26,7 +26,8 @@ use Rattle.resolution.specs.Expressions.{number_value, fits_type}
 use Rattle.resolution.specs.Constants.{number_sort, reference_sort, member_sort, const_sort, object_of, member_of}
 use Rattle.resolution.specs.Constants.{const_value, if_fitting, typed_const, members_of, members_in, opened}
 use Rattle.resolution.specs.Constants.{default_of, object_in, referred}
-use Rattle.resolution.specs.Resolution.{nothing_yet, with_elements, array_added, pool_added, resolved}
+use Rattle.resolution.specs.Tables.{nothing_yet}
+use Rattle.resolution.specs.Working.Building.{with_elements, array_added, pool_added, resolved}
 use Rattle.resolution.proofs.Named.{named_is}
 use Rattle.resolution.specs.Theory.Facts.{struct_at}
 use Rattle.resolution.proofs.FaultlessExpressions.{Clean}

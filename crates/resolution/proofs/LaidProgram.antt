@@ -33,7 +33,8 @@ use Rattle.resolution.specs.CoreViews.{core_pool, core_global, core_local, core_
 use Rattle.resolution.specs.CoreViews.{core_of}
 use Rattle.resolution.specs.Limits.{section_limits, helper_limits}
 use Rattle.resolution.specs.Scopes.{◌>>=◌, outside, number_at, the_struct, type_of}
-use Rattle.resolution.specs.Resolution.{resolved, typed_section}
+use Rattle.resolution.specs.Resolution.{typed_section}
+use Rattle.resolution.specs.Working.Building.{resolved}
 use Rattle.resolution.specs.Where.{Has}
 use Rattle.resolution.proofs.FaultlessExpressions.{Clean, at_has}
 use Rattle.resolution.proofs.Typed.{map_got, get_map, final_in, field_in, final_target_is, field_type_is}

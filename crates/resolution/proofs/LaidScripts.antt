@@ -17,8 +17,9 @@ use Rattle.resolution.specs.Expressions.{want}
 use Rattle.resolution.specs.Statements.{Body, typed_body, after_all}
 use Rattle.resolution.specs.Constants.{typed_const, want_of, typed_arguments}
 use Rattle.resolution.specs.Resolution.{ahead_of, entry, core_locals, section_with, section_of, typed_section}
-use Rattle.resolution.specs.Resolution.{call_of, copies, joined, one_call, typed_item, typed_items, nothing_yet}
-use Rattle.resolution.specs.Resolution.{resolved}
+use Rattle.resolution.specs.Resolution.{call_of, copies, joined, one_call, typed_item, typed_items}
+use Rattle.resolution.specs.Tables.{nothing_yet}
+use Rattle.resolution.specs.Working.Building.{resolved}
 use Rattle.resolution.proofs.Named.{named_is}
 use Rattle.resolution.proofs.TrueStatements.{length_push}
 use Rattle.resolution.proofs.FaultlessExpressions.{Clean}

@@ -16,12 +16,15 @@ use Rattle.resolution.specs.Limits.{final_at}
 use Rattle.resolution.specs.Scopes.{◌>>=◌, outside, type_of, struct_named, number_in}
 use Rattle.resolution.specs.Constants.{members_of, opened, default_of, referred}
 use Rattle.resolution.specs.Annotations.{class_of, protection_of}
-use Rattle.resolution.specs.Resolution.{few_calls, typed_calls, typed_items, typed_section, StructBuilder, lock_added}
-use Rattle.resolution.specs.Resolution.{final_added, field_added, member_added, members_added, empty_struct}
-use Rattle.resolution.specs.Resolution.{with_class, with_struct, with_cell, with_section, with_helper, with_thread}
-use Rattle.resolution.specs.Resolution.{global_added, with_global, opening_of, with_elements, array_added, with_array}
-use Rattle.resolution.specs.Resolution.{Slot, slot_given, final_cell, field_cell, with_members, object_added}
-use Rattle.resolution.specs.Resolution.{with_object, with_objects, pool_added, with_pool, extended}
+use Rattle.resolution.specs.Resolution.{few_calls, typed_calls, typed_items, typed_section}
+use Rattle.resolution.specs.Working.Building.{StructBuilder, lock_added}
+use Rattle.resolution.specs.Working.Building.{final_added, field_added, member_added, members_added, empty_struct}
+use Rattle.resolution.specs.Working.Building.{with_class, with_struct, with_cell, with_section, with_helper}
+use Rattle.resolution.specs.Working.Building.{with_thread}
+use Rattle.resolution.specs.Working.Building.{global_added, with_global, opening_of, with_elements, array_added}
+use Rattle.resolution.specs.Working.Building.{with_array}
+use Rattle.resolution.specs.Working.Building.{Slot, slot_given, final_cell, field_cell, with_members, object_added}
+use Rattle.resolution.specs.Working.Building.{with_object, with_objects, pool_added, with_pool, extended}
 use Rattle.resolution.proofs.LaidLists.{Rows, Grows, grows_more, bind_got, up_got}
 use Rattle.std.proofs.lemmas.List.{append-nil}
 

@@ -13,9 +13,10 @@ use Rattle.resolution.specs.Scopes.{outside, bears, the_decl, type_of, struct_na
 use Rattle.resolution.specs.Numbers.{total, is_lock, classes_of, objects_of, cells_of, width}
 use Rattle.resolution.specs.Constants.{members_of, members_in, default_of}
 use Rattle.resolution.specs.Annotations.{protection_of}
-use Rattle.resolution.specs.Resolution.{StructBuilder, lock_added, final_added, field_added, members_added}
-use Rattle.resolution.specs.Resolution.{empty_struct, nothing_yet, with_class, with_elements, array_added, pool_added}
-use Rattle.resolution.specs.Resolution.{extended, resolved_from, resolved}
+use Rattle.resolution.specs.Working.Building.{StructBuilder, lock_added, final_added, field_added, members_added}
+use Rattle.resolution.specs.Tables.{nothing_yet}
+use Rattle.resolution.specs.Working.Building.{empty_struct, with_class, with_elements, array_added, pool_added}
+use Rattle.resolution.specs.Working.Building.{extended, resolved_from, resolved}
 use Rattle.resolution.specs.Working.FaultLists.{count_faults, total_faults}
 use Rattle.resolution.proofs.Named.{named_is}
 use Rattle.resolution.proofs.AllFaults.{of_totals}

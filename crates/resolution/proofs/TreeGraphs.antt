@@ -19,7 +19,8 @@ use Rattle.resolution.specs.Limits.{SECTION_LIMIT, section_limits, helper_limits
 use Rattle.resolution.specs.Scopes.{◌>>=◌, outside, count, alike, number_at, type_of}
 use Rattle.resolution.specs.Statements as statements
 use Rattle.resolution.specs.Statements.{typed_body, after_all}
-use Rattle.resolution.specs.Resolution.{resolved, ahead_of, entry, core_locals, section_with, section_of, typed_section}
+use Rattle.resolution.specs.Resolution.{ahead_of, entry, core_locals, section_with, section_of, typed_section}
+use Rattle.resolution.specs.Working.Building.{resolved}
 use Rattle.resolution.specs.CallGraphs.{stmts_calls, stmts_points, body_in, helper_bodies, section_bodies, tree_graph}
 use Rattle.resolution.proofs.Typed.{get_map}
 use Rattle.resolution.proofs.FaultlessExpressions.{Clean}

@@ -7,7 +7,8 @@ use Rattle.core_lang.specs.declared.typed.Typed.{Typed}
 use Rattle.core_lang.specs.WellFormed.{IsChecked, IsWellFormed}
 use Rattle.resolution.specs.CoreViews.{core_section, core_of}
 use Rattle.resolution.specs.Limits.{section_limits, helper_limits}
-use Rattle.resolution.specs.Resolution.{resolved, typed_section}
+use Rattle.resolution.specs.Resolution.{typed_section}
+use Rattle.resolution.specs.Working.Building.{resolved}
 use Rattle.core_lang_calls.specs.Working.Programs.{CallsKeepLimits}
 use Rattle.core_lang_calls.specs.Working.Laws.{FaultlessKeepLimits, HasNoGraphFault}
 use Rattle.resolution.specs.CallGraphs.{tree_graph}

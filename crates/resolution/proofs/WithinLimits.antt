@@ -26,7 +26,8 @@ use Rattle.resolution.specs.Scopes.{has_body, bound, left}
 use Rattle.resolution.specs.Numbers.{total, cells_of, calls_in, calls_in_all, calls_of}
 use Rattle.resolution.specs.Expressions.{want}
 use Rattle.resolution.specs.Statements.{after, after_else, after_all}
-use Rattle.resolution.specs.Resolution.{ahead_of, entry, call_of, copies, typed_item, typed_items, resolved}
+use Rattle.resolution.specs.Resolution.{ahead_of, entry, call_of, copies, typed_item, typed_items}
+use Rattle.resolution.specs.Working.Building.{resolved}
 use Rattle.resolution.specs.Working.FaultLists.{one_if, local_faults, type_faults, wanted_faults, binding_faults}
 use Rattle.resolution.specs.Working.FaultLists.{owner_faults, helper_call_faults, given_back_faults, stmt_faults}
 use Rattle.resolution.specs.Working.FaultLists.{else_faults, stmts_faults, param_faults, result_faults, count_faults}

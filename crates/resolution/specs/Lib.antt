@@ -9,6 +9,7 @@ pub mod Statements
 pub mod Constants
 pub mod Annotations
 pub mod Resolution
+pub mod Tables
 pub mod Resolved
 pub mod Where
 pub mod CallGraphs
@@ -20,4 +21,5 @@ pub use Rattle.resolution.specs.Resolved.{Resolves}
 pub use Rattle.resolution.specs.Faults.{IsFault, IsRefusal, HasNoFault}
 pub use Rattle.resolution.specs.Working.Laws.{TheLeastIsAFault, NoneGoesBeforeTheLeast, NoLeastIsNoFault}
 pub use Rattle.resolution.specs.Working.Laws.{HaveAtMostOneLeast, FaultlessAreResolved, GraphOfResolved}
+pub use Rattle.resolution.specs.Working.Laws.{ResolvedByRules, RulesAreResolved}
 pub use Rattle.resolution.specs.Working.Laws.{ResolvedAreChecked, DeclaresNoHelper, WithoutHelpersAreWellFormed}
