@@ -19,7 +19,7 @@ use Rattle.resolution.specs.Numbers.{width, total, classes_of, objects_of, cells
 use Rattle.resolution.specs.Expressions.{want}
 use Rattle.resolution.specs.Constants.{members_of, members_in, default_of}
 use Rattle.resolution.specs.Annotations.{protection_of}
-use Rattle.resolution.specs.Resolution.{few_calls, typed_items}
+use Rattle.resolution.specs.Working.Building.{few_calls, typed_items}
 use Rattle.resolution.specs.Working.Building.{StructBuilder, lock_added, final_added, field_added}
 use Rattle.resolution.specs.Tables.{nothing_yet}
 use Rattle.resolution.specs.Working.Building.{members_added, empty_struct, with_class, with_struct, with_cell}

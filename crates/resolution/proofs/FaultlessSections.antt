@@ -19,7 +19,8 @@ use Rattle.resolution.specs.Scopes.{◌>>=◌, Scope, outside, a_decl, number_at
 use Rattle.resolution.specs.Scopes.{entered}
 use Rattle.resolution.specs.Constants.{added, typed_arguments}
 use Rattle.resolution.specs.Resolution.{ahead_of, entry, core_locals, section_with, section_of, typed_section}
-use Rattle.resolution.specs.Resolution.{call_of, copies, joined, one_call, typed_item, typed_items}
+use Rattle.resolution.specs.Tables.{copies}
+use Rattle.resolution.specs.Working.Building.{call_of, joined, one_call, typed_item, typed_items}
 use Rattle.resolution.specs.Statements.{typed_body, Body, after_all}
 use Rattle.resolution.specs.Where.{Has, first, further, HasBody, of_section, of_helper}
 use Rattle.resolution.specs.Working.FaultLists.{one, one_if, unfit, type_faults, argument_faults, local_faults}

@@ -30,6 +30,7 @@ pub mod WellSections
 pub mod LaidLists
 pub mod RuledStructs
 pub mod RuledObjects
+pub mod RuledThreads
 pub mod Ruled
 pub mod LaidStages
 pub mod LaidWalk

@@ -4,24 +4,23 @@ use Rattle.syntax.specs.Trees.{Member, Struct, Variable, Array, Pool, Decl, lock
 use Rattle.syntax.specs.Trees.{init, atomic, helper, thread}
 use Rattle.core_lang.specs.declared.value.Value.{Value}
 use Rattle.core_lang.specs.declared.value.ValueType as core_type
-use Rattle.core_lang.specs.declared.typed.Typed.{Typed}
 use Rattle.resolution.specs.Core as core
-use Rattle.resolution.specs.CoreViews.{core_of}
 use Rattle.resolution.specs.Limits.{section_limits, helper_limits, object_at, cell_at}
 use Rattle.resolution.specs.Scopes.{◌>>=◌, outside, type_of, struct_named}
 use Rattle.resolution.specs.Constants.{members_of}
 use Rattle.resolution.specs.Annotations.{class_of}
-use Rattle.resolution.specs.Resolution.{typed_section, typed_calls}
-use Rattle.resolution.specs.Tables.{nothing_yet, Adds, adds_class, adds_struct, adds_global, adds_array}
+use Rattle.resolution.specs.Resolution.{typed_section}
+use Rattle.resolution.specs.Tables.{Adds, adds_class, adds_struct, adds_global, adds_array}
 use Rattle.resolution.specs.Tables.{adds_pool, adds_nothing, adds_section, adds_helper, adds_thread, AddAll}
 use Rattle.resolution.specs.Tables.{no_declaration, first_and_rest, Makes, lock_classes}
-use Rattle.resolution.specs.Resolved.{Resolves}
+use Rattle.resolution.specs.Working.Building.{typed_calls}
 use Rattle.resolution.specs.Working.Building.{StructBuilder, members_added, empty_struct, with_class, with_struct}
 use Rattle.resolution.specs.Working.Building.{with_section, with_helper, with_thread, global_added, with_global}
 use Rattle.resolution.specs.Working.Building.{opening_of, with_elements, array_added, with_array, with_objects}
-use Rattle.resolution.specs.Working.Building.{pool_added, with_pool, extended, resolved_from, resolved}
+use Rattle.resolution.specs.Working.Building.{pool_added, with_pool, extended, resolved_from}
 use Rattle.resolution.proofs.LaidLists.{bind_got}
 use Rattle.resolution.proofs.RuledStructs.{made_on, made_by_rules, rules_made, makes_name}
+use Rattle.resolution.proofs.RuledThreads.{calls_ruled, calls_built}
 use Rattle.resolution.proofs.RuledObjects.{elements_are, objects_by_rules, rules_objects}
 
 -- ---- what is built, by the rules
@@ -130,8 +129,9 @@ ruled decls i p (thread x) q e = by_calls (typed_calls decls x.items) refl e
     by_calls : (o : Option (List core.Call)) → typed_calls decls x.items ≡ o → with_thread p x.name.text o ≡ Some q →
         Adds decls i (thread x) p q
     by_calls (Some calls) h g =
+        let r = calls_ruled decls x.items calls h in
         let same : record p { threads = p.threads ++ record { name = x.name.text; calls = calls } ∷ [] } ≡ q = cc in
-        subst (Adds decls i (thread x) p) same (adds_thread h)
+        subst (Adds decls i (thread x) p) same (adds_thread r.0 r.1)
     by_calls None h g = cc
 
 none_from : (decls : List Decl) (i : ℕ) (ds : List Decl) → resolved_from decls i None ds ≡ None
@@ -170,7 +170,8 @@ built decls i p d q (adds_pool {x = x} {structure = s} {first = first} {count = 
 built decls i p d q adds_nothing = refl
 built decls i p d q (adds_section h) = ap (with_section p) h
 built decls i p d q (adds_helper h) = ap (with_helper p) h
-built decls i p d q (adds_thread {x = x} h) = ap (with_thread p x.name.text) h
+built decls i p d q (adds_thread {x = x} {calls = calls} few are) =
+    ap (with_thread p x.name.text) (calls_built decls x.items calls few are)
 
 pub all_built : (decls : List Decl) (i : ℕ) (ds : List Decl) (p r : core.Program) → AddAll decls i ds p r →
     resolved_from decls i (Some p) ds ≡ Some r
@@ -178,8 +179,3 @@ all_built decls i ds p r no_declaration = refl
 all_built decls i ds p r (first_and_rest {d = d} {ds = rest} {q = q} a more) =
     ap (λ (o : Option core.Program). resolved_from decls (i + 1) o rest) (built decls i p d q a)
     ∙ all_built decls (i + 1) rest q r more
-
--- of a whole tree
-pub whole_built : (decls : List Decl) (program : Typed) → Resolves decls program →
-    resolved decls ≡ Some (core_of program)
-whole_built decls program a = all_built decls 0 decls nothing_yet (core_of program) a

@@ -21,7 +21,7 @@ use Rattle.resolution.proofs.LaidLists.{bind_got}
 
 -- ---- elements of an array
 
-abbrev with_cells : core.Program → List Cell → core.Program
+abbrev pub with_cells : core.Program → List Cell → core.Program
 with_cells p cs = record p { cells = p.cells ++ cs }
 
 pub elements_are : (p : core.Program) (a : ℕ) (t : core_type.ValueType) (n : ℕ) →

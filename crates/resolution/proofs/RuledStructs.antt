@@ -114,11 +114,12 @@ made_by_rules decls k i s (field_member f ∷ ms) st to e =
     let op = protection_of decls i s.members f.protection in
     let g = field_there decls k i s.members ms st to f.name.text ot op e in
     let y : core.Field = record { name = f.name.text; value_type = g.0; protection = g.1 } in
-    let r = made_by_rules decls k i s ms (with_field st y) to
-    (ap (λ (o : Option core_type.ValueType). members_added decls k i s.members
+    let on : members_added decls k i s.members (Some (with_field st y)) ms ≡ Some to =
+    ap (λ (o : Option core_type.ValueType). members_added decls k i s.members
     (field_added st f.name.text o (Some g.1)) ms) (sym g.2)
     ∙ ap (λ (o : Option core.Protection). members_added decls k i s.members (field_added st f.name.text ot o) ms)
-    (sym g.3) ∙ e) in
+    (sym g.3) ∙ e in
+    let r = made_by_rules decls k i s ms (with_field st y) to on in
     record {
       structure = record (r.structure) { fields = y ∷ r.structure.fields };
       makes = field g.2 g.3 r.makes;

@@ -1,14 +1,11 @@
--- The sections, the helpers and the threads of the program that a tree stands for.
-use Rattle.std.specs.Prelude.{ℕ, zero, suc, nat_le, Bool, List, [], ◌∷◌, ◌++◌, length, Option, Some, None}
-use Rattle.std.specs.Prelude.{if◌then◌else◌}
-use Rattle.syntax.specs.Trees.{ValueType, Const, Section, Item, call, repeat, Items, no_items, item, Decl, atomic}
+-- The sections and the helpers of the program that a tree stands for.
+use Rattle.std.specs.Prelude.{List, [], ◌∷◌, length, Option, Some, None}
+use Rattle.syntax.specs.Trees.{ValueType, Section, Decl}
 use Rattle.resolution.specs.Core as core
 use Rattle.resolution.specs.declared.body_limits.BodyLimits.{BodyLimits}
-use Rattle.resolution.specs.Limits.{CALL_LIMIT}
-use Rattle.resolution.specs.Scopes.{◌>>=◌, Scope, Local, outside, the_decl, number_at, type_of, result_of, entered}
-use Rattle.resolution.specs.Numbers.{total, calls_of}
+use Rattle.resolution.specs.Scopes.{◌>>=◌, Scope, Local, outside, type_of, result_of, entered}
 use Rattle.resolution.specs.Statements.{Body, typed_body, after_all}
-use Rattle.resolution.specs.Constants.{added, typed_arguments}
+use Rattle.resolution.specs.Constants.{added}
 
 -- ---- sections and helpers
 
@@ -50,42 +47,3 @@ section_in sc s =
 
 abbrev pub typed_section : List Decl → BodyLimits → Section → Option core.Section
 typed_section decls limits s = section_in (ahead_of decls limits s) s
-
--- ---- threads
-
--- a call of a section, with a fitting argument for each of its parameters
-abbrev pub call_of : List Decl → Option (ℕ × Decl) → List Const → Option core.Call
-call_of decls (Some (i, atomic s)) cs = typed_arguments decls s.params cs >>= λ vs. Some (record { section = number_at decls i (atomic s); arguments = vs })
-call_of decls _ cs = None
-
--- a list so many times over
-abbrev pub copies : {A : Type 0} → ℕ → List A → List A
-copies zero xs = []
-copies (suc n) xs = xs ++ copies n xs
-
-abbrev pub joined : {A : Type 0} → Option (List A) → Option (List A) → Option (List A)
-joined (Some xs) (Some ys) = Some (xs ++ ys)
-joined (Some xs) None = None
-joined None ys = None
-
-abbrev pub one_call : Option core.Call → Option (List core.Call)
-one_call (Some c) = Some (c ∷ [])
-one_call None = None
-
--- the calls of what a thread does, each `repeat` multiplied out
-abbrev mutual
-  pub typed_item : List Decl → Item → Option (List core.Call)
-  typed_item decls (call c) = one_call (call_of decls (the_decl decls c.section.text) c.arguments)
-  typed_item decls (repeat n is) = typed_items decls is >>= λ calls. Some (copies n.value calls)
-
-  pub typed_items : List Decl → Items → Option (List core.Call)
-  typed_items decls no_items = Some []
-  typed_items decls (item i is) = joined (typed_item decls i) (typed_items decls is)
-
--- there are not too many calls
-abbrev pub few_calls : List Decl → Bool
-few_calls decls = nat_le (total calls_of decls) CALL_LIMIT
-
--- a thread's calls, if there are not too many in all threads
-abbrev pub typed_calls : List Decl → Items → Option (List core.Call)
-typed_calls decls is = if few_calls decls then typed_items decls is else None

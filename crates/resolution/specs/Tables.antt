@@ -1,20 +1,22 @@
 -- The tables of the program that a tree stands for: what each declaration adds to them. What is added to a table stands
 -- at its end, and its number is how many stand there before it.
-use Rattle.std.specs.Prelude.{◌≡◌, ℕ, zero, suc, ◌+◌, List, [], ◌∷◌, ◌++◌, length, Some}
+use Rattle.std.specs.Prelude.{◌≡◌, ℕ, zero, suc, ◌+◌, ◌≤◌, List, [], ◌∷◌, ◌++◌, length, Some}
+use Rattle.source.specs.declared.token.Number.{Number}
 use Rattle.syntax.specs.Trees.{Ident, Member, lock_member, final_member, field_member, Final, Field, Struct, Variable}
 use Rattle.syntax.specs.Trees.{Array, Pool, Init, Section, Thread, Decl, lock, struct, global, array, pool, init}
-use Rattle.syntax.specs.Trees.{atomic, helper, thread}
+use Rattle.syntax.specs.Trees.{atomic, helper, thread, Call, Items, no_items, item, call, repeat}
 use Rattle.core_lang.specs.declared.value.Value.{Value}
 use Rattle.core_lang.specs.declared.value.ValueType.{ValueType}
 use Rattle.core_lang.specs.declared.typed.Cell.{Cell}
 use Rattle.core_lang.specs.declared.typed.Owner.TheVariants as owner
 use Rattle.resolution.specs.declared.init_target.InitTarget.{InitTarget}
 use Rattle.resolution.specs.Core as core
-use Rattle.resolution.specs.Limits.{section_limits, helper_limits, object_at, cell_at, final_at}
-use Rattle.resolution.specs.Scopes.{outside, type_of, struct_named}
-use Rattle.resolution.specs.Constants.{members_of, given, default_of, opened, referred}
+use Rattle.resolution.specs.Limits.{CALL_LIMIT, section_limits, helper_limits, object_at, cell_at, final_at}
+use Rattle.resolution.specs.Scopes.{outside, the_decl, number_at, type_of, struct_named}
+use Rattle.resolution.specs.Numbers.{total, calls_of}
+use Rattle.resolution.specs.Constants.{typed_arguments, members_of, given, default_of, opened, referred}
 use Rattle.resolution.specs.Annotations.{class_of, protection_of}
-use Rattle.resolution.specs.Resolution.{typed_section, typed_calls}
+use Rattle.resolution.specs.Resolution.{typed_section}
 
 -- the tables before the first declaration
 abbrev pub nothing_yet : core.Program
@@ -100,6 +102,24 @@ pub data AddObjects (decls : List Decl) (place number : ℕ) (ms : List Member) 
         cells = q.cells ++ cs;
       })
 
+-- ---- threads
+
+-- a list so many times over
+abbrev pub copies : {A : Type 0} → ℕ → List A → List A
+copies zero xs = []
+copies (suc n) xs = xs ++ copies n xs
+
+-- the calls of what a thread does, each `repeat` multiplied out. A call is of a section, with a fitting argument for each
+-- parameter
+pub data AreCalls (decls : List Decl) : Items → List core.Call → Type 0 where
+  no_call : AreCalls decls no_items []
+  one_call : {c : Call} {i : ℕ} {s : Section} {vs : List Value} {is : Items} {cs : List core.Call} →
+      the_decl decls c.section.text ≡ Some (i, atomic s) → typed_arguments decls s.params c.arguments ≡ Some vs →
+      AreCalls decls is cs →
+      AreCalls decls (item (call c) is) (record { section = number_at decls i (atomic s); arguments = vs } ∷ cs)
+  repeated : {n : Number} {js is : Items} {bs cs : List core.Call} → AreCalls decls js bs → AreCalls decls is cs →
+      AreCalls decls (item (repeat n js) is) (copies n.value bs ++ cs)
+
 -- ---- declarations
 
 -- what the declaration at a place adds: the tables before it and with it
@@ -138,7 +158,8 @@ pub data Adds (decls : List Decl) (i : ℕ) : Decl → core.Program → core.Pro
       Adds decls i (atomic s) p (record p { sections = p.sections ++ t ∷ [] })
   adds_helper : {s : Section} {p : core.Program} {t : core.Section} → typed_section decls helper_limits s ≡ Some t →
       Adds decls i (helper s) p (record p { helpers = p.helpers ++ t ∷ [] })
-  adds_thread : {x : Thread} {p : core.Program} {calls : List core.Call} → typed_calls decls x.items ≡ Some calls →
+  adds_thread : {x : Thread} {p : core.Program} {calls : List core.Call} →
+      total calls_of decls ≤ CALL_LIMIT → AreCalls decls x.items calls →
       Adds decls i (thread x) p (record p { threads = p.threads ++ record { name = x.name.text; calls = calls } ∷ [] })
 
 -- what declarations from a place on add, one after another
@@ -146,3 +167,7 @@ pub data AddAll (decls : List Decl) : ℕ → List Decl → core.Program → cor
   no_declaration : {i : ℕ} {p : core.Program} → AddAll decls i [] p p
   first_and_rest : {i : ℕ} {d : Decl} {ds : List Decl} {p q r : core.Program} →
       Adds decls i d p q → AddAll decls (i + 1) ds q r → AddAll decls i (d ∷ ds) p r
+
+-- the tables are those that the declarations add to none
+abbrev pub AreTables : List Decl → core.Program → Type 0
+AreTables decls p = AddAll decls 0 decls nothing_yet p

@@ -1,6 +1,8 @@
 -- The program that a tree stands for, as it is built: one declaration after another, until one has no type. What the program is, says
 -- Tables; `resolved_by_rules` of src/laws.rt ties the two together.
-use Rattle.std.specs.Prelude.{ℕ, zero, suc, ◌+◌, List, [], ◌∷◌, ◌++◌, length, Option, Some, None}
+use Rattle.std.specs.Prelude.{ℕ, zero, suc, ◌+◌, List, [], ◌∷◌, ◌++◌, length, nat_le, Bool, Option, Some, None}
+use Rattle.std.specs.Prelude.{if◌then◌else◌}
+use Rattle.syntax.specs.Trees.{Item, call, repeat, Items, no_items, item}
 use Rattle.syntax.specs.Trees.{Const, Variable, Array, Member, lock_member, final_member, field_member, Decl, lock}
 use Rattle.syntax.specs.Trees.{struct, global, array, pool, init, atomic, helper, thread}
 use Rattle.core_lang.specs.declared.value.Value.{Value}
@@ -8,12 +10,47 @@ use Rattle.core_lang.specs.declared.value.ValueType as core_type
 use Rattle.core_lang.specs.declared.typed.Owner.{Owner}
 use Rattle.core_lang.specs.declared.typed.Owner.TheVariants as owner
 use Rattle.resolution.specs.Core as core
-use Rattle.resolution.specs.Limits.{section_limits, helper_limits, object_at, cell_at, final_at}
-use Rattle.resolution.specs.Scopes.{◌>>=◌, outside, type_of, struct_named}
-use Rattle.resolution.specs.Constants.{members_of, given, default_of, opened, referred}
+use Rattle.resolution.specs.Limits.{CALL_LIMIT, section_limits, helper_limits, object_at, cell_at, final_at}
+use Rattle.resolution.specs.Scopes.{◌>>=◌, outside, the_decl, number_at, type_of, struct_named}
+use Rattle.resolution.specs.Numbers.{total, calls_of}
+use Rattle.resolution.specs.Constants.{typed_arguments, members_of, given, default_of, opened, referred}
 use Rattle.resolution.specs.Annotations.{class_of, protection_of}
-use Rattle.resolution.specs.Resolution.{typed_section, typed_calls}
-use Rattle.resolution.specs.Tables.{nothing_yet}
+use Rattle.resolution.specs.Resolution.{typed_section}
+use Rattle.resolution.specs.Tables.{nothing_yet, copies}
+
+-- ---- threads
+
+-- a call of a section, with a fitting argument for each of its parameters
+abbrev pub call_of : List Decl → Option (ℕ × Decl) → List Const → Option core.Call
+call_of decls (Some (i, atomic s)) cs = typed_arguments decls s.params cs >>= λ vs. Some (record { section = number_at decls i (atomic s); arguments = vs })
+call_of decls _ cs = None
+
+abbrev pub joined : {A : Type 0} → Option (List A) → Option (List A) → Option (List A)
+joined (Some xs) (Some ys) = Some (xs ++ ys)
+joined (Some xs) None = None
+joined None ys = None
+
+abbrev pub one_call : Option core.Call → Option (List core.Call)
+one_call (Some c) = Some (c ∷ [])
+one_call None = None
+
+-- the calls of what a thread does, each `repeat` multiplied out
+abbrev mutual
+  pub typed_item : List Decl → Item → Option (List core.Call)
+  typed_item decls (call c) = one_call (call_of decls (the_decl decls c.section.text) c.arguments)
+  typed_item decls (repeat n is) = typed_items decls is >>= λ calls. Some (copies n.value calls)
+
+  pub typed_items : List Decl → Items → Option (List core.Call)
+  typed_items decls no_items = Some []
+  typed_items decls (item i is) = joined (typed_item decls i) (typed_items decls is)
+
+-- there are not too many calls
+abbrev pub few_calls : List Decl → Bool
+few_calls decls = nat_le (total calls_of decls) CALL_LIMIT
+
+-- a thread's calls, if there are not too many in all threads
+abbrev pub typed_calls : List Decl → Items → Option (List core.Call)
+typed_calls decls is = if few_calls decls then typed_items decls is else None
 
 -- ---- structs
 

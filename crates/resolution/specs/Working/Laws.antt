@@ -9,7 +9,7 @@ use Rattle.source.specs.declared.mistake.Mistake.{Mistake}
 use Rattle.source.specs.Mistakes.{goes_before, least_of}
 use Rattle.resolution.specs.Core as core
 use Rattle.resolution.specs.Working.Building.{resolved}
-use Rattle.resolution.specs.Tables.{nothing_yet, AddAll}
+use Rattle.resolution.specs.Tables.{AreTables}
 use Rattle.resolution.specs.Resolved.{Resolves}
 use Rattle.resolution.specs.Where.{Has}
 use Rattle.resolution.specs.Faults.{IsFault, HasNoFault}
@@ -47,13 +47,11 @@ FaultlessAreResolved = (decls : List Decl) → ReturnsRight decls → the_least 
 
 -- what a tree stands for is built as the rules say
 abbrev pub ResolvedByRules : Type 0
-ResolvedByRules =
-    (decls : List Decl) (p : core.Program) → resolved decls ≡ Some p → AddAll decls 0 decls nothing_yet p
+ResolvedByRules = (decls : List Decl) (p : core.Program) → resolved decls ≡ Some p → AreTables decls p
 
 -- and what they say is built
 abbrev pub RulesAreResolved : Type 0
-RulesAreResolved =
-    (decls : List Decl) (p : core.Program) → AddAll decls 0 decls nothing_yet p → resolved decls ≡ Some p
+RulesAreResolved = (decls : List Decl) (p : core.Program) → AreTables decls p → resolved decls ≡ Some p
 
 -- the graph of a tree with no fault is that of what it is resolved to
 abbrev pub GraphOfResolved : Type 0

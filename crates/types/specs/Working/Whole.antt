@@ -4,7 +4,8 @@ use Rattle.syntax.specs.Trees.{Decl, Variable, Array, Section, Thread}
 use Rattle.resolution.specs.Core as core
 use Rattle.resolution.specs.Limits.{section_limits, helper_limits}
 use Rattle.resolution.specs.Scopes.{◌>>=◌}
-use Rattle.resolution.specs.Resolution.{typed_section, typed_calls}
+use Rattle.resolution.specs.Resolution.{typed_section}
+use Rattle.resolution.specs.Working.Building.{typed_calls}
 use Rattle.resolution.specs.Working.Building.{extended, with_section, with_helper, with_thread}
 use Rattle.resolution.specs.Working.Building.{global_with, array_with}
 use Rattle.types_declarations.specs.Working.Values as builder

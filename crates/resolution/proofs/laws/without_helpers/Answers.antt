@@ -1,7 +1,6 @@
 use Rattle.resolution.proofs.WellFormed.{well_formed}
-use Rattle.resolution.proofs.Ruled.{whole_built}
 use Rattle.resolution.proofs.GraphFaults.{clean_of}
 use Rattle.resolution.proofs.laws.without_helpers.Goals as goal
 
 pub returns : goal.returns
-returns c = λ decls program e is none. well_formed decls (clean_of decls e) program (whole_built decls program is) none
+returns c = λ decls program e is none. well_formed decls (clean_of decls e) program is none
