@@ -43,7 +43,8 @@ NoLeastIsNoFault = (decls : List Decl) → the_least decls ≡ None → HasNoFau
 
 -- a program with no fault is resolved
 abbrev pub FaultlessAreResolved : Type 0
-FaultlessAreResolved = (decls : List Decl) → ReturnsRight decls → the_least decls ≡ None → (p : core.Program) × (resolved decls ≡ Some p)
+FaultlessAreResolved = (decls : List Decl) → ReturnsRight decls → the_least decls ≡ None →
+    (p : core.Program) × AreTables decls p
 
 -- what a tree stands for is built as the rules say
 abbrev pub ResolvedByRules : Type 0
