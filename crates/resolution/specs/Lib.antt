@@ -21,5 +21,5 @@ pub use Rattle.resolution.specs.Resolved.{Resolves}
 pub use Rattle.resolution.specs.Faults.{IsFault, IsRefusal, HasNoFault}
 pub use Rattle.resolution.specs.Working.Laws.{TheLeastIsAFault, NoneGoesBeforeTheLeast, NoLeastIsNoFault}
 pub use Rattle.resolution.specs.Working.Laws.{HaveAtMostOneLeast, FaultlessAreResolved, GraphOfResolved}
-pub use Rattle.resolution.specs.Working.Laws.{ResolvedByRules, RulesAreResolved}
+pub use Rattle.resolution.specs.Working.Laws.{ResolvedByRules, RulesAreResolved, StandsForOne}
 pub use Rattle.resolution.specs.Working.Laws.{ResolvedAreChecked, DeclaresNoHelper, WithoutHelpersAreWellFormed}

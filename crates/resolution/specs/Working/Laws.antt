@@ -54,6 +54,10 @@ ResolvedByRules = (decls : List Decl) (p : core.Program) → resolved decls ≡ 
 abbrev pub RulesAreResolved : Type 0
 RulesAreResolved = (decls : List Decl) (p : core.Program) → AreTables decls p → resolved decls ≡ Some p
 
+-- a tree stands for at most one program
+abbrev pub StandsForOne : Type 0
+StandsForOne = (decls : List Decl) (p q : core.Program) → AreTables decls p → AreTables decls q → p ≡ q
+
 -- the graph of a tree with no fault is that of what it is resolved to
 abbrev pub GraphOfResolved : Type 0
 GraphOfResolved = (decls : List Decl) (program : Typed) → the_least decls ≡ None → Resolves decls program → IsGraphOf program (tree_graph decls)
