@@ -31,7 +31,8 @@ unreachable-requires c =
     let none = was_none c.new.new.least (judged_faults (decls_of c.in_ok-symbols.symbols)) (sym c.in_ok-judge_all.ensures.faults ∙ c.in_default.is) in
     let all = whole_built ds (decls_of c.in_ok-symbols.symbols) _ (built c.judge_all.new.grown) same (begun c.new.new.least c.is_none.result c.nothing.result none c.is_none.ensures c.nothing.ensures) c.in_ok-judge_all.ensures.value in
     let some = c.faultless_are_resolved.ensures ds c.requires (sym whole ∙ c.in_default.is) in
-    none_built ds (built c.judge_all.new.grown) all (ap (λ b. if_right b c.judge_all.new.grown.program) c.if-not-grown.true)
+    none_built ds (built c.judge_all.new.grown) all
+    (ap (λ b. if_right b c.judge_all.new.grown.program) c.if-not-grown.true)
     (some.0, c.resolved_by_rules.ensures.back ds some.0 some.1)
 
 pub returns-clause-resolves : goal.returns-clause-resolves
@@ -41,7 +42,8 @@ returns-clause-resolves c =
     let same = ap (map decl_of) c.in_ok-symbols.ensures.items ∙ items in
     let none = was_none c.new.new.least (judged_faults (decls_of c.in_ok-symbols.symbols)) (sym c.in_ok-judge_all.ensures.faults ∙ c.in_default.is) in
     let all = whole_built ds (decls_of c.in_ok-symbols.symbols) _ (built c.judge_all.new.grown) same (begun c.new.new.least c.is_none.result c.nothing.result none c.is_none.ensures c.nothing.ensures) c.in_ok-judge_all.ensures.value in
-    c.resolved_by_rules.ensures.there ds (core_of c.judge_all.new.grown.program) (sym all ∙ ap (λ b. if_right b c.judge_all.new.grown.program) c.if-not-grown.false)
+    c.resolved_by_rules.ensures.there ds (core_of c.judge_all.new.grown.program)
+    (sym all ∙ ap (λ b. if_right b c.judge_all.new.grown.program) c.if-not-grown.false)
 
 pub returns-clause-checked : goal.returns-clause-checked
 returns-clause-checked c =
@@ -52,7 +54,8 @@ returns-clause-checked c =
     let none = was_none c.new.new.least (judged_faults (decls_of c.in_ok-symbols.symbols)) (sym c.in_ok-judge_all.ensures.faults ∙ c.in_default.is) in
     let all = whole_built ds (decls_of c.in_ok-symbols.symbols) _ (built c.judge_all.new.grown) same (begun c.new.new.least c.is_none.result c.nothing.result none c.is_none.ensures c.nothing.ensures) c.in_ok-judge_all.ensures.value in
     c.resolved_are_checked.ensures ds c.judge_all.new.grown.program (sym whole ∙ c.in_default.is)
-    (c.resolved_by_rules.ensures.there ds (core_of c.judge_all.new.grown.program) (sym all ∙ ap (λ b. if_right b c.judge_all.new.grown.program) c.if-not-grown.false))
+    (c.resolved_by_rules.ensures.there ds (core_of c.judge_all.new.grown.program)
+    (sym all ∙ ap (λ b. if_right b c.judge_all.new.grown.program) c.if-not-grown.false))
 
 pub returns-clause-well_formed : goal.returns-clause-well_formed
 returns-clause-well_formed c =
@@ -63,7 +66,8 @@ returns-clause-well_formed c =
     let none = was_none c.new.new.least (judged_faults (decls_of c.in_ok-symbols.symbols)) (sym c.in_ok-judge_all.ensures.faults ∙ c.in_default.is) in
     let all = whole_built ds (decls_of c.in_ok-symbols.symbols) _ (built c.judge_all.new.grown) same (begun c.new.new.least c.is_none.result c.nothing.result none c.is_none.ensures c.nothing.ensures) c.in_ok-judge_all.ensures.value in
     c.without_helpers.ensures ds c.judge_all.new.grown.program (sym whole ∙ c.in_default.is)
-    (c.resolved_by_rules.ensures.there ds (core_of c.judge_all.new.grown.program) (sym all ∙ ap (λ b. if_right b c.judge_all.new.grown.program) c.if-not-grown.false))
+    (c.resolved_by_rules.ensures.there ds (core_of c.judge_all.new.grown.program)
+    (sym all ∙ ap (λ b. if_right b c.judge_all.new.grown.program) c.if-not-grown.false))
 
 pub returns-clause-faultless : goal.returns-clause-faultless
 returns-clause-faultless c =
