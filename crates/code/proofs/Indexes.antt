@@ -2,21 +2,21 @@
 use Rattle.std.proofs.Common.{◌≡◌, ◌++◌, Bool, true, false, List, [], ◌∷◌, Option, Some, None, Bor, cond, refl}
 use Rattle.std.specs.List.{find}
 use Rattle.std.specs.Option.{option_copied, option_or}
-use Rattle.code.specs.declared.names.GlobalName.{GlobalName}
+use Rattle.core_lang.specs.declared.typed.GlobalVariable.{GlobalVariable}
 
 pub or-none : {A : Type 0} (o : Option A) → option_or o None ≡ o
 or-none None = refl
 or-none (Some x) = refl
 
 -- what is found is the same with one more global ahead
-behind-first : (b : Bool) (g : GlobalName) (o p q r : Option GlobalName) → option_or o p ≡ option_or q r
+behind-first : (b : Bool) (g : GlobalVariable) (o p q r : Option GlobalVariable) → option_or o p ≡ option_or q r
     → option_or (cond b (Some g) o) p ≡ option_or (cond b (Some g) q) r
 behind-first true g o p q r same = refl
 behind-first false g o p q r same = same
 
 -- the last of those that are left goes into the index, in the place of what that has for its cell
-pub last-moved : (test : GlobalName →
-    Bool) (left : List GlobalName) (last : Bor GlobalName) (o : Option (Bor GlobalName))
+pub last-moved : (test : GlobalVariable →
+    Bool) (left : List GlobalVariable) (last : Bor GlobalVariable) (o : Option (Bor GlobalVariable))
     → option_or (find test left) (option_copied (cond (test last.now) (Some last) o))
     ≡ option_or (find test (left ++ last.now ∷ [])) (option_copied o)
 last-moved test [] last o = decide (test last.now)

@@ -18,4 +18,5 @@ pub use Rattle.code.specs.Working.PointLaws.{PointsGoOn, SpotsArePoints, PointsH
 pub use Rattle.code.specs.Working.PointLaws.{FirstPointIsAtStart}
 pub use Rattle.code.specs.Working.PointLaws.{EmptyHasEnd, SpotsAcquire, OnlySpotsAcquire, SectionsGoOn}
 pub use Rattle.code.specs.Working.RunLaws.{EndsAsSection, EndsOnlyAsSection, SectionsBehave}
-pub use Rattle.code.specs.Listing.{listing_text}
+pub use Rattle.code.specs.Listing.{paths_text, section_text, listing_text}
+pub use Rattle.code.specs.Working.NumberLists.{number_lists, lists_of}

@@ -1,8 +1,17 @@
--- The listing of a program's code, as bytes.
-use Rattle.std.specs.Prelude.{ℕ, ◌+◌, ◌-◌, ◌==◌, List, [], ◌∷◌, ◌++◌, String, slice_get, codes, string_bytes}
+-- The listing of a program, as bytes: of each section its instructions, by the lists of lock paths before its points.
+-- Names are looked up in the program.
+use Rattle.std.specs.Prelude.{ℕ, ◌+◌, ◌-◌, ◌==◌, List, [], ◌∷◌, ◌++◌, slice_get, codes, string_bytes}
 use Rattle.std.specs.List.{flat_map, find}
 use Rattle.std.specs.Option.{option_map_or}
 use Rattle.std.specs.Fmt.{decimal, signed_decimal}
+use Rattle.core_lang.specs.declared.shape.Array.{Array}
+use Rattle.core_lang.specs.declared.shape.Pool.{Pool}
+use Rattle.core_lang.specs.declared.tree.Section.{Section}
+use Rattle.core_lang.specs.declared.typed.Field.{Field}
+use Rattle.core_lang.specs.declared.typed.FinalField.{FinalField}
+use Rattle.core_lang.specs.declared.typed.GlobalVariable.{GlobalVariable}
+use Rattle.core_lang.specs.declared.typed.Struct.{Struct}
+use Rattle.core_lang.specs.declared.typed.Typed.{Typed}
 use Rattle.core_lang.specs.declared.tree.Operator.{Operator}
 use Rattle.core_lang.specs.declared.tree.Operator.TheVariants.{Add, Sub, Mul, Div, Rem}
 use Rattle.core_lang.specs.declared.tree.Comparison.{Comparison}
@@ -14,38 +23,45 @@ use Rattle.code.specs.declared.instr.Instr.TheVariants.{PutGlobal, LoadElement, 
 use Rattle.code.specs.declared.instr.Instr.TheVariants.{LoadFinal, LoadField, NonNull, PutField, Where, NegateTop}
 use Rattle.code.specs.declared.instr.Instr.TheVariants.{NotTop, Operate, Test, Jump, JumpBack, JumpIfFalse}
 use Rattle.code.specs.declared.instr.Instr.TheVariants.{JumpIfTrue, PrintTop, Acquire, Return, End}
-use Rattle.code.specs.declared.names.GlobalName.{GlobalName}
-use Rattle.code.specs.declared.names.StructNames.{StructNames}
-use Rattle.code.specs.declared.names.ListingNames.{ListingNames}
-use Rattle.code.specs.declared.section_code.SectionCode.{SectionCode}
-use Rattle.code.specs.declared.section_code.ProgramCode.{ProgramCode}
+use Rattle.code.specs.Lowering.{section_code, lists_at}
+use Rattle.locks.specs.LockPaths.{lock_paths}
+use Rattle.locks.specs.Texts.{path_text}
 
 -- ---- names
 
--- a name by its number
-abbrev pub named : {Z : Type 0} → List (String Z) → ℕ → List ℕ
-named names k = option_map_or (λ name. string_bytes name) (slice_get names k) []
+-- the text of what has a number in a list; nothing, where nothing has it
+abbrev pub text_at : {A : Type 0} → (A → List ℕ) → List A → ℕ → List ℕ
+text_at text items k = option_map_or text (slice_get items k) []
 
--- the name of the global with a cell
-abbrev pub global_text : ListingNames → ℕ → List ℕ
-global_text names cell =
-    option_map_or (λ (g : GlobalName). string_bytes g.name)
-    (find (λ (g : GlobalName). g.cell == cell) names.globals.items) []
+-- the name of the global that has a cell
+abbrev pub global_text : Typed → ℕ → List ℕ
+global_text program cell =
+    option_map_or (λ (x : GlobalVariable). string_bytes x.name)
+    (find (λ (x : GlobalVariable). x.cell == cell) program.globals.items) []
+
+-- the name of an array; and of a pool
+abbrev pub array_text : Typed → ℕ → List ℕ
+array_text program k = text_at (λ (x : Array). string_bytes x.name) program.shape.arrays.items k
+
+abbrev pub pool_text : Typed → ℕ → List ℕ
+pool_text program k = text_at (λ (x : Pool). string_bytes x.name) program.shape.pools.items k
 
 -- a final reference of a struct, as S.f; and a field
-abbrev pub final_text : ListingNames → ℕ → ℕ → List ℕ
-final_text names structure f =
-    option_map_or (λ (s : StructNames). string_bytes s.name ++ codes "." ++ named s.finals.items f)
-    (slice_get names.structs.items structure) []
+abbrev pub final_of : Struct → ℕ → List ℕ
+final_of x f = string_bytes x.name ++ codes "." ++ text_at (λ (y : FinalField). string_bytes y.name) x.finals.items f
+
+abbrev pub final_text : Typed → ℕ → ℕ → List ℕ
+final_text program structure f = text_at (λ x. final_of x f) program.structs.items structure
+
+abbrev pub field_of : Struct → ℕ → List ℕ
+field_of x f = string_bytes x.name ++ codes "." ++ text_at (λ (y : Field). string_bytes y.name) x.fields.items f
+
+abbrev pub field_text : Typed → ℕ → ℕ → List ℕ
+field_text program structure f = text_at (λ x. field_of x f) program.structs.items structure
 
 -- a final reference and a local
-abbrev pub where_text : ListingNames → ℕ → ℕ → ℕ → List ℕ
-where_text names structure f k = final_text names structure f ++ codes " " ++ decimal k
-
-abbrev pub field_text : ListingNames → ℕ → ℕ → List ℕ
-field_text names structure f =
-    option_map_or (λ (s : StructNames). string_bytes s.name ++ codes "." ++ named s.fields.items f)
-    (slice_get names.structs.items structure) []
+abbrev pub where_text : Typed → ℕ → ℕ → ℕ → List ℕ
+where_text program structure f k = final_text program structure f ++ codes " " ++ decimal k
 
 -- ---- instructions
 
@@ -64,64 +80,66 @@ comparison_text LessOrEqual = codes "le"
 comparison_text Greater = codes "gt"
 comparison_text GreaterOrEqual = codes "ge"
 
--- lock paths, a space before each
-abbrev pub paths_text : SectionCode → List ℕ → List ℕ
-paths_text section list = flat_map (λ i. codes " " ++ named section.paths.items i) list
-
--- those before a point
-abbrev pub acquired_text : SectionCode → ℕ → List ℕ
-acquired_text section point =
-    option_map_or (λ list. paths_text section list.items) (slice_get section.lists.items point) []
-
--- an instruction at a place of a section's code; a jump names the place where it goes on
-abbrev pub instr_text : ListingNames → SectionCode → ℕ → Instr → List ℕ
-instr_text names section place (PushNumber n) = codes "int " ++ signed_decimal n
-instr_text names section place PushNull = codes "null"
-instr_text names section place (GetLocal k) = codes "get " ++ decimal k
-instr_text names section place (PutLocal k) = codes "set " ++ decimal k
-instr_text names section place (LoadGlobal cell) = codes "load " ++ global_text names cell
-instr_text names section place (PutGlobal cell) = codes "store " ++ global_text names cell
-instr_text names section place (LoadElement array) = codes "elem " ++ named names.arrays.items array
-instr_text names section place (Bound array) = codes "bound " ++ named names.arrays.items array
-instr_text names section place (PutElement array) = codes "putelem " ++ named names.arrays.items array
-instr_text names section place (GetMember pool) = codes "member " ++ named names.pools.items pool
-instr_text names section place (LoadFinal f structure) = codes "final " ++ final_text names structure f
-instr_text names section place (LoadField f structure) = codes "field " ++ field_text names structure f
-instr_text names section place NonNull = codes "nonnull"
-instr_text names section place (PutField f structure) = codes "putfield " ++ field_text names structure f
-instr_text names section place (Where f structure k) = codes "where " ++ where_text names structure f k
-instr_text names section place NegateTop = codes "neg"
-instr_text names section place NotTop = codes "not"
-instr_text names section place (Operate operator) = operator_text operator
-instr_text names section place (Test comparison) = comparison_text comparison
-instr_text names section place (Jump over) = codes "jump " ++ decimal (place + 1 + over)
-instr_text names section place (JumpBack back) = codes "jump " ++ decimal (place - back)
-instr_text names section place (JumpIfFalse over) = codes "jfalse " ++ decimal (place + 1 + over)
-instr_text names section place (JumpIfTrue over) = codes "jtrue " ++ decimal (place + 1 + over)
-instr_text names section place PrintTop = codes "print"
-instr_text names section place (Acquire point) = codes "acquire" ++ acquired_text section point
-instr_text names section place Return = codes "ret"
-instr_text names section place End = codes "end"
-
--- ---- lines
-
 abbrev pub line : List ℕ → List ℕ
 line text = text ++ codes "\n"
 
--- PLACE TEXT, for each instruction from a place on
-abbrev pub instrs_text : ListingNames → SectionCode → ℕ → List Instr → List ℕ
-instrs_text names section place [] = []
-instrs_text names section place (i ∷ is) =
-    line (decimal place ++ codes " " ++ instr_text names section place i) ++ instrs_text names section (place + 1) is
+-- lock paths of a section, by their numbers, a space before each
+abbrev pub paths_text : Typed → Section → List ℕ → List ℕ
+paths_text program section list =
+    flat_map (λ i. codes " " ++ text_at (path_text program section) (lock_paths program section) i) list
 
--- all of a section
-abbrev pub code_text : ListingNames → SectionCode → List ℕ
-code_text names section = instrs_text names section 0 section.instructions.items
+-- over a program, a section of it, and the lists before its points
+module _ (program : Typed) (section : Section) (lists : List (List ℕ)) where
+  -- the lock paths before a point
+  abbrev pub acquired_text : ℕ → List ℕ
+  acquired_text point = text_at (paths_text program section) lists point
 
--- section NAME, and its instructions
-abbrev pub section_text : ListingNames → SectionCode → List ℕ
-section_text names section = line (codes "section " ++ string_bytes section.name) ++ code_text names section
+  -- an instruction at a place of the section's code; a jump names the place where it goes on
+  abbrev pub instr_text : ℕ → Instr → List ℕ
+  instr_text place (PushNumber n) = codes "int " ++ signed_decimal n
+  instr_text place PushNull = codes "null"
+  instr_text place (GetLocal k) = codes "get " ++ decimal k
+  instr_text place (PutLocal k) = codes "set " ++ decimal k
+  instr_text place (LoadGlobal cell) = codes "load " ++ global_text program cell
+  instr_text place (PutGlobal cell) = codes "store " ++ global_text program cell
+  instr_text place (LoadElement array) = codes "elem " ++ array_text program array
+  instr_text place (Bound array) = codes "bound " ++ array_text program array
+  instr_text place (PutElement array) = codes "putelem " ++ array_text program array
+  instr_text place (GetMember pool) = codes "member " ++ pool_text program pool
+  instr_text place (LoadFinal f structure) = codes "final " ++ final_text program structure f
+  instr_text place (LoadField f structure) = codes "field " ++ field_text program structure f
+  instr_text place NonNull = codes "nonnull"
+  instr_text place (PutField f structure) = codes "putfield " ++ field_text program structure f
+  instr_text place (Where f structure k) = codes "where " ++ where_text program structure f k
+  instr_text place NegateTop = codes "neg"
+  instr_text place NotTop = codes "not"
+  instr_text place (Operate operator) = operator_text operator
+  instr_text place (Test comparison) = comparison_text comparison
+  instr_text place (Jump over) = codes "jump " ++ decimal (place + 1 + over)
+  instr_text place (JumpBack back) = codes "jump " ++ decimal (place - back)
+  instr_text place (JumpIfFalse over) = codes "jfalse " ++ decimal (place + 1 + over)
+  instr_text place (JumpIfTrue over) = codes "jtrue " ++ decimal (place + 1 + over)
+  instr_text place PrintTop = codes "print"
+  instr_text place (Acquire point) = codes "acquire" ++ acquired_text point
+  instr_text place Return = codes "ret"
+  instr_text place End = codes "end"
 
--- each section
-abbrev pub listing_text : ProgramCode → List ℕ
-listing_text code = flat_map (section_text code.names) code.sections.items
+  -- PLACE TEXT, for each instruction from a place on
+  abbrev pub instrs_text : ℕ → List Instr → List ℕ
+  instrs_text place [] = []
+  instrs_text place (i ∷ is) = line (decimal place ++ codes " " ++ instr_text place i) ++ instrs_text (place + 1) is
+
+  -- section NAME, and its instructions
+  abbrev pub section_text : List ℕ
+  section_text = line (codes "section " ++ string_bytes section.name) ++ instrs_text 0 (section_code lists section)
+
+-- ---- the whole text, of a program with the lists before the points of each section
+
+-- each section from one on, which has this number
+abbrev pub sections_text : Typed → List (List (List ℕ)) → ℕ → List Section → List ℕ
+sections_text program lists k [] = []
+sections_text program lists k (section ∷ sections) =
+    section_text program section (lists_at lists k) ++ sections_text program lists (k + 1) sections
+
+abbrev pub listing_text : Typed → List (List (List ℕ)) → List ℕ
+listing_text program lists = sections_text program lists 0 program.sections.items

@@ -1,5 +1,5 @@
 -- Which instructions a section is, given the lock paths that are acquired before each of its points.
-use Rattle.std.specs.Prelude.{ℕ, ◌+◌, pos, List, [], ◌∷◌, ◌++◌, length, slice_get, Option, Some, None}
+use Rattle.std.specs.Prelude.{ℕ, ◌+◌, pos, List, [], ◌∷◌, ◌++◌, length, slice_get, unwrap_or, Option, Some, None}
 use Rattle.core_lang.specs.declared.tree.FieldStep.{FieldStep}
 use Rattle.core_lang.specs.declared.tree.FieldStep.TheVariants.{Final, Field}
 use Rattle.core_lang.specs.declared.tree.Path.{Path}
@@ -143,3 +143,7 @@ module _ {P : Type 0} (lists : List (List P)) where
 
   abbrev pub section_code : Section → List Instr
   section_code section = body_code section.body.items 0 section.result
+
+-- the lists of the section of this number; none, where there are none for it
+abbrev pub lists_at : List (List (List ℕ)) → ℕ → List (List ℕ)
+lists_at lists k = unwrap_or (slice_get lists k) []

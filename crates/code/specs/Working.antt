@@ -6,5 +6,7 @@ pub mod Spots
 pub mod Ahead
 pub mod PointLaws
 pub mod RunLaws
+pub mod NumberLists
 pub mod Naming
+pub mod Sections
 pub mod Listers

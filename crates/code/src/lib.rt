@@ -5,21 +5,20 @@
 //! - [`run_laws`]: a section's code behaves as the section.
 //! - [`instr::Instr`]: one instruction.
 //! - [`section_code::ProgramCode`]: the code of a program.
-//! - [`listing`]: its listing, a line for each instruction. [`Lister`]: single instructions, as it has them.
+//! - [`Lister`]: the listing of a section, a line for each instruction; single instructions, as it has them.
 //!
 //! `specs/` says what an instruction does over any memory (`Machine`), which memories there are (`Memory`) and what is
 //! seen of them (`Seen`), which instructions a section is (`Lowering`), where those of its points begin (`Spots`),
 //! how deep its operand stack grows (`Needs`), what it is for a code to behave as its section (`Alone`), what is ahead
-//! of a machine (`Ahead`), what the laws claim (`Laws`, `PointLaws`, `RunLaws`), and the text of a code (`Listing`). `Safety` has
-//! lemmas for the crates above; `Naming` only says what the code has done.
+//! of a machine (`Ahead`), what the laws claim (`Laws`, `PointLaws`, `RunLaws`), and the text of a program's listing
+//! (`Listing`). `Safety` has lemmas for the crates above; `Naming` and `Sections` only say what the code has done.
 #![tactic(auto)]
 
 pub mod instr;
 pub mod laws;
 mod lines;
-pub mod names;
 pub mod point_laws;
 pub mod run_laws;
 pub mod section_code;
 
-pub use lines::{Lister, listing, push_named};
+pub use lines::{Lister, path_texts};

@@ -1,18 +1,24 @@
-//! The listing of a program's code, put together piece by piece. The one error is a refused growth.
+//! The listing of a section, put together piece by piece. The one error is a refused growth.
 
 ghost use Rattle.std.specs.Prelude.{◌≡◌, ◌+◌, ◌++◌, codes, map, OnOk, IfOk, string_bytes};
 ghost use Rattle.std.specs.Fmt.{decimal};
 ghost use Rattle.std.proofs.Props.{props};
-ghost use Rattle.code.specs.Listing.{named, global_text, final_text, where_text, field_text, operator_text, comparison_text, paths_text, acquired_text, code_text, section_text, listing_text};
-ghost use Rattle.locks.specs.Texts.{AddsText};
-ghost use Rattle.rope.specs.Working.Ropes.{rope_text, Grows, AddsTo};
-ghost use Rattle.code.specs.Working.Naming.{IsIndexOf, IsMnemonic, HasNames, AddsBare, operand_text, asked_text, line_text};
+ghost use Rattle.code.specs.Listing.{array_text, pool_text, final_of, final_text, where_text, field_of, field_text};
+ghost use Rattle.code.specs.Listing.{operator_text, comparison_text, section_text};
+ghost use Rattle.code.specs.Lowering.{section_code};
+ghost use Rattle.code.specs.Working.NumberLists.{lists_of};
+ghost use Rattle.locks.specs.LockPaths.{lock_path_of, lock_paths};
+ghost use Rattle.locks.specs.Texts.{AddsText, path_text};
+ghost use Rattle.rope.specs.Working.Ropes.{Grows, AddsTo};
+ghost use Rattle.code.specs.Working.Naming.{IsIndexOf, IsMnemonic, AddsBare, operand_text};
 
 use crate::instr::Instr;
-use crate::names::{GlobalName, ListingNames};
-use crate::section_code::{ProgramCode, SectionCode};
-use core_lang::tree::{Comparison, Operator};
+use crate::section_code::SectionCode;
+use core_lang::tree::{Comparison, Operator, Section};
+use core_lang::typed::{GlobalVariable, Struct, Typed};
 use indexmap::IndexMap;
+use locks::path::LockPath;
+use locks::text::push_path;
 use rope::Rope;
 use source::memory::NoMemory;
 use std::alloc::{AllocError, Global};
@@ -24,28 +30,93 @@ fn push_number(out: &mut String, number: usize) -> Result<(), AllocError>
     write!(out, "{number}")
 }
 
-/// A name by its number, if there is one. The one error is a refused growth.
-pub fn push_named(out: &mut String, names: &[String], number: usize) -> Result<(), AllocError>
-    ensures { OnOk result (AddsText (named names.now number) out.old out.new) }
+/// The name of an array, by its number.
+fn push_array(out: &mut String, program: &Typed, array: usize) -> Result<(), AllocError>
+    ensures { OnOk result (AddsText (array_text program.now array) out.old out.new) }
 {
-    match names.get(number) {
-        Some(name) => out.push_str(name.as_str()),
+    match program.shape.arrays.get(array) {
+        Some(array) => out.push_str(array.name.as_str()),
         None => Ok(()),
     }
 }
 
-/// A member of a struct, as `S.f`, by its number among the members of its kind.
-fn push_member(
+/// The name of a pool, by its number.
+fn push_pool(out: &mut String, program: &Typed, pool: usize) -> Result<(), AllocError>
+    ensures { OnOk result (AddsText (pool_text program.now pool) out.old out.new) }
+{
+    match program.shape.pools.get(pool) {
+        Some(pool) => out.push_str(pool.name.as_str()),
+        None => Ok(()),
+    }
+}
+
+/// A final reference of a struct, as `S.f`, by its number.
+fn push_final_of(out: &mut String, structure: &Struct, number: usize) -> Result<(), AllocError>
+    ensures { OnOk result (AddsText (final_of structure.now number) out.old out.new) }
+{
+    out.push_str(structure.name.as_str())?;
+    out.push_str(".")?;
+    match structure.finals.get(number) {
+        Some(field) => out.push_str(field.name.as_str()),
+        None => Ok(()),
+    }
+}
+
+/// A final reference of a struct, as `S.f`, by the numbers of both.
+fn push_final(
     out: &mut String,
-    structure: &str,
-    members: &[String],
+    program: &Typed,
+    structure: usize,
     number: usize,
 ) -> Result<(), AllocError>
-    ensures { OnOk result (AddsText (structure.now ++ codes "." ++ named members.now number) out.old out.new) }
+    ensures { OnOk result (AddsText (final_text program.now structure number) out.old out.new) }
 {
-    out.push_str(structure)?;
+    match program.structs.get(structure) {
+        Some(structure) => push_final_of(out, structure, number),
+        None => Ok(()),
+    }
+}
+
+/// A final reference of a struct and a local, as `S.f 3`.
+fn push_where(
+    out: &mut String,
+    program: &Typed,
+    structure: usize,
+    number: usize,
+    local: usize,
+) -> Result<(), AllocError>
+    ensures { OnOk result (AddsText (where_text program.now structure number local) out.old out.new) }
+{
+    push_final(out, program, structure, number)?;
+    out.push_str(" ")?;
+    push_number(out, local)
+}
+
+/// A field of a struct, as `S.f`, by its number.
+fn push_field_of(out: &mut String, structure: &Struct, number: usize) -> Result<(), AllocError>
+    ensures { OnOk result (AddsText (field_of structure.now number) out.old out.new) }
+{
+    out.push_str(structure.name.as_str())?;
     out.push_str(".")?;
-    push_named(out, members, number)
+    match structure.fields.get(number) {
+        Some(field) => out.push_str(field.name.as_str()),
+        None => Ok(()),
+    }
+}
+
+/// A field of a struct, as `S.f`, by the numbers of both.
+fn push_field(
+    out: &mut String,
+    program: &Typed,
+    structure: usize,
+    number: usize,
+) -> Result<(), AllocError>
+    ensures { OnOk result (AddsText (field_text program.now structure number) out.old out.new) }
+{
+    match program.structs.get(structure) {
+        Some(structure) => push_field_of(out, structure, number),
+        None => Ok(()),
+    }
 }
 
 /// The place behind `over` instructions after the one at `place`.
@@ -118,47 +189,11 @@ fn mnemonic(instr: Instr) -> &'static str
     }
 }
 
-impl SectionCode {
-    // Lock paths, a space before each, from the group of parts of this number.
-    fn push_paths(&self, out: &mut Rope, group: usize, list: &[u8]) -> Result<(), AllocError>
-        requires { HasNames self.now group out.old }
-        ensures { OnOk result (AddsTo (paths_text self.now list.now) out.old out.new) }
-    {
-        for number in list {
-            out.push_str(" ")?;
-            out.push_part(group, *number as usize)?;
-        }
-        Ok(())
-    }
-
-    // The lock paths before a point.
-    fn push_acquired(&self, out: &mut Rope, group: usize, point: usize) -> Result<(), AllocError>
-        requires { HasNames self.now group out.old }
-        ensures { OnOk result (AddsTo (acquired_text self.now point) out.old out.new) }
-    {
-        match self.lists.get(point) {
-            Some(list) => self.push_paths(out, group, list),
-            None => Ok(()),
-        }
-    }
-
-    // The lock paths that an instruction asks for.
-    fn push_asked(&self, out: &mut Rope, group: usize, instr: Instr) -> Result<(), AllocError>
-        requires { HasNames self.now group out.old }
-        ensures { OnOk result (AddsTo (asked_text self.now instr) out.old out.new) }
-    {
-        match instr {
-            Instr::Acquire(point) => self.push_acquired(out, group, point),
-            _ => Ok(()),
-        }
-    }
-}
-
 /// For each cell the first global that has it. The one error is a refused growth.
 fn index_by_cell<'a>(
     alloc: Global,
-    globals: &'a [GlobalName],
-) -> Result<IndexMap<u32, &'a GlobalName>, AllocError>
+    globals: &'a [GlobalVariable],
+) -> Result<IndexMap<u32, &'a GlobalVariable>, AllocError>
     ensures { IfOk result (IsIndexOf globals.now) }
 {
     let mut index = IndexMap::new(alloc);
@@ -172,27 +207,28 @@ fn index_by_cell<'a>(
 /// What the texts of instructions are made from beside the sections.
 #[derive(Drop)]
 pub struct Lister<'a> {
-    /// The names of the program.
-    names: &'a ListingNames,
+    /// The program, which has the names.
+    program: &'a Typed,
     /// For each cell the first global that has it. A line may name any global, so the globals are not gone through.
-    globals: IndexMap<u32, &'a GlobalName>,
-    ghost indexed: { IsIndexOf names.now.globals.items globals } by { Prim.hlevel props },
+    globals: IndexMap<u32, &'a GlobalVariable>,
+    ghost indexed: { IsIndexOf program.now.globals.items globals } by { Prim.hlevel props },
 }
 
 impl<'a> Lister<'a> {
-    ghost use Rattle.code.specs.Working.Listers.{names_of};
+    ghost use Rattle.code.specs.Listing.{global_text};
+    ghost use Rattle.code.specs.Working.Listers.{program_of};
 
-    /// Of code with these names. The one error is a refused growth.
-    pub fn new(alloc: Global, names: &'a ListingNames) -> Result<Lister<'a>, AllocError>
-        ensures { IfOk result (λ lister. names_of lister ≡ names.now) }
+    /// Of the code of this program. The one error is a refused growth.
+    pub fn new(alloc: Global, program: &'a Typed) -> Result<Lister<'a>, AllocError>
+        ensures { IfOk result (λ lister. program_of lister ≡ program.now) }
     {
-        let globals = index_by_cell(alloc, &names.globals)?;
-        Ok(Lister { names, globals })
+        let globals = index_by_cell(alloc, &program.globals)?;
+        Ok(Lister { program, globals })
     }
 
     // The name of the global with a cell.
     fn push_global(&self, out: &mut String, cell: u32) -> Result<(), AllocError>
-        ensures { OnOk result (AddsText (global_text self.now.names.now cell) out.old out.new) }
+        ensures { OnOk result (AddsText (global_text self.now.program.now cell) out.old out.new) }
     {
         match self.globals.get(&cell) {
             Some(global) => out.push_str(global.name.as_str()),
@@ -200,62 +236,36 @@ impl<'a> Lister<'a> {
         }
     }
 
-    // A final reference of a struct, as `S.f`.
-    fn push_final(&self, out: &mut String, structure: usize, number: u32) -> Result<(), AllocError>
-        ensures { OnOk result (AddsText (final_text self.now.names.now structure number) out.old out.new) }
-    {
-        match self.names.structs.get(structure) {
-            Some(names) => { push_member(out, names.name.as_str(), &names.finals, number as usize) }
-            None => Ok(()),
-        }
-    }
-
-    // A final reference of a struct and a local, as `S.f 3`.
-    fn push_where(
-        &self,
-        out: &mut String,
-        structure: u32,
-        number: u32,
-        local: u32,
-    ) -> Result<(), AllocError>
-        ensures { OnOk result (AddsText (where_text self.now.names.now structure number local) out.old out.new) }
-    {
-        self.push_final(out, structure as usize, number)?;
-        out.push_str(" ")?;
-        push_number(out, local as usize)
-    }
-
-    // A field of a struct, as `S.f`.
-    fn push_field(&self, out: &mut String, structure: usize, number: u32) -> Result<(), AllocError>
-        ensures { OnOk result (AddsText (field_text self.now.names.now structure number) out.old out.new) }
-    {
-        match self.names.structs.get(structure) {
-            Some(names) => { push_member(out, names.name.as_str(), &names.fields, number as usize) }
-            None => Ok(()),
-        }
-    }
-
     // What stands behind the word of an instruction at this place of a section, but for lock paths.
     fn push_operand(&self, out: &mut String, place: usize, instr: Instr) -> Result<(), AllocError>
-        ensures { OnOk result (AddsText (operand_text self.now.names.now place instr) out.old out.new) }
+        ensures { OnOk result (AddsText (operand_text self.now.program.now place instr) out.old out.new) }
     {
+        let program = self.program;
         match instr {
             Instr::PushNumber(number) => write!(out, "{number}"),
             Instr::GetLocal(local) | Instr::PutLocal(local) => push_number(out, local),
             Instr::LoadGlobal(cell) | Instr::PutGlobal(cell) => self.push_global(out, cell),
             Instr::LoadElement(array) | Instr::Bound(array) | Instr::PutElement(array) => {
-                push_named(out, &self.names.arrays, array)
+                push_array(out, program, array)
             }
-            Instr::GetMember(pool) => push_named(out, &self.names.pools, pool),
-            Instr::LoadFinal { structure, number } => self.push_final(out, structure, number),
+            Instr::GetMember(pool) => push_pool(out, program, pool),
+            Instr::LoadFinal { structure, number } => {
+                push_final(out, program, structure, number as usize)
+            }
             Instr::LoadField { structure, number } | Instr::PutField { structure, number } => {
-                self.push_field(out, structure, number)
+                push_field(out, program, structure, number as usize)
             }
             Instr::Where {
                 number,
                 structure,
                 local,
-            } => self.push_where(out, structure, number, local),
+            } => push_where(
+                out,
+                program,
+                structure as usize,
+                number as usize,
+                local as usize,
+            ),
             Instr::Jump(over) | Instr::JumpIfFalse(over) | Instr::JumpIfTrue(over) => {
                 push_target(out, place, over)
             }
@@ -267,10 +277,89 @@ impl<'a> Lister<'a> {
 
     /// An instruction, which stands at this place of a section, but for the lock paths that it asks for.
     pub fn push_instr(&self, out: &mut String, place: usize, instr: Instr) -> Result<(), AllocError>
-        ensures { OnOk result (AddsBare (names_of self.now) place instr out.old out.new) }
+        ensures { OnOk result (AddsBare (program_of self.now) place instr out.old out.new) }
     {
         out.push_str(mnemonic(instr))?;
         self.push_operand(out, place, instr)
+    }
+
+    /// The lines of a section, which has this code and these lock paths.
+    ///
+    /// # Errors
+    ///
+    /// Want of memory.
+    pub fn push(
+        &self,
+        alloc: Global,
+        out: &mut Rope,
+        section: &Section,
+        code: &SectionCode,
+        paths: &[LockPath],
+    ) -> Result<(), NoMemory>
+        requires paths { map lock_path_of paths.now ≡ lock_paths (program_of self.now) section.now }
+        requires instructions { code.now.instructions.items ≡ section_code (lists_of code.now) section.now }
+        ensures { OnOk result (Grows (section_text (program_of self.now) section.now (lists_of code.now)) out.old out.new) }
+    {
+        let lines = SectionLines {
+            lister: self,
+            section,
+            code,
+            group: out.keep(path_texts(alloc, self.program, section, paths)?)?,
+        };
+        out.push_str("section ")?;
+        out.push_str(section.name.as_str())?;
+        out.push_str("\n")?;
+        lines.push(alloc, out)?;
+        Ok(())
+    }
+}
+
+/// What the lines of a section are made from.
+#[derive(Drop)]
+struct SectionLines<'a> {
+    lister: &'a Lister<'a>,
+    section: &'a Section,
+    code: &'a SectionCode,
+    // The number of the group of parts that has the texts of the section's lock paths.
+    group: usize,
+}
+
+impl SectionLines<'_> {
+    ghost use Rattle.code.specs.Working.Sections.{HasPathsOf, paths_text_of, acquired_text_of, asked_text_of};
+    ghost use Rattle.code.specs.Working.Sections.{line_text_of, instrs_text_of};
+
+    // Lock paths, a space before each.
+    fn push_paths(&self, out: &mut Rope, list: &[u8]) -> Result<(), AllocError>
+        requires { HasPathsOf self.now out.old }
+        ensures { OnOk result (AddsTo (paths_text_of self.now list.now) out.old out.new) }
+    {
+        for number in list {
+            out.push_str(" ")?;
+            out.push_part(self.group, *number as usize)?;
+        }
+        Ok(())
+    }
+
+    // The lock paths before a point.
+    fn push_acquired(&self, out: &mut Rope, point: usize) -> Result<(), AllocError>
+        requires { HasPathsOf self.now out.old }
+        ensures { OnOk result (AddsTo (acquired_text_of self.now point) out.old out.new) }
+    {
+        match self.code.lists.get(point) {
+            Some(list) => self.push_paths(out, list),
+            None => Ok(()),
+        }
+    }
+
+    // The lock paths that an instruction asks for.
+    fn push_asked(&self, out: &mut Rope, instr: Instr) -> Result<(), AllocError>
+        requires { HasPathsOf self.now out.old }
+        ensures { OnOk result (AddsTo (asked_text_of self.now instr) out.old out.new) }
+    {
+        match instr {
+            Instr::Acquire(point) => self.push_acquired(out, point),
+            _ => Ok(()),
+        }
     }
 
     // The line of an instruction. What stands in `line` doesn't matter.
@@ -278,72 +367,53 @@ impl<'a> Lister<'a> {
         &self,
         out: &mut Rope,
         line: &mut String,
-        section: &SectionCode,
-        group: usize,
         place: usize,
         instr: Instr,
     ) -> Result<(), AllocError>
-        requires { HasNames section.now group out.old }
-        ensures { OnOk result (AddsTo (line_text self.now.names.now section.now place instr) out.old out.new) }
+        requires { HasPathsOf self.now out.old }
+        ensures { OnOk result (AddsTo (line_text_of self.now place instr) out.old out.new) }
     {
         line.clear();
-        self.push_instr(line, place, instr)?;
+        self.lister.push_instr(line, place, instr)?;
         out.push_number(place)?;
         out.push_str(" ")?;
         out.push_str(line)?;
-        section.push_asked(out, group, instr)?;
+        self.push_asked(out, instr)?;
         out.push_str("\n")
     }
 
-    // The lines of a section's instructions.
-    fn push_instrs(
-        &self,
-        alloc: Global,
-        out: &mut Rope,
-        section: &SectionCode,
-        group: usize,
-    ) -> Result<(), AllocError>
-        requires { HasNames section.now group out.old }
-        ensures { OnOk result (AddsTo (code_text self.now.names.now section.now) out.old out.new) }
+    // The lines of the section's instructions.
+    fn push(&self, alloc: Global, out: &mut Rope) -> Result<(), AllocError>
+        requires { HasPathsOf self.now out.old }
+        ensures { OnOk result (AddsTo (instrs_text_of self.now) out.old out.new) }
     {
         let mut line = String::new(alloc);
-        for (place, instr) in section.instructions.iter().enumerate() {
-            self.push_line(out, &mut line, section, group, place, *instr)?;
+        for (place, instr) in self.code.instructions.iter().enumerate() {
+            self.push_line(out, &mut line, place, *instr)?;
         }
         Ok(())
     }
-
-    // The lines of a section.
-    fn push(&self, alloc: Global, out: &mut Rope, section: &SectionCode) -> Result<(), AllocError>
-        ensures { OnOk result (Grows (section_text self.now.names.now section.now) out.old out.new) }
-    {
-        let group = out.keep(copies(alloc, &section.paths)?)?;
-        out.push_str("section ")?;
-        out.push_str(section.name.as_str())?;
-        out.push_str("\n")?;
-        self.push_instrs(alloc, out, section, group)
-    }
 }
 
-// Copies of texts.
-fn copies(alloc: Global, texts: &[String]) -> Result<Vec<String>, AllocError>
-    ensures { IfOk result (λ copies. map string_bytes copies.items ≡ map string_bytes texts.now) }
+/// The texts of lock paths of a section.
+///
+/// # Errors
+///
+/// Want of memory.
+pub fn path_texts(
+    alloc: Global,
+    program: &Typed,
+    section: &Section,
+    paths: &[LockPath],
+) -> Result<Vec<String>, NoMemory>
+    ensures { IfOk result (λ texts. map string_bytes texts.items
+        ≡ map (path_text program.now section.now) (map lock_path_of paths.now)) }
 {
-    let mut copies = Vec::with_capacity(alloc, texts.len())?;
-    for text in texts {
-        copies.push(String::from_str(alloc, text.as_str())?)?;
+    let mut texts = Vec::with_capacity(alloc, paths.len())?;
+    for path in paths {
+        let mut text = String::new(alloc);
+        push_path(&mut text, program, section, path)?;
+        texts.push(text)?;
     }
-    Ok(copies)
-}
-
-/// The instructions of each section, a line for each with its place. The only error is a refused growth.
-pub fn listing(alloc: Global, code: &ProgramCode) -> Result<Rope, NoMemory>
-    ensures { IfOk result (λ listed. rope_text listed ≡ listing_text code.now) }
-{
-    let lister = Lister::new(alloc, &code.names)?;
-    let mut out = Rope::new(alloc);
-    for section in &code.sections {
-        lister.push(alloc, &mut out, section)?;
-    }
-    Ok(out)
+    Ok(texts)
 }

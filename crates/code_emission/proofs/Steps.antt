@@ -12,7 +12,7 @@ use Rattle.code.specs.Lowering.{points_of, acquire_any, acquire_code, stmt_code,
 use Rattle.code_emission.specs.declared.assembler.Assembler.{Assembler}
 use Rattle.code_emission.specs.declared.emitter.Emitter.{Emitter}
 use Rattle.code_emission.specs.Working.Assembly.{Adds}
-use Rattle.code_emission.specs.NumberLists.{number_lists}
+use Rattle.code.specs.Working.NumberLists.{number_lists}
 use Rattle.code_emission.specs.Working.CodeLists.{points_of_all, sequence_code}
 use Rattle.code_emission.proofs.CodeViews.{body_code-split}
 use Rattle.code_emission.specs.Working.Emission.{lists_of, IsBefore, CodeAt, Emits}

@@ -2,7 +2,7 @@
 
 ghost use Rattle.std.specs.Prelude.{◌≡◌, IfOk};
 ghost use Rattle.code.specs.Lowering.{section_code};
-ghost use Rattle.code_emission.specs.NumberLists.{number_lists};
+ghost use Rattle.code.specs.Working.NumberLists.{number_lists};
 
 use crate::emitter::Emitter;
 use crate::sizes;

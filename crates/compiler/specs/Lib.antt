@@ -9,5 +9,5 @@ pub use Rattle.core_lang.specs.WellFormed.{IsWellFormed}
 pub use Rattle.lockpaths.specs.Paths.{ArePaths}
 pub use Rattle.lockorder.specs.Edges.{AreRanksOf, RiseIn}
 pub use Rattle.inserter.specs.Placement.{all_lists}
-pub use Rattle.lowering.specs.Lowered.{IsCodeOf}
+pub use Rattle.lowering.specs.Working.Lowered.{IsCodeOf}
 pub use Rattle.lowering.specs.Plans.{Plan, IsCompiled}

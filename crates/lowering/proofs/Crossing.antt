@@ -1,4 +1,4 @@
--- A compiled program may be lent to many threads: it is made of a program, and of numbers, names and lists of these.
+-- A compiled program may be lent to many threads: it is made of a program, and of numbers and lists of these.
 use denote.Param.Send.{IsSync, sendable}
 use denote.Hole.{as_row}
 use Rattle.std.proofs.Crossing.{crosses}
@@ -8,15 +8,11 @@ use Rattle.lowering.specs.contracts.compiled.Program as program
 use Rattle.code.specs.contracts.section_code.ProgramCode as code
 use Rattle.code.specs.contracts.section_code.SectionCode as section_code
 use Rattle.code.specs.contracts.instr.Instr as instr
-use Rattle.code.specs.contracts.names.ListingNames as names
 use Rattle.layout.specs.contracts.table.Layout as layout
 use Rattle.layout.specs.contracts.room.Room as room
 
 instr_sync : IsSync instr.the_row
 instr_sync = search (sendable, crosses) depth 40 fits 20000
-
-names_sync : IsSync names.the_row
-names_sync = search (sendable, crosses) depth 40 fits 20000
 
 section_code_sync : IsSync section_code.the_row
 section_code_sync = search (instr_sync, sendable, crosses) depth 40 fits 20000

@@ -3,4 +3,5 @@ pub mod Depths
 pub mod Pushes
 pub mod Most
 pub mod NothingTaken
+pub mod Listed
 mod Crossing

@@ -15,7 +15,7 @@ use Rattle.code.specs.declared.section_code.SectionCode.{SectionCode}
 use Rattle.code.specs.declared.section_code.ProgramCode.{ProgramCode}
 use Rattle.code.specs.Needs.{operand_need}
 use Rattle.code.specs.Alone.{Behaves}
-use Rattle.lowering.specs.Lowered.{IsCodeOf}
+use Rattle.lowering.specs.Working.Lowered.{IsCodeOf}
 
 -- a program as it is accepted, the same with its helpers written out, the ranks of its lock classes, for each section the lists of lock
 -- paths before its points, each path by its number among the section's, and where cells and locks lie. Its code is that of `code`, for

@@ -87,7 +87,7 @@ impl Model for Program {
 
 impl Program {
     ghost use Rattle.lowering.specs.Plans.{IsCompiled};
-    ghost use Rattle.lowering.specs.Lowered.{IsCodeOf};
+    ghost use Rattle.lowering.specs.Working.Lowered.{IsCodeOf};
     ghost use Rattle.lowering.specs.Working.Compiled.{IsRoomAt};
 
     /// A program that is accepted, with its helpers written out and its lock paths and ranks, compiled.
@@ -110,7 +110,7 @@ impl Program {
         let program = trees.program();
         let placed = place(alloc, program, &paths, &ranks)?;
         let layout = lay_out(alloc, program)?;
-        let code = lower(alloc, program, &paths, &placed)?;
+        let code = lower(alloc, program, &placed)?;
         let rooms = rooms(alloc, program, &paths, &layout)?;
         let Trees { accepted, written } = trees;
         Ok(Program {

@@ -1,7 +1,7 @@
 //! Makes the code of a program.
 //!
 //! - [`compiled::Program`]: a compiled program.
-//! - [`lower`]: the code of each section, and the names that its listing shows.
+//! - [`lower`]: the code of each section. [`listing`]: its listing, a line for each instruction.
 //! - [`rooms`]: what one run of each section can need at most.
 //! - [`laws`]: the code of a program behaves as its sections; what is taken where depends on the section and the ranks alone.
 //!
@@ -11,11 +11,12 @@
 
 pub mod compiled;
 pub mod laws;
-mod names;
 mod needs;
 mod program_code;
+mod program_listing;
 mod program_rooms;
 mod section_code;
 
 pub use program_code::lower;
+pub use program_listing::listing;
 pub use program_rooms::rooms;

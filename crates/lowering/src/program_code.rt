@@ -1,17 +1,15 @@
 //! The code of a program.
 
 ghost use Rattle.std.specs.Prelude.{◌≡◌, IfOk};
-ghost use Rattle.lockpaths.specs.Paths.{ArePaths};
 ghost use Rattle.inserter.specs.Placement.{all_lists};
-ghost use Rattle.code_emission.specs.NumberLists.{number_lists};
-ghost use Rattle.lowering.specs.Lowered.{IsCodeOf, lists_at};
+ghost use Rattle.code.specs.Lowering.{lists_at};
+ghost use Rattle.code.specs.Working.NumberLists.{number_lists};
+ghost use Rattle.lowering.specs.Working.Lowered.{IsCodeOf};
 
-use crate::names::names_of;
-use crate::section_code::Lowering;
+use crate::section_code::code_of;
 use code::section_code::ProgramCode;
 use core_lang::typed::Typed;
 use inserter::placed::Placed;
-use lockpaths::table::Paths;
 use source::memory::NoMemory;
 use std::alloc::Global;
 
@@ -30,22 +28,14 @@ fn lists_before(placed: &Placed, section: usize) -> &[Vec<u8>]
 /// # Errors
 ///
 /// Want of memory.
-pub fn lower(
-    alloc: Global,
-    program: &Typed,
-    paths: &Paths,
-    placed: &Placed,
-) -> Result<ProgramCode, NoMemory>
-    requires { ArePaths program.now paths.now }
+pub fn lower(alloc: Global, program: &Typed, placed: &Placed) -> Result<ProgramCode, NoMemory>
     ensures { IfOk result (IsCodeOf program.now (all_lists placed.now)) }
 {
-    let names = names_of(alloc, program)?;
     let mut sections = Vec::with_capacity(alloc, program.sections.len())?;
     for k in 0..program.sections.len() {
         let section = &program.sections[k];
-        let lowering = Lowering { program, section };
         let lists = lists_before(placed, k);
-        sections.push(lowering.code(alloc, &paths.sections[k].paths, lists)?)?;
+        sections.push(code_of(alloc, section, lists)?)?;
     }
-    Ok(ProgramCode { names, sections })
+    Ok(ProgramCode { sections })
 }

@@ -9,11 +9,11 @@ use Rattle.locks.specs.declared.lock.Lock.{Lock}
 use Rattle.code.specs.declared.instr.Instr.{Instr}
 use Rattle.code.specs.declared.section_code.SectionCode.{SectionCode}
 use Rattle.code.specs.declared.section_code.ProgramCode.{ProgramCode}
-use Rattle.code.specs.Lowering.{section_code}
+use Rattle.code.specs.Lowering.{section_code, lists_at}
 use Rattle.code.specs.Machine.{Machine, Effect, Moves, Asks, Finishes, Undefined, act, passed}
 use Rattle.code.specs.Memory.{HeldCells, value_at, load_held, store_held}
 use Rattle.code.specs.Working.Laws.{KeepsHeld}
-use Rattle.lowering.specs.Lowered.{IsCodeOf, lists_at}
+use Rattle.lowering.specs.Working.Lowered.{IsCodeOf}
 use Rattle.worlds.specs.Worlds.{code_at, locks_before, instructed, next_effect}
 use Rattle.worlds.specs.Working.InOrder.{IsInOrder, SectionsStayInOrder}
 use Rattle.worlds.specs.Waiting.{first_if}

@@ -15,12 +15,11 @@ use Rattle.layout.specs.LockCells.{cells_of}
 use Rattle.code.specs.Machine.{At, Halted, Effect, Moves, Asks, Finishes, Undefined, act, proceed, exec}
 use Rattle.code.specs.Memory.{HeldCells, load_from, store_to, overwritten, Agrees, IsCovered}
 use Rattle.code.specs.Alone.{alone, halted}
-use Rattle.code.specs.Lowering.{section_code}
+use Rattle.code.specs.Lowering.{section_code, lists_at}
 use Rattle.code.specs.Working.Laws.{MovesAlike, AsksAlike, FinishesAlike, on_heap}
 use Rattle.code.specs.Working.RunLaws.{EndsAsSection}
 use Rattle.history.specs.Commits.{Commit, script_call, answer_of, committed}
 use Rattle.history.specs.Working.Laws.{CommittedOfOneMore, CommittedKeepsSize}
-use Rattle.lowering.specs.Lowered.{lists_at}
 use Rattle.lowering.specs.Plans.{Plan, IsCompiled}
 use Rattle.worlds.specs.declared.event.Event.{Event}
 use Rattle.worlds.specs.declared.event.Event.TheVariants as event

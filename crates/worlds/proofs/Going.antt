@@ -27,13 +27,12 @@ use Rattle.code.specs.Machine.{Machine, Effect, Moves, Asks, Finishes, Undefined
 use Rattle.code.specs.Memory.{HeldCells, load_held, store_held, value_at}
 use Rattle.code.specs.Working.Seen.{held_value, IsSeen}
 use Rattle.code.specs.Working.Spots.{HasAt, Spot, InSection}
-use Rattle.code.specs.Lowering.{acquire_any, acquire_code, section_code}
+use Rattle.code.specs.Lowering.{acquire_any, acquire_code, section_code, lists_at}
 use Rattle.code.specs.Needs.{operand_need}
 use Rattle.code.specs.Working.Ahead.{there, finishes, Goes, Steps, between_points, MayEnd, HasComeOn}
 use Rattle.code.specs.Theory.Safety.{safe_steps, steps_more}
 use Rattle.code.specs.Working.Laws.{HasWritten, KeepsUnwritten, KeepsSize}
 use Rattle.code.specs.Working.PointLaws.{PointsGoOn, SpotsArePoints, FirstPointIsAtStart, EmptyHasEnd, SpotsAcquire}
-use Rattle.lowering.specs.Lowered.{lists_at}
 use Rattle.lowering.specs.Plans.{Plan, IsCompiled}
 use Rattle.worlds.specs.Asking.{to_ask}
 use Rattle.worlds.specs.Worlds.{Activation, activation, granted, section_at, code_at, locals_at, locks_before}

@@ -13,7 +13,7 @@ use Rattle.inserter.specs.Placement.{IsPath}
 use Rattle.inserter.specs.Working.Laws.{InRuns, HeldAreNamed, FewAreHeld}
 use Rattle.layout.specs.declared.room.Room.{Room}
 use Rattle.layout.specs.LockCells.{cells_of}
-use Rattle.lowering.specs.Lowered.{lists_at}
+use Rattle.code.specs.Lowering.{lists_at}
 use Rattle.lowering.specs.Plans.{Plan, IsCompiled}
 use Rattle.lowering.specs.Working.Rooms.{most_cells, IsRoomOf}
 use Rattle.worlds.specs.Worlds.{Activation, activation, section_at, granted, instructed, next_effect}

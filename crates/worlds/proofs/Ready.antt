@@ -19,7 +19,7 @@ use Rattle.code.specs.Working.Seen.{held_value, IsSeen}
 use Rattle.code.specs.Working.RunLaws.{EndsOnlyAsSection}
 use Rattle.history.specs.Commits.{Commit, committed}
 use Rattle.history.specs.Working.Laws.{CommittedOfOneMore, CommittedKeepsSize}
-use Rattle.lowering.specs.Lowered.{lists_at}
+use Rattle.code.specs.Lowering.{lists_at}
 use Rattle.lowering.specs.Plans.{Plan, IsCompiled}
 use Rattle.worlds.specs.declared.event.Event.{Event}
 use Rattle.worlds.specs.Worlds.{World, ThreadState, Activation, HasOpen, commit, activation, granted, taken, without}

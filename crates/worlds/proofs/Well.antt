@@ -19,12 +19,11 @@ use Rattle.code.specs.Machine.{Effect, Moves, Asks, Finishes, Undefined, At, Hal
 use Rattle.code.specs.Memory.{HeldCells, value_at, load_from, store_to, overwritten, Agrees, IsCovered, IsConsistent}
 use Rattle.code.specs.Memory.{IsPartOf}
 use Rattle.code.specs.Alone.{alone, starting}
-use Rattle.code.specs.Lowering.{section_code}
+use Rattle.code.specs.Lowering.{section_code, lists_at}
 use Rattle.code.specs.Working.Laws.{KeepsHeld, MovesAlike, AsksAlike, FinishesAlike, KeepsUnwritten, on_heap}
 use Rattle.code.specs.Working.RunLaws.{EndsOnlyAsSection}
 use Rattle.history.specs.Working.Laws.{CommittedOfOneMore, LegalOfOneMore, TrueOfOneMore}
 use Rattle.history.specs.Commits.{IsTrueCommit}
-use Rattle.lowering.specs.Lowered.{lists_at}
 use Rattle.lowering.specs.Plans.{Plan, IsCompiled}
 use Rattle.worlds.specs.Worlds.{Activation, activation, commit, granted, taken, section_at, code_at, locals_at}
 use Rattle.worlds.specs.Worlds.{instructed, next_effect}

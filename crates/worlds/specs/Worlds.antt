@@ -14,9 +14,8 @@ use Rattle.code.specs.declared.instr.Instr.{Instr}
 use Rattle.code.specs.Machine.{Machine, Effect, Moves, Asks, Finishes, Undefined, act, passed}
 use Rattle.code.specs.Memory.{HeldCells, none_held, load_held, store_held}
 use Rattle.code.specs.Alone.{starting}
-use Rattle.code.specs.Lowering.{section_code}
+use Rattle.code.specs.Lowering.{section_code, lists_at}
 use Rattle.history.specs.Commits.{Commit}
-use Rattle.lowering.specs.Lowered.{lists_at}
 use Rattle.lowering.specs.Plans.{Plan}
 use Rattle.worlds.specs.declared.event.Event.{Event}
 use Rattle.worlds.specs.declared.event.Event.TheVariants as event

@@ -1,15 +1,26 @@
 -- The text of what stands at a place of a list, or nothing, behind what was written.
-use Rattle.std.proofs.Common.{◌≡◌, ◌++◌, ℕ, List, [], Some, None, slice_get, refl}
+use Rattle.std.proofs.Common.{◌≡◌, ◌++◌, ℕ, zero, suc, List, [], ◌∷◌, Some, None, map, refl}
 use Rattle.std.specs.Borrow.{Bor}
 use Rattle.std.specs.Option.{option_map_or}
 use Rattle.std.specs.Slice.{IsItemAt}
+use Rattle.code.specs.Listing.{text_at}
 use Rattle.locks.specs.Theory.Written as written
 
-module _ {A : Type 0} (text : A → List ℕ) (xs : List A) (i : ℕ) (old : List ℕ) where
-  pub found_added : (b : Bor A) (new piece : List ℕ) → IsItemAt xs i (Some b) → piece ≡ text b.now → new ≡ old ++ piece
-      → new ≡ old ++ option_map_or text (slice_get xs i) []
+-- of a list that a slice lends
+module _ {A : Type 0} (text : A → List ℕ) (xs lent : List A) (i : ℕ) (old : List ℕ) (same : lent ≡ xs) where
+  pub found_added : (b : Bor A) (new piece : List ℕ) → IsItemAt lent i (Some b) → piece ≡ text b.now →
+      new ≡ old ++ piece
+      → new ≡ old ++ text_at text xs i
   found_added b new piece h is added =
-      written.some_added (λ o. option_map_or text o []) (slice_get xs i) b.now old new piece (written.item_here xs xs i refl b h) is added
+      let here = written.item_here xs lent i same b h in
+      written.some_added (λ o. option_map_or text o []) _ b.now old new piece here is added
 
-  pub none_added : IsItemAt xs i None → old ≡ old ++ option_map_or text (slice_get xs i) []
-  none_added h = written.none_added (λ o. option_map_or text o []) (slice_get xs i) old (written.item_past xs xs i refl h) refl
+  pub none_added : IsItemAt lent i None → old ≡ old ++ text_at text xs i
+  none_added h = written.none_added (λ o. option_map_or text o []) _ old (written.item_past xs lent i same h) refl
+
+-- of a list that is made from another
+pub text_at-map : {A B : Type 0} (f : A → B) (text : B → List ℕ) (xs : List A) (k : ℕ) →
+    text_at text (map f xs) k ≡ text_at (λ x. text (f x)) xs k
+text_at-map f text [] k = refl
+text_at-map f text (x ∷ xs) zero = refl
+text_at-map f text (x ∷ xs) (suc k) = text_at-map f text xs k

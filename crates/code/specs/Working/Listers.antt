@@ -1,6 +1,6 @@
--- The names that a lister shows.
-use Rattle.code.specs.declared.names.ListingNames.{ListingNames}
+-- The program whose names a lister shows.
+use Rattle.core_lang.specs.declared.typed.Typed.{Typed}
 use Rattle.code.specs.declared.lines.Lister.{Lister}
 
-abbrev pub names_of : Lister → ListingNames
-names_of lister = lister.names.now
+abbrev pub program_of : Lister → Typed
+program_of lister = lister.program.now

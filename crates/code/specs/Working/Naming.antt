@@ -6,64 +6,70 @@ use Rattle.std.specs.List.{find}
 use Rattle.std.specs.Option.{option_copied}
 use Rattle.std.specs.Borrow.{Bor}
 use Rattle.indexmap.specs.IndexMap.{IndexMap, get}
+use Rattle.core_lang.specs.declared.tree.Section.{Section}
+use Rattle.core_lang.specs.declared.typed.GlobalVariable.{GlobalVariable}
+use Rattle.core_lang.specs.declared.typed.Typed.{Typed}
+use Rattle.locks.specs.LockPaths.{lock_paths}
+use Rattle.locks.specs.Texts.{path_text}
 use Rattle.code.specs.declared.instr.Instr.{Instr}
 use Rattle.code.specs.declared.instr.Instr.TheVariants.{PushNumber, GetLocal, PutLocal, LoadGlobal, PutGlobal}
 use Rattle.code.specs.declared.instr.Instr.TheVariants.{LoadElement, Bound, PutElement, GetMember, LoadFinal}
 use Rattle.code.specs.declared.instr.Instr.TheVariants.{LoadField, PutField, Where, Jump, JumpBack, JumpIfFalse}
 use Rattle.code.specs.declared.instr.Instr.TheVariants.{JumpIfTrue, Acquire}
-use Rattle.code.specs.declared.names.GlobalName.{GlobalName}
-use Rattle.code.specs.declared.names.ListingNames.{ListingNames}
-use Rattle.code.specs.declared.section_code.SectionCode.{SectionCode}
-use Rattle.code.specs.Listing.{named, global_text, final_text, where_text, field_text, acquired_text, instr_text, line}
+use Rattle.code.specs.Listing.{array_text, pool_text, global_text, final_text, where_text, field_text}
+use Rattle.code.specs.Listing.{acquired_text, instr_text, line}
 use Rattle.rope.specs.Working.Ropes.{RopeOf}
 
 -- the index has for each cell the first global that has it
-abbrev pub IsIndexOf : {S : Type 0} → List GlobalName → IndexMap ℕ (Bor GlobalName) S → Type 0
+abbrev pub IsIndexOf : {S : Type 0} → List GlobalVariable → IndexMap ℕ (Bor GlobalVariable) S → Type 0
 IsIndexOf globals index =
-    (cell : ℕ) → option_copied (get nat_eq index cell) ≡ find (λ (g : GlobalName). g.cell == cell) globals
+    (cell : ℕ) → option_copied (get nat_eq index cell) ≡ find (λ (g : GlobalVariable). g.cell == cell) globals
 
 -- an instruction's operand, as it is written behind the word, but for lock paths
-abbrev pub operand_text : ListingNames → ℕ → Instr → List ℕ
-operand_text names place (PushNumber n) = signed_decimal n
-operand_text names place (GetLocal k) = decimal k
-operand_text names place (PutLocal k) = decimal k
-operand_text names place (LoadGlobal cell) = global_text names cell
-operand_text names place (PutGlobal cell) = global_text names cell
-operand_text names place (LoadElement array) = named names.arrays.items array
-operand_text names place (Bound array) = named names.arrays.items array
-operand_text names place (PutElement array) = named names.arrays.items array
-operand_text names place (GetMember pool) = named names.pools.items pool
-operand_text names place (LoadFinal f structure) = final_text names structure f
-operand_text names place (LoadField f structure) = field_text names structure f
-operand_text names place (PutField f structure) = field_text names structure f
-operand_text names place (Where f structure k) = where_text names structure f k
-operand_text names place (Jump over) = decimal (place + 1 + over)
-operand_text names place (JumpBack back) = decimal (place - back)
-operand_text names place (JumpIfFalse over) = decimal (place + 1 + over)
-operand_text names place (JumpIfTrue over) = decimal (place + 1 + over)
-operand_text names place _ = []
+abbrev pub operand_text : Typed → ℕ → Instr → List ℕ
+operand_text program place (PushNumber n) = signed_decimal n
+operand_text program place (GetLocal k) = decimal k
+operand_text program place (PutLocal k) = decimal k
+operand_text program place (LoadGlobal cell) = global_text program cell
+operand_text program place (PutGlobal cell) = global_text program cell
+operand_text program place (LoadElement array) = array_text program array
+operand_text program place (Bound array) = array_text program array
+operand_text program place (PutElement array) = array_text program array
+operand_text program place (GetMember pool) = pool_text program pool
+operand_text program place (LoadFinal f structure) = final_text program structure f
+operand_text program place (LoadField f structure) = field_text program structure f
+operand_text program place (PutField f structure) = field_text program structure f
+operand_text program place (Where f structure k) = where_text program structure f k
+operand_text program place (Jump over) = decimal (place + 1 + over)
+operand_text program place (JumpBack back) = decimal (place - back)
+operand_text program place (JumpIfFalse over) = decimal (place + 1 + over)
+operand_text program place (JumpIfTrue over) = decimal (place + 1 + over)
+operand_text program place _ = []
 
 -- the lock paths that it asks for
-abbrev pub asked_text : SectionCode → Instr → List ℕ
-asked_text section (Acquire point) = acquired_text section point
-asked_text section _ = []
+abbrev pub asked_text : Typed → Section → List (List ℕ) → Instr → List ℕ
+asked_text program section lists (Acquire point) = acquired_text program section lists point
+asked_text program section lists _ = []
 
 -- the word of an instruction: all that is written of it ahead of its operand
 abbrev pub IsMnemonic : Instr → List ℕ → Type 0
 IsMnemonic instr word =
-    (names : ListingNames) (section : SectionCode) (place : ℕ)
-    → instr_text names section place instr ≡ word ++ operand_text names place instr ++ asked_text section instr
+    (program : Typed) (section : Section) (lists : List (List ℕ)) (place : ℕ)
+    → instr_text program section lists place instr
+    ≡ word ++ operand_text program place instr ++ asked_text program section lists instr
 
 -- an instruction comes behind what was written, but for the lock paths that it asks for
-abbrev pub AddsBare : {Z : Type 0} → ListingNames → ℕ → Instr → String Z → String Z → Type 0
-AddsBare names place instr old new =
-    (section : SectionCode) → string_bytes new ++ asked_text section instr
-    ≡ string_bytes old ++ instr_text names section place instr
+abbrev pub AddsBare : {Z : Type 0} → Typed → ℕ → Instr → String Z → String Z → Type 0
+AddsBare program place instr old new =
+    (section : Section) (lists : List (List ℕ)) → string_bytes new ++ asked_text program section lists instr
+    ≡ string_bytes old ++ instr_text program section lists place instr
 
 -- the line of an instruction
-abbrev pub line_text : ListingNames → SectionCode → ℕ → Instr → List ℕ
-line_text names section place instr = line (decimal place ++ codes " " ++ instr_text names section place instr)
+abbrev pub line_text : Typed → Section → List (List ℕ) → ℕ → Instr → List ℕ
+line_text program section lists place instr =
+    line (decimal place ++ codes " " ++ instr_text program section lists place instr)
 
 -- the rope keeps the texts of the section's lock paths, as the group of this number
-abbrev pub HasNames : SectionCode → ℕ → RopeOf → Type 0
-HasNames section group rope = slice_get rope.groups group ≡ Some (map string_bytes section.paths.items)
+abbrev pub HasPaths : Typed → Section → ℕ → RopeOf → Type 0
+HasPaths program section group rope =
+    slice_get rope.groups group ≡ Some (map (path_text program section) (lock_paths program section))

@@ -10,7 +10,7 @@ use Rattle.code.specs.declared.instr.Instr.TheVariants.{PushNull, PrintTop, Boun
 use Rattle.code.specs.declared.instr.Instr.TheVariants.{JumpIfFalse}
 use Rattle.code.specs.Lowering.{path_code, expr_code, test_code, acquire_code, if_code, while_code, stmt_code}
 use Rattle.code_emission.specs.declared.emitter.Emitter.{Emitter}
-use Rattle.code_emission.specs.NumberLists.{number_lists}
+use Rattle.code.specs.Working.NumberLists.{number_lists}
 use Rattle.code_emission.specs.Working.CodeLists.{sequence_code}
 
 -- the lists before the section's points

@@ -10,7 +10,7 @@ use Rattle.layout.specs.declared.room.Room.{Room}
 use Rattle.layout.specs.Layouts.{LayoutOf}
 use Rattle.code.specs.declared.section_code.ProgramCode.{ProgramCode}
 use Rattle.lowering.specs.declared.compiled.Trees.{Trees}
-use Rattle.lowering.specs.Lowered.{IsCodeOf}
+use Rattle.lowering.specs.Working.Lowered.{IsCodeOf}
 use Rattle.lowering.specs.Working.Rooms.{IsRoomOf, AreRoomsOf}
 use Rattle.lowering.specs.Plans.{Plan, IsCompiled}
 

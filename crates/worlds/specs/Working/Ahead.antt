@@ -16,11 +16,10 @@ use Rattle.code.specs.Machine.{Machine}
 use Rattle.code.specs.Memory.{HeldCells, load_held, store_held}
 use Rattle.code.specs.Working.Seen.{held_value}
 use Rattle.code.specs.Working.Spots.{Spot, InSection}
-use Rattle.code.specs.Lowering.{acquire_code, section_code}
+use Rattle.code.specs.Lowering.{acquire_code, section_code, lists_at}
 use Rattle.code.specs.Needs.{operand_need}
 use Rattle.code.specs.Working.Ahead.{Safe}
 use Rattle.history.specs.Commits.{committed}
-use Rattle.lowering.specs.Lowered.{lists_at}
 use Rattle.lowering.specs.Plans.{Plan, IsCompiled}
 use Rattle.worlds.specs.Worlds.{World, Activation, HasOpen, section_at, happens, opening_world}
 use Rattle.worlds.specs.Working.States.{IsSound}

@@ -1,5 +1,5 @@
 use Rattle.std.proofs.Common.{ap}
-use Rattle.code_emission.specs.NumberLists.{number_lists}
+use Rattle.code.specs.Working.NumberLists.{number_lists}
 use Rattle.code_emission.proofs.Steps.{section_emitted}
 use Rattle.code_emission.proofs.section.instructions.Goals as goal
 

@@ -1,7 +1,7 @@
 use Rattle.std.proofs.Common.{sym, subst}
 use Rattle.code.specs.Needs.{operand_need}
 use Rattle.code.specs.Alone.{Behaves}
-use Rattle.lowering.specs.Lowered.{lists_at}
+use Rattle.code.specs.Lowering.{lists_at}
 use Rattle.lowering.proofs.laws.codes_behave.Goals as goal
 
 pub returns : goal.returns

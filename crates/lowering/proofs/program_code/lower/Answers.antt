@@ -2,7 +2,8 @@ use Rattle.std.proofs.Common.{◌≡◌, ◌∙◌, ◌<◌, length, Some, inl, 
 use Rattle.std.specs.Prelude.{slice_get}
 use Rattle.std.proofs.lemmas.Option.{same_Some, slice_get_read}
 use Rattle.inserter.specs.Placement.{all_lists}
-use Rattle.lowering.specs.Lowered.{IsLowered, lists_at}
+use Rattle.code.specs.Lowering.{lists_at}
+use Rattle.lowering.specs.Working.Lowered.{IsLowered}
 use Rattle.lowering.proofs.Pushes.{push_cases}
 use Rattle.lowering.proofs.program_code.lower.Goals as goal
 
@@ -14,25 +15,26 @@ loop-k-preserved c =
     record {
       long = omega (arith, c.in_ok-push.ensures.len, c.loop-k.invariant.long, c.loop-k.sections.ok.0, c.push.new.self.ok.0);
       each = λ j section made at e.
-          elim (push_cases c.loop-k.sections.items c.in_ok-code.field-0 j made (subst (λ l. slice_get l j ≡ Some made) c.in_ok-push.ensures.items e)) [
+          let split = push_cases c.loop-k.sections.items c.in_ok-code_of.field-0 j made in
+          elim (split (subst (λ l. slice_get l j ≡ Some made) c.in_ok-push.ensures.items e)) [
             | inl old ↦ c.loop-k.invariant.each j section made at old
             | inr new ↦
                 let k : j ≡ c.loop-k.k = new.0 ∙ c.loop-k.invariant.long in
-                let lt : c.loop-k.k < length program.sections.items = omega (arith, c.loop-k-test.true, c.len-k-end.ensures, program.sections.ok.0) in
+                let lt : c.loop-k.k < length program.sections.items =
+                omega (arith, c.loop-k-test.true, c.len-k-end.ensures, program.sections.ok.0) in
                 let there : slice_get program.sections.items c.loop-k.k ≡ Some here =
                 slice_get_read program.sections.items (length program.sections.items) c.loop-k.k here refl lt c.index-section.ensures in
                 let same : section ≡ here = same_Some section here (sym at ∙ ap (slice_get program.sections.items) k ∙ there) in
-                let done : IsLowered program here (lists_at lists c.loop-k.k) c.in_ok-code.field-0 =
-                subst (λ ls. IsLowered program here ls c.in_ok-code.field-0) c.lists_before-lists.ensures c.in_ok-code.ensures in
-                subst (λ m. IsLowered program section (lists_at lists j) m) new.1
-                (subst (λ s. IsLowered program s (lists_at lists j) c.in_ok-code.field-0) (sym same)
-                (subst (λ i. IsLowered program here (lists_at lists i) c.in_ok-code.field-0) (sym k) done))
+                let done : IsLowered here (lists_at lists c.loop-k.k) c.in_ok-code_of.field-0 =
+                subst (λ ls. IsLowered here ls c.in_ok-code_of.field-0) c.lists_before-lists.ensures c.in_ok-code_of.ensures in
+                subst (λ m. IsLowered section (lists_at lists j) m) new.1
+                (subst (λ s. IsLowered s (lists_at lists j) c.in_ok-code_of.field-0) (sym same)
+                (subst (λ i. IsLowered here (lists_at lists i) c.in_ok-code_of.field-0) (sym k) done))
           ];
     }
 
 pub returns : goal.returns
 returns c = record {
-  names = c.in_ok-names.ensures;
   long = omega (arith, c.loop-k.invariant.long, c.loop-k-test.false, c.loop-k.auto.k-end, c.len-k-end.ensures, c.args.program.now.sections.ok.0);
   each = c.loop-k.invariant.each;
 }

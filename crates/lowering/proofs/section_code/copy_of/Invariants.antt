@@ -1,5 +1,5 @@
 use Rattle.std.proofs.Common.{◌≡◌, take}
-use Rattle.code_emission.specs.NumberLists.{number_lists}
+use Rattle.code.specs.Working.NumberLists.{number_lists}
 use Rattle.lowering.proofs.section_code.copy_of.Given as goal
 
 abbrev pub invariant-loop-list : goal.invariant-loop-list

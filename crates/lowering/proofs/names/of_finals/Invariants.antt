@@ -1,7 +1,0 @@
-use Rattle.std.proofs.Common.{◌≡◌, map, string_bytes, take}
-use Rattle.core_lang.specs.declared.typed.FinalField.{FinalField}
-use Rattle.lowering.specs.Lowered.{texts}
-use Rattle.lowering.proofs.names.of_finals.Given as goal
-
-abbrev pub invariant-loop-field : goal.invariant-loop-field
-invariant-loop-field l = texts l.names.items ≡ map (λ (x : FinalField). string_bytes x.name) (take l.field-index l.finals)
