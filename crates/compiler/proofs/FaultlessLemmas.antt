@@ -13,7 +13,7 @@ use Rattle.syntax.specs.Faults.{NoEnd, IsMisplaced, unended, unexpected, too_dee
 use Rattle.resolution.specs.Faults as names
 use Rattle.core_lang.specs.declared.typed.Typed.{Typed}
 use Rattle.resolution.specs.CoreViews.{core_of}
-use Rattle.resolution.specs.Resolution.{resolved}
+use Rattle.resolution.specs.Working.Building.{resolved}
 use Rattle.resolution.specs.Resolved.{Resolves}
 use Rattle.core_lang_expansion.specs.Data.{IsExpanded}
 use Rattle.locks.specs.Faults as paths

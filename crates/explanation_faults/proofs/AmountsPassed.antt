@@ -8,7 +8,7 @@ use Rattle.std.specs.Prelude.{nat_lt, not, is_some, slice_get, if◌then◌else�
 use Rattle.resolution.specs.Working.FaultLists.{is_at}
 use Rattle.resolution.specs.Limits.{OBJECT_LIMIT, CELL_LIMIT, CALL_LIMIT}
 use Rattle.resolution.specs.Numbers.{objects_of, cells_of, calls_of, new_field, total}
-use Rattle.resolution.specs.Resolution.{few_calls}
+use Rattle.resolution.specs.Working.Building.{few_calls}
 use Rattle.resolution.specs.Scopes.{declared, member_bears, member_name, place_from, place_of}
 use Rattle.syntax.specs.Trees.{Ident, Member, lock_member, final_member, field_member, Field, Final, Decl}
 use Rattle.explanation_faults.specs.Working.AmountsFound.{begins, ends_few, field_count, first_over}

@@ -3,7 +3,7 @@
 ghost use Rattle.std.specs.Prelude.{◌≡◌, ◌<◌, ◌≤◌, [], Decides, IfOk, length, map};
 ghost use Rattle.resolution.specs.Limits.{CALL_LIMIT};
 ghost use Rattle.resolution.specs.Numbers.{calls_of, cells_of, fields_from, objects_of};
-ghost use Rattle.resolution.specs.Resolution.{few_calls};
+ghost use Rattle.resolution.specs.Working.Building.{few_calls};
 ghost use Rattle.resolution.specs.Scopes.{declared};
 ghost use Rattle.types_symbols.specs.{decls_of, members_seen};
 ghost use Rattle.syntax.specs.Trees.{pool};

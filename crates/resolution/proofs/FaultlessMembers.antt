@@ -19,7 +19,7 @@ use Rattle.resolution.specs.Numbers.{is_lock, new_field, fields_from}
 use Rattle.resolution.specs.Expressions.{want}
 use Rattle.resolution.specs.Constants.{members_of, pool_members, initialised, member_want, given, opened, default_of}
 use Rattle.resolution.specs.Constants.{referred}
-use Rattle.resolution.specs.Resolution.{opening_of}
+use Rattle.resolution.specs.Working.Building.{opening_of}
 use Rattle.resolution.specs.Where.{Has, of_final, of_field}
 use Rattle.resolution.specs.Faults as fault
 use Rattle.resolution.specs.Faults.{final_missing}

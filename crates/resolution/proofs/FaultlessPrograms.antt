@@ -19,12 +19,16 @@ use Rattle.resolution.specs.Numbers.{width, total, classes_of, objects_of, cells
 use Rattle.resolution.specs.Expressions.{want}
 use Rattle.resolution.specs.Constants.{members_of, members_in, default_of}
 use Rattle.resolution.specs.Annotations.{protection_of}
-use Rattle.resolution.specs.Resolution.{few_calls, typed_items, StructBuilder, lock_added, final_added, field_added}
-use Rattle.resolution.specs.Resolution.{members_added, empty_struct, nothing_yet, with_class, with_struct, with_cell}
-use Rattle.resolution.specs.Resolution.{with_section, with_helper, with_thread, global_added, with_global, opening_of}
-use Rattle.resolution.specs.Resolution.{with_elements, array_added, with_array, Slot, slot_given, final_cell}
-use Rattle.resolution.specs.Resolution.{field_cell, with_members, object_added, with_object, with_objects, pool_added}
-use Rattle.resolution.specs.Resolution.{with_pool, extended, resolved_from, resolved}
+use Rattle.resolution.specs.Working.Building.{few_calls, typed_items}
+use Rattle.resolution.specs.Working.Building.{StructBuilder, lock_added, final_added, field_added}
+use Rattle.resolution.specs.Tables.{nothing_yet}
+use Rattle.resolution.specs.Working.Building.{members_added, empty_struct, with_class, with_struct, with_cell}
+use Rattle.resolution.specs.Working.Building.{with_section, with_helper, with_thread, global_added, with_global}
+use Rattle.resolution.specs.Working.Building.{opening_of}
+use Rattle.resolution.specs.Working.Building.{with_elements, array_added, with_array, Slot, slot_given, final_cell}
+use Rattle.resolution.specs.Working.Building.{field_cell, with_members, object_added, with_object, with_objects}
+use Rattle.resolution.specs.Working.Building.{pool_added}
+use Rattle.resolution.specs.Working.Building.{with_pool, extended, resolved_from, resolved}
 use Rattle.resolution.specs.Where.{Has, first, further, of_section, of_helper, of_pool, of_global, of_array, of_final}
 use Rattle.resolution.specs.Where.{of_field}
 use Rattle.resolution.specs.Working.FaultLists.{one_if, first_too_many, member_twice_faults, member_counts}

@@ -20,7 +20,8 @@ use Rattle.resolution.specs.Scopes.{entered}
 use Rattle.resolution.specs.Constants.{added, typed_arguments}
 use Rattle.resolution.specs.Statements.{ahead_of, entry}
 use Rattle.resolution.specs.Working.TypedSections.{core_locals, section_with, section_of, typed_section}
-use Rattle.resolution.specs.Resolution.{call_of, copies, joined, one_call, typed_item, typed_items}
+use Rattle.resolution.specs.Tables.{copies}
+use Rattle.resolution.specs.Working.Building.{call_of, joined, one_call, typed_item, typed_items}
 use Rattle.resolution.specs.Working.TypedStatements.{typed_body, Body}
 use Rattle.resolution.specs.Statements.{after_all}
 use Rattle.resolution.specs.Where.{Has, first, further, HasBody, of_section, of_helper}

@@ -18,16 +18,16 @@ use Rattle.resolution.specs.Scopes.{structs_in, the_struct}
 use Rattle.resolution.specs.Numbers.{total, classes_of, objects_of, cells_of, classes_ahead, cells_ahead, objects_ahead}
 use Rattle.resolution.specs.Expressions.{cell_of, member_number}
 use Rattle.resolution.specs.Constants.{opened}
-use Rattle.resolution.specs.Resolution.{StructBuilder, empty_struct, nothing_yet, array_added, pool_added}
+use Rattle.resolution.specs.Working.Building.{array_added, pool_added}
 use Rattle.resolution.specs.Working.TypedSections.{typed_section}
-use Rattle.resolution.specs.Resolution.{resolved}
+use Rattle.resolution.specs.Tables.{nothing_yet, AreTables, lock_classes}
 use Rattle.resolution.proofs.FaultlessExpressions.{struct_has, Clean}
 use Rattle.resolution.proofs.FaultlessMembers.{is_field, is_final, count_few}
 use Rattle.resolution.proofs.FaultlessPrograms.{struct_few}
 use Rattle.resolution.proofs.TypedResolvedExprs.{Sound}
 use Rattle.resolution.proofs.LaidLists.{Rows, rows_left, rows_right, rows_push, get_last, get_behind, get_pushed}
 use Rattle.resolution.proofs.LaidStages.{fields_in, finals_in, locks_in, field_numbered, final_numbered, Adds}
-use Rattle.resolution.proofs.LaidWalk.{LockRow, ClassRow, FinalRow, FieldRow, shaped, fields_counted, chain_leaves}
+use Rattle.resolution.proofs.LaidWalk.{LockRow, ClassRow, FinalRow, FieldRow, parted, fields_counted, chain_leaves}
 use Rattle.resolution.proofs.LaidWalk.{elements_leave, Step, Landed, lands, walked_whole}
 
 -- ---- lists that a step leaves as they are
@@ -230,7 +230,7 @@ total_landed decls whole i d l of = ap (λ (n : ℕ). total of (take n decls)) (
 
 -- ---- globals, arrays and pools, by their declarations
 
-module _ (decls : List Decl) (clean : Clean decls) (whole : core.Program) (is : resolved decls ≡ Some whole) where
+module _ (decls : List Decl) (clean : Clean decls) (whole : core.Program) (is : AreTables decls whole) where
   -- a global's cell
   pub record GlobalAt (n : ℕ) (v : Variable) : Type 0 where
     pub number : ℕ
@@ -336,34 +336,37 @@ one_more_struct (atomic x ∷ before) s = one_more_struct before s
 one_more_struct (helper x ∷ before) s = one_more_struct before s
 one_more_struct (thread x ∷ before) s = one_more_struct before s
 
-struct_landed : (decls : List Decl) (whole : core.Program) (before : List Decl) (x : Struct) (p q : core.Program) (st : Step decls whole before (struct x) p q) → StructAt decls whole (length p.structs) x st.adds.0.structure
+struct_landed : (decls : List Decl) (whole : core.Program) (before : List Decl) (x : Struct) (p q : core.Program)
+    (st : Step decls whole before (struct x) p q) → StructAt decls whole (length p.structs) x st.adds.0
 struct_landed decls whole before x p q st =
     let a = st.adds in
     let k = length p.structs in
-    let s0 : StructBuilder = record { structure = empty_struct x.name.text; classes = p.classes } in
-    let r = shaped decls k (length before) x.members 0 0 s0 x.members a.0 a.1 in
+    let r = parted decls (length before) x (length p.classes) k 0 0 0 x.members a.0 a.1 in
+    let cs = lock_classes k 0 a.0.locks in
     let ahead : length p.classes ≡ classes_ahead decls (length before) = st.counts.classes ∙ ap (total classes_of) (sym st.ahead) in
     let number : number_at decls (length before) (struct x) ≡ k = ap (count (alike (struct x))) st.ahead ∙ sym (st.counts.structs x) in
-    let classes : q.classes ≡ p.classes ++ r.classes = ap (λ (z : core.Program). z.classes) (sym a.2) ∙ r.is_classes in
+    let classes : q.classes ≡ p.classes ++ cs = ap (λ (z : core.Program). z.classes) (sym a.2) in
     record {
       place = length before;
       at = st.at;
       number = number;
-      locks = subst (λ (j : ℕ). Rows LockRow j (locks_in x.members) a.0.structure.locks) ahead (subst (λ (ls : List core.LockField). Rows LockRow (length p.classes) (locks_in x.members) ls) (sym r.is_locks) r.lock_rows);
+      locks = subst (λ (j : ℕ). Rows LockRow j (locks_in x.members) a.0.locks) ahead r.locks;
       classes = λ l z e.
-          (let c = rows_left (ClassRow k) 0 (locks_in x.members) r.classes r.class_rows l z e in
-          let here : slice_get q.classes (length p.classes + l) ≡ Some c.0 = ap (λ (zs : List core.LockClass). slice_get zs (length p.classes + l)) classes ∙ get_behind p.classes r.classes l c.0 c.1 in
+          (let c = rows_left (ClassRow k) 0 (locks_in x.members) cs r.classes l z e in
+          let here : slice_get q.classes (length p.classes + l) ≡ Some c.0 =
+          ap (λ (zs : List core.LockClass). slice_get zs (length p.classes + l)) classes
+          ∙ get_behind p.classes cs l c.0 c.1 in
           let is : c.0 ≡ core.lock_field k l = c.2 ∙ ap (core.lock_field k) (let w : 0 + l ≡ l = omega arith in w) in
           subst (λ (n : ℕ). slice_get whole.classes n ≡ Some (core.lock_field k l)) (ap (λ (n : ℕ). n + l) ahead) (st.ends.classes (length p.classes + l) c.0 here ∙ ap Some is));
-      finals = subst (λ (fs : List core.FinalField). Rows (FinalRow decls) 0 (finals_in x.members) fs) (sym r.is_finals) r.final_rows;
-      fields = subst (λ (fs : List core.Field). Rows (FieldRow decls (length before) x.members) 0 (fields_in x.members) fs) (sym r.is_fields) r.field_rows;
+      finals = r.finals;
+      fields = r.fields;
     }
 
 structs_next : (decls : List Decl) (whole : core.Program) (before : List Decl) (d : Decl) (p q : core.Program) →
     Step decls whole before d p q → AllStructs decls whole before p → AllStructs decls whole (before ++ d ∷ []) q
 structs_next decls whole before (lock x) p q st h = subst (λ (zs : List core.Struct). Rows (StructAt decls whole) 0 (structs_in (before ++ lock x ∷ [])) zs) (sym (keeps_structs decls (length before) p (lock x) q st.adds)) (subst (λ (xs : List Struct). Rows (StructAt decls whole) 0 xs p.structs) (sym (no_more_structs before (lock x) refl)) h)
 structs_next decls whole before (struct x) p q st h =
-    let y = st.adds.0.structure in
+    let y = st.adds.0 in
     let e : q.structs ≡ p.structs ++ y ∷ [] = ap (λ (z : core.Program). z.structs) (sym st.adds.2) in
     subst (λ (zs : List core.Struct). Rows (StructAt decls whole) 0 (structs_in (before ++ struct x ∷ [])) zs) (sym e) (subst (λ (xs : List Struct). Rows (StructAt decls whole) 0 xs (p.structs ++ y ∷ [])) (sym (one_more_struct before x))
     (rows_push (StructAt decls whole) 0 (structs_in before) p.structs x y h (subst (λ (n : ℕ). StructAt decls whole n x y) (let z : length p.structs ≡ 0 + length p.structs = omega arith in z) (struct_landed decls whole before x p q st))))
@@ -376,18 +379,18 @@ structs_next decls whole before (helper x) p q st h = subst (λ (zs : List core.
 structs_next decls whole before (thread x) p q st h = subst (λ (zs : List core.Struct). Rows (StructAt decls whole) 0 (structs_in (before ++ thread x ∷ [])) zs) (sym (keeps_structs decls (length before) p (thread x) q st.adds)) (subst (λ (xs : List Struct). Rows (StructAt decls whole) 0 xs p.structs) (sym (no_more_structs before (thread x) refl)) h)
 
 -- the structs of a program are those that are declared
-pub structs_are : (decls : List Decl) → Clean decls → (whole : core.Program) → resolved decls ≡ Some whole →
+pub structs_are : (decls : List Decl) → Clean decls → (whole : core.Program) → AreTables decls whole →
     Rows (StructAt decls whole) 0 (structs_in decls) whole.structs
 structs_are decls clean whole is = walked_whole decls clean whole is (AllStructs decls whole) tt (structs_next decls whole)
 
-pub struct_of_number : (decls : List Decl) → Clean decls → (whole : core.Program) → resolved decls ≡ Some whole →
+pub struct_of_number : (decls : List Decl) → Clean decls → (whole : core.Program) → AreTables decls whole →
     (s : ℕ) (x : Struct) → the_struct decls s ≡ Some x →
     (y : core.Struct) × (slice_get whole.structs s ≡ Some y) × StructAt decls whole s x y
 struct_of_number decls clean whole is s x e =
     let r = rows_left (StructAt decls whole) 0 (structs_in decls) whole.structs (structs_are decls clean whole is) s x e in
     (r.0, r.1, subst (λ (n : ℕ). StructAt decls whole n x r.0) (let z : 0 + s ≡ s = omega arith in z) r.2)
 
-pub struct_by_number : (decls : List Decl) → Clean decls → (whole : core.Program) → resolved decls ≡ Some whole →
+pub struct_by_number : (decls : List Decl) → Clean decls → (whole : core.Program) → AreTables decls whole →
     (s : ℕ) (y : core.Struct) → slice_get whole.structs s ≡ Some y →
     (x : Struct) × (the_struct decls s ≡ Some x) × StructAt decls whole s x y
 struct_by_number decls clean whole is s y e =
@@ -426,7 +429,7 @@ member_final decls clean x s m f is at =
 
 -- ---- the program has each thing with its type at its number
 
-pub sound_of : (decls : List Decl) → Clean decls → (whole : core.Program) → resolved decls ≡ Some whole →
+pub sound_of : (decls : List Decl) → Clean decls → (whole : core.Program) → AreTables decls whole →
     Sound decls whole
 sound_of decls clean whole is = record {
   cell = λ n v t at ty.
@@ -487,7 +490,7 @@ sections_next decls whole before (thread y) p q st h n x e = h n x (ap (λ (zs :
 no_sections : (decls : List Decl) → AllSections decls nothing_yet
 no_sections decls k x e = cc
 
-pub sections_of : (decls : List Decl) → Clean decls → (whole : core.Program) → resolved decls ≡ Some whole →
+pub sections_of : (decls : List Decl) → Clean decls → (whole : core.Program) → AreTables decls whole →
     AllSections decls whole
 sections_of decls clean whole is = walked_whole decls clean whole is (λ b p. AllSections decls p) (no_sections decls) (sections_next decls whole)
 
@@ -523,6 +526,6 @@ helpers_next decls whole before (thread y) p q st h n x e = h n x (ap (λ (zs : 
 no_helpers_yet : (decls : List Decl) → AllHelpers decls nothing_yet
 no_helpers_yet decls k x e = cc
 
-pub helpers_of : (decls : List Decl) → Clean decls → (whole : core.Program) → resolved decls ≡ Some whole →
+pub helpers_of : (decls : List Decl) → Clean decls → (whole : core.Program) → AreTables decls whole →
     AllHelpers decls whole
 helpers_of decls clean whole is = walked_whole decls clean whole is (λ b p. AllHelpers decls p) (no_helpers_yet decls) (helpers_next decls whole)

@@ -16,10 +16,11 @@ use Rattle.resolution.specs.Annotations.{class_number, class_in, class_of, Annot
 use Rattle.resolution.specs.Annotations.{through_member, stepped_on, ended_at, along, protection_by, cursor_at}
 use Rattle.resolution.specs.Annotations.{protection_of}
 use Rattle.resolution.specs.Where.{Has, first, further}
-use Rattle.resolution.specs.Resolution.{StructBuilder, empty_struct, nothing_yet, array_added, resolved}
+use Rattle.resolution.specs.Working.Building.{array_added}
 use Rattle.resolution.specs.Working.FaultLists as list
 use Rattle.resolution.specs.Working.FaultLists.{one_if, member_counts, count_faults, total_faults, passed_faults}
 use Rattle.resolution.specs.Working.FaultLists.{along_faults, annotation_faults, protection_faults, type_faults}
+use Rattle.resolution.specs.Tables.{nothing_yet, AreTables, lock_classes}
 use Rattle.resolution.proofs.Members.{in_right}
 use Rattle.resolution.proofs.Named.{named_is, member_is}
 use Rattle.resolution.specs.Theory.Facts.{struct_at}
@@ -31,7 +32,7 @@ use Rattle.resolution.proofs.FaultlessPrograms.{total_push}
 use Rattle.resolution.proofs.Typed.{final_in}
 use Rattle.resolution.proofs.LaidLists.{rows_left, rows_right, get_last, get_behind, get_pushed, get_parts, bind_got}
 use Rattle.resolution.proofs.LaidStages.{fields_in, locks_in, lock_numbered}
-use Rattle.resolution.proofs.LaidWalk.{LockRow, ClassRow, FieldRow, shaped, elements_leave, Step, lands, walked_whole}
+use Rattle.resolution.proofs.LaidWalk.{LockRow, ClassRow, FieldRow, parted, elements_leave, Step, lands, walked_whole}
 use Rattle.resolution.proofs.LaidWalk.{counted_whole}
 use Rattle.resolution.proofs.LaidFacts.{struct_by_number, sound_of, under, number_landed, total_landed, keeps_globals}
 use Rattle.resolution.proofs.LaidFacts.{keeps_arrays, keeps_classes}
@@ -101,15 +102,18 @@ classes_next decls whole before (lock x) p q st h n c e =
 classes_next decls whole before (struct x) p q st h n c e =
     let a = st.adds in
     let k = length p.structs in
-    let s0 : StructBuilder = record { structure = empty_struct x.name.text; classes = p.classes } in
-    let r = shaped decls k (length before) x.members 0 0 s0 x.members a.0 a.1 in
-    let classes : q.classes ≡ p.classes ++ r.classes = ap (λ (z : core.Program). z.classes) (sym a.2) ∙ r.is_classes in
-    let here : slice_get whole.structs k ≡ Some a.0.structure = st.ends.structs k a.0.structure (subst (λ (w : core.Program). slice_get w.structs k ≡ Some a.0.structure) a.2 (get_last p.structs a.0.structure [])) in
-    get_parts p.classes r.classes n c (ClassFact whole n c) (ap (λ (zs : List core.LockClass). slice_get zs n) (sym classes) ∙ e) (h n c)
-    (λ b. (let z = rows_right (ClassRow k) 0 (locks_in x.members) r.classes r.class_rows b.by c b.here in
-    let f = rows_left LockRow (length p.classes) (locks_in x.members) r.locks r.lock_rows b.by z.0 z.1 in
+    let r = parted decls (length before) x (length p.classes) k 0 0 0 x.members a.0 a.1 in
+    let cs = lock_classes k 0 a.0.locks in
+    let classes : q.classes ≡ p.classes ++ cs = ap (λ (z : core.Program). z.classes) (sym a.2) in
+    let here : slice_get whole.structs k ≡ Some a.0 =
+    st.ends.structs k a.0
+    (subst (λ (w : core.Program). slice_get w.structs k ≡ Some a.0) a.2 (get_last p.structs a.0 [])) in
+    get_parts p.classes cs n c (ClassFact whole n c)
+    (ap (λ (zs : List core.LockClass). slice_get zs n) (sym classes) ∙ e) (h n c)
+    (λ b. (let z = rows_right (ClassRow k) 0 (locks_in x.members) cs r.classes b.by c b.here in
+    let f = rows_left LockRow (length p.classes) (locks_in x.members) a.0.locks r.locks b.by z.0 z.1 in
     let is : c ≡ core.lock_field k b.by = z.2 ∙ ap (core.lock_field k) (let w : 0 + b.by ≡ b.by = omega arith in w) in
-    subst (ClassFact whole n) (sym is) (a.0.structure, here, f.0, ap (λ (ls : List core.LockField). slice_get ls b.by) r.is_locks ∙ f.1, f.2 ∙ sym b.place)))
+    subst (ClassFact whole n) (sym is) (a.0, here, f.0, f.1, f.2 ∙ sym b.place)))
 classes_next decls whole before (global y) p q st h n x e = h n x (ap (λ (zs : List core.LockClass). slice_get zs n) (sym (keeps_classes decls (length before) p (global y) q st.adds)) ∙ e)
 classes_next decls whole before (array y) p q st h n x e = h n x (ap (λ (zs : List core.LockClass). slice_get zs n) (sym (keeps_classes decls (length before) p (array y) q st.adds)) ∙ e)
 classes_next decls whole before (pool y) p q st h n x e = h n x (ap (λ (zs : List core.LockClass). slice_get zs n) (sym (keeps_classes decls (length before) p (pool y) q st.adds)) ∙ e)
@@ -121,7 +125,7 @@ classes_next decls whole before (thread y) p q st h n x e = h n x (ap (λ (zs : 
 no_classes : (whole : core.Program) → AllClasses whole nothing_yet
 no_classes whole k x e = cc
 
-pub classes_of_program : (decls : List Decl) → Clean decls → (whole : core.Program) → resolved decls ≡ Some whole →
+pub classes_of_program : (decls : List Decl) → Clean decls → (whole : core.Program) → AreTables decls whole →
     AllClasses whole whole
 classes_of_program decls clean whole is = walked_whole decls clean whole is (λ b p. AllClasses whole p) (no_classes whole) (classes_next decls whole)
 
@@ -149,7 +153,7 @@ has_field (final_member x ∷ ms) k f e = further (has_field ms k f e)
 has_field (field_member x ∷ ms) zero f e = let s : x ≡ f = cc in subst (λ (y : Field). Has (field_member x ∷ ms) (field_member y)) s first
 has_field (field_member x ∷ ms) (suc k) f e = further (has_field ms k f e)
 
-module _ (decls : List Decl) (clean : Clean decls) (whole : core.Program) (is : resolved decls ≡ Some whole) where
+module _ (decls : List Decl) (clean : Clean decls) (whole : core.Program) (is : AreTables decls whole) where
   pub few_classes : length whole.classes ≤ CLASS_LIMIT
   few_classes = let e = (counted_whole decls clean whole is).classes in let l = classes_few decls [] decls (λ f i. clean f (of_totals decls f i)) (let z : 0 ≤ CLASS_LIMIT = omega arith in z) in omega (arith, e, l)
 
@@ -179,11 +183,13 @@ module _ (decls : List Decl) (clean : Clean decls) (whole : core.Program) (is : 
       let p = d.was in
       let a = d.step.adds in
       let k = length p.structs in
-      let s0 : StructBuilder = record { structure = empty_struct x.name.text; classes = p.classes } in
-      let r = shaped decls k (length d.before) x.members 0 0 s0 x.members a.0 a.1 in
-      let classes : d.is.classes ≡ p.classes ++ r.classes = ap (λ (w : core.Program). w.classes) (sym a.2) ∙ r.is_classes in
-      let c = rows_left (ClassRow k) 0 (locks_in x.members) r.classes r.class_rows l z e in
-      let here : slice_get d.is.classes (length p.classes + l) ≡ Some c.0 = ap (λ (zs : List core.LockClass). slice_get zs (length p.classes + l)) classes ∙ get_behind p.classes r.classes l c.0 c.1 in
+      let r = parted decls (length d.before) x (length p.classes) k 0 0 0 x.members a.0 a.1 in
+      let cs = lock_classes k 0 a.0.locks in
+      let classes : d.is.classes ≡ p.classes ++ cs = ap (λ (w : core.Program). w.classes) (sym a.2) in
+      let c = rows_left (ClassRow k) 0 (locks_in x.members) cs r.classes l z e in
+      let here : slice_get d.is.classes (length p.classes + l) ≡ Some c.0 =
+      ap (λ (zs : List core.LockClass). slice_get zs (length p.classes + l)) classes
+      ∙ get_behind p.classes cs l c.0 c.1 in
       let number : k ≡ number_at decls i (struct x) = d.step.counts.structs x ∙ sym (number_landed decls whole i (struct x) d) in
       let same : c.0 ≡ core.lock_field (number_at decls i (struct x)) l = c.2 ∙ ap (core.lock_field k) (let w : 0 + l ≡ l = omega arith in w) ∙ ap (λ (j : ℕ). core.lock_field j l) number in
       let ahead : length p.classes ≡ classes_ahead decls i = d.step.counts.classes ∙ sym (total_landed decls whole i (struct x) d classes_of) in

@@ -26,7 +26,8 @@ use Rattle.resolution.specs.Expressions.{number_value, fits_type}
 use Rattle.resolution.specs.Constants.{number_sort, reference_sort, member_sort, const_sort, object_of, member_of}
 use Rattle.resolution.specs.Constants.{const_value, if_fitting, typed_const, members_of, members_in, opened}
 use Rattle.resolution.specs.Constants.{default_of, object_in, referred}
-use Rattle.resolution.specs.Resolution.{nothing_yet, with_elements, array_added, pool_added, resolved}
+use Rattle.resolution.specs.Working.Building.{with_elements, array_added, pool_added}
+use Rattle.resolution.specs.Tables.{nothing_yet, AreTables}
 use Rattle.resolution.proofs.Named.{named_is}
 use Rattle.resolution.specs.Theory.Facts.{struct_at}
 use Rattle.resolution.proofs.FaultlessExpressions.{Clean}
@@ -227,7 +228,7 @@ pools_next decls whole before (thread y) p q st h n x e = h n x (ap (λ (zs : Li
 no_pools : (decls : List Decl) (whole : core.Program) → AllPools decls whole nothing_yet
 no_pools decls whole k x e = cc
 
-pub pools_of : (decls : List Decl) → Clean decls → (whole : core.Program) → resolved decls ≡ Some whole →
+pub pools_of : (decls : List Decl) → Clean decls → (whole : core.Program) → AreTables decls whole →
     AllPools decls whole whole
 pools_of decls clean whole is = walked_whole decls clean whole is (λ b p. AllPools decls whole p) (no_pools decls whole) (pools_next decls whole)
 
@@ -272,7 +273,7 @@ objects_next decls whole before (thread y) p q st h n x e = h n x (ap (λ (zs : 
 no_objects : (decls : List Decl) (whole : core.Program) → AllObjects decls whole nothing_yet
 no_objects decls whole k x e = cc
 
-pub objects_of_program : (decls : List Decl) → Clean decls → (whole : core.Program) → resolved decls ≡ Some whole →
+pub objects_of_program : (decls : List Decl) → Clean decls → (whole : core.Program) → AreTables decls whole →
     AllObjects decls whole whole
 objects_of_program decls clean whole is = walked_whole decls clean whole is (λ b p. AllObjects decls whole p) (no_objects decls whole) (objects_next decls whole)
 
@@ -311,7 +312,7 @@ globals_next decls whole before (thread y) p q st h n x e = h n x (ap (λ (zs : 
 no_globals : (whole : core.Program) → AllGlobals whole nothing_yet
 no_globals whole k x e = cc
 
-pub globals_of : (decls : List Decl) → Clean decls → (whole : core.Program) → resolved decls ≡ Some whole →
+pub globals_of : (decls : List Decl) → Clean decls → (whole : core.Program) → AreTables decls whole →
     AllGlobals whole whole
 globals_of decls clean whole is = walked_whole decls clean whole is (λ b p. AllGlobals whole p) (no_globals whole) (globals_next decls whole)
 
@@ -351,7 +352,7 @@ arrays_next decls whole before (thread y) p q st h n x e = h n x (ap (λ (zs : L
 no_arrays : (whole : core.Program) → AllArrays whole nothing_yet
 no_arrays whole k x e = cc
 
-pub arrays_of : (decls : List Decl) → Clean decls → (whole : core.Program) → resolved decls ≡ Some whole →
+pub arrays_of : (decls : List Decl) → Clean decls → (whole : core.Program) → AreTables decls whole →
     AllArrays whole whole
 arrays_of decls clean whole is = walked_whole decls clean whole is (λ b p. AllArrays whole p) (no_arrays whole) (arrays_next decls whole)
 
@@ -401,7 +402,7 @@ chain_fact decls whole number ms fresh (suc n) p q c b h k y e =
     subst (λ (j : ℕ). CellFact decls whole j y) (sym d.place)
     (fresh (length m.objects) z here refl d.by r.0 y r.1 (subst (λ (j : ℕ). CellOf decls (length m.objects) j r.0 y) (let g : 0 + d.by ≡ d.by = omega arith in g) r.2))))
 
-cells_next : (decls : List Decl) → Clean decls → (whole : core.Program) → resolved decls ≡ Some whole →
+cells_next : (decls : List Decl) → Clean decls → (whole : core.Program) → AreTables decls whole →
     (before : List Decl) (d : Decl) (p q : core.Program) → Step decls whole before d p q → AllCells decls whole p →
     AllCells decls whole q
 cells_next decls clean whole is before (lock y) p q st h n c e = h n c (ap (λ (zs : List Cell). slice_get zs n) (sym (keeps_cells decls (length before) p (lock y) q st.adds)) ∙ e)
@@ -443,7 +444,7 @@ cells_next decls clean whole is before (thread y) p q st h n c e = h n c (ap (λ
 no_cells : (decls : List Decl) (whole : core.Program) → AllCells decls whole nothing_yet
 no_cells decls whole k x e = cc
 
-pub cells_of_program : (decls : List Decl) → Clean decls → (whole : core.Program) → resolved decls ≡ Some whole →
+pub cells_of_program : (decls : List Decl) → Clean decls → (whole : core.Program) → AreTables decls whole →
     AllCells decls whole whole
 cells_of_program decls clean whole is = walked_whole decls clean whole is (λ b p. AllCells decls whole p) (no_cells decls whole) (cells_next decls clean whole is)
 
@@ -457,12 +458,12 @@ Holds p (Reference s) (Int n) = ⊥
 Holds p (Reference s) (Ref None) = ⊤
 Holds p (Reference s) (Ref (Some o)) = struct_in p o ≡ Some s
 
-pub few_objects : (decls : List Decl) → Clean decls → (whole : core.Program) → resolved decls ≡ Some whole →
+pub few_objects : (decls : List Decl) → Clean decls → (whole : core.Program) → AreTables decls whole →
     length whole.objects ≤ OBJECT_LIMIT
 few_objects decls clean whole is = let e = (counted_whole decls clean whole is).objects in let l = all_objects_few decls clean in omega (arith, e, l)
 
 -- a member of a pool
-pub member_is_of : (decls : List Decl) → Clean decls → (whole : core.Program) → resolved decls ≡ Some whole →
+pub member_is_of : (decls : List Decl) → Clean decls → (whole : core.Program) → AreTables decls whole →
     (i : ℕ) (x : Pool) (n s : ℕ) → slice_get decls i ≡ Some (pool x) → n < x.length.value →
     struct_named decls x.target ≡ Some s → struct_in whole (object_of decls i n) ≡ Some s
 member_is_of decls clean whole is i x n s at less named =
@@ -508,7 +509,7 @@ reference_got : (o : Option ℕ) (s : Sort) → reference_sort o ≡ Some s →
 reference_got (Some k) s e = (k, refl, let h : sort.Of (Reference k) ≡ s = cc in sym h)
 reference_got None s e = cc
 
-module _ (decls : List Decl) (clean : Clean decls) (whole : core.Program) (is : resolved decls ≡ Some whole) where
+module _ (decls : List Decl) (clean : Clean decls) (whole : core.Program) (is : AreTables decls whole) where
   member_holds : (t : core_type.ValueType) (n : ℕ) (o : Option (ℕ × Decl)) →
       ((i : ℕ) (x : Pool) → ◌≡◌ {A = Option (ℕ × Decl)} o (Some (i, pool x)) → slice_get decls i ≡ Some (pool x)) →
       (s : Sort) → member_sort decls o ≡ Some s → fits_type t s ≡ true → (u : Value) → member_of decls o n ≡ Some u →

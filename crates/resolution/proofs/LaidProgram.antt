@@ -33,9 +33,9 @@ use Rattle.resolution.specs.CoreViews.{core_pool, core_global, core_local, core_
 use Rattle.resolution.specs.CoreViews.{core_of}
 use Rattle.resolution.specs.Limits.{section_limits, helper_limits}
 use Rattle.resolution.specs.Scopes.{◌>>=◌, outside, number_at, the_struct, type_of}
-use Rattle.resolution.specs.Resolution.{resolved}
 use Rattle.resolution.specs.Working.TypedSections.{typed_section}
 use Rattle.resolution.specs.Where.{Has}
+use Rattle.resolution.specs.Resolved.{Resolves}
 use Rattle.resolution.proofs.FaultlessExpressions.{Clean, at_has}
 use Rattle.resolution.proofs.Typed.{map_got, get_map, final_in, field_in, final_target_is, field_type_is}
 use Rattle.resolution.proofs.TypedResolvedExprs.{Sound}
@@ -143,7 +143,7 @@ module _ (program : Typed) where
 
 -- ---- the whole
 
-module _ (decls : List Decl) (clean : Clean decls) (program : Typed) (is : resolved decls ≡ Some (core_of program)) where
+module _ (decls : List Decl) (clean : Clean decls) (program : Typed) (is : Resolves decls program) where
   pub sound : Sound decls (core_of program)
   sound = sound_of decls clean (core_of program) is
 

@@ -2,7 +2,7 @@
 use Rattle.std.proofs.Common.{◌≡◌, ℕ, zero, suc, ◌+◌, List, [], ◌∷◌, ◌++◌, length, Option, Some, None, true, refl}
 use Rattle.std.proofs.Common.{sym, ap, ◌∙◌, subst, arith}
 use Rattle.std.specs.Prelude.{slice_get, take}
-use Rattle.syntax.specs.Trees.{ValueType, Const, Param, Section, Item, call, repeat, Items, no_items, item, Decl}
+use Rattle.syntax.specs.Trees.{ValueType, Const, Param, Section, Items, Decl}
 use Rattle.syntax.specs.Trees.{lock, struct, global, array, pool, init, atomic, helper, thread}
 use Rattle.core_lang.specs.declared.value.Value.{Value}
 use Rattle.core_lang.specs.declared.value.ValueType as core_type
@@ -19,8 +19,7 @@ use Rattle.resolution.specs.Statements.{after_all}
 use Rattle.resolution.specs.Constants.{typed_const, want_of, typed_arguments}
 use Rattle.resolution.specs.Statements.{ahead_of, entry}
 use Rattle.resolution.specs.Working.TypedSections.{core_locals, section_with, section_of, typed_section}
-use Rattle.resolution.specs.Resolution.{call_of, copies, joined, one_call, typed_item, typed_items, nothing_yet}
-use Rattle.resolution.specs.Resolution.{resolved}
+use Rattle.resolution.specs.Tables.{nothing_yet, AreTables, AreCalls, no_call, one_call, repeated, copies}
 use Rattle.resolution.proofs.Named.{named_is}
 use Rattle.resolution.proofs.TrueStatements.{length_push}
 use Rattle.resolution.proofs.FaultlessExpressions.{Clean}
@@ -73,53 +72,25 @@ copied_calls : (decls : List Decl) (k : ℕ) (xs : List core.Call) → AllCalls 
 copied_calls decls zero xs h = no_calls decls
 copied_calls decls (suc k) xs h = both_calls decls xs (copies k xs) h (copied_calls decls k xs h)
 
-call_got : (decls : List Decl) (q : List ℕ) (o : Option (ℕ × Decl)) (cs : List Const) (c : core.Call) →
-    the_decl decls q ≡ o → call_of decls o cs ≡ Some c → CallFact decls c
-call_got decls q (Some (i, atomic s)) cs c at e =
-    let b = bind_got (typed_arguments decls s.params cs) (λ vs. Some (record { section = number_at decls i (atomic s); arguments = vs })) c e in
-    let same : record { section = number_at decls i (atomic s); arguments = b.0 } ≡ c = (let u = b.2 in cc) in
-    subst (CallFact decls) same (record { place = i; section = s; at = (named_is bears decls q i (atomic s) at).here; number = refl; fit = arguments_got decls 0 s.params cs b.0 b.1 })
-call_got decls q (Some (i, helper x)) cs c at e = cc
-call_got decls q (Some (i, lock x)) cs c at e = cc
-call_got decls q (Some (i, struct x)) cs c at e = cc
-call_got decls q (Some (i, global x)) cs c at e = cc
-call_got decls q (Some (i, array x)) cs c at e = cc
-call_got decls q (Some (i, pool x)) cs c at e = cc
-call_got decls q (Some (i, init x)) cs c at e = cc
-call_got decls q (Some (i, thread x)) cs c at e = cc
-call_got decls q None cs c at e = cc
-
-pub one_got : (o : Option core.Call) (cs : List core.Call) → one_call o ≡ Some cs →
-    (c : core.Call) × (o ≡ Some c) × (c ∷ [] ≡ cs)
-one_got (Some c) cs e = (c, refl, cc)
-one_got None cs e = cc
-
-pub joined_got : (o r : Option (List core.Call)) (cs : List core.Call) → joined o r ≡ Some cs →
-    (xs : List core.Call) × (ys : List core.Call) × (o ≡ Some xs) × (r ≡ Some ys) × (xs ++ ys ≡ cs)
-joined_got (Some xs) (Some ys) cs e = (xs, ys, refl, refl, cc)
-joined_got (Some xs) None cs e = cc
-joined_got None r cs e = cc
-
 one_fact : (decls : List Decl) (c : core.Call) → CallFact decls c → AllCalls decls (c ∷ [])
 one_fact decls c h zero x e = let s : c ≡ x = cc in subst (CallFact decls) s h
 one_fact decls c h (suc n) x e = cc
 
-mutual
-  item_calls : (decls : List Decl) (i : Item) (cs : List core.Call) → typed_item decls i ≡ Some cs → AllCalls decls cs
-  item_calls decls (call c) cs e =
-      let r = one_got (call_of decls (the_decl decls c.section.text) c.arguments) cs e in
-      subst (AllCalls decls) r.2 (one_fact decls r.0 (call_got decls c.section.text (the_decl decls c.section.text) c.arguments r.0 refl r.1))
-  item_calls decls (repeat k is) cs e =
-      let b = bind_got (typed_items decls is) (λ xs. Some (copies k.value xs)) cs e in
-      let same : copies k.value b.0 ≡ cs = (let u = b.2 in cc) in
-      subst (AllCalls decls) same (copied_calls decls k.value b.0 (items_calls decls is b.0 b.1))
-
-  items_calls : (decls : List Decl) (is : Items) (cs : List core.Call) → typed_items decls is ≡ Some cs →
-      AllCalls decls cs
-  items_calls decls no_items cs e = let s : [] ≡ cs = cc in subst (AllCalls decls) s (no_calls decls)
-  items_calls decls (item i is) cs e =
-      let r = joined_got (typed_item decls i) (typed_items decls is) cs e in
-      subst (AllCalls decls) r.4 (both_calls decls r.0 r.1 (item_calls decls i r.0 r.2) (items_calls decls is r.1 r.3))
+calls_are : (decls : List Decl) (is : Items) (cs : List core.Call) → AreCalls decls is cs → AllCalls decls cs
+calls_are decls is cs no_call = no_calls decls
+calls_are decls is cs (one_call {c = c} {i = i} {s = s} {vs = vs} {is = rest} {cs = ds} at e more) =
+    let y : core.Call = record { section = number_at decls i (atomic s); arguments = vs } in
+    let fact : CallFact decls y = record {
+      place = i;
+      section = s;
+      at = (named_is bears decls c.section.text i (atomic s) at).here;
+      number = refl;
+      fit = arguments_got decls 0 s.params c.arguments vs e;
+    } in
+    both_calls decls (y ∷ []) ds (one_fact decls y fact) (calls_are decls rest ds more)
+calls_are decls is cs (repeated {n = n} {js = js} {is = rest} {bs = bs} {cs = ds} first more) =
+    both_calls decls (copies n.value bs) ds (copied_calls decls n.value bs (calls_are decls js bs first))
+    (calls_are decls rest ds more)
 
 -- ---- threads
 
@@ -140,12 +111,12 @@ threads_next decls whole before (thread x) p q st h n t e =
     let a = st.adds in
     let z : core.Thread = record { name = x.name.text; calls = a.0 } in
     get_pushed p.threads z n t (AllCalls decls t.calls) (ap (λ (w : core.Program). slice_get w.threads n) a.2 ∙ e) (h n t)
-    (λ i same. subst (λ (y : core.Thread). AllCalls decls y.calls) same (items_calls decls x.items a.0 a.1))
+    (λ i same. subst (λ (y : core.Thread). AllCalls decls y.calls) same (calls_are decls x.items a.0 a.1))
 
 no_threads : (decls : List Decl) → AllThreads decls nothing_yet
 no_threads decls k x e = cc
 
-pub threads_of : (decls : List Decl) → Clean decls → (whole : core.Program) → resolved decls ≡ Some whole →
+pub threads_of : (decls : List Decl) → Clean decls → (whole : core.Program) → AreTables decls whole →
     (n : ℕ) (t : core.Thread) → slice_get whole.threads n ≡ Some t → (k : ℕ) (c : core.Call) →
     slice_get t.calls k ≡ Some c → CallFact decls c
 threads_of decls clean whole is = walked_whole decls clean whole is (λ b p. AllThreads decls p) (no_threads decls) (threads_next decls whole)
@@ -214,7 +185,7 @@ parameter_local decls limits s x e n p at =
 
 -- ---- a section, by its declaration
 
-pub section_at : (decls : List Decl) → Clean decls → (whole : core.Program) → resolved decls ≡ Some whole →
+pub section_at : (decls : List Decl) → Clean decls → (whole : core.Program) → AreTables decls whole →
     (i : ℕ) (s : Section) → slice_get decls i ≡ Some (atomic s) →
     (x : core.Section) × (slice_get whole.sections (number_at decls i (atomic s)) ≡ Some x) × (typed_section decls section_limits s ≡ Some x)
 section_at decls clean whole is i s at =
@@ -225,7 +196,7 @@ section_at decls clean whole is i s at =
     (a.0, subst (λ (k : ℕ). slice_get whole.sections k ≡ Some a.0) number here, a.1)
 
 -- the same of a helper
-pub helper_at : (decls : List Decl) → Clean decls → (whole : core.Program) → resolved decls ≡ Some whole →
+pub helper_at : (decls : List Decl) → Clean decls → (whole : core.Program) → AreTables decls whole →
     (i : ℕ) (s : Section) → slice_get decls i ≡ Some (helper s) →
     (x : core.Section) × (slice_get whole.helpers (number_at decls i (helper s)) ≡ Some x) × (typed_section decls helper_limits s ≡ Some x)
 helper_at decls clean whole is i s at =
@@ -248,7 +219,7 @@ types_are decls (p ∷ ps) (l ∷ ls) up =
     (r.2 ∙ ap (λ (y : core.Local). Some y.value_type) (sym same), types_are decls ps ls (λ k q e. up (suc k) q e))
 
 -- each helper stands at its number
-pub has_helpers : (decls : List Decl) → Clean decls → (whole : core.Program) → resolved decls ≡ Some whole →
+pub has_helpers : (decls : List Decl) → Clean decls → (whole : core.Program) → AreTables decls whole →
     HasHelpers decls whole
 has_helpers decls clean whole is i s at =
     let x = helper_at decls clean whole is i s at in
@@ -261,7 +232,7 @@ has_helpers decls clean whole is i s at =
     }
 
 -- an argument is of its parameter's type
-pub argument_holds : (decls : List Decl) → Clean decls → (whole : core.Program) → resolved decls ≡ Some whole →
+pub argument_holds : (decls : List Decl) → Clean decls → (whole : core.Program) → AreTables decls whole →
     (n : ℕ) (p : Param) (v : Value) (t : core_type.ValueType) → Argument decls n p v →
     type_of (outside decls) p.value_type ≡ Some t → Holds whole t v
 argument_holds decls clean whole is n p v t a e = const_holds decls clean whole is t a.0 v (ap (λ (o : Option core_type.ValueType). typed_const decls (want o) a.0) (sym e) ∙ a.1)

@@ -1,30 +1,30 @@
 -- What each step of resolution adds to a program.
-use Rattle.std.proofs.Common.{◌≡◌, ℕ, zero, suc, ◌+◌, ◌≤◌, List, [], ◌∷◌, ◌++◌, length, Option, Some, None, Bool}
-use Rattle.std.proofs.Common.{true, false, if◌then◌else◌, refl, sym, ap, ◌∙◌, subst, append_assoc, arith}
+use Rattle.std.proofs.Common.{◌≡◌, ℕ, zero, suc, ◌+◌, ◌≤◌, List, [], ◌∷◌, ◌++◌, length, Option, Some, None}
+use Rattle.std.proofs.Common.{refl, sym, ap, ◌∙◌, subst, arith}
 use Rattle.std.specs.Prelude.{slice_get}
 use Rattle.syntax.specs.Trees.{Ident, Const, Member, lock_member, final_member, field_member, Final, Field, Decl}
 use Rattle.syntax.specs.Trees.{lock, struct, global, array, pool, init, atomic, helper, thread}
 use Rattle.core_lang.specs.declared.value.Value.{Value}
 use Rattle.core_lang.specs.declared.value.ValueType as core_type
-use Rattle.core_lang.specs.declared.typed.Owner.{Owner}
 use Rattle.core_lang.specs.declared.typed.Owner.TheVariants as owner
 use Rattle.core_lang.specs.declared.typed.Cell.{Cell}
 use Rattle.core_lang.specs.declared.shape.Object.{Object}
+use Rattle.resolution.specs.declared.init_target.InitTarget.{InitTarget}
 use Rattle.resolution.specs.Core as core
-use Rattle.resolution.specs.Limits.{OBJECT_LIMIT, CELL_LIMIT, section_limits, helper_limits, object_at, cell_at}
-use Rattle.resolution.specs.Limits.{final_at}
-use Rattle.resolution.specs.Scopes.{◌>>=◌, outside, type_of, struct_named, number_in}
-use Rattle.resolution.specs.Constants.{members_of, opened, default_of, referred}
-use Rattle.resolution.specs.Annotations.{class_of, protection_of}
-use Rattle.resolution.specs.Resolution.{few_calls, typed_calls, typed_items, StructBuilder, lock_added}
+use Rattle.resolution.specs.Limits.{OBJECT_LIMIT, CELL_LIMIT, section_limits, helper_limits}
+use Rattle.resolution.specs.Scopes.{outside, type_of, struct_named, number_in}
+use Rattle.resolution.specs.Constants.{members_of, given, opened, default_of, referred}
+use Rattle.resolution.specs.Annotations.{class_of}
 use Rattle.resolution.specs.Working.TypedSections.{typed_section}
-use Rattle.resolution.specs.Resolution.{final_added, field_added, member_added, members_added, empty_struct}
-use Rattle.resolution.specs.Resolution.{with_class, with_struct, with_cell, with_section, with_helper, with_thread}
-use Rattle.resolution.specs.Resolution.{global_added, with_global, opening_of, with_elements, array_added, with_array}
-use Rattle.resolution.specs.Resolution.{Slot, slot_given, final_cell, field_cell, with_members, object_added}
-use Rattle.resolution.specs.Resolution.{with_object, with_objects, pool_added, with_pool, extended}
-use Rattle.resolution.proofs.LaidLists.{Rows, Grows, grows_more, bind_got, up_got}
-use Rattle.std.proofs.lemmas.List.{append-nil}
+use Rattle.resolution.specs.Theory.StatementRules.{section_is}
+use Rattle.resolution.specs.Tables.{Makes, lock_classes, elements, next, OpensWith, with_nothing, past_lock}
+use Rattle.resolution.specs.Tables.{final_opened, field_opened, AddObjects, no_object, one_object_more, AreCalls}
+use Rattle.resolution.specs.Tables.{Adds as Adding, adds_class, adds_struct, adds_global, adds_array, adds_pool}
+use Rattle.resolution.specs.Tables.{adds_nothing, adds_section, adds_helper, adds_thread}
+use Rattle.resolution.specs.Working.Building.{with_class, global_added, with_elements, array_added}
+use Rattle.resolution.specs.Working.Building.{pool_added}
+use Rattle.resolution.proofs.RuledObjects.{with_cells, elements_are}
+use Rattle.resolution.proofs.LaidLists.{Rows, Grows, grows_more, up_got}
 
 -- ---- members by kind
 
@@ -86,77 +86,32 @@ CellOf decls o k f c = (t : core_type.ValueType) × (v : Value) × (g : Option C
 abbrev pub FinalOf : List Decl → ℕ → Final → ℕ → Type 0
 FinalOf decls k f n = (s : ℕ) × (c : Const) × (struct_named decls f.target ≡ Some s) × (referred decls (Some s) (Some c) ≡ Some n)
 
-abbrev pub with_parts : core.Program → List Cell → List ℕ → core.Program
-with_parts p cs fs = record p { cells = cs; finals = fs }
-
-pub record Membered (decls : List Decl) (object fields n : ℕ) (ms : List Member) (p q : core.Program) : Type 0 where
-  pub cells : List Cell
-  pub finals : List ℕ
-  pub is : q ≡ with_parts p (p.cells ++ cells) (p.finals ++ finals)
-  pub own : Rows (CellOf decls object) fields (fields_in ms) cells
-  pub refs : Rows (FinalOf decls) n (finals_in ms) finals
-
-none_members : (decls : List Decl) (slot : Slot) (place fields : ℕ) (ms : List Member) →
-    with_members decls slot place fields None ms ≡ None
-none_members decls slot place fields [] = refl
-none_members decls slot place fields (lock_member x ∷ ms) = none_members decls slot (place + 1) fields ms
-none_members decls slot place fields (final_member x ∷ ms) = none_members decls slot (place + 1) fields ms
-none_members decls slot place fields (field_member x ∷ ms) = none_members decls slot (place + 1) (fields + 1) ms
-
-final_there : (decls : List Decl) (slot : Slot) (place fields : ℕ) (p q : core.Program) (o : Option ℕ) (ms : List Member) → with_members decls slot place fields (final_cell p o) ms ≡ Some q → (n : ℕ) × (o ≡ Some n)
-final_there decls slot place fields p q (Some n) ms e = (n, refl)
-final_there decls slot place fields p q None ms e = let s : None ≡ Some q = sym (none_members decls slot place fields ms) ∙ e in cc
-
-field_there : (decls : List Decl) (slot : Slot) (place fields : ℕ) (p q : core.Program) (w : Owner) (o : Option core_type.ValueType) (r : Option Value) (ms : List Member) → with_members decls slot place fields (field_cell p w o r) ms ≡ Some q →
-    (t : core_type.ValueType) × (v : Value) × (o ≡ Some t) × (r ≡ Some v)
-field_there decls slot place fields p q w (Some t) (Some v) ms e = (t, v, refl, refl)
-field_there decls slot place fields p q w (Some t) None ms e = let s : None ≡ Some q = sym (none_members decls slot place fields ms) ∙ e in cc
-field_there decls slot place fields p q w None r ms e = let s : None ≡ Some q = sym (none_members decls slot place fields ms) ∙ e in cc
-
 referred_got : (decls : List Decl) (o : Option ℕ) (g : Option Const) (n : ℕ) → referred decls o g ≡ Some n →
     (s : ℕ) × (c : Const) × (o ≡ Some s) × (referred decls (Some s) (Some c) ≡ Some n)
 referred_got decls (Some s) (Some c) n e = (s, c, refl, e)
 referred_got decls (Some s) None n e = cc
 referred_got decls None g n e = cc
 
-pub members_got : (decls : List Decl) (slot : Slot) (place fields n : ℕ) (p q : core.Program) (ms : List Member) →
-    with_members decls slot place fields (Some p) ms ≡ Some q → Membered decls slot.object fields n ms p q
-members_got decls slot place fields n p q [] e =
-    let s : p ≡ q = cc in
-    record { cells = []; finals = []; is = sym s ∙ ap (λ (cs : List Cell). with_parts p cs p.finals) (sym (append-nil p.cells)) ∙ ap (λ (fs : List ℕ). with_parts p (p.cells ++ []) fs) (sym (append-nil p.finals)); own = tt; refs = tt }
-members_got decls slot place fields n p q (lock_member x ∷ ms) e =
-    let r = members_got decls slot (place + 1) fields n p q ms e in
-    record { cells = r.cells; finals = r.finals; is = r.is; own = r.own; refs = r.refs }
-members_got decls slot place fields n p q (final_member f ∷ ms) e =
-    let o = referred decls (struct_named decls f.target) (slot_given decls slot place) in
-    let t = final_there decls slot (place + 1) fields p q o ms e in
-    let p1 : core.Program = record p { finals = p.finals ++ t.0 ∷ [] } in
-    let r = members_got decls slot (place + 1) fields (suc n) p1 q ms (ap (λ (x : Option ℕ). with_members decls slot (place + 1) fields (final_cell p x) ms) (sym t.1) ∙ e) in
-    let g = referred_got decls (struct_named decls f.target) (slot_given decls slot place) t.0 t.1 in
-    record {
-      cells = r.cells;
-      finals = t.0 ∷ r.finals;
-      is = r.is ∙ ap (λ (fs : List ℕ). with_parts p (p.cells ++ r.cells) fs) (append_assoc p.finals (t.0 ∷ []) r.finals);
-      own = r.own;
-      refs = (g, r.refs);
-    }
-members_got decls slot place fields n p q (field_member f ∷ ms) e =
-    let a = type_of (outside decls) f.value_type in
-    let b = opening_of decls a (slot_given decls slot place) in
-    let w : Owner = owner.Field slot.object fields in
-    let t = field_there decls slot (place + 1) (fields + 1) p q w a b ms e in
-    let c : Cell = record { owner = w; value_type = t.0; opening = t.1 } in
-    let p1 : core.Program = with_cell p w t.0 t.1 in
-    let r = members_got decls slot (place + 1) (fields + 1) n p1 q ms
-    (ap (λ (x : Option core_type.ValueType). with_members decls slot (place + 1) (fields + 1) (field_cell p w x (Some t.1)) ms) (sym t.2) ∙ ap (λ (x : Option Value). with_members decls slot (place + 1) (fields + 1) (field_cell p w a x) ms) (sym t.3) ∙ e) in
-    let opening : opened decls t.0 (slot_given decls slot place) ≡ Some t.1 = ap (λ (x : Option core_type.ValueType). opening_of decls x (slot_given decls slot place)) (sym t.2) ∙ t.3 in
-    record {
-      cells = c ∷ r.cells;
-      finals = r.finals;
-      is = r.is ∙ ap (λ (cs : List Cell). with_parts p cs (p.finals ++ r.finals)) (append_assoc p.cells (c ∷ []) r.cells);
-      own = ((t.0, t.1, slot_given decls slot place, t.2, opening, refl), subst (λ (j : ℕ). Rows (CellOf decls slot.object) j (fields_in ms) r.cells) (let z : fields + 1 ≡ suc fields = omega arith in z) r.own);
-      refs = r.refs;
-    }
+-- what an object opens with, row by row
+opened_rows : (decls : List Decl) (object : ℕ) (at : InitTarget) (fields n : ℕ) (ms : List Member) (os : List ℕ)
+    (cs : List Cell) → OpensWith decls object at fields ms os cs →
+    Rows (CellOf decls object) fields (fields_in ms) cs × Rows (FinalOf decls) n (finals_in ms) os
+opened_rows decls object at fields n ms os cs with_nothing = (tt, tt)
+opened_rows decls object at fields n ms os cs (past_lock {ms = rest} h) =
+    opened_rows decls object (next at) fields n rest os cs h
+opened_rows decls object at fields n ms os cs (final_opened {o = o} {f = f} {ms = rest} {os = fs} e h) =
+    let r = opened_rows decls object (next at) fields (suc n) rest fs cs h in
+    (r.0, (referred_got decls (struct_named decls f.target) (given decls at) o e, r.1))
+opened_rows decls object at fields n ms os cs (field_opened {f = f} {ms = rest} {cs = ds} {t = t} {v = v} e g h) =
+    let r = opened_rows decls object (next at) (fields + 1) n rest os ds h in
+    let one : fields + 1 ≡ suc fields = omega arith in (
+      (
+        (t, v, given decls at, e, g, refl),
+        subst
+            (λ (j : ℕ). Rows (CellOf decls object) j (fields_in rest) ds) one r.0,
+      ),
+      r.1,
+    )
 
 -- ---- objects
 
@@ -170,123 +125,86 @@ pub record Objected (decls : List Decl) (number : ℕ) (ms : List Member) (p q :
   pub own : Rows (CellOf decls (length p.objects)) 0 (fields_in ms) cells
   pub refs : Rows (FinalOf decls) 0 (finals_in ms) finals
 
-pub object_got : (decls : List Decl) (i number : ℕ) (ms : List Member) (n : ℕ) (p q : core.Program) →
-    with_object decls i number ms n p ≡ Some q → Objected decls number ms p q
-object_got decls i number ms n p q e =
-    let slot : Slot = record { pool = i; index = n; object = length p.objects } in
-    let a = bind_got (cell_at (length p.cells)) (λ cs. final_at (length p.finals) >>= λ fs. with_members decls slot 0 0 (Some (object_added p number cs fs)) ms) q e in
-    let b = bind_got (final_at (length p.finals)) (λ fs. with_members decls slot 0 0 (Some (object_added p number a.0 fs)) ms) q a.2 in
-    let c = (up_got CELL_LIMIT (length p.cells) a.0 a.1).0 in
-    let d = (up_got 2097152 (length p.finals) b.0 b.1).0 in
-    let p1 = object_added p number (length p.cells) (length p.finals) in
-    let f : with_members decls slot 0 0 (Some p1) ms ≡ Some q =
-    ap (λ (x : ℕ). with_members decls slot 0 0 (Some (object_added p number x (length p.finals))) ms) c ∙ ap (λ (x : ℕ). with_members decls slot 0 0 (Some (object_added p number a.0 x)) ms) d ∙ b.2 in
-    let r = members_got decls slot 0 0 0 p1 q ms f in
-    record { cells = r.cells; finals = r.finals; is = r.is; own = r.own; refs = r.refs }
-
 -- so many objects, one after another
 abbrev pub Chain : List Decl → ℕ → List Member → ℕ → core.Program → core.Program → Type 0
 Chain decls number ms zero p q = p ≡ q
 Chain decls number ms (suc n) p q = (m : core.Program) × Chain decls number ms n p m × Objected decls number ms m q
 
-pub chain_got : (decls : List Decl) (i number : ℕ) (ms : List Member) (n : ℕ) (p q : core.Program) →
-    with_objects decls i number ms (Some p) n ≡ Some q → Chain decls number ms n p q
-chain_got decls i number ms zero p q e = cc
-chain_got decls i number ms (suc n) p q e =
-    let r = bind_got (with_objects decls i number ms (Some p) n) (λ m. with_object decls i number ms n m) q e in
-    (r.0, chain_got decls i number ms n p r.0 r.1, object_got decls i number ms n r.0 q r.2)
+chain_is : (decls : List Decl) (i number : ℕ) (ms : List Member) (n : ℕ) (p q : core.Program) →
+    AddObjects decls i number ms n p q → Chain decls number ms n p q
+chain_is decls i number ms n p q no_object = refl
+chain_is decls i number ms n p q
+    (one_object_more {n = k} {first_cell = c} {first_final = f} {q = m} {os = os} {cs = cs} before e g h) =
+    let rows = opened_rows decls (length m.objects) (record { pool = i; index = k; member = 0 }) 0 0 ms os cs h in (
+      m,
+      chain_is decls i number ms k p m before,
+      record {
+        cells = cs;
+        finals = os;
+        is = ap (λ (x : ℕ). with_thing m (record { pool = number; cells = x; finals = f }) cs os)
+            (sym (up_got CELL_LIMIT (length m.cells) c e).0)
+            ∙ ap (λ (x : ℕ). with_thing m (record { pool = number; cells = length m.cells; finals = x }) cs os)
+            (sym (up_got 2097152 (length m.finals) f g).0);
+        own = rows.0;
+        refs = rows.1;
+      },
+    )
 
 -- ---- declarations
 
 abbrev pub Adds : List Decl → ℕ → core.Program → Decl → core.Program → Type 0
 Adds decls i p (lock x) q = with_class p (core.global_lock x.text) ≡ q
-Adds decls i p (struct s) q = (st : StructBuilder) × (members_added decls (length p.structs) i s.members (Some (record { structure = empty_struct s.name.text; classes = p.classes })) s.members ≡ Some st) × (record p { classes = st.classes; structs = p.structs ++ st.structure ∷ [] } ≡ q)
+Adds decls i p (struct s) q =
+    (t : core.Struct) × Makes decls i s (length p.classes) s.members t ×
+    (record p { classes = p.classes ++ lock_classes (length p.structs) 0 t.locks; structs = p.structs ++ t ∷ [] } ≡ q)
 Adds decls i p (global v) q = (c : ℕ) × (t : core_type.ValueType) × (w : Value) × (class_of decls v.protection ≡ Some c) × (type_of (outside decls) v.value_type ≡ Some t) × (opened decls t v.value ≡ Some w) × (length p.cells ≤ CELL_LIMIT) × (global_added p v.name.text (length p.cells) c t w ≡ q)
 Adds decls i p (array a) q = (c : ℕ) × (t : core_type.ValueType) × (class_of decls a.protection ≡ Some c) × (type_of (outside decls) a.value_type ≡ Some t) × (with_elements (array_added p a.name.text (length p.cells) a.length.value t c) (length p.arrays) t a.length.value ≡ q)
 Adds decls i p (pool x) q = (s : ℕ) × (ms : List Member) × (struct_named decls x.target ≡ Some s) × (members_of decls x.target ≡ Some ms) × Chain decls (length p.pools) ms x.length.value (pool_added p x.name.text (length p.objects) x.length.value s) q
 Adds decls i p (init j) q = p ≡ q
 Adds decls i p (atomic s) q = (x : core.Section) × (typed_section decls section_limits s ≡ Some x) × (record p { sections = p.sections ++ x ∷ [] } ≡ q)
 Adds decls i p (helper s) q = (x : core.Section) × (typed_section decls helper_limits s ≡ Some x) × (record p { helpers = p.helpers ++ x ∷ [] } ≡ q)
-Adds decls i p (thread t) q = (calls : List core.Call) × (typed_items decls t.items ≡ Some calls) × (record p { threads = p.threads ++ record { name = t.name.text; calls = calls } ∷ [] } ≡ q)
+Adds decls i p (thread t) q =
+    (calls : List core.Call) × AreCalls decls t.items calls ×
+    (record p { threads = p.threads ++ record { name = t.name.text; calls = calls } ∷ [] } ≡ q)
 
-struct_got : (p : core.Program) (o : Option StructBuilder) (q : core.Program) → with_struct p o ≡ Some q →
-    (st : StructBuilder) × (o ≡ Some st) × (record p { classes = st.classes; structs = p.structs ++ st.structure ∷ [] } ≡ q)
-struct_got p (Some st) q e = (st, refl, cc)
-struct_got p None q e = cc
-
-section_got : (p : core.Program) (o : Option core.Section) (q : core.Program) → with_section p o ≡ Some q →
-    (x : core.Section) × (o ≡ Some x) × (record p { sections = p.sections ++ x ∷ [] } ≡ q)
-section_got p (Some x) q e = (x, refl, cc)
-section_got p None q e = cc
-
-helper_got : (p : core.Program) (o : Option core.Section) (q : core.Program) → with_helper p o ≡ Some q →
-    (x : core.Section) × (o ≡ Some x) × (record p { helpers = p.helpers ++ x ∷ [] } ≡ q)
-helper_got p (Some x) q e = (x, refl, cc)
-helper_got p None q e = cc
-
-thread_got : (p : core.Program) (name : List ℕ) (o : Option (List core.Call)) (q : core.Program) →
-    with_thread p name o ≡ Some q →
-    (x : List core.Call) × (o ≡ Some x) × (record p { threads = p.threads ++ record { name = name; calls = x } ∷ [] } ≡ q)
-thread_got p name (Some x) q e = (x, refl, cc)
-thread_got p name None q e = cc
-
-if_got : {A : Type 0} (b : Bool) (o : Option A) (x : A) → (if b then o else None) ≡ Some x → o ≡ Some x
-if_got true o x e = e
-if_got false o x e = cc
-
-global_got : (p : core.Program) (name : List ℕ) (oc : Option ℕ) (ot : Option core_type.ValueType) (ov : Option Value) (q : core.Program) → with_global p name oc ot ov ≡ Some q →
-    (c : ℕ) × (t : core_type.ValueType) × (w : Value) × (oc ≡ Some c) × (ot ≡ Some t) × (ov ≡ Some w) × (length p.cells ≤ CELL_LIMIT) × (global_added p name (length p.cells) c t w ≡ q)
-global_got p name (Some c) (Some t) (Some w) q e =
-    let a = bind_got (cell_at (length p.cells)) (λ cell. Some (global_added p name cell c t w)) q e in
-    let u = up_got CELL_LIMIT (length p.cells) a.0 a.1 in
-    (c, t, w, refl, refl, refl, u.1, ap (λ (x : ℕ). global_added p name x c t w) u.0 ∙ (let f = a.2 in let s : global_added p name a.0 c t w ≡ q = cc in s))
-global_got p name (Some c) (Some t) None q e = cc
-global_got p name (Some c) None ov q e = cc
-global_got p name None ot ov q e = cc
-
-array_got : (p : core.Program) (name : List ℕ) (oc : Option ℕ) (ot : Option core_type.ValueType) (n : ℕ) (q : core.Program) → with_array p name oc ot n ≡ Some q →
-    (c : ℕ) × (t : core_type.ValueType) × (oc ≡ Some c) × (ot ≡ Some t) × (with_elements (array_added p name (length p.cells) n t c) (length p.arrays) t n ≡ q)
-array_got p name (Some c) (Some t) n q e =
-    let a = bind_got (cell_at (length p.cells)) (λ first. cell_at n >>= λ k. Some (with_elements (array_added p name first k t c) (length p.arrays) t k)) q e in
-    let b = bind_got (cell_at n) (λ k. Some (with_elements (array_added p name a.0 k t c) (length p.arrays) t k)) q a.2 in
-    let u = up_got CELL_LIMIT (length p.cells) a.0 a.1 in
-    let v = up_got CELL_LIMIT n b.0 b.1 in
-    (c, t, refl, refl, ap (λ (x : ℕ). with_elements (array_added p name x n t c) (length p.arrays) t n) u.0 ∙ ap (λ (x : ℕ). with_elements (array_added p name a.0 x t c) (length p.arrays) t x) v.0 ∙ (let f = b.2 in let s : with_elements (array_added p name a.0 b.0 t c) (length p.arrays) t b.0 ≡ q = cc in s))
-array_got p name (Some c) None n q e = cc
-array_got p name None ot n q e = cc
-
-pool_got : (decls : List Decl) (i : ℕ) (p : core.Program) (name : List ℕ) (os : Option ℕ) (om : Option (List Member)) (n : ℕ) (q : core.Program) → with_pool decls i p name os om n ≡ Some q →
-    (s : ℕ) × (ms : List Member) × (os ≡ Some s) × (om ≡ Some ms) × Chain decls (length p.pools) ms n (pool_added p name (length p.objects) n s) q
-pool_got decls i p name (Some s) (Some ms) n q e =
-    let a = bind_got (object_at (length p.objects)) (λ first. object_at n >>= λ k. with_objects decls i (length p.pools) ms (Some (pool_added p name first k s)) k) q e in
-    let b = bind_got (object_at n) (λ k. with_objects decls i (length p.pools) ms (Some (pool_added p name a.0 k s)) k) q a.2 in
-    let u = up_got OBJECT_LIMIT (length p.objects) a.0 a.1 in
-    let v = up_got OBJECT_LIMIT n b.0 b.1 in (
+pub adds : (decls : List Decl) (i : ℕ) (p : core.Program) (d : Decl) (q : core.Program) → Adding decls i d p q →
+    Adds decls i p d q
+adds decls i p d q adds_class = refl
+adds decls i p d q (adds_struct {t = t} m) = (t, m, refl)
+adds decls i p d q (adds_global {x = x} {class = c} {cell = n} {t = t} {v = v} f g h e) =
+    let u = up_got CELL_LIMIT (length p.cells) n e in
+    (c, t, v, f, g, h, u.1, ap (λ (k : ℕ). global_added p x.name.text k c t v) u.0)
+adds decls i p d q (adds_array {a = x} {class = c} {first = n} {count = m} {t = t} f g e h) =
+    let u = up_got CELL_LIMIT (length p.cells) n e in
+    let w = up_got CELL_LIMIT x.length.value m h in (
+      c,
+      t,
+      f,
+      g,
+      elements_are (array_added p x.name.text (length p.cells) x.length.value t c) (length p.arrays) t x.length.value
+          ∙ ap (λ (k : ℕ). with_cells (array_added p x.name.text k x.length.value t c)
+          (elements (length p.arrays) t x.length.value)) u.0
+          ∙ ap (λ (k : ℕ). with_cells (array_added p x.name.text n k t c) (elements (length p.arrays) t k)) w.0,
+    )
+adds decls i p d q (adds_pool {x = x} {structure = s} {first = n} {count = m} {ms = ms} f g e h more) =
+    let u = up_got OBJECT_LIMIT (length p.objects) n e in
+    let w = up_got OBJECT_LIMIT x.length.value m h in
+    let c : Chain decls (length p.pools) ms m (pool_added p x.name.text n m s) q =
+    chain_is decls i (length p.pools) ms m (pool_added p x.name.text n m s) q more in
+    let from_first : Chain decls (length p.pools) ms m (pool_added p x.name.text (length p.objects) m s) q =
+    subst (λ (k : ℕ). Chain decls (length p.pools) ms m (pool_added p x.name.text k m s) q) (sym u.0) c in (
       s,
       ms,
-      refl,
-      refl,
-      chain_got decls i (length p.pools) ms n (pool_added p name (length p.objects) n s) q
-          (ap (λ (x : ℕ). with_objects decls i (length p.pools) ms (Some (pool_added p name x n s)) n) u.0 ∙ ap (λ (x : ℕ). with_objects decls i (length p.pools) ms (Some (pool_added p name a.0 x s)) x) v.0 ∙ b.2),
+      f,
+      g,
+      subst
+          (λ (k : ℕ). Chain decls (length p.pools) ms k (pool_added p x.name.text (length p.objects) k s) q)
+          (sym w.0) from_first,
     )
-pool_got decls i p name (Some s) None n q e = cc
-pool_got decls i p name None om n q e = cc
-
-pub adds : (decls : List Decl) (i : ℕ) (p : core.Program) (d : Decl) (q : core.Program) →
-    extended decls i p d ≡ Some q → Adds decls i p d q
-adds decls i p (lock x) q e = cc
-adds decls i p (struct s) q e = struct_got p (members_added decls (length p.structs) i s.members (Some (record { structure = empty_struct s.name.text; classes = p.classes })) s.members) q e
-adds decls i p (global v) q e =
-    let r = global_got p v.name.text (class_of decls v.protection) (type_of (outside decls) v.value_type) (opening_of decls (type_of (outside decls) v.value_type) v.value) q e in
-    (r.0, r.1, r.2, r.3, r.4, ap (λ (x : Option core_type.ValueType). opening_of decls x v.value) (sym r.4) ∙ r.5, r.6, r.7)
-adds decls i p (array a) q e = array_got p a.name.text (class_of decls a.protection) (type_of (outside decls) a.value_type) a.length.value q e
-adds decls i p (pool x) q e = pool_got decls i p x.name.text (struct_named decls x.target) (members_of decls x.target) x.length.value q e
-adds decls i p (init j) q e = cc
-adds decls i p (atomic s) q e = section_got p (typed_section decls section_limits s) q e
-adds decls i p (helper s) q e = helper_got p (typed_section decls helper_limits s) q e
-adds decls i p (thread t) q e =
-    let r = thread_got p t.name.text (typed_calls decls t.items) q e in
-    (r.0, if_got (few_calls decls) (typed_items decls t.items) r.0 r.1, r.2)
+adds decls i p d q adds_nothing = refl
+adds decls i p d q (adds_section {t = t} h) = (t, section_is h, refl)
+adds decls i p d q (adds_helper {t = t} h) = (t, section_is h, refl)
+adds decls i p d q (adds_thread {calls = calls} few are) = (calls, are, refl)
 
 -- ---- programs that grow
 
@@ -342,46 +260,27 @@ pub begins_global : (p : core.Program) (name : List ℕ) (cell c : ℕ) (t : cor
     Begins p (global_added p name cell c t w)
 begins_global p name cell c t w = record { classes = λ k x e. e; structs = λ k x e. e; globals = grows_more p.globals (record { name = name; cell = cell; class = c } ∷ []); arrays = λ k x e. e; pools = λ k x e. e; objects = λ k x e. e; finals = λ k x e. e; cells = grows_more p.cells (record { owner = owner.Global (length p.globals); value_type = t; opening = w } ∷ []); sections = λ k x e. e; threads = λ k x e. e; helpers = λ k x e. e }
 
--- a struct's classes
-shaped_classes : (decls : List Decl) (k i : ℕ) (all : List Member) (st : StructBuilder) (m : Member) (to : StructBuilder) → member_added decls k i all (Some st) m ≡ Some to → Grows st.classes to.classes
-shaped_classes decls k i all st (lock_member x) to e =
-    let s : lock_added k st x.text ≡ to = cc in
-    subst (λ (y : StructBuilder). Grows st.classes y.classes) s (grows_more st.classes (core.lock_field k (length st.structure.locks) ∷ []))
-shaped_classes decls k i all st (final_member f) to e = by_target (struct_named decls f.target) e
-  where
-    by_target : (o : Option ℕ) → final_added st f.name.text o ≡ Some to → Grows st.classes to.classes
-    by_target (Some t) h = let s : record st { structure = record (st.structure) { finals = st.structure.finals ++ record { name = f.name.text; target = t } ∷ [] } } ≡ to = cc in subst (λ (y : StructBuilder). Grows st.classes y.classes) s (λ j x g. g)
-    by_target None h = cc
-shaped_classes decls k i all st (field_member f) to e = by_type (type_of (outside decls) f.value_type) (protection_of decls i all f.protection) e
-  where
-    by_type : (o : Option core_type.ValueType) (r : Option core.Protection) →
-        field_added st f.name.text o r ≡ Some to → Grows st.classes to.classes
-    by_type (Some t) (Some p) h = let s : record st { structure = record (st.structure) { fields = st.structure.fields ++ record { name = f.name.text; value_type = t; protection = p } ∷ [] } } ≡ to = cc in subst (λ (y : StructBuilder). Grows st.classes y.classes) s (λ j x g. g)
-    by_type (Some t) None h = cc
-    by_type None r h = cc
-
-none_shaped : (decls : List Decl) (k i : ℕ) (all ms : List Member) → members_added decls k i all None ms ≡ None
-none_shaped decls k i all [] = refl
-none_shaped decls k i all (m ∷ ms) = none_shaped decls k i all ms
-
-pub builder_there : (decls : List Decl) (k i : ℕ) (all : List Member) (o : Option StructBuilder) (ms : List Member) (to : StructBuilder) → members_added decls k i all o ms ≡ Some to → (st : StructBuilder) × (o ≡ Some st) × (members_added decls k i all (Some st) ms ≡ Some to)
-builder_there decls k i all (Some st) ms to e = (st, refl, e)
-builder_there decls k i all None ms to e = let s : None ≡ Some to = sym (none_shaped decls k i all ms) ∙ e in cc
-
-all_classes : (decls : List Decl) (k i : ℕ) (all : List Member) (st : StructBuilder) (ms : List Member) (to : StructBuilder) → members_added decls k i all (Some st) ms ≡ Some to → Grows st.classes to.classes
-all_classes decls k i all st [] to e = let s : st ≡ to = cc in subst (λ (y : StructBuilder). Grows st.classes y.classes) s (λ j x g. g)
-all_classes decls k i all st (m ∷ ms) to e =
-    let r = builder_there decls k i all (member_added decls k i all (Some st) m) ms to e in
-    let a = shaped_classes decls k i all st m r.0 r.1 in
-    let b = all_classes decls k i all r.0 ms to r.2 in
-    λ j x g. b j x (a j x g)
-
 pub begins_adds : (decls : List Decl) (i : ℕ) (p : core.Program) (d : Decl) (q : core.Program) → Adds decls i p d q →
     Begins p q
 begins_adds decls i p (lock x) q a = begins_is p (with_class p (core.global_lock x.text)) q (record { classes = grows_more p.classes (core.global_lock x.text ∷ []); structs = λ k x e. e; globals = λ k x e. e; arrays = λ k x e. e; pools = λ k x e. e; objects = λ k x e. e; finals = λ k x e. e; cells = λ k x e. e; sections = λ k x e. e; threads = λ k x e. e; helpers = λ k x e. e }) a
 begins_adds decls i p (struct s) q a =
-    let g = all_classes decls (length p.structs) i s.members (record { structure = empty_struct s.name.text; classes = p.classes }) s.members a.0 a.1 in
-    begins_is p (record p { classes = a.0.classes; structs = p.structs ++ a.0.structure ∷ [] }) q (record { classes = g; structs = grows_more p.structs (a.0.structure ∷ []); globals = λ k x e. e; arrays = λ k x e. e; pools = λ k x e. e; objects = λ k x e. e; finals = λ k x e. e; cells = λ k x e. e; sections = λ k x e. e; threads = λ k x e. e; helpers = λ k x e. e }) a.2
+    let cs = lock_classes (length p.structs) 0 a.0.locks in
+    begins_is p (record p { classes = p.classes ++ cs; structs = p.structs ++ a.0 ∷ [] }) q
+    (record {
+      classes = grows_more p.classes cs;
+      structs = grows_more p.structs (a.0 ∷ []);
+      globals =
+          λ k x e. e;
+      arrays = λ k x e. e;
+      pools = λ k x e. e;
+      objects = λ k x e. e;
+      finals = λ k x e. e;
+      cells =
+          λ k x e. e;
+      sections = λ k x e. e;
+      threads = λ k x e. e;
+      helpers = λ k x e. e;
+    }) a.2
 begins_adds decls i p (global v) q a = begins_is p (global_added p v.name.text (length p.cells) a.0 a.1 a.2) q (begins_global p v.name.text (length p.cells) a.0 a.1 a.2) a.7
 begins_adds decls i p (array x) q a =
     let p1 = array_added p x.name.text (length p.cells) x.length.value a.1 a.0 in

@@ -13,10 +13,10 @@ use Rattle.resolution.specs.Scopes.{outside, bears, the_decl, type_of, struct_na
 use Rattle.resolution.specs.Numbers.{total, is_lock, classes_of, objects_of, cells_of, width}
 use Rattle.resolution.specs.Constants.{members_of, members_in, default_of}
 use Rattle.resolution.specs.Annotations.{protection_of}
-use Rattle.resolution.specs.Resolution.{StructBuilder, lock_added, final_added, field_added, members_added}
-use Rattle.resolution.specs.Resolution.{empty_struct, nothing_yet, with_class, with_elements, array_added, pool_added}
-use Rattle.resolution.specs.Resolution.{extended, resolved_from, resolved}
+use Rattle.resolution.specs.Working.Building.{with_class, with_elements, array_added, pool_added}
 use Rattle.resolution.specs.Working.FaultLists.{count_faults, total_faults}
+use Rattle.resolution.specs.Tables.{nothing_yet, AreTables, AddAll, no_declaration, first_and_rest, Makes, no_member}
+use Rattle.resolution.specs.Tables.{lock_field, final_field, lock_classes, field}
 use Rattle.resolution.proofs.Named.{named_is}
 use Rattle.resolution.proofs.AllFaults.{of_totals}
 use Rattle.resolution.proofs.TrueStatements.{length_push}
@@ -25,7 +25,7 @@ use Rattle.resolution.proofs.FaultlessMembers.{is_field, fields_are}
 use Rattle.resolution.proofs.FaultlessPrograms.{total_push, objects_fit, struct_once}
 use Rattle.resolution.proofs.LaidLists.{Rows, rows_length, get_last, get_pushed, take_front, as_one, count_push}
 use Rattle.resolution.proofs.LaidStages.{fields_in, finals_in, locks_in, Objected, Chain, Adds, adds, Begins}
-use Rattle.resolution.proofs.LaidStages.{begins_same, begins_on, begins_adds, builder_there}
+use Rattle.resolution.proofs.LaidStages.{begins_same, begins_on, begins_adds}
 
 -- ---- a struct's parts
 
@@ -41,108 +41,37 @@ FinalRow decls j f y = struct_named decls f.target ≡ Some y.target
 abbrev pub FieldRow : List Decl → ℕ → List Member → ℕ → Field → core.Field → Type 0
 FieldRow decls i all j f y = (type_of (outside decls) f.value_type ≡ Some y.value_type) × (protection_of decls i all f.protection ≡ Some y.protection)
 
-pub record Shaped (decls : List Decl) (k i : ℕ) (all : List Member) (a b : ℕ) (ms : List Member) (st to : StructBuilder) : Type 0 where
-  pub classes : List core.LockClass
-  pub locks : List core.LockField
-  pub finals : List core.FinalField
-  pub fields : List core.Field
-  pub is_classes : to.classes ≡ st.classes ++ classes
-  pub is_locks : to.structure.locks ≡ st.structure.locks ++ locks
-  pub is_finals : to.structure.finals ≡ st.structure.finals ++ finals
-  pub is_fields : to.structure.fields ≡ st.structure.fields ++ fields
-  pub class_rows : Rows (ClassRow k) (length st.structure.locks) (locks_in ms) classes
-  pub lock_rows : Rows LockRow (length st.classes) (locks_in ms) locks
-  pub final_rows : Rows (FinalRow decls) a (finals_in ms) finals
-  pub field_rows : Rows (FieldRow decls i all) b (fields_in ms) fields
+pub record Parted (decls : List Decl) (i : ℕ) (s : Struct) (n k j a b : ℕ) (ms : List Member)
+    (t : core.Struct) : Type 0 where
+  pub classes : Rows (ClassRow k) j (locks_in ms) (lock_classes k j t.locks)
+  pub locks : Rows LockRow n (locks_in ms) t.locks
+  pub finals : Rows (FinalRow decls) a (finals_in ms) t.finals
+  pub fields : Rows (FieldRow decls i s.members) b (fields_in ms) t.fields
 
-final_step : (st : StructBuilder) (name : List ℕ) (o : Option ℕ) (to : StructBuilder) →
-    final_added st name o ≡ Some to →
-    (t : ℕ) × (o ≡ Some t) × (record st { structure = record (st.structure) { finals = st.structure.finals ++ record { name = name; target = t } ∷ [] } } ≡ to)
-final_step st name (Some t) to e = (t, refl, cc)
-final_step st name None to e = cc
-
-field_step : (st : StructBuilder) (name : List ℕ) (o : Option core_type.ValueType) (r : Option core.Protection) (to : StructBuilder) → field_added st name o r ≡ Some to →
-    (t : core_type.ValueType) × (p : core.Protection) × (o ≡ Some t) × (r ≡ Some p) × (record st { structure = record (st.structure) { fields = st.structure.fields ++ record { name = name; value_type = t; protection = p } ∷ [] } } ≡ to)
-field_step st name (Some t) (Some p) to e = (t, p, refl, refl, cc)
-field_step st name (Some t) None to e = cc
-field_step st name None r to e = cc
-
-pub shaped : (decls : List Decl) (k i : ℕ) (all : List Member) (a b : ℕ) (st : StructBuilder) (ms : List Member) (to : StructBuilder) → members_added decls k i all (Some st) ms ≡ Some to → Shaped decls k i all a b ms st to
-shaped decls k i all a b st [] to e =
-    let s : st ≡ to = cc in
+-- what members make of a struct, row by row
+pub parted : (decls : List Decl) (i : ℕ) (s : Struct) (n k j a b : ℕ) (ms : List Member) (t : core.Struct) →
+    Makes decls i s n ms t → Parted decls i s n k j a b ms t
+parted decls i s n k j a b ms t no_member = record { classes = tt; locks = tt; finals = tt; fields = tt }
+parted decls i s n k j a b ms t (lock_field {ms = rest} {t = u} m) =
+    let r = parted decls i s (n + 1) k (j + 1) a b rest u m in
+    let one : n + 1 ≡ suc n = omega arith in
+    let next : j + 1 ≡ suc j = omega arith in
     record {
-      classes = [];
-      locks = [];
-      finals = [];
-      fields = [];
-      is_classes = ap (λ (y : StructBuilder). y.classes) (sym s) ∙ sym (append-nil st.classes);
-      is_locks = ap (λ (y : StructBuilder). y.structure.locks) (sym s) ∙ sym (append-nil st.structure.locks);
-      is_finals = ap (λ (y : StructBuilder). y.structure.finals) (sym s) ∙ sym (append-nil st.structure.finals);
-      is_fields = ap (λ (y : StructBuilder). y.structure.fields) (sym s) ∙ sym (append-nil st.structure.fields);
-      class_rows = tt;
-      lock_rows = tt;
-      final_rows = tt;
-      field_rows = tt;
-    }
-shaped decls k i all a b st (lock_member x ∷ ms) to e =
-    let st1 = lock_added k st x.text in
-    let r = shaped decls k i all a b st1 ms to e in
-    let c : core.LockClass = core.lock_field k (length st.structure.locks) in
-    let l : core.LockField = record { name = x.text; class = length st.classes } in
-    record {
-      classes = c ∷ r.classes;
-      locks = l ∷ r.locks;
+      classes = (
+        refl,
+        subst
+            (λ (x : ℕ). Rows (ClassRow k) x (locks_in rest) (lock_classes k (j + 1) u.locks)) next r.classes,
+      );
+      locks = (refl, subst (λ (x : ℕ). Rows LockRow x (locks_in rest) u.locks) one r.locks);
       finals = r.finals;
       fields = r.fields;
-      is_classes = r.is_classes ∙ append_assoc st.classes (c ∷ []) r.classes;
-      is_locks = r.is_locks ∙ append_assoc st.structure.locks (l ∷ []) r.locks;
-      is_finals = r.is_finals;
-      is_fields = r.is_fields;
-      class_rows = (refl, subst (λ (j : ℕ). Rows (ClassRow k) j (locks_in ms) r.classes) (let n = length_push st.structure.locks l in let z : length (st.structure.locks ++ l ∷ []) ≡ suc (length st.structure.locks) = omega (arith, n) in z) r.class_rows);
-      lock_rows = (refl, subst (λ (j : ℕ). Rows LockRow j (locks_in ms) r.locks) (let n = length_push st.classes c in let z : length (st.classes ++ c ∷ []) ≡ suc (length st.classes) = omega (arith, n) in z) r.lock_rows);
-      final_rows = r.final_rows;
-      field_rows = r.field_rows;
     }
-shaped decls k i all a b st (final_member f ∷ ms) to e =
-    let s = builder_there decls k i all (final_added st f.name.text (struct_named decls f.target)) ms to e in
-    let g = final_step st f.name.text (struct_named decls f.target) s.0 s.1 in
-    let y : core.FinalField = record { name = f.name.text; target = g.0 } in
-    let st1 : StructBuilder = record st { structure = record (st.structure) { finals = st.structure.finals ++ y ∷ [] } } in
-    let r = shaped decls k i all (suc a) b st1 ms to (ap (λ (z : StructBuilder). members_added decls k i all (Some z) ms) g.2 ∙ s.2) in
-    record {
-      classes = r.classes;
-      locks = r.locks;
-      finals = y ∷ r.finals;
-      fields = r.fields;
-      is_classes = r.is_classes;
-      is_locks = r.is_locks;
-      is_finals = r.is_finals ∙ append_assoc st.structure.finals (y ∷ []) r.finals;
-      is_fields = r.is_fields;
-      class_rows = r.class_rows;
-      lock_rows = r.lock_rows;
-      final_rows = (g.1, r.final_rows);
-      field_rows = r.field_rows;
-    }
-shaped decls k i all a b st (field_member f ∷ ms) to e =
-    let s = builder_there decls k i all (field_added st f.name.text (type_of (outside decls) f.value_type) (protection_of decls i all f.protection)) ms to e in
-    let g = field_step st f.name.text (type_of (outside decls) f.value_type) (protection_of decls i all f.protection) s.0 s.1 in
-    let y : core.Field = record { name = f.name.text; value_type = g.0; protection = g.1 } in
-    let st1 : StructBuilder = record st { structure = record (st.structure) { fields = st.structure.fields ++ y ∷ [] } } in
-    let r = shaped decls k i all a (suc b) st1 ms to (ap (λ (z : StructBuilder). members_added decls k i all (Some z) ms) g.4 ∙ s.2) in
-    record {
-      classes = r.classes;
-      locks = r.locks;
-      finals = r.finals;
-      fields = y ∷ r.fields;
-      is_classes = r.is_classes;
-      is_locks = r.is_locks;
-      is_finals = r.is_finals;
-      is_fields = r.is_fields ∙ append_assoc st.structure.fields (y ∷ []) r.fields;
-      class_rows = r.class_rows;
-      lock_rows = r.lock_rows;
-      final_rows = r.final_rows;
-      field_rows = ((g.2, g.3), r.field_rows);
-    }
+parted decls i s n k j a b ms t (final_field {ms = rest} {t = u} e m) =
+    let r = parted decls i s n k j (suc a) b rest u m in
+    record { classes = r.classes; locks = r.locks; finals = (e, r.finals); fields = r.fields }
+parted decls i s n k j a b ms t (field {ms = rest} {t = u} e h m) =
+    let r = parted decls i s n k j a (suc b) rest u m in
+    record { classes = r.classes; locks = r.locks; finals = r.finals; fields = ((e, h), r.fields) }
 
 -- ---- how many there are
 
@@ -315,12 +244,15 @@ own : (decls : List Decl) → Clean decls → (i : ℕ) (p : core.Program) (d : 
     Adds decls i p d q → Own decls d p q
 own decls clean i p (lock y) q a = more_is p (with_class p (core.global_lock y.text)) q 1 0 0 0 0 0 0 0 (record { classes = length_push p.classes (core.global_lock y.text); structs = plain; arrays = plain; pools = plain; sections = plain; helpers = plain; objects = plain; cells = plain }) a
 own decls clean i p (struct s) q a =
-    let st : StructBuilder = record { structure = empty_struct s.name.text; classes = p.classes } in
-    let r = shaped decls (length p.structs) i s.members 0 0 st s.members a.0 a.1 in
-    more_is p (record p { classes = a.0.classes; structs = p.structs ++ a.0.structure ∷ [] }) q (count is_lock s.members) 1 0 0 0 0 0 0
+    let cs = lock_classes (length p.structs) 0 a.0.locks in
+    let r = parted decls i s (length p.classes) (length p.structs) 0 0 0 s.members a.0 a.1 in
+    more_is p (record p { classes = p.classes ++ cs; structs = p.structs ++ a.0 ∷ [] }) q
+    (count is_lock s.members) 1 0 0 0 0 0 0
     (record {
-      classes = ap length r.is_classes ∙ length-append p.classes r.classes ∙ ap (λ (n : ℕ). length p.classes + n) (rows_length _ 0 (locks_in s.members) r.classes r.class_rows ∙ locks_counted s.members);
-      structs = length_push p.structs a.0.structure;
+      classes = length-append p.classes cs
+          ∙ ap (λ (n : ℕ). length p.classes + n)
+          (rows_length _ 0 (locks_in s.members) cs r.classes ∙ locks_counted s.members);
+      structs = length_push p.structs a.0;
       arrays = plain;
       pools = plain;
       sections = plain;
@@ -407,23 +339,22 @@ pub record Step (decls : List Decl) (whole : core.Program) (before : List Decl) 
 pub record First (decls before : List Decl) (p : core.Program) (d : Decl) (ds : List Decl) (whole : core.Program) : Type 0 where
   pub next : core.Program
   pub adds : Adds decls (length before) p d next
-  pub rest : resolved_from decls (length (before ++ d ∷ [])) (Some next) ds ≡ Some whole
-
-none_from : (decls : List Decl) (i : ℕ) (ds : List Decl) → resolved_from decls i None ds ≡ None
-none_from decls i [] = refl
-none_from decls i (d ∷ ds) = none_from decls (i + 1) ds
-
-first_by : (decls before : List Decl) (p : core.Program) (d : Decl) (ds : List Decl) (whole : core.Program) (o : Option core.Program) → extended decls (length before) p d ≡ o → resolved_from decls (length before + 1) o ds ≡ Some whole → First decls before p d ds whole
-first_by decls before p d ds whole (Some q) e h = record { next = q; adds = adds decls (length before) p d q e; rest = subst (λ (j : ℕ). resolved_from decls j (Some q) ds ≡ Some whole) (sym (length_push before d)) h }
-first_by decls before p d ds whole None e h = let s : None ≡ Some whole = sym (none_from decls (length before + 1) ds) ∙ h in cc
+  pub rest : AddAll decls (length (before ++ d ∷ [])) ds next whole
 
 pub first_of : (decls before : List Decl) (p : core.Program) (d : Decl) (ds : List Decl) (whole : core.Program) →
-    resolved_from decls (length before) (Some p) (d ∷ ds) ≡ Some whole → First decls before p d ds whole
-first_of decls before p d ds whole h = first_by decls before p d ds whole (extended decls (length before) p d) refl h
+    AddAll decls (length before) (d ∷ ds) p whole → First decls before p d ds whole
+first_of decls before p d ds whole (first_and_rest {q = q} a more) = record {
+  next = q;
+  adds = adds decls (length before) p d q a;
+  rest = subst (λ (j : ℕ). AddAll decls j ds q whole) (sym (length_push before d)) more;
+}
+
+last_of : (decls : List Decl) (i : ℕ) (p whole : core.Program) → AddAll decls i [] p whole → p ≡ whole
+last_of decls i p whole no_declaration = refl
 
 pub begins_whole : (decls before : List Decl) (p : core.Program) (ds : List Decl) (whole : core.Program) →
-    resolved_from decls (length before) (Some p) ds ≡ Some whole → Begins p whole
-begins_whole decls before p [] whole h = let s : p ≡ whole = cc in subst (Begins p) s (begins_same p)
+    AddAll decls (length before) ds p whole → Begins p whole
+begins_whole decls before p [] whole h = subst (Begins p) (last_of decls (length before) p whole h) (begins_same p)
 begins_whole decls before p (d ∷ ds) whole h =
     let f = first_of decls before p d ds whole h in
     begins_on p f.next whole (begins_adds decls (length before) p d f.next f.adds) (begins_whole decls (before ++ d ∷ []) f.next ds whole f.rest)
@@ -431,9 +362,10 @@ begins_whole decls before p (d ∷ ds) whole h =
 pub walk : (decls : List Decl) → Clean decls → (whole : core.Program) (K : List Decl → core.Program → Type 0) →
     ((before : List Decl) (d : Decl) (p q : core.Program) → Step decls whole before d p q → K before p →
     K (before ++ d ∷ []) q) →
-    (before ds : List Decl) (p : core.Program) → decls ≡ before ++ ds → Counts decls before p → K before p → resolved_from decls (length before) (Some p) ds ≡ Some whole → K decls whole × Counts decls decls whole
+    (before ds : List Decl) (p : core.Program) → decls ≡ before ++ ds → Counts decls before p → K before p →
+    AddAll decls (length before) ds p whole → K decls whole × Counts decls decls whole
 walk decls clean whole K step before [] p parts n k h =
-    let s : p ≡ whole = cc in
+    let s = last_of decls (length before) p whole h in
     let e : before ≡ decls = sym (parts ∙ append-nil before) in
     (subst (λ (bs : List Decl). K bs whole) e (subst (K before) s k), subst (λ (bs : List Decl). Counts decls bs whole) e (subst (Counts decls before) s n))
 walk decls clean whole K step before (d ∷ ds) p parts n k h =
@@ -452,13 +384,13 @@ no_counts : (decls : List Decl) → Counts decls [] nothing_yet
 no_counts decls = record { classes = refl; structs = λ s. refl; arrays = λ s. refl; pools = λ s. refl; sections = λ s. refl; helpers = λ s. refl; objects = refl; cells = refl }
 
 -- what holds of nothing and is kept by each step, holds of the whole
-pub walked_whole : (decls : List Decl) → Clean decls → (whole : core.Program) → resolved decls ≡ Some whole →
+pub walked_whole : (decls : List Decl) → Clean decls → (whole : core.Program) → AreTables decls whole →
     (K : List Decl → core.Program → Type 0) → K [] nothing_yet →
     ((before : List Decl) (d : Decl) (p q : core.Program) → Step decls whole before d p q → K before p →
     K (before ++ d ∷ []) q) → K decls whole
 walked_whole decls clean whole h K k step = (walk decls clean whole K step [] decls nothing_yet refl (no_counts decls) k h).0
 
-pub counted_whole : (decls : List Decl) → Clean decls → (whole : core.Program) → resolved decls ≡ Some whole →
+pub counted_whole : (decls : List Decl) → Clean decls → (whole : core.Program) → AreTables decls whole →
     Counts decls decls whole
 counted_whole decls clean whole h = (walk decls clean whole (λ b p. ⊤) (λ b d p q s k. tt) [] decls nothing_yet refl (no_counts decls) tt h).1
 
@@ -470,7 +402,7 @@ pub record Landed (decls : List Decl) (whole : core.Program) (i : ℕ) (d : Decl
   pub step : Step decls whole before d was is
   pub place : length before ≡ i
 
-pub lands : (decls : List Decl) → Clean decls → (whole : core.Program) → resolved decls ≡ Some whole →
+pub lands : (decls : List Decl) → Clean decls → (whole : core.Program) → AreTables decls whole →
     (i : ℕ) (d : Decl) → slice_get decls i ≡ Some d → Landed decls whole i d
 lands decls clean whole h = walked_whole decls clean whole h (λ b p. (i : ℕ) (d : Decl) → slice_get b i ≡ Some d → Landed decls whole i d) (λ i d e. nothing_there i d e) more
   where

@@ -28,6 +28,10 @@ pub mod Scoped
 pub mod ScopedStatements
 pub mod WellSections
 pub mod LaidLists
+pub mod RuledStructs
+pub mod RuledObjects
+pub mod RuledThreads
+pub mod Ruled
 pub mod LaidStages
 pub mod LaidWalk
 pub mod LaidFacts

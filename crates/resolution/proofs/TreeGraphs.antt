@@ -20,10 +20,10 @@ use Rattle.resolution.specs.Scopes.{◌>>=◌, outside, count, alike, number_at,
 use Rattle.resolution.specs.Working.TypedStatements as statements
 use Rattle.resolution.specs.Working.TypedStatements.{typed_body}
 use Rattle.resolution.specs.Statements.{after_all}
-use Rattle.resolution.specs.Resolution.{resolved}
 use Rattle.resolution.specs.Statements.{ahead_of, entry}
 use Rattle.resolution.specs.Working.TypedSections.{core_locals, section_with, section_of, typed_section}
 use Rattle.resolution.specs.CallGraphs.{stmts_calls, stmts_points, body_in, helper_bodies, section_bodies, tree_graph}
+use Rattle.resolution.specs.Resolved.{Resolves}
 use Rattle.resolution.proofs.Typed.{get_map}
 use Rattle.resolution.proofs.FaultlessExpressions.{Clean}
 use Rattle.resolution.proofs.LaidProgram.{sections_are, helpers_are}
@@ -211,7 +211,7 @@ as_long xs ys h = by_length (length xs) refl
 
 -- ---- the whole
 
-module _ (decls : List Decl) (clean : Clean decls) (program : Typed) (is : resolved decls ≡ Some (core_of program)) where
+module _ (decls : List Decl) (clean : Clean decls) (program : Typed) (is : Resolves decls program) where
   few : length program.shape.helpers.items ≤ SECTION_LIMIT
   few = let within = within_limits decls clean program is in omega (arith, within.sections)
 

@@ -5,8 +5,8 @@ use Rattle.std.specs.Prelude.{nat_le, slice_get, take, map}
 use Rattle.std.proofs.lemmas.List.{length-append, length-map, append-nil}
 use Rattle.source.specs.declared.fault.Code.TheVariants.{LimitExceeded}
 use Rattle.syntax.specs.Trees.{Stmt, let_local, let_owned, let_call, var_local, assign, if_then, while, print}
-use Rattle.syntax.specs.Trees.{return_value, Stmts, no_stmts, stmt, Otherwise, no_else, else_do, Param, Section, Item}
-use Rattle.syntax.specs.Trees.{call, repeat, Items, no_items, item, Member, lock_member, final_member, field_member}
+use Rattle.syntax.specs.Trees.{return_value, Stmts, no_stmts, stmt, Otherwise, no_else, else_do, Param, Section}
+use Rattle.syntax.specs.Trees.{call, Items, Member, lock_member, final_member, field_member}
 use Rattle.syntax.specs.Trees.{Thread, Decl, lock, struct, global, array, pool, init, atomic, helper, thread}
 use Rattle.core_lang.specs.declared.tree.LocalKind.TheVariants as kind
 use Rattle.core_lang.specs.declared.tree.Section as the_section
@@ -23,16 +23,17 @@ use Rattle.resolution.specs.Limits.{PARAMETER_LIMIT, LOCAL_LIMIT, CALL_LIMIT, se
 use Rattle.resolution.specs.Scopes as scopes
 use Rattle.resolution.specs.Scopes.{Scope, outside, meaning, helper_meant, the_local, the_decl, type_of, count, alike}
 use Rattle.resolution.specs.Scopes.{has_body, bound, left}
-use Rattle.resolution.specs.Numbers.{total, cells_of, calls_in, calls_in_all, calls_of}
+use Rattle.resolution.specs.Numbers.{total, cells_of, calls_in_all, calls_of}
 use Rattle.resolution.specs.Expressions.{want}
 use Rattle.resolution.specs.Statements.{after, after_else, after_all}
 use Rattle.resolution.specs.Statements.{ahead_of, entry}
-use Rattle.resolution.specs.Resolution.{call_of, copies, typed_item, typed_items, resolved}
 use Rattle.resolution.specs.Working.FaultLists.{one_if, local_faults, type_faults, wanted_faults, binding_faults}
 use Rattle.resolution.specs.Working.FaultLists.{owner_faults, helper_call_faults, given_back_faults, stmt_faults}
 use Rattle.resolution.specs.Working.FaultLists.{else_faults, stmts_faults, param_faults, result_faults, count_faults}
 use Rattle.resolution.specs.Working.FaultLists.{total_faults}
 use Rattle.resolution.specs.declared.wanted.Want.TheVariants as wanted
+use Rattle.resolution.specs.Tables.{AreTables, AreCalls, no_call, one_call, repeated, copies}
+use Rattle.resolution.specs.Resolved.{Resolves}
 use Rattle.resolution.proofs.Parts.{of_place_at}
 use Rattle.resolution.proofs.AllFaults.{of_counts, of_totals}
 use Rattle.resolution.proofs.TrueStatements.{length_push, entered_limits}
@@ -43,14 +44,14 @@ use Rattle.resolution.proofs.FaultlessPrograms.{total_push, cells_fit, calls_few
 use Rattle.resolution.proofs.Typed.{get_map}
 use Rattle.resolution.proofs.ScopedStatements.{hidden_length}
 use Rattle.resolution.proofs.WellSections.{entered_length, locals_length}
-use Rattle.resolution.proofs.LaidLists.{rows_length, take_front, as_one, count_push, bind_got}
+use Rattle.resolution.proofs.LaidLists.{rows_length, take_front, as_one, count_push}
 use Rattle.resolution.proofs.LaidStages.{fields_in, finals_in, locks_in}
 use Rattle.resolution.proofs.LaidWalk.{LockRow, FinalRow, FieldRow, Counts, Step, walked_whole, counted_whole}
 use Rattle.resolution.proofs.LaidFacts.{keeps_structs, keeps_sections, keeps_helpers, keeps_threads, struct_by_number}
 use Rattle.resolution.proofs.LaidFacts.{sections_of}
 use Rattle.resolution.proofs.LaidLocks.{few_classes}
 use Rattle.resolution.proofs.LaidObjects.{few_objects}
-use Rattle.resolution.proofs.LaidScripts.{one_got, joined_got, sectioned}
+use Rattle.resolution.proofs.LaidScripts.{sectioned}
 use Rattle.resolution.proofs.Tests.{le_false}
 use Rattle.resolution.specs.Theory.Facts.{bodies_counted}
 
@@ -74,25 +75,19 @@ copies_length (suc n) xs =
     let z : length (xs ++ copies n xs) ≡ suc n * length xs = omega (arith, a, r) in
     z
 
-mutual
-  item_counted : (decls : List Decl) (i : Item) (cs : List core.Call) → typed_item decls i ≡ Some cs →
-      length cs ≡ calls_in i
-  item_counted decls (call c) cs e = let r = one_got (call_of decls (the_decl decls c.section.text) c.arguments) cs e in sym (ap length r.2)
-  item_counted decls (repeat k is) cs e =
-      let b = bind_got (typed_items decls is) (λ xs. Some (copies k.value xs)) cs e in
-      let same : copies k.value b.0 ≡ cs = (let u = b.2 in cc) in
-      sym (ap length same) ∙ copies_length k.value b.0 ∙ ap (λ (n : ℕ). k.value * n) (items_counted decls is b.0 b.1)
-
-  items_counted : (decls : List Decl) (is : Items) (cs : List core.Call) → typed_items decls is ≡ Some cs →
-      length cs ≡ calls_in_all is
-  items_counted decls no_items cs e = let s : [] ≡ cs = cc in sym (ap (λ (q : List core.Call). length q) s)
-  items_counted decls (item i is) cs e =
-      let r = joined_got (typed_item decls i) (typed_items decls is) cs e in
-      let a = item_counted decls i r.0 r.2 in
-      let b = items_counted decls is r.1 r.3 in
-      let l = length-append r.0 r.1 in
-      let z : length (r.0 ++ r.1) ≡ calls_in i + calls_in_all is = omega (arith, a, b, l) in
-      sym (ap length r.4) ∙ z
+items_counted : (decls : List Decl) (is : Items) (cs : List core.Call) → AreCalls decls is cs →
+    length cs ≡ calls_in_all is
+items_counted decls is cs no_call = refl
+items_counted decls is cs (one_call {is = rest} {cs = ds} at e more) =
+    let r = items_counted decls rest ds more in
+    omega (arith, r)
+items_counted decls is cs (repeated {n = n} {js = js} {is = rest} {bs = bs} {cs = ds} first more) =
+    let a : length (copies n.value bs) ≡ n.value * calls_in_all js =
+    copies_length n.value bs ∙ ap (λ (k : ℕ). n.value * k) (items_counted decls js bs first) in
+    let b = items_counted decls rest ds more in
+    let l : length (copies n.value bs ++ ds) ≡ length (copies n.value bs) + length ds =
+    length-append (copies n.value bs) ds in
+    l ∙ ap (λ (k : ℕ). k + length ds) a ∙ ap (λ (k : ℕ). n.value * calls_in_all js + k) b
 
 -- how many calls threads of a resolved program make together
 abbrev calls_in_threads : List core.Thread → ℕ
@@ -177,7 +172,8 @@ few_next decls clean whole before (struct s) p q st h =
     let a = st.adds in
     let none = none_left (one_if (nat_le STRUCT_LIMIT (count (alike (struct s)) before)) LimitExceeded s.name.span.start) _ (none_at_step decls clean whole before (struct s) p q st) in
     few_more before (struct s) p q h
-    (one_more STRUCT_LIMIT (count (alike (struct s)) before) p.structs q.structs a.0.structure (ap (λ (z : core.Program). z.structs) a.2) (st.counts.structs s)
+    (one_more STRUCT_LIMIT (count (alike (struct s)) before) p.structs q.structs a.0
+    (ap (λ (z : core.Program). z.structs) a.2) (st.counts.structs s)
     (not_if (nat_le STRUCT_LIMIT (count (alike (struct s)) before)) LimitExceeded s.name.span.start none))
     (same_bodies p q (keeps_sections decls (length before) p (struct s) q a) (keeps_helpers decls (length before) p (struct s) q a) h.sections) (keeps_threads decls (length before) p (struct s) q a) (λ t. refl) refl
 few_next decls clean whole before (atomic s) p q st h =
@@ -216,7 +212,7 @@ few_next decls clean whole before (pool x) p q st h =
 few_next decls clean whole before (init x) p q st h =
     few_more before (init x) p q h (same_few STRUCT_LIMIT p.structs q.structs (keeps_structs decls (length before) p (init x) q st.adds) h.structs) (same_bodies p q (keeps_sections decls (length before) p (init x) q st.adds) (keeps_helpers decls (length before) p (init x) q st.adds) h.sections) (keeps_threads decls (length before) p (init x) q st.adds) (λ t. refl) refl
 
-few_whole : (decls : List Decl) → Clean decls → (whole : core.Program) → resolved decls ≡ Some whole → Few decls whole
+few_whole : (decls : List Decl) → Clean decls → (whole : core.Program) → AreTables decls whole → Few decls whole
 few_whole decls clean whole is = walked_whole decls clean whole is Few (record { structs = omega arith; sections = omega arith; threads = omega arith; threads_are = λ t. refl; calls_are = refl }) (few_next decls clean whole)
 
 -- ---- members
@@ -228,7 +224,7 @@ kinds_together (lock_member x ∷ ms) = let r = kinds_together ms in omega (arit
 kinds_together (final_member f ∷ ms) = let r = kinds_together ms in omega (arith, r)
 kinds_together (field_member f ∷ ms) = let r = kinds_together ms in omega (arith, r)
 
-members_within : (decls : List Decl) → Clean decls → (whole : core.Program) → resolved decls ≡ Some whole →
+members_within : (decls : List Decl) → Clean decls → (whole : core.Program) → AreTables decls whole →
     (s : ℕ) (y : core.Struct) → slice_get whole.structs s ≡ Some y →
     length y.locks + length y.finals + length y.fields ≤ MEMBER_LIMIT
 members_within decls clean whole is s y at =
@@ -342,7 +338,7 @@ record FewIn (x : core.Section) : Type 0 where
   parameters : x.parameters ≤ PARAMETER_LIMIT
   locals : length x.locals ≤ LOCAL_LIMIT
 
-section_within : (decls : List Decl) → Clean decls → (whole : core.Program) → resolved decls ≡ Some whole →
+section_within : (decls : List Decl) → Clean decls → (whole : core.Program) → AreTables decls whole →
     (k : ℕ) (x : core.Section) → slice_get whole.sections k ≡ Some x → FewIn x
 section_within decls clean whole is k x e =
     let at = sections_of decls clean whole is k x e in
@@ -364,7 +360,7 @@ section_within decls clean whole is k x e =
 
 -- ---- the whole
 
-module _ (decls : List Decl) (clean : Clean decls) (program : Typed) (is : resolved decls ≡ Some (core_of program)) where
+module _ (decls : List Decl) (clean : Clean decls) (program : Typed) (is : Resolves decls program) where
   struct_within : (s : ℕ) (x : the_struct.Struct) → slice_get program.structs.items s ≡ Some x →
       length x.locks.items + length x.finals.items + length x.fields.items ≤ 32
   struct_within s x at =

@@ -8,7 +8,7 @@ pub mod Statements
 pub mod Constants
 pub mod Typing
 pub mod Annotations
-pub mod Resolution
+pub mod Tables
 pub mod Resolved
 pub mod Where
 pub mod CallGraphs
@@ -20,6 +20,7 @@ pub use Rattle.resolution.specs.Resolved.{Resolves}
 pub use Rattle.resolution.specs.Faults.{IsFault, IsRefusal, HasNoFault}
 pub use Rattle.resolution.specs.Working.Laws.{TheLeastIsAFault, NoneGoesBeforeTheLeast, NoLeastIsNoFault}
 pub use Rattle.resolution.specs.Working.Laws.{HaveAtMostOneLeast, FaultlessAreResolved, GraphOfResolved}
+pub use Rattle.resolution.specs.Working.Laws.{ResolvedByRules, RulesAreResolved}
 pub use Rattle.resolution.specs.Working.Laws.{ResolvedAreChecked, DeclaresNoHelper, WithoutHelpersAreWellFormed}
 pub use Rattle.resolution.specs.Working.Laws.{ExpressionsByRules, FoundAreAssigned, AssignedAreFound}
 pub use Rattle.resolution.specs.Working.Laws.{StatementsByRules, BodiesByRules, SectionsByRules}

@@ -4,5 +4,6 @@ pub mod TypedExpressions
 pub mod TypedOwners
 pub mod TypedStatements
 pub mod TypedSections
+pub mod Building
 pub mod FaultLists
 pub mod Laws

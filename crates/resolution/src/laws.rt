@@ -1,7 +1,7 @@
 //! What holds of resolution and of faults: functions that do nothing, and whose contracts are the laws.
 
 ghost use Rattle.resolution.specs.Working.Laws.{ExpressionsByRules, FoundAreAssigned, AssignedAreFound, StatementsByRules, BodiesByRules, SectionsByRules};
-ghost use Rattle.resolution.specs.Working.Laws.{TheLeastIsAFault, NoneGoesBeforeTheLeast, NoLeastIsNoFault, HaveAtMostOneLeast, FaultlessAreResolved, GraphOfResolved, ResolvedAreChecked, WithoutHelpersAreWellFormed};
+ghost use Rattle.resolution.specs.Working.Laws.{TheLeastIsAFault, NoneGoesBeforeTheLeast, NoLeastIsNoFault, HaveAtMostOneLeast, FaultlessAreResolved, ResolvedByRules, RulesAreResolved, GraphOfResolved, ResolvedAreChecked, WithoutHelpersAreWellFormed};
 
 use core_lang_calls::laws::{faultless_keep_limits, listed_faults};
 
@@ -23,6 +23,12 @@ pub fn one_least()
 /// A program with no fault is resolved.
 pub fn faultless_are_resolved()
     ensures { FaultlessAreResolved }
+{}
+
+/// What a tree stands for is built as the rules say, and what they say is built.
+pub fn resolved_by_rules()
+    ensures there { ResolvedByRules }
+    ensures back { RulesAreResolved }
 {}
 
 /// The graph of what a tree with no fault calls is that of the program to which it is resolved.

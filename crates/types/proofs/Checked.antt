@@ -9,7 +9,8 @@ use Rattle.syntax.specs.Trees.{Decl}
 use Rattle.resolution.specs.Core as core
 use Rattle.source.specs.Mistakes.{goes_before, least_of}
 use Rattle.source.specs.Theory.Leasts.{least_append}
-use Rattle.resolution.specs.Resolution.{nothing_yet, resolved, resolved_from}
+use Rattle.resolution.specs.Tables.{nothing_yet}
+use Rattle.resolution.specs.Working.Building.{resolved, resolved_from}
 use Rattle.resolution.specs.Working.FaultLists.{twice_faults, struct_faults, total_faults, repeated_faults, each_faults}
 use Rattle.resolution.specs.Working.Laws.{the_least}
 use Rattle.types_declarations.specs.Working.Grown.{if_right}

@@ -6,7 +6,8 @@ ghost use Rattle.syntax.specs.Views.{array_of, decl_of, items_of, pool_of, secti
 ghost use Rattle.syntax.specs.Returns.{ReturnsRight};
 ghost use Rattle.core_lang.specs.WellFormed.{IsChecked, IsWellFormed};
 ghost use Rattle.resolution.specs.CoreViews.{core_of};
-ghost use Rattle.resolution.specs.Resolution.{resolved_from, nothing_yet};
+ghost use Rattle.resolution.specs.Tables.{nothing_yet};
+ghost use Rattle.resolution.specs.Working.Building.{resolved_from};
 ghost use Rattle.resolution.specs.Limits.{section_limits, helper_limits};
 ghost use Rattle.resolution.specs.Resolved.{Resolves};
 ghost use Rattle.resolution.specs.Faults.{IsFault, IsRefusal, HasNoFault};

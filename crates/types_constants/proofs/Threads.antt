@@ -14,7 +14,8 @@ use Rattle.core_lang.specs.declared.typed.Call as the_call
 use Rattle.types_constants.specs.Working.Values.{cores, Adds}
 use Rattle.resolution.specs.Core as core
 use Rattle.resolution.specs.Scopes.{◌>>=◌}
-use Rattle.resolution.specs.Resolution.{copies, typed_item, typed_items}
+use Rattle.resolution.specs.Tables.{copies}
+use Rattle.resolution.specs.Working.Building.{typed_item, typed_items}
 use Rattle.source.specs.Mistakes.{least_of}
 use Rattle.resolution.specs.Working.FaultLists.{item_faults, items_faults}
 use Rattle.resolution.specs.CoreViews.{core_call}

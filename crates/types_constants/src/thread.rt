@@ -4,7 +4,8 @@ ghost use Rattle.std.specs.Prelude.{◌≡◌, ◌≤◌, ◌+◌, ◌++◌, OnO
 ghost use Rattle.syntax.specs.Views.{call_of as call_view, item_of, items_of};
 ghost use Rattle.syntax.specs.Trees.{call};
 ghost use Rattle.resolution.specs.CoreViews.{core_call};
-ghost use Rattle.resolution.specs.Resolution.{copies, typed_item, typed_items, typed_calls};
+ghost use Rattle.resolution.specs.Tables.{copies};
+ghost use Rattle.resolution.specs.Working.Building.{typed_item, typed_items, typed_calls};
 ghost use Rattle.source.specs.Mistakes.{least_of};
 ghost use Rattle.resolution.specs.Working.FaultLists.{item_faults, items_faults};
 ghost use Rattle.types_constants.specs.Working.Calls.{resolved_call, resolved_calls};

@@ -7,7 +7,7 @@ use Rattle.syntax.specs.declared.tree.Member as tree
 use Rattle.syntax.specs.Views.{member_of}
 use Rattle.syntax.specs.Trees.{Decl, Member, lock_member, final_member, field_member}
 use Rattle.resolution.specs.Core as core
-use Rattle.resolution.specs.Resolution.{Slot, with_members, StructBuilder, member_added, members_added}
+use Rattle.resolution.specs.Working.Building.{Slot, with_members, StructBuilder, member_added, members_added}
 use Rattle.types_symbols.specs.Working.Counted.{field_if}
 use Rattle.types_symbols.specs.Theory.Steps.{drop-here}
 use Rattle.types_declarations.specs.Working.Slots.{member_with}

@@ -7,7 +7,7 @@ use Rattle.syntax.specs.Trees.{Decl, Member}
 use Rattle.resolution.specs.Core as core
 use Rattle.resolution.specs.Scopes.{◌>>=◌}
 use Rattle.resolution.specs.Constants.{given}
-use Rattle.resolution.specs.Resolution.{with_object, with_objects}
+use Rattle.resolution.specs.Working.Building.{with_object, with_objects}
 use Rattle.resolution.specs.Working.FaultLists.{some_lacks}
 
 or_true : (b : Bool) → (b || true) ≡ true

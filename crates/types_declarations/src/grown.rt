@@ -5,7 +5,7 @@ ghost use Rattle.syntax.specs.Trees.{struct};
 ghost use Rattle.syntax.specs.Views.{ident, array_of, struct_of, variable_of};
 ghost use Rattle.resolution.specs.CoreViews.{core_of, core_struct, core_section};
 ghost use Rattle.resolution.specs.Core.{global_lock};
-ghost use Rattle.resolution.specs.Resolution.{with_class, with_cell, empty_struct, global_with, array_with, with_section, with_helper, with_thread, with_elements};
+ghost use Rattle.resolution.specs.Working.Building.{with_class, with_cell, empty_struct, global_with, array_with, with_section, with_helper, with_thread, with_elements};
 ghost use Rattle.types_constants.specs.{calls_in};
 ghost use Rattle.types_declarations.specs.Working.Grown.{if_right};
 ghost use Rattle.types_declarations.specs.Working.Values.{known, extended_of};

@@ -2,7 +2,7 @@
 
 ghost use Rattle.std.specs.Prelude.{◌≡◌, ◌++◌, OnOk, IfOk};
 ghost use Rattle.syntax.specs.Views.{ident};
-ghost use Rattle.resolution.specs.Resolution.{lock_added, final_added};
+ghost use Rattle.resolution.specs.Working.Building.{lock_added, final_added};
 ghost use Rattle.source.specs.Mistakes.{least_of};
 ghost use Rattle.types_declarations.specs.Working.Grown.{shaped};
 ghost use Rattle.types_declarations.specs.Working.StructBuilders.{builder_of};

@@ -12,7 +12,7 @@ use Rattle.resolution.specs.Scopes.{Scope}
 use Rattle.resolution.specs.Working.TypedExpressions.{fitting, as_value, typed}
 use Rattle.resolution.specs.Constants.{added, want_of}
 use Rattle.resolution.specs.Working.TypedStatements.{typed_values}
-use Rattle.resolution.specs.Resolution.{joined}
+use Rattle.resolution.specs.Working.Building.{joined}
 use Rattle.source.specs.Mistakes.{least_of}
 use Rattle.resolution.specs.Working.FaultLists.{wanted_faults}
 use Rattle.types_expressions.specs.Working.Parts.{pushed}

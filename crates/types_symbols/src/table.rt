@@ -6,7 +6,7 @@ ghost use Rattle.resolution.specs.Scopes.{number_at, the_decl, the_struct};
 ghost use Rattle.resolution.specs.Expressions.{cell_of};
 ghost use Rattle.resolution.specs.Constants.{object_of, given, value_in};
 ghost use Rattle.resolution.specs.Annotations.{class_number};
-ghost use Rattle.resolution.specs.Resolution.{few_calls};
+ghost use Rattle.resolution.specs.Working.Building.{few_calls};
 ghost use Rattle.source.specs.Mistakes.{least_of};
 ghost use Rattle.types_symbols.specs.Working.Capped.{totals_of};
 ghost use Rattle.types_symbols.specs.Working.Faults.{table_faults};

@@ -4,7 +4,7 @@ use Rattle.std.specs.Prelude.{Option, Some, None}
 use Rattle.resolution.specs.Working.FaultLists.{is_at}
 use Rattle.resolution.specs.Limits.{OBJECT_LIMIT, CELL_LIMIT}
 use Rattle.resolution.specs.Numbers.{objects_of, cells_of}
-use Rattle.resolution.specs.Resolution.{few_calls}
+use Rattle.resolution.specs.Working.Building.{few_calls}
 use Rattle.resolution.specs.Scopes.{declared, member_bears, place_of}
 use Rattle.syntax.specs.Trees.{Ident, Member, field_member, Decl}
 use Rattle.explanation_faults.specs.declared.amounts_passed.Amount.{Amount}

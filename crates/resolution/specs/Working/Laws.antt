@@ -8,7 +8,8 @@ use Rattle.core_lang.specs.WellFormed.{IsChecked, IsWellFormed}
 use Rattle.source.specs.declared.mistake.Mistake.{Mistake}
 use Rattle.source.specs.Mistakes.{goes_before, least_of}
 use Rattle.resolution.specs.Core as core
-use Rattle.resolution.specs.Resolution.{resolved}
+use Rattle.resolution.specs.Working.Building.{resolved}
+use Rattle.resolution.specs.Tables.{AreTables}
 use Rattle.resolution.specs.Resolved.{Resolves}
 use Rattle.resolution.specs.Where.{Has}
 use Rattle.resolution.specs.Faults.{IsFault, HasNoFault}
@@ -52,6 +53,14 @@ NoLeastIsNoFault = (decls : List Decl) → the_least decls ≡ None → HasNoFau
 -- a program with no fault is resolved
 abbrev pub FaultlessAreResolved : Type 0
 FaultlessAreResolved = (decls : List Decl) → ReturnsRight decls → the_least decls ≡ None → (p : core.Program) × (resolved decls ≡ Some p)
+
+-- what a tree stands for is built as the rules say
+abbrev pub ResolvedByRules : Type 0
+ResolvedByRules = (decls : List Decl) (p : core.Program) → resolved decls ≡ Some p → AreTables decls p
+
+-- and what they say is built
+abbrev pub RulesAreResolved : Type 0
+RulesAreResolved = (decls : List Decl) (p : core.Program) → AreTables decls p → resolved decls ≡ Some p
 
 -- the graph of a tree with no fault is that of what it is resolved to
 abbrev pub GraphOfResolved : Type 0

@@ -4,9 +4,10 @@ use Rattle.syntax.specs.Trees.{Decl, Variable, Array, Section, Thread}
 use Rattle.resolution.specs.Core as core
 use Rattle.resolution.specs.Limits.{section_limits, helper_limits}
 use Rattle.resolution.specs.Scopes.{◌>>=◌}
-use Rattle.resolution.specs.Resolution.{extended, with_section, with_helper, with_thread, typed_calls}
 use Rattle.resolution.specs.Working.TypedSections.{typed_section}
-use Rattle.resolution.specs.Resolution.{global_with, array_with}
+use Rattle.resolution.specs.Working.Building.{typed_calls}
+use Rattle.resolution.specs.Working.Building.{extended, with_section, with_helper, with_thread}
+use Rattle.resolution.specs.Working.Building.{global_with, array_with}
 use Rattle.types_declarations.specs.Working.Values as builder
 use Rattle.core_lang_calls.specs.Working.FaultLists.{graph_faults}
 use Rattle.resolution.specs.CallGraphs.{tree_graph}

@@ -3,7 +3,7 @@ use Rattle.std.specs.Prelude.{List, Option}
 use Rattle.syntax.specs.Trees.{Decl, Call}
 use Rattle.resolution.specs.Core as core
 use Rattle.resolution.specs.Scopes.{the_decl}
-use Rattle.resolution.specs.Resolution.{call_of, one_call}
+use Rattle.resolution.specs.Working.Building.{call_of, one_call}
 
 -- a call of the section that it names, if it is right
 abbrev pub resolved_call : List Decl → Call → Option core.Call

@@ -13,7 +13,7 @@ use Rattle.core_lang.specs.declared.typed.Call as the_call
 use Rattle.resolution.specs.Core as core
 use Rattle.resolution.specs.CoreViews.{core_call}
 use Rattle.resolution.specs.Constants.{typed_arguments}
-use Rattle.resolution.specs.Resolution.{joined}
+use Rattle.resolution.specs.Working.Building.{joined}
 use Rattle.resolution.specs.Working.FaultLists.{argument_faults}
 use Rattle.types_symbols.specs.declared.table.SymbolTable.{SymbolTable}
 use Rattle.types_symbols.specs.Working.Views.{decls_of}

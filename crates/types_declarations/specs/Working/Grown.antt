@@ -3,7 +3,7 @@ use Rattle.std.specs.Prelude.{Bool, true, false, Option, Some, None}
 use Rattle.core_lang.specs.declared.typed.Typed.{Typed}
 use Rattle.resolution.specs.Core as core
 use Rattle.resolution.specs.CoreViews.{core_of}
-use Rattle.resolution.specs.Resolution as resolution
+use Rattle.resolution.specs.Working.Building as resolution
 use Rattle.types_declarations.specs.Working.StructBuilders.{builder_of}
 use Rattle.types_declarations.specs.declared.grown.Grown as the_grown
 use Rattle.types_declarations.specs.declared.struct_builder.StructBuilder as s

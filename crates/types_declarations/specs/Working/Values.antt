@@ -12,8 +12,9 @@ use Rattle.core_lang.specs.declared.typed.Typed.{Typed}
 use Rattle.resolution.specs.Core as core
 use Rattle.resolution.specs.CoreViews.{core_of, core_protection}
 use Rattle.resolution.specs.Constants.{members_of}
-use Rattle.resolution.specs.Resolution.{extended, with_members, with_object, with_objects, StructBuilder, field_added}
-use Rattle.resolution.specs.Resolution.{member_added, members_added}
+use Rattle.resolution.specs.Working.Building.{extended, with_members, with_object, with_objects, StructBuilder}
+use Rattle.resolution.specs.Working.Building.{field_added}
+use Rattle.resolution.specs.Working.Building.{member_added, members_added}
 use Rattle.resolution.specs.Working.FaultLists.{member_faults, members_faults, missing_faults}
 use Rattle.types_symbols.specs.declared.members.Structure.{Structure}
 use Rattle.types_symbols.specs.declared.table.SymbolTable.{SymbolTable}

@@ -1,7 +1,7 @@
 use Rattle.std.proofs.Common.{◌∙◌, ◌+◌, take, map, sym, ap}
 use Rattle.std.proofs.lemmas.List.{take-map}
 use Rattle.std.proofs.lemmas.Result.{IfOk-weaker}
-use Rattle.resolution.specs.Resolution.{few_calls}
+use Rattle.resolution.specs.Working.Building.{few_calls}
 use Rattle.syntax.specs.Views.{decl_of}
 use Rattle.explanation_faults.proofs.AmountsPassed.{ends_by, ends_no}
 use Rattle.explanation_faults.proofs.amounts_passed.ends_few_calls.Goals as goal

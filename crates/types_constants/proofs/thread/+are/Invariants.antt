@@ -1,7 +1,7 @@
 use Rattle.std.proofs.Common.{◌≡◌, drop}
 use Rattle.std.specs.Prelude.{is_some}
 use Rattle.syntax.specs.Views.{items_of}
-use Rattle.resolution.specs.Resolution.{typed_items}
+use Rattle.resolution.specs.Working.Building.{typed_items}
 use Rattle.types_symbols.specs.Working.Views.{decls_of}
 use Rattle.types_constants.proofs.thread.+are.Given as goal
 

@@ -1,6 +1,7 @@
 use Rattle.std.proofs.Common.{◌≡◌, ◌-◌, ℕ, ◌++◌, drop, length, ap, ◌∙◌, subst, arith}
 use Rattle.syntax.specs.Views.{items_of}
-use Rattle.resolution.specs.Resolution.{copies, typed_items}
+use Rattle.resolution.specs.Tables.{copies}
+use Rattle.resolution.specs.Working.Building.{typed_items}
 use Rattle.types_constants.specs.Working.Values.{cores, Adds}
 use Rattle.types_symbols.specs.Working.Views.{decls_of}
 use Rattle.types_constants.proofs.Threads.{repeat_never, repeat_wrong, repeat_more}

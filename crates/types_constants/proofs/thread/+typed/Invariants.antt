@@ -1,6 +1,6 @@
 use Rattle.std.proofs.Common.{◌≡◌, drop, Some}
 use Rattle.syntax.specs.Views.{items_of}
-use Rattle.resolution.specs.Resolution.{joined, typed_items}
+use Rattle.resolution.specs.Working.Building.{joined, typed_items}
 use Rattle.types_symbols.specs.Working.Views.{decls_of}
 use Rattle.types_constants.specs.Working.Values.{cores}
 use Rattle.types_constants.proofs.thread.+typed.Given as goal

@@ -1,5 +1,5 @@
 use Rattle.std.proofs.Common.{◌≡◌, ◌≤◌, ◌++◌, length, drop}
-use Rattle.resolution.specs.Resolution.{copies}
+use Rattle.resolution.specs.Tables.{copies}
 use Rattle.types_constants.specs.Working.Values.{cores}
 use Rattle.types_constants.proofs.thread.add_copies.Given as goal
 

@@ -1,6 +1,6 @@
 use Rattle.std.proofs.Common.{◌≡◌}
 use Rattle.resolution.specs.CoreViews.{core_of}
-use Rattle.resolution.specs.Resolution.{with_elements}
+use Rattle.resolution.specs.Working.Building.{with_elements}
 use Rattle.types_declarations.proofs.grown.add_elements.Given as goal
 
 abbrev pub invariant-loop-index : goal.invariant-loop-index

@@ -2,7 +2,7 @@ use Rattle.std.proofs.Common.{◌≡◌, drop}
 use Rattle.std.specs.Prelude.{map, option_map}
 use Rattle.resolution.specs.CoreViews as core
 use Rattle.resolution.specs.Working.TypedSections.{core_locals}
-use Rattle.resolution.specs.Resolution.{joined}
+use Rattle.resolution.specs.Working.Building.{joined}
 use Rattle.types_symbols.specs.Working.Scoped.{local_seen}
 use Rattle.types_sections.proofs.section.core_locals.Given as goal
 

@@ -1,6 +1,6 @@
 use Rattle.std.proofs.Common.{◌+◌, drop, ap}
 use Rattle.syntax.specs.Views.{decl_of}
-use Rattle.resolution.specs.Resolution.{resolved_from}
+use Rattle.resolution.specs.Working.Building.{resolved_from}
 use Rattle.source.specs.Mistakes.{least_of}
 use Rattle.resolution.specs.Working.FaultLists.{decl_faults, each_faults}
 use Rattle.types_symbols.specs.Working.Views.{decls_of}

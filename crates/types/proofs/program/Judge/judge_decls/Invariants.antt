@@ -1,5 +1,5 @@
 use Rattle.std.proofs.Common.{◌≡◌, drop}
-use Rattle.resolution.specs.Resolution.{resolved_from}
+use Rattle.resolution.specs.Working.Building.{resolved_from}
 use Rattle.source.specs.Mistakes.{least_of}
 use Rattle.resolution.specs.Working.FaultLists.{each_faults}
 use Rattle.types_symbols.specs.Working.Views.{decls_of}

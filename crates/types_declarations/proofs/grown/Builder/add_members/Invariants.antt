@@ -1,7 +1,7 @@
 use Rattle.std.proofs.Common.{◌≡◌, drop, Some}
 use Rattle.std.specs.Prelude.{map}
 use Rattle.syntax.specs.Views.{member_of}
-use Rattle.resolution.specs.Resolution.{members_added}
+use Rattle.resolution.specs.Working.Building.{members_added}
 use Rattle.types_symbols.specs.Working.Views.{decls_of, members_seen}
 use Rattle.types_declarations.specs.Working.StructBuilders.{builder_of}
 use Rattle.types_declarations.proofs.grown.Builder.add_members.Given as goal

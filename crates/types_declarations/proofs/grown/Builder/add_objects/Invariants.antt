@@ -2,7 +2,7 @@ use Rattle.std.proofs.Common.{◌≡◌, Some}
 use Rattle.std.specs.Prelude.{map}
 use Rattle.syntax.specs.Views.{member_of}
 use Rattle.resolution.specs.CoreViews.{core_of}
-use Rattle.resolution.specs.Resolution.{with_objects}
+use Rattle.resolution.specs.Working.Building.{with_objects}
 use Rattle.types_symbols.specs.Working.Views.{decls_of}
 use Rattle.types_declarations.proofs.grown.Builder.add_objects.Given as goal
 

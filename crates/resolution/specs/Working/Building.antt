@@ -1,9 +1,10 @@
--- The program that a tree stands for.
-use Rattle.std.specs.Prelude.{ℕ, zero, suc, ◌+◌, nat_le, Bool, List, [], ◌∷◌, ◌++◌, length, Option, Some, None}
+-- The program that a tree stands for, as it is built: one declaration after another, until one has no type. What the program is, says
+-- Tables; `resolved_by_rules` of src/laws.rt ties the two together.
+use Rattle.std.specs.Prelude.{ℕ, zero, suc, ◌+◌, List, [], ◌∷◌, ◌++◌, length, nat_le, Bool, Option, Some, None}
 use Rattle.std.specs.Prelude.{if◌then◌else◌}
-use Rattle.syntax.specs.Trees.{Const, Variable, Array, Item, call, repeat, Items, no_items, item, Member, lock_member}
-use Rattle.syntax.specs.Trees.{final_member, field_member, Decl, lock, struct, global, array, pool, init, atomic}
-use Rattle.syntax.specs.Trees.{helper, thread}
+use Rattle.syntax.specs.Trees.{Item, call, repeat, Items, no_items, item}
+use Rattle.syntax.specs.Trees.{Const, Variable, Array, Member, lock_member, final_member, field_member, Decl, lock}
+use Rattle.syntax.specs.Trees.{struct, global, array, pool, init, atomic, helper, thread}
 use Rattle.core_lang.specs.declared.value.Value.{Value}
 use Rattle.core_lang.specs.declared.value.ValueType as core_type
 use Rattle.core_lang.specs.declared.typed.Owner.{Owner}
@@ -15,6 +16,7 @@ use Rattle.resolution.specs.Numbers.{total, calls_of}
 use Rattle.resolution.specs.Constants.{typed_arguments, members_of, given, default_of, opened, referred}
 use Rattle.resolution.specs.Annotations.{class_of, protection_of}
 use Rattle.resolution.specs.Working.TypedSections.{typed_section}
+use Rattle.resolution.specs.Tables.{nothing_yet, copies}
 
 -- ---- threads
 
@@ -22,11 +24,6 @@ use Rattle.resolution.specs.Working.TypedSections.{typed_section}
 abbrev pub call_of : List Decl → Option (ℕ × Decl) → List Const → Option core.Call
 call_of decls (Some (i, atomic s)) cs = typed_arguments decls s.params cs >>= λ vs. Some (record { section = number_at decls i (atomic s); arguments = vs })
 call_of decls _ cs = None
-
--- a list so many times over
-abbrev pub copies : {A : Type 0} → ℕ → List A → List A
-copies zero xs = []
-copies (suc n) xs = xs ++ copies n xs
 
 abbrev pub joined : {A : Type 0} → Option (List A) → Option (List A) → Option (List A)
 joined (Some xs) (Some ys) = Some (xs ++ ys)
@@ -95,9 +92,6 @@ abbrev pub empty_struct : List ℕ → core.Struct
 empty_struct name = record { name = name; locks = []; finals = []; fields = [] }
 
 -- ---- programs
-
-abbrev pub nothing_yet : core.Program
-nothing_yet = record { classes = []; structs = []; globals = []; arrays = []; pools = []; objects = []; finals = []; cells = []; helpers = []; sections = []; threads = [] }
 
 abbrev pub with_class : core.Program → core.LockClass → core.Program
 with_class p c = record p { classes = p.classes ++ c ∷ [] }
