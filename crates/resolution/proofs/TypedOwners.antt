@@ -2,7 +2,6 @@
 use Rattle.std.proofs.Common.{◌≡◌, ℕ, List, Option, Some, None, Bool, true, false, if◌then◌else◌, refl, sym, ap, ◌∙◌}
 use Rattle.std.proofs.Common.{subst}
 use Rattle.std.specs.Prelude.{nat_le, slice_get}
-use Rattle.std.proofs.lemmas.Bool.{eqb-true}
 use Rattle.syntax.specs.Trees.{Ident, Owner, Member, lock_member, final_member, field_member, Struct}
 use Rattle.core_lang.specs.declared.value.ValueType.{ValueType}
 use Rattle.core_lang.specs.declared.value.ValueType.TheVariants.{Integer, Reference}
@@ -16,16 +15,10 @@ use Rattle.resolution.specs.Expressions.{fits_type, member_number}
 use Rattle.resolution.specs.declared.owner_field.OwnerField.{OwnerField}
 use Rattle.resolution.specs.Working.TypedOwners.{final_of, owner_member, owner_field, is_of, owner_local, owned_value}
 use Rattle.resolution.specs.Working.TypedOwners.{owned_by}
+use Rattle.resolution.specs.Theory.OwnerRules.{same_type}
 use Rattle.resolution.proofs.Named.{member_is}
 use Rattle.resolution.proofs.Typed.{final_in, Is}
 use Rattle.resolution.proofs.TypedResolvedExprs.{Sound, Have, IsLocal, meant_local, GoodValue}
-
--- a value of the reference's very type
-pub same_type : (t u : ValueType) → fits_type t (sort.Of u) ≡ true → u ≡ t
-same_type Integer Integer e = refl
-same_type Integer (Reference r) e = cc
-same_type (Reference s) Integer e = cc
-same_type (Reference s) (Reference r) e = ap (λ (k : ℕ). Reference k) (sym (eqb-true s r e))
 
 module _ (sc : Scope) (p : core.Program) (types : List ValueType) (sound : Sound sc.decls p) (have : Have sc.locals types) where
   -- the program has this final reference of the struct

@@ -46,6 +46,12 @@ When P None = Unit {0}
 pub when : {A : Type 0} (P : A → Type 0) (o : Option A) → When P o → (x : A) → o ≡ Some x → P x
 when P o h x e = subst (When P) e h
 
+pub at_most : (n k : ℕ) → nat_le n k ≡ true → n ≤ k
+at_most n k e = grind (arith, nat_tests)
+
+pub at_most_is : (n k : ℕ) → n ≤ k → nat_le n k ≡ true
+at_most_is n k l = grind (arith, nat_tests)
+
 -- ---- what the code computes is so by the rules
 
 pub number_when : (P : ResolvedExpr → Type 0) (o : Option ResolvedExpr) → When P o →
@@ -65,9 +71,6 @@ test_when P (Some (truth c)) h = h
 number_types : (sc : Scope) (n : Number) (b : Bool) → nat_le n.value NUMBER_LIMIT ≡ b →
     When (Types sc (int n)) (literal (if b then Some (pos n.value) else None))
 number_types sc n true e = types_int (at_most n.value NUMBER_LIMIT e)
-  where
-    at_most : (k m : ℕ) → nat_le k m ≡ true → k ≤ m
-    at_most k m t = grind (arith, nat_tests)
 number_types sc n false e = tt
 
 value_types : (sc : Scope) (e : Expr) (x : core.Expr) (t : Option ValueType) →
@@ -233,10 +236,7 @@ mutual
 -- ---- what is so by the rules is computed
 
 is_number : (sc : Scope) (n : Number) → n.value ≤ NUMBER_LIMIT → typed sc (int n) ≡ Some (value (core.number (pos n.value)) (Of Integer))
-is_number sc n h = ap (λ (b : Bool). literal (if b then Some (pos n.value) else None)) (at_most n.value NUMBER_LIMIT h)
-  where
-    at_most : (k m : ℕ) → k ≤ m → nat_le k m ≡ true
-    at_most k m l = grind (arith, nat_tests)
+is_number sc n h = ap (λ (b : Bool). literal (if b then Some (pos n.value) else None)) (at_most_is n.value NUMBER_LIMIT h)
 
 is_marked : (r : ResolvedExpr) → parenthesised (Some r) ≡ Some (marked r)
 is_marked (value (core.place p) s) = refl

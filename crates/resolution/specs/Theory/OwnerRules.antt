@@ -1,6 +1,6 @@
 -- What the code computes of a left side of an assignment, and of what stands behind the `where` of a `let`, is what the rules say of it.
 -- Nobody has to believe these facts: they are proved here, for proofs of this crate and of the crates above.
-use Rattle.std.proofs.Common.{◌≡◌, ℕ, ◌≤◌, List, [], ◌∷◌, ◌++◌, Option, Some, None, Bool, true, false, refl, sym, ap}
+use Rattle.std.proofs.Common.{◌≡◌, ℕ, List, [], ◌∷◌, ◌++◌, Option, Some, None, Bool, true, false, refl, sym, ap}
 use Rattle.std.proofs.Common.{◌∙◌, subst, arith, if◌then◌else◌}
 use Rattle.std.specs.Prelude.{nat_le, ◌==◌}
 use Rattle.std.proofs.lemmas.Bool.{eqb-true}
@@ -32,7 +32,7 @@ use Rattle.resolution.specs.Working.TypedOwners.{owned_value, owned_by}
 use Rattle.resolution.specs.Working.TypedStatements.{Target, to_local, to_global, to_element, to_field, Assignee, assignee}
 use Rattle.resolution.specs.Working.TypedStatements.{assignee_at, assignee_at_element, Split, behind, last_field}
 use Rattle.resolution.specs.Working.TypedStatements.{wanted_by, field_target, assignee_along, target_of, set_to}
-use Rattle.resolution.specs.Theory.ExpressionRules.{When, when, number_when, expr_types, typed_is}
+use Rattle.resolution.specs.Theory.ExpressionRules.{at_most, at_most_is, When, when, number_when, expr_types, typed_is}
 
 -- ---- the left side of an assignment
 
@@ -232,12 +232,6 @@ tested_is : (start : ℕ) (e : core.Expr) (f : OwnerField) (i : ℕ) (a b : Bool
 tested_is start e f i true true = refl
 tested_is start e f i true false = refl
 tested_is start e f i false b = refl
-
-at_most : (n k : ℕ) → nat_le n k ≡ true → n ≤ k
-at_most n k e = grind (arith, nat_tests)
-
-at_most_is : (n k : ℕ) → n ≤ k → nat_le n k ≡ true
-at_most_is n k l = grind (arith, nat_tests)
 
 typed_as : (t : ValueType) (o : Option ValueType) → is_of t o ≡ true → o ≡ Some t
 typed_as t None e = cc
