@@ -109,8 +109,8 @@ abbrev pub copies : {A : Type 0} → ℕ → List A → List A
 copies zero xs = []
 copies (suc n) xs = xs ++ copies n xs
 
--- the calls of what a thread does, each `repeat` multiplied out. A call is of a section, with a fitting argument for each
--- parameter
+-- the calls of what a thread does, each `repeat` multiplied out. Each is of a section, with an argument that fits for
+-- each parameter
 pub data AreCalls (decls : List Decl) : Items → List core.Call → Type 0 where
   no_call : AreCalls decls no_items []
   one_call : {c : Call} {i : ℕ} {s : Section} {vs : List Value} {is : Items} {cs : List core.Call} →
