@@ -15,7 +15,7 @@ use Rattle.resolution.specs.Scopes.{Scope, meaning, helper_meant, left}
 use Rattle.resolution.specs.Working.TypedStatements.{target_of, wanted_by}
 use Rattle.resolution.specs.Statements.{after, after_all}
 use Rattle.resolution.specs.Constants.{want_of}
-use Rattle.resolution.specs.Theory.OwnerRules.{asks_right, wanted_right, wanted_nothing}
+use Rattle.resolution.proofs.OwnerRules.{asks_right, wanted_right, wanted_nothing}
 use Rattle.resolution.specs.Where.{Has, first, further, Among, here, later, in_then, in_else, in_while, IsArgument}
 use Rattle.resolution.specs.Where.{for_parameter, for_nothing, Asks, of_let, of_owned, of_let_call, of_var, of_assign, of_unassignable}
 use Rattle.resolution.specs.Where.{of_index, of_if, of_while, of_print, of_return, of_call_alone, Within}

@@ -19,8 +19,8 @@ use Rattle.resolution.specs.declared.wanted.Sort.TheVariants as sort
 use Rattle.resolution.specs.declared.wanted.Want.{Want}
 use Rattle.resolution.specs.declared.wanted.Want.TheVariants.{Anything, Condition, Value}
 use Rattle.resolution.specs.Expressions.{ResolvedExpr, value, truth, alike_sorts, fits, fits_sort, fits_type}
-use Rattle.resolution.specs.Theory.ExpressionRules.{types_is, typed_is}
-use Rattle.resolution.specs.Theory.OwnerRules.{final_types, final_is}
+use Rattle.resolution.proofs.ExpressionRules.{types_is, typed_is}
+use Rattle.resolution.proofs.OwnerRules.{final_types, final_is}
 use Rattle.resolution.specs.Working.TypedExpressions.{typed}
 use Rattle.resolution.specs.Constants.{const_sort}
 use Rattle.resolution.specs.Faults.{AreUnlike, start_of, const_start}

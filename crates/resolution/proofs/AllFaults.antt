@@ -43,8 +43,8 @@ use Rattle.resolution.specs.Constants.{pool_members, initialised, member_want, g
 use Rattle.resolution.specs.Statements.{ahead_of}
 use Rattle.resolution.specs.Where.{Has, first, further, HasStmt, HasExpr, Binds}
 use Rattle.resolution.specs.Where.{HasCall, HasConst}
-use Rattle.resolution.specs.Theory.ExpressionRules.{typed_is}
-use Rattle.resolution.specs.Theory.OwnerRules.{final_is, has_no_last}
+use Rattle.resolution.proofs.ExpressionRules.{typed_is}
+use Rattle.resolution.proofs.OwnerRules.{final_is, has_no_last}
 use Rattle.resolution.specs.Faults as fault
 use Rattle.resolution.specs.Faults.{start_of, const_start, IsTooLarge, IsDeclaredTwice, Reaches, stays, goes_on}
 use Rattle.resolution.specs.Faults.{Walks, walks, NamesGlobal, IsLockDecl, IsLockMember, IsFinalMember, IsUnknown}

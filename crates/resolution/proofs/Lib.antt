@@ -1,6 +1,9 @@
 pub mod Tests
 pub mod Named
 pub mod Members
+pub mod ExpressionRules
+pub mod OwnerRules
+pub mod StatementRules
 pub mod TrueExpressions
 pub mod TrueStatements
 pub mod TrueDeclarations

@@ -37,7 +37,7 @@ use Rattle.resolution.specs.Where.{of_global, of_array, of_pool, of_final, of_fi
 use Rattle.resolution.specs.Where.{of_a_let, of_an_owned_let, of_a_called_let, of_a_var, InItems, this_call}
 use Rattle.resolution.specs.Where.{in_repeat, later_call, HasCall, in_thread, HasConst, opening, initial, argument}
 use Rattle.resolution.specs.Faults.{start_of}
-use Rattle.resolution.specs.Theory.OwnerRules.{wanted_right, wanted_nothing}
+use Rattle.resolution.proofs.OwnerRules.{wanted_right, wanted_nothing}
 use Rattle.resolution.specs.Working.FaultLists as list
 use Rattle.resolution.specs.Working.FaultLists.{one, one_if, misfit, no_elements, no_array, operator_faults}
 use Rattle.resolution.specs.Working.FaultLists.{side_faults, expr_faults, link_faults, wanted_faults, local_faults}

@@ -31,7 +31,7 @@ use Rattle.resolution.specs.Constants.{const_sort, want_of}
 use Rattle.resolution.specs.Where.{operand_want, prefix_want, side_want, HasLink, this_link, later_link, Within}
 use Rattle.resolution.specs.Where.{itself, in_parentheses, in_prefix, in_first, in_operand, in_left, in_right}
 use Rattle.resolution.specs.Where.{in_index, HasExpr, HasPlace, is_read, HasType, HasConst}
-use Rattle.resolution.specs.Theory.ExpressionRules.{types_is}
+use Rattle.resolution.proofs.ExpressionRules.{types_is}
 use Rattle.resolution.specs.Faults as fault
 use Rattle.resolution.specs.Faults.{start_of, const_start, IsNoValue, HasNoElements, IsNoReference, IsNoStruct}
 use Rattle.resolution.specs.Faults.{IsPool, AreUnlike, too_large, unknown, wrong_type}

@@ -42,7 +42,7 @@ use Rattle.resolution.specs.Where.{names_owner}
 use Rattle.resolution.specs.Faults as fault
 use Rattle.resolution.specs.Faults.{IsNoValue, IsNoHelper, declared_twice, unknown, wrong_type, miscounted}
 use Rattle.resolution.specs.Faults.{not_assignable, over_limit, lock_as_value}
-use Rattle.resolution.specs.Theory.OwnerRules.{asks_right, ends_with_none, final_types}
+use Rattle.resolution.proofs.OwnerRules.{asks_right, ends_with_none, final_types}
 use Rattle.resolution.specs.Working.FaultLists as list
 use Rattle.resolution.specs.Working.FaultLists.{one, one_if, unfit, no_elements, path_faults, wanted_faults}
 use Rattle.resolution.specs.Working.FaultLists.{type_faults, taken, local_faults, no_target, no_array, final_faults}

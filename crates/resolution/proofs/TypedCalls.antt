@@ -15,7 +15,7 @@ use Rattle.resolution.specs.Working.TypedStatements.{typed_values, called, type_
 use Rattle.resolution.proofs.FaultlessExpressions.{IsMeant}
 use Rattle.resolution.proofs.Typed.{types_of, Is, AreAll, Taken, Acts}
 use Rattle.resolution.proofs.TypedResolvedExprs.{Sound, Have, GoodValue, value_good_of}
-use Rattle.resolution.specs.Theory.OwnerRules.{same_type}
+use Rattle.resolution.proofs.OwnerRules.{same_type}
 use Rattle.resolution.proofs.LaidLists.{added_got}
 
 -- ---- what a program holds of its helpers

@@ -15,7 +15,7 @@ use Rattle.resolution.specs.Expressions.{fits_type, member_number}
 use Rattle.resolution.specs.declared.owner_field.OwnerField.{OwnerField}
 use Rattle.resolution.specs.Working.TypedOwners.{final_of, owner_member, owner_field, is_of, owner_local, owned_value}
 use Rattle.resolution.specs.Working.TypedOwners.{owned_by}
-use Rattle.resolution.specs.Theory.OwnerRules.{same_type}
+use Rattle.resolution.proofs.OwnerRules.{same_type}
 use Rattle.resolution.proofs.Named.{member_is}
 use Rattle.resolution.proofs.Typed.{final_in, Is}
 use Rattle.resolution.proofs.TypedResolvedExprs.{Sound, Have, IsLocal, meant_local, GoodValue}

@@ -1,6 +1,6 @@
-use Rattle.resolution.specs.Theory.ExpressionRules.{types_is, typed_is}
-use Rattle.resolution.specs.Theory.OwnerRules.{target_types, target_is}
-use Rattle.resolution.specs.Theory.StatementRules.{types_stmt, stmt_is, types_body, body_is, types_the_section, section_is}
+use Rattle.resolution.proofs.ExpressionRules.{types_is, typed_is}
+use Rattle.resolution.proofs.OwnerRules.{target_types, target_is}
+use Rattle.resolution.proofs.StatementRules.{types_stmt, stmt_is, types_body, body_is, types_the_section, section_is}
 use Rattle.resolution.proofs.laws.typed_by_rules.Goals as goal
 
 pub returns-clause-expressions : goal.returns-clause-expressions

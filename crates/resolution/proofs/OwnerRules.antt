@@ -1,5 +1,5 @@
--- What the code computes of a left side of an assignment, and of what stands behind the `where` of a `let`, is what the rules say of it.
--- Nobody has to believe these facts: they are proved here, for proofs of this crate and of the crates above.
+-- What the code computes of a left side of an assignment, and of what stands behind the `where` of a `let`, is what the
+-- rules say of it.
 use Rattle.std.proofs.Common.{◌≡◌, ℕ, List, [], ◌∷◌, ◌++◌, Option, Some, None, Bool, true, false, refl, sym, ap}
 use Rattle.std.proofs.Common.{◌∙◌, subst, arith, if◌then◌else◌}
 use Rattle.std.specs.Prelude.{nat_le, ◌==◌}
@@ -32,7 +32,8 @@ use Rattle.resolution.specs.Working.TypedOwners.{owned_value, owned_by}
 use Rattle.resolution.specs.Working.TypedStatements.{Target, to_local, to_global, to_element, to_field, Assignee, assignee}
 use Rattle.resolution.specs.Working.TypedStatements.{assignee_at, assignee_at_element, Split, behind, last_field}
 use Rattle.resolution.specs.Working.TypedStatements.{wanted_by, field_target, assignee_along, target_of, set_to}
-use Rattle.resolution.specs.Theory.ExpressionRules.{at_most, at_most_is, When, when, number_when, expr_types, typed_is}
+use Rattle.resolution.proofs.ExpressionRules.{When, when, number_when, expr_types, typed_is}
+use Rattle.resolution.proofs.Tests.{le_of, le_true}
 
 -- ---- the left side of an assignment
 
@@ -243,7 +244,7 @@ module _ (sc : Scope) (t : ValueType) (o : Owner) (x : core.Expr) where
       nat_le f.structure STRUCT_LIMIT ≡ a → nat_le i SOURCE_LIMIT ≡ b →
       When (TypesOwner sc t o x) (tested_if a b (core.owned x f.structure f.number o.local.span.start i))
   limited_owner f i l final is h true true within few =
-      types_owner final is h (at_most f.structure STRUCT_LIMIT within) (at_most i SOURCE_LIMIT few)
+      types_owner final is h (le_of f.structure STRUCT_LIMIT within) (le_of i SOURCE_LIMIT few)
   limited_owner f i l final is h true false within few = tt
   limited_owner f i l final is h false b within few = tt
 
@@ -273,8 +274,8 @@ owned_is {sc = sc} (types_owner {o = o} {x = x} {f = f} {i = i} {l = l} final is
     ∙ ap (λ (u : Option ValueType). owned_value o.local.span.start (Some x) (Some f) (if is_of f.value_type u then Some i else None)) h
     ∙ ap (λ (b : Bool). owned_value o.local.span.start (Some x) (Some f) (if b then Some i else None)) (fits_itself f.value_type)
     ∙ tested_is o.local.span.start x f i (nat_le f.structure STRUCT_LIMIT) (nat_le i SOURCE_LIMIT)
-    ∙ ap (λ (b : Bool). tested_if b (nat_le i SOURCE_LIMIT) (core.owned x f.structure f.number o.local.span.start i)) (at_most_is f.structure STRUCT_LIMIT within)
-    ∙ ap (λ (b : Bool). tested_if true b (core.owned x f.structure f.number o.local.span.start i)) (at_most_is i SOURCE_LIMIT few)
+    ∙ ap (λ (b : Bool). tested_if b (nat_le i SOURCE_LIMIT) (core.owned x f.structure f.number o.local.span.start i)) (le_true f.structure STRUCT_LIMIT within)
+    ∙ ap (λ (b : Bool). tested_if true b (core.owned x f.structure f.number o.local.span.start i)) (le_true i SOURCE_LIMIT few)
 
 -- the final reference that the code finds for a type, if it has one, is one by the rules
 pub final_types : (decls : List Decl) (o : Option ValueType) (x : Ident) (f : OwnerField) → owner_field decls o x ≡ Some f →

@@ -1,5 +1,4 @@
--- What the code computes of an expression is what the rules say of it. Nobody has to believe these facts: they are proved here, for
--- proofs of this crate and of the crates above.
+-- What the code computes of an expression is what the rules say of it.
 use Rattle.std.proofs.Common.{◌≡◌, ℕ, ◌≤◌, List, [], Option, Some, None, Bool, true, false, refl, ap, ◌∙◌}
 use Rattle.std.proofs.Common.{subst, arith, if◌then◌else◌}
 use Rattle.std.specs.Prelude.{nat_le, pos}
@@ -37,6 +36,7 @@ use Rattle.resolution.specs.Working.TypedExpressions.{element_value, path_value,
 use Rattle.resolution.specs.Working.TypedExpressions.{linked, Tests, tested, all_hold, one_holds, ordered, equated}
 use Rattle.resolution.specs.Working.TypedExpressions.{number_resolved, test_resolved, compared, typed, typed_links}
 use Rattle.resolution.specs.Working.TypedExpressions.{typed_tests}
+use Rattle.resolution.proofs.Tests.{le_of, le_true}
 
 -- what is there, if anything is, is so
 abbrev pub When : {A : Type 0} → (A → Type 0) → Option A → Type 0
@@ -45,12 +45,6 @@ When P None = Unit {0}
 
 pub when : {A : Type 0} (P : A → Type 0) (o : Option A) → When P o → (x : A) → o ≡ Some x → P x
 when P o h x e = subst (When P) e h
-
-pub at_most : (n k : ℕ) → nat_le n k ≡ true → n ≤ k
-at_most n k e = grind (arith, nat_tests)
-
-pub at_most_is : (n k : ℕ) → n ≤ k → nat_le n k ≡ true
-at_most_is n k l = grind (arith, nat_tests)
 
 -- ---- what the code computes is so by the rules
 
@@ -70,7 +64,7 @@ test_when P (Some (truth c)) h = h
 
 number_types : (sc : Scope) (n : Number) (b : Bool) → nat_le n.value NUMBER_LIMIT ≡ b →
     When (Types sc (int n)) (literal (if b then Some (pos n.value) else None))
-number_types sc n true e = types_int (at_most n.value NUMBER_LIMIT e)
+number_types sc n true e = types_int (le_of n.value NUMBER_LIMIT e)
 number_types sc n false e = tt
 
 value_types : (sc : Scope) (e : Expr) (x : core.Expr) (t : Option ValueType) →
@@ -236,7 +230,7 @@ mutual
 -- ---- what is so by the rules is computed
 
 is_number : (sc : Scope) (n : Number) → n.value ≤ NUMBER_LIMIT → typed sc (int n) ≡ Some (value (core.number (pos n.value)) (Of Integer))
-is_number sc n h = ap (λ (b : Bool). literal (if b then Some (pos n.value) else None)) (at_most_is n.value NUMBER_LIMIT h)
+is_number sc n h = ap (λ (b : Bool). literal (if b then Some (pos n.value) else None)) (le_true n.value NUMBER_LIMIT h)
 
 is_marked : (r : ResolvedExpr) → parenthesised (Some r) ≡ Some (marked r)
 is_marked (value (core.place p) s) = refl

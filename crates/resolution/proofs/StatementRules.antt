@@ -1,5 +1,4 @@
--- What the code computes of statements, sections and helpers is what the rules say of them. Nobody has to believe these facts: they are
--- proved here, for proofs of this crate and of the crates above.
+-- What the code computes of statements, sections and helpers is what the rules say of them.
 use Rattle.std.proofs.Common.{◌≡◌, ℕ, List, [], ◌∷◌, length, Option, Some, None, Bool, true, false, refl, sym, ap, ◌∙◌}
 use Rattle.std.proofs.Common.{subst, if◌then◌else◌}
 use Rattle.source.specs.declared.span.Span.{Span}
@@ -32,10 +31,10 @@ use Rattle.resolution.specs.Working.TypedStatements.{assigns, prints, returns, r
 use Rattle.resolution.specs.Working.TypedStatements.{given_back, preceded, block_without, block_of, typed_stmt}
 use Rattle.resolution.specs.Working.TypedStatements.{typed_body}
 use Rattle.resolution.specs.Working.TypedSections.{core_locals, section_with, section_of, typed_section}
-use Rattle.resolution.specs.Theory.ExpressionRules.{When, when, number_when, test_when, expr_types, typed_is, gives_when}
-use Rattle.resolution.specs.Theory.ExpressionRules.{given_is}
-use Rattle.resolution.specs.Theory.OwnerRules.{AssignsTo, place_assigns, target_is, same_type, fits_itself, owner_types}
-use Rattle.resolution.specs.Theory.OwnerRules.{owned_is}
+use Rattle.resolution.proofs.ExpressionRules.{When, when, number_when, test_when, expr_types, typed_is, gives_when}
+use Rattle.resolution.proofs.ExpressionRules.{given_is}
+use Rattle.resolution.proofs.OwnerRules.{AssignsTo, place_assigns, target_is, same_type, fits_itself, owner_types}
+use Rattle.resolution.proofs.OwnerRules.{owned_is}
 
 -- ---- what the code computes is so by the rules: calls
 
