@@ -1,8 +1,7 @@
 -- What the code computes of an expression is what the rules say of it.
 use Rattle.std.proofs.Common.{◌≡◌, ℕ, ◌≤◌, List, [], Option, Some, None, Bool, true, false, refl, ap, ◌∙◌}
-use Rattle.std.proofs.Common.{subst, arith, if◌then◌else◌}
+use Rattle.std.proofs.Common.{subst, if◌then◌else◌}
 use Rattle.std.specs.Prelude.{nat_le, pos}
-use Rattle.std.proofs.lemmas.Bool.Decides.{nat_tests}
 use Rattle.source.specs.Texts.{NUMBER_LIMIT}
 use Rattle.source.specs.declared.span.Span.{Span}
 use Rattle.source.specs.declared.token.Number.{Number}

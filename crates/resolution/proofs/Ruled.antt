@@ -10,7 +10,7 @@ use Rattle.resolution.specs.Scopes.{◌>>=◌, outside, type_of, struct_named}
 use Rattle.resolution.specs.Constants.{members_of}
 use Rattle.resolution.specs.Annotations.{class_of}
 use Rattle.resolution.specs.Working.TypedSections.{typed_section}
-use Rattle.resolution.specs.Theory.StatementRules.{types_the_section, section_is}
+use Rattle.resolution.proofs.StatementRules.{types_the_section, section_is}
 use Rattle.resolution.specs.Tables.{Adds, adds_class, adds_struct, adds_global, adds_array}
 use Rattle.resolution.specs.Tables.{adds_pool, adds_nothing, adds_section, adds_helper, adds_thread, AddAll}
 use Rattle.resolution.specs.Tables.{no_declaration, first_and_rest, Makes, lock_classes}
