@@ -29,7 +29,7 @@ use Rattle.resolution.proofs.Scoped.{Names, StmtsName, behind_all, all_binding, 
 use Rattle.resolution.proofs.Scoped.{body_binding, body_assigning, result_scoped}
 use Rattle.resolution.proofs.ScopedStatements.{IsVarAt, Become, ReturnDone, numbers_cover, body_done, get_lt}
 use Rattle.resolution.specs.Typing.{TypesBody, TypesLocals, no_local, one_local, TypesSection, types_section}
-use Rattle.resolution.proofs.StatementRules.{types_the_section, locals_are}
+use Rattle.resolution.proofs.StatementRules.{types_the_section}
 
 -- ---- well typed
 
@@ -157,7 +157,7 @@ module _ (decls : List Decl) (limits : BodyLimits) (s : Section) (xs : List core
   params = let r = entered_length (ahead_of decls limits s) s.params in omega (arith, r)
 
   becomes : Become ends xs
-  becomes n l e = let r = locals_got ends xs (locals_are are) n l e in (r.0, r.1, r.2)
+  becomes n l e = let r = locals_got are n l e in (r.0, r.1, r.2)
 
   kinds_are : (k : ℕ) (x : core.Local) → slice_get xs k ≡ Some x →
       (k < length s.params → x.kind ≡ kind.Parameter) × (length s.params ≤ k → x.kind ≢ kind.Parameter)
@@ -165,7 +165,7 @@ module _ (decls : List Decl) (limits : BodyLimits) (s : Section) (xs : List core
       let len = locals_length are in
       let lt = get_lt xs k x e in
       let at = get_some ends k (let z : k < length ends = omega (arith, len, lt) in z) in
-      let r = locals_got ends xs (locals_are are) k at.0 at.1 in
+      let r = locals_got are k at.0 at.1 in
       let same : Some r.0 ≡ Some x = sym r.1 ∙ e in
       let kd : x.kind ≡ at.0.kind = (let q : r.0 ≡ x = cc in sym (ap (λ (y : core.Local). y.kind) q) ∙ r.2) in (
         (λ less. kd ∙ first_kind k at.0 at.1 less),
