@@ -38,12 +38,6 @@ use Rattle.resolution.proofs.TypedCalls.{HasHelpers, call_good}
 abbrev pub Kept : List scope.Local → List scope.Local → Type 0
 Kept a b = (n : ℕ) (l : scope.Local) → slice_get a n ≡ Some l → (k : scope.Local) × (slice_get b n ≡ Some k) × (k.value_type ≡ l.value_type) × (k.kind ≡ l.kind)
 
-pub kept_self : (a : List scope.Local) → Kept a a
-kept_self a n l e = (l, e, refl, refl)
-
-pub kept_trans : (a b c : List scope.Local) → Kept a b → Kept b c → Kept a c
-kept_trans a b c h g n l e = let x = h n l e in let y = g n x.0 x.1 in (y.0, y.1, y.2 ∙ x.2, y.3 ∙ x.3)
-
 pub slice_front : {A : Type 0} (xs ys : List A) (n : ℕ) (x : A) → slice_get xs n ≡ Some x →
     slice_get (xs ++ ys) n ≡ Some x
 slice_front [] ys n x e = cc
