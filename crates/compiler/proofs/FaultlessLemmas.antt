@@ -1,5 +1,5 @@
 -- Where each pass answers, the text has no fault.
-use Rattle.std.proofs.Common.{◌≡◌, ℕ, ◌<◌, ◌≤◌, List, length, Some, inl, inr, refl, sym, ap, subst, ◌∙◌, arith}
+use Rattle.std.proofs.Common.{◌≡◌, ℕ, ◌<◌, ◌≤◌, List, length, inl, inr, refl, sym, subst, arith}
 use Rattle.std.proofs.lemmas.Bool.{cases_lt}
 use Rattle.source.specs.declared.fault.Code.{Code}
 use Rattle.source.specs.declared.fault.Fault as the_fault
@@ -13,7 +13,8 @@ use Rattle.syntax.specs.Faults.{NoEnd, IsMisplaced, unended, unexpected, too_dee
 use Rattle.resolution.specs.Faults as names
 use Rattle.core_lang.specs.declared.typed.Typed.{Typed}
 use Rattle.resolution.specs.CoreViews.{core_of}
-use Rattle.resolution.specs.Working.Building.{resolved}
+use Rattle.resolution.specs.Tables.{AreTables}
+use Rattle.resolution.specs.Working.Laws.{StandsForOne}
 use Rattle.resolution.specs.Resolved.{Resolves}
 use Rattle.core_lang_expansion.specs.Data.{IsExpanded}
 use Rattle.locks.specs.Faults as paths
@@ -43,6 +44,7 @@ tokens_faultless source ts tree _ start has right placed (misplaced m) = placed 
 -- the text has no fault where neither it, nor its tokens, nor their tree, nor a program that this means has one
 module _ (source : List ℕ) (ts : List Tok) (tree : List Decl) (program written : Typed)
     (no_text : (code : Code) (start : ℕ) → text.IsFault source code start → ⊥)
+    (one_program : StandsForOne)
     (one : (other : List Tok) → length source ≤ SOURCE_LIMIT → text.HasTokens source other → ts ≡ other)
     (has : text.HasTokens source ts) (right : grammar.HasRightTree ts tree) (placed : (s : ℕ) → IsMisplaced ts s → ⊥)
     (only : (other : List Decl) → grammar.HasRightTree ts other → tree ≡ other) (no_tree : names.HasNoFault tree)
@@ -57,8 +59,8 @@ module _ (source : List ℕ) (ts : List Tok) (tree : List Decl) (program written
   program_same : (other : Typed) (decls : List Decl) → tree ≡ decls → Resolves decls other →
       core_of other ≡ core_of program
   program_same other decls same resolves =
-      let both : Some (core_of other) ≡ Some (core_of program) = sym resolves ∙ ap resolved (sym same) ∙ means in
-      cc
+      one_program tree (core_of other) (core_of program)
+      (subst (λ (d : List Decl). AreTables d (core_of other)) (sym same) resolves) means
 
   -- and with its helpers written out it is one, too
   written_same : (other out : Typed) (decls : List Decl) → tree ≡ decls → Resolves decls other →

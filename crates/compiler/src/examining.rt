@@ -15,6 +15,7 @@ use lockorder::ranks::{Cycle, Edge, OrderRefusal, Ranks};
 use lockpaths::paths;
 use lockpaths::table::Paths;
 use parser::parse;
+use resolution::laws::one_program;
 use source::fault::{Fault, Refusal};
 use source::memory::NoMemory;
 use std::alloc::Global;
@@ -70,6 +71,7 @@ pub fn examine(alloc: Global, text: &[u8]) -> Result<Result<Ordered, Cyclic>, Re
     ensures fault { IfErr result (IsRefusal text.now) }
     ensures bare { IfErr result IsBare }
 {
+    one_program();
     let tokens = lex(alloc, text)?;
     let tree = parse(alloc, &tokens)?;
     drop(tokens);

@@ -20,6 +20,7 @@ use lockpaths::paths;
 use lockpaths::table::Paths;
 use lowering::compiled::{Program, Trees};
 use parser::parse;
+use resolution::laws::one_program;
 use source::fault::Refusal;
 use source::memory::NoMemory;
 use std::alloc::Global;
@@ -90,6 +91,7 @@ pub fn compile(alloc: Global, text: &[u8]) -> Result<Program, Refusal>
     ensures compiled { IfOk result IsCompiled }
     ensures fault { IfErr result (IsRefusal text.now) }
 {
+    one_program();
     let tokens = lex(alloc, text)?;
     let tree = parse(alloc, &tokens)?;
     drop(tokens);

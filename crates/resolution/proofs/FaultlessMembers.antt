@@ -19,7 +19,6 @@ use Rattle.resolution.specs.Numbers.{is_lock, new_field, fields_from}
 use Rattle.resolution.specs.Expressions.{want}
 use Rattle.resolution.specs.Constants.{members_of, pool_members, initialised, member_want, given, opened, default_of}
 use Rattle.resolution.specs.Constants.{referred}
-use Rattle.resolution.specs.Working.Building.{opening_of}
 use Rattle.resolution.specs.Where.{Has, of_final, of_field}
 use Rattle.resolution.specs.Faults as fault
 use Rattle.resolution.specs.Faults.{final_missing}
@@ -131,7 +130,9 @@ count_few p (m ∷ ms) = by_test (p m) (count_few p ms)
 abbrev pub Ready : List Decl → InitTarget → Member → Type 0
 Ready decls g (lock_member x) = Unit {0}
 Ready decls g (final_member f) = (o : ℕ) × (referred decls (struct_named decls f.target) (given decls g) ≡ Some o)
-Ready decls g (field_member f) = (t : core_type.ValueType) × (v : Value) × (type_of (outside decls) f.value_type ≡ Some t) × (opening_of decls (type_of (outside decls) f.value_type) (given decls g) ≡ Some v)
+Ready decls g (field_member f) =
+    (t : core_type.ValueType) × (v : Value) × (type_of (outside decls) f.value_type ≡ Some t) ×
+    (opened decls t (given decls g) ≡ Some v)
 
 -- what is listed for an `init` that gives a member its value
 pub record Judged (decls : List Decl) (x : Member) (m : ℕ) (c : Const) : Type 0 where
@@ -172,10 +173,10 @@ field_ready : (decls : List Decl) → Clean decls → (g : InitTarget) (f : Fiel
     ((c : Const) → o ≡ Some c → NoneIn (const_faults decls (want (type_of (outside decls) f.value_type)) c)) →
     Ready decls g (field_member f)
 field_ready decls clean g f t None is up =
-    (t.value_type, default_of t.value_type, t.is, ap (λ (y : Option core_type.ValueType). opening_of decls y (given decls g)) t.is ∙ ap (opened decls t.value_type) is)
+    (t.value_type, default_of t.value_type, t.is, ap (opened decls t.value_type) is)
 field_ready decls clean g f t (Some c) is up =
     let v = const_is decls clean (wanted.Value t.value_type) c (subst (λ (y : Option core_type.ValueType). NoneIn (const_faults decls (want y) c)) t.is (up c refl)) in
-    (t.value_type, v.of.val, t.is, ap (λ (y : Option core_type.ValueType). opening_of decls y (given decls g)) t.is ∙ ap (opened decls t.value_type) is ∙ v.is)
+    (t.value_type, v.of.val, t.is, ap (opened decls t.value_type) is ∙ v.is)
 
 no_null : (decls : List Decl) (f : Final) (m s : ℕ) (c : Const) → struct_named decls f.target ≡ Some s →
     NoneIn (null_faults decls (Some (m, final_member f)) c) → (at : Span) → c ≡ null_const at → ⊥

@@ -1,6 +1,7 @@
 -- A program with no fault is resolved.
 use Rattle.std.proofs.Common.{◌≡◌, ℕ, zero, suc, ◌+◌, ◌*◌, ◌<◌, ◌≤◌, List, [], ◌∷◌, ◌++◌, length, Option, Some, None}
-use Rattle.std.proofs.Common.{Bool, true, false, if◌then◌else◌, refl, sym, ap, ◌∙◌, subst, append_assoc, arith}
+use Rattle.std.proofs.Common.{Bool, false, if◌then◌else◌, refl, sym, ap, ◌∙◌, subst, append_assoc, arith}
+use Rattle.std.proofs.lemmas.List.{length-append}
 use Rattle.std.specs.Prelude.{nat_le, nat_lt, slice_get}
 use Rattle.source.specs.declared.fault.Code.TheVariants.{LimitExceeded}
 use Rattle.syntax.specs.Returns.{ReturnsRight}
@@ -8,27 +9,23 @@ use Rattle.syntax.specs.Trees.{ref_type, Const, Member, lock_member, final_membe
 use Rattle.syntax.specs.Trees.{Array, Pool, Decl, lock, struct, global, array, pool, init, atomic, helper, thread}
 use Rattle.core_lang.specs.declared.value.Value.{Value}
 use Rattle.core_lang.specs.declared.value.ValueType as core_type
-use Rattle.core_lang.specs.declared.typed.Owner.{Owner}
+use Rattle.core_lang.specs.declared.typed.Cell.{Cell}
+use Rattle.core_lang.specs.declared.shape.Object.{Object}
 use Rattle.core_lang.specs.declared.typed.Owner.TheVariants as owner
 use Rattle.resolution.specs.declared.wanted.Want.TheVariants as wanted
+use Rattle.resolution.specs.declared.init_target.InitTarget.{InitTarget}
 use Rattle.resolution.specs.Core as core
 use Rattle.resolution.specs.Limits.{MEMBER_LIMIT, OBJECT_LIMIT, CELL_LIMIT, CALL_LIMIT, section_limits, helper_limits}
-use Rattle.resolution.specs.Limits.{up_to, object_at, cell_at, final_at, STRUCT_LIMIT}
-use Rattle.resolution.specs.Scopes.{◌>>=◌, outside, bears, the_decl, type_of, count, alike}
+use Rattle.resolution.specs.Limits.{up_to, STRUCT_LIMIT}
+use Rattle.resolution.specs.Scopes.{outside, bears, the_decl, type_of, count, alike}
 use Rattle.resolution.specs.Numbers.{width, total, classes_of, objects_of, cells_of, calls_of}
 use Rattle.resolution.specs.Expressions.{want}
-use Rattle.resolution.specs.Constants.{members_of, members_in, default_of}
-use Rattle.resolution.specs.Annotations.{protection_of}
-use Rattle.resolution.specs.Working.Building.{few_calls, typed_items}
-use Rattle.resolution.specs.Working.Building.{StructBuilder, lock_added, final_added, field_added}
-use Rattle.resolution.specs.Tables.{nothing_yet}
-use Rattle.resolution.specs.Working.Building.{members_added, empty_struct, with_class, with_struct, with_cell}
-use Rattle.resolution.specs.Working.Building.{with_section, with_helper, with_thread, global_added, with_global}
-use Rattle.resolution.specs.Working.Building.{opening_of}
-use Rattle.resolution.specs.Working.Building.{with_elements, array_added, with_array, Slot, slot_given, final_cell}
-use Rattle.resolution.specs.Working.Building.{field_cell, with_members, object_added, with_object, with_objects}
-use Rattle.resolution.specs.Working.Building.{pool_added}
-use Rattle.resolution.specs.Working.Building.{with_pool, extended, resolved_from, resolved}
+use Rattle.resolution.specs.Constants.{members_of, members_in, default_of, opened}
+use Rattle.resolution.specs.Tables.{nothing_yet, Makes, no_member, lock_field, final_field, field, lock_classes}
+use Rattle.resolution.specs.Tables.{elements, next, OpensWith, with_nothing, past_lock, final_opened, field_opened}
+use Rattle.resolution.specs.Tables.{AddObjects, no_object, one_object_more, Adds, adds_class, adds_struct}
+use Rattle.resolution.specs.Tables.{adds_global, adds_array, adds_pool, adds_nothing, adds_section, adds_helper}
+use Rattle.resolution.specs.Tables.{adds_thread, AddAll, no_declaration, first_and_rest, AreTables}
 use Rattle.resolution.specs.Where.{Has, first, further, of_section, of_helper, of_pool, of_global, of_array, of_final}
 use Rattle.resolution.specs.Where.{of_field}
 use Rattle.resolution.specs.Working.FaultLists.{one_if, first_too_many, member_twice_faults, member_counts}
@@ -45,6 +42,7 @@ use Rattle.resolution.proofs.FaultlessConstants.{const_is, class_is, protection_
 use Rattle.resolution.proofs.FaultlessSections.{section_is, items_are}
 use Rattle.resolution.proofs.FaultlessMembers.{fields_are, members_few, count_few, is_final, is_field, Ready, ready}
 use Rattle.resolution.proofs.Tests.{le_true, and_false, lt_false}
+use Rattle.resolution.proofs.StatementRules.{types_the_section}
 
 -- ---- counts
 
@@ -130,117 +128,149 @@ pub record Grown (p q : core.Program) (c o f : ℕ) : Type 0 where
   pub objects : length q.objects ≡ length p.objects + o
   pub finals : length q.finals ≡ length p.finals + f
 
-abbrev Puts : core.Program → Option core.Program → ℕ → ℕ → ℕ → Type 0
-Puts p o c b f = (q : core.Program) × (o ≡ Some q) × Grown p q c b f
+-- what an object opens with
+record Opening (decls : List Decl) (object : ℕ) (at : InitTarget) (fields : ℕ) (ms : List Member) : Type 0 where
+  finals : List ℕ
+  cells : List Cell
+  opens : OpensWith decls object at fields ms finals cells
+  final_count : length finals ≡ count is_final ms
+  cell_count : length cells ≡ count is_field ms
 
-members_put : (decls : List Decl) (slot : Slot) (k fields : ℕ) (p : core.Program) (ms : List Member) →
-    ((j : ℕ) (x : Member) → slice_get ms j ≡ Some x →
-    Ready decls (record { pool = slot.pool; index = slot.index; member = k + j }) x) →
-    Puts p (with_members decls slot k fields (Some p) ms) (count is_field ms) 0 (count is_final ms)
-members_put decls slot k fields p [] up = (p, refl, record { cells = omega arith; objects = omega arith; finals = omega arith })
-members_put decls slot k fields p (lock_member x ∷ ms) up =
-    members_put decls slot (k + 1) fields p ms (λ j y e. subst (λ (i : ℕ). Ready decls (record { pool = slot.pool; index = slot.index; member = i }) y) (let z : k + suc j ≡ k + 1 + j = omega arith in z) (up (suc j) y e))
-members_put decls slot k fields p (final_member f ∷ ms) up =
-    let r = subst (λ (i : ℕ). Ready decls (record { pool = slot.pool; index = slot.index; member = i }) (final_member f)) (let z : k + 0 ≡ k = omega arith in z) (up 0 (final_member f) refl) in
-    let p1 : core.Program = record p { finals = p.finals ++ r.0 ∷ [] } in
-    let rest = members_put decls slot (k + 1) fields p1 ms (λ j y e. subst (λ (i : ℕ). Ready decls (record { pool = slot.pool; index = slot.index; member = i }) y) (let z : k + suc j ≡ k + 1 + j = omega arith in z) (up (suc j) y e)) in
-    let len = length_push p.finals r.0 in (
-      rest.0,
-      ap (λ (o : Option ℕ). with_members decls slot (k + 1) fields (final_cell p o) ms) r.1 ∙ rest.1,
-      record { cells = rest.2.cells; objects = rest.2.objects; finals = (let g = rest.2.finals in omega (arith, g, len)) },
-    )
-members_put decls slot k fields p (field_member f ∷ ms) up =
-    let r = subst (λ (i : ℕ). Ready decls (record { pool = slot.pool; index = slot.index; member = i }) (field_member f)) (let z : k + 0 ≡ k = omega arith in z) (up 0 (field_member f) refl) in
-    let o : Owner = owner.Field slot.object fields in
-    let p1 : core.Program = with_cell p o r.0 r.1 in
-    let rest = members_put decls slot (k + 1) (fields + 1) p1 ms (λ j y e. subst (λ (i : ℕ). Ready decls (record { pool = slot.pool; index = slot.index; member = i }) y) (let z : k + suc j ≡ k + 1 + j = omega arith in z) (up (suc j) y e)) in
-    let len = length_push p.cells (record { owner = o; value_type = r.0; opening = r.1 }) in (
-      rest.0,
-      ap (λ (x : Option core_type.ValueType). with_members decls slot (k + 1) (fields + 1) (field_cell p o x (opening_of decls (type_of (outside decls) f.value_type) (slot_given decls slot k))) ms) r.2
-          ∙ ap (λ (x : Option Value). with_members decls slot (k + 1) (fields + 1) (field_cell p o (Some r.0) x) ms) r.3 ∙ rest.1,
-      record { cells = (let g = rest.2.cells in omega (arith, g, len)); objects = rest.2.objects; finals = rest.2.finals },
-    )
+-- members of an object have their values, from one on
+abbrev AllReady : List Decl → InitTarget → List Member → Type 0
+AllReady decls at ms = (j : ℕ) (x : Member) → slice_get ms j ≡ Some x →
+    Ready decls (record at { member = at.member + j }) x
 
-object_put : (decls : List Decl) (i number : ℕ) (ms : List Member) (n : ℕ) (p : core.Program) →
-    length p.cells ≤ CELL_LIMIT → length p.finals ≤ 2097152 →
-    ((j : ℕ) (x : Member) → slice_get ms j ≡ Some x → Ready decls (record { pool = i; index = n; member = j }) x) →
-    Puts p (with_object decls i number ms n p) (count is_field ms) 1 (count is_final ms)
-object_put decls i number ms n p cells finals up =
-    let slot : Slot = record { pool = i; index = n; object = length p.objects } in
-    let p1 = object_added p number (length p.cells) (length p.finals) in
-    let r = members_put decls slot 0 0 p1 ms (λ j x e. subst (λ (k : ℕ). Ready decls (record { pool = i; index = n; member = k }) x) (let z : j ≡ 0 + j = omega arith in z) (up j x e)) in
-    let len = length_push p.objects (record { pool = number; cells = length p.cells; finals = length p.finals }) in (
-      r.0,
-      ap (λ (o : Option ℕ). o >>= λ c. final_at (length p.finals) >>= λ f. with_members decls slot 0 0 (Some (object_added p number c f)) ms) (up_is CELL_LIMIT (length p.cells) cells)
-          ∙ ap (λ (o : Option ℕ). o >>= λ f. with_members decls slot 0 0 (Some (object_added p number (length p.cells) f)) ms) (up_is 2097152 (length p.finals) finals) ∙ r.1,
-      record { cells = r.2.cells; objects = (let g = r.2.objects in omega (arith, g, len)); finals = r.2.finals },
-    )
+ready_now : (decls : List Decl) (at : InitTarget) (m : Member) (ms : List Member) → AllReady decls at (m ∷ ms) →
+    Ready decls at m
+ready_now decls at m ms up =
+    let z : at.member + 0 ≡ at.member = omega arith in
+    subst (λ (i : ℕ). Ready decls (record at { member = i }) m) z (up 0 m refl)
 
-objects_put : (decls : List Decl) (i number len : ℕ) (ms : List Member) (p : core.Program) → (n : ℕ) → n ≤ len →
+ready_next : (decls : List Decl) (at : InitTarget) (m : Member) (ms : List Member) → AllReady decls at (m ∷ ms) →
+    AllReady decls (next at) ms
+ready_next decls at m ms up j y e =
+    let z : at.member + suc j ≡ at.member + 1 + j = omega arith in
+    subst (λ (i : ℕ). Ready decls (record at { member = i }) y) z (up (suc j) y e)
+
+members_put : (decls : List Decl) (object : ℕ) (at : InitTarget) (fields : ℕ) (ms : List Member) →
+    AllReady decls at ms → Opening decls object at fields ms
+members_put decls object at fields [] up =
+    record { finals = []; cells = []; opens = with_nothing; final_count = refl; cell_count = refl }
+members_put decls object at fields (lock_member x ∷ ms) up =
+    let r = members_put decls object (next at) fields ms (ready_next decls at (lock_member x) ms up) in
+    record {
+      finals = r.finals;
+      cells = r.cells;
+      opens = past_lock r.opens;
+      final_count = r.final_count;
+      cell_count = r.cell_count;
+    }
+members_put decls object at fields (final_member f ∷ ms) up =
+    let o = ready_now decls at (final_member f) ms up in
+    let r = members_put decls object (next at) fields ms (ready_next decls at (final_member f) ms up) in
+    record {
+      finals = o.0 ∷ r.finals;
+      cells = r.cells;
+      opens = final_opened o.1 r.opens;
+      final_count = ap suc r.final_count;
+      cell_count = r.cell_count;
+    }
+members_put decls object at fields (field_member f ∷ ms) up =
+    let o = ready_now decls at (field_member f) ms up in
+    let r = members_put decls object (next at) (fields + 1) ms (ready_next decls at (field_member f) ms up) in
+    record {
+      finals = r.finals;
+      cells = record { owner = owner.Field object fields; value_type = o.0; opening = o.1 } ∷ r.cells;
+      opens = field_opened o.2 o.3 r.opens;
+      final_count = r.final_count;
+      cell_count = ap suc r.cell_count;
+    }
+
+objects_put : (decls : List Decl) (i number len : ℕ) (ms : List Member) (p : core.Program) (n : ℕ) → n ≤ len →
     length p.cells + len * count is_field ms ≤ CELL_LIMIT → length p.finals + len * count is_final ms ≤ 2097152 →
     ((m j : ℕ) (x : Member) → m < len → slice_get ms j ≡ Some x → Ready decls (record { pool = i; index = m; member = j }) x) →
-    Puts p (with_objects decls i number ms (Some p) n) (n * count is_field ms) n (n * count is_final ms)
-objects_put decls i number len ms p zero le cells finals up = (p, refl, record { cells = omega arith; objects = omega arith; finals = omega arith })
+    (q : core.Program) × AddObjects decls i number ms n p q × Grown p q (n * count is_field ms) n
+    (n * count is_final ms)
+objects_put decls i number len ms p zero le cells finals up =
+    (p, no_object, record { cells = omega arith; objects = omega arith; finals = omega arith })
 objects_put decls i number len ms p (suc n) le cells finals up =
     let w = count is_field ms in
     let f = count is_final ms in
     let less : n < len = omega (arith, le) in
     let r = objects_put decls i number len ms p n (let z : n ≤ len = omega (arith, le) in z) cells finals up in
+    let q = r.0 in
     let cw : n * w ≤ len * w = mul_mono n len w (let z : n ≤ len = omega (arith, le) in z) in
     let cf : n * f ≤ len * f = mul_mono n len f (let z : n ≤ len = omega (arith, le) in z) in
     let gc = r.2.cells in
     let gf = r.2.finals in
     let go = r.2.objects in
-    let s = object_put decls i number ms n r.0 (let z : length r.0.cells ≤ CELL_LIMIT = omega (arith, gc, cw, cells) in z) (let z : length r.0.finals ≤ 2097152 = omega (arith, gf, cf, finals) in z) (λ j x e. up n j x less e) in
-    let sc = s.2.cells in
-    let so = s.2.objects in
-    let sf = s.2.finals in (
-      s.0,
-      ap (λ (o : Option core.Program). o >>= λ q. with_object decls i number ms n q) r.1 ∙ s.1,
-      record { cells = (let z : length s.0.cells ≡ length p.cells + suc n * w = omega (arith, gc, sc) in z); objects = (let z : length s.0.objects ≡ length p.objects + suc n = omega (arith, go, so) in z); finals = (let z : length s.0.finals ≡ length p.finals + suc n * f = omega (arith, gf, sf) in z) },
+    let room : length q.cells ≤ CELL_LIMIT = omega (arith, gc, cw, cells) in
+    let space : length q.finals ≤ 2097152 = omega (arith, gf, cf, finals) in
+    let at : InitTarget = record { pool = i; index = n; member = 0 } in
+    let all : AllReady decls at ms =
+    λ j x e. subst (λ (k : ℕ). Ready decls (record { pool = i; index = n; member = k }) x)
+    (let z : j ≡ 0 + j = omega arith in z) (up n j x less e) in
+    let o = members_put decls (length q.objects) at 0 ms all in
+    let x : Object = record { pool = number; cells = length q.cells; finals = length q.finals } in
+    let lc = length-append q.cells o.cells in
+    let lf = length-append q.finals o.finals in
+    let lo = length_push q.objects x in
+    let oc = o.cell_count in
+    let of = o.final_count in
+    let nc : length (q.cells ++ o.cells) ≡ length p.cells + suc n * w = omega (arith, gc, lc, oc) in
+    let no : length (q.objects ++ x ∷ []) ≡ length p.objects + suc n = omega (arith, go, lo) in
+    let nf : length (q.finals ++ o.finals) ≡ length p.finals + suc n * f = omega (arith, gf, lf, of) in (
+      record q { objects = q.objects ++ x ∷ []; finals = q.finals ++ o.finals; cells = q.cells ++ o.cells },
+      one_object_more r.1 (up_is CELL_LIMIT (length q.cells) room) (up_is 2097152 (length q.finals) space) o.opens,
+      record { cells = nc; objects = no; finals = nf },
     )
 
-elements_put : (p : core.Program) (a : ℕ) (t : core_type.ValueType) (n : ℕ) → Grown p (with_elements p a t n) n 0 0
-elements_put p a t zero = record { cells = omega arith; objects = omega arith; finals = omega arith }
-elements_put p a t (suc n) =
-    let g = elements_put p a t n in
-    let len = length_push (with_elements p a t n).cells (record { owner = owner.Element a n; value_type = t; opening = default_of t }) in
-    let gc = g.cells in
-    record { cells = (let z : length (with_elements p a t (suc n)).cells ≡ length p.cells + suc n = omega (arith, len, gc) in z); objects = g.objects; finals = g.finals }
+elements_length : (a : ℕ) (t : core_type.ValueType) (n : ℕ) → length (elements a t n) ≡ n
+elements_length a t zero = refl
+elements_length a t (suc n) =
+    let l = length_push (elements a t n)
+    (record { owner = owner.Element a n; value_type = t; opening = default_of t }) in
+    let r = elements_length a t n in
+    omega (arith, l, r)
 
 -- ---- structs
 
-struct_put : (decls : List Decl) → Clean decls → (k i : ℕ) (s : Struct) → slice_get decls i ≡ Some (struct s) →
-    (st : StructBuilder) (ms : List Member) → ((m : Member) → Has ms m → Has s.members m) →
-    NoneIn (members_faults decls i s.members ms) →
-    (to : StructBuilder) × (members_added decls k i s.members (Some st) ms ≡ Some to)
-struct_put decls clean k i s at st [] up none = (st, refl)
-struct_put decls clean k i s at st (lock_member x ∷ ms) up none = struct_put decls clean k i s at (lock_added k st x.text) ms (λ m h. up m (further h)) none
-struct_put decls clean k i s at st (final_member f ∷ ms) up none =
+struct_put : (decls : List Decl) → Clean decls → (i : ℕ) (s : Struct) → slice_get decls i ≡ Some (struct s) →
+    (class : ℕ) (ms : List Member) → ((m : Member) → Has ms m → Has s.members m) →
+    NoneIn (members_faults decls i s.members ms) → (t : core.Struct) × Makes decls i s class ms t
+struct_put decls clean i s at class [] up none =
+    (record { name = s.name.text; locks = []; finals = []; fields = [] }, no_member)
+struct_put decls clean i s at class (lock_member x ∷ ms) up none =
+    let r = struct_put decls clean i s at (class + 1) ms (λ m h. up m (further h)) none in
+    (record (r.0) { locks = record { name = x.text; class = class } ∷ r.0.locks }, lock_field r.1)
+struct_put decls clean i s at class (final_member f ∷ ms) up none =
     let has = at_has decls i (struct s) at in
     let t = known_named decls clean f.target (of_final has (up (final_member f) first)) in
-    let to : StructBuilder = record st { structure = record (st.structure) { finals = st.structure.finals ++ record { name = f.name.text; target = t.number } ∷ [] } } in
-    let r = struct_put decls clean k i s at to ms (λ m h. up m (further h)) (none_right (type_faults (outside decls) (ref_type f.target)) (members_faults decls i s.members ms) none) in
-    (r.0, ap (λ (o : Option ℕ). members_added decls k i s.members (final_added st f.name.text o) ms) t.is ∙ r.1)
-struct_put decls clean k i s at st (field_member f ∷ ms) up none =
+    let rest = members_faults decls i s.members ms in
+    let r = struct_put decls clean i s at class ms (λ m h. up m (further h))
+    (none_right (type_faults (outside decls) (ref_type f.target)) rest none) in
+    (record (r.0) { finals = record { name = f.name.text; target = t.number } ∷ r.0.finals }, final_field t.is r.1)
+struct_put decls clean i s at class (field_member f ∷ ms) up none =
     let has = at_has decls i (struct s) at in
     let a = type_faults (outside decls) f.value_type in
     let b = protection_faults decls i s.members f.name.span.start f.protection in
     let rest = members_faults decls i s.members ms in
     let t = known decls clean (outside decls) f.value_type (of_field has (up (field_member f) first)) in
     let p = protection_is decls clean i s at f.name.span.start f.protection (none_right a b (none_left (a ++ b) rest none)) in
-    let to : StructBuilder = record st { structure = record (st.structure) { fields = st.structure.fields ++ record { name = f.name.text; value_type = t.value_type; protection = p.0 } ∷ [] } } in
-    let r = struct_put decls clean k i s at to ms (λ m h. up m (further h)) (none_right (a ++ b) rest none) in (
-      r.0,
-      ap (λ (o : Option core_type.ValueType). members_added decls k i s.members (field_added st f.name.text o (protection_of decls i s.members f.protection)) ms) t.is
-          ∙ ap (λ (o : Option core.Protection). members_added decls k i s.members (field_added st f.name.text (Some t.value_type) o) ms) p.1 ∙ r.1,
+    let r = struct_put decls clean i s at class ms (λ m h. up m (further h)) (none_right (a ++ b) rest none) in (
+      record (r.0) {
+        fields =
+            record { name = f.name.text; value_type = t.value_type; protection = p.0 } ∷ r.0.fields;
+      },
+      field t.is p.1 r.1,
     )
 
 -- ---- declarations
 
 -- one more declaration is resolved
-abbrev Extends : List Decl → List Decl → Decl → Option core.Program → Type 0
-Extends decls before d o = (q : core.Program) × (o ≡ Some q) × Counted decls (before ++ d ∷ []) q
+abbrev Extends : List Decl → List Decl → ℕ → Decl → core.Program → Type 0
+Extends decls before i d p = (q : core.Program) × Adds decls i d p q × Counted decls (before ++ d ∷ []) q
 
 -- what is known of a declaration and of those before it
 pub record Stage (decls before : List Decl) (i : ℕ) (d : Decl) (p : core.Program) : Type 0 where
@@ -268,16 +298,16 @@ same_counted : (decls before : List Decl) (d : Decl) (p q : core.Program) → Co
 same_counted decls before d p q n ec eo ef zc zo =
     grown_counted decls before d p q 0 0 0 n (record { cells = omega (arith, ec); objects = omega (arith, eo); finals = omega (arith, ef) }) (sym zc) (sym zo) (omega arith)
 
--- a global's or an array's parts
-opening_is : (decls : List Decl) → Clean decls → (o : Option core_type.ValueType) → Typing decls o →
-    (c : Option Const) → NoneIn (opening_faults decls (want o) c) → (v : Value) × (opening_of decls o c ≡ Some v)
-opening_is decls clean o t None none = (default_of t.value_type, ap (λ (x : Option core_type.ValueType). opening_of decls x None) t.is)
+-- what a global opens with
+opening_is : (decls : List Decl) → Clean decls → (o : Option core_type.ValueType) (t : Typing decls o) →
+    (c : Option Const) → NoneIn (opening_faults decls (want o) c) → (v : Value) × (opened decls t.value_type c ≡ Some v)
+opening_is decls clean o t None none = (default_of t.value_type, refl)
 opening_is decls clean o t (Some c) none =
     let v = const_is decls clean (wanted.Value t.value_type) c (subst (λ (x : Option core_type.ValueType). NoneIn (const_faults decls (want x) c)) t.is none) in
-    (v.of.val, ap (λ (x : Option core_type.ValueType). opening_of decls x (Some c)) t.is ∙ v.is)
+    (v.of.val, v.is)
 
 global_is : (decls before : List Decl) (i : ℕ) (v : Variable) (p : core.Program) → Stage decls before i (global v) p →
-    Extends decls before (global v) (extended decls i p (global v))
+    Extends decls before i (global v) p
 global_is decls before i v p st =
     let a = type_faults (outside decls) v.value_type in
     let b = lock_faults decls v.name.span.start v.protection in
@@ -287,18 +317,23 @@ global_is decls before i v p st =
     let c = class_is decls st.clean v.name.span.start v.protection (none_right a b (none_left (a ++ b) o st.own)) in
     let w = opening_is decls st.clean (type_of (outside decls) v.value_type) t v.value (none_right (a ++ b) o st.own) in
     let room : length p.cells ≤ CELL_LIMIT = (let x = st.cells in let y = st.counted.cells in omega (arith, x, y)) in
-    let q = global_added p v.name.text (length p.cells) c.0 t.value_type w.0 in (
+    let x : Cell = record { owner = owner.Global (length p.globals); value_type = t.value_type; opening = w.0 } in
+    let q : core.Program =
+    record p {
+      globals =
+          p.globals ++ record { name = v.name.text; cell = length p.cells; class = c.0 } ∷ [];
+      cells =
+          p.cells ++ x ∷ [];
+    } in (
       q,
-      ap (λ (x : Option ℕ). with_global p v.name.text x (type_of (outside decls) v.value_type) (opening_of decls (type_of (outside decls) v.value_type) v.value)) c.1
-          ∙ ap (λ (x : Option core_type.ValueType). with_global p v.name.text (Some c.0) x (opening_of decls (type_of (outside decls) v.value_type) v.value)) t.is
-          ∙ ap (with_global p v.name.text (Some c.0) (Some t.value_type)) w.1
-          ∙ ap (λ (x : Option ℕ). x >>= λ cell. Some (global_added p v.name.text cell c.0 t.value_type w.0)) (up_is CELL_LIMIT (length p.cells) room),
+      adds_global c.1 t.is w.1 (up_is CELL_LIMIT (length p.cells) room),
       grown_counted decls before (global v) p q 1 0 0 st.counted
-          (record { cells = length_push p.cells (record { owner = owner.Global (length p.globals); value_type = t.value_type; opening = w.0 }); objects = omega arith; finals = omega arith }) refl refl (omega arith),
+          (record { cells = length_push p.cells x; objects = omega arith; finals = omega arith }) refl refl
+          (omega arith),
     )
 
 array_is : (decls before : List Decl) (i : ℕ) (a : Array) (p : core.Program) → Stage decls before i (array a) p →
-    Extends decls before (array a) (extended decls i p (array a))
+    Extends decls before i (array a) p
 array_is decls before i a p st =
     let x = type_faults (outside decls) a.value_type in
     let y = lock_faults decls a.name.span.start a.protection in
@@ -307,15 +342,17 @@ array_is decls before i a p st =
     let c = class_is decls st.clean a.name.span.start a.protection (none_right x y st.own) in
     let room : length p.cells ≤ CELL_LIMIT = (let u = st.cells in let w = st.counted.cells in omega (arith, u, w)) in
     let few : a.length.value ≤ CELL_LIMIT = (let u = st.cells in omega (arith, u)) in
-    let p1 = array_added p a.name.text (length p.cells) a.length.value t.value_type c.0 in
-    let q = with_elements p1 (length p.arrays) t.value_type a.length.value in
-    let g = elements_put p1 (length p.arrays) t.value_type a.length.value in (
+    let n = a.length.value in
+    let es = elements (length p.arrays) t.value_type n in
+    let y1 : core.Array =
+    record { name = a.name.text; first = length p.cells; length = n; element_type = t.value_type; class = c.0 } in
+    let q : core.Program = record p { arrays = p.arrays ++ y1 ∷ []; cells = p.cells ++ es } in
+    let l : length (p.cells ++ es) ≡ length p.cells + n = length-append p.cells es
+    ∙ ap (λ (k : ℕ). length p.cells + k) (elements_length (length p.arrays) t.value_type n) in (
       q,
-      ap (λ (o : Option ℕ). with_array p a.name.text o (type_of (outside decls) a.value_type) a.length.value) c.1
-          ∙ ap (λ (o : Option core_type.ValueType). with_array p a.name.text (Some c.0) o a.length.value) t.is
-          ∙ ap (λ (o : Option ℕ). o >>= λ first. cell_at a.length.value >>= λ n. Some (with_elements (array_added p a.name.text first n t.value_type c.0) (length p.arrays) t.value_type n)) (up_is CELL_LIMIT (length p.cells) room)
-          ∙ ap (λ (o : Option ℕ). o >>= λ n. Some (with_elements (array_added p a.name.text (length p.cells) n t.value_type c.0) (length p.arrays) t.value_type n)) (up_is CELL_LIMIT a.length.value few),
-      grown_counted decls before (array a) p q a.length.value 0 0 st.counted (record { cells = g.cells; objects = g.objects; finals = g.finals }) refl refl (omega arith),
+      adds_array c.1 t.is (up_is CELL_LIMIT (length p.cells) room) (up_is CELL_LIMIT n few),
+      grown_counted decls before (array a) p q n 0 0 st.counted
+          (record { cells = l; objects = omega arith; finals = omega arith }) refl refl (omega arith),
     )
 
 -- a struct's members are few, and each has a name of its own
@@ -332,7 +369,7 @@ struct_few decls clean s h =
     omega (arith, le)
 
 pool_is : (decls before : List Decl) (i : ℕ) (p : Pool) (q : core.Program) → Stage decls before i (pool p) q →
-    Extends decls before (pool p) (extended decls i q (pool p))
+    Extends decls before i (pool p) q
 pool_is decls before i p q st =
     let has = at_has decls i (pool p) st.at in
     let t = known_named decls st.clean p.target (of_pool has) in
@@ -354,13 +391,12 @@ pool_is decls before i p q st =
     let objects : length q.objects + n ≤ OBJECT_LIMIT = (let a = st.objects in let b = st.counted.objects in omega (arith, a, b)) in
     let nf : n * f ≤ n * MEMBER_LIMIT = times n f MEMBER_LIMIT small in
     let finals : length q.finals + n * f ≤ 2097152 = (let a = st.counted.finals in omega (arith, a, nf, objects)) in
-    let q1 = pool_added q p.name.text (length q.objects) n t.number in
+    let y : core.Pool = record { name = p.name.text; first = length q.objects; length = n; structure = t.number } in
+    let q1 : core.Program = record q { pools = q.pools ++ y ∷ [] } in
     let r = objects_put decls i (length q.pools) n s.members q1 n (omega arith) cells finals (λ m j x less e. ready decls st.clean i m p s st.at less members has_s once j x e) in (
       r.0,
-      ap (λ (o : Option ℕ). with_pool decls i q p.name.text o (members_of decls p.target) n) t.is
-          ∙ ap (λ (o : Option (List Member)). with_pool decls i q p.name.text (Some t.number) o n) members
-          ∙ ap (λ (o : Option ℕ). o >>= λ first. object_at n >>= λ c. with_objects decls i (length q.pools) s.members (Some (pool_added q p.name.text first c t.number)) c) (up_is OBJECT_LIMIT (length q.objects) (omega (arith, objects)))
-          ∙ ap (λ (o : Option ℕ). o >>= λ c. with_objects decls i (length q.pools) s.members (Some (pool_added q p.name.text (length q.objects) c t.number)) c) (up_is OBJECT_LIMIT n (omega (arith, objects))) ∙ r.1,
+      adds_pool t.is members (up_is OBJECT_LIMIT (length q.objects) (omega (arith, objects)))
+          (up_is OBJECT_LIMIT n (omega (arith, objects))) r.1,
       grown_counted decls before (pool p) q r.0 (n * w) n (n * f) st.counted (record { cells = r.2.cells; objects = r.2.objects; finals = r.2.finals }) (sym own_cells) refl nf,
     )
   where
@@ -368,43 +404,53 @@ pool_is decls before i p q st =
     times zero a b le = omega arith
     times (suc n) a b le = let r = times n a b le in omega (arith, r, le)
 
-few_is : (decls : List Decl) → Clean decls → few_calls decls ≡ true
+few_is : (decls : List Decl) → Clean decls → total calls_of decls ≤ CALL_LIMIT
 few_is decls clean =
     let none : NoneIn (total_faults decls [] decls) = λ f i. clean f (of_totals decls f i) in
-    le_true (total calls_of decls) CALL_LIMIT (calls_few decls [] decls none (let z : 0 ≤ CALL_LIMIT = omega arith in z))
+    calls_few decls [] decls none (let z : 0 ≤ CALL_LIMIT = omega arith in z)
 
 extended_is : (decls before : List Decl) (i : ℕ) (d : Decl) (p : core.Program) → Stage decls before i d p →
-    Extends decls before d (extended decls i p d)
-extended_is decls before i (lock x) p st = (with_class p (core.global_lock x.text), refl, same_counted decls before (lock x) p (with_class p (core.global_lock x.text)) st.counted refl refl refl refl refl)
+    Extends decls before i d p
+extended_is decls before i (lock x) p st =
+    let q : core.Program = record p { classes = p.classes ++ core.global_lock x.text ∷ [] } in
+    (q, adds_class, same_counted decls before (lock x) p q st.counted refl refl refl refl refl)
 extended_is decls before i (struct s) p st =
-    let r = struct_put decls st.clean (length p.structs) i s st.at (record { structure = empty_struct s.name.text; classes = p.classes }) s.members (λ m h. h) st.own in
-    let q : core.Program = record p { classes = r.0.classes; structs = p.structs ++ r.0.structure ∷ [] } in
-    (q, ap (with_struct p) r.1, same_counted decls before (struct s) p q st.counted refl refl refl refl refl)
+    let t = struct_put decls st.clean i s st.at (length p.classes) s.members (λ m h. h) st.own in
+    let q : core.Program =
+    record p {
+      classes = p.classes ++ lock_classes (length p.structs) 0 t.0.locks;
+      structs =
+          p.structs ++ t.0 ∷ [];
+    } in
+    (q, adds_struct t.1, same_counted decls before (struct s) p q st.counted refl refl refl refl refl)
 extended_is decls before i (global v) p st = global_is decls before i v p st
 extended_is decls before i (array a) p st = array_is decls before i a p st
 extended_is decls before i (pool q) p st = pool_is decls before i q p st
-extended_is decls before i (init j) p st = (p, refl, same_counted decls before (init j) p p st.counted refl refl refl refl refl)
+extended_is decls before i (init j) p st =
+    (p, adds_nothing, same_counted decls before (init j) p p st.counted refl refl refl refl refl)
 extended_is decls before i (atomic s) p st =
     let x = section_is decls st.clean st.right section_limits s (of_section (at_has decls i (atomic s) st.at)) st.own in
     let q : core.Program = record p { sections = p.sections ++ x.0 ∷ [] } in
-    (q, ap (with_section p) x.1, same_counted decls before (atomic s) p q st.counted refl refl refl refl refl)
+    (q, adds_section (types_the_section decls section_limits s x.0 x.1), same_counted decls before (atomic s) p q st.counted refl refl refl refl refl)
 extended_is decls before i (helper s) p st =
     let x = section_is decls st.clean st.right helper_limits s (of_helper (at_has decls i (helper s) st.at)) st.own in
     let q : core.Program = record p { helpers = p.helpers ++ x.0 ∷ [] } in
-    (q, ap (with_helper p) x.1, same_counted decls before (helper s) p q st.counted refl refl refl refl refl)
+    (q, adds_helper (types_the_section decls helper_limits s x.0 x.1), same_counted decls before (helper s) p q st.counted refl refl refl refl refl)
 extended_is decls before i (thread t) p st =
     let xs = items_are decls st.clean t.items st.own in
     let q : core.Program = record p { threads = p.threads ++ record { name = t.name.text; calls = xs.0 } ∷ [] } in (
       q,
-      ap (λ (b : Bool). with_thread p t.name.text (if b then typed_items decls t.items else None)) (few_is decls st.clean) ∙ ap (with_thread p t.name.text) xs.1,
-      same_counted decls before (thread t) p q st.counted refl refl refl refl refl,
+      adds_thread (few_is decls st.clean) xs.1,
+      same_counted decls before
+          (thread t) p q st.counted refl refl refl refl refl,
     )
 
 resolved_is : (decls : List Decl) → Clean decls → ReturnsRight decls →
     (before ds : List Decl) (i : ℕ) (p : core.Program) → decls ≡ before ++ ds → i ≡ length before →
     ((j : ℕ) (d : Decl) → slice_get ds j ≡ Some d → slice_get decls (i + j) ≡ Some d) → Counted decls before p →
-    NoneIn (total_faults decls before ds) → total (cells_of decls) before ≤ CELL_LIMIT → total objects_of before ≤ OBJECT_LIMIT → (q : core.Program) × (resolved_from decls i (Some p) ds ≡ Some q)
-resolved_is decls clean right before [] i p parts len at n none cells objects = (p, refl)
+    NoneIn (total_faults decls before ds) → total (cells_of decls) before ≤ CELL_LIMIT →
+    total objects_of before ≤ OBJECT_LIMIT → (q : core.Program) × AddAll decls i ds p q
+resolved_is decls clean right before [] i p parts len at n none cells objects = (p, no_declaration)
 resolved_is decls clean right before (d ∷ ds) i p parts len at n none cells objects =
     let here : slice_get decls i ≡ Some d = subst (λ (k : ℕ). slice_get decls k ≡ Some d) (let z : i + 0 ≡ i = omega arith in z) (at 0 d refl) in
     let counts = none_left (count_faults decls before d) (total_faults decls (before ++ d ∷ []) ds) none in
@@ -415,9 +461,9 @@ resolved_is decls clean right before (d ∷ ds) i p parts len at n none cells ob
     (λ j x g. subst (λ (k : ℕ). slice_get decls k ≡ Some x) (let z : i + suc j ≡ i + 1 + j = omega arith in z) (at (suc j) x g)) e.2
     (none_right (count_faults decls before d) (total_faults decls (before ++ d ∷ []) ds) none)
     (let t = total_push (cells_of decls) before d in omega (arith, t, fc)) (let t = total_push objects_of before d in omega (arith, t, fo)) in
-    (r.0, ap (λ (o : Option core.Program). resolved_from decls (i + 1) o ds) e.1 ∙ r.1)
+    (r.0, first_and_rest e.1 r.1)
 
-pub faultless : (decls : List Decl) → ReturnsRight decls → Clean decls → (p : core.Program) × (resolved decls ≡ Some p)
+pub faultless : (decls : List Decl) → ReturnsRight decls → Clean decls → (p : core.Program) × AreTables decls p
 faultless decls right clean =
     resolved_is decls clean right [] decls 0 nothing_yet refl refl (λ j d g. subst (λ (k : ℕ). slice_get decls k ≡ Some d) (let z : j ≡ 0 + j = omega arith in z) g)
     (record { cells = refl; objects = refl; finals = omega arith }) (λ f i. clean f (of_totals decls f i)) (omega arith) (omega arith)

@@ -9,6 +9,7 @@ use Rattle.syntax.specs.Returns.{this_early, stray_inside, later_stray, EndsInRe
 use Rattle.syntax.specs.Returns.{stray, missing, IsReturnFault, this_section, this_helper, later_section}
 use Rattle.syntax.specs.Trees.{ValueType, Const, Param, Section, Item, call, repeat, Items, no_items, item, Stmts}
 use Rattle.syntax.specs.Trees.{stmt, Decl, lock, struct, global, array, pool, init, atomic, helper, thread}
+use Rattle.core_lang.specs.declared.value.Value.{Value}
 use Rattle.core_lang.specs.declared.value.ValueType as core_type
 use Rattle.core_lang.specs.declared.tree.LocalKind.TheVariants as kind
 use Rattle.resolution.specs.Core as core
@@ -20,8 +21,7 @@ use Rattle.resolution.specs.Scopes.{entered}
 use Rattle.resolution.specs.Constants.{added, typed_arguments}
 use Rattle.resolution.specs.Statements.{ahead_of, entry}
 use Rattle.resolution.specs.Working.TypedSections.{core_locals, section_with, section_of, typed_section}
-use Rattle.resolution.specs.Tables.{copies}
-use Rattle.resolution.specs.Working.Building.{call_of, joined, one_call, typed_item, typed_items}
+use Rattle.resolution.specs.Tables.{copies, AreCalls, no_call, one_call, repeated}
 use Rattle.resolution.specs.Working.TypedStatements.{typed_body, Body}
 use Rattle.resolution.specs.Statements.{after_all}
 use Rattle.resolution.specs.Where.{Has, first, further, HasBody, of_section, of_helper}
@@ -151,14 +151,22 @@ section_is decls clean right limits s h none =
 
 -- ---- threads
 
-argument_if : (decls : List Decl) → Clean decls → (p : ℕ) (s : Section) (number : ℕ) (cs : List Const) (b : Bool) →
+-- what a call calls, with fitting arguments
+record Called (decls : List Decl) (o : Option (ℕ × Decl)) (cs : List Const) : Type 0 where
+  place : ℕ
+  section : Section
+  arguments : List Value
+  means : o ≡ Some (place, atomic section)
+  fit : typed_arguments decls section.params cs ≡ Some arguments
+
+argument_if : (decls : List Decl) → Clean decls → (p i : ℕ) (s : Section) (cs : List Const) (b : Bool) →
     (length cs == length s.params) ≡ b →
     NoneIn (if b then argument_faults decls s.params cs else one WrongArgumentCount p) →
-    (x : core.Call) × ((typed_arguments decls s.params cs >>= λ vs. Some (record { section = number; arguments = vs })) ≡ Some x)
-argument_if decls clean p s number cs true e none =
+    Called decls (Some (i, atomic s)) cs
+argument_if decls clean p i s cs true e none =
     let vs = arguments_are decls clean s.params cs (eqb-true (length cs) (length s.params) e) none in
-    (record { section = number; arguments = vs.0 }, ap (λ (o : Option (List _)). o >>= λ ws. Some (record { section = number; arguments = ws })) vs.1)
-argument_if decls clean p s number cs false e none = absurd (not_one WrongArgumentCount p none)
+    record { place = i; section = s; arguments = vs.0; means = refl; fit = vs.1 }
+argument_if decls clean p i s cs false e none = absurd (not_one WrongArgumentCount p none)
 
 -- what is declared has its type, so it is told where it is no section
 no_section : (decls : List Decl) → Clean decls → (p n : ℕ) (d : Decl) → Has decls d →
@@ -167,9 +175,10 @@ no_section decls clean p n d h none = unfit_not decls WrongType p (a_decl n d) (
 
 call_is : (decls : List Decl) → Clean decls → (p : ℕ) (o : Option (ℕ × Decl)) (cs : List Const) →
     ((k : ℕ) (d : Decl) → ◌≡◌ {A = Option (ℕ × Decl)} o (Some (k, d)) → Has decls d) →
-    NoneIn (call_faults decls p o cs) → (x : core.Call) × (call_of decls o cs ≡ Some x)
+    NoneIn (call_faults decls p o cs) → Called decls o cs
 call_is decls clean p None cs up none = absurd (not_one UnknownName p none)
-call_is decls clean p (Some (n, atomic s)) cs up none = argument_if decls clean p s (number_at decls n (atomic s)) cs (length cs == length s.params) refl none
+call_is decls clean p (Some (n, atomic s)) cs up none =
+    argument_if decls clean p n s cs (length cs == length s.params) refl none
 call_is decls clean p (Some (n, helper x)) cs up none = absurd (no_section decls clean p n (helper x) (up n (helper x) refl) none)
 call_is decls clean p (Some (n, lock x)) cs up none = absurd (no_section decls clean p n (lock x) (up n (lock x) refl) none)
 call_is decls clean p (Some (n, struct x)) cs up none = absurd (no_section decls clean p n (struct x) (up n (struct x) refl) none)
@@ -179,20 +188,26 @@ call_is decls clean p (Some (n, pool x)) cs up none = absurd (no_section decls c
 call_is decls clean p (Some (n, init x)) cs up none = absurd (no_section decls clean p n (init x) (up n (init x) refl) none)
 call_is decls clean p (Some (n, thread x)) cs up none = absurd (no_section decls clean p n (thread x) (up n (thread x) refl) none)
 
-abbrev Calls : Option (List core.Call) → Type 0
-Calls o = (xs : List core.Call) × (o ≡ Some xs)
-
-joined_is : (o r : Option (List core.Call)) → Calls o → Calls r → Calls (joined o r)
-joined_is o r a b = (a.0 ++ b.0, ap (λ (x : Option (List core.Call)). joined x r) a.1 ∙ ap (joined (Some a.0)) b.1)
-
 mutual
-  pub item_is : (decls : List Decl) → Clean decls → (i : Item) → NoneIn (item_faults decls i) →
-      Calls (typed_item decls i)
-  item_is decls clean (call c) none = let x = call_is decls clean c.section.span.start (the_decl decls c.section.text) c.arguments (λ k d e. decl_has decls c.section.text k d e) none in (x.0 ∷ [], ap one_call x.1)
-  item_is decls clean (repeat n is) none = let r = items_are decls clean is none in (copies n.value r.0, ap (λ (o : Option (List core.Call)). o >>= λ xs. Some (copies n.value xs)) r.1)
+  item_is : (decls : List Decl) → Clean decls → (i : Item) → NoneIn (item_faults decls i) → (is : Items)
+      (ds : List core.Call) → AreCalls decls is ds → (cs : List core.Call) × AreCalls decls (item i is) cs
+  item_is decls clean (call c) none is ds more =
+      let x = call_is decls clean c.section.span.start (the_decl decls c.section.text) c.arguments
+      (λ k d e. decl_has decls c.section.text k d e) none in (
+        record {
+          section = number_at decls x.place (atomic x.section);
+          arguments =
+              x.arguments;
+        } ∷ ds,
+        one_call x.means x.fit more,
+      )
+  item_is decls clean (repeat n js) none is ds more =
+      let r = items_are decls clean js none in
+      (copies n.value r.0 ++ ds, repeated r.1 more)
 
   pub items_are : (decls : List Decl) → Clean decls → (is : Items) → NoneIn (items_faults decls is) →
-      Calls (typed_items decls is)
-  items_are decls clean no_items none = ([], refl)
+      (cs : List core.Call) × AreCalls decls is cs
+  items_are decls clean no_items none = ([], no_call)
   items_are decls clean (item i is) none =
-      joined_is (typed_item decls i) (typed_items decls is) (item_is decls clean i (none_left (item_faults decls i) (items_faults decls is) none)) (items_are decls clean is (none_right (item_faults decls i) (items_faults decls is) none))
+      let r = items_are decls clean is (none_right (item_faults decls i) (items_faults decls is) none) in
+      item_is decls clean i (none_left (item_faults decls i) (items_faults decls is) none) is r.0 r.1

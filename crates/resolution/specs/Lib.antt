@@ -20,7 +20,7 @@ pub use Rattle.resolution.specs.Resolved.{Resolves}
 pub use Rattle.resolution.specs.Faults.{IsFault, IsRefusal, HasNoFault}
 pub use Rattle.resolution.specs.Working.Laws.{TheLeastIsAFault, NoneGoesBeforeTheLeast, NoLeastIsNoFault}
 pub use Rattle.resolution.specs.Working.Laws.{HaveAtMostOneLeast, FaultlessAreResolved, GraphOfResolved}
-pub use Rattle.resolution.specs.Working.Laws.{ResolvedByRules, RulesAreResolved}
+pub use Rattle.resolution.specs.Working.Laws.{ResolvedByRules, RulesAreResolved, StandsForOne}
 pub use Rattle.resolution.specs.Working.Laws.{ResolvedAreChecked, DeclaresNoHelper, WithoutHelpersAreWellFormed}
 pub use Rattle.resolution.specs.Working.Laws.{ExpressionsByRules, FoundAreAssigned, AssignedAreFound}
 pub use Rattle.resolution.specs.Working.Laws.{StatementsByRules, BodiesByRules, SectionsByRules}

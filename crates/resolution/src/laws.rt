@@ -1,7 +1,7 @@
 //! What holds of resolution and of faults: functions that do nothing, and whose contracts are the laws.
 
 ghost use Rattle.resolution.specs.Working.Laws.{ExpressionsByRules, FoundAreAssigned, AssignedAreFound, StatementsByRules, BodiesByRules, SectionsByRules};
-ghost use Rattle.resolution.specs.Working.Laws.{TheLeastIsAFault, NoneGoesBeforeTheLeast, NoLeastIsNoFault, HaveAtMostOneLeast, FaultlessAreResolved, ResolvedByRules, RulesAreResolved, GraphOfResolved, ResolvedAreChecked, WithoutHelpersAreWellFormed};
+ghost use Rattle.resolution.specs.Working.Laws.{TheLeastIsAFault, NoneGoesBeforeTheLeast, NoLeastIsNoFault, HaveAtMostOneLeast, FaultlessAreResolved, ResolvedByRules, RulesAreResolved, StandsForOne, GraphOfResolved, ResolvedAreChecked, WithoutHelpersAreWellFormed};
 
 use core_lang_calls::laws::{faultless_keep_limits, listed_faults};
 
@@ -29,6 +29,11 @@ pub fn faultless_are_resolved()
 pub fn resolved_by_rules()
     ensures there { ResolvedByRules }
     ensures back { RulesAreResolved }
+{}
+
+/// A tree stands for at most one program.
+pub fn one_program()
+    ensures { StandsForOne }
 {}
 
 /// The graph of what a tree with no fault calls is that of the program to which it is resolved.

@@ -293,6 +293,7 @@ pub fn check(alloc: Global, tree: &Tree) -> Result<Typed, Refusal>
 {
     laws::least_fault();
     laws::faultless_are_resolved();
+    laws::resolved_by_rules();
     laws::resolved_are_checked();
     laws::without_helpers();
     let mut least = None;

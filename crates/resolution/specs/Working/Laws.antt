@@ -52,7 +52,8 @@ NoLeastIsNoFault = (decls : List Decl) → the_least decls ≡ None → HasNoFau
 
 -- a program with no fault is resolved
 abbrev pub FaultlessAreResolved : Type 0
-FaultlessAreResolved = (decls : List Decl) → ReturnsRight decls → the_least decls ≡ None → (p : core.Program) × (resolved decls ≡ Some p)
+FaultlessAreResolved = (decls : List Decl) → ReturnsRight decls → the_least decls ≡ None →
+    (p : core.Program) × AreTables decls p
 
 -- what a tree stands for is built as the rules say
 abbrev pub ResolvedByRules : Type 0
@@ -61,6 +62,10 @@ ResolvedByRules = (decls : List Decl) (p : core.Program) → resolved decls ≡ 
 -- and what they say is built
 abbrev pub RulesAreResolved : Type 0
 RulesAreResolved = (decls : List Decl) (p : core.Program) → AreTables decls p → resolved decls ≡ Some p
+
+-- a tree stands for at most one program
+abbrev pub StandsForOne : Type 0
+StandsForOne = (decls : List Decl) (p q : core.Program) → AreTables decls p → AreTables decls q → p ≡ q
 
 -- the graph of a tree with no fault is that of what it is resolved to
 abbrev pub GraphOfResolved : Type 0

@@ -57,7 +57,8 @@ returns-in-Ok-clause-accepts c =
       has_tokens = c.in_ok-tokens.ensures.found;
       has_tree = right;
       resolves = c.in_ok-accepted.ensures.resolves;
-      faultless = faultless _ _ _ _ _ c.in_ok-tokens.ensures.refused c.in_ok-tokens.ensures.only c.in_ok-tokens.ensures.found right
+      faultless = faultless _ _ _ _ _ c.in_ok-tokens.ensures.refused c.one_program.ensures
+          c.in_ok-tokens.ensures.only c.in_ok-tokens.ensures.found right
           (rw c.deref.ensures.value at c.in_ok-tree.ensures.misplaced) (rw c.deref.ensures.value at c.in_ok-tree.ensures.only)
           c.in_ok-accepted.ensures.faultless c.in_ok-accepted.ensures.resolves c.in_ok-trees.ensures.expanded
           (rw c.program-program.ensures at c.in_ok-found.ensures.faultless) (rw c.program-program.ensures at c.in_ok-ranks.ensures.faultless);

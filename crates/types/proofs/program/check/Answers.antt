@@ -1,6 +1,7 @@
 use Rattle.std.proofs.Common.{sym, ap, ◌∙◌, None}
 use Rattle.std.specs.Prelude.{map}
 use Rattle.syntax.specs.Views.{tree_of, decl_of}
+use Rattle.resolution.specs.CoreViews.{core_of}
 use Rattle.types.specs.Working.Whole.{judged_faults}
 use Rattle.types_symbols.specs.Working.Views.{decls_of}
 use Rattle.types_declarations.specs.Working.Grown.{if_right, built}
@@ -29,7 +30,10 @@ unreachable-requires c =
     let whole = whole_least ds (decls_of c.in_ok-symbols.symbols) c.new.new.least c.judge_all.new.least same (c.in_ok-symbols.ensures.faults ∙ ap (least_after None) items) c.in_ok-judge_all.ensures.faults in
     let none = was_none c.new.new.least (judged_faults (decls_of c.in_ok-symbols.symbols)) (sym c.in_ok-judge_all.ensures.faults ∙ c.in_default.is) in
     let all = whole_built ds (decls_of c.in_ok-symbols.symbols) _ (built c.judge_all.new.grown) same (begun c.new.new.least c.is_none.result c.nothing.result none c.is_none.ensures c.nothing.ensures) c.in_ok-judge_all.ensures.value in
-    none_built ds (built c.judge_all.new.grown) all (ap (λ b. if_right b c.judge_all.new.grown.program) c.if-not-grown.true) (c.faultless_are_resolved.ensures ds c.requires (sym whole ∙ c.in_default.is))
+    let some = c.faultless_are_resolved.ensures ds c.requires (sym whole ∙ c.in_default.is) in
+    none_built ds (built c.judge_all.new.grown) all
+    (ap (λ b. if_right b c.judge_all.new.grown.program) c.if-not-grown.true)
+    (some.0, c.resolved_by_rules.ensures.back ds some.0 some.1)
 
 pub returns-clause-resolves : goal.returns-clause-resolves
 returns-clause-resolves c =
@@ -37,7 +41,9 @@ returns-clause-resolves c =
     let items = ap (map decl_of) c.deref.ensures.value in
     let same = ap (map decl_of) c.in_ok-symbols.ensures.items ∙ items in
     let none = was_none c.new.new.least (judged_faults (decls_of c.in_ok-symbols.symbols)) (sym c.in_ok-judge_all.ensures.faults ∙ c.in_default.is) in
-    sym (whole_built ds (decls_of c.in_ok-symbols.symbols) _ (built c.judge_all.new.grown) same (begun c.new.new.least c.is_none.result c.nothing.result none c.is_none.ensures c.nothing.ensures) c.in_ok-judge_all.ensures.value) ∙ ap (λ b. if_right b c.judge_all.new.grown.program) c.if-not-grown.false
+    let all = whole_built ds (decls_of c.in_ok-symbols.symbols) _ (built c.judge_all.new.grown) same (begun c.new.new.least c.is_none.result c.nothing.result none c.is_none.ensures c.nothing.ensures) c.in_ok-judge_all.ensures.value in
+    c.resolved_by_rules.ensures.there ds (core_of c.judge_all.new.grown.program)
+    (sym all ∙ ap (λ b. if_right b c.judge_all.new.grown.program) c.if-not-grown.false)
 
 pub returns-clause-checked : goal.returns-clause-checked
 returns-clause-checked c =
@@ -47,7 +53,9 @@ returns-clause-checked c =
     let whole = whole_least ds (decls_of c.in_ok-symbols.symbols) c.new.new.least c.judge_all.new.least same (c.in_ok-symbols.ensures.faults ∙ ap (least_after None) items) c.in_ok-judge_all.ensures.faults in
     let none = was_none c.new.new.least (judged_faults (decls_of c.in_ok-symbols.symbols)) (sym c.in_ok-judge_all.ensures.faults ∙ c.in_default.is) in
     let all = whole_built ds (decls_of c.in_ok-symbols.symbols) _ (built c.judge_all.new.grown) same (begun c.new.new.least c.is_none.result c.nothing.result none c.is_none.ensures c.nothing.ensures) c.in_ok-judge_all.ensures.value in
-    c.resolved_are_checked.ensures ds c.judge_all.new.grown.program (sym whole ∙ c.in_default.is) (sym all ∙ ap (λ b. if_right b c.judge_all.new.grown.program) c.if-not-grown.false)
+    c.resolved_are_checked.ensures ds c.judge_all.new.grown.program (sym whole ∙ c.in_default.is)
+    (c.resolved_by_rules.ensures.there ds (core_of c.judge_all.new.grown.program)
+    (sym all ∙ ap (λ b. if_right b c.judge_all.new.grown.program) c.if-not-grown.false))
 
 pub returns-clause-well_formed : goal.returns-clause-well_formed
 returns-clause-well_formed c =
@@ -57,7 +65,9 @@ returns-clause-well_formed c =
     let whole = whole_least ds (decls_of c.in_ok-symbols.symbols) c.new.new.least c.judge_all.new.least same (c.in_ok-symbols.ensures.faults ∙ ap (least_after None) items) c.in_ok-judge_all.ensures.faults in
     let none = was_none c.new.new.least (judged_faults (decls_of c.in_ok-symbols.symbols)) (sym c.in_ok-judge_all.ensures.faults ∙ c.in_default.is) in
     let all = whole_built ds (decls_of c.in_ok-symbols.symbols) _ (built c.judge_all.new.grown) same (begun c.new.new.least c.is_none.result c.nothing.result none c.is_none.ensures c.nothing.ensures) c.in_ok-judge_all.ensures.value in
-    c.without_helpers.ensures ds c.judge_all.new.grown.program (sym whole ∙ c.in_default.is) (sym all ∙ ap (λ b. if_right b c.judge_all.new.grown.program) c.if-not-grown.false)
+    c.without_helpers.ensures ds c.judge_all.new.grown.program (sym whole ∙ c.in_default.is)
+    (c.resolved_by_rules.ensures.there ds (core_of c.judge_all.new.grown.program)
+    (sym all ∙ ap (λ b. if_right b c.judge_all.new.grown.program) c.if-not-grown.false))
 
 pub returns-clause-faultless : goal.returns-clause-faultless
 returns-clause-faultless c =
