@@ -1,9 +1,9 @@
 -- What the threads of a resolved program call.
-use Rattle.std.proofs.Common.{◌≡◌, ℕ, zero, suc, ◌+◌, List, [], ◌∷◌, ◌++◌, length, Option, Some, None, true, refl}
-use Rattle.std.proofs.Common.{sym, ap, ◌∙◌, subst, arith}
+use Rattle.std.proofs.Common.{◌≡◌, ℕ, zero, suc, ◌+◌, List, [], ◌∷◌, ◌++◌, length, Option, Some, None, true, refl, sym}
+use Rattle.std.proofs.Common.{ap, ◌∙◌, subst, arith}
 use Rattle.std.specs.Prelude.{slice_get, take}
-use Rattle.syntax.specs.Trees.{ValueType, Const, Param, Section, Items, Decl}
-use Rattle.syntax.specs.Trees.{lock, struct, global, array, pool, init, atomic, helper, thread}
+use Rattle.syntax.specs.Trees.{ValueType, Const, Param, Section, Items, Decl, lock, struct, global, array, pool, init}
+use Rattle.syntax.specs.Trees.{atomic, helper, thread}
 use Rattle.core_lang.specs.declared.value.Value.{Value}
 use Rattle.core_lang.specs.declared.value.ValueType as core_type
 use Rattle.core_lang.specs.declared.tree.LocalKind.TheVariants as kind
@@ -11,13 +11,11 @@ use Rattle.resolution.specs.declared.body_limits.BodyLimits.{BodyLimits}
 use Rattle.resolution.specs.Core as core
 use Rattle.resolution.specs.Limits.{section_limits, helper_limits}
 use Rattle.resolution.specs.Scopes as scope
-use Rattle.resolution.specs.Scopes.{◌>>=◌, Scope, outside, bears, the_decl, type_of, result_of, number_at, bound}
-use Rattle.resolution.specs.Scopes.{entered}
+use Rattle.resolution.specs.Scopes.{◌>>=◌, Scope, outside, bears, type_of, result_of, number_at, bound, entered}
 use Rattle.resolution.specs.Expressions.{want}
 use Rattle.resolution.specs.Working.TypedStatements.{Body, typed_body}
-use Rattle.resolution.specs.Statements.{after_all}
+use Rattle.resolution.specs.Statements.{after_all, ahead_of, entry}
 use Rattle.resolution.specs.Constants.{typed_const, want_of, typed_arguments}
-use Rattle.resolution.specs.Statements.{ahead_of, entry}
 use Rattle.resolution.specs.Working.TypedSections.{core_locals, section_with, section_of, typed_section}
 use Rattle.resolution.specs.Tables.{nothing_yet, AreTables, AreCalls, no_call, one_call, repeated, copies}
 use Rattle.resolution.proofs.Named.{named_is}
@@ -30,6 +28,7 @@ use Rattle.resolution.proofs.LaidLists.{Rows, get_last, get_pushed, bind_got, ad
 use Rattle.resolution.proofs.LaidWalk.{Step, lands, walked_whole}
 use Rattle.resolution.proofs.LaidFacts.{number_landed, keeps_threads}
 use Rattle.resolution.proofs.LaidObjects.{Holds, const_holds}
+use Rattle.resolution.proofs.StatementRules.{types_the_locals}
 
 -- ---- arguments
 
@@ -180,7 +179,7 @@ parameter_local decls limits s x e n p at =
     let l = entered_local (ahead_of decls limits s) s.params n p at in
     let here : slice_get (entry decls limits s).locals n ≡ Some l.0 = subst (λ (k : ℕ). slice_get (entry decls limits s).locals k ≡ Some l.0) (let z : 0 + n ≡ n = omega arith in z) l.1 in
     let end = all_front (entry decls limits s) s.body.stmts n l.0 here in
-    let g = locals_got (after_all (entry decls limits s) s.body.stmts).locals x.locals r.locals n l.0 end in
+    let g = locals_got (types_the_locals (after_all (entry decls limits s) s.body.stmts).locals x.locals r.locals) n l.0 end in
     (g.0, g.1, sym l.2 ∙ g.3)
 
 -- ---- a section, by its declaration

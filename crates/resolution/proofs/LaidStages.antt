@@ -16,6 +16,7 @@ use Rattle.resolution.specs.Scopes.{outside, type_of, struct_named, number_in}
 use Rattle.resolution.specs.Constants.{members_of, given, opened, default_of, referred}
 use Rattle.resolution.specs.Annotations.{class_of}
 use Rattle.resolution.specs.Working.TypedSections.{typed_section}
+use Rattle.resolution.proofs.StatementRules.{section_is}
 use Rattle.resolution.specs.Tables.{Makes, lock_classes, elements, next, OpensWith, with_nothing, past_lock}
 use Rattle.resolution.specs.Tables.{final_opened, field_opened, AddObjects, no_object, one_object_more, AreCalls}
 use Rattle.resolution.specs.Tables.{Adds as Adding, adds_class, adds_struct, adds_global, adds_array, adds_pool}
@@ -24,7 +25,6 @@ use Rattle.resolution.specs.Working.Building.{with_class, global_added, with_ele
 use Rattle.resolution.specs.Working.Building.{pool_added}
 use Rattle.resolution.proofs.RuledObjects.{with_cells, elements_are}
 use Rattle.resolution.proofs.LaidLists.{Rows, Grows, grows_more, up_got}
-use Rattle.resolution.proofs.StatementRules.{section_is}
 
 -- ---- members by kind
 

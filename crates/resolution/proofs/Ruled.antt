@@ -10,6 +10,7 @@ use Rattle.resolution.specs.Scopes.{◌>>=◌, outside, type_of, struct_named}
 use Rattle.resolution.specs.Constants.{members_of}
 use Rattle.resolution.specs.Annotations.{class_of}
 use Rattle.resolution.specs.Working.TypedSections.{typed_section}
+use Rattle.resolution.proofs.StatementRules.{types_the_section, section_is}
 use Rattle.resolution.specs.Tables.{Adds, adds_class, adds_struct, adds_global, adds_array}
 use Rattle.resolution.specs.Tables.{adds_pool, adds_nothing, adds_section, adds_helper, adds_thread, AddAll}
 use Rattle.resolution.specs.Tables.{no_declaration, first_and_rest, Makes, lock_classes}
@@ -22,7 +23,6 @@ use Rattle.resolution.proofs.LaidLists.{bind_got}
 use Rattle.resolution.proofs.RuledStructs.{made_on, made_by_rules, rules_made, makes_name}
 use Rattle.resolution.proofs.RuledThreads.{calls_ruled, calls_built}
 use Rattle.resolution.proofs.RuledObjects.{elements_are, objects_by_rules, rules_objects}
-use Rattle.resolution.proofs.StatementRules.{types_the_section, section_is}
 
 -- ---- what is built, by the rules
 

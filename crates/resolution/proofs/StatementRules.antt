@@ -361,7 +361,10 @@ locals_types : (ls : List Local) → When (TypesLocals ls) (core_locals ls)
 locals_types [] = no_local
 locals_types (l ∷ ls) = local_types l ls l.value_type refl (core_locals ls) (locals_types ls)
 
-locals_are : {ls : List Local} {rest : List core.Local} → TypesLocals ls rest → core_locals ls ≡ Some rest
+pub types_the_locals : (ls : List Local) (xs : List core.Local) → core_locals ls ≡ Some xs → TypesLocals ls xs
+types_the_locals ls xs is = when (TypesLocals ls) (core_locals ls) (locals_types ls) xs is
+
+pub locals_are : {ls : List Local} {rest : List core.Local} → TypesLocals ls rest → core_locals ls ≡ Some rest
 locals_are no_local = refl
 locals_are (one_local {l = l} {t = t} {ls = ls} is k) =
     ap (λ (o : Option ValueType). added (◌>>=◌ {B = core.Local} o (λ u. Some (record { name = l.name; kind = l.kind; value_type = u }))) (core_locals ls)) is

@@ -1,6 +1,6 @@
 -- The graph of a tree is that of the program which it stands for.
-use Rattle.std.proofs.Common.{◌≡◌, ℕ, zero, suc, ◌+◌, ◌<◌, ◌≤◌, List, [], ◌∷◌, map, take, length, Option, Some, None}
-use Rattle.std.proofs.Common.{refl, sym, ap, ◌∙◌, subst, length-append, arith}
+use Rattle.std.proofs.Common.{◌≡◌, ℕ, zero, suc, ◌+◌, ◌<◌, ◌≤◌, List, [], ◌∷◌, map, take, length, Option, Some, refl}
+use Rattle.std.proofs.Common.{sym, ap, ◌∙◌, subst, length-append, arith}
 use Rattle.std.specs.Prelude.{slice_get, is_some}
 use Rattle.std.proofs.lemmas.List.{length-map}
 use Rattle.std.proofs.lemmas.Option.{slice_get_within}
@@ -16,13 +16,10 @@ use Rattle.resolution.specs.declared.body_limits.BodyLimits.{BodyLimits}
 use Rattle.resolution.specs.Core as core
 use Rattle.resolution.specs.CoreViews.{core_local, core_section, core_of}
 use Rattle.resolution.specs.Limits.{SECTION_LIMIT, section_limits, helper_limits}
-use Rattle.resolution.specs.Scopes.{◌>>=◌, outside, count, alike, number_at, type_of}
-use Rattle.resolution.specs.Working.TypedStatements as statements
-use Rattle.resolution.specs.Working.TypedStatements.{typed_body}
-use Rattle.resolution.specs.Statements.{after_all}
-use Rattle.resolution.specs.Statements.{ahead_of, entry}
-use Rattle.resolution.specs.Working.TypedSections.{core_locals, section_with, section_of, typed_section}
-use Rattle.resolution.specs.CallGraphs.{stmts_calls, stmts_points, body_in, helper_bodies, section_bodies, tree_graph}
+use Rattle.resolution.specs.Scopes.{count, alike, number_at}
+use Rattle.resolution.specs.Statements.{after_all, ahead_of, entry}
+use Rattle.resolution.specs.Working.TypedSections.{typed_section}
+use Rattle.resolution.specs.CallGraphs.{body_in, helper_bodies, section_bodies, tree_graph}
 use Rattle.resolution.specs.Resolved.{Resolves}
 use Rattle.resolution.proofs.Typed.{get_map}
 use Rattle.resolution.proofs.FaultlessExpressions.{Clean}
@@ -30,68 +27,29 @@ use Rattle.resolution.proofs.LaidProgram.{sections_are, helpers_are}
 use Rattle.resolution.proofs.LaidScripts.{helper_at}
 use Rattle.resolution.proofs.WithinLimits.{within_limits}
 use Rattle.resolution.proofs.WellSections.{locals_length, section_well_scoped}
-use Rattle.resolution.proofs.CallSites.{all_sites, all_points, all_seen, points_all_seen, IfBody, body_has}
+use Rattle.resolution.proofs.CallSites.{all_seen, points_all_seen, body_has}
+use Rattle.resolution.specs.Typing.{TypesLocals, TypesBody, TypesResult, no_result, one_result, TypesSection}
+use Rattle.resolution.specs.Typing.{types_section}
+use Rattle.resolution.proofs.StatementRules.{types_the_section}
 
 -- ---- one section or helper
 
 -- what it is resolved to, by its parts
-record Parts (decls : List Decl) (s : Section) (o : Option (List core.Local)) (b : Option statements.Body) (x : core.Section) : Type 0 where
-  locals : List core.Local
-  body : statements.Body
-  locals_are : o ≡ Some locals
-  body_is : b ≡ Some body
+record Parts (decls : List Decl) (limits : BodyLimits) (s : Section) (x : core.Section) : Type 0 where
+  locals : TypesLocals (after_all (entry decls limits s) s.body.stmts).locals x.locals
+  body : TypesBody (entry decls limits s) s.body.stmts x.body x.result
   same_parameters : x.parameters ≡ length s.params
-  same_locals : x.locals ≡ locals
-  same_body : x.body ≡ body.stmts
   same_result : is_some s.result ≡ is_some x.result_type
 
-with_type : (decls : List Decl) (s : Section) (locals : List core.Local) (body : statements.Body) (t : ValueType) (r : core.Return) (v : Option core_type.ValueType) (x : core.Section) →
-    s.result ≡ Some t →
-    (v >>= λ v. Some (record { name = s.name.text; parameters = length s.params; locals = locals; result_type = Some v; body = body.stmts; result = Some r })) ≡ Some x →
-    Parts decls s (Some locals) (Some body) x
-with_type decls s locals body t r None x is e = absurd cc
-with_type decls s locals body t r (Some v) x is e =
-    let y : core.Section = record { name = s.name.text; parameters = length s.params; locals = locals; result_type = Some v; body = body.stmts; result = Some r } in
-    let same : y ≡ x = cc in
-    record {
-      locals = locals;
-      body = body;
-      locals_are = refl;
-      body_is = refl;
-      same_parameters = ap (λ (z : core.Section). z.parameters) (sym same);
-      same_locals = ap (λ (z : core.Section). z.locals) (sym same);
-      same_body = ap (λ (z : core.Section). z.body) (sym same);
-      same_result = ap (λ (z : Option ValueType). is_some z) is ∙ ap (λ (z : core.Section). is_some z.result_type) same;
-    }
+result_same : {decls : List Decl} {w : Option ValueType} {r : Option core.Return} {t : Option core_type.ValueType} →
+    TypesResult decls w r t → is_some w ≡ is_some t
+result_same no_result = refl
+result_same (one_result is) = refl
 
-without_type : (decls : List Decl) (s : Section) (locals : List core.Local) (body : statements.Body) (x : core.Section) → s.result ≡ None →
-    ◌≡◌ {A = Option core.Section} (Some (record { name = s.name.text; parameters = length s.params; locals = locals; result_type = None; body = body.stmts; result = None })) (Some x) →
-    Parts decls s (Some locals) (Some body) x
-without_type decls s locals body x is e =
-    let y : core.Section = record { name = s.name.text; parameters = length s.params; locals = locals; result_type = None; body = body.stmts; result = None } in
-    let same : y ≡ x = cc in
-    record {
-      locals = locals;
-      body = body;
-      locals_are = refl;
-      body_is = refl;
-      same_parameters = ap (λ (z : core.Section). z.parameters) (sym same);
-      same_locals = ap (λ (z : core.Section). z.locals) (sym same);
-      same_body = ap (λ (z : core.Section). z.body) (sym same);
-      same_result = ap (λ (z : Option ValueType). is_some z) is ∙ ap (λ (z : core.Section). is_some z.result_type) same;
-    }
-
-with_parts : (decls : List Decl) (s : Section) (locals : List core.Local) (body : statements.Body) (t : Option ValueType) (r : Option core.Return) (x : core.Section) → s.result ≡ t →
-    section_with decls s locals body.stmts t r ≡ Some x → Parts decls s (Some locals) (Some body) x
-with_parts decls s locals body None None x is e = without_type decls s locals body x is e
-with_parts decls s locals body (Some t) (Some r) x is e = with_type decls s locals body t r (type_of (outside decls) t) x is e
-with_parts decls s locals body None (Some r) x is e = absurd cc
-with_parts decls s locals body (Some t) None x is e = absurd cc
-
-parts_of : (decls : List Decl) (s : Section) (o : Option (List core.Local)) (b : Option statements.Body) (x : core.Section) → section_of decls s o b ≡ Some x → Parts decls s o b x
-parts_of decls s (Some locals) (Some body) x e = with_parts decls s locals body s.result body.result x refl e
-parts_of decls s (Some locals) None x e = absurd cc
-parts_of decls s None b x e = absurd cc
+parts_of : {decls : List Decl} {limits : BodyLimits} {s : Section} {x : core.Section} → TypesSection decls limits s x →
+    Parts decls limits s x
+parts_of (types_section b r ls) =
+    record { locals = ls; body = b; same_parameters = refl; same_result = result_same r }
 
 numbers_many : (first n : ℕ) → length (numbers_from first n) ≡ n
 numbers_many first zero = refl
@@ -102,21 +60,20 @@ pub body_of_section : (decls : List Decl) (limits : BodyLimits) (s : Section) (x
     IsBodyOf x (body_in (ahead_of decls limits s) s)
 body_of_section decls limits s x e =
     let sc = entry decls limits s in
-    let p = parts_of decls s (core_locals (after_all sc s.body.stmts).locals) (typed_body sc s.body.stmts) (core_section x) e in
-    let has = subst (λ (o : Option statements.Body). IfBody o (stmts_calls sc s.body.stmts) (stmts_points s.body.stmts)) p.body_is (body_has sc s.body.stmts) in
+    let p = parts_of (types_the_section decls limits s (core_section x) e) in
+    let has = body_has p.body in
     let scoped : IsWellScoped x = section_well_scoped decls limits s x e in
-    let many : length p.locals ≡ length (after_all sc s.body.stmts).locals = locals_length (after_all sc s.body.stmts).locals p.locals p.locals_are in
-    let own : length (map core_local x.locals.items) ≡ length p.locals = ap (λ (l : List core.Local). length l) p.same_locals in
+    let many : length (map core_local x.locals.items) ≡ length (after_all sc s.body.stmts).locals = locals_length p.locals in
     let mapped : length (map core_local x.locals.items) ≡ length x.locals.items = length-map x.locals.items core_local in
     let bound = ap (λ (l : List ℕ). length l) scoped.bound in
     let before = numbers_many 0 x.parameters in
     let whole = numbers_many 0 (length x.locals.items) in
     record {
       parameters = sym p.same_parameters;
-      locals = omega (arith, many, own, mapped, bound, before, whole, length-append (numbers_from 0 x.parameters) (bound_in_all x.body.items));
-      points = sym has.1 ∙ ap all_points (sym p.same_body) ∙ sym (points_all_seen x.body.items);
+      locals = omega (arith, many, mapped, bound, before, whole, length-append (numbers_from 0 x.parameters) (bound_in_all x.body.items));
+      points = sym has.1 ∙ sym (points_all_seen x.body.items);
       has_result = p.same_result;
-      calls = sym has.0 ∙ ap all_sites (sym p.same_body) ∙ sym (all_seen x.body.items);
+      calls = sym has.0 ∙ sym (all_seen x.body.items);
     }
 
 -- ---- by number

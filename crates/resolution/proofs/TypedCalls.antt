@@ -1,22 +1,13 @@
 -- Resolved calls of helpers are well typed.
-use Rattle.std.proofs.Common.{◌≡◌, ℕ, List, [], ◌∷◌, Option, Some, None, true, refl, sym, ap, ◌∙◌, subst}
+use Rattle.std.proofs.Common.{◌≡◌, ℕ, List, [], ◌∷◌, Option, Some, sym, subst}
 use Rattle.std.specs.Prelude.{slice_get, take, ⊤}
-use Rattle.syntax.specs.Trees.{Expr, Param, Section, Decl, lock, struct, global, array, pool, init, atomic, helper}
-use Rattle.syntax.specs.Trees.{thread}
+use Rattle.syntax.specs.Trees.{Expr, Param, Section, Decl, helper, HelperCall}
 use Rattle.core_lang.specs.declared.value.ValueType.{ValueType}
-use Rattle.resolution.specs.declared.wanted.Want.TheVariants.{Value}
 use Rattle.resolution.specs.Core as core
-use Rattle.resolution.specs.Scopes.{◌>>=◌, Scope, outside, Meaning, a_local, a_decl, nothing, helper_meant, number_at}
-use Rattle.resolution.specs.Scopes.{type_of, result_of}
-use Rattle.resolution.specs.Expressions.{want}
-use Rattle.resolution.specs.Working.TypedExpressions.{fitting, as_value, typed}
-use Rattle.resolution.specs.Constants.{want_of}
-use Rattle.resolution.specs.Working.TypedStatements.{typed_values, called, type_given, can_take}
-use Rattle.resolution.proofs.FaultlessExpressions.{IsMeant}
-use Rattle.resolution.proofs.Typed.{types_of, Is, AreAll, Taken, Acts}
-use Rattle.resolution.proofs.TypedResolvedExprs.{Sound, Have, GoodValue, value_good_of}
-use Rattle.resolution.proofs.OwnerRules.{same_type}
-use Rattle.resolution.proofs.LaidLists.{added_got}
+use Rattle.resolution.specs.Scopes.{Scope, outside, number_at, type_of, result_of}
+use Rattle.resolution.proofs.Typed.{types_of, AreAll, Taken, Acts}
+use Rattle.resolution.proofs.TypedResolvedExprs.{Sound, Have, wanted_good, decl_there}
+use Rattle.resolution.specs.Typing.{TypesArguments, no_argument, one_argument, TypesCall, types_call}
 
 -- ---- what a program holds of its helpers
 
@@ -39,58 +30,16 @@ HasHelpers decls p = (n : ℕ) (s : Section) → slice_get decls n ≡ Some (hel
 
 -- ---- calls
 
--- what can be taken is of the local's type
-pub taken_type : (o u : Option ValueType) → can_take o u ≡ true → (t : ValueType) × (o ≡ Some t) × (u ≡ Some t)
-taken_type None u e = cc
-taken_type (Some t) None e = cc
-taken_type (Some t) (Some u) e = (t, refl, ap (λ (x : ValueType). Some x) (same_type t u e))
-
 module _ (sc : Scope) (p : core.Program) (types : List ValueType) (sound : Sound sc.decls p) (have : Have sc.locals types) (helpers : HasHelpers sc.decls p) where
-  abbrev pub GoodAction : Option core.Action → Type 0
-  GoodAction None = ⊤
-  GoodAction (Some x) = Acts p types x
+  arguments_good : {ps : List Param} {es : List Expr} {xs : List core.Expr} → TypesArguments sc ps es xs →
+      (ts : List ValueType) → TypesAre sc.decls ps ts → AreAll p types xs ts
+  arguments_good no_argument [] h = tt
+  arguments_good no_argument (t ∷ ts) h = absurd h
+  arguments_good (one_argument g k) [] h = absurd h
+  arguments_good (one_argument g k) (t ∷ ts) h = (wanted_good sc p types sound have t h.0 g, arguments_good k ts h.1)
 
-  some_good : (t : ValueType) (o : Option core.Expr) (v : core.Expr) → o ≡ Some v →
-      GoodValue sc p types sound have t o → Is p types v t
-  some_good t None v is h = cc
-  some_good t (Some x) v is h = let same : x ≡ v = cc in subst (λ (y : core.Expr). Is p types y t) same h
-
-  -- an argument is of its parameter's type
-  value_of_type : (q : Param) (x : Expr) (t : ValueType) (v : core.Expr) →
-      type_of (outside sc.decls) q.value_type ≡ Some t →
-      as_value (fitting (want_of sc.decls q) (typed sc x)) ≡ Some v → Is p types v t
-  value_of_type q x t v at is =
-      some_good t (as_value (fitting (Value t) (typed sc x))) v (ap (λ (o : Option ValueType). as_value (fitting (want o) (typed sc x))) (sym at) ∙ is) (value_good_of sc p types sound have t x)
-
-  values_good : (ps : List Param) (es : List Expr) (ts : List ValueType) (vs : List core.Expr) →
-      TypesAre sc.decls ps ts → typed_values sc ps es ≡ Some vs → AreAll p types vs ts
-  values_good [] [] [] vs h e = let same : [] ≡ vs = cc in subst (λ (xs : List core.Expr). AreAll p types xs []) same tt
-  values_good [] [] (t ∷ ts) vs h e = absurd h
-  values_good [] (x ∷ es) ts vs h e = cc
-  values_good (q ∷ ps) [] ts vs h e = cc
-  values_good (q ∷ ps) (x ∷ es) [] vs h e = absurd h
-  values_good (q ∷ ps) (x ∷ es) (t ∷ ts) vs h e =
-      let r = added_got (as_value (fitting (want_of sc.decls q) (typed sc x))) (typed_values sc ps es) vs e in
-      subst (λ (xs : List core.Expr). AreAll p types xs (t ∷ ts)) r.4 (value_of_type q x t r.0 h.0 r.2, values_good ps es ts r.1 h.1 r.3)
-
-  with_values : (n : ℕ) (s : Section) → HelperIn sc.decls s p (number_at sc.decls n (helper s)) →
-      (es : List Expr) (local : Option ℕ) → Taken p types local (result_of sc.decls s) →
-      (o : Option (List core.Expr)) → typed_values sc s.params es ≡ o →
-      GoodAction (o >>= λ vs. Some (core.call (number_at sc.decls n (helper s)) vs local))
-  with_values n s h es local takes None is = tt
-  with_values n s h es local takes (Some vs) is =
-      (h.section, h.there, values_good s.params es (types_of (take h.section.parameters h.section.locals)) vs h.parameters is, subst (Taken p types local) (sym h.result) takes)
-
-  pub called_good : (m : Meaning) → IsMeant sc.decls m → (es : List Expr) (local : Option ℕ) →
-      Taken p types local (type_given sc.decls (helper_meant m)) → GoodAction (called sc (helper_meant m) es local)
-  called_good (a_decl n (helper s)) at es local takes = with_values n s (helpers n s at) es local takes (typed_values sc s.params es) refl
-  called_good (a_decl n (lock x)) at es local takes = tt
-  called_good (a_decl n (struct x)) at es local takes = tt
-  called_good (a_decl n (global x)) at es local takes = tt
-  called_good (a_decl n (array x)) at es local takes = tt
-  called_good (a_decl n (pool x)) at es local takes = tt
-  called_good (a_decl n (init x)) at es local takes = tt
-  called_good (a_decl n (atomic x)) at es local takes = tt
-  called_good (a_decl n (thread x)) at es local takes = tt
-  called_good (a_local n l) at es local takes = tt
-  called_good nothing at es local takes = tt
+  pub call_good : {c : HelperCall} {s : Section} {n : ℕ} {xs : List core.Expr} (local : Option ℕ) → TypesCall sc c s n xs →
+      Taken p types local (result_of sc.decls s) → Acts p types (core.call n xs local)
+  call_good local (types_call {c = c} {i = i} {s = s} is k) takes =
+      let h = helpers i s (decl_there sc p types sound have c.helper.text i (helper s) is) in
+      (h.section, h.there, arguments_good k (types_of (take h.section.parameters h.section.locals)) h.parameters, subst (Taken p types local) (sym h.result) takes)

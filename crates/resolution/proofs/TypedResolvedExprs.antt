@@ -1,22 +1,14 @@
 -- Resolved expressions are well typed.
 use Rattle.std.proofs.Common.{◌≡◌, ℕ, List, [], ◌∷◌, ◌++◌, Option, Some, None, Bool, true, false, if◌then◌else◌, refl}
 use Rattle.std.proofs.Common.{sym, subst}
-use Rattle.std.specs.Prelude.{ℤ, slice_get, ⊤}
+use Rattle.std.specs.Prelude.{slice_get, ⊤}
 use Rattle.std.proofs.lemmas.Bool.{eqb-true}
-use Rattle.syntax.specs.declared.tree.Level.TheVariants.{Term, Sum, Conjunction, Disjunction}
-use Rattle.syntax.specs.declared.tree.Prefix.TheVariants.{Negate, Not}
 use Rattle.syntax.specs.declared.tree.Comparison as written
 use Rattle.syntax.specs.declared.tree.Comparison.TheVariants as sign
-use Rattle.syntax.specs.Trees.{ref_type, Ident, Place, lone, element, path, Expr, int, null, place, paren, prefix}
-use Rattle.syntax.specs.Trees.{chain, compare, Links, no_links, link, Member, lock_member, final_member, field_member}
-use Rattle.syntax.specs.Trees.{Final, Field, Struct, Variable, Array, Pool, Decl, lock, struct, global, array, pool}
-use Rattle.syntax.specs.Trees.{init, atomic, helper, thread}
+use Rattle.syntax.specs.Trees.{ref_type, Ident, Expr, Links, Member, lock_member, final_member, field_member, Final}
+use Rattle.syntax.specs.Trees.{Field, Struct, Variable, Array, Pool, Decl, global, array, pool}
 use Rattle.core_lang.specs.declared.value.ValueType.{ValueType}
 use Rattle.core_lang.specs.declared.value.ValueType.TheVariants.{Integer, Reference}
-use Rattle.core_lang.specs.declared.tree.Operator.{Operator}
-use Rattle.core_lang.specs.declared.tree.Comparison.{Comparison}
-use Rattle.core_lang.specs.declared.tree.Comparison.TheVariants.{Equal, NotEqual, Less, LessOrEqual, Greater}
-use Rattle.core_lang.specs.declared.tree.Comparison.TheVariants.{GreaterOrEqual}
 use Rattle.core_lang.specs.declared.tree.FieldStep.{FieldStep}
 use Rattle.core_lang.specs.declared.tree.FieldStep.TheVariants as step
 use Rattle.resolution.specs.declared.wanted.Sort.{Sort}
@@ -26,22 +18,17 @@ use Rattle.resolution.specs.Core as core
 use Rattle.resolution.specs.Scopes.{◌>>=◌, Scope, Local, outside, Meaning, a_local, a_decl, nothing, meaning}
 use Rattle.resolution.specs.Scopes.{declared_as, local_or, local_bears, number_at, the_decl, the_local, the_struct}
 use Rattle.resolution.specs.Scopes.{the_member, type_of, struct_named}
-use Rattle.resolution.specs.Expressions.{ResolvedExpr, value, truth, fits_type}
-use Rattle.resolution.specs.Working.TypedExpressions.{fitting, as_value, number_resolved}
-use Rattle.resolution.specs.Working.TypedExpressions.{test_resolved, literal, value_of}
-use Rattle.resolution.specs.Expressions.{alike_sorts, number_value, local_path}
-use Rattle.resolution.specs.Expressions.{cell_of, Walk, reached, at_lock}
-use Rattle.resolution.specs.Working.TypedExpressions.{named_value, member_value, element_value}
-use Rattle.resolution.specs.Expressions.{lost, over_step, over_member, over, member_number, stepped, walked, at_local}
-use Rattle.resolution.specs.Expressions.{walk_from, operator_of}
-use Rattle.resolution.specs.Working.TypedExpressions.{path_value, negated, not_so, parenthesised, chained}
-use Rattle.resolution.specs.Working.TypedExpressions.{linked, Tests, one_test, tested, all_hold, one_holds, ordered}
-use Rattle.resolution.specs.Working.TypedExpressions.{equated}
-use Rattle.resolution.specs.Working.TypedExpressions.{compared, typed, typed_place, typed_links, typed_tests}
+use Rattle.resolution.specs.Expressions.{ResolvedExpr, value, truth, fits_type, alike_sorts, cell_of, Walk, reached}
+use Rattle.resolution.specs.Expressions.{at_lock, lost, over_step, over_member, over, member_number, stepped, walked}
+use Rattle.resolution.specs.Expressions.{at_local, walk_from, marked, comparison_of, IsEquality, want}
 use Rattle.resolution.proofs.Named.{named_is, member_is}
 use Rattle.resolution.proofs.FaultlessExpressions.{IsMeant, meant}
 use Rattle.resolution.proofs.Typed as well
 use Rattle.resolution.proofs.Typed.{global_in, array_in, pool_in, final_in, field_in, Leads, Is, Are, Compares, AllTest}
+use Rattle.resolution.specs.Typing.{Types, types_int, types_null, types_local, types_global, types_element}
+use Rattle.resolution.specs.Typing.{types_member, types_path, types_paren, types_minus, types_not, types_numbers}
+use Rattle.resolution.specs.Typing.{types_and, types_or, types_order, types_equality, TypesOperands, no_operand}
+use Rattle.resolution.specs.Typing.{one_operand, TypesTests, last_test, one_test, Gives, gives}
 
 -- ---- what a program holds of its declarations
 
@@ -95,18 +82,6 @@ module _ (sc : Scope) (p : core.Program) (types : List ValueType) (sound : Sound
   ResolvedExprOk (value x sort.Null) = (k : ℕ) → Is p types x (Reference k)
   ResolvedExprOk (truth c) = well.Tests p types c
 
-  abbrev Good : Option ResolvedExpr → Type 0
-  Good None = ⊤
-  Good (Some s) = ResolvedExprOk s
-
-  abbrev pub GoodValue : ValueType → Option core.Expr → Type 0
-  GoodValue t None = ⊤
-  GoodValue t (Some x) = Is p types x t
-
-  abbrev pub GoodTest : Option core.Condition → Type 0
-  GoodTest None = ⊤
-  GoodTest (Some c) = well.Tests p types c
-
   fit_value : (t : ValueType) (x : core.Expr) (s : Sort) → fits_type t s ≡ true → ResolvedExprOk (value x s) →
       Is p types x t
   fit_value Integer x (sort.Of Integer) e h = h
@@ -116,60 +91,7 @@ module _ (sc : Scope) (p : core.Program) (types : List ValueType) (sound : Sound
   fit_value (Reference s) x (sort.Of (Reference r)) e h = subst (λ (k : ℕ). Is p types x (Reference k)) (sym (eqb-true s r e)) h
   fit_value (Reference s) x sort.Null e h = h s
 
-  value_if : (t : ValueType) (x : core.Expr) (s : Sort) (b : Bool) → fits_type t s ≡ b → ResolvedExprOk (value x s) →
-      GoodValue t (as_value (if b then Some (value x s) else None))
-  value_if t x s true e h = fit_value t x s e h
-  value_if t x s false e h = tt
-
-  good_value : (t : ValueType) (o : Option ResolvedExpr) → Good o → GoodValue t (as_value (fitting (Value t) o))
-  good_value t None h = tt
-  good_value t (Some (value x s)) h = value_if t x s (fits_type t s) refl h
-  good_value t (Some (truth c)) h = tt
-
-  good_test : (o : Option ResolvedExpr) → Good o → GoodTest (test_resolved o)
-  good_test None h = tt
-  good_test (Some (value x s)) h = tt
-  good_test (Some (truth c)) h = h
-
-  -- ---- names, elements and paths
-
-  value_good : (x : core.Expr) (o : Option ValueType) → ((t : ValueType) → o ≡ Some t → Is p types x t) →
-      Good (value_of x o)
-  value_good x None h = tt
-  value_good x (Some t) h = h t refl
-
-  name_good : (start : ℕ) (m : Meaning) → IsMeant sc.decls m → IsLocal sc.locals m → Good (named_value sc.decls start m)
-  name_good start (a_local n l) at loc = value_good (core.place (local_path start n [])) l.value_type (λ t e. (t, have n l t loc.0 e, refl))
-  name_good start (a_decl n (global v)) at loc = value_good (core.global start (cell_of sc.decls n)) (type_of (outside sc.decls) v.value_type) (λ t e. sound.cell n v t at e)
-  name_good start (a_decl n (lock x)) at loc = tt
-  name_good start (a_decl n (struct x)) at loc = tt
-  name_good start (a_decl n (array x)) at loc = tt
-  name_good start (a_decl n (pool x)) at loc = tt
-  name_good start (a_decl n (init x)) at loc = tt
-  name_good start (a_decl n (atomic x)) at loc = tt
-  name_good start (a_decl n (helper x)) at loc = tt
-  name_good start (a_decl n (thread x)) at loc = tt
-  name_good start nothing at loc = tt
-
-  member_good : (n : ℕ) (index : core.Expr) (o : Option ℕ) → Is p types index Integer →
-      ((s : ℕ) → o ≡ Some s → pool_in p n ≡ Some s) → Good (member_value n index o)
-  member_good n index None i h = tt
-  member_good n index (Some s) i h = (h s refl, i)
-
-  element_good : (start : ℕ) (m : Meaning) (o : Option core.Expr) → IsMeant sc.decls m → GoodValue Integer o →
-      Good (element_value sc.decls start m o)
-  element_good start m None at i = tt
-  element_good start (a_decl n (array a)) (Some index) at i = value_good (core.element start (number_at sc.decls n (array a)) index) (type_of (outside sc.decls) a.value_type) (λ t e. (sound.array n a t at e, i))
-  element_good start (a_decl n (pool q)) (Some index) at i = member_good (number_at sc.decls n (pool q)) index (struct_named sc.decls q.target) i (λ s e. sound.pool n q s at e)
-  element_good start (a_decl n (lock x)) (Some index) at i = tt
-  element_good start (a_decl n (struct x)) (Some index) at i = tt
-  element_good start (a_decl n (global x)) (Some index) at i = tt
-  element_good start (a_decl n (init x)) (Some index) at i = tt
-  element_good start (a_decl n (atomic x)) (Some index) at i = tt
-  element_good start (a_decl n (helper x)) (Some index) at i = tt
-  element_good start (a_decl n (thread x)) (Some index) at i = tt
-  element_good start (a_local n l) (Some index) at i = tt
-  element_good start nothing (Some index) at i = tt
+  -- ---- paths
 
   -- a walk from a type makes steps that lead to another
   abbrev GoodWalk : ValueType → Walk → Type 0
@@ -243,156 +165,83 @@ module _ (sc : Scope) (p : core.Program) (types : List ValueType) (sound : Sound
   local_walk n l fs at None e = subst (GoodPath n) (sym (lost_stays fs)) tt
   local_walk n l fs at (Some t) e = path_of n t (walked sc.decls (reached [] t) fs) (have n l t at e) (walk_good t (reached [] t) fs refl)
 
-  path_end : (start n : ℕ) (l : Local) (w : Walk) → GoodPath n w → Good (path_value start (a_local n l) w)
-  path_end start n l (reached steps t) h = h
-  path_end start n l at_lock h = tt
-  path_end start n l lost h = tt
+  -- what a local's name means is in its place, and what a declaration's does too
+  pub local_meant : (q : List ℕ) (n : ℕ) (l : Local) → meaning sc q ≡ a_local n l → slice_get sc.locals n ≡ Some l
+  local_meant q n l is = (subst (IsLocal sc.locals) is (meant_local sc q)).0
 
-  path_good : (start : ℕ) (m : Meaning) (fs : List Ident) → IsLocal sc.locals m →
-      Good (path_value start m (walk_from sc.decls m fs))
-  path_good start (a_local n l) fs loc = path_end start n l (walked sc.decls (at_local l.value_type) fs) (local_walk n l fs loc.0 l.value_type refl)
-  path_good start (a_decl n d) fs loc = tt
-  path_good start nothing fs loc = tt
+  pub decl_there : (q : List ℕ) (n : ℕ) (d : Decl) → meaning sc q ≡ a_decl n d → slice_get sc.decls n ≡ Some d
+  decl_there q n d is = subst (IsMeant sc.decls) is (meant sc q)
+
+  pub path_leads : (q : List ℕ) (n : ℕ) (l : Local) (fs : List Ident) (steps : List FieldStep) (t : ValueType) →
+      meaning sc q ≡ a_local n l → walk_from sc.decls (a_local n l) fs ≡ reached steps t → GoodPath n (reached steps t)
+  path_leads q n l fs steps t is at = subst (GoodPath n) at (local_walk n l fs (local_meant q n l is) l.value_type refl)
 
   -- ---- operators
 
-  paren_good : (o : Option ResolvedExpr) → Good o → Good (parenthesised o)
-  paren_good None h = tt
-  paren_good (Some (value (core.place q) (sort.Of t))) h = h
-  paren_good (Some (value (core.place q) sort.Null)) h = h
-  paren_good (Some (value (core.number n) s)) h = h
-  paren_good (Some (value core.null s)) h = h
-  paren_good (Some (value (core.global start cell) s)) h = h
-  paren_good (Some (value (core.element start n i) s)) h = h
-  paren_good (Some (value (core.member n i) s)) h = h
-  paren_good (Some (value (core.negate x) s)) h = h
-  paren_good (Some (value (core.owned x k f start n) s)) h = h
-  paren_good (Some (value (core.chain x rest) s)) h = h
-  paren_good (Some (truth c)) h = h
+  marked_good : (r : ResolvedExpr) → ResolvedExprOk r → ResolvedExprOk (marked r)
+  marked_good (value (core.place q) (sort.Of t)) h = h
+  marked_good (value (core.place q) sort.Null) h = h
+  marked_good r h = h
 
-  negate_good : (o : Option core.Expr) → GoodValue Integer o → Good (negated o)
-  negate_good None h = tt
-  negate_good (Some x) h = h
+  order_good : (c : written.Comparison) (a b : core.Expr) → Is p types a Integer → Is p types b Integer →
+      Compares p types (comparison_of c) a b
+  order_good sign.Equal a b h g = (Integer, h, g)
+  order_good sign.NotEqual a b h g = (Integer, h, g)
+  order_good sign.Less a b h g = (h, g)
+  order_good sign.LessOrEqual a b h g = (h, g)
+  order_good sign.Greater a b h g = (h, g)
+  order_good sign.GreaterOrEqual a b h g = (h, g)
 
-  not_good : (o : Option core.Condition) → GoodTest o → Good (not_so o)
-  not_good None h = tt
-  not_good (Some c) h = h
+  equal_good : (c : written.Comparison) → IsEquality c → (t : ValueType) (a b : core.Expr) → Is p types a t →
+      Is p types b t → Compares p types (comparison_of c) a b
+  equal_good sign.Equal so t a b h g = (t, h, g)
+  equal_good sign.NotEqual so t a b h g = (t, h, g)
+  equal_good sign.Less so t a b h g = absurd so
+  equal_good sign.LessOrEqual so t a b h g = absurd so
+  equal_good sign.Greater so t a b h g = absurd so
+  equal_good sign.GreaterOrEqual so t a b h g = absurd so
 
-  abbrev GoodLinks : Option core.Operations → Type 0
-  GoodLinks None = ⊤
-  GoodLinks (Some rest) = Are p types rest
-
-  chain_good : (o : Option core.Expr) (r : Option core.Operations) → GoodValue Integer o → GoodLinks r →
-      Good (chained o r)
-  chain_good None r h g = tt
-  chain_good (Some x) None h g = tt
-  chain_good (Some x) (Some rest) h g = (h, g)
-
-  link_good : (q : Option Operator) (o : Option core.Expr) (r : Option core.Operations) → GoodValue Integer o →
-      GoodLinks r → GoodLinks (linked q o r)
-  link_good None o r h g = tt
-  link_good (Some q) None r h g = tt
-  link_good (Some q) (Some x) None h g = tt
-  link_good (Some q) (Some x) (Some rest) h g = (h, g)
-
-  abbrev GoodTests : Option Tests → Type 0
-  GoodTests None = ⊤
-  GoodTests (Some ts) = AllTest p types ts.before × well.Tests p types ts.last
-
-  one_good : (o : Option core.Condition) → GoodTest o → GoodTests (one_test o)
-  one_good None h = tt
-  one_good (Some c) h = (tt, h)
-
-  more_good : (o : Option core.Condition) (r : Option Tests) → GoodTest o → GoodTests r → GoodTests (tested o r)
-  more_good None r h g = tt
-  more_good (Some c) None h g = tt
-  more_good (Some c) (Some ts) h g = ((h, g.0), g.1)
-
-  all_good : (o : Option Tests) → GoodTests o → Good (all_hold o)
-  all_good None h = tt
-  all_good (Some ts) h = h
-
-  any_good : (o : Option Tests) → GoodTests o → Good (one_holds o)
-  any_good None h = tt
-  any_good (Some ts) h = h
-
-  -- what compares numbers
-  abbrev Orders : Comparison → Type 0
-  Orders c = (a b : core.Expr) → Is p types a Integer → Is p types b Integer → Compares p types c a b
-
-  ordered_good : (c : Comparison) → Orders c → (o r : Option core.Expr) → GoodValue Integer o → GoodValue Integer r →
-      Good (ordered c o r)
-  ordered_good c so None r h g = tt
-  ordered_good c so (Some a) None h g = tt
-  ordered_good c so (Some a) (Some b) h g = so a b h g
-
-  abbrev Equates : Comparison → Type 0
-  Equates c = (t : ValueType) (a b : core.Expr) → Is p types a t → Is p types b t → Compares p types c a b
-
-  equal_of : (c : Comparison) → Equates c → (a b : core.Expr) (s t : Sort) → alike_sorts s t ≡ true →
-      ResolvedExprOk (value a s) → ResolvedExprOk (value b t) → Compares p types c a b
-  equal_of c so a b (sort.Of u) t e h g = so u a b h (fit_value u b t e g)
-  equal_of c so a b sort.Null sort.Null e h g = so (Reference 0) a b (h 0) (g 0)
-  equal_of c so a b sort.Null (sort.Of Integer) e h g = cc
-  equal_of c so a b sort.Null (sort.Of (Reference r)) e h g = so (Reference r) a b (h r) g
-
-  equal_if : (c : Comparison) → Equates c → (a b : core.Expr) (s t : Sort) (x : Bool) → alike_sorts s t ≡ x →
-      ResolvedExprOk (value a s) → ResolvedExprOk (value b t) →
-      Good (if x then Some (truth (core.compare c a b)) else None)
-  equal_if c so a b s t true e h g = equal_of c so a b s t e h g
-  equal_if c so a b s t false e h g = tt
-
-  equated_good : (c : Comparison) → Equates c → (o r : Option ResolvedExpr) → Good o → Good r → Good (equated c o r)
-  equated_good c so None r h g = tt
-  equated_good c so (Some (value a s)) None h g = tt
-  equated_good c so (Some (value a s)) (Some (value b t)) h g = equal_if c so a b s t (alike_sorts s t) refl h g
-  equated_good c so (Some (value a s)) (Some (truth d)) h g = tt
-  equated_good c so (Some (truth d)) r h g = tt
-
-  compare_good : (c : written.Comparison) (o r : Option ResolvedExpr) → Good o → Good r → Good (compared c o r)
-  compare_good sign.Equal o r h g = equated_good Equal (λ t a b x y. (t, x, y)) o r h g
-  compare_good sign.NotEqual o r h g = equated_good NotEqual (λ t a b x y. (t, x, y)) o r h g
-  compare_good sign.Less o r h g = ordered_good Less (λ a b x y. (x, y)) (number_resolved o) (number_resolved r) (good_value Integer o h) (good_value Integer r g)
-  compare_good sign.LessOrEqual o r h g = ordered_good LessOrEqual (λ a b x y. (x, y)) (number_resolved o) (number_resolved r) (good_value Integer o h) (good_value Integer r g)
-  compare_good sign.Greater o r h g = ordered_good Greater (λ a b x y. (x, y)) (number_resolved o) (number_resolved r) (good_value Integer o h) (good_value Integer r g)
-  compare_good sign.GreaterOrEqual o r h g = ordered_good GreaterOrEqual (λ a b x y. (x, y)) (number_resolved o) (number_resolved r) (good_value Integer o h) (good_value Integer r g)
-
-  literal_good : (o : Option ℤ) → Good (literal o)
-  literal_good None = tt
-  literal_good (Some z) = tt
+  alike_good : (c : written.Comparison) → IsEquality c → (a b : core.Expr) (s t : Sort) → alike_sorts s t ≡ true →
+      ResolvedExprOk (value a s) → ResolvedExprOk (value b t) → Compares p types (comparison_of c) a b
+  alike_good c so a b (sort.Of u) t e h g = equal_good c so u a b h (fit_value u b t e g)
+  alike_good c so a b sort.Null sort.Null e h g = equal_good c so (Reference 0) a b (h 0) (g 0)
+  alike_good c so a b sort.Null (sort.Of Integer) e h g = cc
+  alike_good c so a b sort.Null (sort.Of (Reference r)) e h g = equal_good c so (Reference r) a b (h r) g
 
   -- ---- expressions
 
   mutual
-    pub expr_good : (e : Expr) → Good (typed sc e)
-    expr_good (int n) = literal_good (number_value n)
-    expr_good (null at) = λ k. tt
-    expr_good (place q) = place_good q
-    expr_good (paren at e) = paren_good (typed sc e) (expr_good e)
-    expr_good (prefix Negate at e) = negate_good (number_resolved (typed sc e)) (good_value Integer (typed sc e) (expr_good e))
-    expr_good (prefix Not at e) = not_good (test_resolved (typed sc e)) (good_test (typed sc e) (expr_good e))
-    expr_good (chain Term e links) = chain_good (number_resolved (typed sc e)) (typed_links sc links) (good_value Integer (typed sc e) (expr_good e)) (links_good links)
-    expr_good (chain Sum e links) = chain_good (number_resolved (typed sc e)) (typed_links sc links) (good_value Integer (typed sc e) (expr_good e)) (links_good links)
-    expr_good (chain Conjunction e links) = all_good (typed_tests sc (test_resolved (typed sc e)) links) (tests_good (test_resolved (typed sc e)) links (good_test (typed sc e) (expr_good e)))
-    expr_good (chain Disjunction e links) = any_good (typed_tests sc (test_resolved (typed sc e)) links) (tests_good (test_resolved (typed sc e)) links (good_test (typed sc e) (expr_good e)))
-    expr_good (compare a c b) = compare_good c (typed sc a) (typed sc b) (expr_good a) (expr_good b)
+    pub expr_good : {e : Expr} {r : ResolvedExpr} → Types sc e r → ResolvedExprOk r
+    expr_good (types_int h) = tt
+    expr_good types_null = λ k. tt
+    expr_good (types_local {x = x} {i = i} {l = l} {t = t} is h) = (t, have i l t (local_meant x.text i l is) h, refl)
+    expr_good (types_global {x = x} {i = i} {v = v} {t = t} is h) = sound.cell i v t (decl_there x.text i (global v) is) h
+    expr_good (types_element {x = x} {i = i} {a = a} {t = t} is h d) = (sound.array i a t (decl_there x.text i (array a) is) h, expr_good d)
+    expr_good (types_member {x = x} {i = i} {p = q} {s = s} is h d) = (sound.pool i q s (decl_there x.text i (pool q) is) h, expr_good d)
+    expr_good (types_path {x = x} {fs = fs} {i = i} {l = l} {steps = steps} {t = t} is at) = path_leads x.text i l fs steps t is at
+    expr_good (types_paren {r = r} d) = marked_good r (expr_good d)
+    expr_good (types_minus d) = expr_good d
+    expr_good (types_not d) = expr_good d
+    expr_good (types_numbers are d k) = (expr_good d, operands_good k)
+    expr_good (types_and d k) = tests_good k (expr_good d)
+    expr_good (types_or d k) = tests_good k (expr_good d)
+    expr_good (types_order {c = c} {x = x} {y = y} h k) = order_good c x y (expr_good h) (expr_good k)
+    expr_good (types_equality {c = c} {x = x} {y = y} {s = s} {t = t} so h k e) = alike_good c so x y s t e (expr_good h) (expr_good k)
 
-    place_good : (q : Place) → Good (typed_place sc q)
-    place_good (lone x) = name_good x.span.start (meaning sc x.text) (meant sc x.text) (meant_local sc x.text)
-    place_good (element x e) = element_good x.span.start (meaning sc x.text) (number_resolved (typed sc e)) (meant sc x.text) (good_value Integer (typed sc e) (expr_good e))
-    place_good (path x fs) = path_good x.span.start (meaning sc x.text) fs (meant_local sc x.text)
+    operands_good : {links : Links} {rest : core.Operations} → TypesOperands sc links rest → Are p types rest
+    operands_good no_operand = tt
+    operands_good (one_operand is d k) = (expr_good d, operands_good k)
 
-    links_good : (links : Links) → GoodLinks (typed_links sc links)
-    links_good no_links = tt
-    links_good (link o e rest) = link_good (operator_of o) (number_resolved (typed sc e)) (typed_links sc rest) (good_value Integer (typed sc e) (expr_good e)) (links_good rest)
-
-    tests_good : (o : Option core.Condition) (links : Links) → GoodTest o → GoodTests (typed_tests sc o links)
-    tests_good o no_links h = one_good o h
-    tests_good o (link q e rest) h = more_good o (typed_tests sc (test_resolved (typed sc e)) rest) h (tests_good (test_resolved (typed sc e)) rest (good_test (typed sc e) (expr_good e)))
+    tests_good : {c last : core.Condition} {links : Links} {before : core.Conditions} → TypesTests sc c links before last →
+        well.Tests p types c → AllTest p types before × well.Tests p types last
+    tests_good last_test h = (tt, h)
+    tests_good (one_test d k) h = let r = tests_good k (expr_good d) in ((h, r.0), r.1)
 
   -- a value of a type, where one is wanted
-  pub value_good_of : (t : ValueType) (e : Expr) → GoodValue t (as_value (fitting (Value t) (typed sc e)))
-  value_good_of t e = good_value t (typed sc e) (expr_good e)
+  pub value_good : {t : ValueType} {e : Expr} {x : core.Expr} → Gives sc (Value t) e x → Is p types x t
+  value_good {t = t} (gives {x = x} {s = s} d fits) = fit_value t x s fits (expr_good d)
 
-  pub test_good_of : (e : Expr) → GoodTest (test_resolved (typed sc e))
-  test_good_of e = good_test (typed sc e) (expr_good e)
+  -- the same of a type that is found
+  pub wanted_good : {o : Option ValueType} {e : Expr} {x : core.Expr} (t : ValueType) → o ≡ Some t →
+      Gives sc (want o) e x → Is p types x t
+  wanted_good {e = e} {x = x} t is g = value_good (subst (λ (o : Option ValueType). Gives sc (want o) e x) is g)

@@ -1,11 +1,11 @@
 -- Resolved sections are well typed and well scoped.
 use Rattle.std.proofs.Common.{◌≡◌, ◌≢◌, ℕ, zero, suc, ◌+◌, ◌<◌, ◌≤◌, List, [], ◌∷◌, ◌++◌, length, Option, Some, None}
 use Rattle.std.proofs.Common.{true, refl, sym, ap, ◌∙◌, subst, arith}
-use Rattle.std.specs.Prelude.{slice_get, option_map, ⊤}
+use Rattle.std.specs.Prelude.{slice_get, option_map}
 use Rattle.std.specs.List.{Contains}
-use Rattle.syntax.specs.Trees.{ValueType, Stmt, let_local, let_owned, let_call, var_local, assign, if_then, while}
-use Rattle.syntax.specs.Trees.{print, return_value, call, Stmts, no_stmts, stmt, Otherwise, no_else, else_do, Param}
-use Rattle.syntax.specs.Trees.{Section, Decl}
+use Rattle.syntax.specs.Trees.{Stmt, let_local, let_owned, let_call, var_local, assign, if_then, while, print}
+use Rattle.syntax.specs.Trees.{return_value, call, Stmts, no_stmts, stmt, Otherwise, no_else, else_do, Param, Section}
+use Rattle.syntax.specs.Trees.{Decl}
 use Rattle.core_lang.specs.declared.value.ValueType as core_type
 use Rattle.core_lang.specs.declared.tree.LocalKind.TheVariants as kind
 use Rattle.core_lang.specs.declared.tree.Local as the_local
@@ -18,20 +18,18 @@ use Rattle.resolution.specs.Core as core
 use Rattle.resolution.specs.CoreViews.{core_expr, core_stmts, core_return, core_local, core_locals as locals_view}
 use Rattle.resolution.specs.CoreViews.{core_section, core_of}
 use Rattle.resolution.specs.Scopes as scopes
-use Rattle.resolution.specs.Scopes.{◌>>=◌, Scope, outside, type_of, bound, hidden, hidden_from, left, entered}
-use Rattle.resolution.specs.Working.TypedStatements.{Body, typed_body}
-use Rattle.resolution.specs.Statements.{after, after_else, after_all}
-use Rattle.resolution.specs.Constants.{added}
-use Rattle.resolution.specs.Statements.{ahead_of, entry}
-use Rattle.resolution.specs.Working.TypedSections.{core_local as local_of, core_locals, section_with}
-use Rattle.resolution.specs.Working.TypedSections.{section_of, typed_section}
+use Rattle.resolution.specs.Scopes.{Scope, outside, type_of, bound, hidden, hidden_from, left, entered}
+use Rattle.resolution.specs.Statements.{after, after_else, after_all, ahead_of, entry}
+use Rattle.resolution.specs.Working.TypedSections.{typed_section}
 use Rattle.resolution.proofs.Typed.{types_of, AllAct, Returns, get_map, body_typed, result_typed}
 use Rattle.resolution.proofs.TypedResolvedExprs.{Sound}
 use Rattle.resolution.proofs.TypedCalls.{HasHelpers}
 use Rattle.resolution.proofs.TypedStatements.{all_front, locals_got, section_typed}
-use Rattle.resolution.proofs.Scoped.{Names, StmtsName, behind_all, all_binding, all_assigning, body_scoped}
-use Rattle.resolution.proofs.Scoped.{body_behind, body_binding, body_assigning, result_scoped}
-use Rattle.resolution.proofs.ScopedStatements.{IsVarAt, Become, BodyDone, ReturnDone, numbers_cover, body_done, get_lt}
+use Rattle.resolution.proofs.Scoped.{Names, StmtsName, behind_all, all_binding, all_assigning, body_scoped, body_behind}
+use Rattle.resolution.proofs.Scoped.{body_binding, body_assigning, result_scoped}
+use Rattle.resolution.proofs.ScopedStatements.{IsVarAt, Become, ReturnDone, numbers_cover, body_done, get_lt}
+use Rattle.resolution.specs.Typing.{TypesBody, TypesLocals, no_local, one_local, TypesSection, types_section}
+use Rattle.resolution.proofs.StatementRules.{types_the_section}
 
 -- ---- well typed
 
@@ -135,15 +133,9 @@ get_some (x ∷ xs) (suc n) lt = get_some xs n (omega (arith, lt))
 
 -- ---- well scoped
 
-pub locals_length : (ls : List scopes.Local) (xs : List core.Local) → core_locals ls ≡ Some xs → length xs ≡ length ls
-locals_length [] xs e = let s : [] ≡ xs = cc in sym (ap (λ (q : List core.Local). length q) s)
-locals_length (l ∷ ls) xs e = by_parts (local_of l) (core_locals ls) e (λ zs g. locals_length ls zs g)
-  where
-    by_parts : (o : Option core.Local) (r : Option (List core.Local)) → added o r ≡ Some xs →
-        ((zs : List core.Local) → r ≡ Some zs → length zs ≡ length ls) → length xs ≡ suc (length ls)
-    by_parts None r h rec = cc
-    by_parts (Some x) None h rec = cc
-    by_parts (Some x) (Some zs) h rec = let s : x ∷ zs ≡ xs = cc in let l = rec zs refl in sym (ap (λ (q : List core.Local). length q) s) ∙ ap suc l
+pub locals_length : {ls : List scopes.Local} {xs : List core.Local} → TypesLocals ls xs → length xs ≡ length ls
+locals_length no_local = refl
+locals_length (one_local is k) = ap suc (locals_length k)
 
 -- a section whose locals are named in scope, bound once and kept by kind
 pub record ScopedOk (x : core.Section) : Type 0 where
@@ -154,11 +146,7 @@ pub record ScopedOk (x : core.Section) : Type 0 where
   pub body : StmtsName (numbers_from 0 x.parameters) x.body
   pub result : (r : core.Return) → x.result ≡ Some r → Names (behind_all (numbers_from 0 x.parameters) x.body) r.value
 
-abbrev IfScoped : Option core.Section → Type 0
-IfScoped None = ⊤
-IfScoped (Some x) = ScopedOk x
-
-module _ (decls : List Decl) (limits : BodyLimits) (s : Section) (xs : List core.Local) (are : core_locals (after_all (entry decls limits s) s.body.stmts).locals ≡ Some xs) where
+module _ (decls : List Decl) (limits : BodyLimits) (s : Section) (xs : List core.Local) (are : TypesLocals (after_all (entry decls limits s) s.body.stmts).locals xs) where
   abbrev sc : Scope
   sc = entry decls limits s
 
@@ -169,15 +157,15 @@ module _ (decls : List Decl) (limits : BodyLimits) (s : Section) (xs : List core
   params = let r = entered_length (ahead_of decls limits s) s.params in omega (arith, r)
 
   becomes : Become ends xs
-  becomes n l e = let r = locals_got ends xs are n l e in (r.0, r.1, r.2)
+  becomes n l e = let r = locals_got are n l e in (r.0, r.1, r.2)
 
   kinds_are : (k : ℕ) (x : core.Local) → slice_get xs k ≡ Some x →
       (k < length s.params → x.kind ≡ kind.Parameter) × (length s.params ≤ k → x.kind ≢ kind.Parameter)
   kinds_are k x e =
-      let len = locals_length ends xs are in
+      let len = locals_length are in
       let lt = get_lt xs k x e in
       let at = get_some ends k (let z : k < length ends = omega (arith, len, lt) in z) in
-      let r = locals_got ends xs are k at.0 at.1 in
+      let r = locals_got are k at.0 at.1 in
       let same : Some r.0 ≡ Some x = sym r.1 ∙ e in
       let kd : x.kind ≡ at.0.kind = (let q : r.0 ≡ x = cc in sym (ap (λ (y : core.Local). y.kind) q) ∙ r.2) in (
         (λ less. kd ∙ first_kind k at.0 at.1 less),
@@ -197,57 +185,29 @@ module _ (decls : List Decl) (limits : BodyLimits) (s : Section) (xs : List core
           let o : at.0 ≡ l = cc in
           sym (ap (λ (y : scopes.Local). y.kind) o) ∙ parameters_entered (ahead_of decls limits s) s.params (λ j m g. cc) k at.0 at.1
 
-  scoped_put : (b : Body) (t : Option core_type.ValueType) (r : Option core.Return) →
-      BodyDone xs sc.locals ends (numbers_from 0 (length sc.locals)) (Some b) → r ≡ b.result →
-      ScopedOk (record { name = s.name.text; parameters = length s.params; locals = xs; result_type = t; body = b.stmts; result = r })
-  scoped_put b t r h same =
-      let d = h.0 in
-      let len = locals_length ends xs are in
+  scoped_put : {block : core.Stmts} {r : Option core.Return} (t : Option core_type.ValueType) →
+      TypesBody sc s.body.stmts block r →
+      ScopedOk (record { name = s.name.text; parameters = length s.params; locals = xs; result_type = t; body = block; result = r })
+  scoped_put {block = block} {r = r} t b =
+      let h = body_done xs b (numbers_from 0 (length sc.locals)) (numbers_cover sc.locals) becomes in
+      let len = locals_length are in
       record {
-        bound = ap (λ (n : ℕ). numbers_from 0 n ++ all_binding b.stmts) (sym params) ∙ d.bound ∙ ap (numbers_from 0) (sym len);
+        bound = ap (λ (n : ℕ). numbers_from 0 n ++ all_binding block) (sym params) ∙ h.0.bound ∙ ap (numbers_from 0) (sym len);
         kinds = kinds_are;
-        assigned = d.assigned;
-        body = subst (λ (n : ℕ). StmtsName (numbers_from 0 n) b.stmts) params d.named;
-        result = λ q e. given b.result q (sym same ∙ e) h.1;
+        assigned = h.0.assigned;
+        body = subst (λ (n : ℕ). StmtsName (numbers_from 0 n) block) params h.0.named;
+        result = λ q e. given r q e h.1;
       }
     where
       given : (o : Option core.Return) (q : core.Return) → o ≡ Some q →
-          ReturnDone xs (behind_all (numbers_from 0 (length sc.locals)) b.stmts) o →
-          Names (behind_all (numbers_from 0 (length s.params)) b.stmts) q.value
+          ReturnDone xs (behind_all (numbers_from 0 (length sc.locals)) block) o →
+          Names (behind_all (numbers_from 0 (length s.params)) block) q.value
       given None q e g = cc
-      given (Some w) q e g = let same2 : w ≡ q = cc in subst (λ (n : ℕ). Names (behind_all (numbers_from 0 n) b.stmts) q.value) params (subst (λ (y : core.Return). Names (behind_all (numbers_from 0 (length sc.locals)) b.stmts) y.value) same2 g)
+      given (Some w) q e g = let same : w ≡ q = cc in subst (λ (n : ℕ). Names (behind_all (numbers_from 0 n) block) q.value) params (subst (λ (y : core.Return). Names (behind_all (numbers_from 0 (length sc.locals)) block) y.value) same g)
 
-  typed_put : (b : Body) (r : core.Return) (o : Option core_type.ValueType) →
-      BodyDone xs sc.locals ends (numbers_from 0 (length sc.locals)) (Some b) → Some r ≡ b.result →
-      IfScoped (o >>= λ v. Some (record { name = s.name.text; parameters = length s.params; locals = xs; result_type = Some v; body = b.stmts; result = Some r }))
-  typed_put b r None h same = tt
-  typed_put b r (Some t) h same = scoped_put b (Some t) (Some r) h same
-
-  with_put : (b : Body) (o : Option ValueType) (q : Option core.Return) →
-      BodyDone xs sc.locals ends (numbers_from 0 (length sc.locals)) (Some b) → q ≡ b.result →
-      IfScoped (section_with decls s xs b.stmts o q)
-  with_put b None None h same = scoped_put b None None h same
-  with_put b None (Some r) h same = tt
-  with_put b (Some t) None h same = tt
-  with_put b (Some t) (Some r) h same = typed_put b r (type_of (outside decls) t) h same
-
-  of_put : (o : Option Body) → BodyDone xs sc.locals ends (numbers_from 0 (length sc.locals)) o →
-      IfScoped (section_of decls s (Some xs) o)
-  of_put None h = tt
-  of_put (Some b) h = with_put b s.result b.result h refl
-
-  pub scoped_if : IfScoped (section_of decls s (Some xs) (typed_body sc s.body.stmts))
-  scoped_if = of_put (typed_body sc s.body.stmts) (body_done xs sc s.body.stmts (numbers_from 0 (length sc.locals)) (numbers_cover sc.locals) becomes)
-
-scoped_any : (decls : List Decl) (limits : BodyLimits) (s : Section) (o : Option (List core.Local)) →
-    core_locals (after_all (entry decls limits s) s.body.stmts).locals ≡ o →
-    IfScoped (section_of decls s o (typed_body (entry decls limits s) s.body.stmts))
-scoped_any decls limits s None is = tt
-scoped_any decls limits s (Some xs) is = scoped_if decls limits s xs is
-
-section_scoped : (decls : List Decl) (limits : BodyLimits) (s : Section) (x : core.Section) →
-    typed_section decls limits s ≡ Some x → ScopedOk x
-section_scoped decls limits s x e = subst IfScoped e (scoped_any decls limits s (core_locals (after_all (entry decls limits s) s.body.stmts).locals) refl)
+section_scoped : {decls : List Decl} {limits : BodyLimits} {s : Section} {x : core.Section} → TypesSection decls limits s x →
+    ScopedOk x
+section_scoped {decls = decls} {limits = limits} {s = s} (types_section {locals = locals} {t = t} b q ls) = scoped_put decls limits s locals ls t b
 
 view_length : (ls : List the_local.Local) → length (locals_view ls) ≡ length ls
 view_length [] = refl
@@ -264,7 +224,7 @@ var_at ls k l h e =
 pub section_well_scoped : (decls : List Decl) (limits : BodyLimits) (s : Section) (x : the_section.Section) →
     typed_section decls limits s ≡ Some (core_section x) → IsWellScoped x
 section_well_scoped decls limits s x e =
-    let ok = section_scoped decls limits s (core_section x) e in
+    let ok = section_scoped (types_the_section decls limits s (core_section x) e) in
     record {
       bound = ap (λ (l : List ℕ). numbers_from 0 x.parameters ++ l) (sym (body_binding x.body.items)) ∙ ok.bound ∙ ap (numbers_from 0) (view_length x.locals.items);
       kinds = λ k l at. ok.kinds k (core_local l) (get_map core_local x.locals.items k l at);

@@ -5,9 +5,9 @@ use Rattle.std.specs.Prelude.{nat_le, slice_get, take, map}
 use Rattle.std.proofs.lemmas.List.{length-append, length-map, append-nil}
 use Rattle.source.specs.declared.fault.Code.TheVariants.{LimitExceeded}
 use Rattle.syntax.specs.Trees.{Stmt, let_local, let_owned, let_call, var_local, assign, if_then, while, print}
-use Rattle.syntax.specs.Trees.{return_value, Stmts, no_stmts, stmt, Otherwise, no_else, else_do, Param, Section}
-use Rattle.syntax.specs.Trees.{call, Items, Member, lock_member, final_member, field_member}
-use Rattle.syntax.specs.Trees.{Thread, Decl, lock, struct, global, array, pool, init, atomic, helper, thread}
+use Rattle.syntax.specs.Trees.{return_value, Stmts, no_stmts, stmt, Otherwise, no_else, else_do, Param, Section, call}
+use Rattle.syntax.specs.Trees.{Items, Member, lock_member, final_member, field_member, Thread, Decl, lock, struct}
+use Rattle.syntax.specs.Trees.{global, array, pool, init, atomic, helper, thread}
 use Rattle.core_lang.specs.declared.tree.LocalKind.TheVariants as kind
 use Rattle.core_lang.specs.declared.tree.Section as the_section
 use Rattle.core_lang.specs.declared.typed.Struct as the_struct
@@ -21,12 +21,10 @@ use Rattle.resolution.specs.CoreViews.{core_section, core_call, core_thread, cor
 use Rattle.resolution.specs.Limits.{STRUCT_LIMIT, MEMBER_LIMIT, CELL_LIMIT, SECTION_LIMIT, THREAD_LIMIT}
 use Rattle.resolution.specs.Limits.{PARAMETER_LIMIT, LOCAL_LIMIT, CALL_LIMIT, section_limits}
 use Rattle.resolution.specs.Scopes as scopes
-use Rattle.resolution.specs.Scopes.{Scope, outside, meaning, helper_meant, the_local, the_decl, type_of, count, alike}
-use Rattle.resolution.specs.Scopes.{has_body, bound, left}
+use Rattle.resolution.specs.Scopes.{Scope, outside, meaning, helper_meant, type_of, count, alike, has_body, bound, left}
 use Rattle.resolution.specs.Numbers.{total, cells_of, calls_in_all, calls_of}
 use Rattle.resolution.specs.Expressions.{want}
-use Rattle.resolution.specs.Statements.{after, after_else, after_all}
-use Rattle.resolution.specs.Statements.{ahead_of, entry}
+use Rattle.resolution.specs.Statements.{after, after_else, after_all, ahead_of, entry}
 use Rattle.resolution.specs.Working.FaultLists.{one_if, local_faults, type_faults, wanted_faults, binding_faults}
 use Rattle.resolution.specs.Working.FaultLists.{owner_faults, helper_call_faults, given_back_faults, stmt_faults}
 use Rattle.resolution.specs.Working.FaultLists.{else_faults, stmts_faults, param_faults, result_faults, count_faults}
@@ -54,6 +52,7 @@ use Rattle.resolution.proofs.LaidObjects.{few_objects}
 use Rattle.resolution.proofs.LaidScripts.{sectioned}
 use Rattle.resolution.proofs.Tests.{le_false}
 use Rattle.resolution.specs.Theory.Facts.{bodies_counted}
+use Rattle.resolution.proofs.StatementRules.{types_the_locals}
 
 -- ---- cells
 
@@ -354,7 +353,7 @@ section_within decls clean whole is k x e =
     let begun : length (entry decls section_limits s).locals ≤ LOCAL_LIMIT = omega (arith, start, few) in
     let all : length (after_all (entry decls section_limits s) s.body.stmts).locals ≤ LOCAL_LIMIT = subst (λ (l : BodyLimits). length (after_all (entry decls section_limits s) s.body.stmts).locals ≤ l.locals) same
     (all_few (entry decls section_limits s) s.body.stmts (none_right (a ++ b) c none) (subst (λ (l : BodyLimits). length (entry decls section_limits s).locals ≤ l.locals) (sym same) begun)) in
-    let n = locals_length (after_all (entry decls section_limits s) s.body.stmts).locals x.locals made.locals in
+    let n = locals_length (types_the_locals (after_all (entry decls section_limits s) s.body.stmts).locals x.locals made.locals) in
     let parameters = made.parameters in
     record { parameters = omega (arith, parameters, few); locals = omega (arith, n, all) }
 

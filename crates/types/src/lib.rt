@@ -3,7 +3,8 @@
 //!
 //! - [`program::check`]: the pass. The tables of declarations are those of `types_symbols`; sections are judged by `types_sections`,
 //!   constants, `init`s and calls by `types_constants`; `types_declarations` adds one declaration after another to the program.
-//! - `specs/Resolution.antt` of `resolution`: the program that a tree stands for; `specs/Scopes.antt`: what names mean.
+//! - `specs/Tables.antt` of `resolution`: the program that a tree stands for; `specs/Typing.antt`: what is well typed;
+//!   `specs/Scopes.antt`: what names mean.
 //! - `specs/Faults.antt` of `resolution`: where each fault stands; `specs/Mistakes.antt` of `source`: which one is given.
 #![tactic(auto)]
 
