@@ -5,3 +5,5 @@ pub mod Arrays
 pub mod Lists
 pub mod Laws
 pub mod Copies
+pub mod Short
+pub mod Forms

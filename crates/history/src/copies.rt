@@ -1,17 +1,19 @@
 //! Copies of finished sections.
 
 ghost use Rattle.std.specs.Prelude.{◌≡◌, ◌≤◌, ◌+◌, ◌++◌, ◌↔◌, length, vec_len, vec_capacity, IfOk, IsTrue};
-ghost use Rattle.history.specs.Working.Copies.{HasRoom};
+ghost use Rattle.history.specs.Working.Copies.{HasRoom, IsShort};
 
-use crate::entry::{CellValue, Entry, SHORT};
+use crate::entry::{CellValue, Entry, Form};
 use crate::kept::Kept;
-use core_lang::value::Value;
+use crate::long::Long;
+use crate::short::{Kinds, Numbers, SHORT, encoded_cells, encoded_outcome, encoded_values};
+use core_lang::value::{Outcome, Value};
 use smallvec::SmallVec;
 use source::memory::NoMemory;
 use std::alloc::Global;
 use std::marker::Model;
 
-// Room for a list that is no longer than this. A short one stands in its entry itself and takes no memory.
+// Room for a list that is no longer than this. A short one stands in its copy itself and takes no memory.
 #[derive(Drop)]
 struct ListRoom<T> {
     most: usize,
@@ -20,13 +22,14 @@ struct ListRoom<T> {
 
 impl<T> Model for ListRoom<T> {
     ghost use Rattle.std.specs.Prelude.{◌≡◌, ◌≤◌, ◌⊎◌, ℕ, [], vec_len, vec_capacity};
+    ghost use Rattle.history.specs.declared.short.TheConstants.{SHORT};
 
     ghost Value = { ℕ };
 
     ghost view = { λ r. r.most };
 
     ghost invariant = { λ r.
-        (r.memory.items ≡ []) × (vec_len r.memory ≡ 0) × ((r.most ≤ 4) ⊎ (r.most ≤ vec_capacity r.memory)) };
+        (r.memory.items ≡ []) × (vec_len r.memory ≡ 0) × ((r.most ≤ SHORT) ⊎ (r.most ≤ vec_capacity r.memory)) };
 }
 
 impl<T: Copy + Default> ListRoom<T> {
@@ -71,10 +74,13 @@ pub struct CopyRoom {
     arguments: ListRoom<Value>,
     cells: ListRoom<CellValue>,
     prints: Vec<i64>,
+    // The place of a long copy, unless the copy is short for certain.
+    place: Option<Box<Long>>,
 }
 
 impl Model for CopyRoom {
-    ghost use Rattle.std.specs.Prelude.{◌≡◌, [], vec_len, vec_capacity};
+    ghost use Rattle.std.specs.Prelude.{◌≡◌, ◌≤◌, [], None, vec_len, vec_capacity};
+    ghost use Rattle.history.specs.declared.short.TheConstants.{SHORT};
     ghost use Rattle.history.specs.Working.Copies.{CopyRoomOf};
 
     ghost Value = { CopyRoomOf };
@@ -85,7 +91,9 @@ impl Model for CopyRoom {
       prints = vec_capacity r.prints;
     } };
 
-    ghost invariant = { λ r. (r.prints.items ≡ []) × (vec_len r.prints ≡ 0) };
+    ghost invariant = { λ r.
+        (r.prints.items ≡ []) × (vec_len r.prints ≡ 0)
+        × (r.place ≡ None → (r.arguments ≤ SHORT) × (r.cells ≤ SHORT) × (vec_capacity r.prints ≡ 0)) };
 }
 
 impl CopyRoom {
@@ -107,6 +115,11 @@ impl CopyRoom {
         let Some(both) = cells.checked_add(cells) else {
             return Err(NoMemory);
         };
+        let place = if arguments <= SHORT && both <= SHORT && prints == 0 {
+            None
+        } else {
+            Some(Box::new(alloc, Long::empty(alloc))?)
+        };
         let arguments = ListRoom::new(alloc, arguments)?;
         let cells = ListRoom::new(alloc, both)?;
         let prints = Vec::with_capacity(alloc, prints)?;
@@ -114,6 +127,7 @@ impl CopyRoom {
             arguments,
             cells,
             prints,
+            place,
         })
     }
 
@@ -135,13 +149,17 @@ impl Kept<'_> {
         requires { HasRoom room self.now }
         ensures { result ≡ self.now }
     {
+        if self.is_short() {
+            return self.short();
+        }
         let CopyRoom {
             arguments,
             cells,
             mut prints,
+            place,
         } = room;
         fill_numbers(&mut prints, self.prints);
-        Entry {
+        let long = Long {
             thread: self.thread,
             step: self.step,
             section: self.section,
@@ -151,6 +169,53 @@ impl Kept<'_> {
             reads: self.reads.len(),
             outcome: self.outcome,
             prints,
+        };
+        match place {
+            Some(mut place) => {
+                *place = long;
+                Entry {
+                    form: Form::Long(place),
+                }
+            }
+            None => unreachable!(),
+        }
+    }
+
+    // Whether a copy is short.
+    fn is_short(&self) -> bool
+        ensures { IsTrue result ↔ IsShort self.now }
+    {
+        self.arguments.len() <= SHORT
+            && self.reads.len() <= SHORT
+            && self.writes.len() <= SHORT - self.reads.len()
+            && self.prints.len() == 0
+    }
+
+    // A short copy.
+    fn short(&self) -> Entry
+        requires { IsShort self.now }
+        ensures { result ≡ self.now }
+    {
+        let (result, ending) = encoded_outcome(self.outcome);
+        let (arguments, argument_kinds) = encoded_values(self.arguments);
+        let (cells, values, value_kinds) = encoded_cells(self.reads, self.writes);
+        let kinds = Kinds {
+            reads: self.reads.len() as u8,
+            ending,
+            arguments: argument_kinds,
+            cells: value_kinds,
+        };
+        let numbers = Numbers {
+            step: self.step,
+            section: self.section,
+            begun: self.begun,
+            result,
+            arguments,
+            values,
+            cells,
+        };
+        Entry {
+            form: Form::Short(kinds, self.thread, numbers),
         }
     }
 }
@@ -160,22 +225,77 @@ impl Entry {
     pub fn is_same(&self, other: &Kept<'_>) -> bool
         ensures { IsTrue result → self.now ≡ other.now }
     {
-        if self.thread != other.thread || self.step != other.step || self.section != other.section {
+        if !self.is_call(other) || !same_outcomes(self.outcome(), other.outcome) {
             return false;
         }
-        if self.begun != other.begun || self.outcome != other.outcome {
+        if !self.has_arguments(other.arguments) {
             return false;
         }
-        if !same_values(self.arguments(), other.arguments) {
+        if !self.has_reads(other.reads) {
             return false;
         }
-        if !same_cells(self.reads(), other.reads) {
+        if !self.has_writes(other.writes) {
             return false;
         }
-        if !same_cells(self.writes(), other.writes) {
+        same_numbers(self.prints(), other.prints)
+    }
+
+    // Whether it is a copy of the same call, begun at the same time.
+    fn is_call(&self, other: &Kept<'_>) -> bool
+        ensures thread { IsTrue result → self.now.thread ≡ other.now.thread }
+        ensures step { IsTrue result → self.now.step ≡ other.now.step }
+        ensures section { IsTrue result → self.now.section ≡ other.now.section }
+        ensures begun { IsTrue result → self.now.begun ≡ other.now.begun }
+    {
+        if self.thread() != other.thread || self.step() != other.step {
             return false;
         }
-        same_numbers(&self.prints, other.prints)
+        self.section() == other.section && self.begun() == other.begun
+    }
+
+    // Whether these are its arguments.
+    fn has_arguments(&self, arguments: &[Value]) -> bool
+        ensures { IsTrue result → self.now.arguments ≡ arguments.now }
+    {
+        if self.arguments_count() != arguments.len() {
+            return false;
+        }
+        for at in 0..arguments.len() {
+            if !same_values(self.argument(at), arguments[at]) {
+                return false;
+            }
+        }
+        true
+    }
+
+    // Whether it read these.
+    fn has_reads(&self, reads: &[CellValue]) -> bool
+        ensures { IsTrue result → self.now.reads ≡ reads.now }
+    {
+        if self.reads_count() != reads.len() {
+            return false;
+        }
+        for at in 0..reads.len() {
+            if !same_cells(self.read(at), reads[at]) {
+                return false;
+            }
+        }
+        true
+    }
+
+    // Whether it wrote these.
+    fn has_writes(&self, writes: &[CellValue]) -> bool
+        ensures { IsTrue result → self.now.writes ≡ writes.now }
+    {
+        if self.writes_count() != writes.len() {
+            return false;
+        }
+        for at in 0..writes.len() {
+            if !same_cells(self.write(at), writes[at]) {
+                return false;
+            }
+        }
+        true
     }
 }
 
@@ -190,20 +310,26 @@ fn fill_numbers(into: &mut Vec<i64>, from: &[i64])
     }
 }
 
-fn same_values(a: &[Value], b: &[Value]) -> bool
-    ensures { IsTrue result → a.now ≡ b.now }
+fn same_values(a: Value, b: Value) -> bool
+    ensures { IsTrue result → a ≡ b }
 {
     a == b
 }
 
-fn same_cells(a: &[CellValue], b: &[CellValue]) -> bool
-    ensures { IsTrue result → a.now ≡ b.now }
+fn same_cells(a: CellValue, b: CellValue) -> bool
+    ensures { IsTrue result → a ≡ b }
 {
     a == b
 }
 
-fn same_numbers(a: &Vec<i64>, b: &[i64]) -> bool
-    ensures { IsTrue result → a.now.items ≡ b.now }
+fn same_outcomes(a: Outcome, b: Outcome) -> bool
+    ensures { IsTrue result → a ≡ b }
 {
-    a.as_slice() == b
+    a == b
+}
+
+fn same_numbers(a: &[i64], b: &[i64]) -> bool
+    ensures { IsTrue result → a.now ≡ b.now }
+{
+    a == b
 }

@@ -1,62 +1,56 @@
 //! A finished section with lists of its own.
 
+use crate::long::Long;
+use crate::short::{
+    Kinds, Numbers, arguments_count, decoded_outcome, read_at, reads_count, value_at, write_at,
+    writes_count,
+};
 use core_lang::value::{Outcome, Value};
-use smallvec::SmallVec;
 use std::marker::Model;
 
 /// A cell, and a value of it.
 pub type CellValue = (u32, Value);
 
-/// The longest list that stands in an entry itself. A longer one takes a block of memory.
-pub(crate) const SHORT: usize = 4;
+/// How a copy is kept.
+#[derive(Drop)]
+pub(crate) enum Form {
+    /// One with few arguments, few cells and no prints: its values' kinds, the thread that ran it, and its numbers.
+    Short(Kinds, u32, Numbers),
+    /// Any other.
+    Long(Box<Long>),
+}
 
-/// A finished section, with lists of its own. Where it has few arguments and touched few cells it takes no memory but
-/// for what it printed.
+/// A finished section, with lists of its own. Where it has few arguments, touched few cells and printed nothing it
+/// takes no memory.
 #[derive(Drop)]
 pub struct Entry {
-    pub(crate) thread: u32,
-    pub(crate) step: usize,
-    pub(crate) section: usize,
-    pub(crate) arguments: SmallVec<Value, SHORT>,
-    pub(crate) begun: usize,
-    // What it read, and behind that what it wrote.
-    pub(crate) cells: SmallVec<CellValue, SHORT>,
-    // How many of these it read.
-    pub(crate) reads: usize,
-    pub(crate) outcome: Outcome,
-    pub(crate) prints: Vec<i64>,
+    pub(crate) form: Form,
 }
 
 impl Model for Entry {
-    ghost use Rattle.std.specs.Prelude.{◌≤◌, take, drop, length};
     ghost use Rattle.history.specs.Commits.{Commit};
 
     ghost Value = { Commit };
 
-    ghost view = { λ e. record {
-      thread = e.thread;
-      step = e.step;
-      section = e.section;
-      arguments = e.arguments.items;
-      begun = e.begun;
-      reads = take e.reads e.cells.items;
-      writes = drop e.reads e.cells.items;
-      outcome = e.outcome;
-      prints = e.prints.items;
-    } };
+    ghost use Rattle.history.specs.Working.Forms.{commit_of};
 
-    ghost invariant = { λ e. e.reads ≤ length e.cells.items };
+    ghost view = { λ e. commit_of e.form };
 }
 
+const _: () = prove!(size_of::<Entry>() == 128);
+
 impl Entry {
-    ghost use Rattle.std.specs.Prelude.{◌≡◌};
+    ghost use Rattle.std.specs.Prelude.{◌≡◌, ◌<◌, length, slice_get, Some};
 
     /// The thread that ran it.
     #[inline]
     pub fn thread(&self) -> u32
         ensures { result ≡ self.now.thread }
     {
-        self.thread
+        match &self.form {
+            Form::Short(_, thread, _) => *thread,
+            Form::Long(long) => long.thread(),
+        }
     }
 
     /// Which of the thread's calls it was.
@@ -64,7 +58,10 @@ impl Entry {
     pub fn step(&self) -> usize
         ensures { result ≡ self.now.step }
     {
-        self.step
+        match &self.form {
+            Form::Short(_, _, numbers) => numbers.step,
+            Form::Long(long) => long.step(),
+        }
     }
 
     /// The section.
@@ -72,15 +69,10 @@ impl Entry {
     pub fn section(&self) -> usize
         ensures { result ≡ self.now.section }
     {
-        self.section
-    }
-
-    /// What it was called with.
-    #[inline]
-    pub fn arguments(&self) -> &[Value]
-        ensures { result.now ≡ self.now.arguments }
-    {
-        self.arguments.as_slice()
+        match &self.form {
+            Form::Short(_, _, numbers) => numbers.section,
+            Form::Long(long) => long.section(),
+        }
     }
 
     /// How long the history was when it began.
@@ -88,23 +80,79 @@ impl Entry {
     pub fn begun(&self) -> usize
         ensures { result ≡ self.now.begun }
     {
-        self.begun
+        match &self.form {
+            Form::Short(_, _, numbers) => numbers.begun,
+            Form::Long(long) => long.begun(),
+        }
     }
 
-    /// Each cell that it read before it wrote it, with the value that it found.
+    /// How many arguments it was called with.
     #[inline]
-    pub fn reads(&self) -> &[CellValue]
-        ensures { result.now ≡ self.now.reads }
+    pub fn arguments_count(&self) -> usize
+        ensures { result ≡ length self.now.arguments }
     {
-        &self.cells.as_slice()[..self.reads]
+        match &self.form {
+            Form::Short(kinds, _, numbers) => arguments_count(kinds, numbers),
+            Form::Long(long) => long.arguments().len(),
+        }
     }
 
-    /// Each cell that it wrote, with the value that it wrote last.
+    /// What it was called with.
     #[inline]
-    pub fn writes(&self) -> &[CellValue]
-        ensures { result.now ≡ self.now.writes }
+    pub fn argument(&self, at: usize) -> Value
+        requires { at < length self.now.arguments }
+        ensures { slice_get self.now.arguments at ≡ Some result }
     {
-        &self.cells.as_slice()[self.reads..]
+        match &self.form {
+            Form::Short(kinds, _, numbers) => value_at(&numbers.arguments, &kinds.arguments, at),
+            Form::Long(long) => long.arguments()[at],
+        }
+    }
+
+    /// How many cells it read before it wrote them.
+    #[inline]
+    pub fn reads_count(&self) -> usize
+        ensures { result ≡ length self.now.reads }
+    {
+        match &self.form {
+            Form::Short(kinds, _, numbers) => reads_count(kinds, numbers),
+            Form::Long(long) => long.reads().len(),
+        }
+    }
+
+    /// A cell that it read before it wrote it, with the value that it found.
+    #[inline]
+    pub fn read(&self, at: usize) -> CellValue
+        requires { at < length self.now.reads }
+        ensures { slice_get self.now.reads at ≡ Some result }
+    {
+        match &self.form {
+            Form::Short(kinds, _, numbers) => read_at(kinds, numbers, at),
+            Form::Long(long) => long.reads()[at],
+        }
+    }
+
+    /// How many cells it wrote.
+    #[inline]
+    pub fn writes_count(&self) -> usize
+        ensures { result ≡ length self.now.writes }
+    {
+        match &self.form {
+            Form::Short(kinds, _, numbers) => writes_count(kinds, numbers),
+            Form::Long(long) => long.writes().len(),
+        }
+    }
+
+    /// A cell that it wrote, with the value that it wrote last.
+    #[inline]
+    pub fn write(&self, at: usize) -> CellValue
+        requires { at < length self.now.writes }
+        ensures { slice_get self.now.writes at ≡ Some result }
+    {
+        match &self.form {
+            Form::Short(kinds, _, numbers) => write_at(kinds, numbers, at),
+            Form::Long(long) => long.writes()[at],
+        }
     }
 
     /// How it ended.
@@ -112,7 +160,10 @@ impl Entry {
     pub fn outcome(&self) -> Outcome
         ensures { result ≡ self.now.outcome }
     {
-        self.outcome
+        match &self.form {
+            Form::Short(kinds, _, numbers) => decoded_outcome(numbers.result, kinds.ending),
+            Form::Long(long) => long.outcome(),
+        }
     }
 
     /// What it printed.
@@ -120,6 +171,9 @@ impl Entry {
     pub fn prints(&self) -> &[i64]
         ensures { result.now ≡ self.now.prints }
     {
-        self.prints.as_slice()
+        match &self.form {
+            Form::Short(_, _, _) => &[],
+            Form::Long(long) => long.prints(),
+        }
     }
 }

@@ -8,8 +8,9 @@
 //! - [`copies::CopyRoom`]: room for a copy of a finished section, made before.
 //!
 //! `specs/` defines finished sections as data, which lists of them are legal and when one is true (`Commits`), what the
-//! laws claim (`Laws`), a history as a value and for which entries it has room (`Histories`), and for what a copy has room
-//! (`Copies`). `Arrays` and `Lists` only say what the code relies on; nobody has to believe them.
+//! laws claim (`Laws`), a history as a value and for which entries it has room (`Histories`), and for what a copy has
+//! room (`Copies`). `Arrays`, `Lists`, `Short` and `Forms` only say what the code relies on; nobody has to believe
+//! them.
 #![tactic(auto)]
 
 pub mod copies;
@@ -18,3 +19,5 @@ pub mod entry;
 pub mod kept;
 pub mod laws;
 mod lists;
+mod long;
+mod short;

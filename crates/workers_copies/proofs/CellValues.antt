@@ -14,18 +14,24 @@ agrees_push : (heap : List Value) (rs : List (ℕ × Value)) (r : ℕ × Value) 
 agrees_push heap [] r a e = (e, tt)
 agrees_push heap (x ∷ xs) r a e = (a.0, agrees_push heap xs r a.1 e)
 
-pub agrees_more : (heap : List Value) (rs : List (ℕ × Value)) (k : ℕ) (d : ℕ × Value) → k < length rs →
-    Agrees heap (take k rs) →
-    slice_get heap (get_or rs k d).0 ≡ Some (get_or rs k d).1 → Agrees heap (take (k + 1) rs)
-agrees_more heap rs k d lt a e = subst (Agrees heap) (sym (take_more rs k d lt)) (agrees_push heap (take k rs) (get_or rs k d) a e)
+pub agrees_more : (heap : List Value) (rs : List (ℕ × Value)) (k : ℕ) (r : ℕ × Value) → slice_get rs k ≡ Some r →
+    Agrees heap (take k rs) → slice_get heap r.0 ≡ Some r.1 → Agrees heap (take (k + 1) rs)
+agrees_more heap rs k r got a e =
+    let is : get_or rs k r ≡ r = get_or_from_slice_get rs k r r got in
+    subst (Agrees heap) (sym (take_more rs k r (slice_get_within rs k r got) ∙ ap (λ x. take k rs ++ x ∷ []) is))
+    (agrees_push heap (take k rs) r a e)
 
-pub one_more_made : (heap : List Value) (ws : List (ℕ × Value)) (left : ℕ) (d : ℕ × Value) (now : List Value) →
-    0 < left → left ≤ length ws →
-    now ≡ overwritten heap (drop left ws) → set now (get_or ws (left - 1) d).0 (get_or ws (left - 1) d).1 ≡ overwritten heap (drop (left - 1) ws)
-one_more_made heap ws left d now more le is =
+-- one write more, before those made already
+pub one_more_made : (heap now after : List Value) (ws : List (ℕ × Value)) (left : ℕ) (w : ℕ × Value) →
+    slice_get ws (left - 1) ≡ Some w → 0 < left → left ≤ length ws → now ≡ overwritten heap (drop left ws) →
+    after ≡ set now w.0 w.1 → after ≡ overwritten heap (drop (left - 1) ws)
+one_more_made heap now after ws left w got more le made is =
     let next : left ≡ (left - 1) + 1 = omega (arith, more) in
-    ap (λ (h : List Value). set h (get_or ws (left - 1) d).0 (get_or ws (left - 1) d).1) (is ∙ ap (λ (n : ℕ). overwritten heap (drop n ws)) next)
-    ∙ sym (ap (overwritten heap) (drop_more ws (left - 1) d (omega (arith, more, le))))
+    let first : get_or ws (left - 1) w ≡ w = get_or_from_slice_get ws (left - 1) w w got in
+    let same : now ≡ overwritten heap (drop (left - 1 + 1) ws) = made ∙ ap (λ n. overwritten heap (drop n ws)) next in
+    is ∙ ap (λ (h : List Value). set h w.0 w.1) same
+    ∙ ap (λ (x : ℕ × Value). overwritten heap (x ∷ drop (left - 1 + 1) ws)) (sym first)
+    ∙ sym (ap (overwritten heap) (drop_more ws (left - 1) w (omega (arith, more, le))))
 
 -- a list that is built up one after another
 pub one_more_taken : (xs ys zs : List Value) (k : ℕ) (x : Value) → slice_get xs k ≡ Some x → ys ≡ take k xs →

@@ -9,7 +9,7 @@ use boxcar::tag::Tag;
 use history::entry::Entry;
 use source::memory::NoMemory;
 use std::alloc::Global;
-use std::marker::{Model, PhantomData};
+use std::marker::{Brand, Model, PhantomData};
 use std::sync::OnceLock;
 
 /// So many chunks has a row: with twice as many cells in each, no memory has more.
@@ -64,6 +64,8 @@ impl<J: Naming> SlotRule<TrueCopy<J>> for AnyCopy {
 
 /// Where a copy is set once. A `OnceLock` would call the system each time, to wake who waits for it; here nobody waits.
 pub(crate) type CopyCell<J> = OnceSlot<TrueCopy<J>, AnyCopy>;
+
+const _: () = prove!(size_of::<CopyCell<Brand>>() == 144);
 
 /// Cells for copies, each of which is written once. As a value it is the names of the cells.
 #[derive(Drop)]

@@ -1,10 +1,10 @@
 //! Values of cells: at first, and after entries.
 
-ghost use Rattle.std.specs.Prelude.{◌≡◌, length, slice_set, IfOk, IsTrue};
+ghost use Rattle.std.specs.Prelude.{◌≡◌, length, slice_get, slice_set, Some, IfOk, IsTrue};
 ghost use Rattle.code.specs.Memory.{overwritten, Agrees};
 
 use core_lang::value::Value;
-use history::entry::{CellValue, Entry};
+use history::entry::Entry;
 use lowering::compiled::Program;
 use source::memory::NoMemory;
 use std::alloc::Global;
@@ -41,24 +41,23 @@ pub fn open_again(values: &mut Vec<Value>, program: &Program)
 pub fn agrees_with(values: &Vec<Value>, entry: &Entry) -> bool
     ensures { IsTrue result → Agrees values.now.items entry.now.reads }
 {
-    agree(values, entry.reads())
+    for at in 0..entry.reads_count() {
+        let (cell, value) = entry.read(at);
+        if !holds(values, cell as usize, value) {
+            return false;
+        }
+    }
+    true
 }
 
-/// Makes the writes of an entry.
+/// Makes the writes of an entry. Of two of one cell the first counts, so the last one is made first.
 pub fn enter(values: &mut Vec<Value>, entry: &Entry)
     ensures { values.new.items ≡ overwritten values.old.items entry.now.writes }
 {
-    write_all(values, entry.writes());
-}
-
-// Makes these writes. Of two of one cell the first counts, so the last one is made first.
-fn write_all(values: &mut Vec<Value>, writes: &[CellValue])
-    ensures { values.new.items ≡ overwritten values.old.items writes.now }
-{
-    let mut left = writes.len();
+    let mut left = entry.writes_count();
     while left > 0 {
         left -= 1;
-        let (cell, value) = writes[left];
+        let (cell, value) = entry.write(left);
         write(values, cell as usize, value);
     }
 }
@@ -72,20 +71,11 @@ fn write(values: &mut Vec<Value>, cell: usize, value: Value)
     }
 }
 
-// Whether the cells have what was read.
-fn agree(values: &[Value], reads: &[CellValue]) -> bool
-    ensures { IsTrue result → Agrees values.now reads.now }
+// Whether a cell has this value.
+fn holds(values: &Vec<Value>, cell: usize, value: Value) -> bool
+    ensures { IsTrue result → slice_get values.now.items cell ≡ Some value }
 {
-    for (cell, value) in reads {
-        let cell = *cell as usize;
-        if cell >= values.len() {
-            return false;
-        }
-        if !same(values[cell], *value) {
-            return false;
-        }
-    }
-    true
+    cell < values.len() && same(values[cell], value)
 }
 
 // Whether two values are the same.
