@@ -298,7 +298,8 @@ impl<'a> Lister<'a> {
     ) -> Result<(), NoMemory>
         requires paths { map lock_path_of paths.now ≡ lock_paths (program_of self.now) section.now }
         requires instructions { code.now.instructions.items ≡ section_code (lists_of code.now) section.now }
-        ensures { OnOk result (Grows (section_text (program_of self.now) section.now (lists_of code.now)) out.old out.new) }
+        ensures { OnOk result
+            (Grows (section_text (program_of self.now) section.now (lists_of code.now)) out.old out.new) }
     {
         let lines = SectionLines {
             lister: self,

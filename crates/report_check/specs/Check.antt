@@ -1,6 +1,6 @@
 -- The text of `check`, as bytes: a line `accepted`; a line for each rank; for each section a line with its name and one for
 -- each of its points before which locks are taken.
-use Rattle.std.specs.Prelude.{ℕ, ◌==◌, List, [], ◌∷◌, ◌++◌, length, slice_get, position, codes, string_bytes}
+use Rattle.std.specs.Prelude.{ℕ, ◌==◌, List, [], ◌∷◌, ◌++◌, length, position, codes, string_bytes}
 use Rattle.std.specs.Option.{option_map_or}
 use Rattle.std.specs.List.{flat_map, range_with_len}
 use Rattle.std.specs.Fmt.{decimal}
@@ -8,9 +8,8 @@ use Rattle.source.specs.Faults.{line_of, column_of}
 use Rattle.core_lang.specs.declared.tree.Section.{Section}
 use Rattle.core_lang.specs.declared.typed.Typed.{Typed}
 use Rattle.flow.specs.Points.{Point, points, start_of}
-use Rattle.locks.specs.LockPaths.{lock_paths}
-use Rattle.locks.specs.Texts.{class_name, path_text}
-use Rattle.code.specs.Listing.{line}
+use Rattle.locks.specs.Texts.{class_name}
+use Rattle.code.specs.Listing.{line, paths_text}
 
 -- ---- the ranks
 
@@ -32,20 +31,12 @@ rank_texts program ranks = flat_map (rank_text program ranks) (range_with_len 0 
 abbrev pub position_text : ℕ → ℕ → List ℕ
 position_text line column = decimal line ++ codes ":" ++ decimal column
 
--- the section's lock path of this number
-abbrev pub numbered_path : Typed → Section → ℕ → List ℕ
-numbered_path program section i = option_map_or (path_text program section) (slice_get (lock_paths program section) i) []
-
--- those of a list, a space before each
-abbrev pub taken_text : Typed → Section → List ℕ → List ℕ
-taken_text program section list = flat_map (λ i. codes " " ++ numbered_path program section i) list
-
 -- at LINE:COL take PATHS, where there are any
 abbrev pub take_text : List ℕ → Typed → Section → ℕ → List ℕ → List ℕ
 take_text text program section start [] = []
 take_text text program section start (i ∷ is) =
     line (codes "at " ++ position_text (line_of text start) (column_of text start)
-    ++ codes " take" ++ taken_text program section (i ∷ is))
+    ++ codes " take" ++ paths_text program section (i ∷ is))
 
 -- for each point, where its statement starts and with the list before it
 abbrev pub take_texts : List ℕ → Typed → Section → List Point → List (List ℕ) → List ℕ

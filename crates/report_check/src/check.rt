@@ -7,7 +7,8 @@ ghost use Rattle.rope.specs.Working.Ropes.{rope_text, Grows};
 ghost use Rattle.report_check.specs.Check.{ranked_class, rank_text, rank_texts};
 
 use crate::places::Cursor;
-use crate::section_text::{SectionText, path_texts};
+use crate::section_text::SectionText;
+use code::path_texts;
 use core_lang::typed::Typed;
 use inserter::placed::Placed;
 use lockpaths::table::Paths;

@@ -1,8 +1,6 @@
 //! The lines of a section in the text of `check`. The one error is a refused growth.
 
-ghost use Rattle.std.specs.Prelude.{◌≡◌, IfOk, OnOk, map, string_bytes};
-ghost use Rattle.locks.specs.LockPaths.{lock_path_of};
-ghost use Rattle.locks.specs.Texts.{path_text};
+ghost use Rattle.std.specs.Prelude.{◌≡◌, OnOk};
 ghost use Rattle.rope.specs.Working.Ropes.{AddsTo};
 
 use crate::places::Cursor;
@@ -10,29 +8,9 @@ use core_lang::tree::Section;
 use core_lang::typed::Typed;
 use flow::points::{PointRef, points_of};
 use inserter::placed::SectionLists;
-use locks::path::LockPath;
-use locks::text::push_path;
 use rope::Rope;
 use source::memory::NoMemory;
 use std::alloc::{AllocError, Global};
-
-/// The texts of lock paths of a section.
-pub fn path_texts(
-    alloc: Global,
-    program: &Typed,
-    section: &Section,
-    paths: &[LockPath],
-) -> Result<Vec<String>, NoMemory>
-    ensures { IfOk result (λ texts. map string_bytes texts.items ≡ map (path_text program.now section.now) (map lock_path_of paths.now)) }
-{
-    let mut texts = Vec::with_capacity(alloc, paths.len())?;
-    for path in paths {
-        let mut text = String::new(alloc);
-        push_path(&mut text, program, section, path)?;
-        texts.push(text)?;
-    }
-    Ok(texts)
-}
 
 /// What the lines of a section are made from.
 #[derive(Drop)]

@@ -8,7 +8,8 @@ use Rattle.locks.specs.Texts.{path_text}
 use Rattle.rope.specs.Working.Ropes.{RopeOf}
 use Rattle.report_check.specs.declared.section_text.SectionText.{SectionText}
 use Rattle.report_check.specs.declared.check.Check.{Check}
-use Rattle.report_check.specs.Check.{taken_text, take_text, take_texts, section_text, section_texts, check_text}
+use Rattle.code.specs.Listing.{paths_text}
+use Rattle.report_check.specs.Check.{take_text, take_texts, section_text, section_texts, check_text}
 
 -- of a section
 -- the rope keeps the texts of its lock paths
@@ -16,7 +17,7 @@ abbrev pub HasPaths : SectionText → RopeOf → Type 0
 HasPaths x rope = slice_get rope.groups x.group ≡ Some (map (path_text x.program.now x.section.now) (lock_paths x.program.now x.section.now))
 
 abbrev pub taken_text_of : SectionText → List ℕ → List ℕ
-taken_text_of x list = taken_text x.program.now x.section.now list
+taken_text_of x list = paths_text x.program.now x.section.now list
 
 abbrev pub take_text_of : List ℕ → SectionText → ℕ → List ℕ → List ℕ
 take_text_of text x start list = take_text text x.program.now x.section.now start list

@@ -14,8 +14,8 @@ returns-in-Some c =
     let piece = ap (paths_text_of x) c.deref-in-Some.ensures.value in
     on_ok_weaker c.push_paths.result
     (λ e. (
-      found_added (λ (list : Vec ℕ Global). paths_text_of x list.items) _ _ _ old c.deref.ensures.value c.in-Some.list _ _
-          c.in-Some.ensures.lookup piece e.0
+      found_added (λ (list : Vec ℕ Global). paths_text_of x list.items) _ _ _ old c.deref.ensures.value c.in-Some.list
+          _ _ c.in-Some.ensures.lookup piece e.0
           ∙ ap (λ t. old ++ t) (sym mapped),
       e.1,
     ))

@@ -6,7 +6,8 @@ use Rattle.source.specs.Faults.{line_of, column_of}
 use Rattle.core_lang.specs.declared.tree.Section.{Section}
 use Rattle.core_lang.specs.declared.typed.Typed.{Typed}
 use Rattle.rope.specs.Working.Ropes.{rope_text}
-use Rattle.report_check.specs.Check.{position_text, taken_text, take_text}
+use Rattle.code.specs.Listing.{paths_text}
+use Rattle.report_check.specs.Check.{position_text, take_text}
 use Rattle.report_check.proofs.section_text.SectionText.push_take.Goals as goal
 
 step : (old mid new p q : List ℕ) → mid ≡ old ++ p → new ≡ mid ++ q → new ≡ old ++ (p ++ q)
@@ -15,7 +16,7 @@ step old mid new p q first second = second ∙ ap (λ (m : List ℕ). m ++ q) fi
 -- the line of a list that is not empty
 line_is : (text : List ℕ) (program : Typed) (section : Section) (start : ℕ) (list : List ℕ) →
     (length list == 0) ≡ false →
-    codes "at " ++ position_text (line_of text start) (column_of text start) ++ codes " take" ++ taken_text program section list ++ codes "\n"
+    codes "at " ++ position_text (line_of text start) (column_of text start) ++ codes " take" ++ paths_text program section list ++ codes "\n"
     ≡ take_text text program section start list
 line_is text program section start [] some = absurd (true≢false some)
 line_is text program section start (i ∷ is) some = refl
@@ -39,7 +40,7 @@ returns-clause-line c =
     let at = step old t1 t4 (codes "at ") (position_text (line_of text c.args.start) (column_of text c.args.start)) c.in_ok-push_str.ensures.0
     (step t1 t3 t4 (l ++ codes ":") k (step t1 t2 t3 l (codes ":") e2 c.in_ok-push_str-2.ensures.0) e4) in
     let word = step old t4 t5 _ (codes " take") at c.in_ok-push_str-3.ensures.0 in
-    let taken = step old t5 t6 _ (taken_text program section c.args.list.now) word c.in_ok-push_taken.ensures.0 in
+    let taken = step old t5 t6 _ (paths_text program section c.args.list.now) word c.in_ok-push_taken.ensures.0 in
     let groups = c.in_ok-push_taken.ensures.1 ∙ c.in_ok-push_str-3.ensures.1 ∙ c.in_ok-push_number-2.ensures.1 ∙ c.in_ok-push_str-2.ensures.1
     ∙ c.in_ok-push_number.ensures.1 ∙ c.in_ok-push_str.ensures.1 in
     on_ok_weaker c.push_str-4.result

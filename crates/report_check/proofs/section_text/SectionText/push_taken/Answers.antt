@@ -5,7 +5,7 @@ use Rattle.locks.specs.LockPaths.{lock_paths}
 use Rattle.locks.specs.Texts.{path_text}
 use Rattle.rope.specs.Theory.Parts.{part_is, two_more}
 use Rattle.rope.specs.Working.Ropes.{rope_text, part_of}
-use Rattle.report_check.specs.Check.{numbered_path}
+use Rattle.code.specs.Listing.{text_at}
 use Rattle.report_check.proofs.section_text.SectionText.push_taken.Goals as goal
 
 pub loop-number-preserved : goal.loop-number-preserved
@@ -16,12 +16,15 @@ loop-number-preserved c =
     let i = c.loop-number.number-index in
     let n = get_or c.args.list.now i 0 in
     let groups = c.in_ok-push_str.ensures.1 ∙ c.loop-number.invariant.groups in
-    let part : part_of c.push_str.new.self.groups group n ≡ numbered_path program section n =
-    ap (λ gs. part_of gs group n) groups ∙ part_is (path_text program section) (lock_paths program section) c.args.out.now.groups group n c.requires in
+    let text = path_text program section in
+    let paths = lock_paths program section in
+    let part : part_of c.push_str.new.self.groups group n ≡ text_at text paths n =
+    ap (λ gs. part_of gs group n) groups ∙ part_is text paths c.args.out.now.groups group n c.requires in
+    let read = sym (get_or_default_zero c.args.list.now i n c.loop-number-test.true) in
     record {
-      text = two_more (λ (k : ℕ). codes " " ++ numbered_path program section k) c.args.list.now i n (rope_text c.args.out.now) (rope_text c.loop-number.out)
-          (rope_text c.push_str.new.self) (rope_text c.push_part.new.self) (codes " ") (part_of c.push_str.new.self.groups group n)
-          c.loop-number-test.true (sym (get_or_default_zero c.args.list.now i n c.loop-number-test.true)) c.loop-number.invariant.text c.in_ok-push_str.ensures.0
-          c.in_ok-push_part.ensures.0 (ap (λ (t : List ℕ). codes " " ++ t) part);
+      text = two_more (λ (k : ℕ). codes " " ++ text_at text paths k) c.args.list.now i n (rope_text c.args.out.now)
+          (rope_text c.loop-number.out) (rope_text c.push_str.new.self) (rope_text c.push_part.new.self) (codes " ")
+          (part_of c.push_str.new.self.groups group n) c.loop-number-test.true read c.loop-number.invariant.text
+          c.in_ok-push_str.ensures.0 c.in_ok-push_part.ensures.0 (ap (λ (t : List ℕ). codes " " ++ t) part);
       groups = c.in_ok-push_part.ensures.1 ∙ groups;
     }
