@@ -5,7 +5,7 @@ use Rattle.source_steps.specs.declared.turn.Turn.{Turn}
 use Rattle.source_steps.specs.Turns.{steps_of}
 use Rattle.source_steps.specs.Steps.{turns_in}
 use Rattle.worlds.specs.Claims.{Headline}
-use Rattle.report_trace.specs.Trace.{IsTrace}
+use Rattle.report_trace.specs.Trace.{trace_text}
 use Rattle.driver.specs.declared.status.Status.{Status}
 use Rattle.driver.specs.declared.status.Status.TheVariants.{Done}
 use Rattle.driver.specs.Answers.{TextAnswers}
@@ -18,7 +18,7 @@ pub record IsTold (moves : Bool) (text items : List ℕ) (plan : Plan) (status :
   pub said : turns_in (length plan.program.threads.items) items ≡ Ok turns
   pub headline : Headline plan (steps_of turns)
   pub ended : status ≡ Done
-  pub written : IsTrace text plan moves (steps_of turns) out
+  pub written : out ≡ trace_text text plan moves (steps_of turns)
   pub told : err ≡ []
 
 -- what `trace` answers for a program with this text and a steps file's text, where instructions are told or not

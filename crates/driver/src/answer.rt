@@ -19,11 +19,11 @@ use crate::simulating::simulated;
 use crate::status::Status;
 use crate::threads_run::run_by_threads;
 use crate::tracing::traced;
-use code::listing;
 use compiler::compile;
 use core_lang::laws;
 use core_lang::typed::Typed;
 use lowering::compiled::Program;
+use lowering::listing;
 use meaning_registers::prepared::Prepared;
 use report::{history_text, unsettled_text};
 use report_check::Check;
@@ -89,13 +89,13 @@ fn checked(alloc: Global, text: &[u8], program: &Program) -> Result<Answer, NoMe
     })
 }
 
-/// The text of a program's code.
+/// The listing of a program.
 fn listed(alloc: Global, program: &Program) -> Result<Answer, NoMemory>
     ensures { IfOk result (Meets (IsListed program.now)) }
 {
     Ok(Answer {
         status: Status::Done,
-        out: listing(alloc, program.code())?,
+        out: listing(alloc, program)?,
         err: String::new(alloc),
     })
 }

@@ -1,97 +1,47 @@
 -- The instruction at a place, by the tables of its section.
-use Rattle.std.proofs.Common.{◌≡◌, ◌∙◌, ℕ, zero, suc, List, [], ◌∷◌, ◌++◌, map, Option, Some, None, refl, sym, ap}
+use Rattle.std.proofs.Common.{◌≡◌, ◌∙◌, ℕ, List, [], ◌∷◌, ◌++◌, length, Some, None, inl, inr, sym, ap, subst}
 use Rattle.std.proofs.Common.{append_assoc, append-nil}
 use Rattle.std.specs.Prelude.{slice_get}
 use Rattle.std.specs.Option.{option_map_or}
+use Rattle.std.proofs.lemmas.Option.{same_Some}
 use Rattle.core_lang.specs.declared.tree.Section.{Section}
-use Rattle.code.specs.declared.section_code.SectionCode.{SectionCode}
-use Rattle.code.specs.declared.section_code.ProgramCode.{ProgramCode}
-use Rattle.code.specs.Listing.{instr_text}
+use Rattle.code.specs.Listing.{text_at, instr_text}
+use Rattle.code.specs.Lowering.{section_code, lists_at}
 use Rattle.lowering.specs.Plans.{Plan}
+use Rattle.lowering.proofs.Pushes.{push_cases}
 use Rattle.report_trace.specs.declared.places.SectionPlaces.{SectionPlaces}
-use Rattle.report_trace.specs.Working.Told.{Table, table_of, table_for, table_text, tables_for}
-use Rattle.report_trace.specs.Trace.{instruction_text}
+use Rattle.report_trace.specs.Working.Told.{ArePlacesOf, table_text, place_told}
+use Rattle.report_trace.specs.Trace.{text_in, instruction_text}
 
-map_at : {A B : Type 0} (f : A → B) (xs : List A) (k : ℕ) (x : A) → slice_get xs k ≡ Some x →
-    slice_get (map f xs) k ≡ Some (f x)
-map_at f [] k x e = absurd cc
-map_at f (y ∷ ys) zero x e = let same : y ≡ x = cc in ap (λ z. Some (f z)) same
-map_at f (y ∷ ys) (suc k) x e = map_at f ys k x e
+-- what holds of each two at one place of two lists holds with one more of the second
+pub each_more : {A B : Type 0} (P : ℕ → A → B → Type 0) (xs : List A) (ys : List B) (x : A) (y : B) →
+    slice_get xs (length ys) ≡ Some x → P (length ys) x y →
+    ((j : ℕ) (a : A) (b : B) → slice_get xs j ≡ Some a → slice_get ys j ≡ Some b → P j a b) →
+    (j : ℕ) (a : A) (b : B) → slice_get xs j ≡ Some a → slice_get (ys ++ y ∷ []) j ≡ Some b → P j a b
+each_more P xs ys x y at here before j a b one two =
+    elim (push_cases ys y j b two) [
+      | inl old ↦ before j a b one old
+      | inr new ↦
+          let same : x ≡ a = same_Some x a (sym at ∙ ap (slice_get xs) (sym new.0) ∙ one) in
+          subst (P j a) new.1 (subst (λ z. P j z y) same (subst (λ i. P i x y) (sym new.0) here))
+    ]
 
-map_past : {A B : Type 0} (f : A → B) (xs : List A) (k : ℕ) → slice_get xs k ≡ None → slice_get (map f xs) k ≡ None
-map_past f [] k e = refl
-map_past f (y ∷ ys) zero e = absurd cc
-map_past f (y ∷ ys) (suc k) e = map_past f ys k e
+module _ (text : List ℕ) (plan : Plan) (k place : ℕ) where
+  -- of a section that there is, by its places
+  pub told_by : (section : Section) (here : SectionPlaces) → slice_get plan.program.sections.items k ≡ Some section →
+      ArePlacesOf text section (lists_at plan.lists k) here →
+      instruction_text text plan k place
+      ≡ place_told here place
+      ++ text_at (instr_text plan.program section (lists_at plan.lists k) place)
+      (section_code (lists_at plan.lists k) section) place
+  told_by section here at are =
+      let lists = lists_at plan.lists k in
+      ap (λ o. option_map_or (text_in text plan lists place) o []) at
+      ∙ (λ j. table_text (sym are.points j) (sym are.positions j) place
+      ++ text_at (instr_text plan.program section lists place) (section_code lists section) place)
 
--- the table of a section, where there is one and its code
-table_at : List ℕ → Option Section → Option SectionCode → Option Table
-table_at text None made = None
-table_at text (Some section) None = None
-table_at text (Some section) (Some made) = Some (table_for text section made)
-
-tables_at : (text : List ℕ) (sections : List Section) (codes : List SectionCode) (k : ℕ) →
-    slice_get (tables_for text sections codes) k ≡ table_at text (slice_get sections k) (slice_get codes k)
-unfolding table_at
-tables_at text [] codes k = refl
-tables_at text (s ∷ ss) [] zero = refl
-tables_at text (s ∷ ss) [] (suc k) = none (slice_get ss k)
-  where
-    none : (o : Option Section) → None ≡ table_at text o None
-    none None = refl
-    none (Some x) = refl
-tables_at text (s ∷ ss) (c ∷ cs) zero = refl
-tables_at text (s ∷ ss) (c ∷ cs) (suc k) = tables_at text ss cs k
-
-module _ (text : List ℕ) (plan : Plan) (code : ProgramCode) (place : ℕ) where
-  -- what the code says of the place
-  abbrev of_code : SectionCode → List ℕ
-  of_code made = option_map_or (instr_text code.names made place) (slice_get made.instructions.items place) []
-
-  by_table : (section : Option Section) (made : Option SectionCode) (table : Table) (m : SectionCode) → made ≡ Some m →
-      table_at text section made ≡ Some table → instruction_text text plan code place section made ≡ table_text table place ++ of_code m
-  unfolding table_at
-  by_table None made table m is found = absurd cc
-  by_table (Some s) None table m is found = absurd cc
-  by_table (Some s) (Some c) table m is found =
-      let same : c ≡ m = cc in
-      let there : table_for text s c ≡ table = cc in
-      ap (λ (x : SectionCode). table_text (table_for text s c) place ++ of_code x) same ∙ ap (λ (t : Table). table_text t place ++ of_code m) there
-
-  without_table : (section : Option Section) (made : Option SectionCode) → table_at text section made ≡ None →
-      instruction_text text plan code place section made ≡ []
-  unfolding table_at
-  without_table None None none = refl
-  without_table None (Some c) none = refl
-  without_table (Some s) None none = refl
-  without_table (Some s) (Some c) none = absurd cc
-
-  without_code : (section : Option Section) (made : Option SectionCode) → made ≡ None →
-      instruction_text text plan code place section made ≡ []
-  without_code None None none = refl
-  without_code None (Some c) none = refl
-  without_code (Some s) None none = refl
-  without_code (Some s) (Some c) none = absurd cc
-
-  -- over the sections of a program, their code and their places
-  module _ (places : List SectionPlaces) (k : ℕ)
-      (are : map table_of places ≡ tables_for text plan.program.sections.items code.sections.items) where
-    abbrev told : List ℕ
-    told = instruction_text text plan code place (slice_get plan.program.sections.items k) (slice_get code.sections.items k)
-
-    pub told_by : (p : SectionPlaces) (m : SectionCode) → slice_get places k ≡ Some p →
-        slice_get code.sections.items k ≡ Some m →
-        told ≡ table_text (table_of p) place ++ of_code m
-    told_by p m at there =
-        by_table (slice_get plan.program.sections.items k) (slice_get code.sections.items k) (table_of p) m there
-        (sym (tables_at text plan.program.sections.items code.sections.items k) ∙ ap (λ ts. slice_get ts k) (sym are) ∙ map_at table_of places k p at)
-
-    pub untold_without_places : slice_get places k ≡ None → told ≡ []
-    untold_without_places past =
-        without_table (slice_get plan.program.sections.items k) (slice_get code.sections.items k)
-        (sym (tables_at text plan.program.sections.items code.sections.items k) ∙ ap (λ ts. slice_get ts k) (sym are) ∙ map_past table_of places k past)
-
-    pub untold_without_code : slice_get code.sections.items k ≡ None → told ≡ []
-    untold_without_code = without_code (slice_get plan.program.sections.items k) (slice_get code.sections.items k)
+  pub untold : slice_get plan.program.sections.items k ≡ None → instruction_text text plan k place ≡ []
+  untold past = ap (λ o. option_map_or (text_in text plan (lists_at plan.lists k) place) o []) past
 
 -- two texts, one behind the other
 pub both_put : (old mid new first last whole : List ℕ) → mid ≡ old ++ first → new ≡ mid ++ last →
@@ -101,6 +51,3 @@ both_put old mid new first last whole one two is =
 
 pub none_put : (old whole : List ℕ) → whole ≡ [] → old ≡ old ++ whole
 none_put old whole is = sym (append-nil old) ∙ ap (λ l. old ++ l) (sym is)
-
-pub one_put : (old new first whole : List ℕ) → new ≡ old ++ first → whole ≡ first ++ [] → new ≡ old ++ whole
-one_put old new first whole one is = one ∙ ap (λ l. old ++ l) (sym (append-nil first) ∙ sym is)

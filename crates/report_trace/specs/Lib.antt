@@ -2,4 +2,4 @@ pub mod Places
 pub mod Trace
 pub mod Working
 -- what the public clauses cite
-pub use Rattle.report_trace.specs.Trace.{IsTrace, trace_text}
+pub use Rattle.report_trace.specs.Trace.{trace_text}

@@ -1,15 +1,11 @@
 -- The text of `trace`, as bytes: a line for each step, and then the simulation text.
-use Rattle.std.specs.Prelude.{◌≡◌, ℕ, Bool, true, if◌then◌else◌, List, [], ◌∷◌, ◌++◌, slice_get, Option, Some, None}
+use Rattle.std.specs.Prelude.{ℕ, Bool, true, if◌then◌else◌, List, [], ◌∷◌, ◌++◌, Option, Some, None}
 use Rattle.std.specs.Prelude.{codes}
-use Rattle.std.specs.Option.{option_map_or}
 use Rattle.std.specs.Fmt.{decimal}
 use Rattle.core_lang.specs.declared.tree.Section.{Section}
 use Rattle.core_lang.specs.Serial.{Invocation}
-use Rattle.code.specs.declared.section_code.SectionCode.{SectionCode}
-use Rattle.code.specs.declared.section_code.ProgramCode.{ProgramCode}
-use Rattle.code.specs.Listing.{line, instr_text}
-use Rattle.code_emission.specs.NumberLists.{number_lists}
-use Rattle.lowering.specs.Lowered.{IsCodeOf}
+use Rattle.code.specs.Listing.{line, text_at, instr_text}
+use Rattle.code.specs.Lowering.{section_code, lists_at}
 use Rattle.lowering.specs.Plans.{Plan}
 use Rattle.worlds.specs.declared.event.Event.{Event}
 use Rattle.worlds.specs.declared.event.Event.TheVariants.{Idle, Began, Got, Waits, Moved, Ended}
@@ -21,26 +17,27 @@ use Rattle.report.specs.Pieces.{invocation_text, lock_text}
 use Rattle.report_simulation.specs.Simulation.{simulation_of}
 use Rattle.report_trace.specs.Places.{place_text}
 
--- over a program's text, its plan and its code
-module _ (text : List ℕ) (plan : Plan) (code : ProgramCode) where
+-- over a program's text and its plan
+module _ (text : List ℕ) (plan : Plan) where
   -- NAME(ARGS) of a call
   abbrev pub call_text : Option Invocation → List ℕ
   call_text None = []
   call_text (Some call) = invocation_text plan.program call.section call.arguments
 
-  -- LINE:COL TEXT of the instruction at a place of a section, TEXT as in the listing
-  abbrev pub instruction_text : ℕ → Option Section → Option SectionCode → List ℕ
-  instruction_text place (Some section) (Some made) =
-      place_text text (number_lists made.lists.items) section place
-      ++ option_map_or (instr_text code.names made place) (slice_get made.instructions.items place) []
-  instruction_text place section None = []
-  instruction_text place None made = []
+  -- LINE:COL TEXT of the instruction at a place of a section that has these lists, TEXT as in the listing
+  abbrev pub text_in : List (List ℕ) → ℕ → Section → List ℕ
+  text_in lists place section =
+      place_text text lists section place
+      ++ text_at (instr_text plan.program section lists place) (section_code lists section) place
+
+  -- at a place of the section of this number
+  abbrev pub instruction_text : ℕ → ℕ → List ℕ
+  instruction_text k place = text_at (text_in (lists_at plan.lists k) place) plan.program.sections.items k
 
   -- the call that a thread's step begins, or the instruction that it runs
   abbrev pub coming_text : ℕ → Coming → List ℕ
   coming_text t (coming.Call step) = call_text (call_at plan t step)
-  coming_text t (coming.Instruction k place) =
-      instruction_text place (slice_get plan.program.sections.items k) (slice_get code.sections.items k)
+  coming_text t (coming.Instruction k place) = instruction_text k place
   coming_text t coming.Other = []
 
   -- what a thread's step was, by what it took up and its event
@@ -68,12 +65,6 @@ module _ (text : List ℕ) (plan : Plan) (code : ProgramCode) where
   steps_text moves w (t ∷ ts) =
       step_text moves t (coming_to w t) (happens plan w t).0 ++ steps_text moves (happens plan w t).1 ts
 
-  -- the whole text
+  -- the whole text of steps of these threads, with instructions or without
   abbrev pub trace_text : Bool → List ℕ → List ℕ
   trace_text moves steps = steps_text moves (opening_world plan) steps ++ simulation_of plan (final plan steps)
-
--- the text of these steps of a program's threads, with instructions or without
-pub record IsTrace (text : List ℕ) (plan : Plan) (moves : Bool) (steps : List ℕ) (told : List ℕ) : Type 0 where
-  pub code : ProgramCode
-  pub made : IsCodeOf plan.program plan.lists code
-  pub written : told ≡ trace_text text plan code moves steps

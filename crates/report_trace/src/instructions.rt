@@ -1,49 +1,110 @@
 //! The texts of single instructions, as the listing has them. The one error is a refused growth.
 
-ghost use Rattle.std.specs.Prelude.{OnOk};
-ghost use Rattle.code.specs.Listing.{paths_text, acquired_text, instr_text};
-ghost use Rattle.code.specs.Working.Listers.{names_of};
+ghost use Rattle.std.specs.Prelude.{◌≡◌, OnOk};
+ghost use Rattle.code.specs.Working.Listers.{program_of};
 ghost use Rattle.locks.specs.Texts.{AddsText};
 
+use code::Lister;
 use code::instr::Instr;
 use code::section_code::SectionCode;
-use code::{Lister, push_named};
+use core_lang::tree::Section;
+use core_lang::typed::Typed;
+use locks::path::LockPath;
+use locks::text::push_path;
 use std::alloc::AllocError;
 
-/// Lock paths, a space before each.
-fn push_paths(out: &mut String, section: &SectionCode, list: &[u8]) -> Result<(), AllocError>
-    ensures { OnOk result (AddsText (paths_text section.now list.now) out.old out.new) }
-{
-    for number in list {
-        out.push_str(" ")?;
-        push_named(out, &section.paths, *number as usize)?;
-    }
-    Ok(())
+/// What the instructions of a section are told by.
+#[derive(Clone, Copy)]
+pub struct SectionTeller<'a> {
+    /// The program.
+    pub program: &'a Typed,
+    /// A section of it.
+    pub section: &'a Section,
+    /// The section's code.
+    pub code: &'a SectionCode,
+    /// Its lock paths.
+    pub paths: &'a [LockPath],
 }
 
-/// The lock paths before a point.
-fn push_acquired(out: &mut String, section: &SectionCode, point: usize) -> Result<(), AllocError>
-    ensures { OnOk result (AddsText (acquired_text section.now point) out.old out.new) }
-{
-    match section.lists.get(point) {
-        Some(list) => push_paths(out, section, list),
-        None => Ok(()),
-    }
-}
+impl SectionTeller<'_> {
+    ghost use Rattle.report_trace.specs.Working.Instructions.{HasPaths, path_told, paths_told, acquired_told};
+    ghost use Rattle.report_trace.specs.Working.Instructions.{asked_told, instr_told, instr_at};
 
-/// An instruction, which stands at this place of a section.
-pub fn push_instr(
-    lister: &Lister<'_>,
-    out: &mut String,
-    section: &SectionCode,
-    place: usize,
-    instr: Instr,
-) -> Result<(), AllocError>
-    ensures { OnOk result (AddsText (instr_text (names_of lister.now) section.now place instr) out.old out.new) }
-{
-    lister.push_instr(out, place, instr)?;
-    match instr {
-        Instr::Acquire(point) => push_acquired(out, section, point),
-        _ => Ok(()),
+    // A lock path, by its number.
+    fn push_numbered(&self, out: &mut String, number: usize) -> Result<(), AllocError>
+        requires { HasPaths self.now }
+        ensures { OnOk result (AddsText (path_told self.now number) out.old out.new) }
+    {
+        match self.paths.get(number) {
+            Some(path) => push_path(out, self.program, self.section, path),
+            None => Ok(()),
+        }
+    }
+
+    // Lock paths, a space before each.
+    fn push_paths(&self, out: &mut String, list: &[u8]) -> Result<(), AllocError>
+        requires { HasPaths self.now }
+        ensures { OnOk result (AddsText (paths_told self.now list.now) out.old out.new) }
+    {
+        for number in list {
+            out.push_str(" ")?;
+            self.push_numbered(out, *number as usize)?;
+        }
+        Ok(())
+    }
+
+    // The lock paths before a point.
+    fn push_acquired(&self, out: &mut String, point: usize) -> Result<(), AllocError>
+        requires { HasPaths self.now }
+        ensures { OnOk result (AddsText (acquired_told self.now point) out.old out.new) }
+    {
+        match self.code.lists.get(point) {
+            Some(list) => self.push_paths(out, list),
+            None => Ok(()),
+        }
+    }
+
+    // The lock paths that an instruction asks for.
+    fn push_asked(&self, out: &mut String, instr: Instr) -> Result<(), AllocError>
+        requires { HasPaths self.now }
+        ensures { OnOk result (AddsText (asked_told self.now instr) out.old out.new) }
+    {
+        match instr {
+            Instr::Acquire(point) => self.push_acquired(out, point),
+            _ => Ok(()),
+        }
+    }
+
+    // An instruction, which stands at this place of the section.
+    fn push_instr(
+        &self,
+        lister: &Lister<'_>,
+        out: &mut String,
+        place: usize,
+        instr: Instr,
+    ) -> Result<(), AllocError>
+        requires paths { HasPaths self.now }
+        requires names { program_of lister.now ≡ self.now.program.now }
+        ensures { OnOk result (AddsText (instr_told self.now place instr) out.old out.new) }
+    {
+        lister.push_instr(out, place, instr)?;
+        self.push_asked(out, instr)
+    }
+
+    /// The instruction at a place of the section, if there is one.
+    pub fn push_at(
+        &self,
+        lister: &Lister<'_>,
+        out: &mut String,
+        place: usize,
+    ) -> Result<(), AllocError>
+        requires paths { HasPaths self.now }
+        requires names { program_of lister.now ≡ self.now.program.now }
+        ensures { OnOk result (AddsText (instr_at self.now place) out.old out.new) }
+    {
+        match self.code.instructions.get(place) {
+            Some(instr) => self.push_instr(lister, out, place, *instr),
+            None => Ok(()),
+        }
     }
 }

@@ -4,7 +4,7 @@ ghost use Rattle.std.specs.Prelude.{◌≡◌, [], ◌∷◌, ◌++◌, map, rep
 ghost use Rattle.locks.specs.Texts.{AddsText};
 ghost use Rattle.flow.specs.Points.{points};
 ghost use Rattle.flow.specs.Working.PointList.{point_at};
-ghost use Rattle.code_emission.specs.NumberLists.{number_lists};
+ghost use Rattle.code.specs.Working.NumberLists.{number_lists};
 ghost use Rattle.report_trace.specs.Places.{position_in, positions_in, point_then, points_for, points_along};
 ghost use Rattle.report_trace.specs.Working.Listed.{IsListed};
 

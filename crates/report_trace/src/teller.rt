@@ -2,16 +2,18 @@
 
 ghost use Rattle.std.specs.Prelude.{◌≡◌, [], ◌∷◌, replicate, IfOk, OnOk};
 ghost use Rattle.std.proofs.Props.{props};
+ghost use Rattle.std.specs.Coded.{codes};
+ghost use Rattle.core_lang.specs.contracts.tree.Action as action;
+ghost use Rattle.core_lang.specs.contracts.tree.Condition as condition;
+ghost use Rattle.core_lang.specs.contracts.tree.Expr as expr;
 ghost use Rattle.locks.specs.Texts.{AddsText};
-ghost use Rattle.code.specs.Working.Listers.{names_of};
+ghost use Rattle.code.specs.Working.Listers.{program_of};
 ghost use Rattle.source_steps.specs.Turns.{steps_of};
 ghost use Rattle.report_trace.specs.Working.Told.{AreTables};
 
-use crate::instructions::push_instr;
+use crate::instructions::SectionTeller;
 use crate::places::SectionPlaces;
 use code::Lister;
-use code::section_code::ProgramCode;
-use core_lang::typed::Typed;
 use interleavings::coming::Coming;
 use interleavings::world::World;
 use lowering::compiled::Program;
@@ -23,20 +25,16 @@ use std::alloc::{AllocError, Global};
 use worlds::event::Event;
 
 /// The places of each section.
-fn all_places(
-    alloc: Global,
-    text: &[u8],
-    program: &Typed,
-    code: &ProgramCode,
-) -> Result<Vec<SectionPlaces>, NoMemory>
-    ensures { IfOk result (λ places. AreTables text.now program.now code.now places.items) }
+fn all_places(alloc: Global, text: &[u8], program: &Program) -> Result<Vec<SectionPlaces>, NoMemory>
+    ensures { IfOk result (λ places. AreTables text.now program.now places.items) }
 {
+    let typed = program.typed();
+    let code = program.code();
     let mut cursor = Cursor::new(text);
-    let mut places = Vec::with_capacity(alloc, program.sections.len())?;
-    for (k, section) in program.sections.iter().enumerate() {
-        let Some(made) = code.sections.get(k) else {
-            return Ok(places);
-        };
+    let mut places = Vec::with_capacity(alloc, typed.sections.len())?;
+    for k in 0..typed.sections.len() {
+        let section = &typed.sections[k];
+        let made = &code.sections[k];
         places.push(SectionPlaces::of(alloc, &mut cursor, section, &made.lists)?)?;
     }
     Ok(places)
@@ -47,18 +45,17 @@ fn all_places(
 pub struct Teller<'a> {
     text: &'a [u8],
     program: &'a Program,
-    code: &'a ProgramCode,
     lister: Lister<'a>,
     // By section.
     places: Vec<SectionPlaces>,
     moves: bool,
-    ghost names: { names_of lister ≡ code.now.names } by { Prim.hlevel props },
-    ghost tables: { AreTables text.now program.now.program code.now places.items } by { Prim.hlevel props },
+    ghost names: { program_of lister ≡ program.now.program } by { Prim.hlevel (props, codes, action.the_row.coded, expr.the_row.coded, condition.the_row.coded) },
+    ghost tables: { AreTables text.now program.now places.items } by { Prim.hlevel props },
 }
 
 impl<'a> Teller<'a> {
-    ghost use Rattle.lowering.specs.Lowered.{IsCodeOf};
-    ghost use Rattle.report_trace.specs.Working.Tellers.{IsTellerOf, IsOver, call_told, instruction_told, coming_told, event_told, step_told, Tells};
+    ghost use Rattle.report_trace.specs.Working.Tellers.{IsTellerOf, call_told, instruction_told, coming_told};
+    ghost use Rattle.report_trace.specs.Working.Tellers.{event_told, step_told, Tells};
 
     /// Of a program with this text, with instructions or without.
     pub fn new(
@@ -67,16 +64,13 @@ impl<'a> Teller<'a> {
         program: &'a Program,
         moves: bool,
     ) -> Result<Teller<'a>, NoMemory>
-        ensures of { IfOk result (IsTellerOf text.now program.now moves) }
-        ensures code { IfOk result IsOver }
+        ensures { IfOk result (IsTellerOf text.now program.now moves) }
     {
-        let code = program.code();
         Ok(Teller {
             text,
             program,
-            code,
-            lister: Lister::new(alloc, &code.names)?,
-            places: all_places(alloc, text, program.typed(), code)?,
+            lister: Lister::new(alloc, program.typed())?,
+            places: all_places(alloc, text, program)?,
             moves,
         })
     }
@@ -104,17 +98,23 @@ impl<'a> Teller<'a> {
     ) -> Result<(), AllocError>
         ensures { OnOk result (AddsText (instruction_told self.now section place) out.old out.new) }
     {
-        let Some(made) = self.code.sections.get(section) else {
+        let typed = self.program.typed();
+        let code = self.program.code();
+        let paths = self.program.paths();
+        let Some(found) = typed.sections.get(section) else {
             return Ok(());
         };
-        let Some(places) = self.places.get(section) else {
-            return Ok(());
-        };
+        let places = &self.places[section];
         places.push(out, place)?;
-        match made.instructions.get(place) {
-            Some(instr) => push_instr(&self.lister, out, made, place, *instr),
-            None => Ok(()),
-        }
+        let made = &code.sections[section];
+        let listed = &paths.sections[section];
+        let teller = SectionTeller {
+            program: typed,
+            section: found,
+            code: made,
+            paths: &listed.paths,
+        };
+        teller.push_at(&self.lister, out, place)
     }
 
     // What a step takes up.

@@ -1,8 +1,8 @@
 //! The text of `trace`.
 
-ghost use Rattle.std.specs.Prelude.{IfOk, string_bytes};
+ghost use Rattle.std.specs.Prelude.{◌≡◌, IfOk, string_bytes};
 ghost use Rattle.source_steps.specs.Turns.{steps_of};
-ghost use Rattle.report_trace.specs.Trace.{IsTrace};
+ghost use Rattle.report_trace.specs.Trace.{trace_text};
 
 use crate::teller::Teller;
 use interleavings::world::World;
@@ -27,7 +27,8 @@ impl Trace<'_> {
     /// A line for each step of these turns, from the opening world on, and then the simulation text. The only error is a
     /// refused growth.
     pub fn text(&self, alloc: Global, turns: &[Turn]) -> Result<String, NoMemory>
-        ensures { IfOk result (λ told. IsTrace self.now.text.now self.now.program.now self.now.moves (steps_of turns.now) (string_bytes told)) }
+        ensures { IfOk result (λ told. string_bytes told
+            ≡ trace_text self.now.text.now self.now.program.now self.now.moves (steps_of turns.now)) }
     {
         let teller = Teller::new(alloc, self.text, self.program, self.moves)?;
         let mut world = World::open(alloc, self.program)?;

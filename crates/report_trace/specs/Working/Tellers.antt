@@ -1,6 +1,5 @@
 -- What a teller has told. Nobody has to believe this file.
-use Rattle.std.specs.Prelude.{◌≡◌, ℕ, Bool, List, ◌++◌, slice_get, String, string_bytes}
-use Rattle.lowering.specs.Lowered.{IsCodeOf}
+use Rattle.std.specs.Prelude.{◌≡◌, ℕ, Bool, List, ◌++◌, String, string_bytes}
 use Rattle.lowering.specs.Plans.{Plan}
 use Rattle.worlds.specs.declared.event.Event.{Event}
 use Rattle.worlds.specs.Worlds.{call_at}
@@ -15,28 +14,23 @@ pub record IsTellerOf (text : List ℕ) (plan : Plan) (moves : Bool) (x : Teller
   pub plan_is : x.program.now ≡ plan
   pub moves_is : x.moves ≡ moves
 
--- its code is the program's
-abbrev pub IsOver : Teller → Type 0
-IsOver x = IsCodeOf x.program.now.program x.program.now.lists x.code.now
-
 abbrev pub call_told : Teller → ℕ → ℕ → List ℕ
-call_told x t step = call_text x.text.now x.program.now x.code.now (call_at x.program.now t step)
+call_told x t step = call_text x.text.now x.program.now (call_at x.program.now t step)
 
 abbrev pub instruction_told : Teller → ℕ → ℕ → List ℕ
 instruction_told x k place =
-    instruction_text x.text.now x.program.now x.code.now place
-    (slice_get x.program.now.program.sections.items k) (slice_get x.code.now.sections.items k)
+    instruction_text x.text.now x.program.now k place
 
 abbrev pub coming_told : Teller → ℕ → Coming → List ℕ
-coming_told x = coming_text x.text.now x.program.now x.code.now
+coming_told x = coming_text x.text.now x.program.now
 
 abbrev pub event_told : Teller → ℕ → Coming → Event → List ℕ
-event_told x = event_text x.text.now x.program.now x.code.now
+event_told x = event_text x.text.now x.program.now
 
 abbrev pub step_told : Teller → ℕ → Coming → Event → List ℕ
-step_told x = step_text x.text.now x.program.now x.code.now x.moves
+step_told x = step_text x.text.now x.program.now x.moves
 
 -- these steps were made, and their lines come behind what was written
 pub record Tells {Z : Type 0} (x : Teller) (steps : List ℕ) (old new : ThreadsOf) (before after : String Z) : Type 0 where
   pub world : new ≡ with_steps old steps
-  pub lines : string_bytes after ≡ string_bytes before ++ steps_text x.text.now x.program.now x.code.now x.moves old.world steps
+  pub lines : string_bytes after ≡ string_bytes before ++ steps_text x.text.now x.program.now x.moves old.world steps

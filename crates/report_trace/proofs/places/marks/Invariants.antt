@@ -1,5 +1,5 @@
 use Rattle.std.proofs.Common.{◌≡◌, [], ◌∷◌, replicate}
-use Rattle.code_emission.specs.NumberLists.{number_lists}
+use Rattle.code.specs.Working.NumberLists.{number_lists}
 use Rattle.report_trace.proofs.places.marks.Given as goal
 
 abbrev pub invariant-loop : goal.invariant-loop

@@ -1,4 +1,4 @@
-use Rattle.code_emission.specs.NumberLists.{number_lists}
+use Rattle.code.specs.Working.NumberLists.{number_lists}
 use Rattle.report_trace.proofs.Points.{listed_put, unlisted_left}
 use Rattle.report_trace.proofs.places.push_point.Goals as goal
 

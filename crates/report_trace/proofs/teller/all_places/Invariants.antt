@@ -1,12 +1,15 @@
-use Rattle.std.proofs.Common.{◌≡◌, ◌++◌, map, drop}
-use Rattle.report_trace.specs.Working.Told.{table_of, tables_for}
+use Rattle.std.proofs.Common.{◌≡◌, ℕ, length, Some}
+use Rattle.std.specs.Prelude.{slice_get}
+use Rattle.core_lang.specs.declared.tree.Section.{Section}
+use Rattle.code.specs.Lowering.{lists_at}
+use Rattle.report_trace.specs.declared.places.SectionPlaces.{SectionPlaces}
+use Rattle.report_trace.specs.Working.Told.{ArePlacesOf}
 use Rattle.report_trace.proofs.teller.all_places.Given as goal
 
--- the tables so far and those of what is left are all
 abbrev pub invariant-loop-k : goal.invariant-loop-k
-invariant-loop-k l =
-    record {
-      same : l.cursor.text.now ≡ l.text;
-      whole : map table_of l.places.items ++ tables_for l.text (drop l.k l.program.sections.items) (drop l.k l.code.sections.items)
-          ≡ tables_for l.text l.program.sections.items l.code.sections.items;
-    }
+invariant-loop-k l = record {
+  same : l.cursor.text.now ≡ l.text;
+  long : length l.places.items ≡ l.k;
+  each : (j : ℕ) (section : Section) (here : SectionPlaces) → slice_get l.typed.sections.items j ≡ Some section →
+      slice_get l.places.items j ≡ Some here → ArePlacesOf l.text section (lists_at l.program.lists j) here;
+}

@@ -6,7 +6,8 @@ use Rattle.report_trace.proofs.trace.Trace.text.Goals as goal
 pub returns : goal.returns
 returns c =
     let out = string_bytes c.take_turns.new.out in
-    trace_made c.in_ok-teller.teller c.args.self.now.text.now c.args.self.now.program.now c.args.self.now.moves (steps_of c.args.turns.now)
-    c.in_ok-world.world c.take_turns.new.world c.new-out.result c.take_turns.new.out (string_bytes c.push_str.new.self) c.in_ok-teller.ensures.of
-    c.in_ok-teller.ensures.code c.in_ok-world.ensures c.new-out.ensures.bytes c.in_ok-take_turns.ensures
+    trace_made c.in_ok-teller.teller c.args.self.now.text.now c.args.self.now.program.now c.args.self.now.moves
+    (steps_of c.args.turns.now) c.in_ok-world.world c.take_turns.new.world c.new-out.result c.take_turns.new.out
+    (string_bytes c.push_str.new.self) c.in_ok-teller.ensures c.in_ok-world.ensures c.new-out.ensures.bytes
+    c.in_ok-take_turns.ensures
     (c.in_ok-push_str.ensures.bytes ∙ ap (λ l. out ++ l) (c.deref.ensures ∙ c.in_ok-simulation_text.ensures))
