@@ -60,17 +60,20 @@ mutual
   sites_seen (CallOf k es r) = refl
   sites_seen (Print e) = refl
   sites_seen (If' c m b) = row_seen b
-  sites_seen (IfElse' c m b k d) = ap (λ (l : List (ℕ × Bool)). l ++ sites_in d) (row_seen b) ∙ ap (λ (l : List (ℕ × Bool)). all_sites (core_stmts_row b) ++ l) (row_seen d)
+  sites_seen (IfElse' c m b k d) = ap (λ (l : List (ℕ × Bool)). l ++ sites_in d) (row_seen b)
+      ∙ ap (λ (l : List (ℕ × Bool)). all_sites (core_stmts_row b) ++ l) (row_seen d)
   sites_seen (While' c m b) = row_seen b
 
   row_seen : {m : _} (row : Row_of-Stmt m) → sites_in row ≡ all_sites (core_stmts_row row)
   row_seen end_of-Stmt = refl
   row_seen (more_of-Stmt start x rest) =
-      ap (λ (l : List (ℕ × Bool)). l ++ sites_in rest) (sites_seen x) ∙ ap (λ (l : List (ℕ × Bool)). act_sites (core_action x) ++ l) (row_seen rest)
+      ap (λ (l : List (ℕ × Bool)). l ++ sites_in rest) (sites_seen x)
+      ∙ ap (λ (l : List (ℕ × Bool)). act_sites (core_action x) ++ l) (row_seen rest)
 
 pub all_seen : (xs : List s.Stmt) → sites_in_all xs ≡ all_sites (core_stmts xs)
 all_seen [] = refl
-all_seen (x ∷ xs) = ap (λ (l : List (ℕ × Bool)). l ++ sites_in_all xs) (sites_seen x.action) ∙ ap (λ (l : List (ℕ × Bool)). act_sites (core_action x.action) ++ l) (all_seen xs)
+all_seen (x ∷ xs) = ap (λ (l : List (ℕ × Bool)). l ++ sites_in_all xs) (sites_seen x.action)
+    ∙ ap (λ (l : List (ℕ × Bool)). act_sites (core_action x.action) ++ l) (all_seen xs)
 
 mutual
   points_seen : (x : a.Action) → points_by 1 brings_none x ≡ act_points (core_action x)
@@ -101,7 +104,8 @@ Acts x cs n = (act_sites x ≡ map site_of cs) × (act_points x ≡ n)
 abbrev All : core.Stmts → List CallSite → ℕ → Type 0
 All xs cs n = (all_sites xs ≡ map site_of cs) × (all_points xs ≡ n)
 
-set_has : {sc : Scope} {p : Place} {t : ValueType} {set : core.Expr → core.Action} (e : core.Expr) → Assigns sc p t set →
+set_has : {sc : Scope} {p : Place} {t : ValueType} {set : core.Expr → core.Action} (e : core.Expr) →
+    Assigns sc p t set →
     Acts (set e) [] 1
 set_has e (assigns_local is can h) = (refl, refl)
 set_has e (assigns_global is h) = (refl, refl)
@@ -110,12 +114,16 @@ set_has e (assigns_field is at) = (refl, refl)
 
 call_has : {sc : Scope} {c : HelperCall} {s : Section} {n : ℕ} {xs : List core.Expr} (local : Option ℕ) (bound : Bool) →
     is_some local ≡ bound → TypesCall sc c s n xs → Acts (core.call n xs local) (call_sites sc bound c) 0
-call_has {sc = sc} {n = n} local bound e (types_call {c = c} is k) =
-    (ap (λ (b : Bool). (n, b) ∷ []) e ∙ sym (ap (λ (m : Meaning). map site_of (site_at sc.decls c.helper.span.start bound (helper_meant m))) is), refl)
+call_has {sc = sc} {n = n} local bound e (types_call {c = c} is k) = (
+  ap (λ (b : Bool). (n, b) ∷ []) e
+      ∙ sym (ap (λ (m : Meaning). map site_of (site_at sc.decls c.helper.span.start bound (helper_meant m))) is),
+  refl,
+)
 
 both_have : (a b : List (ℕ × Bool)) (cs ds : List CallSite) → a ≡ map site_of cs → b ≡ map site_of ds →
     a ++ b ≡ map site_of (cs ++ ds)
-both_have a b cs ds x y = ap (λ (l : List (ℕ × Bool)). l ++ b) x ∙ ap (λ (l : List (ℕ × Bool)). map site_of cs ++ l) y ∙ sym (map-append site_of cs ds)
+both_have a b cs ds x y = ap (λ (l : List (ℕ × Bool)). l ++ b) x ∙ ap (λ (l : List (ℕ × Bool)). map site_of cs ++ l) y
+    ∙ sym (map-append site_of cs ds)
 
 mutual
   stmt_has : {sc : Scope} {x : Stmt} {start : ℕ} {action : core.Action} → TypesStmt sc x start action →
@@ -133,8 +141,11 @@ mutual
       let b = body_has k in
       let d = body_has l in
       let e : all_points block ≡ stmts_points body = b.1 in
-      let f : all_points otherwise ≡ stmts_points other = d.1 in
-      (both_have (all_sites block) (all_sites otherwise) (stmts_calls sc body) (stmts_calls (left sc (after_all sc body)) other) b.0 d.0, omega (arith, e, f))
+      let f : all_points otherwise ≡ stmts_points other = d.1 in (
+        both_have (all_sites block) (all_sites otherwise) (stmts_calls sc body)
+            (stmts_calls (left sc (after_all sc body)) other) b.0 d.0,
+        omega (arith, e, f),
+      )
   stmt_has (types_while h k) = let b = body_has k in (b.0, ap (λ (n : ℕ). 1 + n) b.1)
   stmt_has (types_print h) = (refl, refl)
   stmt_has (types_call_alone k) = call_has None false refl k
@@ -147,5 +158,8 @@ mutual
       let a = stmt_has h in
       let b = body_has k in
       let e : act_points action ≡ stmt_points x = a.1 in
-      let f : all_points stmts ≡ stmts_points rest = b.1 in
-      (both_have (act_sites action) (all_sites stmts) (stmt_calls sc x) (stmts_calls (after sc x) rest) a.0 b.0, omega (arith, e, f))
+      let f : all_points stmts ≡ stmts_points rest = b.1 in (
+        both_have (act_sites action) (all_sites stmts) (stmt_calls sc x) (stmts_calls (after sc x) rest) a.0 b.0,
+        omega
+            (arith, e, f),
+      )

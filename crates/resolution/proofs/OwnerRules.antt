@@ -29,7 +29,8 @@ use Rattle.resolution.specs.Typing.{IsFinalOf, is_final_of, TypesOwner, types_ow
 use Rattle.resolution.specs.Working.TypedExpressions.{number_resolved, typed}
 use Rattle.resolution.specs.Working.TypedOwners.{final_of, owner_member, owner_field, is_of, owner_local}
 use Rattle.resolution.specs.Working.TypedOwners.{owned_value, owned_by}
-use Rattle.resolution.specs.Working.TypedStatements.{Target, to_local, to_global, to_element, to_field, Assignee, assignee}
+use Rattle.resolution.specs.Working.TypedStatements.{Target, to_local, to_global, to_element, to_field}
+use Rattle.resolution.specs.Working.TypedStatements.{Assignee, assignee}
 use Rattle.resolution.specs.Working.TypedStatements.{assignee_at, assignee_at_element, Split, behind, last_field}
 use Rattle.resolution.specs.Working.TypedStatements.{wanted_by, field_target, assignee_along, target_of, set_to}
 use Rattle.resolution.proofs.ExpressionRules.{When, when, number_when, expr_types, typed_is}
@@ -48,21 +49,24 @@ target_assigns sc p t (Some u) h = h u refl
 
 local_assigns : (sc : Scope) (x : Ident) (i : ℕ) (l : Local) → meaning sc x.text ≡ a_local i l → (b : Bool) →
     is_var l.kind ≡ b → When (AssignsTo sc (lone x)) (if b then assignee (Some (to_local i)) l.value_type else None)
-local_assigns sc x i l is true can = target_assigns sc (lone x) (to_local i) l.value_type (λ t e. assigns_local is can e)
+local_assigns sc x i l is true can =
+    target_assigns sc (lone x) (to_local i) l.value_type (λ t e. assigns_local is can e)
 local_assigns sc x i l is false can = tt
 
 name_assigns : (sc : Scope) (x : Ident) (m : Meaning) → meaning sc x.text ≡ m →
     When (AssignsTo sc (lone x)) (assignee_at sc.decls m)
 name_assigns sc x (a_local i l) is = local_assigns sc x i l is (is_var l.kind) refl
 name_assigns sc x (a_decl i (global v)) is =
-    target_assigns sc (lone x) (to_global (cell_of sc.decls i)) (type_of (outside sc.decls) v.value_type) (λ t e. assigns_global is e)
+    target_assigns sc (lone x) (to_global (cell_of sc.decls i)) (type_of (outside sc.decls) v.value_type)
+    (λ t e. assigns_global is e)
 name_assigns sc x m is = tt
 
 element_assigns : (sc : Scope) (x : Ident) (e : Expr) (m : Meaning) → meaning sc x.text ≡ m → (o : Option core.Expr) →
     When (λ (y : core.Expr). Types sc e (value y (Of Integer))) o →
     When (AssignsTo sc (element x e)) (assignee_at_element sc.decls m o)
 element_assigns sc x e (a_decl i (array a)) is (Some y) h =
-    target_assigns sc (element x e) (to_element (number_at sc.decls i (array a)) y) (type_of (outside sc.decls) a.value_type) (λ t k. assigns_element is k h)
+    target_assigns sc (element x e) (to_element (number_at sc.decls i (array a)) y)
+    (type_of (outside sc.decls) a.value_type) (λ t k. assigns_element is k h)
 element_assigns sc x e m is (Some y) h = tt
 element_assigns sc x e m is None h = tt
 
@@ -79,27 +83,33 @@ pub last_ends : (steps : List FieldStep) → When (EndsWith steps) (last_field s
 last_ends [] = tt
 last_ends (step.Field k n ∷ []) = refl
 last_ends (step.Final k n ∷ []) = tt
-last_ends (step.Field k n ∷ s ∷ steps) = ends_behind (step.Field k n) (s ∷ steps) (last_field (s ∷ steps)) (last_ends (s ∷ steps))
-last_ends (step.Final k n ∷ s ∷ steps) = ends_behind (step.Final k n) (s ∷ steps) (last_field (s ∷ steps)) (last_ends (s ∷ steps))
+last_ends (step.Field k n ∷ s ∷ steps) =
+    ends_behind (step.Field k n) (s ∷ steps) (last_field (s ∷ steps)) (last_ends (s ∷ steps))
+last_ends (step.Final k n ∷ s ∷ steps) =
+    ends_behind (step.Final k n) (s ∷ steps) (last_field (s ∷ steps)) (last_ends (s ∷ steps))
 
 pub last_of : (base : List FieldStep) (k n : ℕ) →
     last_field (base ++ step.Field k n ∷ []) ≡ Some (record { base = base; structure = k; field = n })
 last_of [] k n = refl
 last_of (step.Field j m ∷ []) k n = refl
 last_of (step.Final j m ∷ []) k n = refl
-last_of (step.Field j m ∷ s ∷ base) k n = ap (λ (o : Option Split). o >>= λ q. Some (behind (step.Field j m) q)) (last_of (s ∷ base) k n)
-last_of (step.Final j m ∷ s ∷ base) k n = ap (λ (o : Option Split). o >>= λ q. Some (behind (step.Final j m) q)) (last_of (s ∷ base) k n)
+last_of (step.Field j m ∷ s ∷ base) k n =
+    ap (λ (o : Option Split). o >>= λ q. Some (behind (step.Field j m) q)) (last_of (s ∷ base) k n)
+last_of (step.Final j m ∷ s ∷ base) k n =
+    ap (λ (o : Option Split). o >>= λ q. Some (behind (step.Final j m) q)) (last_of (s ∷ base) k n)
 
 field_assigns : (sc : Scope) (x : Ident) (fs : List Ident) (i : ℕ) (l : Local) → meaning sc x.text ≡ a_local i l →
     (steps : List FieldStep) (t : ValueType) → walk_from sc.decls (a_local i l) fs ≡ reached steps t →
     (o : Option Split) → When (EndsWith steps) o →
     When (AssignsTo sc (path x fs)) (assignee (field_target x.span.start i o) (Some t))
 field_assigns sc x fs i l is steps t at None h = tt
-field_assigns sc x fs i l is steps t at (Some q) h = assigns_field is (at ∙ ap (λ (ss : List FieldStep). reached ss t) h)
+field_assigns sc x fs i l is steps t at (Some q) h =
+    assigns_field is (at ∙ ap (λ (ss : List FieldStep). reached ss t) h)
 
 path_assigns : (sc : Scope) (x : Ident) (fs : List Ident) (m : Meaning) → meaning sc x.text ≡ m → (w : Walk) →
     walk_from sc.decls m fs ≡ w → When (AssignsTo sc (path x fs)) (assignee_along x.span.start m w)
-path_assigns sc x fs (a_local i l) is (reached steps t) at = field_assigns sc x fs i l is steps t at (last_field steps) (last_ends steps)
+path_assigns sc x fs (a_local i l) is (reached steps t) at =
+    field_assigns sc x fs i l is steps t at (last_field steps) (last_ends steps)
 path_assigns sc x fs (a_local i l) is at_lock at = tt
 path_assigns sc x fs (a_local i l) is lost at = tt
 path_assigns sc x fs (a_decl i d) is w at = tt
@@ -108,8 +118,10 @@ path_assigns sc x fs nothing is w at = tt
 pub place_assigns : (sc : Scope) (p : Place) → When (AssignsTo sc p) (target_of sc p)
 place_assigns sc (lone x) = name_assigns sc x (meaning sc x.text) refl
 place_assigns sc (element x e) =
-    element_assigns sc x e (meaning sc x.text) refl (number_resolved (typed sc e)) (number_when (Types sc e) (typed sc e) (expr_types sc e))
-place_assigns sc (path x fs) = path_assigns sc x fs (meaning sc x.text) refl (walk_from sc.decls (meaning sc x.text) fs) refl
+    element_assigns sc x e (meaning sc x.text) refl (number_resolved (typed sc e))
+    (number_when (Types sc e) (typed sc e) (expr_types sc e))
+place_assigns sc (path x fs) =
+    path_assigns sc x fs (meaning sc x.text) refl (walk_from sc.decls (meaning sc x.text) fs) refl
 
 pub target_types : (sc : Scope) (p : Place) (a : Assignee) → target_of sc p ≡ Some a → AssignsTo sc p a
 target_types sc p a is = when (AssignsTo sc p) (target_of sc p) (place_assigns sc p) a is
@@ -118,7 +130,8 @@ target_types sc p a is = when (AssignsTo sc p) (target_of sc p) (place_assigns s
 abbrev pub Found : Scope → Place → ValueType → (core.Expr → core.Action) → Type 0
 Found sc p t set = (a : Assignee) × (target_of sc p ≡ Some a) × (a.value_type ≡ t) × (set_to a.target ≡ set)
 
-pub target_is : {sc : Scope} {p : Place} {t : ValueType} {set : core.Expr → core.Action} → Assigns sc p t set → Found sc p t set
+pub target_is : {sc : Scope} {p : Place} {t : ValueType} {set : core.Expr → core.Action} → Assigns sc p t set →
+    Found sc p t set
 target_is {sc = sc} (assigns_local {x = x} {i = i} {l = l} {t = t} is can h) = (
   record { target = to_local i; value_type = t },
   ap (assignee_at sc.decls) is
@@ -136,7 +149,8 @@ target_is {sc = sc} (assigns_global {x = x} {i = i} {v = v} {t = t} is h) = (
 target_is {sc = sc} (assigns_element {x = x} {e = e} {i = i} {a = a} {t = t} {index = y} is h d) = (
   record { target = to_element (number_at sc.decls i (array a)) y; value_type = t },
   ap (λ (m : Meaning). assignee_at_element sc.decls m (number_resolved (typed sc e))) is
-      ∙ ap (λ (o : Option ResolvedExpr). assignee_at_element sc.decls (a_decl i (array a)) (number_resolved o)) (typed_is d)
+      ∙ ap (λ (o : Option ResolvedExpr). assignee_at_element sc.decls (a_decl i (array a)) (number_resolved o))
+      (typed_is d)
       ∙ ap (assignee (Some (to_element (number_at sc.decls i (array a)) y))) h,
   refl,
   refl,
@@ -207,18 +221,21 @@ struct_final decls k s x is None at = tt
 struct_final decls k s x is (Some (i, m)) at = member_is_final decls k i s x m is at
 
 reference_final : (decls : List Decl) (k : ℕ) (x : Ident) (o : Option Struct) → the_struct decls k ≡ o →
-    When (IsFinalOf decls (Reference k) x) (◌>>=◌ {B = OwnerField} o (λ s. owner_member decls k s.members (the_member s.members x.text)))
+    When (IsFinalOf decls (Reference k) x)
+    (◌>>=◌ {B = OwnerField} o (λ s. owner_member decls k s.members (the_member s.members x.text)))
 reference_final decls k x None is = tt
 reference_final decls k x (Some s) is = struct_final decls k s x is (the_member s.members x.text) refl
 
-pub field_final : (decls : List Decl) (t : ValueType) (x : Ident) → When (IsFinalOf decls t x) (owner_field decls (Some t) x)
+pub field_final : (decls : List Decl) (t : ValueType) (x : Ident) →
+    When (IsFinalOf decls t x) (owner_field decls (Some t) x)
 field_final decls Integer x = tt
 field_final decls (Reference k) x = reference_final decls k x (the_struct decls k) refl
 
 pub final_is : {decls : List Decl} {t : ValueType} {x : Ident} {f : OwnerField} → IsFinalOf decls t x f →
     owner_field decls (Some t) x ≡ Some f
 final_is {decls = decls} (is_final_of {k = k} {i = i} {s = s} {x = x} {f = f} is at h) =
-    ap (λ (o : Option Struct). ◌>>=◌ {B = OwnerField} o (λ z. owner_member decls k z.members (the_member z.members x.text))) is
+    ap (λ (o : Option Struct). ◌>>=◌ {B = OwnerField} o
+    (λ z. owner_member decls k z.members (the_member z.members x.text))) is
     ∙ ap (owner_member decls k s.members) at
     ∙ ap (final_of k (member_number s.members i (final_member f))) h
 
@@ -229,7 +246,9 @@ tested_if true false y = None
 tested_if false b y = None
 
 tested_is : (start : ℕ) (e : core.Expr) (f : OwnerField) (i : ℕ) (a b : Bool) →
-    ◌>>=◌ {B = core.Expr} (if a then Some f.structure else None) (λ k. ◌>>=◌ {B = core.Expr} (if b then Some i else None) (λ n. Some (core.owned e k f.number start n))) ≡ tested_if a b (core.owned e f.structure f.number start i)
+    ◌>>=◌ {B = core.Expr} (if a then Some f.structure else None)
+    (λ k. ◌>>=◌ {B = core.Expr} (if b then Some i else None) (λ n. Some (core.owned e k f.number start n))) ≡ tested_if
+    a b (core.owned e f.structure f.number start i)
 tested_is start e f i true true = refl
 tested_is start e f i true false = refl
 tested_is start e f i false b = refl
@@ -253,35 +272,46 @@ module _ (sc : Scope) (t : ValueType) (o : Owner) (x : core.Expr) where
       When (TypesOwner sc t o x) (owned_value o.local.span.start (Some x) (Some f) (if b then Some i else None))
   local_owner f i l final is false e = tt
   local_owner f i l final is true e =
-      subst (When (TypesOwner sc t o x)) (sym (tested_is o.local.span.start x f i (nat_le f.structure STRUCT_LIMIT) (nat_le i SOURCE_LIMIT)))
-      (limited_owner f i l final is (typed_as f.value_type l.value_type e) (nat_le f.structure STRUCT_LIMIT) (nat_le i SOURCE_LIMIT) refl refl)
+      subst (When (TypesOwner sc t o x))
+      (sym (tested_is o.local.span.start x f i (nat_le f.structure STRUCT_LIMIT) (nat_le i SOURCE_LIMIT)))
+      (limited_owner f i l final is (typed_as f.value_type l.value_type e) (nat_le f.structure STRUCT_LIMIT)
+      (nat_le i SOURCE_LIMIT) refl refl)
 
   named_owner : (g : Option OwnerField) → When (IsFinalOf sc.decls t o.field) g → (m : Meaning) →
-      meaning sc o.local.text ≡ m → When (TypesOwner sc t o x) (owned_value o.local.span.start (Some x) g (owner_local g m))
+      meaning sc o.local.text ≡ m →
+      When (TypesOwner sc t o x) (owned_value o.local.span.start (Some x) g (owner_local g m))
   named_owner None final m is = tt
   named_owner (Some f) final (a_local i l) is = local_owner f i l final is (is_of f.value_type l.value_type) refl
   named_owner (Some f) final (a_decl i d) is = tt
   named_owner (Some f) final nothing is = tt
 
   pub owner_types : When (TypesOwner sc t o x) (owned_by sc (Some t) o (Some x))
-  owner_types = named_owner (owner_field sc.decls (Some t) o.field) (field_final sc.decls t o.field) (meaning sc o.local.text) refl
+  owner_types = named_owner (owner_field sc.decls (Some t) o.field) (field_final sc.decls t o.field)
+      (meaning sc o.local.text) refl
 
 pub owned_is : {sc : Scope} {t : ValueType} {o : Owner} {x y : core.Expr} → TypesOwner sc t o x y →
     owned_by sc (Some t) o (Some x) ≡ Some y
 owned_is {sc = sc} (types_owner {o = o} {x = x} {f = f} {i = i} {l = l} final is h within few) =
-    ap (λ (g : Option OwnerField). owned_value o.local.span.start (Some x) g (owner_local g (meaning sc o.local.text))) (final_is final)
+    ap (λ (g : Option OwnerField). owned_value o.local.span.start (Some x) g (owner_local g (meaning sc o.local.text)))
+    (final_is final)
     ∙ ap (λ (m : Meaning). owned_value o.local.span.start (Some x) (Some f) (owner_local (Some f) m)) is
-    ∙ ap (λ (u : Option ValueType). owned_value o.local.span.start (Some x) (Some f) (if is_of f.value_type u then Some i else None)) h
-    ∙ ap (λ (b : Bool). owned_value o.local.span.start (Some x) (Some f) (if b then Some i else None)) (fits_itself f.value_type)
+    ∙ ap (λ (u : Option ValueType). owned_value o.local.span.start (Some x) (Some f)
+    (if is_of f.value_type u then Some i else None)) h
+    ∙ ap (λ (b : Bool). owned_value o.local.span.start (Some x) (Some f) (if b then Some i else None))
+    (fits_itself f.value_type)
     ∙ tested_is o.local.span.start x f i (nat_le f.structure STRUCT_LIMIT) (nat_le i SOURCE_LIMIT)
-    ∙ ap (λ (b : Bool). tested_if b (nat_le i SOURCE_LIMIT) (core.owned x f.structure f.number o.local.span.start i)) (le_true f.structure STRUCT_LIMIT within)
-    ∙ ap (λ (b : Bool). tested_if true b (core.owned x f.structure f.number o.local.span.start i)) (le_true i SOURCE_LIMIT few)
+    ∙ ap (λ (b : Bool). tested_if b (nat_le i SOURCE_LIMIT) (core.owned x f.structure f.number o.local.span.start i))
+    (le_true f.structure STRUCT_LIMIT within)
+    ∙ ap (λ (b : Bool). tested_if true b (core.owned x f.structure f.number o.local.span.start i))
+    (le_true i SOURCE_LIMIT few)
 
 -- the final reference that the code finds for a type, if it has one, is one by the rules
-pub final_types : (decls : List Decl) (o : Option ValueType) (x : Ident) (f : OwnerField) → owner_field decls o x ≡ Some f →
+pub final_types : (decls : List Decl) (o : Option ValueType) (x : Ident) (f : OwnerField) →
+    owner_field decls o x ≡ Some f →
     (t : ValueType) × (o ≡ Some t) × IsFinalOf decls t x f
 final_types decls None x f e = cc
-final_types decls (Some t) x f e = (t, refl, when (IsFinalOf decls t x) (owner_field decls (Some t) x) (field_final decls t x) f e)
+final_types decls (Some t) x f e =
+    (t, refl, when (IsFinalOf decls t x) (owner_field decls (Some t) x) (field_final decls t x) f e)
 
 -- steps of which the code finds no last field end with none
 pub ends_with_none : (steps base : List FieldStep) (k n : ℕ) → last_field steps ≡ None →
@@ -291,7 +321,8 @@ ends_with_none steps base k n none ends = none_some (sym none ∙ ap last_field 
     none_some : ◌≡◌ {A = Option Split} None (Some (record { base = base; structure = k; field = n })) → ⊥
     none_some e = cc
 
-pub has_no_last : (steps : List FieldStep) → ((base : List FieldStep) (k n : ℕ) → steps ≡ base ++ step.Field k n ∷ [] → ⊥) →
+pub has_no_last : (steps : List FieldStep) →
+    ((base : List FieldStep) (k n : ℕ) → steps ≡ base ++ step.Field k n ∷ [] → ⊥) →
     last_field steps ≡ None
 has_no_last steps never = by_last (last_field steps) (last_ends steps)
   where

@@ -93,12 +93,16 @@ module _ (sc : Scope) (scope : List ℕ) (covers : Covers sc.locals scope) where
 
 numbers_push : (a n : ℕ) → numbers_from a n ++ (a + n) ∷ [] ≡ numbers_from a (suc n)
 numbers_push a zero = ap (λ (k : ℕ). k ∷ []) (let z : a + 0 ≡ a = omega arith in z)
-numbers_push a (suc n) = ap (λ (l : List ℕ). a ∷ l) (ap (λ (k : ℕ). numbers_from (a + 1) n ++ k ∷ []) (let z : a + suc n ≡ a + 1 + n = omega arith in z) ∙ numbers_push (a + 1) n)
+numbers_push a (suc n) =
+    ap (λ (l : List ℕ). a ∷ l)
+    (ap (λ (k : ℕ). numbers_from (a + 1) n ++ k ∷ []) (let z : a + suc n ≡ a + 1 + n = omega arith in z)
+    ∙ numbers_push (a + 1) n)
 
 numbers_bind : (ls : List scopes.Local) (x : scopes.Local) →
     numbers_from 0 (length ls) ++ length ls ∷ [] ≡ numbers_from 0 (length (ls ++ x ∷ []))
 numbers_bind ls x =
-    ap (λ (k : ℕ). numbers_from 0 (length ls) ++ k ∷ []) (let z : length ls ≡ 0 + length ls = omega arith in z) ∙ numbers_push 0 (length ls) ∙ ap (numbers_from 0) (sym (longer ls x))
+    ap (λ (k : ℕ). numbers_from 0 (length ls) ++ k ∷ []) (let z : length ls ≡ 0 + length ls = omega arith in z)
+    ∙ numbers_push 0 (length ls) ∙ ap (numbers_from 0) (sym (longer ls x))
   where
     longer : (ls : List scopes.Local) (x : scopes.Local) → length (ls ++ x ∷ []) ≡ suc (length ls)
     longer [] x = refl
@@ -117,7 +121,8 @@ IsVarAt finals n = (x : core.Local) × (slice_get finals n ≡ Some x) × (x.kin
 
 -- the locals so far are some of the section's
 abbrev pub Become : List scopes.Local → List core.Local → Type 0
-Become ls finals = (n : ℕ) (l : scopes.Local) → slice_get ls n ≡ Some l → (x : core.Local) × (slice_get finals n ≡ Some x) × (x.kind ≡ l.kind)
+Become ls finals = (n : ℕ) (l : scopes.Local) → slice_get ls n ≡ Some l →
+    (x : core.Local) × (slice_get finals n ≡ Some x) × (x.kind ≡ l.kind)
 
 pub become_before : (a b : List scopes.Local) (finals : List core.Local) → Kept a b → Become b finals → Become a finals
 become_before a b finals k h n l e = let x = k n l e in let y = h n x.0 x.1 in (y.0, y.1, y.2 ∙ x.3)
@@ -178,8 +183,11 @@ module _ (finals : List core.Local) where
       Done (behind scope x) finals m k xs → Done scope finals n k (core.stmt start x xs)
   more_done scope n m k start x xs h g = record {
     named = (h.named, g.named);
-    bound = sym (append_assoc (numbers_from 0 n) (binding x) (all_binding xs)) ∙ ap (λ (l : List ℕ). l ++ all_binding xs) h.bound ∙ g.bound;
-    assigned = λ j c. elim (Contains-append_cases (assigning x) (all_assigning xs) j c) [ inl i ↦ h.assigned j i | inr i ↦ g.assigned j i ];
+    bound = sym (append_assoc (numbers_from 0 n) (binding x) (all_binding xs))
+        ∙ ap (λ (l : List ℕ). l ++ all_binding xs) h.bound ∙ g.bound;
+    assigned = λ j c. elim
+        (Contains-append_cases (assigning x) (all_assigning xs) j c)
+        [ inl i ↦ h.assigned j i | inr i ↦ g.assigned j i ];
   }
 
 -- ---- scopes
@@ -193,7 +201,12 @@ push_or (x ∷ xs) y l (suc n) e = elim (push_or xs y l n e) [ inl h ↦ inl h |
 
 covers_push : (ls : List scopes.Local) (x : scopes.Local) (scope : List ℕ) → Covers ls scope →
     Covers (ls ++ x ∷ []) (length ls ∷ scope)
-covers_push ls x scope c n l e v = elim (push_or ls x l n e) [ inl h ↦ there (length ls) n scope (c n l h v) | inr h ↦ subst (λ (k : ℕ). Contains (length ls ∷ scope) k) (sym h) (here (length ls) scope) ]
+covers_push ls x scope c n l e v =
+    elim (push_or ls x l n e) [
+      | inl h ↦ there (length ls) n scope (c n l h v)
+      | inr h ↦ subst (λ (k : ℕ). Contains (length ls ∷ scope) k) (sym h)
+          (here (length ls) scope)
+    ]
 
 all_hidden : (b : List scopes.Local) (n : ℕ) (l : scopes.Local) → slice_get (hidden_from zero b) n ≡ Some l →
     l.is_visible ≡ false
@@ -214,8 +227,12 @@ covers_left a b scope f c n l e v = c n l (visible_front a b f n l e v) v
 
 pub numbers_has : (a n k : ℕ) → k < n → Contains (numbers_from a n) (a + k)
 numbers_has a zero k lt = absurd (omega (arith, lt))
-numbers_has a (suc n) zero lt = subst (λ (j : ℕ). Contains (numbers_from a (suc n)) j) (let z : a ≡ a + 0 = omega arith in z) (here a (numbers_from (a + 1) n))
-numbers_has a (suc n) (suc k) lt = subst (λ (j : ℕ). Contains (numbers_from a (suc n)) j) (let z : a + 1 + k ≡ a + suc k = omega arith in z) (there a (a + 1 + k) (numbers_from (a + 1) n) (numbers_has (a + 1) n k (let z : k < n = omega (arith, lt) in z)))
+numbers_has a (suc n) zero lt =
+    subst (λ (j : ℕ). Contains (numbers_from a (suc n)) j) (let z : a ≡ a + 0 = omega arith in z)
+    (here a (numbers_from (a + 1) n))
+numbers_has a (suc n) (suc k) lt =
+    subst (λ (j : ℕ). Contains (numbers_from a (suc n)) j) (let z : a + 1 + k ≡ a + suc k = omega arith in z)
+    (there a (a + 1 + k) (numbers_from (a + 1) n) (numbers_has (a + 1) n k (let z : k < n = omega (arith, lt) in z)))
 
 pub get_lt : {A : Type 0} (xs : List A) (n : ℕ) (x : A) → slice_get xs n ≡ Some x → n < length xs
 get_lt [] n x e = cc
@@ -223,7 +240,9 @@ get_lt (y ∷ xs) zero x e = omega arith
 get_lt (y ∷ xs) (suc n) x e = let r = get_lt xs n x e in omega (arith, r)
 
 pub numbers_cover : (ls : List scopes.Local) → Covers ls (numbers_from 0 (length ls))
-numbers_cover ls n l e v = subst (λ (j : ℕ). Contains (numbers_from 0 (length ls)) j) (let z : 0 + n ≡ n = omega arith in z) (numbers_has 0 (length ls) n (get_lt ls n l e))
+numbers_cover ls n l e v =
+    subst (λ (j : ℕ). Contains (numbers_from 0 (length ls)) j) (let z : 0 + n ≡ n = omega arith in z)
+    (numbers_has 0 (length ls) n (get_lt ls n l e))
 
 -- ---- statements
 
@@ -239,14 +258,18 @@ module _ (finals : List core.Local) where
 
   bind_done : (ls : List scopes.Local) (l : scopes.Local) (scope : List ℕ) (x : core.Expr) → Covers ls scope →
       Names scope x → Leaves ls (ls ++ l ∷ []) scope (core.bind (length ls) x)
-  bind_done ls l scope x c h =
-      (record { named = h; bound = numbers_bind ls l; assigned = λ k i. absurd (nowhere k i) }, covers_push ls l scope c)
+  bind_done ls l scope x c h = (
+    record { named = h; bound = numbers_bind ls l; assigned = λ k i. absurd (nowhere k i) },
+    covers_push ls l scope
+        c,
+  )
 
   plain_done : (ls : List scopes.Local) (scope : List ℕ) (x : core.Action) → Covers ls scope → ActNames scope x →
       binding x ≡ [] → assigning x ≡ [] → behind scope x ≡ scope → Leaves ls ls scope x
   plain_done ls scope x c h b a same = (plain scope finals (length ls) x h b a, subst (Covers ls) (sym same) c)
 
-  assign_done : {sc : Scope} {p : Place} {t : ValueType} {set : core.Expr → core.Action} (scope : List ℕ) (e : core.Expr) →
+  assign_done : {sc : Scope} {p : Place} {t : ValueType} {set : core.Expr → core.Action} (scope : List ℕ)
+      (e : core.Expr) →
       Covers sc.locals scope → Become sc.locals finals → Assigns sc p t set → Names scope e →
       Leaves sc.locals sc.locals scope (set e)
   assign_done {sc = sc} scope e c b (assigns_local {x = x} {i = n} {l = l} is can h) g =
@@ -260,14 +283,18 @@ module _ (finals : List core.Local) where
         },
         c,
       )
-  assign_done {sc = sc} scope e c b (assigns_global {i = i} is h) g = plain_done sc.locals scope (core.set_global (cell_of sc.decls i) e) c g refl refl refl
+  assign_done {sc = sc} scope e c b (assigns_global {i = i} is h) g =
+      plain_done sc.locals scope (core.set_global (cell_of sc.decls i) e) c g refl refl refl
   assign_done {sc = sc} scope e c b (assigns_element {i = i} {a = a} {index = y} is h d) g =
-      plain_done sc.locals scope (core.set_element (number_at sc.decls i (array a)) y e) c (expr_names sc scope c d, g) refl refl refl
+      plain_done sc.locals scope (core.set_element (number_at sc.decls i (array a)) y e) c
+      (expr_names sc scope c d, g) refl refl refl
   assign_done {sc = sc} scope e c b (assigns_field {x = x} {i = i} {k = k} {n = n} {l = l} {base = base} is at) g =
-      plain_done sc.locals scope (core.set_field (local_path x.span.start i base) k n e) c (local_in sc scope c x.text i l is, g) refl refl refl
+      plain_done sc.locals scope (core.set_field (local_path x.span.start i base) k n e) c
+      (local_in sc scope c x.text i l is, g) refl refl refl
 
   -- a block's numbers, behind which its locals are hidden
-  hidden_numbers : (ls end : List scopes.Local) (bs : List ℕ) → numbers_from 0 (length ls) ++ bs ≡ numbers_from 0 (length end) →
+  hidden_numbers : (ls end : List scopes.Local) (bs : List ℕ) → numbers_from 0 (length ls)
+      ++ bs ≡ numbers_from 0 (length end) →
       numbers_from 0 (length ls) ++ bs ≡ numbers_from 0 (length (hidden_from (length ls) end))
   hidden_numbers ls end bs e = e ∙ ap (numbers_from 0) (sym (hidden_length (length ls) end))
 
@@ -276,19 +303,33 @@ module _ (finals : List core.Local) where
         (scope : List ℕ) → Covers sc.locals scope → Become (after sc s).locals finals →
         Leaves sc.locals (after sc s).locals scope action
     stmt_done {sc = sc} (types_let {l = l} {x = x} is g) scope c b =
-        bind_done sc.locals (record { name = l.name.text; kind = kind.Let; value_type = type_of sc l.value_type; is_visible = true }) scope x c (value_names sc scope c g)
+        bind_done sc.locals (record
+        { name = l.name.text; kind = kind.Let; value_type = type_of sc l.value_type; is_visible = true }) scope x c
+        (value_names sc scope c g)
     stmt_done {sc = sc} (types_owned {l = l} {y = y} is g h) scope c b =
-        bind_done sc.locals (record { name = l.name.text; kind = kind.Let; value_type = type_of sc l.value_type; is_visible = true }) scope y c
+        bind_done sc.locals (record
+        { name = l.name.text; kind = kind.Let; value_type = type_of sc l.value_type; is_visible = true }) scope y c
         (owner_names sc scope c h (value_names sc scope c g))
     stmt_done {sc = sc} (types_let_call {l = l} k is r) scope c b =
-        let local : scopes.Local = record { name = l.name.text; kind = kind.Let; value_type = type_of sc l.value_type; is_visible = true } in
-        (record { named = call_names sc scope c k; bound = numbers_bind sc.locals local; assigned = λ j i. absurd (nowhere j i) }, covers_push sc.locals local scope c)
+        let local : scopes.Local =
+        record { name = l.name.text; kind = kind.Let; value_type = type_of sc l.value_type; is_visible = true } in (
+          record {
+            named = call_names sc scope c k;
+            bound = numbers_bind sc.locals local;
+            assigned =
+                λ j i. absurd (nowhere j i);
+          },
+          covers_push sc.locals local scope c,
+        )
     stmt_done {sc = sc} (types_var {l = l} {x = x} is g) scope c b =
-        bind_done sc.locals (record { name = l.name.text; kind = kind.Var; value_type = type_of sc l.value_type; is_visible = true }) scope x c (value_names sc scope c g)
+        bind_done sc.locals (record
+        { name = l.name.text; kind = kind.Var; value_type = type_of sc l.value_type; is_visible = true }) scope x c
+        (value_names sc scope c g)
     stmt_done {sc = sc} (types_assign {x = x} h g) scope c b = assign_done scope x c b h (value_names sc scope c g)
     stmt_done {sc = sc} (types_if {body = body} {block = block} h k) scope c b =
         let end = (after_all sc body).locals in
-        let d = body_done k scope c (become_before end (hidden_from (length sc.locals) end) finals (kept_hidden (length sc.locals) end) b) in (
+        let d = body_done k scope c
+        (become_before end (hidden_from (length sc.locals) end) finals (kept_hidden (length sc.locals) end) b) in (
           record {
             named = (expr_names sc scope c h, d.0.named);
             bound = hidden_numbers sc.locals end (all_binding block) d.0.bound;
@@ -296,7 +337,8 @@ module _ (finals : List core.Local) where
           },
           covers_left sc.locals end scope (all_front sc body) c,
         )
-    stmt_done {sc = sc} (types_if_else {body = body} {other = other} {block = block} {otherwise = otherwise} h k q) scope c b =
+    stmt_done {sc = sc} (types_if_else {body = body} {other = other} {block = block} {otherwise = otherwise} h k q)
+        scope c b =
         let end = (after_all sc body).locals in
         let mid = hidden_from (length sc.locals) end in
         let sc2 = left sc (after_all sc body) in
@@ -308,14 +350,20 @@ module _ (finals : List core.Local) where
         let f = body_done q scope c2 inner2 in (
           record {
             named = (expr_names sc scope c h, d.0.named, f.0.named);
-            bound = sym (append_assoc (numbers_from 0 (length sc.locals)) (all_binding block) (all_binding otherwise)) ∙ ap (λ (l : List ℕ). l ++ all_binding otherwise) (hidden_numbers sc.locals end (all_binding block) d.0.bound) ∙ hidden_numbers mid end2 (all_binding otherwise) f.0.bound;
-            assigned = λ j i. elim (Contains-append_cases (all_assigning block) (all_assigning otherwise) j i) [ inl x ↦ d.0.assigned j x | inr x ↦ f.0.assigned j x ];
+            bound = sym (append_assoc (numbers_from 0 (length sc.locals)) (all_binding block) (all_binding otherwise))
+                ∙ ap (λ (l : List ℕ). l ++ all_binding otherwise)
+                (hidden_numbers sc.locals end (all_binding block) d.0.bound)
+                ∙ hidden_numbers mid end2 (all_binding otherwise) f.0.bound;
+            assigned = λ j i. elim
+                (Contains-append_cases (all_assigning block) (all_assigning otherwise) j i)
+                [ inl x ↦ d.0.assigned j x | inr x ↦ f.0.assigned j x ];
           },
           covers_left mid end2 scope (all_front sc2 other) c2,
         )
     stmt_done {sc = sc} (types_while {body = body} {block = block} h k) scope c b =
         let end = (after_all sc body).locals in
-        let d = body_done k scope c (become_before end (hidden_from (length sc.locals) end) finals (kept_hidden (length sc.locals) end) b) in (
+        let d = body_done k scope c
+        (become_before end (hidden_from (length sc.locals) end) finals (kept_hidden (length sc.locals) end) b) in (
           record {
             named = (expr_names sc scope c h, d.0.named);
             bound = hidden_numbers sc.locals end (all_binding block) d.0.bound;
@@ -323,15 +371,20 @@ module _ (finals : List core.Local) where
           },
           covers_left sc.locals end scope (all_front sc body) c,
         )
-    stmt_done {sc = sc} (types_print {x = x} h) scope c b = plain_done sc.locals scope (core.print x) c (expr_names sc scope c h) refl refl refl
-    stmt_done {sc = sc} (types_call_alone {n = n} {xs = xs} k) scope c b = plain_done sc.locals scope (core.call n xs None) c (call_names sc scope c k) refl refl refl
+    stmt_done {sc = sc} (types_print {x = x} h) scope c b =
+        plain_done sc.locals scope (core.print x) c (expr_names sc scope c h) refl refl refl
+    stmt_done {sc = sc} (types_call_alone {n = n} {xs = xs} k) scope c b =
+        plain_done sc.locals scope (core.call n xs None) c (call_names sc scope c k) refl refl refl
 
     pub body_done : {sc : Scope} {ss : Stmts} {block : core.Stmts} {r : Option core.Return} → TypesBody sc ss block r →
         (scope : List ℕ) → Covers sc.locals scope → Become (after_all sc ss).locals finals →
-        Done scope finals (length sc.locals) (length (after_all sc ss).locals) block × ReturnDone finals (behind_all scope block) r
+        Done scope finals (length sc.locals) (length (after_all sc ss).locals) block × ReturnDone finals
+        (behind_all scope block) r
     body_done {sc = sc} types_none scope c b = (nothing_done finals scope (length sc.locals), tt)
-    body_done {sc = sc} (types_return g) scope c b = (nothing_done finals scope (length sc.locals), value_names sc scope c g)
-    body_done {sc = sc} (types_next {s = s} {rest = rest} {start = start} {action = action} {stmts = stmts} h k) scope c b =
+    body_done {sc = sc} (types_return g) scope c b =
+        (nothing_done finals scope (length sc.locals), value_names sc scope c g)
+    body_done {sc = sc} (types_next {s = s} {rest = rest} {start = start} {action = action} {stmts = stmts} h k) scope
+        c b =
         let mid = (after sc s).locals in
         let to = (after_all (after sc s) rest).locals in
         let a = stmt_done h scope c (become_before mid to finals (front_kept mid to (all_front (after sc s) rest)) b) in

@@ -5,7 +5,8 @@ use Rattle.source.specs.declared.span.Span.{Span}
 use Rattle.syntax.specs.Trees as tree
 use Rattle.syntax.specs.Trees.{Place, Expr, Owner, HelperCall, CalledLocal, Stmt, let_local, let_owned, let_call}
 use Rattle.syntax.specs.Trees.{var_local, assign, if_then, while, print, return_value, call, Stmts, no_stmts, stmt}
-use Rattle.syntax.specs.Trees.{Otherwise, no_else, else_do, Param, Section, Decl, lock, struct, global, array, pool, init}
+use Rattle.syntax.specs.Trees.{Otherwise, no_else, else_do, Param, Section, Decl, lock, struct, global, array}
+use Rattle.syntax.specs.Trees.{pool, init}
 use Rattle.syntax.specs.Trees.{atomic, helper, thread}
 use Rattle.core_lang.specs.declared.value.ValueType.{ValueType}
 use Rattle.core_lang.specs.declared.value.ValueType.TheVariants.{Integer}
@@ -19,13 +20,15 @@ use Rattle.resolution.specs.Expressions.{ResolvedExpr, value, truth, want}
 use Rattle.resolution.specs.Constants.{added, want_of}
 use Rattle.resolution.specs.Statements.{first_name, after, after_all, entry}
 use Rattle.resolution.specs.Typing.{Types, Gives, TypesOwner, TypesArguments, no_argument, one_argument, TypesCall}
-use Rattle.resolution.specs.Typing.{types_call, TypesStmt, types_let, types_owned, types_let_call, types_var, types_assign}
+use Rattle.resolution.specs.Typing.{types_call, TypesStmt, types_let, types_owned, types_let_call}
+use Rattle.resolution.specs.Typing.{types_var, types_assign}
 use Rattle.resolution.specs.Typing.{types_if, types_if_else, types_while, types_print, types_call_alone, TypesBody}
 use Rattle.resolution.specs.Typing.{types_none, types_return, types_next, TypesLocals, no_local, one_local, TypesResult}
 use Rattle.resolution.specs.Typing.{no_result, one_result, TypesSection, types_section}
 use Rattle.resolution.specs.Working.TypedExpressions.{fitting, as_value, number_resolved, test_resolved, typed}
 use Rattle.resolution.specs.Working.TypedOwners.{is_of, owned_by}
-use Rattle.resolution.specs.Working.TypedStatements.{Assignee, target_of, wanted_by, typed_values, called, call_resolved}
+use Rattle.resolution.specs.Working.TypedStatements.{Assignee, target_of, wanted_by, typed_values}
+use Rattle.resolution.specs.Working.TypedStatements.{called, call_resolved}
 use Rattle.resolution.specs.Working.TypedStatements.{type_given, can_take, Part, does, gives, acts_if, binds}
 use Rattle.resolution.specs.Working.TypedStatements.{assigns, prints, returns, repeats, chooses, chooses_between, Body}
 use Rattle.resolution.specs.Working.TypedStatements.{given_back, preceded, block_without, block_of, typed_stmt}
@@ -45,16 +48,19 @@ values_types sc p e ps es None h rest k = tt
 values_types sc p e ps es (Some x) h None k = tt
 values_types sc p e ps es (Some x) h (Some xs) k = one_argument h k
 
-arguments_types : (sc : Scope) (ps : List Param) (es : List Expr) → When (TypesArguments sc ps es) (typed_values sc ps es)
+arguments_types : (sc : Scope) (ps : List Param) (es : List Expr) →
+    When (TypesArguments sc ps es) (typed_values sc ps es)
 arguments_types sc [] [] = no_argument
 arguments_types sc [] (e ∷ es) = tt
 arguments_types sc (p ∷ ps) [] = tt
 arguments_types sc (p ∷ ps) (e ∷ es) =
-    values_types sc p e ps es (as_value (fitting (want_of sc.decls p) (typed sc e))) (gives_when sc (want_of sc.decls p) e) (typed_values sc ps es) (arguments_types sc ps es)
+    values_types sc p e ps es (as_value (fitting (want_of sc.decls p) (typed sc e)))
+    (gives_when sc (want_of sc.decls p) e) (typed_values sc ps es) (arguments_types sc ps es)
 
 -- what holds of a call's action, if it does of the call of each helper that the name means
 helper_called : (sc : Scope) (i : ℕ) (s : Section) (es : List Expr) (local : Option ℕ) (P : core.Action → Type 0) →
-    ((xs : List core.Expr) → TypesArguments sc s.params es xs → P (core.call (number_at sc.decls i (helper s)) xs local)) →
+    ((xs : List core.Expr) → TypesArguments sc s.params es xs →
+    P (core.call (number_at sc.decls i (helper s)) xs local)) →
     When P (called sc (Some (i, s)) es local)
 helper_called sc i s es local P h = by_values (typed_values sc s.params es) (arguments_types sc s.params es)
   where
@@ -94,26 +100,38 @@ when_all P Q (Some x) h f = f x h
 
 let_types : (sc : Scope) (l : tree.Local) → When (PartIs sc (let_local l)) (typed_stmt sc (let_local l))
 let_types sc l =
-    bound_types sc (let_local l) l.start.start (length sc.locals) (type_of sc l.value_type) (λ t. as_value (fitting (want t) (typed sc l.value)))
-    (λ t is. when_all (Gives sc (Value t) l.value) (λ (x : core.Expr). TypesStmt sc (let_local l) l.start.start (core.bind (length sc.locals) x)) (as_value (fitting (Value t) (typed sc l.value))) (gives_when sc (Value t) l.value)
+    bound_types sc (let_local l) l.start.start (length sc.locals) (type_of sc l.value_type)
+    (λ t. as_value (fitting (want t) (typed sc l.value)))
+    (λ t is. when_all (Gives sc (Value t) l.value)
+    (λ (x : core.Expr). TypesStmt sc (let_local l) l.start.start (core.bind (length sc.locals) x))
+    (as_value (fitting (Value t) (typed sc l.value))) (gives_when sc (Value t) l.value)
     (λ x g. types_let is g))
 
 var_types : (sc : Scope) (l : tree.Local) → When (PartIs sc (var_local l)) (typed_stmt sc (var_local l))
 var_types sc l =
-    bound_types sc (var_local l) l.start.start (length sc.locals) (type_of sc l.value_type) (λ t. as_value (fitting (want t) (typed sc l.value)))
-    (λ t is. when_all (Gives sc (Value t) l.value) (λ (x : core.Expr). TypesStmt sc (var_local l) l.start.start (core.bind (length sc.locals) x)) (as_value (fitting (Value t) (typed sc l.value))) (gives_when sc (Value t) l.value)
+    bound_types sc (var_local l) l.start.start (length sc.locals) (type_of sc l.value_type)
+    (λ t. as_value (fitting (want t) (typed sc l.value)))
+    (λ t is. when_all (Gives sc (Value t) l.value)
+    (λ (x : core.Expr). TypesStmt sc (var_local l) l.start.start (core.bind (length sc.locals) x))
+    (as_value (fitting (Value t) (typed sc l.value))) (gives_when sc (Value t) l.value)
     (λ x g. types_var is g))
 
-owned_types : (sc : Scope) (l : tree.Local) (o : Owner) → When (PartIs sc (let_owned l o)) (typed_stmt sc (let_owned l o))
+owned_types : (sc : Scope) (l : tree.Local) (o : Owner) →
+    When (PartIs sc (let_owned l o)) (typed_stmt sc (let_owned l o))
 owned_types sc l o =
-    bound_types sc (let_owned l o) l.start.start (length sc.locals) (type_of sc l.value_type) (λ t. owned_by sc t o (as_value (fitting (want t) (typed sc l.value))))
+    bound_types sc (let_owned l o) l.start.start (length sc.locals) (type_of sc l.value_type)
+    (λ t. owned_by sc t o (as_value (fitting (want t) (typed sc l.value))))
     (λ t is. by_value t is (as_value (fitting (Value t) (typed sc l.value))) (gives_when sc (Value t) l.value))
   where
-    by_value : (t : ValueType) → type_of sc l.value_type ≡ Some t → (e : Option core.Expr) → When (Gives sc (Value t) l.value) e →
-        When (λ (y : core.Expr). TypesStmt sc (let_owned l o) l.start.start (core.bind (length sc.locals) y)) (owned_by sc (Some t) o e)
+    by_value : (t : ValueType) → type_of sc l.value_type ≡ Some t → (e : Option core.Expr) →
+        When (Gives sc (Value t) l.value) e →
+        When (λ (y : core.Expr). TypesStmt sc (let_owned l o) l.start.start (core.bind (length sc.locals) y))
+        (owned_by sc (Some t) o e)
     by_value t is None g = tt
     by_value t is (Some x) g =
-        when_all (TypesOwner sc t o x) (λ (y : core.Expr). TypesStmt sc (let_owned l o) l.start.start (core.bind (length sc.locals) y)) (owned_by sc (Some t) o (Some x)) (owner_types sc t o x)
+        when_all (TypesOwner sc t o x)
+        (λ (y : core.Expr). TypesStmt sc (let_owned l o) l.start.start (core.bind (length sc.locals) y))
+        (owned_by sc (Some t) o (Some x)) (owner_types sc t o x)
         (λ y h. types_owned is g h)
 
 -- two types that are one
@@ -137,32 +155,39 @@ let_call_types sc l = by_meaning (meaning sc l.call.helper.text) refl
   where
     by_test : (i : ℕ) (s : Section) → meaning sc l.call.helper.text ≡ a_decl i (helper s) → (b : Bool) →
         can_take (type_of sc l.value_type) (result_of sc.decls s) ≡ b →
-        When (PartIs sc (let_call l)) (if b then acts_if l.start.start (called sc (Some (i, s)) l.call.arguments (Some (length sc.locals))) else None)
+        When (PartIs sc (let_call l))
+        (if b then acts_if l.start.start (called sc (Some (i, s)) l.call.arguments (Some (length sc.locals))) else None)
     by_test i s is false e = tt
     by_test i s is true e =
         let both = are_one (type_of sc l.value_type) (result_of sc.decls s) e in
         acts_types sc (let_call l) l.start.start (called sc (Some (i, s)) l.call.arguments (Some (length sc.locals)))
-        (helper_called sc i s l.call.arguments (Some (length sc.locals)) (TypesStmt sc (let_call l) l.start.start) (λ xs k. types_let_call (types_call is k) both.left_is both.right_is))
+        (helper_called sc i s l.call.arguments (Some (length sc.locals)) (TypesStmt sc (let_call l) l.start.start)
+        (λ xs k. types_let_call (types_call is k) both.left_is both.right_is))
 
     no_helper : (o : Option ValueType) (b : Bool) → can_take o None ≡ b →
-        When (PartIs sc (let_call l)) (if b then acts_if l.start.start (called sc None l.call.arguments (Some (length sc.locals))) else None)
+        When (PartIs sc (let_call l))
+        (if b then acts_if l.start.start (called sc None l.call.arguments (Some (length sc.locals))) else None)
     no_helper o true e = tt
     no_helper o false e = tt
 
     by_meaning : (m : Meaning) → meaning sc l.call.helper.text ≡ m →
         When (PartIs sc (let_call l))
-        (if can_take (type_of sc l.value_type) (type_given sc.decls (helper_meant m)) then acts_if l.start.start (called sc (helper_meant m) l.call.arguments (Some (length sc.locals))) else None)
-    by_meaning (a_decl i (helper s)) is = by_test i s is (can_take (type_of sc l.value_type) (result_of sc.decls s)) refl
+        (if can_take (type_of sc l.value_type) (type_given sc.decls (helper_meant m)) then acts_if l.start.start
+        (called sc (helper_meant m) l.call.arguments (Some (length sc.locals))) else None)
+    by_meaning (a_decl i (helper s)) is =
+        by_test i s is (can_take (type_of sc l.value_type) (result_of sc.decls s)) refl
     by_meaning m is = no_helper (type_of sc l.value_type) (can_take (type_of sc l.value_type) None) refl
 
-call_types : (sc : Scope) (start : Span) (c : HelperCall) → When (PartIs sc (call start c)) (typed_stmt sc (call start c))
+call_types : (sc : Scope) (start : Span) (c : HelperCall) →
+    When (PartIs sc (call start c)) (typed_stmt sc (call start c))
 call_types sc start c = by_meaning (meaning sc c.helper.text) refl
   where
     by_meaning : (m : Meaning) → meaning sc c.helper.text ≡ m →
         When (PartIs sc (call start c)) (acts_if start.start (called sc (helper_meant m) c.arguments None))
     by_meaning (a_decl i (helper s)) is =
         acts_types sc (call start c) start.start (called sc (Some (i, s)) c.arguments None)
-        (helper_called sc i s c.arguments None (TypesStmt sc (call start c) start.start) (λ xs k. types_call_alone (types_call is k)))
+        (helper_called sc i s c.arguments None (TypesStmt sc (call start c) start.start)
+        (λ xs k. types_call_alone (types_call is k)))
     by_meaning m is = tt
 
 assign_types : (sc : Scope) (p : Place) (e : Expr) → When (PartIs sc (assign p e)) (typed_stmt sc (assign p e))
@@ -174,12 +199,15 @@ assign_types sc p e = by_target (target_of sc p) (place_assigns sc p)
     by_value a h (Some x) g = types_assign h g
 
     by_target : (o : Option Assignee) → When (AssignsTo sc p) o →
-        When (PartIs sc (assign p e)) (assigns (first_name p).span.start o (as_value (fitting (wanted_by o) (typed sc e))))
+        When (PartIs sc (assign p e))
+        (assigns (first_name p).span.start o (as_value (fitting (wanted_by o) (typed sc e))))
     by_target None h = tt
-    by_target (Some a) h = by_value a h (as_value (fitting (Value a.value_type) (typed sc e))) (gives_when sc (Value a.value_type) e)
+    by_target (Some a) h =
+        by_value a h (as_value (fitting (Value a.value_type) (typed sc e))) (gives_when sc (Value a.value_type) e)
 
 print_types : (sc : Scope) (start : Span) (e : Expr) (o : Option core.Expr) →
-    When (λ (x : core.Expr). Types sc e (value x (Of Integer))) o → When (PartIs sc (print start e)) (prints start.start o)
+    When (λ (x : core.Expr). Types sc e (value x (Of Integer))) o →
+    When (PartIs sc (print start e)) (prints start.start o)
 print_types sc start e None h = tt
 print_types sc start e (Some x) h = types_print h
 
@@ -194,19 +222,24 @@ IsTruth sc e c = Types sc e (truth c)
 abbrev BlockIs : Scope → Stmts → core.Stmts → Type 0
 BlockIs sc stmts block = TypesBody sc stmts block None
 
-while_types : (sc : Scope) (start close : Span) (e : Expr) (body : Stmts) (c : Option core.Condition) → When (IsTruth sc e) c →
-    (b : Option core.Stmts) → When (BlockIs sc body) b → When (PartIs sc (while start e body close)) (repeats start.start c b)
+while_types : (sc : Scope) (start close : Span) (e : Expr) (body : Stmts) (c : Option core.Condition) →
+    When (IsTruth sc e) c →
+    (b : Option core.Stmts) → When (BlockIs sc body) b →
+    When (PartIs sc (while start e body close)) (repeats start.start c b)
 while_types sc start close e body None h b k = tt
 while_types sc start close e body (Some c) h None k = tt
 while_types sc start close e body (Some c) h (Some b) k = types_while h k
 
-then_types : (sc : Scope) (start close : Span) (e : Expr) (body : Stmts) (c : Option core.Condition) → When (IsTruth sc e) c →
-    (b : Option core.Stmts) → When (BlockIs sc body) b → When (PartIs sc (if_then start e body close no_else)) (chooses start.start c b)
+then_types : (sc : Scope) (start close : Span) (e : Expr) (body : Stmts) (c : Option core.Condition) →
+    When (IsTruth sc e) c →
+    (b : Option core.Stmts) → When (BlockIs sc body) b →
+    When (PartIs sc (if_then start e body close no_else)) (chooses start.start c b)
 then_types sc start close e body None h b k = tt
 then_types sc start close e body (Some c) h None k = tt
 then_types sc start close e body (Some c) h (Some b) k = types_if h k
 
-else_types : (sc : Scope) (start close end : Span) (e : Expr) (body other : Stmts) (c : Option core.Condition) → When (IsTruth sc e) c →
+else_types : (sc : Scope) (start close end : Span) (e : Expr) (body other : Stmts) (c : Option core.Condition) →
+    When (IsTruth sc e) c →
     (b : Option core.Stmts) → When (BlockIs sc body) b → (d : Option core.Stmts) →
     When (BlockIs (left sc (after_all sc body)) other) d →
     When (PartIs sc (if_then start e body close (else_do other end))) (chooses_between start.start c b d)
@@ -215,11 +248,13 @@ else_types sc start close end e body other (Some c) h None k d q = tt
 else_types sc start close end e body other (Some c) h (Some b) k None q = tt
 else_types sc start close end e body other (Some c) h (Some b) k (Some d) q = types_if_else h k q
 
-block_types : (sc : Scope) (stmts : Stmts) (o : Option Body) → When (BodyIs sc stmts) o → When (BlockIs sc stmts) (block_of o)
+block_types : (sc : Scope) (stmts : Stmts) (o : Option Body) → When (BodyIs sc stmts) o →
+    When (BlockIs sc stmts) (block_of o)
 block_types sc stmts None h = tt
 block_types sc stmts (Some b) h = by_result b.stmts b.result h
   where
-    by_result : (block : core.Stmts) (r : Option core.Return) → TypesBody sc stmts block r → When (BlockIs sc stmts) (block_without block r)
+    by_result : (block : core.Stmts) (r : Option core.Return) → TypesBody sc stmts block r →
+        When (BlockIs sc stmts) (block_without block r)
     by_result block None k = k
     by_result block (Some r) k = tt
 
@@ -234,7 +269,8 @@ ends_types : {sc : Scope} {s : Stmt} {r : core.Return} → IsReturn sc s r →
     TypesBody sc (stmt s no_stmts) core.no_stmts (Some r)
 ends_types (is_return g) = types_return g
 
-given_types : (sc : Scope) (s : Stmt) (rest : Stmts) (r : core.Return) → IsReturn sc s r → (block : core.Stmts) (q : Option core.Return) →
+given_types : (sc : Scope) (s : Stmt) (rest : Stmts) (r : core.Return) → IsReturn sc s r →
+    (block : core.Stmts) (q : Option core.Return) →
     TypesBody (after sc s) rest block q → When (BodyIs sc (stmt s rest)) (given_back r block q)
 given_types sc s rest r h core.no_stmts None k =
     subst (λ (ss : Stmts). TypesBody sc (stmt s ss) core.no_stmts (Some r)) (sym (is_empty k refl refl)) (ends_types h)
@@ -257,25 +293,38 @@ mutual
   stmt_types sc (var_local l) = var_types sc l
   stmt_types sc (assign p e) = assign_types sc p e
   stmt_types sc (if_then start e body close no_else) =
-      then_types sc start close e body (test_resolved (typed sc e)) (test_when (Types sc e) (typed sc e) (expr_types sc e)) (block_of (typed_body sc body)) (block_types sc body (typed_body sc body) (body_types sc body))
+      then_types sc start close e body (test_resolved (typed sc e))
+      (test_when (Types sc e) (typed sc e) (expr_types sc e)) (block_of (typed_body sc body))
+      (block_types sc body (typed_body sc body) (body_types sc body))
   stmt_types sc (if_then start e body close (else_do other end)) =
-      else_types sc start close end e body other (test_resolved (typed sc e)) (test_when (Types sc e) (typed sc e) (expr_types sc e))
+      else_types sc start close end e body other (test_resolved (typed sc e))
+      (test_when (Types sc e) (typed sc e) (expr_types sc e))
       (block_of (typed_body sc body)) (block_types sc body (typed_body sc body) (body_types sc body))
-      (block_of (typed_body (left sc (after_all sc body)) other)) (block_types (left sc (after_all sc body)) other (typed_body (left sc (after_all sc body)) other) (body_types (left sc (after_all sc body)) other))
+      (block_of (typed_body (left sc (after_all sc body)) other))
+      (block_types (left sc (after_all sc body)) other (typed_body (left sc (after_all sc body)) other)
+      (body_types (left sc (after_all sc body)) other))
   stmt_types sc (while start e body close) =
-      while_types sc start close e body (test_resolved (typed sc e)) (test_when (Types sc e) (typed sc e) (expr_types sc e)) (block_of (typed_body sc body)) (block_types sc body (typed_body sc body) (body_types sc body))
-  stmt_types sc (print start e) = print_types sc start e (number_resolved (typed sc e)) (number_when (Types sc e) (typed sc e) (expr_types sc e))
-  stmt_types sc (return_value start e) = return_types sc start e (as_value (fitting (want sc.result) (typed sc e))) (gives_when sc (want sc.result) e)
+      while_types sc start close e body (test_resolved (typed sc e))
+      (test_when (Types sc e) (typed sc e) (expr_types sc e)) (block_of (typed_body sc body))
+      (block_types sc body (typed_body sc body) (body_types sc body))
+  stmt_types sc (print start e) =
+      print_types sc start e (number_resolved (typed sc e)) (number_when (Types sc e) (typed sc e) (expr_types sc e))
+  stmt_types sc (return_value start e) =
+      return_types sc start e (as_value (fitting (want sc.result) (typed sc e))) (gives_when sc (want sc.result) e)
   stmt_types sc (call start c) = call_types sc start c
 
   body_types : (sc : Scope) (stmts : Stmts) → When (BodyIs sc stmts) (typed_body sc stmts)
   body_types sc no_stmts = types_none
-  body_types sc (stmt s rest) = next_types sc s rest (typed_stmt sc s) (stmt_types sc s) (typed_body (after sc s) rest) (body_types (after sc s) rest)
+  body_types sc (stmt s rest) =
+      next_types sc s rest (typed_stmt sc s) (stmt_types sc s) (typed_body (after sc s) rest)
+      (body_types (after sc s) rest)
 
-pub types_stmt : (sc : Scope) (s : Stmt) (x : core.Stmt) → typed_stmt sc s ≡ Some (does x) → TypesStmt sc s x.start x.action
+pub types_stmt : (sc : Scope) (s : Stmt) (x : core.Stmt) → typed_stmt sc s ≡ Some (does x) →
+    TypesStmt sc s x.start x.action
 types_stmt sc s x is = when (PartIs sc s) (typed_stmt sc s) (stmt_types sc s) (does x) is
 
-pub types_body : (sc : Scope) (stmts : Stmts) (b : Body) → typed_body sc stmts ≡ Some b → TypesBody sc stmts b.stmts b.result
+pub types_body : (sc : Scope) (stmts : Stmts) (b : Body) → typed_body sc stmts ≡ Some b →
+    TypesBody sc stmts b.stmts b.result
 types_body sc stmts b is = when (BodyIs sc stmts) (typed_body sc stmts) (body_types sc stmts) b is
 
 -- ---- what is so by the rules is computed
@@ -289,7 +338,8 @@ arguments_are {sc = sc} (one_argument {p = p} {x = x} {ps = ps} {es = es} g k) =
 abbrev action_of : Scope → ℕ → Section → Option ℕ → List core.Expr → Option core.Action
 action_of sc i s local xs = Some (core.call (number_at sc.decls i (helper s)) xs local)
 
-call_is : {sc : Scope} {c : HelperCall} {s : Section} {n : ℕ} {xs : List core.Expr} (local : Option ℕ) → TypesCall sc c s n xs →
+call_is : {sc : Scope} {c : HelperCall} {s : Section} {n : ℕ} {xs : List core.Expr} (local : Option ℕ) →
+    TypesCall sc c s n xs →
     call_resolved sc c local ≡ Some (core.call n xs local)
 call_is {sc = sc} local (types_call {c = c} {i = i} {s = s} is k) =
     ap (λ (m : Meaning). called sc (helper_meant m) c.arguments local) is
@@ -306,53 +356,73 @@ mutual
   pub stmt_is : {sc : Scope} {s : Stmt} {start : ℕ} {action : core.Action} → TypesStmt sc s start action →
       typed_stmt sc s ≡ Some (does (record { start = start; action = action }))
   stmt_is {sc = sc} (types_let {l = l} {t = t} is g) =
-      ap (λ (o : Option ValueType). binds l.start.start (length sc.locals) o (as_value (fitting (want o) (typed sc l.value)))) is
+      ap (λ (o : Option ValueType). binds l.start.start (length sc.locals) o
+      (as_value (fitting (want o) (typed sc l.value)))) is
       ∙ ap (binds l.start.start (length sc.locals) (Some t)) (given_is g)
   stmt_is {sc = sc} (types_var {l = l} {t = t} is g) =
-      ap (λ (o : Option ValueType). binds l.start.start (length sc.locals) o (as_value (fitting (want o) (typed sc l.value)))) is
+      ap (λ (o : Option ValueType). binds l.start.start (length sc.locals) o
+      (as_value (fitting (want o) (typed sc l.value)))) is
       ∙ ap (binds l.start.start (length sc.locals) (Some t)) (given_is g)
   stmt_is {sc = sc} (types_owned {l = l} {o = o} {t = t} is g h) =
-      ap (λ (u : Option ValueType). binds l.start.start (length sc.locals) u (owned_by sc u o (as_value (fitting (want u) (typed sc l.value))))) is
-      ∙ ap (λ (e : Option core.Expr). binds l.start.start (length sc.locals) (Some t) (owned_by sc (Some t) o e)) (given_is g)
+      ap (λ (u : Option ValueType). binds l.start.start (length sc.locals) u
+      (owned_by sc u o (as_value (fitting (want u) (typed sc l.value))))) is
+      ∙ ap (λ (e : Option core.Expr). binds l.start.start (length sc.locals) (Some t) (owned_by sc (Some t) o e))
+      (given_is g)
       ∙ ap (binds l.start.start (length sc.locals) (Some t)) (owned_is h)
   stmt_is {sc = sc} (types_let_call {l = l} {t = t} k is result) =
-      ap (λ (o : Option ValueType). if can_take o (type_given sc.decls (helper_meant (meaning sc l.call.helper.text))) then acts_if l.start.start (call_resolved sc l.call (Some (length sc.locals))) else None) is
-      ∙ ap (λ (o : Option ValueType). if is_of t o then acts_if l.start.start (call_resolved sc l.call (Some (length sc.locals))) else None) (given_type k ∙ result)
-      ∙ ap (λ (b : Bool). if b then acts_if l.start.start (call_resolved sc l.call (Some (length sc.locals))) else None) (fits_itself t)
+      ap (λ (o : Option ValueType). if can_take o
+      (type_given sc.decls (helper_meant (meaning sc l.call.helper.text))) then acts_if l.start.start
+      (call_resolved sc l.call (Some (length sc.locals))) else None) is
+      ∙ ap (λ (o : Option ValueType). if is_of t o then acts_if l.start.start
+      (call_resolved sc l.call (Some (length sc.locals))) else None) (given_type k ∙ result)
+      ∙ ap (λ (b : Bool). if b then acts_if l.start.start
+      (call_resolved sc l.call (Some (length sc.locals))) else None) (fits_itself t)
       ∙ ap (acts_if l.start.start) (call_is (Some (length sc.locals)) k)
   stmt_is {sc = sc} (types_assign {p = p} {e = e} {x = x} h g) =
       let found = target_is h in
-      ap (λ (o : Option Assignee). assigns (first_name p).span.start o (as_value (fitting (wanted_by o) (typed sc e)))) found.1
-      ∙ ap (λ (t : ValueType). assigns (first_name p).span.start (Some found.0) (as_value (fitting (Value t) (typed sc e)))) found.2
+      ap (λ (o : Option Assignee). assigns (first_name p).span.start o (as_value (fitting (wanted_by o) (typed sc e))))
+      found.1
+      ∙ ap (λ (t : ValueType). assigns (first_name p).span.start (Some found.0)
+      (as_value (fitting (Value t) (typed sc e)))) found.2
       ∙ ap (assigns (first_name p).span.start (Some found.0)) (given_is g)
-      ∙ ap (λ (set : core.Expr → core.Action). Some (does (record { start = (first_name p).span.start; action = set x }))) found.3
+      ∙ ap (λ (set : core.Expr → core.Action). Some
+      (does (record { start = (first_name p).span.start; action = set x }))) found.3
   stmt_is {sc = sc} (types_if {start = start} {body = body} {c = c} h k) =
-      ap (λ (r : Option ResolvedExpr). chooses start.start (test_resolved r) (block_of (typed_body sc body))) (typed_is h)
+      ap (λ (r : Option ResolvedExpr). chooses start.start (test_resolved r) (block_of (typed_body sc body)))
+      (typed_is h)
       ∙ ap (λ (b : Option Body). chooses start.start (Some c) (block_of b)) (body_is k)
   stmt_is {sc = sc} (types_if_else {start = start} {body = body} {other = other} {c = c} {block = block} h k q) =
-      ap (λ (r : Option ResolvedExpr). chooses_between start.start (test_resolved r) (block_of (typed_body sc body)) (block_of (typed_body (left sc (after_all sc body)) other))) (typed_is h)
-      ∙ ap (λ (b : Option Body). chooses_between start.start (Some c) (block_of b) (block_of (typed_body (left sc (after_all sc body)) other))) (body_is k)
+      ap (λ (r : Option ResolvedExpr). chooses_between start.start (test_resolved r) (block_of (typed_body sc body))
+      (block_of (typed_body (left sc (after_all sc body)) other))) (typed_is h)
+      ∙ ap (λ (b : Option Body). chooses_between start.start (Some c) (block_of b)
+      (block_of (typed_body (left sc (after_all sc body)) other))) (body_is k)
       ∙ ap (λ (b : Option Body). chooses_between start.start (Some c) (Some block) (block_of b)) (body_is q)
   stmt_is {sc = sc} (types_while {start = start} {body = body} {c = c} h k) =
-      ap (λ (r : Option ResolvedExpr). repeats start.start (test_resolved r) (block_of (typed_body sc body))) (typed_is h)
+      ap (λ (r : Option ResolvedExpr). repeats start.start (test_resolved r) (block_of (typed_body sc body)))
+      (typed_is h)
       ∙ ap (λ (b : Option Body). repeats start.start (Some c) (block_of b)) (body_is k)
-  stmt_is (types_print {start = start} h) = ap (λ (r : Option ResolvedExpr). prints start.start (number_resolved r)) (typed_is h)
+  stmt_is (types_print {start = start} h) =
+      ap (λ (r : Option ResolvedExpr). prints start.start (number_resolved r)) (typed_is h)
   stmt_is (types_call_alone {start = start} k) = ap (acts_if start.start) (call_is None k)
 
-  pub body_is : {sc : Scope} {stmts : Stmts} {block : core.Stmts} {r : Option core.Return} → TypesBody sc stmts block r →
+  pub body_is : {sc : Scope} {stmts : Stmts} {block : core.Stmts} {r : Option core.Return} →
+      TypesBody sc stmts block r →
       typed_body sc stmts ≡ Some (record { stmts = block; result = r })
   body_is types_none = refl
   body_is (types_return {start = start} g) =
-      ap (λ (o : Option core.Expr). preceded (returns start.start o) (Some (record { stmts = core.no_stmts; result = None }))) (given_is g)
+      ap (λ (o : Option core.Expr). preceded (returns start.start o)
+      (Some (record { stmts = core.no_stmts; result = None }))) (given_is g)
   body_is {sc = sc} (types_next {s = s} {rest = rest} {start = start} {action = action} h k) =
       ap (λ (p : Option Part). preceded p (typed_body (after sc s) rest)) (stmt_is h)
       ∙ ap (preceded (Some (does (record { start = start; action = action })))) (body_is k)
 
 -- ---- sections and helpers
 
-local_types : (l : Local) (ls : List Local) (t : Option ValueType) → l.value_type ≡ t → (rest : Option (List core.Local)) →
+local_types : (l : Local) (ls : List Local) (t : Option ValueType) → l.value_type ≡ t →
+    (rest : Option (List core.Local)) →
     When (TypesLocals ls) rest →
-    When (TypesLocals (l ∷ ls)) (added (◌>>=◌ {B = core.Local} t (λ u. Some (record { name = l.name; kind = l.kind; value_type = u }))) rest)
+    When (TypesLocals (l ∷ ls))
+    (added (◌>>=◌ {B = core.Local} t (λ u. Some (record { name = l.name; kind = l.kind; value_type = u }))) rest)
 local_types l ls None is rest k = tt
 local_types l ls (Some t) is None k = tt
 local_types l ls (Some t) is (Some rest) k = one_local is k
@@ -367,15 +437,26 @@ types_the_locals ls xs is = when (TypesLocals ls) (core_locals ls) (locals_types
 pub locals_are : {ls : List Local} {rest : List core.Local} → TypesLocals ls rest → core_locals ls ≡ Some rest
 locals_are no_local = refl
 locals_are (one_local {l = l} {t = t} {ls = ls} is k) =
-    ap (λ (o : Option ValueType). added (◌>>=◌ {B = core.Local} o (λ u. Some (record { name = l.name; kind = l.kind; value_type = u }))) (core_locals ls)) is
+    ap (λ (o : Option ValueType). added
+    (◌>>=◌ {B = core.Local} o (λ u. Some (record { name = l.name; kind = l.kind; value_type = u }))) (core_locals ls))
+    is
     ∙ ap (added (Some (record { name = l.name; kind = l.kind; value_type = t }))) (locals_are k)
 
 -- a section by its parts
 abbrev section_by : Section → List core.Local → core.Stmts → Option core.Return → Option ValueType → core.Section
 section_by s locals body r t =
-    record { name = s.name.text; parameters = length s.params; locals = locals; result_type = t; body = body; result = r }
+    record {
+      name = s.name.text;
+      parameters = length s.params;
+      locals = locals;
+      result_type = t;
+      body = body;
+      result =
+          r;
+    }
 
-with_types : (decls : List Decl) (s : Section) (locals : List core.Local) (body : core.Stmts) (w : Option tree.ValueType) (r : Option core.Return)
+with_types : (decls : List Decl) (s : Section) (locals : List core.Local) (body : core.Stmts)
+    (w : Option tree.ValueType) (r : Option core.Return)
     (P : core.Section → Type 0) →
     ((t : Option ValueType) → TypesResult decls w r t → P (section_by s locals body r t)) →
     When P (section_with decls s locals body w r)
@@ -389,30 +470,41 @@ with_types decls s locals body (Some w) (Some r) P h = by_type (type_of (outside
     by_type None e = tt
     by_type (Some t) e = h (Some t) (one_result e)
 
-section_types : (decls : List Decl) (limits : BodyLimits) (s : Section) → When (TypesSection decls limits s) (typed_section decls limits s)
+section_types : (decls : List Decl) (limits : BodyLimits) (s : Section) →
+    When (TypesSection decls limits s) (typed_section decls limits s)
 section_types decls limits s =
-    by_parts (core_locals (after_all (entry decls limits s) s.body.stmts).locals) (locals_types (after_all (entry decls limits s) s.body.stmts).locals)
+    by_parts (core_locals (after_all (entry decls limits s) s.body.stmts).locals)
+    (locals_types (after_all (entry decls limits s) s.body.stmts).locals)
     (typed_body (entry decls limits s) s.body.stmts) (body_types (entry decls limits s) s.body.stmts)
   where
-    by_parts : (ls : Option (List core.Local)) → When (TypesLocals (after_all (entry decls limits s) s.body.stmts).locals) ls → (b : Option Body) →
-        When (BodyIs (entry decls limits s) s.body.stmts) b → When (TypesSection decls limits s) (section_of decls s ls b)
+    by_parts : (ls : Option (List core.Local)) →
+        When (TypesLocals (after_all (entry decls limits s) s.body.stmts).locals) ls → (b : Option Body) →
+        When (BodyIs (entry decls limits s) s.body.stmts) b →
+        When (TypesSection decls limits s) (section_of decls s ls b)
     by_parts None h b k = tt
     by_parts (Some ls) h None k = tt
-    by_parts (Some ls) h (Some b) k = with_types decls s ls b.stmts s.result b.result (TypesSection decls limits s) (λ t q. types_section k q h)
+    by_parts (Some ls) h (Some b) k =
+        with_types decls s ls b.stmts s.result b.result (TypesSection decls limits s) (λ t q. types_section k q h)
 
-pub types_the_section : (decls : List Decl) (limits : BodyLimits) (s : Section) (x : core.Section) → typed_section decls limits s ≡ Some x →
+pub types_the_section : (decls : List Decl) (limits : BodyLimits) (s : Section) (x : core.Section) →
+    typed_section decls limits s ≡ Some x →
     TypesSection decls limits s x
-types_the_section decls limits s x is = when (TypesSection decls limits s) (typed_section decls limits s) (section_types decls limits s) x is
+types_the_section decls limits s x is =
+    when (TypesSection decls limits s) (typed_section decls limits s) (section_types decls limits s) x is
 
-with_is : {decls : List Decl} {w : Option tree.ValueType} {r : Option core.Return} {t : Option ValueType} (s : Section) (locals : List core.Local) (body : core.Stmts) →
+with_is : {decls : List Decl} {w : Option tree.ValueType} {r : Option core.Return} {t : Option ValueType} (s : Section)
+    (locals : List core.Local) (body : core.Stmts) →
     TypesResult decls w r t → section_with decls s locals body w r ≡ Some (section_by s locals body r t)
 with_is s locals body no_result = refl
 with_is s locals body (one_result {r = r} is) =
-    ap (λ (o : Option ValueType). ◌>>=◌ {B = core.Section} o (λ t. Some (section_by s locals body (Some r) (Some t)))) is
+    ap (λ (o : Option ValueType). ◌>>=◌ {B = core.Section} o (λ t. Some (section_by s locals body (Some r) (Some t))))
+    is
 
-pub section_is : {decls : List Decl} {limits : BodyLimits} {s : Section} {x : core.Section} → TypesSection decls limits s x →
+pub section_is : {decls : List Decl} {limits : BodyLimits} {s : Section} {x : core.Section} →
+    TypesSection decls limits s x →
     typed_section decls limits s ≡ Some x
 section_is {decls = decls} {limits = limits} (types_section {s = s} {locals = locals} {stmts = stmts} {r = r} k q h) =
-    ap (λ (ls : Option (List core.Local)). section_of decls s ls (typed_body (entry decls limits s) s.body.stmts)) (locals_are h)
+    ap (λ (ls : Option (List core.Local)). section_of decls s ls (typed_body (entry decls limits s) s.body.stmts))
+    (locals_are h)
     ∙ ap (section_of decls s (Some locals)) (body_is k)
     ∙ with_is s locals stmts q

@@ -26,11 +26,13 @@ pub record HelperIn (decls : List Decl) (s : Section) (p : core.Program) (k : �
   pub result : section.result_type ≡ result_of decls s
 
 abbrev pub HasHelpers : List Decl → core.Program → Type 0
-HasHelpers decls p = (n : ℕ) (s : Section) → slice_get decls n ≡ Some (helper s) → HelperIn decls s p (number_at decls n (helper s))
+HasHelpers decls p = (n : ℕ) (s : Section) → slice_get decls n ≡ Some (helper s) →
+    HelperIn decls s p (number_at decls n (helper s))
 
 -- ---- calls
 
-module _ (sc : Scope) (p : core.Program) (types : List ValueType) (sound : Sound sc.decls p) (have : Have sc.locals types) (helpers : HasHelpers sc.decls p) where
+module _ (sc : Scope) (p : core.Program) (types : List ValueType) (sound : Sound sc.decls p)
+    (have : Have sc.locals types) (helpers : HasHelpers sc.decls p) where
   arguments_good : {ps : List Param} {es : List Expr} {xs : List core.Expr} → TypesArguments sc ps es xs →
       (ts : List ValueType) → TypesAre sc.decls ps ts → AreAll p types xs ts
   arguments_good no_argument [] h = tt
@@ -38,8 +40,14 @@ module _ (sc : Scope) (p : core.Program) (types : List ValueType) (sound : Sound
   arguments_good (one_argument g k) [] h = absurd h
   arguments_good (one_argument g k) (t ∷ ts) h = (wanted_good sc p types sound have t h.0 g, arguments_good k ts h.1)
 
-  pub call_good : {c : HelperCall} {s : Section} {n : ℕ} {xs : List core.Expr} (local : Option ℕ) → TypesCall sc c s n xs →
+  pub call_good : {c : HelperCall} {s : Section} {n : ℕ} {xs : List core.Expr} (local : Option ℕ) →
+      TypesCall sc c s n xs →
       Taken p types local (result_of sc.decls s) → Acts p types (core.call n xs local)
   call_good local (types_call {c = c} {i = i} {s = s} is k) takes =
-      let h = helpers i s (decl_there sc p types sound have c.helper.text i (helper s) is) in
-      (h.section, h.there, arguments_good k (types_of (take h.section.parameters h.section.locals)) h.parameters, subst (Taken p types local) (sym h.result) takes)
+      let h = helpers i s (decl_there sc p types sound have c.helper.text i (helper s) is) in (
+        h.section,
+        h.there,
+        arguments_good k (types_of (take h.section.parameters h.section.locals)) h.parameters,
+        subst
+            (Taken p types local) (sym h.result) takes,
+      )

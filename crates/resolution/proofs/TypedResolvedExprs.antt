@@ -49,7 +49,8 @@ pub record Sound (decls : List Decl) (p : core.Program) : Type 0 where
 
 -- each local that has a type has it in the section's list
 abbrev pub Have : List Local → List ValueType → Type 0
-Have ls types = (n : ℕ) (l : Local) (t : ValueType) → slice_get ls n ≡ Some l → l.value_type ≡ Some t → slice_get types n ≡ Some t
+Have ls types = (n : ℕ) (l : Local) (t : ValueType) → slice_get ls n ≡ Some l → l.value_type ≡ Some t →
+    slice_get types n ≡ Some t
 
 -- a local that is meant is one of the scope's, and in scope
 abbrev pub IsLocal : List Local → Meaning → Type 0
@@ -69,12 +70,15 @@ visible_local ls false n l other v at h = h
 or_local : (ls : List Local) (q : List ℕ) (o : Option (ℕ × Local)) → the_local ls q ≡ o → (other : Meaning) →
     IsLocal ls other → IsLocal ls (local_or o other)
 or_local ls q None e other h = h
-or_local ls q (Some (n, l)) e other h = visible_local ls l.is_visible n l other refl (named_is local_bears ls q n l e).here h
+or_local ls q (Some (n, l)) e other h =
+    visible_local ls l.is_visible n l other refl (named_is local_bears ls q n l e).here h
 
 pub meant_local : (sc : Scope) (q : List ℕ) → IsLocal sc.locals (meaning sc q)
-meant_local sc q = or_local sc.locals q (the_local sc.locals q) refl (declared_as (the_decl sc.decls q)) (decl_meant sc.locals (the_decl sc.decls q))
+meant_local sc q = or_local sc.locals q (the_local sc.locals q) refl (declared_as (the_decl sc.decls q))
+    (decl_meant sc.locals (the_decl sc.decls q))
 
-module _ (sc : Scope) (p : core.Program) (types : List ValueType) (sound : Sound sc.decls p) (have : Have sc.locals types) where
+module _ (sc : Scope) (p : core.Program) (types : List ValueType) (sound : Sound sc.decls p)
+    (have : Have sc.locals types) where
   -- ---- what is well typed
 
   abbrev ResolvedExprOk : ResolvedExpr → Type 0
@@ -88,7 +92,8 @@ module _ (sc : Scope) (p : core.Program) (types : List ValueType) (sound : Sound
   fit_value Integer x (sort.Of (Reference s)) e h = cc
   fit_value Integer x sort.Null e h = cc
   fit_value (Reference s) x (sort.Of Integer) e h = cc
-  fit_value (Reference s) x (sort.Of (Reference r)) e h = subst (λ (k : ℕ). Is p types x (Reference k)) (sym (eqb-true s r e)) h
+  fit_value (Reference s) x (sort.Of (Reference r)) e h =
+      subst (λ (k : ℕ). Is p types x (Reference k)) (sym (eqb-true s r e)) h
   fit_value (Reference s) x sort.Null e h = h s
 
   -- ---- paths
@@ -103,8 +108,10 @@ module _ (sc : Scope) (p : core.Program) (types : List ValueType) (sound : Sound
       Leads p types mid (s ∷ []) to → Leads p types from (steps ++ s ∷ []) to
   leads_more from mid to [] s h g = subst (λ (t : ValueType). Leads p types t (s ∷ []) to) (sym h) g
   leads_more Integer mid to (r ∷ rs) s h g = absurd h
-  leads_more (Reference k) mid to (step.Final structure f ∷ rs) s h g = (h.0, h.1, h.2, leads_more (Reference h.1) mid to rs s h.3 g)
-  leads_more (Reference k) mid to (step.Field structure f ∷ rs) s h g = (h.0, h.1, h.2, leads_more h.1 mid to rs s h.3 g)
+  leads_more (Reference k) mid to (step.Final structure f ∷ rs) s h g =
+      (h.0, h.1, h.2, leads_more (Reference h.1) mid to rs s h.3 g)
+  leads_more (Reference k) mid to (step.Field structure f ∷ rs) s h g =
+      (h.0, h.1, h.2, leads_more h.1 mid to rs s h.3 g)
 
   step_over : (from : ValueType) (steps : List FieldStep) (s : ℕ) (r : FieldStep) (o : Option ValueType) →
       Leads p types from steps (Reference s) →
@@ -125,15 +132,20 @@ module _ (sc : Scope) (p : core.Program) (types : List ValueType) (sound : Sound
   member_walk from steps s x is h None at = tt
   member_walk from steps s x is h (Some (n, lock_member y)) at = tt
   member_walk from steps s x is h (Some (n, final_member f)) at =
-      step_over from steps s (step.Final s (member_number x.members n (final_member f))) (type_of (outside sc.decls) (ref_type f.target)) h
-      (λ t e. final_leads s (member_number x.members n (final_member f)) (struct_named sc.decls f.target) t (λ k g. sound.final s x n f k is (at n (final_member f) refl) g) e)
+      step_over from steps s (step.Final s (member_number x.members n (final_member f)))
+      (type_of (outside sc.decls) (ref_type f.target)) h
+      (λ t e. final_leads s (member_number x.members n (final_member f)) (struct_named sc.decls f.target) t
+      (λ k g. sound.final s x n f k is (at n (final_member f) refl) g) e)
   member_walk from steps s x is h (Some (n, field_member f)) at =
-      step_over from steps s (step.Field s (member_number x.members n (field_member f))) (type_of (outside sc.decls) f.value_type) h (λ t e. (refl, t, sound.field s x n f t is (at n (field_member f) refl) e, refl))
+      step_over from steps s (step.Field s (member_number x.members n (field_member f)))
+      (type_of (outside sc.decls) f.value_type) h
+      (λ t e. (refl, t, sound.field s x n f t is (at n (field_member f) refl) e, refl))
 
   struct_walk : (from : ValueType) (steps : List FieldStep) (s : ℕ) (q : List ℕ) (o : Option Struct) →
       the_struct sc.decls s ≡ o → Leads p types from steps (Reference s) → GoodWalk from (over sc.decls steps s o q)
   struct_walk from steps s q None is h = tt
-  struct_walk from steps s q (Some x) is h = member_walk from steps s x is h (the_member x.members q) (λ n m e. (member_is x.members q n m e).0)
+  struct_walk from steps s q (Some x) is h =
+      member_walk from steps s x is h (the_member x.members q) (λ n m e. (member_is x.members q n m e).0)
 
   step_good : (from : ValueType) (w : Walk) (f : Ident) → GoodWalk from w → GoodWalk from (stepped sc.decls w f)
   step_good from (reached steps (Reference s)) f h = struct_walk from steps s f.text (the_struct sc.decls s) refl h
@@ -163,7 +175,8 @@ module _ (sc : Scope) (p : core.Program) (types : List ValueType) (sound : Sound
   pub local_walk : (n : ℕ) (l : Local) (fs : List Ident) → slice_get sc.locals n ≡ Some l → (o : Option ValueType) →
       l.value_type ≡ o → GoodPath n (walked sc.decls (at_local o) fs)
   local_walk n l fs at None e = subst (GoodPath n) (sym (lost_stays fs)) tt
-  local_walk n l fs at (Some t) e = path_of n t (walked sc.decls (reached [] t) fs) (have n l t at e) (walk_good t (reached [] t) fs refl)
+  local_walk n l fs at (Some t) e =
+      path_of n t (walked sc.decls (reached [] t) fs) (have n l t at e) (walk_good t (reached [] t) fs refl)
 
   -- what a local's name means is in its place, and what a declaration's does too
   pub local_meant : (q : List ℕ) (n : ℕ) (l : Local) → meaning sc q ≡ a_local n l → slice_get sc.locals n ≡ Some l
@@ -215,10 +228,14 @@ module _ (sc : Scope) (p : core.Program) (types : List ValueType) (sound : Sound
     expr_good (types_int h) = tt
     expr_good types_null = λ k. tt
     expr_good (types_local {x = x} {i = i} {l = l} {t = t} is h) = (t, have i l t (local_meant x.text i l is) h, refl)
-    expr_good (types_global {x = x} {i = i} {v = v} {t = t} is h) = sound.cell i v t (decl_there x.text i (global v) is) h
-    expr_good (types_element {x = x} {i = i} {a = a} {t = t} is h d) = (sound.array i a t (decl_there x.text i (array a) is) h, expr_good d)
-    expr_good (types_member {x = x} {i = i} {p = q} {s = s} is h d) = (sound.pool i q s (decl_there x.text i (pool q) is) h, expr_good d)
-    expr_good (types_path {x = x} {fs = fs} {i = i} {l = l} {steps = steps} {t = t} is at) = path_leads x.text i l fs steps t is at
+    expr_good (types_global {x = x} {i = i} {v = v} {t = t} is h) =
+        sound.cell i v t (decl_there x.text i (global v) is) h
+    expr_good (types_element {x = x} {i = i} {a = a} {t = t} is h d) =
+        (sound.array i a t (decl_there x.text i (array a) is) h, expr_good d)
+    expr_good (types_member {x = x} {i = i} {p = q} {s = s} is h d) =
+        (sound.pool i q s (decl_there x.text i (pool q) is) h, expr_good d)
+    expr_good (types_path {x = x} {fs = fs} {i = i} {l = l} {steps = steps} {t = t} is at) =
+        path_leads x.text i l fs steps t is at
     expr_good (types_paren {r = r} d) = marked_good r (expr_good d)
     expr_good (types_minus d) = expr_good d
     expr_good (types_not d) = expr_good d
@@ -226,13 +243,15 @@ module _ (sc : Scope) (p : core.Program) (types : List ValueType) (sound : Sound
     expr_good (types_and d k) = tests_good k (expr_good d)
     expr_good (types_or d k) = tests_good k (expr_good d)
     expr_good (types_order {c = c} {x = x} {y = y} h k) = order_good c x y (expr_good h) (expr_good k)
-    expr_good (types_equality {c = c} {x = x} {y = y} {s = s} {t = t} so h k e) = alike_good c so x y s t e (expr_good h) (expr_good k)
+    expr_good (types_equality {c = c} {x = x} {y = y} {s = s} {t = t} so h k e) =
+        alike_good c so x y s t e (expr_good h) (expr_good k)
 
     operands_good : {links : Links} {rest : core.Operations} → TypesOperands sc links rest → Are p types rest
     operands_good no_operand = tt
     operands_good (one_operand is d k) = (expr_good d, operands_good k)
 
-    tests_good : {c last : core.Condition} {links : Links} {before : core.Conditions} → TypesTests sc c links before last →
+    tests_good : {c last : core.Condition} {links : Links} {before : core.Conditions} →
+        TypesTests sc c links before last →
         well.Tests p types c → AllTest p types before × well.Tests p types last
     tests_good last_test h = (tt, h)
     tests_good (one_test d k) h = let r = tests_good k (expr_good d) in ((h, r.0), r.1)

@@ -36,7 +36,8 @@ use Rattle.resolution.proofs.TypedCalls.{HasHelpers, call_good}
 
 -- each local of the first list is one of the second, seen or not
 abbrev pub Kept : List scope.Local → List scope.Local → Type 0
-Kept a b = (n : ℕ) (l : scope.Local) → slice_get a n ≡ Some l → (k : scope.Local) × (slice_get b n ≡ Some k) × (k.value_type ≡ l.value_type) × (k.kind ≡ l.kind)
+Kept a b = (n : ℕ) (l : scope.Local) → slice_get a n ≡ Some l →
+    (k : scope.Local) × (slice_get b n ≡ Some k) × (k.value_type ≡ l.value_type) × (k.kind ≡ l.kind)
 
 pub slice_front : {A : Type 0} (xs ys : List A) (n : ℕ) (x : A) → slice_get xs n ≡ Some x →
     slice_get (xs ++ ys) n ≡ Some x
@@ -49,7 +50,8 @@ kept_push a x n l e = (l, slice_front a (x ∷ []) n l e, refl, refl)
 
 pub kept_hidden : (k : ℕ) (a : List scope.Local) → Kept a (hidden_from k a)
 kept_hidden k [] n l e = cc
-kept_hidden zero (x ∷ xs) zero l e = let s : x ≡ l = cc in (hidden x, refl, ap (λ (y : scope.Local). y.value_type) s, ap (λ (y : scope.Local). y.kind) s)
+kept_hidden zero (x ∷ xs) zero l e = let s : x ≡ l =
+    cc in (hidden x, refl, ap (λ (y : scope.Local). y.value_type) s, ap (λ (y : scope.Local). y.kind) s)
 kept_hidden zero (x ∷ xs) (suc n) l e = kept_hidden zero xs n l e
 kept_hidden (suc k) (x ∷ xs) zero l e = (l, e, refl, refl)
 kept_hidden (suc k) (x ∷ xs) (suc n) l e = kept_hidden k xs n l e
@@ -66,13 +68,28 @@ front_left (x ∷ a) (y ∷ b) f (suc n) l e = front_left a b (λ j k h. f (suc 
 
 mutual
   pub after_front : (sc : Scope) (s : Stmt) → Front sc.locals (after sc s).locals
-  after_front sc (let_local l) n k e = slice_front sc.locals (record { name = l.name.text; kind = kind.Let; value_type = type_of sc l.value_type; is_visible = true } ∷ []) n k e
-  after_front sc (let_owned l o) n k e = slice_front sc.locals (record { name = l.name.text; kind = kind.Let; value_type = type_of sc l.value_type; is_visible = true } ∷ []) n k e
-  after_front sc (let_call l) n k e = slice_front sc.locals (record { name = l.name.text; kind = kind.Let; value_type = type_of sc l.value_type; is_visible = true } ∷ []) n k e
-  after_front sc (var_local l) n k e = slice_front sc.locals (record { name = l.name.text; kind = kind.Var; value_type = type_of sc l.value_type; is_visible = true } ∷ []) n k e
+  after_front sc (let_local l) n k e =
+      slice_front sc.locals
+      (record { name = l.name.text; kind = kind.Let; value_type = type_of sc l.value_type; is_visible = true } ∷ []) n
+      k e
+  after_front sc (let_owned l o) n k e =
+      slice_front sc.locals
+      (record { name = l.name.text; kind = kind.Let; value_type = type_of sc l.value_type; is_visible = true } ∷ []) n
+      k e
+  after_front sc (let_call l) n k e =
+      slice_front sc.locals
+      (record { name = l.name.text; kind = kind.Let; value_type = type_of sc l.value_type; is_visible = true } ∷ []) n
+      k e
+  after_front sc (var_local l) n k e =
+      slice_front sc.locals
+      (record { name = l.name.text; kind = kind.Var; value_type = type_of sc l.value_type; is_visible = true } ∷ []) n
+      k e
   after_front sc (assign p x) n k e = e
-  after_front sc (if_then start x body close other) n k e = else_front (left sc (after_all sc body)) other n k (front_left sc.locals (after_all sc body).locals (all_front sc body) n k e)
-  after_front sc (while start x body close) n k e = front_left sc.locals (after_all sc body).locals (all_front sc body) n k e
+  after_front sc (if_then start x body close other) n k e =
+      else_front (left sc (after_all sc body)) other n k
+      (front_left sc.locals (after_all sc body).locals (all_front sc body) n k e)
+  after_front sc (while start x body close) n k e =
+      front_left sc.locals (after_all sc body).locals (all_front sc body) n k e
   after_front sc (print start x) n k e = e
   after_front sc (return_value start x) n k e = e
   after_front sc (call start x) n k e = e
@@ -102,7 +119,8 @@ last_local (y ∷ a) x = last_local a x
 
 -- ---- statements
 
-module _ (decls : List Decl) (p : core.Program) (types : List core_type.ValueType) (sound : Sound decls p) (helpers : HasHelpers decls p) where
+module _ (decls : List Decl) (p : core.Program) (types : List core_type.ValueType) (sound : Sound decls p)
+    (helpers : HasHelpers decls p) where
   sound_at : (sc : Scope) → sc.decls ≡ decls → Sound sc.decls p
   sound_at sc same = subst (λ (ds : List Decl). Sound ds p) (sym same) sound
 
@@ -119,16 +137,22 @@ module _ (decls : List Decl) (p : core.Program) (types : List core_type.ValueTyp
       let f : field_in p s n ≡ Some t = h.2 ∙ ap Some h.3 in
       let from_is : ◌≡◌ {A = core_type.ValueType} (Reference s) (Reference k) = ap (λ (x : ℕ). Reference x) (sym h.0) in
       (from_is, subst (λ (x : ℕ). field_in p x n ≡ Some t) (sym h.0) f)
-  splits (Reference s) (step.Field j m ∷ base) k n t h = let r = splits h.1 base k n t h.3 in ((h.0, h.1, h.2, r.0), r.1)
-  splits (Reference s) (step.Final j m ∷ base) k n t h = let r = splits (Reference h.1) base k n t h.3 in ((h.0, h.1, h.2, r.0), r.1)
+  splits (Reference s) (step.Field j m ∷ base) k n t h = let r =
+      splits h.1 base k n t h.3 in ((h.0, h.1, h.2, r.0), r.1)
+  splits (Reference s) (step.Final j m ∷ base) k n t h = let r =
+      splits (Reference h.1) base k n t h.3 in ((h.0, h.1, h.2, r.0), r.1)
 
-  set_good : {sc : Scope} {q : Place} {t : core_type.ValueType} {set : core.Expr → core.Action} (so : Sound sc.decls p) (have : Have sc.locals types) (x : core.Expr) →
+  set_good : {sc : Scope} {q : Place} {t : core_type.ValueType} {set : core.Expr → core.Action} (so : Sound sc.decls p)
+      (have : Have sc.locals types) (x : core.Expr) →
       Assigns sc q t set → Is p types x t → Acts p types (set x)
-  set_good {sc = sc} so have x (assigns_local {x = y} {i = i} {l = l} {t = t} is can h) g = (t, have i l t (local_meant sc p types so have y.text i l is) h, g)
-  set_good {sc = sc} so have x (assigns_global {x = y} {i = i} {v = v} {t = t} is h) g = (t, so.cell i v t (decl_there sc p types so have y.text i (global v) is) h, g)
+  set_good {sc = sc} so have x (assigns_local {x = y} {i = i} {l = l} {t = t} is can h) g =
+      (t, have i l t (local_meant sc p types so have y.text i l is) h, g)
+  set_good {sc = sc} so have x (assigns_global {x = y} {i = i} {v = v} {t = t} is h) g =
+      (t, so.cell i v t (decl_there sc p types so have y.text i (global v) is) h, g)
   set_good {sc = sc} so have x (assigns_element {x = y} {i = i} {a = a} {t = t} is h d) g =
       (t, so.array i a t (decl_there sc p types so have y.text i (array a) is) h, expr_good sc p types so have d, g)
-  set_good {sc = sc} so have x (assigns_field {x = y} {fs = fs} {i = i} {k = k} {n = n} {l = l} {base = base} {t = t} is at) g =
+  set_good {sc = sc} so have x
+      (assigns_field {x = y} {fs = fs} {i = i} {k = k} {n = n} {l = l} {base = base} {t = t} is at) g =
       let path = path_leads sc p types so have y.text i l fs (base ++ step.Field k n ∷ []) t is at in
       let r = splits path.0 base k n t path.2 in
       ((path.0, path.1, r.0), (t, r.1, g))
@@ -146,7 +170,8 @@ module _ (decls : List Decl) (p : core.Program) (types : List core_type.ValueTyp
     typed : slice_get types (length sc.locals) ≡ Some t
     before : Have sc.locals types
 
-  bound_good : (sc : Scope) (k : LocalKind) (x : Ident) (o : Option core_type.ValueType) (t : core_type.ValueType) → o ≡ Some t →
+  bound_good : (sc : Scope) (k : LocalKind) (x : Ident) (o : Option core_type.ValueType) (t : core_type.ValueType) →
+      o ≡ Some t →
       Have (bound sc k x o).locals types → Bound sc t
   bound_good sc k x o t is have =
       let l : scope.Local = record { name = x.text; kind = k; value_type = o; is_visible = true } in
@@ -162,38 +187,51 @@ module _ (decls : List Decl) (p : core.Program) (types : List core_type.ValueTyp
         let b = bound_good sc kind.Let l.name (type_of sc l.value_type) t is have in
         (t, b.typed, value_good sc p types (sound_at sc same) b.before g)
     stmt_good {sc = sc} (types_owned {l = l} {t = t} is g h) same have =
-        let b = bound_good sc kind.Let l.name (type_of sc l.value_type) t is have in
-        (t, b.typed, owner_good sc p types (sound_at sc same) b.before h (value_good sc p types (sound_at sc same) b.before g))
+        let b = bound_good sc kind.Let l.name (type_of sc l.value_type) t is have in (
+          t,
+          b.typed,
+          owner_good sc p types (sound_at sc same) b.before h
+              (value_good sc p types (sound_at sc same) b.before g),
+        )
     stmt_good {sc = sc} (types_let_call {l = l} {t = t} k is r) same have =
         let b = bound_good sc kind.Let l.name (type_of sc l.value_type) t is have in
-        call_good sc p types (sound_at sc same) b.before (helpers_at sc same) (Some (length sc.locals)) k (subst (Taken p types (Some (length sc.locals))) (sym r) b.typed)
+        call_good sc p types (sound_at sc same) b.before (helpers_at sc same) (Some (length sc.locals)) k
+        (subst (Taken p types (Some (length sc.locals))) (sym r) b.typed)
     stmt_good {sc = sc} (types_var {l = l} {t = t} is g) same have =
         let b = bound_good sc kind.Var l.name (type_of sc l.value_type) t is have in
         (t, b.typed, value_good sc p types (sound_at sc same) b.before g)
-    stmt_good {sc = sc} (types_assign {x = x} h g) same have = set_good (sound_at sc same) have x h (value_good sc p types (sound_at sc same) have g)
+    stmt_good {sc = sc} (types_assign {x = x} h g) same have =
+        set_good (sound_at sc same) have x h (value_good sc p types (sound_at sc same) have g)
     stmt_good {sc = sc} (types_if {body = body} h k) same have =
         let end = left_before sc.locals (after_all sc body).locals (length sc.locals) have in
         let before = have_front sc.locals (after_all sc body).locals types (all_front sc body) end in
         (expr_good sc p types (sound_at sc same) before h, (body_good k same end).0)
     stmt_good {sc = sc} (types_if_else {close = close} {end = close2} {body = body} {other = other} h k q) same have =
         let sc2 = left sc (after_all sc body) in
-        let inner = have_front sc2.locals (after_else sc2 (else_do other close2)).locals types (else_front sc2 (else_do other close2)) have in
+        let inner = have_front sc2.locals (after_else sc2 (else_do other close2)).locals types
+        (else_front sc2 (else_do other close2)) have in
         let end = left_before sc.locals (after_all sc body).locals (length sc.locals) inner in
-        let before = have_front sc.locals (after_all sc body).locals types (all_front sc body) end in
-        (expr_good sc p types (sound_at sc same) before h, (body_good k same end).0, (body_good q same (left_before sc2.locals (after_all sc2 other).locals (length sc2.locals) have)).0)
+        let before = have_front sc.locals (after_all sc body).locals types (all_front sc body) end in (
+          expr_good sc p types (sound_at sc same) before h,
+          (body_good k same end).0,
+          (body_good q same (left_before sc2.locals (after_all sc2 other).locals (length sc2.locals) have)).0,
+        )
     stmt_good {sc = sc} (types_while {body = body} h k) same have =
         let end = left_before sc.locals (after_all sc body).locals (length sc.locals) have in
         let before = have_front sc.locals (after_all sc body).locals types (all_front sc body) end in
         (expr_good sc p types (sound_at sc same) before h, (body_good k same end).0)
     stmt_good {sc = sc} (types_print h) same have = expr_good sc p types (sound_at sc same) have h
-    stmt_good {sc = sc} (types_call_alone k) same have = call_good sc p types (sound_at sc same) have (helpers_at sc same) None k tt
+    stmt_good {sc = sc} (types_call_alone k) same have =
+        call_good sc p types (sound_at sc same) have (helpers_at sc same) None k tt
 
     body_good : {sc : Scope} {ss : Stmts} {block : core.Stmts} {r : Option core.Return} → TypesBody sc ss block r →
         sc.decls ≡ decls → Have (after_all sc ss).locals types → AllAct p types block × IfReturn sc.result r
     body_good types_none same have = (tt, tt)
     body_good {sc = sc} (types_return g) same have = (tt, λ t is. wanted_good sc p types (sound_at sc same) have t is g)
     body_good {sc = sc} (types_next {s = s} {rest = rest} {result = result} h k) same have =
-        let a = stmt_good h same (have_front (after sc s).locals (after_all (after sc s) rest).locals types (all_front (after sc s) rest) have) in
+        let a = stmt_good h same
+        (have_front (after sc s).locals (after_all (after sc s) rest).locals types (all_front (after sc s) rest) have)
+        in
         let b = body_good k (after_same sc s ∙ same) have in
         ((a, b.0), subst (λ (w : Option core_type.ValueType). IfReturn w result) (after_result sc s) b.1)
 
@@ -201,15 +239,21 @@ module _ (decls : List Decl) (p : core.Program) (types : List core_type.ValueTyp
 
 -- a local resolved at its place
 abbrev pub Resolved_at : List core.Local → ℕ → scope.Local → Type 0
-Resolved_at xs n l = (x : core.Local) × (slice_get xs n ≡ Some x) × (x.kind ≡ l.kind) × (l.value_type ≡ Some x.value_type)
+Resolved_at xs n l = (x : core.Local) × (slice_get xs n ≡ Some x) × (x.kind ≡ l.kind) ×
+    (l.value_type ≡ Some x.value_type)
 
 -- each of a list of locals resolved
 pub locals_got : {ls : List scope.Local} {xs : List core.Local} → TypesLocals ls xs →
     (n : ℕ) (l : scope.Local) → slice_get ls n ≡ Some l → Resolved_at xs n l
 locals_got no_local n l at = cc
 locals_got (one_local {l = y} {t = t} is k) zero l at =
-    let same : y ≡ l = cc in
-    (record { name = y.name; kind = y.kind; value_type = t }, refl, ap (λ (q : scope.Local). q.kind) same, sym (ap (λ (q : scope.Local). q.value_type) same) ∙ is)
+    let same : y ≡ l = cc in (
+      record { name = y.name; kind = y.kind; value_type = t },
+      refl,
+      ap (λ (q : scope.Local). q.kind) same,
+      sym
+          (ap (λ (q : scope.Local). q.value_type) same) ∙ is,
+    )
 locals_got (one_local is k) (suc n) l at = locals_got k n l at
 
 locals_have : {ls : List scope.Local} {xs : List core.Local} → TypesLocals ls xs → Have ls (types_of xs)
@@ -223,18 +267,24 @@ pub record SectionOk (p : core.Program) (x : core.Section) : Type 0 where
   pub body : AllAct p (types_of x.locals) x.body
   pub result : Returns p (types_of x.locals) x.result_type x.result
 
-module _ (decls : List Decl) (p : core.Program) (sound : Sound decls p) (helpers : HasHelpers decls p) (limits : BodyLimits) where
-  result_good : {w : Option ValueType} {r : Option core.Return} {t : Option core_type.ValueType} (types : List core_type.ValueType) → TypesResult decls w r t →
-      IfReturn decls p types sound helpers (◌>>=◌ {B = core_type.ValueType} w (λ x. type_of (outside decls) x)) r → Returns p types t r
+module _ (decls : List Decl) (p : core.Program) (sound : Sound decls p) (helpers : HasHelpers decls p)
+    (limits : BodyLimits) where
+  result_good : {w : Option ValueType} {r : Option core.Return} {t : Option core_type.ValueType}
+      (types : List core_type.ValueType) → TypesResult decls w r t →
+      IfReturn decls p types sound helpers (◌>>=◌ {B = core_type.ValueType} w (λ x. type_of (outside decls) x)) r →
+      Returns p types t r
   result_good types no_result h = tt
   result_good types (one_result {u = u} is) h = h u is
 
   section_good : {s : Section} {x : core.Section} → TypesSection decls limits s x → SectionOk p x
   section_good {s = s} (types_section {locals = locals} {r = r} b q ls) =
-      let good = body_good decls p (types_of locals) sound helpers b (entered_same (ahead_of decls limits s) s.params) (locals_have ls) in
+      let good = body_good decls p (types_of locals) sound helpers b (entered_same (ahead_of decls limits s) s.params)
+      (locals_have ls) in
       record {
         body = good.0;
-        result = result_good (types_of locals) q (subst (λ (w : Option core_type.ValueType). IfReturn decls p (types_of locals) sound helpers w r) (entered_result (ahead_of decls limits s) s.params) good.1);
+        result = result_good (types_of locals) q
+            (subst (λ (w : Option core_type.ValueType). IfReturn decls p (types_of locals) sound helpers w r)
+            (entered_result (ahead_of decls limits s) s.params) good.1);
       }
 
   pub section_typed : (s : Section) (x : core.Section) → typed_section decls limits s ≡ Some x → SectionOk p x

@@ -44,8 +44,12 @@ section_well_typed decls program sound helpers limits s x e =
     let ok = section_typed decls (core_of program) sound helpers limits s (core_section x) e in
     let same = types_same x.locals.items in
     record {
-      body = body_typed program (local_types x.locals.items) x.body.items (subst (λ (ts : List core_type.ValueType). AllAct (core_of program) ts (core_stmts x.body.items)) same ok.body);
-      result = result_typed program (local_types x.locals.items) x.result_type x.result (subst (λ (ts : List core_type.ValueType). Returns (core_of program) ts x.result_type (option_map core_return x.result)) same ok.result);
+      body = body_typed program (local_types x.locals.items) x.body.items
+          (subst (λ (ts : List core_type.ValueType). AllAct (core_of program) ts (core_stmts x.body.items)) same
+          ok.body);
+      result = result_typed program (local_types x.locals.items) x.result_type x.result
+          (subst (λ (ts : List core_type.ValueType). Returns (core_of program) ts x.result_type
+          (option_map core_return x.result)) same ok.result);
     }
 
 -- ---- the kinds of locals
@@ -59,17 +63,24 @@ none_push : (n : ℕ) (ls : List scopes.Local) (x : scopes.Local) → x.kind ≢
 none_push n [] x o h zero l e le = let s : x ≡ l = cc in λ p. o (ap (λ (y : scopes.Local). y.kind) s ∙ p)
 none_push n [] x o h (suc k) l e le = cc
 none_push n (y ∷ ls) x o h zero l e le = h 0 l e le
-none_push zero (y ∷ ls) x o h (suc k) l e le = none_push zero ls x o (λ j m g i. h (suc j) m g (omega arith)) k l e (omega arith)
-none_push (suc n) (y ∷ ls) x o h (suc k) l e le = none_push n ls x o (λ j m g i. h (suc j) m g (omega (arith, i))) k l e (omega (arith, le))
+none_push zero (y ∷ ls) x o h (suc k) l e le =
+    none_push zero ls x o (λ j m g i. h (suc j) m g (omega arith)) k l e (omega arith)
+none_push (suc n) (y ∷ ls) x o h (suc k) l e le =
+    none_push n ls x o (λ j m g i. h (suc j) m g (omega (arith, i))) k l e (omega (arith, le))
 
 none_hidden : (n j : ℕ) (ls : List scopes.Local) → NoneFrom n ls → NoneFrom n (hidden_from j ls)
 none_hidden n j [] h k l e le = cc
-none_hidden n zero (x ∷ ls) h zero l e le = let s : hidden x ≡ l = cc in λ p. h 0 x refl le (ap (λ (y : scopes.Local). y.kind) s ∙ p)
-none_hidden zero zero (x ∷ ls) h (suc k) l e le = none_hidden zero zero ls (λ j m g i. h (suc j) m g (omega arith)) k l e (omega arith)
-none_hidden (suc n) zero (x ∷ ls) h (suc k) l e le = none_hidden n zero ls (λ j m g i. h (suc j) m g (omega (arith, i))) k l e (omega (arith, le))
+none_hidden n zero (x ∷ ls) h zero l e le = let s : hidden x ≡ l =
+    cc in λ p. h 0 x refl le (ap (λ (y : scopes.Local). y.kind) s ∙ p)
+none_hidden zero zero (x ∷ ls) h (suc k) l e le =
+    none_hidden zero zero ls (λ j m g i. h (suc j) m g (omega arith)) k l e (omega arith)
+none_hidden (suc n) zero (x ∷ ls) h (suc k) l e le =
+    none_hidden n zero ls (λ j m g i. h (suc j) m g (omega (arith, i))) k l e (omega (arith, le))
 none_hidden n (suc j) (x ∷ ls) h zero l e le = h 0 l e le
-none_hidden zero (suc j) (x ∷ ls) h (suc k) l e le = none_hidden zero j ls (λ i m g q. h (suc i) m g (omega arith)) k l e (omega arith)
-none_hidden (suc n) (suc j) (x ∷ ls) h (suc k) l e le = none_hidden n j ls (λ i m g q. h (suc i) m g (omega (arith, q))) k l e (omega (arith, le))
+none_hidden zero (suc j) (x ∷ ls) h (suc k) l e le =
+    none_hidden zero j ls (λ i m g q. h (suc i) m g (omega arith)) k l e (omega arith)
+none_hidden (suc n) (suc j) (x ∷ ls) h (suc k) l e le =
+    none_hidden n j ls (λ i m g q. h (suc i) m g (omega (arith, q))) k l e (omega (arith, le))
 
 let_is : kind.Let ≢ kind.Parameter
 let_is e = cc
@@ -79,20 +90,32 @@ var_is e = cc
 
 mutual
   none_after : (n : ℕ) (sc : Scope) (s : Stmt) → NoneFrom n sc.locals → NoneFrom n (after sc s).locals
-  none_after n sc (let_local l) h = none_push n sc.locals (record { name = l.name.text; kind = kind.Let; value_type = type_of sc l.value_type; is_visible = true }) let_is h
-  none_after n sc (let_owned l o) h = none_push n sc.locals (record { name = l.name.text; kind = kind.Let; value_type = type_of sc l.value_type; is_visible = true }) let_is h
-  none_after n sc (let_call l) h = none_push n sc.locals (record { name = l.name.text; kind = kind.Let; value_type = type_of sc l.value_type; is_visible = true }) let_is h
-  none_after n sc (var_local l) h = none_push n sc.locals (record { name = l.name.text; kind = kind.Var; value_type = type_of sc l.value_type; is_visible = true }) var_is h
+  none_after n sc (let_local l) h =
+      none_push n sc.locals
+      (record { name = l.name.text; kind = kind.Let; value_type = type_of sc l.value_type; is_visible = true }) let_is h
+  none_after n sc (let_owned l o) h =
+      none_push n sc.locals
+      (record { name = l.name.text; kind = kind.Let; value_type = type_of sc l.value_type; is_visible = true }) let_is h
+  none_after n sc (let_call l) h =
+      none_push n sc.locals
+      (record { name = l.name.text; kind = kind.Let; value_type = type_of sc l.value_type; is_visible = true }) let_is h
+  none_after n sc (var_local l) h =
+      none_push n sc.locals
+      (record { name = l.name.text; kind = kind.Var; value_type = type_of sc l.value_type; is_visible = true }) var_is h
   none_after n sc (assign q e) h = h
-  none_after n sc (if_then start e body close other) h = none_else n (left sc (after_all sc body)) other (none_hidden n (length sc.locals) (after_all sc body).locals (none_all n sc body h))
-  none_after n sc (while start e body close) h = none_hidden n (length sc.locals) (after_all sc body).locals (none_all n sc body h)
+  none_after n sc (if_then start e body close other) h =
+      none_else n (left sc (after_all sc body)) other
+      (none_hidden n (length sc.locals) (after_all sc body).locals (none_all n sc body h))
+  none_after n sc (while start e body close) h =
+      none_hidden n (length sc.locals) (after_all sc body).locals (none_all n sc body h)
   none_after n sc (print start e) h = h
   none_after n sc (return_value start e) h = h
   none_after n sc (call start c) h = h
 
   none_else : (n : ℕ) (sc : Scope) (o : Otherwise) → NoneFrom n sc.locals → NoneFrom n (after_else sc o).locals
   none_else n sc no_else h = h
-  none_else n sc (else_do body close) h = none_hidden n (length sc.locals) (after_all sc body).locals (none_all n sc body h)
+  none_else n sc (else_do body close) h =
+      none_hidden n (length sc.locals) (after_all sc body).locals (none_all n sc body h)
 
   none_all : (n : ℕ) (sc : Scope) (ss : Stmts) → NoneFrom n sc.locals → NoneFrom n (after_all sc ss).locals
   none_all n sc no_stmts h = h
@@ -112,7 +135,15 @@ parameters_push (y ∷ ls) x o h (suc k) l e = parameters_push ls x o (λ j m g.
 parameters_entered : (sc : Scope) (ps : List Param) → AllParameters sc.locals → AllParameters (entered sc ps).locals
 parameters_entered sc [] h = h
 parameters_entered sc (p ∷ ps) h =
-    parameters_entered (bound sc kind.Parameter p.name (type_of (outside sc.decls) p.value_type)) ps (parameters_push sc.locals (record { name = p.name.text; kind = kind.Parameter; value_type = type_of (outside sc.decls) p.value_type; is_visible = true }) refl h)
+    parameters_entered (bound sc kind.Parameter p.name (type_of (outside sc.decls) p.value_type)) ps
+    (parameters_push sc.locals
+    (record {
+      name = p.name.text;
+      kind = kind.Parameter;
+      value_type =
+          type_of (outside sc.decls) p.value_type;
+      is_visible = true;
+    }) refl h)
 
 push_length : {A : Type 0} (xs : List A) (y : A) → length (xs ++ y ∷ []) ≡ length xs + 1
 push_length [] y = refl
@@ -121,7 +152,14 @@ push_length (x ∷ xs) y = let r = push_length xs y in omega (arith, r)
 pub entered_length : (sc : Scope) (ps : List Param) → length (entered sc ps).locals ≡ length sc.locals + length ps
 entered_length sc [] = omega arith
 entered_length sc (p ∷ ps) =
-    let x : scopes.Local = record { name = p.name.text; kind = kind.Parameter; value_type = type_of (outside sc.decls) p.value_type; is_visible = true } in
+    let x : scopes.Local =
+    record {
+      name = p.name.text;
+      kind = kind.Parameter;
+      value_type =
+          type_of (outside sc.decls) p.value_type;
+      is_visible = true;
+    } in
     let r = entered_length (bound sc kind.Parameter p.name (type_of (outside sc.decls) p.value_type)) ps in
     let l = push_length sc.locals x in
     omega (arith, r, l)
@@ -146,7 +184,8 @@ pub record ScopedOk (x : core.Section) : Type 0 where
   pub body : StmtsName (numbers_from 0 x.parameters) x.body
   pub result : (r : core.Return) → x.result ≡ Some r → Names (behind_all (numbers_from 0 x.parameters) x.body) r.value
 
-module _ (decls : List Decl) (limits : BodyLimits) (s : Section) (xs : List core.Local) (are : TypesLocals (after_all (entry decls limits s) s.body.stmts).locals xs) where
+module _ (decls : List Decl) (limits : BodyLimits) (s : Section) (xs : List core.Local)
+    (are : TypesLocals (after_all (entry decls limits s) s.body.stmts).locals xs) where
   abbrev sc : Scope
   sc = entry decls limits s
 
@@ -183,16 +222,26 @@ module _ (decls : List Decl) (limits : BodyLimits) (s : Section) (xs : List core
           let h = all_front sc s.body.stmts k at.0 at.1 in
           let same : Some at.0 ≡ Some l = sym h ∙ e in
           let o : at.0 ≡ l = cc in
-          sym (ap (λ (y : scopes.Local). y.kind) o) ∙ parameters_entered (ahead_of decls limits s) s.params (λ j m g. cc) k at.0 at.1
+          sym (ap (λ (y : scopes.Local). y.kind) o)
+          ∙ parameters_entered (ahead_of decls limits s) s.params (λ j m g. cc) k at.0 at.1
 
   scoped_put : {block : core.Stmts} {r : Option core.Return} (t : Option core_type.ValueType) →
       TypesBody sc s.body.stmts block r →
-      ScopedOk (record { name = s.name.text; parameters = length s.params; locals = xs; result_type = t; body = block; result = r })
+      ScopedOk (record {
+        name = s.name.text;
+        parameters = length s.params;
+        locals = xs;
+        result_type = t;
+        body =
+            block;
+        result = r;
+      })
   scoped_put {block = block} {r = r} t b =
       let h = body_done xs b (numbers_from 0 (length sc.locals)) (numbers_cover sc.locals) becomes in
       let len = locals_length are in
       record {
-        bound = ap (λ (n : ℕ). numbers_from 0 n ++ all_binding block) (sym params) ∙ h.0.bound ∙ ap (numbers_from 0) (sym len);
+        bound = ap (λ (n : ℕ). numbers_from 0 n ++ all_binding block) (sym params) ∙ h.0.bound
+            ∙ ap (numbers_from 0) (sym len);
         kinds = kinds_are;
         assigned = h.0.assigned;
         body = subst (λ (n : ℕ). StmtsName (numbers_from 0 n) block) params h.0.named;
@@ -203,11 +252,15 @@ module _ (decls : List Decl) (limits : BodyLimits) (s : Section) (xs : List core
           ReturnDone xs (behind_all (numbers_from 0 (length sc.locals)) block) o →
           Names (behind_all (numbers_from 0 (length s.params)) block) q.value
       given None q e g = cc
-      given (Some w) q e g = let same : w ≡ q = cc in subst (λ (n : ℕ). Names (behind_all (numbers_from 0 n) block) q.value) params (subst (λ (y : core.Return). Names (behind_all (numbers_from 0 (length sc.locals)) block) y.value) same g)
+      given (Some w) q e g = let same : w ≡ q =
+          cc in subst (λ (n : ℕ). Names (behind_all (numbers_from 0 n) block) q.value) params
+          (subst (λ (y : core.Return). Names (behind_all (numbers_from 0 (length sc.locals)) block) y.value) same g)
 
-section_scoped : {decls : List Decl} {limits : BodyLimits} {s : Section} {x : core.Section} → TypesSection decls limits s x →
+section_scoped : {decls : List Decl} {limits : BodyLimits} {s : Section} {x : core.Section} →
+    TypesSection decls limits s x →
     ScopedOk x
-section_scoped {decls = decls} {limits = limits} {s = s} (types_section {locals = locals} {t = t} b q ls) = scoped_put decls limits s locals ls t b
+section_scoped {decls = decls} {limits = limits} {s = s} (types_section {locals = locals} {t = t} b q ls) =
+    scoped_put decls limits s locals ls t b
 
 view_length : (ls : List the_local.Local) → length (locals_view ls) ≡ length ls
 view_length [] = refl
@@ -226,10 +279,14 @@ pub section_well_scoped : (decls : List Decl) (limits : BodyLimits) (s : Section
 section_well_scoped decls limits s x e =
     let ok = section_scoped (types_the_section decls limits s (core_section x) e) in
     record {
-      bound = ap (λ (l : List ℕ). numbers_from 0 x.parameters ++ l) (sym (body_binding x.body.items)) ∙ ok.bound ∙ ap (numbers_from 0) (view_length x.locals.items);
+      bound = ap (λ (l : List ℕ). numbers_from 0 x.parameters ++ l) (sym (body_binding x.body.items)) ∙ ok.bound
+          ∙ ap (numbers_from 0) (view_length x.locals.items);
       kinds = λ k l at. ok.kinds k (core_local l) (get_map core_local x.locals.items k l at);
-      assigned = λ k l c at. var_at x.locals.items k l (ok.assigned k (subst (λ (q : List ℕ). Contains q k) (sym (body_assigning x.body.items)) c)) at;
+      assigned = λ k l c at. var_at x.locals.items k l
+          (ok.assigned k (subst (λ (q : List ℕ). Contains q k) (sym (body_assigning x.body.items)) c)) at;
       body = body_scoped (numbers_from 0 x.parameters) x.body.items ok.body;
       result = result_scoped (scope_after_all (numbers_from 0 x.parameters) x.body.items) x.result
-          (λ r is. subst (λ (w : List ℕ). Names w (core_expr r.value)) (body_behind (numbers_from 0 x.parameters) x.body.items) (ok.result (core_return r) (ap (option_map core_return) is)));
+          (λ r is. subst (λ (w : List ℕ). Names w (core_expr r.value))
+          (body_behind (numbers_from 0 x.parameters) x.body.items)
+          (ok.result (core_return r) (ap (option_map core_return) is)));
     }

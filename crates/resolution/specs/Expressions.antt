@@ -106,8 +106,10 @@ over_step steps s None = lost
 -- over a member of the struct k, which has these members
 abbrev pub over_member : List Decl → List FieldStep → ℕ → List Member → Option (ℕ × Member) → Walk
 over_member decls steps k ms (Some (i, lock_member x)) = at_lock
-over_member decls steps k ms (Some (i, final_member f)) = over_step steps (step.Final k (member_number ms i (final_member f))) (type_of (outside decls) (ref_type f.target))
-over_member decls steps k ms (Some (i, field_member f)) = over_step steps (step.Field k (member_number ms i (field_member f))) (type_of (outside decls) f.value_type)
+over_member decls steps k ms (Some (i, final_member f)) =
+    over_step steps (step.Final k (member_number ms i (final_member f))) (type_of (outside decls) (ref_type f.target))
+over_member decls steps k ms (Some (i, field_member f)) =
+    over_step steps (step.Field k (member_number ms i (field_member f))) (type_of (outside decls) f.value_type)
 over_member decls steps k ms None = lost
 
 abbrev pub over : List Decl → List FieldStep → ℕ → Option Struct → List ℕ → Walk

@@ -36,7 +36,8 @@ TheLeastIsAFault = (decls : List Decl) (f : Mistake) → the_least decls ≡ Som
 
 -- no fault of the program goes before this one
 abbrev pub IsFirst : List Decl → Mistake → Type 0
-IsFirst decls f = (code : Code) (p : ℕ) → IsFault decls code p → goes_before (record { code = code; start = p }) f ≡ false
+IsFirst decls f = (code : Code) (p : ℕ) → IsFault decls code p →
+    goes_before (record { code = code; start = p }) f ≡ false
 
 -- none goes before the least
 abbrev pub NoneGoesBeforeTheLeast : Type 0
@@ -44,7 +45,8 @@ NoneGoesBeforeTheLeast = (decls : List Decl) (f : Mistake) → the_least decls �
 
 -- two faults of a program before which none goes are the same
 abbrev pub HaveAtMostOneLeast : Type 0
-HaveAtMostOneLeast = (decls : List Decl) (f g : Mistake) → IsFault decls f.code f.start → IsFault decls g.code g.start → IsFirst decls f → IsFirst decls g → f ≡ g
+HaveAtMostOneLeast = (decls : List Decl) (f g : Mistake) → IsFault decls f.code f.start →
+    IsFault decls g.code g.start → IsFirst decls f → IsFirst decls g → f ≡ g
 
 -- where there is none, the program has no fault
 abbrev pub NoLeastIsNoFault : Type 0
@@ -69,7 +71,8 @@ StandsForOne = (decls : List Decl) (p q : core.Program) → AreTables decls p �
 
 -- the graph of a tree with no fault is that of what it is resolved to
 abbrev pub GraphOfResolved : Type 0
-GraphOfResolved = (decls : List Decl) (program : Typed) → the_least decls ≡ None → Resolves decls program → IsGraphOf program (tree_graph decls)
+GraphOfResolved = (decls : List Decl) (program : Typed) → the_least decls ≡ None → Resolves decls program →
+    IsGraphOf program (tree_graph decls)
 
 -- and what it is resolved to is as an accepted program should be
 abbrev pub ResolvedAreChecked : Type 0
@@ -83,13 +86,15 @@ DeclaresNoHelper decls = (s : Section) → Has decls (helper s) → ⊥
 -- without helpers, what a program is resolved to is well formed
 abbrev pub WithoutHelpersAreWellFormed : Type 0
 WithoutHelpersAreWellFormed =
-    (decls : List Decl) (program : Typed) → the_least decls ≡ None → Resolves decls program → DeclaresNoHelper decls → IsWellFormed program
+    (decls : List Decl) (program : Typed) → the_least decls ≡ None → Resolves decls program → DeclaresNoHelper decls →
+    IsWellFormed program
 
 -- ---- what the code computes is what the rules say, and the other way round
 
 abbrev pub ExpressionsByRules : Type 0
 ExpressionsByRules =
-    (sc : Scope) (e : Expr) (r : ResolvedExpr) → (typed sc e ≡ Some r → Types sc e r) × (Types sc e r → typed sc e ≡ Some r)
+    (sc : Scope) (e : Expr) (r : ResolvedExpr) →
+    (typed sc e ≡ Some r → Types sc e r) × (Types sc e r → typed sc e ≡ Some r)
 
 -- what the code finds to assign to is a left side by the rules
 abbrev pub FoundAreAssigned : Type 0
@@ -105,14 +110,17 @@ AssignedAreFound =
 abbrev pub StatementsByRules : Type 0
 StatementsByRules =
     (sc : Scope) (s : Stmt) (x : core.Stmt) →
-    (typed_stmt sc s ≡ Some (does x) → TypesStmt sc s x.start x.action) × (TypesStmt sc s x.start x.action → typed_stmt sc s ≡ Some (does x))
+    (typed_stmt sc s ≡ Some (does x) → TypesStmt sc s x.start x.action) ×
+    (TypesStmt sc s x.start x.action → typed_stmt sc s ≡ Some (does x))
 
 abbrev pub BodiesByRules : Type 0
 BodiesByRules =
     (sc : Scope) (stmts : Stmts) (b : Body) →
-    (typed_body sc stmts ≡ Some b → TypesBody sc stmts b.stmts b.result) × (TypesBody sc stmts b.stmts b.result → typed_body sc stmts ≡ Some b)
+    (typed_body sc stmts ≡ Some b → TypesBody sc stmts b.stmts b.result) ×
+    (TypesBody sc stmts b.stmts b.result → typed_body sc stmts ≡ Some b)
 
 abbrev pub SectionsByRules : Type 0
 SectionsByRules =
     (decls : List Decl) (limits : BodyLimits) (s : Section) (x : core.Section) →
-    (typed_section decls limits s ≡ Some x → TypesSection decls limits s x) × (TypesSection decls limits s x → typed_section decls limits s ≡ Some x)
+    (typed_section decls limits s ≡ Some x → TypesSection decls limits s x) ×
+    (TypesSection decls limits s x → typed_section decls limits s ≡ Some x)

@@ -51,7 +51,8 @@ value_of e None = None
 -- a name as a value
 abbrev pub named_value : List Decl → ℕ → Meaning → Option ResolvedExpr
 named_value decls start (a_local i l) = value_of (core.place (local_path start i [])) l.value_type
-named_value decls start (a_decl i (global v)) = value_of (core.global start (cell_of decls i)) (type_of (outside decls) v.value_type)
+named_value decls start (a_decl i (global v)) =
+    value_of (core.global start (cell_of decls i)) (type_of (outside decls) v.value_type)
 named_value decls start _ = None
 
 -- a member of a pool of a struct
@@ -61,8 +62,10 @@ member_value number index None = None
 
 -- a name with an index as a value
 abbrev pub element_value : List Decl → ℕ → Meaning → Option core.Expr → Option ResolvedExpr
-element_value decls start (a_decl i (array a)) (Some index) = value_of (core.element start (number_at decls i (array a)) index) (type_of (outside decls) a.value_type)
-element_value decls start (a_decl i (pool p)) (Some index) = member_value (number_at decls i (pool p)) index (struct_named decls p.target)
+element_value decls start (a_decl i (array a)) (Some index) =
+    value_of (core.element start (number_at decls i (array a)) index) (type_of (outside decls) a.value_type)
+element_value decls start (a_decl i (pool p)) (Some index) =
+    member_value (number_at decls i (pool p)) index (struct_named decls p.target)
 element_value decls start (a_decl i (lock x)) (Some index) = None
 element_value decls start (a_decl i (struct s)) (Some index) = None
 element_value decls start (a_decl i (global v)) (Some index) = None

@@ -20,9 +20,26 @@ core_locals (l ∷ ls) = added (core_local l) (core_locals ls)
 abbrev pub section_with : List Decl → Section → List core.Local → core.Stmts → Option ValueType → Option core.Return →
     Option core.Section
 section_with decls s locals body None None =
-    Some (record { name = s.name.text; parameters = length s.params; locals = locals; result_type = None; body = body; result = None })
+    Some (record {
+      name = s.name.text;
+      parameters = length s.params;
+      locals = locals;
+      result_type = None;
+      body =
+          body;
+      result = None;
+    })
 section_with decls s locals body (Some t) (Some r) =
-    type_of (outside decls) t >>= λ v. Some (record { name = s.name.text; parameters = length s.params; locals = locals; result_type = Some v; body = body; result = Some r })
+    type_of (outside decls) t >>= λ v. Some
+    (record {
+      name = s.name.text;
+      parameters = length s.params;
+      locals = locals;
+      result_type = Some v;
+      body =
+          body;
+      result = Some r;
+    })
 section_with decls s locals body None (Some r) = None
 section_with decls s locals body (Some t) None = None
 
@@ -34,7 +51,8 @@ section_of decls s None b = None
 -- what a section or a helper is, from the scope ahead of its parameters
 abbrev pub section_in : Scope → Section → Option core.Section
 section_in sc s =
-    section_of sc.decls s (core_locals (after_all (entered sc s.params) s.body.stmts).locals) (typed_body (entered sc s.params) s.body.stmts)
+    section_of sc.decls s (core_locals (after_all (entered sc s.params) s.body.stmts).locals)
+    (typed_body (entered sc s.params) s.body.stmts)
 
 abbrev pub typed_section : List Decl → BodyLimits → Section → Option core.Section
 typed_section decls limits s = section_in (ahead_of decls limits s) s

@@ -1,4 +1,5 @@
--- What the code computes: a statement with each name replaced by the number of what it means, where everything in it has a type.
+-- What the code computes: a statement with each name replaced by the number of what it means, where everything in it
+-- has a type.
 use Rattle.std.specs.Prelude.{ℕ, Bool, false, List, [], ◌∷◌, length, Option, Some, None, if◌then◌else◌}
 use Rattle.syntax.specs.Trees.{Place, lone, element, path, Expr, Local, Owner, HelperCall, CalledLocal, Stmt, let_local}
 use Rattle.syntax.specs.Trees.{let_owned, let_call, var_local, assign, if_then, while, print, return_value, call, Stmts}
@@ -41,12 +42,14 @@ assignee None v = None
 -- a name
 abbrev pub assignee_at : List Decl → Meaning → Option Assignee
 assignee_at decls (a_local i l) = if is_var l.kind then assignee (Some (to_local i)) l.value_type else None
-assignee_at decls (a_decl i (global v)) = assignee (Some (to_global (cell_of decls i))) (type_of (outside decls) v.value_type)
+assignee_at decls (a_decl i (global v)) =
+    assignee (Some (to_global (cell_of decls i))) (type_of (outside decls) v.value_type)
 assignee_at decls _ = None
 
 -- a name with an index
 abbrev pub assignee_at_element : List Decl → Meaning → Option core.Expr → Option Assignee
-assignee_at_element decls (a_decl i (array a)) (Some index) = assignee (Some (to_element (number_at decls i (array a)) index)) (type_of (outside decls) a.value_type)
+assignee_at_element decls (a_decl i (array a)) (Some index) =
+    assignee (Some (to_element (number_at decls i (array a)) index)) (type_of (outside decls) a.value_type)
 assignee_at_element decls (a_decl i (lock x)) (Some index) = None
 assignee_at_element decls (a_decl i (struct s)) (Some index) = None
 assignee_at_element decls (a_decl i (global v)) (Some index) = None
@@ -108,7 +111,8 @@ typed_values sc (p ∷ ps) (e ∷ es) = added (as_value (fitting (want_of sc.dec
 
 -- a call of the helper that is meant, if one is; the local takes what it gives back
 abbrev pub called : Scope → Option (ℕ × Section) → List Expr → Option ℕ → Option core.Action
-called sc (Some (i, s)) es local = typed_values sc s.params es >>= λ vs. Some (core.call (number_at sc.decls i (helper s)) vs local)
+called sc (Some (i, s)) es local =
+    typed_values sc s.params es >>= λ vs. Some (core.call (number_at sc.decls i (helper s)) vs local)
 called sc None es local = None
 
 abbrev pub call_resolved : Scope → HelperCall → Option ℕ → Option core.Action
@@ -215,7 +219,8 @@ local_bound sc l = binds l.start.start (length sc.locals) (type_of sc l.value_ty
 
 -- the same, where the value is tested
 abbrev pub owned_bound : Scope → Local → Owner → Option Part
-owned_bound sc l o = binds l.start.start (length sc.locals) (type_of sc l.value_type) (owned_by sc (type_of sc l.value_type) o (first_value sc l))
+owned_bound sc l o = binds l.start.start (length sc.locals) (type_of sc l.value_type)
+    (owned_by sc (type_of sc l.value_type) o (first_value sc l))
 
 -- a local with what a helper gives back
 abbrev pub called_bound : Scope → CalledLocal → Option Part
@@ -230,9 +235,13 @@ abbrev mutual
   typed_stmt sc (let_owned l o) = owned_bound sc l o
   typed_stmt sc (let_call l) = called_bound sc l
   typed_stmt sc (var_local l) = local_bound sc l
-  typed_stmt sc (assign p e) = assigns (first_name p).span.start (target_of sc p) (as_value (fitting (wanted_by (target_of sc p)) (typed sc e)))
-  typed_stmt sc (if_then start e body close other) = typed_if (left sc (after_all sc body)) start.start (test_resolved (typed sc e)) (block_of (typed_body sc body)) other
-  typed_stmt sc (while start e body close) = repeats start.start (test_resolved (typed sc e)) (block_of (typed_body sc body))
+  typed_stmt sc (assign p e) =
+      assigns (first_name p).span.start (target_of sc p) (as_value (fitting (wanted_by (target_of sc p)) (typed sc e)))
+  typed_stmt sc (if_then start e body close other) =
+      typed_if (left sc (after_all sc body)) start.start (test_resolved (typed sc e))
+      (block_of (typed_body sc body)) other
+  typed_stmt sc (while start e body close) =
+      repeats start.start (test_resolved (typed sc e)) (block_of (typed_body sc body))
   typed_stmt sc (print start e) = prints start.start (number_resolved (typed sc e))
   typed_stmt sc (return_value start e) = returns start.start (as_value (fitting (want sc.result) (typed sc e)))
   typed_stmt sc (call start c) = acts_if start.start (call_resolved sc c None)
