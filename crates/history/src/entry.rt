@@ -97,7 +97,7 @@ impl Entry {
         }
     }
 
-    /// What it was called with.
+    /// One of the arguments.
     #[inline]
     pub fn argument(&self, at: usize) -> Value
         requires { at < length self.now.arguments }

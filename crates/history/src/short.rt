@@ -282,7 +282,7 @@ pub fn read_at(kinds: &Kinds, numbers: &Numbers, at: usize) -> CellValue
     cell_at(&numbers.cells, &numbers.values, &kinds.cells, at)
 }
 
-// Where a cell stands that was written, behind so many that were read.
+// Where a cell stands that was written, behind so many that were read. By the kinds the sum is small.
 #[inline]
 fn behind(_kinds: &[Kind; SHORT], reads: u8, at: usize) -> usize
     requires { reads + at < present _kinds.now }
