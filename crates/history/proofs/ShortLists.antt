@@ -1,8 +1,6 @@
 -- Short lists of values.
 use Rattle.std.proofs.Common.{◌≡◌, ◌<◌, ◌≤◌, ◌+◌, ℕ, ℤ, pos, zero, suc, true, false, List, [], ◌∷◌, length}
-use Rattle.std.proofs.Common.{get_or, slice_get, take, drop, Option, Some, None, ◌++◌, refl, sym, ap, ◌∙◌, arith}
-use Rattle.std.proofs.lemmas.List.{take_more, take_all}
-use Rattle.std.proofs.lemmas.Option.{slice_get_within, get_or_from_slice_get}
+use Rattle.std.proofs.Common.{get_or, slice_get, take, drop, Option, Some, None, refl, ap, ◌∙◌, arith}
 use Rattle.core_lang.specs.declared.value.Value.{Value}
 use Rattle.history.specs.declared.short.Kind.{Kind}
 use Rattle.history.specs.declared.short.Kind.TheVariants.{Absent, Number, Null, Object}
@@ -162,14 +160,3 @@ slice_get_dropped [] (suc n) k = refl
 slice_get_dropped (x ∷ xs) (suc n) k =
     let e : suc (n + k) ≡ suc n + k = omega arith in
     slice_get_dropped xs n k ∙ ap (slice_get (x ∷ xs)) e
-
--- ---- lists that are compared
-
-pub same_one_more : {A : Type 0} (xs ys : List A) (k : ℕ) (x d : A) → slice_get xs k ≡ Some x → x ≡ get_or ys k d →
-    k < length ys → take k xs ≡ take k ys → take (k + 1) xs ≡ take (k + 1) ys
-same_one_more xs ys k x d got is lt before =
-    take_more xs k x (slice_get_within xs k x got) ∙ ap (λ l. l ++ get_or xs k x ∷ []) before
-    ∙ ap (λ y. take k ys ++ y ∷ []) (get_or_from_slice_get xs k x x got ∙ is) ∙ sym (take_more ys k d lt)
-
-pub same_all : {A : Type 0} (xs ys : List A) (k : ℕ) → length xs ≤ k → length ys ≤ k → take k xs ≡ take k ys → xs ≡ ys
-same_all xs ys k le le' same = sym (take_all k xs le) ∙ same ∙ take_all k ys le'

@@ -6,8 +6,10 @@ ghost use Rattle.history.specs.Working.Copies.{HasRoom, IsShort};
 use crate::entry::{CellValue, Entry, Form};
 use crate::kept::Kept;
 use crate::long::Long;
-use crate::short::{Kinds, Numbers, SHORT, encoded_cells, encoded_outcome, encoded_values};
-use core_lang::value::{Outcome, Value};
+use crate::short::{
+    Kinds, Numbers, SHORT, encoded_cells, encoded_outcome, encoded_values, is_copy_of,
+};
+use core_lang::value::Value;
 use smallvec::SmallVec;
 use source::memory::NoMemory;
 use std::alloc::Global;
@@ -225,77 +227,10 @@ impl Entry {
     pub fn is_same(&self, other: &Kept<'_>) -> bool
         ensures { IsTrue result → self.now ≡ other.now }
     {
-        if !self.is_call(other) || !same_outcomes(self.outcome(), other.outcome) {
-            return false;
+        match &self.form {
+            Form::Short(kinds, thread, numbers) => is_copy_of(kinds, *thread, numbers, other),
+            Form::Long(long) => long.is_copy_of(other),
         }
-        if !self.has_arguments(other.arguments) {
-            return false;
-        }
-        if !self.has_reads(other.reads) {
-            return false;
-        }
-        if !self.has_writes(other.writes) {
-            return false;
-        }
-        same_numbers(self.prints(), other.prints)
-    }
-
-    // Whether it is a copy of the same call, begun at the same time.
-    fn is_call(&self, other: &Kept<'_>) -> bool
-        ensures thread { IsTrue result → self.now.thread ≡ other.now.thread }
-        ensures step { IsTrue result → self.now.step ≡ other.now.step }
-        ensures section { IsTrue result → self.now.section ≡ other.now.section }
-        ensures begun { IsTrue result → self.now.begun ≡ other.now.begun }
-    {
-        if self.thread() != other.thread || self.step() != other.step {
-            return false;
-        }
-        self.section() == other.section && self.begun() == other.begun
-    }
-
-    // Whether these are its arguments.
-    fn has_arguments(&self, arguments: &[Value]) -> bool
-        ensures { IsTrue result → self.now.arguments ≡ arguments.now }
-    {
-        if self.arguments_count() != arguments.len() {
-            return false;
-        }
-        for at in 0..arguments.len() {
-            if !same_values(self.argument(at), arguments[at]) {
-                return false;
-            }
-        }
-        true
-    }
-
-    // Whether it read these.
-    fn has_reads(&self, reads: &[CellValue]) -> bool
-        ensures { IsTrue result → self.now.reads ≡ reads.now }
-    {
-        if self.reads_count() != reads.len() {
-            return false;
-        }
-        for at in 0..reads.len() {
-            if !same_cells(self.read(at), reads[at]) {
-                return false;
-            }
-        }
-        true
-    }
-
-    // Whether it wrote these.
-    fn has_writes(&self, writes: &[CellValue]) -> bool
-        ensures { IsTrue result → self.now.writes ≡ writes.now }
-    {
-        if self.writes_count() != writes.len() {
-            return false;
-        }
-        for at in 0..writes.len() {
-            if !same_cells(self.write(at), writes[at]) {
-                return false;
-            }
-        }
-        true
     }
 }
 
@@ -308,28 +243,4 @@ fn fill_numbers(into: &mut Vec<i64>, from: &[i64])
         Ok(()) => into.shrink_to_fit(),
         Err(_) => unreachable!(),
     }
-}
-
-fn same_values(a: Value, b: Value) -> bool
-    ensures { IsTrue result → a ≡ b }
-{
-    a == b
-}
-
-fn same_cells(a: CellValue, b: CellValue) -> bool
-    ensures { IsTrue result → a ≡ b }
-{
-    a == b
-}
-
-fn same_outcomes(a: Outcome, b: Outcome) -> bool
-    ensures { IsTrue result → a ≡ b }
-{
-    a == b
-}
-
-fn same_numbers(a: &[i64], b: &[i64]) -> bool
-    ensures { IsTrue result → a.now ≡ b.now }
-{
-    a == b
 }

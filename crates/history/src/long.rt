@@ -1,7 +1,10 @@
 //! Long copies: a finished section with lists that may be long.
 
+ghost use Rattle.std.specs.Prelude.{◌≡◌, IsTrue};
+
 use crate::entry::CellValue;
-use crate::short::SHORT;
+use crate::kept::Kept;
+use crate::short::{SHORT, same_numbers, same_outcomes};
 use core_lang::value::{Outcome, Value};
 use smallvec::SmallVec;
 use std::alloc::Global;
@@ -52,7 +55,7 @@ impl Model for Long {
 }
 
 impl Long {
-    ghost use Rattle.std.specs.Prelude.{◌≡◌};
+    ghost use Rattle.std.specs.Prelude.{◌≡◌, IsTrue};
 
     /// A place for a copy.
     pub fn empty(alloc: Global) -> Long {
@@ -140,4 +143,35 @@ impl Long {
     {
         self.outcome
     }
+
+    /// Whether it is a copy of this section.
+    pub fn is_copy_of(&self, section: &Kept<'_>) -> bool
+        ensures { IsTrue result → self.now ≡ section.now }
+    {
+        if self.thread != section.thread || self.step != section.step {
+            return false;
+        }
+        if self.section != section.section || self.begun != section.begun {
+            return false;
+        }
+        if !same_outcomes(self.outcome, section.outcome) {
+            return false;
+        }
+        same_values(self.arguments(), section.arguments)
+            && same_cell_values(self.reads(), section.reads)
+            && same_cell_values(self.writes(), section.writes)
+            && same_numbers(self.prints(), section.prints)
+    }
+}
+
+fn same_values(a: &[Value], b: &[Value]) -> bool
+    ensures { IsTrue result → a.now ≡ b.now }
+{
+    a == b
+}
+
+fn same_cell_values(a: &[CellValue], b: &[CellValue]) -> bool
+    ensures { IsTrue result → a.now ≡ b.now }
+{
+    a == b
 }

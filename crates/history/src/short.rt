@@ -1,17 +1,18 @@
 //! Values as eight bytes and a kind, and short lists of them.
 
-ghost use Rattle.std.specs.Prelude.{◌≡◌, ◌≤◌, ◌<◌, ◌+◌, ◌++◌, length, slice_get, Some};
+ghost use Rattle.std.specs.Prelude.{◌≡◌, ◌≤◌, ◌<◌, ◌+◌, ◌++◌, length, slice_get, Some, IsTrue};
 ghost use Rattle.history.specs.Working.Short.{value_of, cell_of, outcome_of, values_of, cells_of, there, present};
-ghost use Rattle.history.specs.Working.Short.{reads_of, writes_of};
+ghost use Rattle.history.specs.Working.Short.{reads_of, writes_of, short_commit};
 
 use crate::entry::CellValue;
+use crate::kept::Kept;
 use core_lang::value::{Outcome, Trap, Value};
 
 /// The longest list that a short copy has.
 pub const SHORT: usize = 4;
 
 /// What a number stands for.
-#[derive(Clone, Copy)]
+#[derive(Clone, Copy, PartialEq, Eq)]
 pub enum Kind {
     /// No value. In a list there is none behind it.
     Absent,
@@ -299,4 +300,89 @@ pub fn write_at(kinds: &Kinds, numbers: &Numbers, at: usize) -> CellValue
 {
     let place = behind(&kinds.cells, kinds.reads, at);
     cell_at(&numbers.cells, &numbers.values, &kinds.cells, place)
+}
+
+// ---- whether it is the same
+
+/// Whether two lists of numbers are the same.
+#[inline]
+pub fn same_numbers(a: &[i64], b: &[i64]) -> bool
+    ensures { IsTrue result → a.now ≡ b.now }
+{
+    a == b
+}
+
+// Whether two lists of cells are the same.
+#[inline]
+fn same_cells(a: &[u32], b: &[u32]) -> bool
+    ensures { IsTrue result → a.now ≡ b.now }
+{
+    a == b
+}
+
+// Whether two lists of kinds are the same.
+#[inline]
+fn same_kinds(a: &[Kind], b: &[Kind]) -> bool
+    ensures { IsTrue result → a.now ≡ b.now }
+{
+    a == b
+}
+
+/// Whether two sections ended in the same way.
+#[inline]
+pub fn same_outcomes(a: Outcome, b: Outcome) -> bool
+    ensures { IsTrue result → a ≡ b }
+{
+    a == b
+}
+
+// Whether a short list is this one.
+#[inline]
+fn are_values(numbers: &[i64; SHORT], kinds: &[Kind; SHORT], list: &[Value]) -> bool
+    ensures { IsTrue result → values_of numbers.now kinds.now ≡ list.now }
+{
+    if list.len() > SHORT {
+        return false;
+    }
+    let (others, other_kinds) = encoded_values(list);
+    same_numbers(numbers, &others) && same_kinds(kinds, &other_kinds)
+}
+
+// Whether a short list of cells with values is this one, and behind it a second one.
+#[inline]
+fn are_cells(kinds: &Kinds, numbers: &Numbers, first: &[CellValue], second: &[CellValue]) -> bool
+    ensures { IsTrue result → cells_of numbers.now.cells numbers.now.values kinds.now.cells ≡ first.now ++ second.now }
+{
+    if first.len() > SHORT || second.len() > SHORT - first.len() {
+        return false;
+    }
+    let (cells, values, value_kinds) = encoded_cells(first, second);
+    same_cells(&numbers.cells, &cells)
+        && same_numbers(&numbers.values, &values)
+        && same_kinds(&kinds.cells, &value_kinds)
+}
+
+/// Whether a short copy is one of this section.
+pub fn is_copy_of(kinds: &Kinds, thread: u32, numbers: &Numbers, section: &Kept<'_>) -> bool
+    ensures { IsTrue result → short_commit kinds.now thread numbers.now ≡ section.now }
+{
+    if thread != section.thread || numbers.step != section.step {
+        return false;
+    }
+    if numbers.section != section.section || numbers.begun != section.begun {
+        return false;
+    }
+    if !same_outcomes(
+        decoded_outcome(numbers.result, kinds.ending),
+        section.outcome,
+    ) {
+        return false;
+    }
+    if !are_values(&numbers.arguments, &kinds.arguments, section.arguments) {
+        return false;
+    }
+    if kinds.reads as usize != section.reads.len() || section.prints.len() != 0 {
+        return false;
+    }
+    are_cells(kinds, numbers, section.reads, section.writes)
 }

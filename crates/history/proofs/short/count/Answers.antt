@@ -1,5 +1,5 @@
 use Rattle.std.proofs.Common.{arith, ◌∙◌, ◌<◌, length, sym}
-use Rattle.history.proofs.ShortLists.{present_within, one_more_there, none_there}
+use Rattle.history.proofs.ShortLists.{present_within, one_more_there}
 use Rattle.history.proofs.short.count.Goals as goal
 
 pub loop-at-preserved : goal.loop-at-preserved
