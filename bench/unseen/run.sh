@@ -16,7 +16,9 @@ trap 'rm -rf "$work"' EXIT
 python3 - "$seen" "$unseen" "$work" "$rounds" <<'PYTHON'
 import os, pathlib, subprocess, sys
 seen, unseen, work, rounds = sys.argv[1], sys.argv[2], pathlib.Path(sys.argv[3]), int(sys.argv[4])
-CALLS, FEW, RUNS = 60000, 20000, 5
+CALLS, RUNS = 60000, 5
+# The peak that is told of a process is at least that of this script, some 15 MB, so few calls would tell nothing.
+FEW, MANY = 50000, 100000
 def text(calls):
     return f"""struct Acc {{ lock l; int bal protected_by(l); }}
 pool Acc p[2];
@@ -42,6 +44,6 @@ for _ in range(rounds):
 print(f"calls a second: {best['seen']:,.0f} with seeing, {best['unseen']:,.0f} without, {best['ordered']:,.0f} of ordered mutexes")
 print(f"with seeing takes {best['unseen'] / best['seen']:.2f} of the time without; "
       f"of ordered mutexes' {best['ordered'] / best['seen']:.2f} and {best['ordered'] / best['unseen']:.2f}")
-more = {who: (peak(program, CALLS) - peak(program, FEW)) / (CALLS - FEW) for who, program in (("seen", seen), ("unseen", unseen))}
+more = {who: (peak(program, MANY) - peak(program, FEW)) / (MANY - FEW) for who, program in (("seen", seen), ("unseen", unseen))}
 print(f"bytes a call: {more['seen']:.0f} with seeing, {more['unseen']:.0f} without, {more['seen'] / more['unseen']:.2f} times")
 PYTHON

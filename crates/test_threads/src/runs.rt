@@ -57,9 +57,7 @@ pub fn by_threads<R: Threads + Wait + Sync>(
     scene: &Scene<'_>,
 ) -> Result<String, Fail> {
     let program = compile(alloc, scene.text.as_bytes())?;
-    let stage = Stage::new(scene);
-    let closed = run_threads(rt, alloc, &program, &stage)?;
-    with_patience(history_of(alloc, &program, &closed), &stage)
+    said_by_threads(rt, alloc, &program, scene)
 }
 
 // What `in_turn` says of the program that `J` names.
@@ -123,6 +121,18 @@ fn said_in_agreement<J: Naming, R: Wait>(
     let stage = Stage::new(scene);
     let said = agreement(rt, alloc, &shared, &mut one, &mut other, &stage);
     with_patience(said, &stage)
+}
+
+// What `by_threads` says of a program.
+fn said_by_threads<R: Threads + Wait + Sync>(
+    rt: &R,
+    alloc: Global,
+    program: &Program,
+    scene: &Scene<'_>,
+) -> Result<String, Fail> {
+    let stage = Stage::new(scene);
+    let closed = run_threads(rt, alloc, program, &stage)?;
+    with_patience(history_of(alloc, program, &closed), &stage)
 }
 
 // What two seats that call one after another are answered, and how they agree before that and after.
