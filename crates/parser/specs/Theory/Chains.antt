@@ -33,7 +33,8 @@ link_shortens : (operand : Reader Expr) → Shortens operand → (o : Option (Op
     IfSome o (λ f. length f.1 < length ts) →
     IfSome (link_from operand o) (λ r. OnValue r (λ x. length x.1 < length ts))
 link_shortens operand shorter None ts h = tt
-link_shortens operand shorter (Some o) ts h = on_then (operand o.1) _ (λ x. length x.1 < length o.1) _ (shorter o.1) (λ x less. omega arith)
+link_shortens operand shorter (Some o) ts h = on_then (operand o.1) _ (λ x. length x.1 < length o.1) _ (shorter o.1)
+    (λ x less. omega arith)
 
 pub next_link_shortens : (operand : Reader Expr) → Shortens operand → (k : Level) → NextShortens (next_link operand k)
 next_link_shortens operand shorter k ts = link_shortens operand shorter (op_at k ts) ts (op_shortens k ts)
@@ -55,20 +56,28 @@ links_before-push [] x more = refl
 links_before-push (y ∷ ls) x more = ap (link y.op (expr_of y.operand)) (links_before-push ls x more)
 
 module _ (operand : Reader Expr) (shorter : Shortens operand) (k : Level) where
-  pub link_goes_on : (ls : List l.Link) (x : l.Link) (ts after rest : List Tok) (total : Result (Links × List Tok) Stop) → op_at k ts ≡ Some (x.op, after) → operand after ≡ Ok (expr_of x.operand, rest)
-      → with_front (links_before ls) (links_at operand k ts) ≡ total → with_front (links_before (ls ++ x ∷ [])) (links_at operand k rest) ≡ total
+  pub link_goes_on : (ls : List l.Link) (x : l.Link) (ts after rest : List Tok) (total : Result (Links × List Tok) Stop)
+      → op_at k ts ≡ Some (x.op, after) → operand after ≡ Ok (expr_of x.operand, rest)
+      → with_front (links_before ls) (links_at operand k ts) ≡ total → with_front (links_before (ls ++ x ∷ []))
+          (links_at operand k rest) ≡ total
   link_goes_on ls x ts after rest total found read =
-      goes_on no_links add_link (next_link operand k) (next_link_shortens operand shorter k) (links_before ls) (links_before (ls ++ x ∷ [])) ts rest (x.op, expr_of x.operand) total (rw (found, read) refl) (links_before-push ls x)
+      goes_on no_links add_link (next_link operand k) (next_link_shortens operand shorter k) (links_before ls)
+          (links_before (ls ++ x ∷ [])) ts rest (x.op, expr_of x.operand) total (rw (found, read) refl)
+          (links_before-push ls x)
 
   pub link_ends : (ls : List l.Link) (ts : List Tok) (total : Result (Links × List Tok) Stop) → op_at k ts ≡ None →
       with_front (links_before ls) (links_at operand k ts) ≡ total → total ≡ Ok (links_of ls, ts)
   link_ends ls ts total found so_far =
-      ends no_links add_link (next_link operand k) (next_link_shortens operand shorter k) (links_before ls) ts total (rw found refl) so_far ∙ ap (λ (x : Links). Ok (x, ts)) (links_before-nothing ls)
+      ends no_links add_link (next_link operand k) (next_link_shortens operand shorter k) (links_before ls) ts total
+          (rw found refl) so_far ∙ ap (λ (x : Links). Ok (x, ts)) (links_before-nothing ls)
 
   pub link_stops : (e : Stop) (front : Links →
-      Links) (ts after : List Tok) (op : Operator) (total : Result (Links × List Tok) Stop) → op_at k ts ≡ Some (op, after) → Fails e (operand after) → with_front front (links_at operand k ts) ≡ total → Fails e total
+      Links) (ts after : List Tok) (op : Operator) (total : Result (Links × List Tok) Stop) → op_at k ts ≡ Some
+          (op, after) → Fails e (operand after) → with_front front (links_at operand k ts) ≡ total → Fails e total
   link_stops e front ts after op total found fails =
-      stops no_links add_link (next_link operand k) (next_link_shortens operand shorter k) e front ts (operand after >>= λ x. Ok ((op, x.0), x.1)) total (rw found refl) (fails_on e (operand after) (λ x. Ok ((op, x.0), x.1)) fails)
+      stops no_links add_link (next_link operand k) (next_link_shortens operand shorter k) e front ts
+          (operand after >>= λ x. Ok ((op, x.0), x.1)) total (rw found refl)
+          (fails_on e (operand after) (λ x. Ok ((op, x.0), x.1)) fails)
 
 -- ---- the first operand, and the first link
 
@@ -98,7 +107,8 @@ some_links : (k : Level) (x y : Expr) (op : Operator) (r : Result (Links × List
 some_links k x y op (Ok l) = refl
 some_links k x y op (Err e) = refl
 
-module _ (operand : Reader Expr) (shorter : Shortens operand) (k : Level) (ts mid : List Tok) (x : Expr) (first : operand ts ≡ Ok (x, mid)) where
+module _ (operand : Reader Expr) (shorter : Shortens operand) (k : Level) (ts mid : List Tok) (x : Expr)
+    (first : operand ts ≡ Ok (x, mid)) where
   by_turn : (rest : List Tok) →
       links_at operand k rest ≡ turn no_links add_link (links_at operand k) (next_link operand k rest) rest
   by_turn = many_at-turn no_links add_link (next_link operand k) (next_link_shortens operand shorter k)
@@ -117,18 +127,22 @@ module _ (operand : Reader Expr) (shorter : Shortens operand) (k : Level) (ts mi
     pub operand_stops : (e : Stop) → Fails e (operand after) → Fails e (chain_at operand k ts)
     operand_stops e fails =
         let one : Result ((Operator × Expr) × List Tok) Stop = operand after >>= λ y. Ok ((op, y.0), y.1) in
-        let more : (Operator × Expr) × List Tok → Result (Links × List Tok) Stop = λ y. links_at operand k y.1 >>= λ l. Ok (add_link y.0 l.0, l.1) in
+        let more : (Operator × Expr) × List Tok → Result (Links × List Tok) Stop = λ y. links_at operand k y.1 >>= λ l.
+            Ok (add_link y.0 l.0, l.1) in
         let all : links_at operand k mid ≡ (one >>= more) = by_turn mid ∙ rw found refl in
         subst (Fails e) (sym (by_links ∙ ap (chained_from k x) all))
-        (fails_on e (one >>= more) (λ l. Ok (chained k x l.0, l.1)) (fails_on e one more (fails_on e (operand after) (λ y. Ok ((op, y.0), y.1)) fails)))
+        (fails_on e (one >>= more) (λ l. Ok (chained k x l.0, l.1)) (fails_on e one more
+            (fails_on e (operand after) (λ y. Ok ((op, y.0), y.1)) fails)))
 
     module _ (y : Expr) (rest : List Tok) (read : operand after ≡ Ok (y, rest)) where
       with_links : chain_at operand k ts ≡ chain_from k x (links_behind operand k (op, y) rest)
-      with_links = by_links ∙ ap (chained_from k x) (by_turn mid ∙ rw (found, read) refl) ∙ some_links k x y op (links_at operand k rest)
+      with_links = by_links ∙ ap (chained_from k x) (by_turn mid ∙ rw (found, read) refl) ∙ some_links k x y op
+          (links_at operand k rest)
 
       pub pair_done : op_at k rest ≡ None →
           chain_at operand k ts ≡ Ok (chain (level_of op) x (link op y no_links), rest)
-      pair_done none = with_links ∙ rw (no_link rest none) (ap (λ l. Ok (chain l x (link op y no_links), rest)) (sym (level_found k mid after op found)))
+      pair_done none = with_links ∙ rw (no_link rest none) (ap (λ l. Ok (chain l x (link op y no_links), rest))
+          (sym (level_found k mid after op found)))
 
       pub chain_done : (ls : Links) (end : List Tok) → links_behind operand k (op, y) rest ≡ Ok (ls, end) →
           chain_at operand k ts ≡ Ok (chain k x ls, end)

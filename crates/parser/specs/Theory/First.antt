@@ -23,9 +23,11 @@ behind_first tokens = take (length tokens - 1) (drop 1 tokens)
 pub left_over : (tokens : List Token) → 1 ≤ length tokens → suc (length (seen (behind_first tokens))) ≡ length tokens
 left_over [] le = absurd (omega (arith, le))
 left_over (x ∷ xs) le =
-    ap (λ (ys : List Token). suc (length (seen ys))) (take_all (length (x ∷ xs) - 1) xs (omega arith)) ∙ ap suc (length-map xs seen_token)
+    ap (λ (ys : List Token). suc (length (seen ys))) (take_all (length (x ∷ xs) - 1) xs (omega arith)) ∙ ap suc
+        (length-map xs seen_token)
 
-module _ (tokens : List Token) (first t : Token) (le : 1 ≤ length tokens) (is : first ≡ get_or tokens 0 first) (e : first ≡ t) where
+module _ (tokens : List Token) (first t : Token) (le : 1 ≤ length tokens) (is : first ≡ get_or tokens 0 first)
+    (e : first ≡ t) where
   pub in_front : seen tokens ≡ seen_token t ∷ seen (behind_first tokens)
   in_front = parts tokens le is
     where
@@ -33,7 +35,8 @@ module _ (tokens : List Token) (first t : Token) (le : 1 ≤ length tokens) (is 
           seen ts ≡ seen_token t ∷ seen (behind_first ts)
       parts [] low here = absurd (omega (arith, low))
       parts (x ∷ xs) low here =
-          ap (λ (y : Token). seen_token y ∷ seen xs) (sym here ∙ e) ∙ ap (λ (ys : List Token). seen_token t ∷ seen ys) (sym (take_all (length (x ∷ xs) - 1) xs (omega arith)))
+          ap (λ (y : Token). seen_token y ∷ seen xs) (sym here ∙ e) ∙ ap (λ (ys : List Token). seen_token t ∷ seen ys)
+              (sym (take_all (length (x ∷ xs) - 1) xs (omega arith)))
 
   -- what is read is what is read from there
   pub at_first : {R : Type 0} (f : List Tok → R) → f (seen tokens) ≡ f (seen_token t ∷ seen (behind_first tokens))
@@ -42,17 +45,20 @@ module _ (tokens : List Token) (first t : Token) (le : 1 ≤ length tokens) (is 
   pub refused_first : {A : Type 0} (f : Lexeme → Span → Reader A) →
       ((ts : List Tok) → f (seen_token t).kind (seen_token t).span ts ≡ refused ts) →
       first_at f (seen tokens) ≡ Err (Unexpected (length tokens))
-  refused_first f h = at_first (first_at f) ∙ h (seen (behind_first tokens)) ∙ ap (λ (n : ℕ). Err (Unexpected n)) (left_over tokens le)
+  refused_first f h = at_first (first_at f) ∙ h (seen (behind_first tokens)) ∙ ap (λ (n : ℕ). Err (Unexpected n))
+      (left_over tokens le)
 
 pub word_first : {R : Type 0} (tokens : List Token) (first : Token) → 1 ≤ length tokens →
     first ≡ get_or tokens 0 first → (at : Span) (v w : Keyword) → first ≡ Word at v → v ≡ w → (f : List Tok → R) →
     f (seen tokens) ≡ f (seen_token (Word at w) ∷ seen (behind_first tokens))
-word_first tokens first le is at v w e same f = at_first tokens first (Word at w) le is (e ∙ ap (λ (x : Keyword). Word at x) same) f
+word_first tokens first le is at v w e same f = at_first tokens first (Word at w) le is
+    (e ∙ ap (λ (x : Keyword). Word at x) same) f
 
 pub mark_first : {R : Type 0} (tokens : List Token) (first : Token) → 1 ≤ length tokens →
     first ≡ get_or tokens 0 first → (at : Span) (m s : Sign) → first ≡ Mark at m → m ≡ s → (f : List Tok → R) →
     f (seen tokens) ≡ f (seen_token (Mark at s) ∷ seen (behind_first tokens))
-mark_first tokens first le is at m s e same f = at_first tokens first (Mark at s) le is (e ∙ ap (λ (x : Sign). Mark at x) same) f
+mark_first tokens first le is at m s e same f = at_first tokens first (Mark at s) le is
+    (e ∙ ap (λ (x : Sign). Mark at x) same) f
 
 pub none_left : {R : Type 0} (f : List Tok → R) (tokens : List Token) → length tokens < 1 → f (seen tokens) ≡ f []
 none_left f [] lt = refl
@@ -128,18 +134,21 @@ module _ (tokens : List Token) (first : Token) (le : 1 ≤ length tokens) (is : 
   module _ (s : Sign) (at : Span) (m : Sign) (e : first ≡ Mark at m) where
     pub sign_taken : same_sign m s ≡ true → sign_at s (seen tokens) ≡ Ok (at, seen (behind_first tokens))
     unfolding sign_at
-    sign_taken same = at_first tokens first (Mark at m) le is e (sign_at s) ∙ ap (λ (b : Bool). if b then Ok (at, seen (behind_first tokens)) else refused (seen (behind_first tokens))) same
+    sign_taken same = at_first tokens first (Mark at m) le is e (sign_at s) ∙ ap
+        (λ (b : Bool). if b then Ok (at, seen (behind_first tokens)) else refused (seen (behind_first tokens))) same
 
     pub sign_other : same_sign m s ≡ false → sign_at s (seen tokens) ≡ Err (Unexpected (length tokens))
     unfolding sign_at
-    sign_other other = refused_first tokens first (Mark at m) le is e (sign_from s) (λ ts. ap (λ (b : Bool). if b then Ok (at, ts) else refused ts) other)
+    sign_other other = refused_first tokens first (Mark at m) le is e (sign_from s)
+        (λ ts. ap (λ (b : Bool). if b then Ok (at, ts) else refused ts) other)
 
     pub sign_opened : (room : ℕ) → same_sign m s ≡ true → (room ≡ 0 → ⊥) →
         open_at s room (seen tokens) ≡ Ok (at, seen (behind_first tokens))
     unfolding open_at
     sign_opened room same some =
         at_first tokens first (Mark at m) le is e (open_at s room)
-        ∙ ap (λ (b : Bool). if b then opened room at (seen (behind_first tokens)) else refused (seen (behind_first tokens))) same
+        ∙ ap (λ (b : Bool). if b then opened room at (seen (behind_first tokens)) else refused
+            (seen (behind_first tokens))) same
         ∙ opened_some room at (seen (behind_first tokens)) some
 
     pub sign_too_deep : (room : ℕ) → same_sign m s ≡ true → room ≡ 0 →
@@ -147,22 +156,26 @@ module _ (tokens : List Token) (first : Token) (le : 1 ≤ length tokens) (is : 
     unfolding open_at
     sign_too_deep room same none =
         at_first tokens first (Mark at m) le is e (open_at s room)
-        ∙ ap (λ (b : Bool). if b then opened room at (seen (behind_first tokens)) else refused (seen (behind_first tokens))) same
+        ∙ ap (λ (b : Bool). if b then opened room at (seen (behind_first tokens)) else refused
+            (seen (behind_first tokens))) same
         ∙ ap (λ (n : ℕ). opened n at (seen (behind_first tokens))) none
         ∙ ap (λ (n : ℕ). Err (TooDeep n)) (left_over tokens le)
 
     pub sign_unopened : (room : ℕ) → same_sign m s ≡ false →
         open_at s room (seen tokens) ≡ Err (Unexpected (length tokens))
     unfolding open_at
-    sign_unopened room other = refused_first tokens first (Mark at m) le is e (open_from s room) (λ ts. ap (λ (b : Bool). if b then opened room at ts else refused ts) other)
+    sign_unopened room other = refused_first tokens first (Mark at m) le is e (open_from s room)
+        (λ ts. ap (λ (b : Bool). if b then opened room at ts else refused ts) other)
 
     pub sign_skipped : same_sign m s ≡ true → skip_at s (seen tokens) ≡ Some (seen (behind_first tokens))
     unfolding skip_at
-    sign_skipped same = at_first tokens first (Mark at m) le is e (skip_at s) ∙ ap (λ (b : Bool). if b then Some (seen (behind_first tokens)) else None) same
+    sign_skipped same = at_first tokens first (Mark at m) le is e (skip_at s) ∙ ap
+        (λ (b : Bool). if b then Some (seen (behind_first tokens)) else None) same
 
     pub sign_unskipped : same_sign m s ≡ false → skip_at s (seen tokens) ≡ None
     unfolding skip_at
-    sign_unskipped other = at_first tokens first (Mark at m) le is e (skip_at s) ∙ ap (λ (b : Bool). if b then Some (seen (behind_first tokens)) else None) other
+    sign_unskipped other = at_first tokens first (Mark at m) le is e (skip_at s) ∙ ap
+        (λ (b : Bool). if b then Some (seen (behind_first tokens)) else None) other
 
     pub sign_next : is_next (mark s) (seen tokens) ≡ same_sign m s
     sign_next = at_first tokens first (Mark at m) le is e (is_next (mark s))
@@ -177,19 +190,23 @@ module _ (tokens : List Token) (first : Token) (le : 1 ≤ length tokens) (is : 
     no_sign_opened room = refused_first tokens first first le is refl (open_from s room) (no_opening s room first not)
 
     pub no_sign_skipped : skip_at s (seen tokens) ≡ None
-    no_sign_skipped = at_first tokens first first le is refl (skip_at s) ∙ nothing_skipped s first (seen (behind_first tokens)) not
+    no_sign_skipped = at_first tokens first first le is refl (skip_at s) ∙ nothing_skipped s first
+        (seen (behind_first tokens)) not
 
     pub no_sign_next : is_next (mark s) (seen tokens) ≡ false
-    no_sign_next = at_first tokens first first le is refl (is_next (mark s)) ∙ other_than_mark s first (seen (behind_first tokens)) not
+    no_sign_next = at_first tokens first first le is refl (is_next (mark s)) ∙ other_than_mark s first
+        (seen (behind_first tokens)) not
 
   module _ (w : Keyword) (at : Span) (v : Keyword) (e : first ≡ Word at v) where
     pub word_taken : same_keyword v w ≡ true → word_at w (seen tokens) ≡ Ok (at, seen (behind_first tokens))
     unfolding word_at
-    word_taken same = at_first tokens first (Word at v) le is e (word_at w) ∙ ap (λ (b : Bool). if b then Ok (at, seen (behind_first tokens)) else refused (seen (behind_first tokens))) same
+    word_taken same = at_first tokens first (Word at v) le is e (word_at w) ∙ ap
+        (λ (b : Bool). if b then Ok (at, seen (behind_first tokens)) else refused (seen (behind_first tokens))) same
 
     pub word_other : same_keyword v w ≡ false → word_at w (seen tokens) ≡ Err (Unexpected (length tokens))
     unfolding word_at
-    word_other other = refused_first tokens first (Word at v) le is e (word_from w) (λ ts. ap (λ (b : Bool). if b then Ok (at, ts) else refused ts) other)
+    word_other other = refused_first tokens first (Word at v) le is e (word_from w)
+        (λ ts. ap (λ (b : Bool). if b then Ok (at, ts) else refused ts) other)
 
     pub word_next : is_next (word w) (seen tokens) ≡ same_keyword v w
     word_next = at_first tokens first (Word at v) le is e (is_next (word w))
@@ -200,7 +217,8 @@ module _ (tokens : List Token) (first : Token) (le : 1 ≤ length tokens) (is : 
     no_word_here = refused_first tokens first first le is refl (word_from w) (no_word w first not)
 
     pub no_word_next : is_next (word w) (seen tokens) ≡ false
-    no_word_next = at_first tokens first first le is refl (is_next (word w)) ∙ other_than_word w first (seen (behind_first tokens)) not
+    no_word_next = at_first tokens first first le is refl (is_next (word w)) ∙ other_than_word w first
+        (seen (behind_first tokens)) not
 
 -- ---- names
 

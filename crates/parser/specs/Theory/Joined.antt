@@ -21,7 +21,8 @@ pub data Done {B : Type 0} (x : B) : B → List Tok → List Tok → Type 0 wher
   done : {ts : List Tok} → Done x x ts ts
 
 -- a part, and what is behind it
-pub data Both {A B : Type 0} (RF : A → List Tok → List Tok → Type 0) (RG : A → B → List Tok → List Tok → Type 0) : B → List Tok → List Tok → Type 0 where
+pub data Both {A B : Type 0} (RF : A → List Tok → List Tok → Type 0) (RG : A → B → List Tok → List Tok → Type 0) : B →
+    List Tok → List Tok → Type 0 where
   both : {x : A} {y : B} {ts mid rest : List Tok} → RF x ts mid → RG x y mid rest → Both RF RG y ts rest
 
 -- tokens that a part reads, whatever stands behind them
@@ -36,12 +37,14 @@ no_room r e = absurd (omega arith)
 
 module _ (limit : ℕ) where
   -- a part, where P holds
-  pub record Part (P : Type 0) {A : Type 0} (R : A → List Tok → List Tok → Type 0) (f : Reader A) (n d e : ℕ) : Type 0 where
+  pub record Part (P : Type 0) {A : Type 0} (R : A → List Tok → List Tok → Type 0) (f : Reader A) (n d e : ℕ) : Type 0
+      where
     pub law : P → Law limit R f n d e
     pub can : Can R
 
   -- what is behind some parts that gave x
-  pub record Rest (P : Type 0) {X B : Type 0} (R : X → B → List Tok → List Tok → Type 0) (g : X → Reader B) (n d e : ℕ) : Type 0 where
+  pub record Rest (P : Type 0) {X B : Type 0} (R : X → B → List Tok → List Tok → Type 0) (g : X → Reader B) (n d e : ℕ)
+      : Type 0 where
     pub law : P → (x : X) → Law limit (R x) (g x) n d e
     pub can : (rest : List Tok) → (ts : List Tok) × ((x : X) → (y : B) × R x y ts rest)
 
@@ -58,19 +61,29 @@ module _ (limit : ℕ) where
       → Rest P (λ (x : X). Both RF (λ a. R (x, a))) (λ (x : X) ts. f ts >>= λ a. g (x, a.0) a.1) n d h
   then_part {RF = RF} {f = f} {R = R} {g = g} {n = n} {m = m} {d = d} {e = e} {h = h} part more = record {
     law = λ p x.
-        then_law limit RF (Both RF (λ a. R (x, a))) f (λ a. g (x, a)) n m d e h (part.law p) (λ rest. let k = more.can rest in (k.0, λ a. ((k.1 (x, a)).0, λ ts is. both is (k.1 (x, a)).1))) (λ a ts. implies limit (R (x, a)) (Then RF (Both RF (λ a. R (x, a))) a) (Says (g (x, a))) m e h ts (λ y us rest r vs is. both is r) (g (x, a) ts) (more.law p (x, a) ts));
-    can = λ rest. let k = more.can rest in let j = part.can k.0 in (j.1, λ x. ((k.1 (x, j.0)).0, both j.2 (k.1 (x, j.0)).1));
+        then_law limit RF (Both RF (λ a. R (x, a))) f (λ a. g (x, a)) n m d e h (part.law p)
+            (λ rest. let k = more.can rest in (k.0, λ a. ((k.1 (x, a)).0, λ ts is. both is (k.1 (x, a)).1)))
+            (λ a ts. implies limit (R (x, a)) (Then RF (Both RF (λ a. R (x, a))) a) (Says (g (x, a))) m e h ts
+            (λ y us rest r vs is. both is r) (g (x, a) ts) (more.law p (x, a) ts));
+    can = λ rest. let k = more.can rest in let j = part.can k.0 in (j.1, λ x.
+        ((k.1 (x, j.0)).0, both j.2 (k.1 (x, j.0)).1));
   }
 
   -- an opening sign, and what is behind it, which is read only where one may be opened
   pub then_open : {P X B : Type 0} (s : Sign) (room : ℕ) {R : X × Span → B → List Tok → List Tok →
       Type 0} {g : X × Span → Reader B} {m d h : ℕ}
       → d + room ≡ limit → IsOpening (mark s) → Rest (0 < room) R g m (after_sign d s) h
-      → Rest P (λ (x : X). Both (IsTok (mark s)) (λ a. R (x, a))) (λ (x : X) ts. open_at s room ts >>= λ a. g (x, a.0) a.1) 1 d h
+      → Rest P (λ (x : X). Both (IsTok (mark s)) (λ a. R (x, a))) (λ (x : X) ts. open_at s room ts >>= λ a. g (x, a.0)
+          a.1) 1 d h
   then_open s room {R = R} {g = g} {m = m} {d = d} {h = h} sum opens more = record {
     law = λ p x.
-        open_then_law limit (Both (IsTok (mark s)) (λ a. R (x, a))) s room (λ a. g (x, a)) m d h sum opens (λ rest. let k = more.can rest in (k.0, λ a. ((k.1 (x, a)).0, λ ts is. both is (k.1 (x, a)).1))) (λ r e a ts. implies limit (R (x, a)) (Then (IsTok (mark s)) (Both (IsTok (mark s)) (λ a. R (x, a))) a) (Says (g (x, a))) m (after_sign d s) h ts (λ y us rest q vs is. both is q) (g (x, a) ts) (more.law (omega (arith, e)) (x, a) ts));
-    can = λ rest. let k = more.can rest in (tok (mark s) nowhere ∷ k.0, λ x. ((k.1 (x, nowhere)).0, both is_tok (k.1 (x, nowhere)).1));
+        open_then_law limit (Both (IsTok (mark s)) (λ a. R (x, a))) s room (λ a. g (x, a)) m d h sum opens
+            (λ rest. let k = more.can rest in (k.0, λ a. ((k.1 (x, a)).0, λ ts is. both is (k.1 (x, a)).1)))
+            (λ r e a ts. implies limit (R (x, a)) (Then (IsTok (mark s)) (Both (IsTok (mark s)) (λ a. R (x, a))) a)
+            (Says (g (x, a))) m (after_sign d s) h ts (λ y us rest q vs is. both is q) (g (x, a) ts)
+            (more.law (omega (arith, e)) (x, a) ts));
+    can = λ rest. let k = more.can rest in (tok (mark s) nowhere ∷ k.0, λ x.
+        ((k.1 (x, nowhere)).0, both is_tok (k.1 (x, nowhere)).1));
   }
 
   -- the law of the whole
@@ -78,22 +91,26 @@ module _ (limit : ℕ) where
       Reader B} {n d e : ℕ} (RH : B → List Tok → List Tok →
       Type 0) → Rest (Unit {0}) R g n d e → ((y : B) (ts rest : List Tok) → R tt y ts rest →
       RH y ts rest) → Law limit RH (g tt) n d e
-  production {R = R} {g = g} {n = n} {d = d} {e = e} RH rest is ts = implies limit (R tt) RH (Says (g tt)) n d e ts is (g tt ts) (rest.law tt tt ts)
+  production {R = R} {g = g} {n = n} {d = d} {e = e} RH rest is ts = implies limit (R tt) RH (Says (g tt)) n d e ts is
+      (g tt ts) (rest.law tt tt ts)
 
   -- ---- single tokens
 
   pub sign_part : {P : Type 0} (s : Sign) (d : ℕ) → (IsOpening (mark s) → ⊥) →
       Part P (IsTok (mark s)) (sign_at s) 1 d (after_sign d s)
-  sign_part s d shut = record { law = λ p. sign_law limit s d (λ o. absurd (shut o)); can = λ rest. (nowhere, tok (mark s) nowhere ∷ rest, is_tok) }
+  sign_part s d shut = record { law = λ p. sign_law limit s d (λ o. absurd (shut o)); can = λ rest.
+      (nowhere, tok (mark s) nowhere ∷ rest, is_tok) }
 
   pub word_part : {P : Type 0} (w : Keyword) (d : ℕ) → Part P (IsTok (word w)) (word_at w) 1 d d
   word_part w d = record { law = λ p. word_law limit w d; can = λ rest. (nowhere, tok (word w) nowhere ∷ rest, is_tok) }
 
   pub name_part : {P : Type 0} (d : ℕ) → Part P IsName name_at 1 d d
-  name_part d = record { law = λ p. name_law limit d; can = λ rest. (record { text = []; span = nowhere }, tok (name []) nowhere ∷ rest, is_name) }
+  name_part d = record { law = λ p. name_law limit d; can = λ rest. (record { text = []; span = nowhere }, tok (name [])
+      nowhere ∷ rest, is_name) }
 
   pub int_part : {P : Type 0} (d : ℕ) → Part P IsInt int_at 1 d d
-  int_part d = record { law = λ p. int_law limit d; can = λ rest. (record { value = 0; span = nowhere }, tok (int 0) nowhere ∷ rest, is_int_tok) }
+  int_part d = record { law = λ p. int_law limit d; can = λ rest. (record { value = 0; span = nowhere }, tok (int 0)
+      nowhere ∷ rest, is_int_tok) }
 
   -- ---- parts that may be left out, and lists
 
@@ -105,7 +122,8 @@ module _ (limit : ℕ) where
     unless_law : (k : Lexeme) (f : Reader A) (d : ℕ) (ts : List Tok) (b : Bool) → is_next k ts ≡ b →
         LawAt limit R (Says f) 1 d d ts (f ts) → NextAt limit R (next_until k f) d ts (next_unless b (f ts))
     unless_law k f d ts true e h = λ other same. ap (λ b. next_unless b (f other)) (is_next-same k ts other same ∙ e)
-    unless_law k f d ts false e h = said limit R (Says f) (SaysNext (next_until k f)) 1 d d ts (λ us q same s. ap (λ b. next_unless b (f us)) (is_next-same k ts us same ∙ e) ∙ ap Some s) (f ts) h
+    unless_law k f d ts false e h = said limit R (Says f) (SaysNext (next_until k f)) 1 d d ts
+        (λ us q same s. ap (λ b. next_unless b (f us)) (is_next-same k ts us same ∙ e) ∙ ap Some s) (f ts) h
 
     pub until_law : (k : Lexeme) (f : Reader A) (d : ℕ) → Law limit R f 1 d d → NextLaw limit R (next_until k f) d
     until_law k f d law ts = unless_law k f d ts (is_next k ts) refl (law ts)
@@ -113,7 +131,10 @@ module _ (limit : ℕ) where
     module _ (f : Reader A) (d : ℕ) (law : Law limit R f 1 d d) where
       -- a part that may be left out
       some_law : Law limit (IsOptional R) (maybe_from f true) 1 d d
-      some_law = then_law limit R (IsOptional R) f (λ x ts. Ok (Some x, ts)) 1 0 d d d law (λ rest. (rest, λ x. (Some x, λ ts is. given is))) (λ x. λ ts. record { taken = []; parts = refl; some = omega arith; no_end = tt; level = refl; shallow = tt; is = λ other us is. given is; again = λ other same. refl })
+      some_law = then_law limit R (IsOptional R) f (λ x ts. Ok (Some x, ts)) 1 0 d d d law
+          (λ rest. (rest, λ x. (Some x, λ ts is. given is))) (λ x. λ ts. record
+          { taken = []; parts = refl; some = omega arith; no_end = tt; level = refl; shallow = tt; is = λ other us is.
+          given is; again = λ other same. refl })
 
       none_law : Law limit (IsOptional R) (maybe_from f false) 0 d d
       none_law = give_law limit (IsOptional R) None d (λ ts. left_out)
@@ -121,8 +142,12 @@ module _ (limit : ℕ) where
       by_next : (k : Lexeme) (ts : List Tok) (b : Bool) → is_next k ts ≡ b →
           LawAt limit (IsOptional R) (Says (maybe_at k f)) 0 d d ts (maybe_from f b ts)
       unfolding maybe_at
-      by_next k ts true e = said limit (IsOptional R) (Says (maybe_from f true)) (Says (maybe_at k f)) 0 d d ts (λ us q same s. ap (λ b. maybe_from f b us) (is_next-same k ts us same ∙ e) ∙ s) (maybe_from f true ts) (weaken_at limit (IsOptional R) (Says (maybe_from f true)) d d ts (maybe_from f true ts) (some_law ts))
-      by_next k ts false e = said limit (IsOptional R) (Says (maybe_from f false)) (Says (maybe_at k f)) 0 d d ts (λ us q same s. ap (λ b. maybe_from f b us) (is_next-same k ts us same ∙ e) ∙ s) (maybe_from f false ts) (none_law ts)
+      by_next k ts true e = said limit (IsOptional R) (Says (maybe_from f true)) (Says (maybe_at k f)) 0 d d ts
+          (λ us q same s. ap (λ b. maybe_from f b us) (is_next-same k ts us same ∙ e) ∙ s) (maybe_from f true ts)
+          (weaken_at limit (IsOptional R) (Says (maybe_from f true)) d d ts (maybe_from f true ts) (some_law ts))
+      by_next k ts false e = said limit (IsOptional R) (Says (maybe_from f false)) (Says (maybe_at k f)) 0 d d ts
+          (λ us q same s. ap (λ b. maybe_from f b us) (is_next-same k ts us same ∙ e) ∙ s) (maybe_from f false ts)
+          (none_law ts)
 
       pub maybe_law : (k : Lexeme) → Law limit (IsOptional R) (maybe_at k f) 0 d d
       unfolding maybe_at
@@ -143,15 +168,22 @@ module _ (limit : ℕ) where
         behind_law : (t : Tok) → t.kind ≡ mark s → Law limit (at_rest (IsAfter s R) t) f 1 (open_after d t.kind) d
         behind_law t e ts =
             let same : t ≡ tok (mark s) t.span = ap (λ (k : Lexeme). tok k t.span) e in
-            subst (λ (n : ℕ). LawAt limit (at_rest (IsAfter s R) t) (Says f) 1 n d ts (f ts)) (sym (ap (open_after d) e ∙ flat)) (implies limit R (at_rest (IsAfter s R) t) (Says f) 1 d d ts (λ x us rest is. subst (λ (u : Tok). IsAfter s R x (u ∷ us) rest) (sym same) (after is)) (f ts) (law ts))
+            subst (λ (n : ℕ). LawAt limit (at_rest (IsAfter s R) t) (Says f) 1 n d ts (f ts))
+                (sym (ap (open_after d) e ∙ flat)) (implies limit R (at_rest (IsAfter s R) t) (Says f) 1 d d ts
+                (λ x us rest is. subst (λ (u : Tok). IsAfter s R x (u ∷ us) rest) (sym same) (after is)) (f ts)
+                (law ts))
 
         found_sign : (t : Tok) (ts : List Tok) (b : Bool) → is_sign s t.kind ≡ b →
             NextAt limit (IsAfter s R) (next_after s f) d (t ∷ ts) (behind f (cond b (Some ts) None))
         unfolding skip_at
-        found_sign t ts false e = λ other same. ap (λ (us : List Tok). next_after s f us) same.1 ∙ ap (λ b. behind f (cond b (Some same.0) None)) e
+        found_sign t ts false e = λ other same. ap (λ (us : List Tok). next_after s f us) same.1 ∙ ap
+            (λ b. behind f (cond b (Some same.0) None)) e
         found_sign t ts true e =
             let is : t.kind ≡ mark s = is_sign-true t.kind e in
-            prefixed limit (IsAfter s R) (Says f) (SaysNext (next_after s f)) 1 d d t (λ us q h. ap (λ b. behind f (cond b (Some us) None)) e ∙ ap Some h) ts (λ bad. sign_is_no_end (sym is ∙ bad)) (λ o. absurd (shut (subst IsOpening is o))) (f ts) (behind_law t is ts)
+            prefixed limit (IsAfter s R) (Says f) (SaysNext (next_after s f)) 1 d d t
+                (λ us q h. ap (λ b. behind f (cond b (Some us) None)) e ∙ ap Some h) ts
+                (λ bad. sign_is_no_end (sym is ∙ bad)) (λ o. absurd (shut (subst IsOpening is o))) (f ts)
+                (behind_law t is ts)
 
         next_after_law : NextLaw limit (IsAfter s R) (next_after s f) d
         unfolding skip_at
@@ -160,7 +192,8 @@ module _ (limit : ℕ) where
 
         pub after_each_law : Law limit (AreMany (IsAfter s R)) (after_each s f) 0 d d
         unfolding after_each
-        after_each_law = many_law limit (IsAfter s R) (AreMany (IsAfter s R)) [] ◌∷◌ (next_after s f) d next_after_law (λ ts. no_more) (λ x l ts mid rest a b. one_more a b)
+        after_each_law = many_law limit (IsAfter s R) (AreMany (IsAfter s R)) [] ◌∷◌ (next_after s f) d next_after_law
+            (λ ts. no_more) (λ x l ts mid rest a b. one_more a b)
 
         pub after_each_next : NextLaw limit (IsAfter s R) (next_after s f) d
         after_each_next = next_after_law
@@ -168,8 +201,12 @@ module _ (limit : ℕ) where
       -- items with commas between them
       listed_some : Law limit (AreListed R) (listed_from f false) 1 d d
       listed_some =
-          then_law limit R (AreListed R) f (λ x ts. after_each Comma f ts >>= λ l. Ok (x ∷ l.0, l.1)) 1 0 d d d law (λ rest. (rest, λ x. (x ∷ [], λ ts is. listed is no_more))) (λ x.
-          then_law limit (AreMany (IsAfter Comma R)) _ (after_each Comma f) (λ l ts. Ok (x ∷ l, ts)) 0 0 d d d (after_each_law Comma refl (λ o. o)) (λ rest. (rest, λ l. (x ∷ l, λ ts ls us is. listed is ls))) (λ l ts. record { taken = []; parts = refl; some = omega arith; no_end = tt; level = refl; shallow = tt; is = λ other us ls vs is. listed is ls; again = λ other same. refl }))
+          then_law limit R (AreListed R) f (λ x ts. after_each Comma f ts >>= λ l. Ok (x ∷ l.0, l.1)) 1 0 d d d law
+              (λ rest. (rest, λ x. (x ∷ [], λ ts is. listed is no_more))) (λ x.
+          then_law limit (AreMany (IsAfter Comma R)) _ (after_each Comma f) (λ l ts. Ok (x ∷ l, ts)) 0 0 d d d
+              (after_each_law Comma refl (λ o. o)) (λ rest. (rest, λ l. (x ∷ l, λ ts ls us is. listed is ls)))
+              (λ l ts. record { taken = []; parts = refl; some = omega arith; no_end = tt; level = refl; shallow = tt;
+              is = λ other us ls vs is. listed is ls; again = λ other same. refl }))
 
       listed_none : Law limit (AreListed R) (listed_from f true) 0 d d
       listed_none = give_law limit (AreListed R) [] d (λ ts. none_listed)
@@ -177,8 +214,13 @@ module _ (limit : ℕ) where
       by_close : (ts : List Tok) (b : Bool) → is_next (mark CloseParen) ts ≡ b →
           LawAt limit (AreListed R) (Says (listed_at f)) 0 d d ts (listed_from f b ts)
       unfolding listed_at
-      by_close ts true e = said limit (AreListed R) (Says (listed_from f true)) (Says (listed_at f)) 0 d d ts (λ us q same s. ap (λ b. listed_from f b us) (is_next-same (mark CloseParen) ts us same ∙ e) ∙ s) (listed_from f true ts) (listed_none ts)
-      by_close ts false e = said limit (AreListed R) (Says (listed_from f false)) (Says (listed_at f)) 0 d d ts (λ us q same s. ap (λ b. listed_from f b us) (is_next-same (mark CloseParen) ts us same ∙ e) ∙ s) (listed_from f false ts) (weaken_at limit (AreListed R) (Says (listed_from f false)) d d ts (listed_from f false ts) (listed_some ts))
+      by_close ts true e = said limit (AreListed R) (Says (listed_from f true)) (Says (listed_at f)) 0 d d ts
+          (λ us q same s. ap (λ b. listed_from f b us) (is_next-same (mark CloseParen) ts us same ∙ e) ∙ s)
+          (listed_from f true ts) (listed_none ts)
+      by_close ts false e = said limit (AreListed R) (Says (listed_from f false)) (Says (listed_at f)) 0 d d ts
+          (λ us q same s. ap (λ b. listed_from f b us) (is_next-same (mark CloseParen) ts us same ∙ e) ∙ s)
+          (listed_from f false ts) (weaken_at limit (AreListed R) (Says (listed_from f false)) d d ts
+          (listed_from f false ts) (listed_some ts))
 
       pub listed_law : Law limit (AreListed R) (listed_at f) 0 d d
       unfolding listed_at
@@ -187,25 +229,31 @@ module _ (limit : ℕ) where
   -- parts of these
   pub maybe_part : {P A : Type 0} {R : A → List Tok → List Tok → Type 0} {f : Reader A} (k : Lexeme) (d : ℕ) →
       Part P R f 1 d d → Part P (IsOptional R) (maybe_at k f) 0 d d
-  maybe_part {R = R} {f = f} k d part = record { law = λ p. maybe_law R f d (part.law p) k; can = λ rest. (None, rest, left_out) }
+  maybe_part {R = R} {f = f} k d part = record { law = λ p. maybe_law R f d (part.law p) k; can = λ rest.
+      (None, rest, left_out) }
 
   pub listed_part : {P A : Type 0} {R : A → List Tok → List Tok → Type 0} {f : Reader A} (d : ℕ) → Part P R f 1 d d →
       Part P (AreListed R) (listed_at f) 0 d d
-  listed_part {R = R} {f = f} d part = record { law = λ p. listed_law R f d (part.law p); can = λ rest. ([], rest, none_listed) }
+  listed_part {R = R} {f = f} d part = record { law = λ p. listed_law R f d (part.law p); can = λ rest.
+      ([], rest, none_listed) }
 
   pub after_each_part : {P A : Type 0} {R : A → List Tok → List Tok → Type 0} {f : Reader A} (s : Sign) (d : ℕ) →
       after_sign d s ≡ d → (IsOpening (mark s) → ⊥) → Part P R f 1 d d →
       Part P (AreMany (IsAfter s R)) (after_each s f) 0 d d
-  after_each_part {R = R} {f = f} s d flat shut part = record { law = λ p. after_each_law R f d (part.law p) s flat shut; can = λ rest. ([], rest, no_more) }
+  after_each_part {R = R} {f = f} s d flat shut part = record { law = λ p. after_each_law R f d (part.law p) s flat
+      shut; can = λ rest. ([], rest, no_more) }
 
   -- ---- one part or another, by the next token
 
-  module _ {A : Type 0} (R : A → List Tok → List Tok → Type 0) (k : Lexeme) (f g : Reader A) (m d e : ℕ) (law_f : Law limit R f m d e) (law_g : Law limit R g m d e) where
+  module _ {A : Type 0} (R : A → List Tok → List Tok → Type 0) (k : Lexeme) (f g : Reader A) (m d e : ℕ)
+      (law_f : Law limit R f m d e) (law_g : Law limit R g m d e) where
     by_choice : (ts : List Tok) (b : Bool) → is_next k ts ≡ b →
         LawAt limit R (Says (choose k f g)) m d e ts (chosen f g b ts)
     unfolding choose
-    by_choice ts true e' = said limit R (Says f) (Says (choose k f g)) m d e ts (λ us q same s. ap (λ b. chosen f g b us) (is_next-same k ts us same ∙ e') ∙ s) (f ts) (law_f ts)
-    by_choice ts false e' = said limit R (Says g) (Says (choose k f g)) m d e ts (λ us q same s. ap (λ b. chosen f g b us) (is_next-same k ts us same ∙ e') ∙ s) (g ts) (law_g ts)
+    by_choice ts true e' = said limit R (Says f) (Says (choose k f g)) m d e ts
+        (λ us q same s. ap (λ b. chosen f g b us) (is_next-same k ts us same ∙ e') ∙ s) (f ts) (law_f ts)
+    by_choice ts false e' = said limit R (Says g) (Says (choose k f g)) m d e ts
+        (λ us q same s. ap (λ b. chosen f g b us) (is_next-same k ts us same ∙ e') ∙ s) (g ts) (law_g ts)
 
     pub choose_law : Law limit R (choose k f g) m d e
     unfolding choose
@@ -217,5 +265,7 @@ module _ (limit : ℕ) where
 
   -- what is behind some parts, chosen so
   pub either : {P X B : Type 0} {R : X → B → List Tok → List Tok → Type 0} {f g : X →
-      Reader B} {m d e : ℕ} (k : Lexeme) → Rest P R f m d e → Rest P R g m d e → Rest P R (λ x. choose k (f x) (g x)) m d e
-  either {R = R} {f = f} {g = g} {m = m} {d = d} {e = e} k a b = record { law = λ p x. choose_law (R x) k (f x) (g x) m d e (a.law p x) (b.law p x); can = b.can }
+      Reader B} {m d e : ℕ} (k : Lexeme) → Rest P R f m d e → Rest P R g m d e → Rest P R (λ x. choose k (f x) (g x)) m
+          d e
+  either {R = R} {f = f} {g = g} {m = m} {d = d} {e = e} k a b = record
+      { law = λ p x. choose_law (R x) k (f x) (g x) m d e (a.law p x) (b.law p x); can = b.can }

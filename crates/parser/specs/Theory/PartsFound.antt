@@ -34,7 +34,9 @@ index_back is_index = both is_tok (both is_int_tok (both is_tok done))
 
 pub index_found : (room : ℕ) → FindsPart Anything IsIndex (index_at room)
 unfolding index_at
-index_found room = production_found IsIndex (open_then OpenBracket room (λ r e. and_found int_found (and_found (sign_found CloseBracket) (ends_found (λ x. x.0.1))))) (λ y ts rest h. index_back h)
+index_found room = production_found IsIndex (open_then OpenBracket room
+    (λ r e. and_found int_found (and_found (sign_found CloseBracket) (ends_found (λ x. x.0.1)))))
+    (λ y ts rest h. index_back h)
 
 pub const_found : (room : ℕ) → FindsPart Anything IsConst (const_at room)
 unfolding const_at int_at
@@ -43,7 +45,8 @@ const_found room x ts mid is_negative follow = found refl
 const_found room x ts mid is_null_const follow = found refl
 const_found room _ ts mid (is_member_const {x = x} {n = n} {begin = begin} {close = close}) follow =
     let us = tok (mark OpenBracket) begin ∷ int_tok n ∷ tok (mark CloseBracket) close ∷ mid in
-    finds_then (index_at room us) (λ n. Ok (member_const x n.0, n.1)) (n, mid) (member_const x n, mid) (index_found room n us mid is_index tt) (found refl)
+    finds_then (index_at room us) (λ n. Ok (member_const x n.0, n.1)) (n, mid) (member_const x n, mid)
+        (index_found room n us mid is_index tt) (found refl)
 
 -- ---- a part behind a sign
 
@@ -54,7 +57,8 @@ after_back (after r) = both is_tok (both r done)
 pub after_found : {A : Type 0} {R : A → List Tok → List Tok → Type 0} {f : Reader A} (s : Sign) →
     FindsPart Anything R f → FindsPart Anything (IsAfter s R) (after_at s f)
 unfolding after_at
-after_found {A = A} {R = R} s part = production_found (IsAfter s R) (and_found (sign_found s) (and_found part (ends_found (λ (x : (Unit {0} × Span) × A). x.1)))) (λ y ts rest h. after_back h)
+after_found {A = A} {R = R} s part = production_found (IsAfter s R) (and_found (sign_found s)
+    (and_found part (ends_found (λ (x : (Unit {0} × Span) × A). x.1)))) (λ y ts rest h. after_back h)
 
 -- ---- annotations
 
@@ -64,14 +68,19 @@ unfolding skip_at
 close_no_dot (both is_tok r) = refl
 
 protection_back : {y : Protection} {ts rest : List Tok} → IsProtection y ts rest →
-    Both (IsTok (word keyword.ProtectedBy)) (λ w. Both (IsTok (mark OpenParen)) (λ b. Both IsName (λ x. Both (AreMany (IsAfter Dot IsName)) (λ more. Both (IsTok (mark CloseParen)) (λ c. Done (record { first = x; rest = more })))))) y ts rest
+    Both (IsTok (word keyword.ProtectedBy)) (λ w. Both (IsTok (mark OpenParen))
+        (λ b. Both IsName (λ x. Both (AreMany (IsAfter Dot IsName)) (λ more. Both (IsTok (mark CloseParen))
+        (λ c. Done (record { first = x; rest = more })))))) y ts rest
 protection_back (is_protection h) = both is_tok (both is_tok (both is_name (both h (both is_tok done))))
 
 protection_found : (room : ℕ) → FindsPart Anything IsProtection (protection_at room)
 unfolding protection_at
 protection_found room =
     production_found IsProtection
-    (and_found (word_found keyword.ProtectedBy) (open_then OpenParen room (λ r e. and_found name_found (then_found {F = NoSign Dot} (each_found IsName name_at name_found Dot next_name_shortens) (λ x a y ts rest r f. close_no_dot r) (and_found (sign_found CloseParen) (ends_found (λ x. record { first = x.0.0.1; rest = x.0.1 })))))))
+    (and_found (word_found keyword.ProtectedBy) (open_then OpenParen room
+        (λ r e. and_found name_found (then_found {F = NoSign Dot} (each_found IsName name_at name_found Dot
+        next_name_shortens) (λ x a y ts rest r f. close_no_dot r) (and_found (sign_found CloseParen)
+        (ends_found (λ x. record { first = x.0.0.1; rest = x.0.1 })))))))
     (λ y ts rest h. protection_back h)
 
 protection_begins : (y : Protection) (ts rest : List Tok) → IsProtection y ts rest →
@@ -95,7 +104,8 @@ param_back (is_param t) = both t (both is_name done)
 
 param_found : FindsPart Anything IsParam param_at
 unfolding param_at
-param_found = production_found IsParam (and_found type_found (and_found name_found (ends_found (λ x. record { name = x.1; value_type = x.0.1 })))) (λ y ts rest h. param_back h)
+param_found = production_found IsParam (and_found type_found (and_found name_found
+    (ends_found (λ x. record { name = x.1; value_type = x.0.1 })))) (λ y ts rest h. param_back h)
 
 param_begins : (y : Param) (ts rest : List Tok) → IsParam y ts rest → NotNext (mark CloseParen) ts
 param_begins y ts rest (is_param is_int_type) = refl
@@ -108,12 +118,15 @@ const_begins y ts rest is_null_const = refl
 const_begins y ts rest is_member_const = refl
 
 params_back : {y : List Param} {ts rest : List Tok} → IsParams y ts rest →
-    Both (IsTok (mark OpenParen)) (λ b. Both (AreListed IsParam) (λ ps. Both (IsTok (mark CloseParen)) (λ c. Done ps))) y ts rest
+    Both (IsTok (mark OpenParen)) (λ b. Both (AreListed IsParam) (λ ps. Both (IsTok (mark CloseParen)) (λ c. Done ps)))
+        y ts rest
 params_back (is_params h) = both is_tok (both h (both is_tok done))
 
 pub params_found : (room : ℕ) → FindsPart Anything IsParams (params_at room)
 unfolding params_at
 params_found room =
     production_found IsParams
-    (open_then OpenParen room (λ r e. then_found {F = Closes} (listed_found IsParam param_at param_found next_param_shortens param_begins) (λ x a y ts rest r f. close_closes r) (and_found (sign_found CloseParen) (ends_found (λ x. x.0.1)))))
+    (open_then OpenParen room (λ r e. then_found {F = Closes} (listed_found IsParam param_at param_found
+        next_param_shortens param_begins) (λ x a y ts rest r f. close_closes r)
+        (and_found (sign_found CloseParen) (ends_found (λ x. x.0.1)))))
     (λ y ts rest h. params_back h)

@@ -30,13 +30,16 @@ param_shortens = law_shortens 0 IsParam param_at 0 0 (param_law 0 0)
 -- ---- turns
 
 pub next_name_shortens : NextShortens (next_after Dot name_at)
-next_name_shortens = next_shortens 0 (IsAfter Dot IsName) (next_after Dot name_at) 0 (after_each_next 0 IsName name_at 0 (name_law 0 0) Dot refl (λ o. o))
+next_name_shortens = next_shortens 0 (IsAfter Dot IsName) (next_after Dot name_at) 0
+    (after_each_next 0 IsName name_at 0 (name_law 0 0) Dot refl (λ o. o))
 
 pub next_const_shortens : (room : ℕ) → NextShortens (next_after Comma (const_at room))
-next_const_shortens room = next_shortens room (IsAfter Comma IsConst) (next_after Comma (const_at room)) 0 (after_each_next room IsConst (const_at room) 0 (const_law room room 0 (omega arith)) Comma refl (λ o. o))
+next_const_shortens room = next_shortens room (IsAfter Comma IsConst) (next_after Comma (const_at room)) 0
+    (after_each_next room IsConst (const_at room) 0 (const_law room room 0 (omega arith)) Comma refl (λ o. o))
 
 pub next_param_shortens : NextShortens (next_after Comma param_at)
-next_param_shortens = next_shortens 0 (IsAfter Comma IsParam) (next_after Comma param_at) 0 (after_each_next 0 IsParam param_at 0 (param_law 0 0) Comma refl (λ o. o))
+next_param_shortens = next_shortens 0 (IsAfter Comma IsParam) (next_after Comma param_at) 0
+    (after_each_next 0 IsParam param_at 0 (param_law 0 0) Comma refl (λ o. o))
 
 -- a sign and an item take a token at least
 skip_less : (b : Bool) (t : Tok) (ts : List Tok) → IfSome (cond b (Some ts) None) (λ us. length us < length (t ∷ ts))
@@ -51,6 +54,8 @@ skip_found s (t ∷ ts) = skip_less (is_sign s t.kind) t ts
 pub each_less : {A : Type 0} (s : Sign) (f : Reader A) → Shortens f → (ts after rest : List Token) (x : A) →
     skip_at s (seen ts) ≡ Some (seen after) → f (seen after) ≡ Ok (x, seen rest) → length rest < length ts
 each_less s f shorter ts after rest x found read =
-    let less = subst (λ (o : Option (List Tok)). IfSome o (λ us. length us < length (seen ts))) found (skip_found s (seen ts)) in
-    let more = subst (λ (r : Result (_ × List Tok) Stop). OnValue r (λ x. length x.1 < length (seen after))) read (shorter (seen after)) in
+    let less = subst (λ (o : Option (List Tok)). IfSome o (λ us. length us < length (seen ts))) found
+        (skip_found s (seen ts)) in
+    let more = subst (λ (r : Result (_ × List Tok) Stop). OnValue r (λ x. length x.1 < length (seen after))) read
+        (shorter (seen after)) in
     omega (arith, less, more, length-map ts seen_token, length-map rest seen_token)

@@ -20,7 +20,8 @@ pub stmt_shortens : (room : ℕ) → Shortens (stmt_at room)
 stmt_shortens room = law_shortens room IsStmt (stmt_at room) 0 0 (stmt_law room room 0 (omega arith))
 
 pub next_stmt_shortens : (room : ℕ) → NextShortens (next_until (mark CloseBrace) (stmt_at room))
-next_stmt_shortens room = next_shortens room IsStmt (next_until (mark CloseBrace) (stmt_at room)) 0 (until_law room IsStmt (mark CloseBrace) (stmt_at room) 0 (stmt_law room room 0 (omega arith)))
+next_stmt_shortens room = next_shortens room IsStmt (next_until (mark CloseBrace) (stmt_at room)) 0
+    (until_law room IsStmt (mark CloseBrace) (stmt_at room) 0 (stmt_law room room 0 (omega arith)))
 
 pub before-stmts : (xs : List the_stmt.Stmt) → before stmt stmt_of xs no_stmts ≡ stmts_of xs
 before-stmts [] = refl
@@ -32,14 +33,17 @@ module _ (room : ℕ) (xs : List the_stmt.Stmt) (ts : List Tok) (total : Result 
       with_front (before stmt stmt_of xs) (stmts_with (stmt_at room) ts) ≡ total →
       with_front (before stmt stmt_of (xs ++ x ∷ [])) (stmts_with (stmt_at room) rest) ≡ total
   unfolding stmts_with
-  stmts_go_on x rest more read so_far = until_goes_on no_stmts stmt stmt_of (mark CloseBrace) (stmt_at room) (next_stmt_shortens room) xs ts total x rest more read so_far
+  stmts_go_on x rest more read so_far = until_goes_on no_stmts stmt stmt_of (mark CloseBrace) (stmt_at room)
+      (next_stmt_shortens room) xs ts total x rest more read so_far
 
   pub stmts_end : is_next (mark CloseBrace) ts ≡ true →
       with_front (before stmt stmt_of xs) (stmts_with (stmt_at room) ts) ≡ total → total ≡ Ok (stmts_of xs, ts)
   unfolding stmts_with
-  stmts_end over so_far = until_ends no_stmts stmt stmt_of (mark CloseBrace) (stmt_at room) (next_stmt_shortens room) xs ts total over so_far ∙ ap (λ (l : Stmts). Ok (l, ts)) (before-stmts xs)
+  stmts_end over so_far = until_ends no_stmts stmt stmt_of (mark CloseBrace) (stmt_at room) (next_stmt_shortens room) xs
+      ts total over so_far ∙ ap (λ (l : Stmts). Ok (l, ts)) (before-stmts xs)
 
   pub stmts_stop : (e : Stop) → is_next (mark CloseBrace) ts ≡ false → Fails e (stmt_at room ts) →
       with_front (before stmt stmt_of xs) (stmts_with (stmt_at room) ts) ≡ total → Fails e total
   unfolding stmts_with
-  stmts_stop e more fails so_far = until_stops no_stmts stmt stmt_of (mark CloseBrace) (stmt_at room) (next_stmt_shortens room) xs ts total e more fails so_far
+  stmts_stop e more fails so_far = until_stops no_stmts stmt stmt_of (mark CloseBrace) (stmt_at room)
+      (next_stmt_shortens room) xs ts total e more fails so_far
