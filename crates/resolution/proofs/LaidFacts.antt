@@ -17,7 +17,7 @@ use Rattle.resolution.specs.Scopes.{◌>>=◌, outside, type_of, struct_named, c
 use Rattle.resolution.specs.Scopes.{structs_in, the_struct}
 use Rattle.resolution.specs.Numbers.{total, classes_of, objects_of, cells_of, classes_ahead, cells_ahead, objects_ahead}
 use Rattle.resolution.specs.Expressions.{cell_of, member_number}
-use Rattle.resolution.specs.Constants.{opened}
+use Rattle.resolution.specs.Constants.{Opens}
 use Rattle.resolution.specs.Working.Building.{array_added, pool_added}
 use Rattle.resolution.specs.Working.TypedSections.{typed_section}
 use Rattle.resolution.specs.Tables.{nothing_yet, AreTables, lock_classes}
@@ -237,7 +237,7 @@ module _ (decls : List Decl) (clean : Clean decls) (whole : core.Program) (is : 
     pub value_type : core_type.ValueType
     pub opening : Value
     pub typed : type_of (outside decls) v.value_type ≡ Some value_type
-    pub opens : opened decls value_type v.value ≡ Some opening
+    pub opens : Opens decls value_type v.value opening
     pub cell : slice_get whole.cells (cell_of decls n) ≡ Some (record { owner = owner.Global number; value_type = value_type; opening = opening })
 
   pub global_at : (n : ℕ) (v : Variable) → slice_get decls n ≡ Some (global v) → GlobalAt n v

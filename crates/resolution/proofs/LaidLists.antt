@@ -4,7 +4,6 @@ use Rattle.std.proofs.Common.{true, false, if◌then◌else◌, refl, ap, subst,
 use Rattle.std.specs.Prelude.{slice_get, take, ⊤, nat_le}
 use Rattle.resolution.specs.Limits.{up_to}
 use Rattle.resolution.specs.Scopes.{◌>>=◌, count}
-use Rattle.resolution.specs.Constants.{added}
 use Rattle.resolution.proofs.Tests.{le_of}
 
 -- ---- rows: each of one list with the one at its place in another
@@ -125,10 +124,3 @@ up_if limit n k false t e = cc
 
 pub up_got : (limit n k : ℕ) → up_to limit n ≡ Some k → (n ≡ k) × (n ≤ limit)
 up_got limit n k e = up_if limit n k (nat_le n limit) refl e
-
--- what a list with one more ahead is made of
-pub added_got : {A : Type 0} (o : Option A) (r : Option (List A)) (ys : List A) → added o r ≡ Some ys →
-    (x : A) × (xs : List A) × (o ≡ Some x) × (r ≡ Some xs) × (x ∷ xs ≡ ys)
-added_got (Some x) (Some xs) ys e = (x, xs, refl, refl, cc)
-added_got (Some x) None ys e = cc
-added_got None r ys e = cc

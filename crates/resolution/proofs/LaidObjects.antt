@@ -1,10 +1,10 @@
 -- Where a resolved program has its objects and its cells.
 use Rattle.std.proofs.Common.{◌≡◌, ℕ, zero, suc, ◌+◌, ◌<◌, ◌≤◌, List, [], ◌∷◌, ◌++◌, length, Option, Some, None, Bool}
-use Rattle.std.proofs.Common.{true, false, if◌then◌else◌, refl, sym, ap, ◌∙◌, subst, arith}
-use Rattle.std.specs.Prelude.{ℤ, neg_ℤ, slice_get, ⊤, nat_lt}
+use Rattle.std.proofs.Common.{true, false, refl, sym, ap, ◌∙◌, subst, arith}
+use Rattle.std.specs.Prelude.{ℤ, pos, neg_ℤ, slice_get, ⊤, nat_lt}
 use Rattle.std.proofs.lemmas.Option.{slice_get_within}
 use Rattle.std.proofs.lemmas.Bool.{eqb-true}
-use Rattle.syntax.specs.Trees.{Ident, Const, int_const, negative, null_const, member_const, Member, Final, Field}
+use Rattle.syntax.specs.Trees.{Ident, Const, Member, Final, Field}
 use Rattle.syntax.specs.Trees.{Struct, Pool, Decl, lock, struct, global, array, pool, init, atomic, helper, thread}
 use Rattle.core_lang.specs.declared.value.Value.{Value}
 use Rattle.core_lang.specs.declared.value.Value.TheVariants.{Int, Ref}
@@ -22,17 +22,17 @@ use Rattle.resolution.specs.Limits.{OBJECT_LIMIT}
 use Rattle.resolution.specs.Scopes.{◌>>=◌, bears, the_decl, declared_as, struct_meant, struct_named, number_at}
 use Rattle.resolution.specs.Scopes.{the_struct}
 use Rattle.resolution.specs.Numbers.{objects_ahead}
-use Rattle.resolution.specs.Expressions.{number_value, fits_type}
-use Rattle.resolution.specs.Constants.{number_sort, reference_sort, member_sort, const_sort, object_of, member_of}
-use Rattle.resolution.specs.Constants.{const_value, if_fitting, typed_const, members_of, members_in, opened}
-use Rattle.resolution.specs.Constants.{default_of, object_in, referred}
+use Rattle.resolution.specs.Expressions.{fits_type}
+use Rattle.resolution.specs.Constants.{IsOfSort, number_sort, negative_sort, null_sort, member_sort, object_of}
+use Rattle.resolution.specs.Constants.{Denotes, a_number, a_negative, no_object, an_object, Yields, yields}
+use Rattle.resolution.specs.Constants.{members_of, members_in, default_of, Opens, by_default, by_constant}
 use Rattle.resolution.specs.Working.Building.{with_elements, array_added, pool_added}
 use Rattle.resolution.specs.Tables.{nothing_yet, AreTables}
 use Rattle.resolution.proofs.Named.{named_is}
 use Rattle.resolution.specs.Theory.Facts.{struct_at}
 use Rattle.resolution.proofs.FaultlessExpressions.{Clean}
 use Rattle.resolution.proofs.Typed.{field_in}
-use Rattle.resolution.proofs.LaidLists.{rows_left, rows_right, get_last, get_behind, get_pushed, get_parts, bind_got}
+use Rattle.resolution.proofs.LaidLists.{rows_left, rows_right, get_last, get_behind, get_pushed, get_parts}
 use Rattle.resolution.proofs.LaidStages.{fields_in, finals_in, CellOf, FinalOf, Objected, Chain, Adds, Begins}
 use Rattle.resolution.proofs.LaidStages.{begins_on, begins_cell, begins_object}
 use Rattle.resolution.proofs.LaidWalk.{FieldRow, chain_leaves, chain_objects, elements_leave, elements_objects}
@@ -369,7 +369,7 @@ OwnerFact whole place (owner.Field o f) =
 
 -- a cell has its owner, and opens with a value that some constant or none gives
 abbrev pub CellFact : List Decl → core.Program → ℕ → Cell → Type 0
-CellFact decls whole place c = OwnerFact whole place c.owner × ((g : Option Const) × (opened decls c.value_type g ≡ Some c.opening))
+CellFact decls whole place c = OwnerFact whole place c.owner × ((g : Option Const) × Opens decls c.value_type g c.opening)
 
 abbrev AllCells : List Decl → core.Program → core.Program → Type 0
 AllCells decls whole p = (n : ℕ) (c : Cell) → slice_get p.cells n ≡ Some c → CellFact decls whole n c
@@ -381,7 +381,7 @@ elements_fact decls whole p a t (suc n) x at first le h k c e =
     let z : Cell = record { owner = owner.Element a n; value_type = t; opening = default_of t } in
     let len = elements_cells p a t n in
     get_pushed m.cells z k c (CellFact decls whole k c) e (elements_fact decls whole p a t n x at first (omega (arith, le)) h k c)
-    (λ i same. subst (CellFact decls whole k) same ((x, at, (let l : n < x.length = omega (arith, le) in l), (let l : k ≡ x.first + n = omega (arith, i, len, first) in l)), (None, refl)))
+    (λ i same. subst (CellFact decls whole k) same ((x, at, (let l : n < x.length = omega (arith, le) in l), (let l : k ≡ x.first + n = omega (arith, i, len, first) in l)), (None, by_default)))
 
 -- what is known of each new cell of an object
 abbrev Fresh : List Decl → core.Program → ℕ → List Member → Type 0
@@ -477,19 +477,6 @@ member_is_of decls clean whole is i x n s at less named =
     subst (λ (k : ℕ). struct_in whole k ≡ Some s) place
     (ap (λ (t : Option Object). t >>= λ u. slice_get whole.pools u.pool >>= λ v. Some v.structure) new.here ∙ ap (λ (t : ℕ). slice_get whole.pools t >>= λ v. Some v.structure) new.pool ∙ ap (λ (t : Option core.Pool). t >>= λ v. Some v.structure) p.here ∙ same)
 
-if_holds : (b : Bool) (v w : Option Value) (u : Value) → (if b then v else None) ≡ Some u → (b ≡ true) × (v ≡ Some u)
-if_holds true v w u e = (refl, e)
-if_holds false v w u e = cc
-
-fitting_got : (t : core_type.ValueType) (o : Option Sort) (v : Option Value) (u : Value) →
-    if_fitting (wanted.Value t) o v ≡ Some u → (s : Sort) × (o ≡ Some s) × (fits_type t s ≡ true) × (v ≡ Some u)
-fitting_got t (Some s) v u e = let r = if_holds (fits_type t s) v v u e in (s, refl, r.0, r.1)
-fitting_got t None v u e = cc
-
-sort_got : (o : Option ℤ) (s : Sort) → number_sort o ≡ Some s → s ≡ sort.Of Integer
-sort_got (Some z) s e = let h : sort.Of Integer ≡ s = cc in sym h
-sort_got None s e = cc
-
 number_holds : (p : core.Program) (t : core_type.ValueType) (z : ℤ) → fits_type t (sort.Of Integer) ≡ true →
     Holds p t (Int z)
 number_holds p Integer z e = tt
@@ -504,72 +491,39 @@ object_holds : (p : core.Program) (t : core_type.ValueType) (s o : ℕ) → fits
 object_holds p Integer s o e h = cc
 object_holds p (Reference r) s o e h = h ∙ ap Some (sym (eqb-true r s e))
 
-reference_got : (o : Option ℕ) (s : Sort) → reference_sort o ≡ Some s →
-    (k : ℕ) × (o ≡ Some k) × (s ≡ sort.Of (Reference k))
-reference_got (Some k) s e = (k, refl, let h : sort.Of (Reference k) ≡ s = cc in sym h)
-reference_got None s e = cc
-
 module _ (decls : List Decl) (clean : Clean decls) (whole : core.Program) (is : AreTables decls whole) where
-  member_holds : (t : core_type.ValueType) (n : ℕ) (o : Option (ℕ × Decl)) →
-      ((i : ℕ) (x : Pool) → ◌≡◌ {A = Option (ℕ × Decl)} o (Some (i, pool x)) → slice_get decls i ≡ Some (pool x)) →
-      (s : Sort) → member_sort decls o ≡ Some s → fits_type t s ≡ true → (u : Value) → member_of decls o n ≡ Some u →
-      Holds whole t u
-  member_holds t n (Some (i, pool x)) up s e fit u v =
-      let r = reference_got (struct_named decls x.target) s e in
-      let w = if_holds (nat_lt n x.length.value) (Some (Ref (Some (object_of decls i n)))) None u v in
-      let f : fits_type t (sort.Of (Reference r.0)) ≡ true = ap (fits_type t) (sym r.2) ∙ fit in
-      let same : Ref (Some (object_of decls i n)) ≡ u = (let h = w.1 in cc) in
-      subst (Holds whole t) same (object_holds whole t r.0 (object_of decls i n) f (member_is_of decls clean whole is i x n r.0 (up i x refl) (lt_of n x.length.value w.0) r.1))
-  member_holds t n (Some (i, lock x)) up s e fit u v = cc
-  member_holds t n (Some (i, struct x)) up s e fit u v = cc
-  member_holds t n (Some (i, global x)) up s e fit u v = cc
-  member_holds t n (Some (i, array x)) up s e fit u v = cc
-  member_holds t n (Some (i, init x)) up s e fit u v = cc
-  member_holds t n (Some (i, atomic x)) up s e fit u v = cc
-  member_holds t n (Some (i, helper x)) up s e fit u v = cc
-  member_holds t n (Some (i, thread x)) up s e fit u v = cc
-  member_holds t n None up s e fit u v = cc
-
-  const_by : (t : core_type.ValueType) (c : Const) (s : Sort) → const_sort decls c ≡ Some s → fits_type t s ≡ true →
-      (u : Value) → const_value decls c ≡ Some u → Holds whole t u
-  const_by t (int_const n) s e fit u v =
-      let r = bind_got (number_value n) (λ z. Some (Int z)) u v in
-      let k = sort_got (number_value n) s e in
-      let same : Int r.0 ≡ u = (let h = r.2 in cc) in
-      subst (Holds whole t) same (number_holds whole t r.0 (ap (fits_type t) (sym k) ∙ fit))
-  const_by t (negative at n) s e fit u v =
-      let r = bind_got (number_value n) (λ z. Some (Int (neg_ℤ z))) u v in
-      let k = sort_got (number_value n) s e in
-      let same : Int (neg_ℤ r.0) ≡ u = (let h = r.2 in cc) in
-      subst (Holds whole t) same (number_holds whole t (neg_ℤ r.0) (ap (fits_type t) (sym k) ∙ fit))
-  const_by t (null_const at) s e fit u v =
-      let k : sort.Null ≡ s = cc in
-      let same : Ref None ≡ u = cc in
-      subst (Holds whole t) same (null_holds whole t (ap (fits_type t) k ∙ fit))
-  const_by t (member_const x n) s e fit u v = member_holds t n.value (the_decl decls x.text) (λ i y h. (named_is bears decls x.text i (pool y) h).here) s e fit u v
+  denoted_holds : (t : core_type.ValueType) (c : Const) (s : Sort) (u : Value) → IsOfSort decls c s →
+      fits_type t s ≡ true → Denotes decls c u → Holds whole t u
+  denoted_holds t c s u (number_sort l) fit (a_number {n = n}) = number_holds whole t (pos n.value) fit
+  denoted_holds t c s u (negative_sort l) fit (a_negative {n = n}) =
+      number_holds whole t (neg_ℤ (pos n.value)) fit
+  denoted_holds t c s u null_sort fit no_object = null_holds whole t fit
+  denoted_holds t c s u (member_sort {x = x} {i = i} {s = k} {p = p} e named) fit
+      (an_object {n = n} {i = j} {p = q} g less) =
+      let same : ◌≡◌ {A = Option (ℕ × Decl)} (Some (i, pool p)) (Some (j, pool q)) = sym e ∙ g in
+      let both : ◌≡◌ {A = ℕ × Decl} (i, pool p) (j, pool q) = cc in
+      let decl : pool p ≡ pool q = ap (λ (y : ℕ × Decl). y.1) both in
+      let pools : p ≡ q = cc in
+      let target : struct_named decls q.target ≡ Some k =
+      ap (λ (r : Pool). struct_named decls r.target) (sym pools) ∙ named in
+      object_holds whole t k (object_of decls j n.value) fit
+      (member_is_of decls clean whole is j q n.value k (named_is bears decls x.text j (pool q) g).here less target)
 
   -- a constant that is given where a type is wanted is of the type
-  pub const_holds : (t : core_type.ValueType) (c : Const) (u : Value) →
-      typed_const decls (wanted.Value t) c ≡ Some u → Holds whole t u
-  const_holds t c u e = let r = fitting_got t (const_sort decls c) (const_value decls c) u e in const_by t c r.0 r.1 r.2 u r.3
+  pub const_holds : (t : core_type.ValueType) (c : Const) (u : Value) → Yields decls (wanted.Value t) c u →
+      Holds whole t u
+  const_holds t c u (yields {s = s} h fit d) = denoted_holds t c s u h fit d
 
   default_holds : (t : core_type.ValueType) → Holds whole t (default_of t)
   default_holds Integer = tt
   default_holds (Reference s) = tt
 
   -- so is the value that a thing opens with
-  pub opened_holds : (t : core_type.ValueType) (g : Option Const) (u : Value) → opened decls t g ≡ Some u →
-      Holds whole t u
-  opened_holds t None u e = let same : default_of t ≡ u = cc in subst (Holds whole t) same (default_holds t)
-  opened_holds t (Some c) u e = const_holds t c u e
-
-  object_got_in : (o : Option Value) (n : ℕ) → object_in o ≡ Some n → o ≡ Some (Ref (Some n))
-  object_got_in (Some (Ref (Some k))) n e = let s : k ≡ n = cc in ap (λ (j : ℕ). Some (Ref (Some j))) s
-  object_got_in (Some (Ref None)) n e = cc
-  object_got_in (Some (Int z)) n e = cc
-  object_got_in None n e = cc
+  pub opened_holds : (t : core_type.ValueType) (g : Option Const) (u : Value) → Opens decls t g u → Holds whole t u
+  opened_holds t g u by_default = default_holds t
+  opened_holds t g u (by_constant {c = c} h) = const_holds t c u h
 
   -- a final reference leads to an object of its struct
-  pub referred_holds : (s : ℕ) (c : Const) (n : ℕ) → referred decls (Some s) (Some c) ≡ Some n →
+  pub referred_holds : (s : ℕ) (c : Const) (n : ℕ) → Yields decls (wanted.Value (Reference s)) c (Ref (Some n)) →
       struct_in whole n ≡ Some s
-  referred_holds s c n e = const_holds (Reference s) c (Ref (Some n)) (object_got_in (typed_const decls (wanted.Value (Reference s)) c) n e)
+  referred_holds s c n h = const_holds (Reference s) c (Ref (Some n)) h

@@ -15,7 +15,7 @@ use Rattle.resolution.specs.Scopes.{◌>>=◌, Scope, outside, bears, type_of, r
 use Rattle.resolution.specs.Expressions.{want}
 use Rattle.resolution.specs.Working.TypedStatements.{Body, typed_body}
 use Rattle.resolution.specs.Statements.{after_all, ahead_of, entry}
-use Rattle.resolution.specs.Constants.{typed_const, want_of, typed_arguments}
+use Rattle.resolution.specs.Constants.{Yields, want_of, AreArguments, no_constant, one_constant}
 use Rattle.resolution.specs.Working.TypedSections.{core_locals, section_with, section_of, typed_section}
 use Rattle.resolution.specs.Tables.{nothing_yet, AreTables, AreCalls, no_call, one_call, repeated, copies}
 use Rattle.resolution.proofs.Named.{named_is}
@@ -24,7 +24,7 @@ use Rattle.resolution.proofs.FaultlessExpressions.{Clean}
 use Rattle.resolution.proofs.Typed.{types_of}
 use Rattle.resolution.proofs.TypedCalls.{TypesAre, HasHelpers}
 use Rattle.resolution.proofs.TypedStatements.{all_front, locals_got, last_local, slice_front}
-use Rattle.resolution.proofs.LaidLists.{Rows, get_last, get_pushed, bind_got, added_got}
+use Rattle.resolution.proofs.LaidLists.{Rows, get_last, get_pushed, bind_got}
 use Rattle.resolution.proofs.LaidWalk.{Step, lands, walked_whole}
 use Rattle.resolution.proofs.LaidFacts.{number_landed, keeps_threads}
 use Rattle.resolution.proofs.LaidObjects.{Holds, const_holds}
@@ -34,16 +34,13 @@ use Rattle.resolution.proofs.StatementRules.{types_the_locals}
 
 -- a constant that a parameter is given
 abbrev pub Argument : List Decl → ℕ → Param → Value → Type 0
-Argument decls n p v = (c : Const) × (typed_const decls (want_of decls p) c ≡ Some v)
+Argument decls n p v = (c : Const) × Yields decls (want_of decls p) c v
 
 arguments_got : (decls : List Decl) (n : ℕ) (ps : List Param) (cs : List Const) (vs : List Value) →
-    typed_arguments decls ps cs ≡ Some vs → Rows (Argument decls) n ps vs
-arguments_got decls n [] [] vs e = let s : [] ≡ vs = cc in subst (Rows (Argument decls) n []) s tt
-arguments_got decls n [] (c ∷ cs) vs e = cc
-arguments_got decls n (p ∷ ps) [] vs e = cc
-arguments_got decls n (p ∷ ps) (c ∷ cs) vs e =
-    let r = added_got (typed_const decls (want_of decls p) c) (typed_arguments decls ps cs) vs e in
-    subst (Rows (Argument decls) n (p ∷ ps)) r.4 ((c, r.2), arguments_got decls (suc n) ps cs r.1 r.3)
+    AreArguments decls ps cs vs → Rows (Argument decls) n ps vs
+arguments_got decls n ps cs vs no_constant = tt
+arguments_got decls n ps cs vs (one_constant {c = c} {ps = qs} {cs = ds} {vs = us} h more) =
+    ((c, h), arguments_got decls (suc n) qs ds us more)
 
 -- ---- calls
 
@@ -234,4 +231,5 @@ has_helpers decls clean whole is i s at =
 pub argument_holds : (decls : List Decl) → Clean decls → (whole : core.Program) → AreTables decls whole →
     (n : ℕ) (p : Param) (v : Value) (t : core_type.ValueType) → Argument decls n p v →
     type_of (outside decls) p.value_type ≡ Some t → Holds whole t v
-argument_holds decls clean whole is n p v t a e = const_holds decls clean whole is t a.0 v (ap (λ (o : Option core_type.ValueType). typed_const decls (want o) a.0) (sym e) ∙ a.1)
+argument_holds decls clean whole is n p v t a e =
+    const_holds decls clean whole is t a.0 v (subst (λ (o : Option core_type.ValueType). Yields decls (want o) a.0 v) e a.1)

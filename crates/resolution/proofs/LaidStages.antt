@@ -1,19 +1,22 @@
 -- What each step of resolution adds to a program.
-use Rattle.std.proofs.Common.{◌≡◌, ℕ, zero, suc, ◌+◌, ◌≤◌, List, [], ◌∷◌, ◌++◌, length, Option, Some, None}
+use Rattle.std.proofs.Common.{◌≡◌, ℕ, zero, suc, ◌+◌, ◌≤◌, List, [], ◌∷◌, ◌++◌, length, Option, Some}
 use Rattle.std.proofs.Common.{refl, sym, ap, ◌∙◌, subst, arith}
 use Rattle.std.specs.Prelude.{slice_get}
 use Rattle.syntax.specs.Trees.{Ident, Const, Member, lock_member, final_member, field_member, Final, Field, Decl}
 use Rattle.syntax.specs.Trees.{lock, struct, global, array, pool, init, atomic, helper, thread}
 use Rattle.core_lang.specs.declared.value.Value.{Value}
+use Rattle.core_lang.specs.declared.value.Value.TheVariants.{Ref}
 use Rattle.core_lang.specs.declared.value.ValueType as core_type
+use Rattle.core_lang.specs.declared.value.ValueType.TheVariants.{Reference}
 use Rattle.core_lang.specs.declared.typed.Owner.TheVariants as owner
 use Rattle.core_lang.specs.declared.typed.Cell.{Cell}
 use Rattle.core_lang.specs.declared.shape.Object.{Object}
 use Rattle.resolution.specs.declared.init_target.InitTarget.{InitTarget}
+use Rattle.resolution.specs.declared.wanted.Want.TheVariants as wanted
 use Rattle.resolution.specs.Core as core
 use Rattle.resolution.specs.Limits.{OBJECT_LIMIT, CELL_LIMIT, section_limits, helper_limits}
 use Rattle.resolution.specs.Scopes.{outside, type_of, struct_named, number_in}
-use Rattle.resolution.specs.Constants.{members_of, given, opened, default_of, referred}
+use Rattle.resolution.specs.Constants.{Yields, members_of, given, default_of, Opens}
 use Rattle.resolution.specs.Annotations.{class_of}
 use Rattle.resolution.specs.Working.TypedSections.{typed_section}
 use Rattle.resolution.proofs.StatementRules.{section_is}
@@ -80,17 +83,11 @@ lock_numbered (field_member x ∷ ms) (suc m) f e = lock_numbered ms m f e
 
 -- a field's cell
 abbrev pub CellOf : List Decl → ℕ → ℕ → Field → Cell → Type 0
-CellOf decls o k f c = (t : core_type.ValueType) × (v : Value) × (g : Option Const) × (type_of (outside decls) f.value_type ≡ Some t) × (opened decls t g ≡ Some v) × (c ≡ record { owner = owner.Field o k; value_type = t; opening = v })
+CellOf decls o k f c = (t : core_type.ValueType) × (v : Value) × (g : Option Const) × (type_of (outside decls) f.value_type ≡ Some t) × Opens decls t g v × (c ≡ record { owner = owner.Field o k; value_type = t; opening = v })
 
 -- a final reference's object
 abbrev pub FinalOf : List Decl → ℕ → Final → ℕ → Type 0
-FinalOf decls k f n = (s : ℕ) × (c : Const) × (struct_named decls f.target ≡ Some s) × (referred decls (Some s) (Some c) ≡ Some n)
-
-referred_got : (decls : List Decl) (o : Option ℕ) (g : Option Const) (n : ℕ) → referred decls o g ≡ Some n →
-    (s : ℕ) × (c : Const) × (o ≡ Some s) × (referred decls (Some s) (Some c) ≡ Some n)
-referred_got decls (Some s) (Some c) n e = (s, c, refl, e)
-referred_got decls (Some s) None n e = cc
-referred_got decls None g n e = cc
+FinalOf decls k f n = (s : ℕ) × (c : Const) × (struct_named decls f.target ≡ Some s) × Yields decls (wanted.Value (Reference s)) c (Ref (Some n))
 
 -- what an object opens with, row by row
 opened_rows : (decls : List Decl) (object : ℕ) (at : InitTarget) (fields n : ℕ) (ms : List Member) (os : List ℕ)
@@ -99,9 +96,9 @@ opened_rows : (decls : List Decl) (object : ℕ) (at : InitTarget) (fields n : �
 opened_rows decls object at fields n ms os cs with_nothing = (tt, tt)
 opened_rows decls object at fields n ms os cs (past_lock {ms = rest} h) =
     opened_rows decls object (next at) fields n rest os cs h
-opened_rows decls object at fields n ms os cs (final_opened {o = o} {f = f} {ms = rest} {os = fs} e h) =
+opened_rows decls object at fields n ms os cs (final_opened {s = s} {c = c} {ms = rest} {os = fs} e g y h) =
     let r = opened_rows decls object (next at) fields (suc n) rest fs cs h in
-    (r.0, (referred_got decls (struct_named decls f.target) (given decls at) o e, r.1))
+    (r.0, ((s, c, e, y), r.1))
 opened_rows decls object at fields n ms os cs (field_opened {f = f} {ms = rest} {cs = ds} {t = t} {v = v} e g h) =
     let r = opened_rows decls object (next at) (fields + 1) n rest os ds h in
     let one : fields + 1 ≡ suc fields = omega arith in (
@@ -157,7 +154,7 @@ Adds decls i p (lock x) q = with_class p (core.global_lock x.text) ≡ q
 Adds decls i p (struct s) q =
     (t : core.Struct) × Makes decls i s (length p.classes) s.members t ×
     (record p { classes = p.classes ++ lock_classes (length p.structs) 0 t.locks; structs = p.structs ++ t ∷ [] } ≡ q)
-Adds decls i p (global v) q = (c : ℕ) × (t : core_type.ValueType) × (w : Value) × (class_of decls v.protection ≡ Some c) × (type_of (outside decls) v.value_type ≡ Some t) × (opened decls t v.value ≡ Some w) × (length p.cells ≤ CELL_LIMIT) × (global_added p v.name.text (length p.cells) c t w ≡ q)
+Adds decls i p (global v) q = (c : ℕ) × (t : core_type.ValueType) × (w : Value) × (class_of decls v.protection ≡ Some c) × (type_of (outside decls) v.value_type ≡ Some t) × Opens decls t v.value w × (length p.cells ≤ CELL_LIMIT) × (global_added p v.name.text (length p.cells) c t w ≡ q)
 Adds decls i p (array a) q = (c : ℕ) × (t : core_type.ValueType) × (class_of decls a.protection ≡ Some c) × (type_of (outside decls) a.value_type ≡ Some t) × (with_elements (array_added p a.name.text (length p.cells) a.length.value t c) (length p.arrays) t a.length.value ≡ q)
 Adds decls i p (pool x) q = (s : ℕ) × (ms : List Member) × (struct_named decls x.target ≡ Some s) × (members_of decls x.target ≡ Some ms) × Chain decls (length p.pools) ms x.length.value (pool_added p x.name.text (length p.objects) x.length.value s) q
 Adds decls i p (init j) q = p ≡ q
