@@ -43,12 +43,15 @@ rows_length R n [] (y ∷ ys) h = absurd h
 rows_length R n (x ∷ xs) [] h = absurd h
 rows_length R n (x ∷ xs) (y ∷ ys) h = ap suc (rows_length R (suc n) xs ys h.1)
 
-pub rows_push : {A B : Type 0} (R : ℕ → A → B → Type 0) (n : ℕ) (xs : List A) (ys : List B) (x : A) (y : B) →
-    Rows R n xs ys → R (n + length ys) x y → Rows R n (xs ++ x ∷ []) (ys ++ y ∷ [])
-rows_push R n [] [] x y h r = (subst (λ (j : ℕ). R j x y) (let z : n + 0 ≡ n = omega arith in z) r, tt)
-rows_push R n [] (b ∷ ys) x y h r = absurd h
-rows_push R n (a ∷ xs) [] x y h r = absurd h
-rows_push R n (a ∷ xs) (b ∷ ys) x y h r = (h.0, rows_push R (suc n) xs ys x y h.1 (subst (λ (j : ℕ). R j x y) (let z : n + suc (length ys) ≡ suc n + length ys = omega arith in z) r))
+-- rows behind rows
+pub rows_append : {A B : Type 0} (R : ℕ → A → B → Type 0) (n : ℕ) (xs : List A) (ys : List B) (us : List A)
+    (vs : List B) → Rows R n xs ys → Rows R (n + length ys) us vs → Rows R n (xs ++ us) (ys ++ vs)
+rows_append R n [] [] us vs h r = subst (λ (j : ℕ). Rows R j us vs) (let z : n + 0 ≡ n = omega arith in z) r
+rows_append R n [] (y ∷ ys) us vs h r = absurd h
+rows_append R n (x ∷ xs) [] us vs h r = absurd h
+rows_append R n (x ∷ xs) (y ∷ ys) us vs h r =
+    let z : n + suc (length ys) ≡ suc n + length ys = omega arith in
+    (h.0, rows_append R (suc n) xs ys us vs h.1 (subst (λ (j : ℕ). Rows R j us vs) z r))
 
 -- ---- lists that grow
 
@@ -59,6 +62,9 @@ pub grows_more : {A : Type 0} (xs ys : List A) → Grows xs (xs ++ ys)
 grows_more [] ys k x e = cc
 grows_more (a ∷ xs) ys zero x e = e
 grows_more (a ∷ xs) ys (suc k) x e = grows_more xs ys k x e
+
+pub grows_on : {A : Type 0} (xs ys zs : List A) → Grows (xs ++ ys) zs → Grows xs zs
+grows_on xs ys zs g k x e = g k x (grows_more xs ys k x e)
 
 -- what stands behind
 pub get_behind : {A : Type 0} (xs ys : List A) (k : ℕ) (y : A) → slice_get ys k ≡ Some y →
@@ -89,6 +95,15 @@ get_pushed [] x zero y C e f g = g refl cc
 get_pushed [] x (suc n) y C e f g = cc
 get_pushed (z ∷ xs) x zero y C e f g = f e
 get_pushed (z ∷ xs) x (suc n) y C e f g = get_pushed xs x n y C e f (λ p s. g (ap suc p) s)
+
+-- what holds of the only one holds of each
+pub only : {A : Type 0} (F : ℕ → A → Type 0) (n : ℕ) (x : A) → F n x → (k : ℕ) (y : A) → slice_get (x ∷ []) k ≡ Some y →
+    F (n + k) y
+only F n x h zero y e =
+    let same : x ≡ y = cc in
+    let place : n ≡ n + 0 = omega arith in
+    subst (F (n + 0)) same (subst (λ (m : ℕ). F m x) place h)
+only F n x h (suc k) y e = cc
 
 pub take_front : {A : Type 0} (xs ys : List A) → take (length xs) (xs ++ ys) ≡ xs
 take_front [] ys = refl

@@ -40,6 +40,7 @@ use Rattle.resolution.proofs.FaultlessExpressions.{Clean, at_has}
 use Rattle.resolution.proofs.Typed.{map_got, get_map, final_in, field_in, final_target_is, field_type_is}
 use Rattle.resolution.proofs.TypedResolvedExprs.{Sound}
 use Rattle.resolution.proofs.TypedCalls.{HasHelpers}
+use Rattle.resolution.proofs.StatementRules.{section_is}
 use Rattle.resolution.proofs.LaidLists.{Rows, rows_right, bind_got}
 use Rattle.resolution.proofs.LaidStages.{fields_in, finals_in}
 use Rattle.resolution.proofs.LaidWalk.{FinalRow, FieldRow}
@@ -149,11 +150,11 @@ module _ (decls : List Decl) (clean : Clean decls) (program : Typed) (is : Resol
 
   pub sections_are : (k : ℕ) (x : core.Section) → slice_get (core_of program).sections k ≡ Some x →
       (i : ℕ) × (s : Section) × (slice_get decls i ≡ Some (atomic s)) × (number_at decls i (atomic s) ≡ k) × (typed_section decls section_limits s ≡ Some x)
-  sections_are k x e = let r = sections_of decls clean (core_of program) is k x e in (r.place, r.section, r.at, r.number, r.typed)
+  sections_are k x e = let r = sections_of decls clean (core_of program) is k x e in (r.place, r.section, r.at, r.number, section_is r.typed)
 
   pub helpers_are : (k : ℕ) (x : core.Section) → slice_get (core_of program).helpers k ≡ Some x →
       (i : ℕ) × (s : Section) × (slice_get decls i ≡ Some (helper s)) × (number_at decls i (helper s) ≡ k) × (typed_section decls helper_limits s ≡ Some x)
-  helpers_are k x e = let r = helpers_of decls clean (core_of program) is k x e in (r.place, r.section, r.at, r.number, r.typed)
+  helpers_are k x e = let r = helpers_of decls clean (core_of program) is k x e in (r.place, r.section, r.at, r.number, section_is r.typed)
 
   pub helped : HasHelpers decls (core_of program)
   helped = has_helpers decls clean (core_of program) is
