@@ -24,11 +24,13 @@ use Rattle.resolution.proofs.FaultlessExpressions.{struct_has, Clean}
 use Rattle.resolution.proofs.FaultlessMembers.{is_field, is_final, count_few}
 use Rattle.resolution.proofs.FaultlessPrograms.{struct_few}
 use Rattle.resolution.proofs.TypedResolvedExprs.{Sound}
-use Rattle.resolution.proofs.LaidLists.{Rows, rows_left, rows_right, rows_append, get_last, get_behind, only}
+use Rattle.resolution.proofs.LaidLists.{Rows, rows_append, get_last, get_behind, only}
 use Rattle.resolution.proofs.LaidStages.{fields_in, finals_in, locks_in, field_numbered, final_numbered, global_cell}
 use Rattle.resolution.proofs.LaidStages.{array_row, pool_row}
 use Rattle.resolution.proofs.LaidWalk.{LockRow, ClassRow, FinalRow, FieldRow, parted, fields_counted, Step}
-use Rattle.resolution.proofs.LaidWalk.{added, Landed, lands, each_row, walked_whole}
+use Rattle.resolution.proofs.LaidWalk.{NewRows, added, Landed, lands, each_row, walked_whole}
+use Rattle.resolution.proofs.LaidLists.{row_left, row_right}
+use Rattle.resolution.proofs.LaidStages.{stands}
 
 -- ---- numbers
 
@@ -71,7 +73,7 @@ module _ (decls : List Decl) (clean : Clean decls) (whole : core.Program) (is : 
         opens = a.5;
         cell = subst (λ (k : ℕ). slice_get whole.cells k ≡ Some c)
             (ahead ∙ sym (under (cells_ahead decls n) CELL_LIMIT small))
-            (l.step.ends.cells (length p.cells) c (get_last p.cells c []));
+            (stands (λ z. z.cells) (λ z a. refl) l.step.ends (length p.cells) c (get_last p.cells c []));
       }
 
   pub record ArrayAt (n : ℕ) (x : Array) : Type 0 where
@@ -95,7 +97,7 @@ module _ (decls : List Decl) (clean : Clean decls) (whole : core.Program) (is : 
         value_type = a.1;
         typed = a.3;
         here = subst (λ (k : ℕ). slice_get whole.arrays k ≡ Some y) number
-            (l.step.ends.arrays (length p.arrays) y (get_last p.arrays y []));
+            (stands (λ z. z.arrays) (λ z a. refl) l.step.ends (length p.arrays) y (get_last p.arrays y []));
       }
 
   pub record PoolAt (n : ℕ) (x : Pool) : Type 0 where
@@ -114,7 +116,7 @@ module _ (decls : List Decl) (clean : Clean decls) (whole : core.Program) (is : 
       l.step.counts.objects ∙ sym (total_landed decls whole n (pool x) l objects_of) in
       let number : length p.pools ≡ number_at decls n (pool x) =
       l.step.counts.pools x ∙ sym (number_landed decls whole n (pool x) l) in
-      let here = l.step.ends.pools (length p.pools) (pool_row p x s) (get_last p.pools (pool_row p x s) []) in
+      let here = stands (λ z. z.pools) (λ z a. refl) l.step.ends (length p.pools) (pool_row p x s) (get_last p.pools (pool_row p x s) []) in
       record {
         structure = s;
         named = l.step.news.named;
@@ -139,7 +141,7 @@ structs_more [] d = refl
 structs_more (struct x ∷ before) d = ap (λ (xs : List Struct). x ∷ xs) (structs_more before d)
 structs_more (y ∷ before) d = structs_more before d
 
-struct_landed : (decls : List Decl) (whole : core.Program) (before : List Decl) (x : Struct) (p : core.Program)
+unfoldable pub struct_landed : (decls : List Decl) (whole : core.Program) (before : List Decl) (x : Struct) (p : core.Program)
     (st : Step decls whole before (struct x) p) → StructAt decls whole (length p.structs) x st.news.0
 struct_landed decls whole before x p st =
     let a = st.news in
@@ -154,11 +156,9 @@ struct_landed decls whole before x p st =
       number = ap (count (alike (struct x))) st.ahead ∙ sym (st.counts.structs x);
       locks = subst (λ (j : ℕ). Rows LockRow j (locks_in x.members) a.0.locks) ahead r.locks;
       classes = λ l z e.
-          (let c = rows_left (ClassRow k) 0 (locks_in x.members) cs r.classes l z e in
-          let is : c.0 ≡ core.lock_field k l =
-          c.2 ∙ ap (core.lock_field k) (let w : 0 + l ≡ l = omega arith in w) in
+          (let c = row_left (ClassRow k) (locks_in x.members) cs r.classes l z e in
           subst (λ (n : ℕ). slice_get whole.classes n ≡ Some (core.lock_field k l)) (ap (λ (n : ℕ). n + l) ahead)
-          (st.ends.classes (length p.classes + l) c.0 (get_behind p.classes cs l c.0 c.1) ∙ ap Some is));
+          (stands (λ z. z.classes) (λ z a. refl) st.ends (length p.classes + l) c.0 (get_behind p.classes cs l c.0 c.1) ∙ ap Some c.2));
       finals = r.finals;
       fields = r.fields;
     }
@@ -186,15 +186,13 @@ pub struct_of_number : (decls : List Decl) → Clean decls → (whole : core.Pro
     (s : ℕ) (x : Struct) → the_struct decls s ≡ Some x →
     (y : core.Struct) × (slice_get whole.structs s ≡ Some y) × StructAt decls whole s x y
 struct_of_number decls clean whole is s x e =
-    let r = rows_left (StructAt decls whole) 0 (structs_in decls) whole.structs (structs_are decls clean whole is) s x e in
-    (r.0, r.1, subst (λ (n : ℕ). StructAt decls whole n x r.0) (let z : 0 + s ≡ s = omega arith in z) r.2)
+    row_left (StructAt decls whole) (structs_in decls) whole.structs (structs_are decls clean whole is) s x e
 
 pub struct_by_number : (decls : List Decl) → Clean decls → (whole : core.Program) → AreTables decls whole →
     (s : ℕ) (y : core.Struct) → slice_get whole.structs s ≡ Some y →
     (x : Struct) × (the_struct decls s ≡ Some x) × StructAt decls whole s x y
 struct_by_number decls clean whole is s y e =
-    let r = rows_right (StructAt decls whole) 0 (structs_in decls) whole.structs (structs_are decls clean whole is) s y e in
-    (r.0, r.1, subst (λ (n : ℕ). StructAt decls whole n r.0 y) (let z : 0 + s ≡ s = omega arith in z) r.2)
+    row_right (StructAt decls whole) (structs_in decls) whole.structs (structs_are decls clean whole is) s y e
 
 -- ---- members
 
@@ -245,13 +243,13 @@ sound_of decls clean whole is = record {
   final = λ s x m f k at here ty.
       (let r = struct_of_number decls clean whole is s x at in
       let n = member_number x.members m (final_member f) in
-      let y = rows_left (FinalRow decls) 0 (finals_in x.members) r.0.finals r.2.finals n f (member_final decls clean x s m f at here) in
+      let y = row_left (FinalRow decls) (finals_in x.members) r.0.finals r.2.finals n f (member_final decls clean x s m f at here) in
       let same : Some y.0.target ≡ Some k = sym y.2 ∙ ty in
       ap (λ (o : Option core.Struct). o >>= λ z. slice_get z.finals n >>= λ w. Some w.target) r.1 ∙ ap (λ (o : Option core.FinalField). o >>= λ w. Some w.target) y.1 ∙ same);
   field = λ s x m f t at here ty.
       (let r = struct_of_number decls clean whole is s x at in
       let n = member_number x.members m (field_member f) in
-      let y = rows_left (FieldRow decls r.2.place x.members) 0 (fields_in x.members) r.0.fields r.2.fields n f (member_field decls clean x s m f at here) in
+      let y = row_left (FieldRow decls r.2.place x.members) (fields_in x.members) r.0.fields r.2.fields n f (member_field decls clean x s m f at here) in
       let same : Some y.0.value_type ≡ Some t = sym y.2.0 ∙ ty in
       ap (λ (o : Option core.Struct). o >>= λ z. slice_get z.fields n >>= λ w. Some w.value_type) r.1 ∙ ap (λ (o : Option core.Field). o >>= λ w. Some w.value_type) y.1 ∙ same);
 }
@@ -272,9 +270,7 @@ SectionAt decls k x = BodyAt decls atomic section_limits k x
 abbrev pub HelperAt : List Decl → ℕ → core.Section → Type 0
 HelperAt decls k x = BodyAt decls helper helper_limits k x
 
-sections_new : (decls : List Decl) (whole : core.Program) (before : List Decl) (d : Decl) (p : core.Program)
-    (st : Step decls whole before d p) (k : ℕ) (x : core.Section) → slice_get (added st).sections k ≡ Some x →
-    SectionAt decls (length p.sections + k) x
+sections_new : (decls : List Decl) (whole : core.Program) → NewRows decls whole (λ p. p.sections) (SectionAt decls)
 sections_new decls whole before (atomic s) p st k x e =
     only (SectionAt decls) (length p.sections) st.news.0
     (record {
@@ -291,9 +287,7 @@ pub sections_of : (decls : List Decl) → Clean decls → (whole : core.Program)
 sections_of decls clean whole is =
     each_row decls clean whole is (λ p. p.sections) (λ p a. refl) refl (SectionAt decls) (sections_new decls whole)
 
-helpers_new : (decls : List Decl) (whole : core.Program) (before : List Decl) (d : Decl) (p : core.Program)
-    (st : Step decls whole before d p) (k : ℕ) (x : core.Section) → slice_get (added st).helpers k ≡ Some x →
-    HelperAt decls (length p.helpers + k) x
+helpers_new : (decls : List Decl) (whole : core.Program) → NewRows decls whole (λ p. p.helpers) (HelperAt decls)
 helpers_new decls whole before (helper s) p st k x e =
     only (HelperAt decls) (length p.helpers) st.news.0
     (record {

@@ -36,6 +36,19 @@ rows_right R n (a ∷ xs) (b ∷ ys) h (suc k) y e =
     let r = rows_right R (suc n) xs ys h.1 k y e in
     (r.0, r.1, subst (λ (j : ℕ). R j r.0 y) (let z : suc n + k ≡ n + suc k = omega arith in z) r.2)
 
+-- of rows from the first on
+pub row_left : {A B : Type 0} (R : ℕ → A → B → Type 0) (xs : List A) (ys : List B) → Rows R 0 xs ys → (k : ℕ) (x : A) →
+    slice_get xs k ≡ Some x → (y : B) × (slice_get ys k ≡ Some y) × R k x y
+row_left R xs ys h k x e =
+    let r = rows_left R 0 xs ys h k x e in
+    (r.0, r.1, subst (λ (j : ℕ). R j x r.0) (let z : 0 + k ≡ k = omega arith in z) r.2)
+
+pub row_right : {A B : Type 0} (R : ℕ → A → B → Type 0) (xs : List A) (ys : List B) → Rows R 0 xs ys → (k : ℕ) (y : B) →
+    slice_get ys k ≡ Some y → (x : A) × (slice_get xs k ≡ Some x) × R k x y
+row_right R xs ys h k y e =
+    let r = rows_right R 0 xs ys h k y e in
+    (r.0, r.1, subst (λ (j : ℕ). R j r.0 y) (let z : 0 + k ≡ k = omega arith in z) r.2)
+
 pub rows_length : {A B : Type 0} (R : ℕ → A → B → Type 0) (n : ℕ) (xs : List A) (ys : List B) → Rows R n xs ys →
     length ys ≡ length xs
 rows_length R n [] [] h = refl
@@ -62,9 +75,6 @@ pub grows_more : {A : Type 0} (xs ys : List A) → Grows xs (xs ++ ys)
 grows_more [] ys k x e = cc
 grows_more (a ∷ xs) ys zero x e = e
 grows_more (a ∷ xs) ys (suc k) x e = grows_more xs ys k x e
-
-pub grows_on : {A : Type 0} (xs ys zs : List A) → Grows (xs ++ ys) zs → Grows xs zs
-grows_on xs ys zs g k x e = g k x (grows_more xs ys k x e)
 
 -- what stands behind
 pub get_behind : {A : Type 0} (xs ys : List A) (k : ℕ) (y : A) → slice_get ys k ≡ Some y →

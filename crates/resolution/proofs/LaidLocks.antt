@@ -28,12 +28,13 @@ use Rattle.resolution.proofs.AllFaults.{of_totals}
 use Rattle.resolution.proofs.TrueStatements.{length_push}
 use Rattle.resolution.proofs.FaultlessExpressions.{NoneIn, none_left, none_right, not_if, Clean}
 use Rattle.resolution.proofs.Typed.{final_in}
-use Rattle.resolution.proofs.LaidLists.{rows_left, rows_right, get_last, get_behind, only, bind_got}
-use Rattle.resolution.proofs.LaidStages.{fields_in, locks_in, lock_numbered, global_row, array_row}
-use Rattle.resolution.proofs.LaidWalk.{LockRow, ClassRow, FieldRow, parted, Step, added, lands, each_row, few}
+use Rattle.resolution.proofs.LaidLists.{rows_left, rows_right, get_last, only, bind_got}
+use Rattle.resolution.proofs.LaidStages.{stands, fields_in, locks_in, lock_numbered, global_row, array_row}
+use Rattle.resolution.proofs.LaidWalk.{NewRows, LockRow, ClassRow, FieldRow, parted, lands, each_row, few}
 use Rattle.resolution.proofs.LaidWalk.{counted_whole}
-use Rattle.resolution.proofs.LaidFacts.{struct_by_number, sound_of, under, number_landed, total_landed}
+use Rattle.resolution.proofs.LaidFacts.{struct_landed, struct_by_number, sound_of, under, total_landed}
 use Rattle.resolution.proofs.Tests.{le_false}
+use Rattle.resolution.proofs.LaidLists.{row_right}
 
 -- ---- how many classes there are
 
@@ -68,20 +69,17 @@ abbrev pub ClassFact : core.Program → ℕ → core.LockClass → Type 0
 ClassFact whole n (core.global_lock name) = ⊤
 ClassFact whole n (core.lock_field k l) = (y : core.Struct) × (slice_get whole.structs k ≡ Some y) × (f : core.LockField) × (slice_get y.locks l ≡ Some f) × (f.class ≡ n)
 
-classes_new : (decls : List Decl) (whole : core.Program) (before : List Decl) (d : Decl) (p : core.Program)
-    (st : Step decls whole before d p) (k : ℕ) (c : core.LockClass) → slice_get (added st).classes k ≡ Some c →
-    ClassFact whole (length p.classes + k) c
+classes_new : (decls : List Decl) (whole : core.Program) → NewRows decls whole (λ p. p.classes) (ClassFact whole)
 classes_new decls whole before (lock x) p st k c e =
     only (ClassFact whole) (length p.classes) (core.global_lock x.text) tt k c e
 classes_new decls whole before (struct x) p st l c e =
     let a = st.news in
     let k = length p.structs in
     let r = parted decls (length before) x (length p.classes) k 0 0 0 x.members a.0 a.1 in
-    let here = st.ends.structs k a.0 (get_last p.structs a.0 []) in
-    let z = rows_right (ClassRow k) 0 (locks_in x.members) (lock_classes k 0 a.0.locks) r.classes l c e in
+    let here = stands (λ z. z.structs) (λ z a. refl) st.ends k a.0 (get_last p.structs a.0 []) in
+    let z = row_right (ClassRow k) (locks_in x.members) (lock_classes k 0 a.0.locks) r.classes l c e in
     let f = rows_left LockRow (length p.classes) (locks_in x.members) a.0.locks r.locks l z.0 z.1 in
-    let is : c ≡ core.lock_field k l = z.2 ∙ ap (core.lock_field k) (let w : 0 + l ≡ l = omega arith in w) in
-    subst (ClassFact whole (length p.classes + l)) (sym is) (a.0, here, f.0, f.1, f.2)
+    subst (ClassFact whole (length p.classes + l)) (sym z.2) (a.0, here, f.0, f.1, f.2)
 classes_new decls whole before d p st k c e = cc
 
 pub classes_of_program : (decls : List Decl) → Clean decls → (whole : core.Program) → AreTables decls whole →
@@ -135,7 +133,7 @@ module _ (decls : List Decl) (clean : Clean decls) (whole : core.Program) (is : 
       let l = lands decls clean whole is i (lock x) at in
       let c = core.global_lock x.text in
       let p = l.was in
-      let here = l.step.ends.classes (length p.classes) c (get_last p.classes c []) in
+      let here = stands (λ z. z.classes) (λ z a. refl) l.step.ends (length p.classes) c (get_last p.classes c []) in
       let n = l.step.counts.classes in
       let t = total_landed decls whole i (lock x) l classes_of in
       class_here i 0 c (subst (λ (k : ℕ). slice_get whole.classes k ≡ Some c) (let z : length p.classes ≡ classes_ahead decls i + 0 = omega (arith, n, t) in z) here)
@@ -144,20 +142,14 @@ module _ (decls : List Decl) (clean : Clean decls) (whole : core.Program) (is : 
   lock_field_here : (i : ℕ) (x : Struct) → slice_get decls i ≡ Some (struct x) → (l : ℕ) (z : Ident) →
       slice_get (locks_in x.members) l ≡ Some z →
       slice_get whole.classes (class_number decls i l) ≡ Some (core.lock_field (number_at decls i (struct x)) l)
+  unfolding struct_landed
   lock_field_here i x at l z e =
       let d = lands decls clean whole is i (struct x) at in
-      let p = d.was in
-      let a = d.step.news in
-      let k = length p.structs in
-      let r = parted decls (length d.before) x (length p.classes) k 0 0 0 x.members a.0 a.1 in
-      let cs = lock_classes k 0 a.0.locks in
-      let c = rows_left (ClassRow k) 0 (locks_in x.members) cs r.classes l z e in
-      let here = d.step.ends.classes (length p.classes + l) c.0 (get_behind p.classes cs l c.0 c.1) in
-      let number : k ≡ number_at decls i (struct x) = d.step.counts.structs x ∙ sym (number_landed decls whole i (struct x) d) in
-      let same : c.0 ≡ core.lock_field (number_at decls i (struct x)) l = c.2 ∙ ap (core.lock_field k) (let w : 0 + l ≡ l = omega arith in w) ∙ ap (λ (j : ℕ). core.lock_field j l) number in
-      let ahead : length p.classes ≡ classes_ahead decls i = d.step.counts.classes ∙ sym (total_landed decls whole i (struct x) d classes_of) in
+      let f = struct_landed decls whole d.before x d.was d.step in
       class_here i l (core.lock_field (number_at decls i (struct x)) l)
-      (subst (λ (j : ℕ). slice_get whole.classes (j + l) ≡ Some (core.lock_field (number_at decls i (struct x)) l)) ahead (here ∙ ap Some same))
+      (subst (λ (n : ℕ). slice_get whole.classes (classes_ahead decls n + l)
+      ≡ Some (core.lock_field (number_at decls n (struct x)) l)) d.place
+      (f.classes l z e ∙ ap (λ (k : ℕ). Some (core.lock_field k l)) (sym f.number)))
 
   class_in_is : (q : List ℕ) (o : Option (ℕ × Decl)) (ys : List Ident) (c : ℕ) → the_decl decls q ≡ o →
       class_in decls o ys ≡ Some c → GlobalClass whole c
@@ -172,15 +164,13 @@ module _ (decls : List Decl) (clean : Clean decls) (whole : core.Program) (is : 
 
   -- ---- globals and arrays
 
-  globals_new : (before : List Decl) (d : Decl) (p : core.Program) (st : Step decls whole before d p) (k : ℕ)
-      (x : core.GlobalVariable) → slice_get (added st).globals k ≡ Some x → GlobalClass whole x.class
+  globals_new : NewRows decls whole (λ p. p.globals) (λ n x. GlobalClass whole x.class)
   globals_new before (global v) p st k x e =
       only (λ n y. GlobalClass whole y.class) 0 (global_row p v st.news.0) (class_of_is v.protection st.news.0 st.news.3)
       k x e
   globals_new before d p st k x e = cc
 
-  arrays_new : (before : List Decl) (d : Decl) (p : core.Program) (st : Step decls whole before d p) (k : ℕ)
-      (x : core.Array) → slice_get (added st).arrays k ≡ Some x → GlobalClass whole x.class
+  arrays_new : NewRows decls whole (λ p. p.arrays) (λ n x. GlobalClass whole x.class)
   arrays_new before (array y) p st k x e =
       only (λ n z. GlobalClass whole z.class) 0 (array_row p y st.news.0 st.news.1)
       (class_of_is y.protection st.news.0 st.news.2) k x e
@@ -292,7 +282,7 @@ module _ (decls : List Decl) (clean : Clean decls) (whole : core.Program) (is : 
       let r = struct_by_number decls clean whole is s y at in
       let x = r.0 in
       let i = r.2.place in
-      let w = rows_right (FieldRow decls i x.members) 0 (fields_in x.members) y.fields r.2.fields f z e in
+      let w = row_right (FieldRow decls i x.members) (fields_in x.members) y.fields r.2.fields f z e in
       let g = w.0 in
       let a = type_faults (outside decls) g.value_type in
       let none : NoneIn (protection_faults decls i x.members g.name.span.start g.protection) =

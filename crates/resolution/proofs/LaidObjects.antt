@@ -31,13 +31,15 @@ use Rattle.resolution.proofs.Named.{named_is}
 use Rattle.resolution.specs.Theory.Facts.{struct_at}
 use Rattle.resolution.proofs.FaultlessExpressions.{Clean}
 use Rattle.resolution.proofs.Typed.{field_in}
-use Rattle.resolution.proofs.LaidLists.{rows_left, rows_right, grows_more, get_last, get_behind, get_parts, only}
+use Rattle.resolution.proofs.LaidLists.{grows_more, get_last, get_behind, get_parts, only}
 use Rattle.resolution.proofs.LaidStages.{fields_in, finals_in, CellOf, FinalOf, Objected, Chain, Begins}
 use Rattle.resolution.proofs.LaidStages.{begins_on, plus, held, next_object, global_row, global_cell, array_row, pool_row}
 use Rattle.resolution.proofs.LaidWalk.{FieldRow, chain_objects, elements_length, all_objects_few, Step, added, new_objects}
-use Rattle.resolution.proofs.LaidWalk.{each_row, counted_whole}
+use Rattle.resolution.proofs.LaidWalk.{NewRows, each_row, counted_whole}
 use Rattle.resolution.proofs.LaidFacts.{struct_of_number, pool_at, under}
 use Rattle.resolution.proofs.Tests.{lt_of, lt_false}
+use Rattle.resolution.proofs.LaidLists.{row_left, row_right}
+use Rattle.resolution.proofs.LaidStages.{stands}
 
 -- ---- numbers
 
@@ -92,19 +94,19 @@ object_new decls whole number ms p q w b =
     let x = next_object number p in
     record {
       object = x;
-      here = b.objects (length p.objects) x (ap (λ (z : core.Program). slice_get z.objects (length p.objects)) w.is ∙ get_last p.objects x []);
+      here = stands (λ z. z.objects) (λ z a. refl) b (length p.objects) x (ap (λ (z : core.Program). slice_get z.objects (length p.objects)) w.is ∙ get_last p.objects x []);
       pool = refl;
       own = λ k f e.
-          (let r = rows_left (CellOf decls (length p.objects)) 0 (fields_in ms) w.cells w.own k f e in (
+          (let r = row_left (CellOf decls (length p.objects)) (fields_in ms) w.cells w.own k f e in (
             r.0,
-            b.cells (length p.cells + k) r.0 (ap (λ (z : core.Program). slice_get z.cells (length p.cells + k)) w.is ∙ get_behind p.cells w.cells k r.0 r.1),
-            subst (λ (j : ℕ). CellOf decls (length p.objects) j f r.0) (let z : 0 + k ≡ k = omega arith in z) r.2,
+            stands (λ z. z.cells) (λ z a. refl) b (length p.cells + k) r.0 (ap (λ (z : core.Program). slice_get z.cells (length p.cells + k)) w.is ∙ get_behind p.cells w.cells k r.0 r.1),
+            r.2,
           ));
       refs = λ k f e.
-          (let r = rows_left (FinalOf decls) 0 (finals_in ms) w.finals w.refs k f e in (
+          (let r = row_left (FinalOf decls) (finals_in ms) w.finals w.refs k f e in (
             r.0,
-            b.finals (length p.finals + k) r.0 (ap (λ (z : core.Program). slice_get z.finals (length p.finals + k)) w.is ∙ get_behind p.finals w.finals k r.0 r.1),
-            subst (λ (j : ℕ). FinalOf decls j f r.0) (let z : 0 + k ≡ k = omega arith in z) r.2,
+            stands (λ z. z.finals) (λ z a. refl) b (length p.finals + k) r.0 (ap (λ (z : core.Program). slice_get z.finals (length p.finals + k)) w.is ∙ get_behind p.finals w.finals k r.0 r.1),
+            r.2,
           ));
     }
 
@@ -149,9 +151,7 @@ pool_fact decls whole before x p st =
           (record p { pools = p.pools ++ pool_row p x n.structure ∷ [] }) (plus p (added st)) n.chain st.ends i less);
     }
 
-pools_new : (decls : List Decl) (whole : core.Program) (before : List Decl) (d : Decl) (p : core.Program)
-    (st : Step decls whole before d p) (k : ℕ) (x : core.Pool) → slice_get (added st).pools k ≡ Some x →
-    PoolFact decls whole (length p.pools + k) x
+pools_new : (decls : List Decl) (whole : core.Program) → NewRows decls whole (λ p. p.pools) (PoolFact decls whole)
 pools_new decls whole before (pool x) p st k y e =
     only (PoolFact decls whole) (length p.pools) (pool_row p x st.news.structure) (pool_fact decls whole before x p st)
     k y e
@@ -162,10 +162,9 @@ pub pools_of : (decls : List Decl) → Clean decls → (whole : core.Program) �
 pools_of decls clean whole is =
     each_row decls clean whole is (λ p. p.pools) (λ p a. refl) refl (PoolFact decls whole) (pools_new decls whole)
 
-objects_new : (decls : List Decl) → Clean decls → (whole : core.Program) (before : List Decl) (d : Decl)
-    (p : core.Program) (st : Step decls whole before d p) (k : ℕ) (y : Object) →
-    slice_get (added st).objects k ≡ Some y → ObjectAt decls whole (length p.objects + k) y
-objects_new decls clean whole before (pool x) p st k y e =
+objects_new : (decls : List Decl) (whole : core.Program) →
+    NewRows decls whole (λ p. p.objects) (ObjectAt decls whole)
+objects_new decls whole before (pool x) p st k y e =
     let n = st.news in
     let z = pool_row p x n.structure in
     let f = pool_fact decls whole before x p st in
@@ -173,12 +172,12 @@ objects_new decls clean whole before (pool x) p st k y e =
     let size = new_objects decls (length before) p (pool x) n in
     let less : k < x.length.value = omega (arith, within, size) in
     let new = f.objects k less in
-    let there = st.ends.objects (length p.objects + k) y (get_behind p.objects n.objects k y e) in
+    let there = stands (λ z. z.objects) (λ z a. refl) st.ends (length p.objects + k) y (get_behind p.objects n.objects k y e) in
     let same : new.object ≡ y = one_of whole.objects (length p.objects + k) new.object y new.here there in
     record {
       pool = z;
       there = subst (λ (m : ℕ). slice_get whole.pools m ≡ Some z) (sym new.pool ∙ ap (λ (w : Object). w.pool) same)
-          (st.ends.pools (length p.pools) z (get_last p.pools z []));
+          (stands (λ z. z.pools) (λ z a. refl) st.ends (length p.pools) z (get_last p.pools z []));
       from = omega arith;
       to = omega (arith, less);
       structure = f.structure;
@@ -186,13 +185,13 @@ objects_new decls clean whole before (pool x) p st k y e =
       own = subst (OwnOf decls whole f.structure.members (length p.objects + k)) same new.own;
       refs = subst (RefsOf decls whole f.structure.members) same new.refs;
     }
-objects_new decls clean whole before d p st k y e = cc
+objects_new decls whole before d p st k y e = cc
 
 pub objects_of_program : (decls : List Decl) → Clean decls → (whole : core.Program) → AreTables decls whole →
     (o : ℕ) (x : Object) → slice_get whole.objects o ≡ Some x → ObjectAt decls whole o x
 objects_of_program decls clean whole is =
     each_row decls clean whole is (λ p. p.objects) (λ p a. refl) refl (ObjectAt decls whole)
-    (objects_new decls clean whole)
+    (objects_new decls whole)
 
 -- ---- globals and arrays
 
@@ -202,14 +201,12 @@ GlobalFact whole g x = (c : Cell) × (slice_get whole.cells x.cell ≡ Some c) �
 abbrev pub ArrayFact : core.Program → ℕ → core.Array → Type 0
 ArrayFact whole n x = (i : ℕ) → i < x.length → (c : Cell) × (slice_get whole.cells (x.first + i) ≡ Some c) × (c.owner ≡ owner.Element n i) × (c.value_type ≡ x.element_type)
 
-globals_new : (decls : List Decl) (whole : core.Program) (before : List Decl) (d : Decl) (p : core.Program)
-    (st : Step decls whole before d p) (k : ℕ) (x : core.GlobalVariable) → slice_get (added st).globals k ≡ Some x →
-    GlobalFact whole (length p.globals + k) x
+globals_new : (decls : List Decl) (whole : core.Program) → NewRows decls whole (λ p. p.globals) (GlobalFact whole)
 globals_new decls whole before (global v) p st k x e =
     let n = st.news in
     let c = global_cell p n.1 n.2 in
     only (GlobalFact whole) (length p.globals) (global_row p v n.0)
-    (c, st.ends.cells (length p.cells) c (get_last p.cells c []), refl) k x e
+    (c, stands (λ z. z.cells) (λ z a. refl) st.ends (length p.cells) c (get_last p.cells c []), refl) k x e
 globals_new decls whole before d p st k x e = cc
 
 pub globals_of : (decls : List Decl) → Clean decls → (whole : core.Program) → AreTables decls whole →
@@ -232,9 +229,7 @@ element_at a t (suc n) i less =
     (subst (λ (k : ℕ). slice_get (elements a t (suc n)) k ≡ Some (element a t n)) len
     (get_last (elements a t n) (element a t n) []))))
 
-arrays_new : (decls : List Decl) (whole : core.Program) (before : List Decl) (d : Decl) (p : core.Program)
-    (st : Step decls whole before d p) (k : ℕ) (x : core.Array) → slice_get (added st).arrays k ≡ Some x →
-    ArrayFact whole (length p.arrays + k) x
+arrays_new : (decls : List Decl) (whole : core.Program) → NewRows decls whole (λ p. p.arrays) (ArrayFact whole)
 arrays_new decls whole before (array x) p st k y e =
     let n = st.news in
     let a = length p.arrays in
@@ -242,7 +237,7 @@ arrays_new decls whole before (array x) p st k y e =
     only (ArrayFact whole) a (array_row p x n.0 n.1)
     (λ i less. (
       element a n.1 i,
-      st.ends.cells (length p.cells + i) (element a n.1 i)
+      stands (λ z. z.cells) (λ z a. refl) st.ends (length p.cells + i) (element a n.1 i)
           (get_behind p.cells cs i (element a n.1 i) (element_at a n.1 x.length.value i less)),
       refl,
       refl,
@@ -285,22 +280,19 @@ chain_fact decls whole number ms fresh (suc n) p q c b k y from e =
     let o = length m.objects in
     let z = next_object number m in
     let before = begins_object decls number ms m q whole w b in
-    let here = b.objects o z (ap (λ (v : core.Program). slice_get v.objects o) w.is ∙ get_last m.objects z []) in
+    let here = stands (λ z. z.objects) (λ z a. refl) b o z (ap (λ (v : core.Program). slice_get v.objects o) w.is ∙ get_last m.objects z []) in
     get_parts m.cells w.cells k y (CellFact decls whole k y)
     (ap (λ (v : core.Program). slice_get v.cells k) (sym w.is) ∙ e)
     (chain_fact decls whole number ms fresh n p m c.1 before k y from)
-    (λ d. (let r = rows_right (CellOf decls o) 0 (fields_in ms) w.cells w.own d.by y d.here in
-    let g : 0 + d.by ≡ d.by = omega arith in
-    subst (λ (j : ℕ). CellFact decls whole j y) (sym d.place)
-    (fresh o z here refl d.by r.0 y r.1 (subst (λ (j : ℕ). CellOf decls o j r.0 y) g r.2))))
+    (λ d. (let r = row_right (CellOf decls o) (fields_in ms) w.cells w.own d.by y d.here in
+    subst (λ (j : ℕ). CellFact decls whole j y) (sym d.place) (fresh o z here refl d.by r.0 y r.1 r.2)))
 
 cells_new : (decls : List Decl) → Clean decls → (whole : core.Program) → AreTables decls whole →
-    (before : List Decl) (d : Decl) (p : core.Program) (st : Step decls whole before d p) (k : ℕ) (c : Cell) →
-    slice_get (added st).cells k ≡ Some c → CellFact decls whole (length p.cells + k) c
+    NewRows decls whole (λ p. p.cells) (CellFact decls whole)
 cells_new decls clean whole is before (global v) p st k c e =
     let n = st.news in
     let x = global_row p v n.0 in
-    let here = st.ends.globals (length p.globals) x (get_last p.globals x []) in
+    let here = stands (λ z. z.globals) (λ z a. refl) st.ends (length p.globals) x (get_last p.globals x []) in
     only (CellFact decls whole) (length p.cells) (global_cell p n.1 n.2) ((x, here, refl), (v.value, n.5)) k c e
 cells_new decls clean whole is before (array x) p st k c e =
     let n = st.news in
@@ -311,16 +303,16 @@ cells_new decls clean whole is before (array x) p st k c e =
     let less : k < x.length.value = omega (arith, within, len) in
     let same = one_of (elements a n.1 x.length.value) k (element a n.1 k) c (element_at a n.1 x.length.value k less) e in
     subst (CellFact decls whole (length p.cells + k)) same
-    ((y, st.ends.arrays a y (get_last p.arrays y []), less, refl), (None, by_default))
+    ((y, stands (λ z. z.arrays) (λ z a. refl) st.ends a y (get_last p.arrays y []), less, refl), (None, by_default))
 cells_new decls clean whole is before (pool x) p st k0 c e =
     let a = st.news in
     let z = pool_row p x a.structure in
-    let here = st.ends.pools (length p.pools) z (get_last p.pools z []) in
+    let here = stands (λ z. z.pools) (λ z a. refl) st.ends (length p.pools) z (get_last p.pools z []) in
     let m = named_members decls x.target a.structure a.members a.named a.are in
     let y = struct_of_number decls clean whole is a.structure m.0 m.1 in
     chain_fact decls whole (length p.pools) a.members
     (λ o w at in_pool k f c has of.
-    (let r = rows_left (FieldRow decls y.2.place m.0.members) 0 (fields_in m.0.members) y.0.fields y.2.fields k f
+    (let r = row_left (FieldRow decls y.2.place m.0.members) (fields_in m.0.members) y.0.fields y.2.fields k f
     (ap (λ (ms : List Member). slice_get (fields_in ms) k) m.2 ∙ has) in
     let structure : struct_in whole o ≡ Some a.structure =
     ap (λ (t : Option Object). t >>= λ u. slice_get whole.pools u.pool >>= λ v. Some v.structure) at

@@ -41,7 +41,7 @@ use Rattle.resolution.proofs.Typed.{map_got, get_map, final_in, field_in, final_
 use Rattle.resolution.proofs.TypedResolvedExprs.{Sound}
 use Rattle.resolution.proofs.TypedCalls.{HasHelpers}
 use Rattle.resolution.proofs.StatementRules.{section_is}
-use Rattle.resolution.proofs.LaidLists.{Rows, rows_right, bind_got}
+use Rattle.resolution.proofs.LaidLists.{Rows, bind_got}
 use Rattle.resolution.proofs.LaidStages.{fields_in, finals_in}
 use Rattle.resolution.proofs.LaidWalk.{FinalRow, FieldRow}
 use Rattle.resolution.proofs.LaidFacts.{StructAt, struct_of_number, sound_of, sections_of, helpers_of}
@@ -51,6 +51,7 @@ use Rattle.resolution.proofs.LaidScripts.{Argument, threads_of, sectioned, param
 use Rattle.resolution.proofs.LaidScripts.{argument_holds}
 use Rattle.resolution.proofs.LaidObjects.{one_of, ObjectAt, objects_of_program, pools_of, globals_of, arrays_of}
 use Rattle.resolution.proofs.LaidObjects.{struct_in, OwnerFact, cells_of_program, Holds, opened_holds, referred_holds}
+use Rattle.resolution.proofs.LaidLists.{row_right}
 
 -- ---- what the views say
 
@@ -198,7 +199,7 @@ module _ (decls : List Decl) (clean : Clean decls) (program : Typed) (is : Resol
       let a = bind_got (slice_get (core_of program).structs s) (λ y. slice_get y.fields f >>= λ z. Some z.value_type) t e in
       let same : a.0 ≡ k.view = one_of (core_of program).structs s a.0 k.view a.1 k.there in
       let b = bind_got (slice_get a.0.fields f) (λ z. Some z.value_type) t a.2 in
-      let r = rows_right (FieldRow decls k.struct_at.place k.at.structure.members) 0 (fields_in k.at.structure.members) k.view.fields k.struct_at.fields f b.0 (ap (λ (y : core.Struct). slice_get y.fields f) (sym same) ∙ b.1) in
+      let r = row_right (FieldRow decls k.struct_at.place k.at.structure.members) (fields_in k.at.structure.members) k.view.fields k.struct_at.fields f b.0 (ap (λ (y : core.Struct). slice_get y.fields f) (sym same) ∙ b.1) in
       let c = k.at.own f r.0 r.1 in
       let ty : Some c.2.0 ≡ Some t = sym c.2.3 ∙ r.2.0 ∙ b.2 in
       let eq : c.2.0 ≡ t = cc in
@@ -210,7 +211,7 @@ module _ (decls : List Decl) (clean : Clean decls) (program : Typed) (is : Resol
       let a = bind_got (slice_get (core_of program).structs s) (λ y. slice_get y.finals f >>= λ z. Some z.target) target e in
       let same : a.0 ≡ k.view = one_of (core_of program).structs s a.0 k.view a.1 k.there in
       let b = bind_got (slice_get a.0.finals f) (λ z. Some z.target) target a.2 in
-      let r = rows_right (FinalRow decls) 0 (finals_in k.at.structure.members) k.view.finals k.struct_at.finals f b.0 (ap (λ (y : core.Struct). slice_get y.finals f) (sym same) ∙ b.1) in
+      let r = row_right (FinalRow decls) (finals_in k.at.structure.members) k.view.finals k.struct_at.finals f b.0 (ap (λ (y : core.Struct). slice_get y.finals f) (sym same) ∙ b.1) in
       let c = k.at.refs f r.0 r.1 in
       let ty : Some c.2.0 ≡ Some target = sym c.2.2 ∙ r.2 ∙ b.2 in
       let h = referred_holds decls clean (core_of program) is c.2.0 c.2.1 c.0 c.2.3 in

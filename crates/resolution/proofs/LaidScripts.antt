@@ -1,7 +1,9 @@
 -- What the threads of a resolved program call.
-use Rattle.std.proofs.Common.{◌≡◌, ℕ, zero, suc, ◌+◌, List, [], ◌∷◌, ◌++◌, length, Option, Some, true, refl, sym}
-use Rattle.std.proofs.Common.{ap, ◌∙◌, subst, arith}
-use Rattle.std.specs.Prelude.{slice_get, take}
+use Rattle.std.proofs.Common.{◌≡◌, ℕ, zero, suc, List, [], ◌∷◌, ◌++◌, length, Option, Some, true, refl, sym}
+use Rattle.std.proofs.Common.{ap, ◌∙◌, subst}
+use Rattle.std.proofs.Common.{append-nil}
+use Rattle.std.proofs.Common.{append_assoc}
+use Rattle.std.specs.Prelude.{slice_get, take, map}
 use Rattle.syntax.specs.Trees.{ValueType, Const, Param, Section, Items, Decl}
 use Rattle.syntax.specs.Trees.{atomic, helper, thread}
 use Rattle.core_lang.specs.declared.value.Value.{Value}
@@ -18,15 +20,15 @@ use Rattle.resolution.specs.Constants.{Yields, want_of, AreArguments, no_constan
 use Rattle.resolution.specs.Typing.{TypesLocals, TypesResult, no_result, one_result, TypesSection, types_section}
 use Rattle.resolution.specs.Tables.{AreTables, AreCalls, no_call, one_call, repeated, copies}
 use Rattle.resolution.proofs.Named.{named_is}
-use Rattle.resolution.proofs.TrueStatements.{length_push}
 use Rattle.resolution.proofs.FaultlessExpressions.{Clean}
-use Rattle.resolution.proofs.Typed.{types_of}
+use Rattle.resolution.proofs.Typed.{types_of, get_map}
 use Rattle.resolution.proofs.TypedCalls.{TypesAre, HasHelpers}
-use Rattle.resolution.proofs.TypedStatements.{all_front, locals_got, last_local, slice_front}
+use Rattle.resolution.proofs.TypedStatements.{all_front, locals_got}
 use Rattle.resolution.proofs.LaidLists.{Rows, get_last, only}
-use Rattle.resolution.proofs.LaidWalk.{Step, added, lands, each_row}
+use Rattle.resolution.proofs.LaidWalk.{NewRows, lands, each_row}
 use Rattle.resolution.proofs.LaidFacts.{number_landed}
 use Rattle.resolution.proofs.LaidObjects.{Holds, const_holds}
+use Rattle.resolution.proofs.LaidStages.{stands}
 
 -- ---- arguments
 
@@ -88,9 +90,8 @@ calls_are decls is cs (repeated {n = n} {js = js} {is = rest} {bs = bs} {cs = ds
 
 -- ---- threads
 
-threads_new : (decls : List Decl) (whole : core.Program) (before : List Decl) (d : Decl) (p : core.Program)
-    (st : Step decls whole before d p) (k : ℕ) (t : core.Thread) → slice_get (added st).threads k ≡ Some t →
-    AllCalls decls t.calls
+threads_new : (decls : List Decl) (whole : core.Program) →
+    NewRows decls whole (λ p. p.threads) (λ n t. AllCalls decls t.calls)
 threads_new decls whole before (thread x) p st k t e =
     let n = st.news in
     only (λ m y. AllCalls decls y.calls) 0 (record { name = x.name.text; calls = n.0 }) (calls_are decls x.items n.0 n.1)
@@ -106,27 +107,23 @@ threads_of decls clean whole is =
 
 -- ---- the parameters of a section or a helper
 
--- what a scope has, it has behind parameters
-entered_front : (sc : Scope) (ps : List Param) (n : ℕ) (l : scope.Local) → slice_get sc.locals n ≡ Some l →
-    slice_get (entered sc ps).locals n ≡ Some l
-entered_front sc [] n l e = e
-entered_front sc (p ∷ ps) n l e =
-    let x : scope.Local = record { name = p.name.text; kind = kind.Parameter; value_type = type_of (outside sc.decls) p.value_type; is_visible = true } in
-    entered_front (bound sc kind.Parameter p.name (type_of (outside sc.decls) p.value_type)) ps n l (slice_front sc.locals (x ∷ []) n l e)
-
 -- a parameter is a local of its type
-entered_local : (sc : Scope) (ps : List Param) (n : ℕ) (p : Param) → slice_get ps n ≡ Some p →
-    (l : scope.Local) × (slice_get (entered sc ps).locals (length sc.locals + n) ≡ Some l) × (l.value_type ≡ type_of (outside sc.decls) p.value_type)
-entered_local sc [] n p e = cc
-entered_local sc (q ∷ ps) zero p e =
-    let same : q ≡ p = cc in
-    let x : scope.Local = record { name = q.name.text; kind = kind.Parameter; value_type = type_of (outside sc.decls) q.value_type; is_visible = true } in
-    let at = entered_front (bound sc kind.Parameter q.name (type_of (outside sc.decls) q.value_type)) ps (length sc.locals) x (last_local sc.locals x) in
-    (x, subst (λ (k : ℕ). slice_get (entered sc (q ∷ ps)).locals k ≡ Some x) (let z : length sc.locals ≡ length sc.locals + 0 = omega arith in z) at, ap (λ (r : Param). type_of (outside sc.decls) r.value_type) same)
-entered_local sc (q ∷ ps) (suc n) p e =
-    let x : scope.Local = record { name = q.name.text; kind = kind.Parameter; value_type = type_of (outside sc.decls) q.value_type; is_visible = true } in
-    let r = entered_local (bound sc kind.Parameter q.name (type_of (outside sc.decls) q.value_type)) ps n p e in
-    (r.0, subst (λ (k : ℕ). slice_get (entered sc (q ∷ ps)).locals k ≡ Some r.0) (let l = length_push sc.locals x in let z : length (sc.locals ++ x ∷ []) + n ≡ length sc.locals + suc n = omega (arith, l) in z) r.1, r.2)
+abbrev parameter_of : List Decl → Param → scope.Local
+parameter_of decls p = record {
+  name = p.name.text;
+  kind = kind.Parameter;
+  value_type = type_of (outside decls) p.value_type;
+  is_visible = true;
+}
+
+-- behind parameters stand the locals ahead of them, and theirs
+entered_locals : (sc : Scope) (ps : List Param) →
+    (entered sc ps).locals ≡ sc.locals ++ map (parameter_of sc.decls) ps
+entered_locals sc [] = sym (append-nil sc.locals)
+entered_locals sc (p ∷ ps) =
+    let x = parameter_of sc.decls p in
+    entered_locals (bound sc kind.Parameter p.name x.value_type) ps
+    ∙ append_assoc sc.locals (x ∷ []) (map (parameter_of sc.decls) ps)
 
 pub record Sectioned (decls : List Decl) (limits : BodyLimits) (s : Section) (x : core.Section) : Type 0 where
   pub locals : TypesLocals (after_all (entry decls limits s) s.body.stmts).locals x.locals
@@ -148,12 +145,13 @@ pub parameter_local : (decls : List Decl) (limits : BodyLimits) (s : Section) (x
     TypesSection decls limits s x → (n : ℕ) (p : Param) → slice_get s.params n ≡ Some p →
     (y : core.Local) × (slice_get x.locals n ≡ Some y) × (type_of (outside decls) p.value_type ≡ Some y.value_type)
 parameter_local decls limits s x e n p at =
-    let r = sectioned decls limits s x e in
-    let l = entered_local (ahead_of decls limits s) s.params n p at in
-    let here : slice_get (entry decls limits s).locals n ≡ Some l.0 = subst (λ (k : ℕ). slice_get (entry decls limits s).locals k ≡ Some l.0) (let z : 0 + n ≡ n = omega arith in z) l.1 in
-    let end = all_front (entry decls limits s) s.body.stmts n l.0 here in
-    let g = locals_got r.locals n l.0 end in
-    (g.0, g.1, sym l.2 ∙ g.3)
+    let l = parameter_of decls p in
+    let here : slice_get (entry decls limits s).locals n ≡ Some l =
+    ap (λ (ls : List scope.Local). slice_get ls n) (entered_locals (ahead_of decls limits s) s.params)
+    ∙ get_map (parameter_of decls) s.params n p at in
+    let g = locals_got (sectioned decls limits s x e).locals n l
+    (all_front (entry decls limits s) s.body.stmts n l here) in
+    (g.0, g.1, g.3)
 
 -- ---- a section, by its declaration
 
@@ -164,7 +162,7 @@ section_at decls clean whole is i s at =
     let l = lands decls clean whole is i (atomic s) at in
     let a = l.step.news in
     let p = l.was in
-    let here = l.step.ends.sections (length p.sections) a.0 (get_last p.sections a.0 []) in
+    let here = stands (λ z. z.sections) (λ z a. refl) l.step.ends (length p.sections) a.0 (get_last p.sections a.0 []) in
     let number : length p.sections ≡ number_at decls i (atomic s) =
     l.step.counts.sections s ∙ sym (number_landed decls whole i (atomic s) l) in
     (a.0, subst (λ (k : ℕ). slice_get whole.sections k ≡ Some a.0) number here, a.1)
@@ -177,7 +175,7 @@ helper_at decls clean whole is i s at =
     let l = lands decls clean whole is i (helper s) at in
     let a = l.step.news in
     let p = l.was in
-    let here = l.step.ends.helpers (length p.helpers) a.0 (get_last p.helpers a.0 []) in
+    let here = stands (λ z. z.helpers) (λ z a. refl) l.step.ends (length p.helpers) a.0 (get_last p.helpers a.0 []) in
     let number : length p.helpers ≡ number_at decls i (helper s) =
     l.step.counts.helpers s ∙ sym (number_landed decls whole i (helper s) l) in
     (a.0, subst (λ (k : ℕ). slice_get whole.helpers k ≡ Some a.0) number here, a.1)

@@ -29,7 +29,7 @@ use Rattle.resolution.specs.Tables.{final_opened, field_opened, AddObjects, no_o
 use Rattle.resolution.specs.Tables.{nothing_yet, Adds, adds_class, adds_struct, adds_global, adds_array, adds_pool}
 use Rattle.resolution.specs.Tables.{adds_nothing, adds_section, adds_helper, adds_thread}
 use Rattle.resolution.proofs.LaidLists.{Rows, Grows, up_got}
-use Rattle.resolution.proofs.LaidLists.{grows_on}
+use Rattle.resolution.proofs.LaidLists.{grows_more}
 
 -- ---- members by kind
 
@@ -127,49 +127,25 @@ plus_nothing p = simp append-nil
 plus_both : (p a b : core.Program) → plus (plus p a) b ≡ plus p (plus a b)
 plus_both p a b = simp append_assoc
 
-pub record Begins (p q : core.Program) : Type 0 where
-  pub classes : Grows p.classes q.classes
-  pub structs : Grows p.structs q.structs
-  pub globals : Grows p.globals q.globals
-  pub arrays : Grows p.arrays q.arrays
-  pub pools : Grows p.pools q.pools
-  pub objects : Grows p.objects q.objects
-  pub finals : Grows p.finals q.finals
-  pub cells : Grows p.cells q.cells
-  pub sections : Grows p.sections q.sections
-  pub threads : Grows p.threads q.threads
-  pub helpers : Grows p.helpers q.helpers
+-- it begins the whole: there is more behind each table
+pub record Begins (p whole : core.Program) : Type 0 where
+  pub behind : core.Program
+  pub is : plus p behind ≡ whole
+
+pub begins_same : (p : core.Program) → Begins p p
+begins_same p = record { behind = nothing_yet; is = plus_nothing p }
 
 -- what begins an end with more, begins it
 pub begins_on : (p a whole : core.Program) → Begins (plus p a) whole → Begins p whole
-begins_on p a whole b = record {
-  classes = grows_on p.classes a.classes whole.classes b.classes;
-  structs = grows_on p.structs a.structs whole.structs b.structs;
-  globals = grows_on p.globals a.globals whole.globals b.globals;
-  arrays = grows_on p.arrays a.arrays whole.arrays b.arrays;
-  pools = grows_on p.pools a.pools whole.pools b.pools;
-  objects = grows_on p.objects a.objects whole.objects b.objects;
-  finals = grows_on p.finals a.finals whole.finals b.finals;
-  cells = grows_on p.cells a.cells whole.cells b.cells;
-  sections = grows_on p.sections a.sections whole.sections b.sections;
-  threads = grows_on p.threads a.threads whole.threads b.threads;
-  helpers = grows_on p.helpers a.helpers whole.helpers b.helpers;
-}
+begins_on p a whole b = record { behind = plus a b.behind; is = sym (plus_both p a b.behind) ∙ b.is }
 
-pub begins_same : (p : core.Program) → Begins p p
-begins_same p = record {
-  classes = λ k x e. e;
-  structs = λ k x e. e;
-  globals = λ k x e. e;
-  arrays = λ k x e. e;
-  pools = λ k x e. e;
-  objects = λ k x e. e;
-  finals = λ k x e. e;
-  cells = λ k x e. e;
-  sections = λ k x e. e;
-  threads = λ k x e. e;
-  helpers = λ k x e. e;
-}
+-- a row of a table stands in the whole's
+pub stands : {A : Type 0} (table : core.Program → List A) →
+    ((p a : core.Program) → table (plus p a) ≡ table p ++ table a) → {p whole : core.Program} → Begins p whole →
+    Grows (table p) (table whole)
+stands {A = A} table grows {p = p} b k x e =
+    ap (λ (z : core.Program). slice_get (table z) k) (sym b.is)
+    ∙ ap (λ (xs : List A). slice_get xs k) (grows p b.behind) ∙ grows_more (table p) (table b.behind) k x e
 
 -- ---- objects
 

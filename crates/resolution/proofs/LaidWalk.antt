@@ -280,6 +280,12 @@ Kept decls whole K =
     (before : List Decl) (d : Decl) (p : core.Program) (st : Step decls whole before d p) → K before p →
     K (before ++ d ∷ []) (plus p (added st))
 
+-- each row that a step adds to a table is so, at its place
+abbrev pub NewRows : List Decl → core.Program → {A : Type 0} → (core.Program → List A) → (ℕ → A → Type 0) → Type 0
+NewRows decls whole {A} table F =
+    (before : List Decl) (d : Decl) (p : core.Program) (st : Step decls whole before d p) (k : ℕ) (x : A) →
+    slice_get (table (added st)) k ≡ Some x → F (length (table p) + k) x
+
 walk : (decls : List Decl) → Clean decls → (whole : core.Program) (K : List Decl → core.Program → Type 0) →
     Kept decls whole K → (before ds : List Decl) (p : core.Program) → decls ≡ before ++ ds →
     Counts decls before p → K before p → AddAll decls (length before) ds p whole →
@@ -334,9 +340,7 @@ module _ (decls : List Decl) (clean : Clean decls) (whole : core.Program) (is : 
   -- what holds of each row that a step adds to a table, holds of each of the table
   pub each_row : {A : Type 0} (table : core.Program → List A) →
       ((p a : core.Program) → table (plus p a) ≡ table p ++ table a) → table nothing_yet ≡ [] →
-      (F : ℕ → A → Type 0) →
-      ((before : List Decl) (d : Decl) (p : core.Program) (st : Step decls whole before d p) (k : ℕ) (x : A) →
-      slice_get (table (added st)) k ≡ Some x → F (length (table p) + k) x) →
+      (F : ℕ → A → Type 0) → NewRows decls whole table F →
       (n : ℕ) (x : A) → slice_get (table whole) n ≡ Some x → F n x
   each_row {A = A} table grows none F row =
       walked_whole (λ b p. (n : ℕ) (x : A) → slice_get (table p) n ≡ Some x → F n x)
