@@ -3,20 +3,17 @@ use Rattle.std.proofs.Common.{◌≡◌, ℕ, suc, ◌+◌, ◌≤◌, List, [],
 use Rattle.std.proofs.Common.{subst, arith}
 use Rattle.std.specs.Prelude.{slice_get, take, min}
 use Rattle.std.proofs.lemmas.Option.{slice_get_within}
-use Rattle.syntax.specs.Trees.{Ident, Member, final_member, field_member, Final, Field, Struct, Variable}
-use Rattle.syntax.specs.Trees.{Array, Pool, Section, Decl, struct, global, array, pool, atomic, helper}
-use Rattle.core_lang.specs.declared.value.Value.{Value}
-use Rattle.core_lang.specs.declared.value.ValueType as core_type
+use Rattle.syntax.specs.Trees.{Ident, Member, final_member, field_member, Final, Field, Struct, Pool}
+use Rattle.syntax.specs.Trees.{Section, Decl, struct, global, array, pool, atomic, helper}
 use Rattle.core_lang.specs.declared.typed.Cell.{Cell}
-use Rattle.core_lang.specs.declared.typed.Owner.TheVariants as owner
 use Rattle.core_lang.specs.Typing.{if_global}
 use Rattle.resolution.specs.Core as core
 use Rattle.resolution.specs.Limits.{CELL_LIMIT, MEMBER_LIMIT, section_limits, helper_limits}
-use Rattle.resolution.specs.Scopes.{◌>>=◌, outside, type_of, struct_named, count, alike, number_at, number_in}
+use Rattle.resolution.specs.Scopes.{◌>>=◌, struct_named, count, alike, number_at, number_in}
 use Rattle.resolution.specs.Scopes.{structs_in, the_struct}
-use Rattle.resolution.specs.Numbers.{total, classes_of, objects_of, cells_of, classes_ahead, cells_ahead, objects_ahead}
+use Rattle.resolution.specs.Numbers.{total, classes_of, objects_of, cells_of, classes_ahead, cells_ahead}
+use Rattle.resolution.specs.Numbers.{objects_ahead}
 use Rattle.resolution.specs.Expressions.{cell_of, member_number}
-use Rattle.resolution.specs.Constants.{Opens}
 use Rattle.resolution.specs.declared.body_limits.BodyLimits.{BodyLimits}
 use Rattle.resolution.specs.Typing.{TypesSection}
 use Rattle.resolution.specs.Tables.{AreTables, lock_classes}
@@ -24,13 +21,12 @@ use Rattle.resolution.proofs.FaultlessExpressions.{struct_has, Clean}
 use Rattle.resolution.proofs.FaultlessMembers.{is_field, is_final, count_few}
 use Rattle.resolution.proofs.FaultlessPrograms.{struct_few}
 use Rattle.resolution.proofs.TypedResolvedExprs.{Sound}
-use Rattle.resolution.proofs.LaidLists.{Rows, rows_append, get_last, get_behind, only}
+use Rattle.resolution.proofs.LaidLists.{Rows, rows_append, get_last, get_behind, only, row_left, row_right}
 use Rattle.resolution.proofs.LaidStages.{fields_in, finals_in, locks_in, field_numbered, final_numbered, global_cell}
-use Rattle.resolution.proofs.LaidStages.{array_row, pool_row}
-use Rattle.resolution.proofs.LaidWalk.{LockRow, ClassRow, FinalRow, FieldRow, parted, fields_counted, Step}
-use Rattle.resolution.proofs.LaidWalk.{NewRows, added, Landed, lands, each_row, walked_whole}
-use Rattle.resolution.proofs.LaidLists.{row_left, row_right}
-use Rattle.resolution.proofs.LaidStages.{stands}
+use Rattle.resolution.proofs.LaidStages.{array_row, pool_row, stands}
+use Rattle.resolution.proofs.LaidStages.{plus}
+use Rattle.resolution.proofs.LaidWalk.{LockRow, ClassRow, FinalRow, FieldRow, parted, fields_counted, Step, NewRows}
+use Rattle.resolution.proofs.LaidWalk.{added, Landed, lands, each_row, walked_whole}
 
 -- ---- numbers
 
@@ -44,62 +40,20 @@ number_landed decls whole i d l = ap (λ (n : ℕ). count (alike d) (take n decl
 pub total_landed : (decls : List Decl) (whole : core.Program) (i : ℕ) (d : Decl) (l : Landed decls whole i d) (of : Decl → ℕ) → total of (take i decls) ≡ total of l.before
 total_landed decls whole i d l of = ap (λ (n : ℕ). total of (take n decls)) (sym l.place) ∙ ap (total of) l.step.ahead
 
--- ---- globals, arrays and pools, by their declarations
+-- the row that a declaration adds has the declaration's number, where as many of its kind stand ahead
+pub numbered_row : {A : Type 0} (table : core.Program → List A) →
+    ((p a : core.Program) → table (plus p a) ≡ table p ++ table a) → {decls : List Decl} {whole : core.Program}
+    {i : ℕ} {d : Decl} (l : Landed decls whole i d) (x : A) → table (added l.step) ≡ x ∷ [] →
+    length (table l.was) ≡ count (alike d) l.before → slice_get (table whole) (number_at decls i d) ≡ Some x
+numbered_row {A = A} table grows {decls = decls} {whole = whole} {i = i} {d = d} l x e n =
+    let k = length (table l.was) in
+    let rows = grows l.was (added l.step) ∙ ap (λ (xs : List A). table l.was ++ xs) e in
+    subst (λ (j : ℕ). slice_get (table whole) j ≡ Some x) (n ∙ sym (number_landed decls whole i d l))
+    (stands table grows l.step.ends k x (ap (λ (xs : List A). slice_get xs k) rows ∙ get_last (table l.was) x []))
+
+-- ---- a pool, by its declaration
 
 module _ (decls : List Decl) (clean : Clean decls) (whole : core.Program) (is : AreTables decls whole) where
-  -- a global's cell
-  pub record GlobalAt (n : ℕ) (v : Variable) : Type 0 where
-    pub number : ℕ
-    pub value_type : core_type.ValueType
-    pub opening : Value
-    pub typed : type_of (outside decls) v.value_type ≡ Some value_type
-    pub opens : Opens decls value_type v.value opening
-    pub cell : slice_get whole.cells (cell_of decls n) ≡ Some (record { owner = owner.Global number; value_type = value_type; opening = opening })
-
-  pub global_at : (n : ℕ) (v : Variable) → slice_get decls n ≡ Some (global v) → GlobalAt n v
-  global_at n v at =
-      let l = lands decls clean whole is n (global v) at in
-      let p = l.was in
-      let a = l.step.news in
-      let c = global_cell p a.1 a.2 in
-      let ahead : length p.cells ≡ cells_ahead decls n =
-      l.step.counts.cells ∙ sym (total_landed decls whole n (global v) l (cells_of decls)) in
-      let small : cells_ahead decls n ≤ CELL_LIMIT = subst (λ (k : ℕ). k ≤ CELL_LIMIT) ahead a.6 in
-      record {
-        number = length p.globals;
-        value_type = a.1;
-        opening = a.2;
-        typed = a.4;
-        opens = a.5;
-        cell = subst (λ (k : ℕ). slice_get whole.cells k ≡ Some c)
-            (ahead ∙ sym (under (cells_ahead decls n) CELL_LIMIT small))
-            (stands (λ z. z.cells) (λ z a. refl) l.step.ends (length p.cells) c (get_last p.cells c []));
-      }
-
-  pub record ArrayAt (n : ℕ) (x : Array) : Type 0 where
-    pub first : ℕ
-    pub class : ℕ
-    pub value_type : core_type.ValueType
-    pub typed : type_of (outside decls) x.value_type ≡ Some value_type
-    pub here : slice_get whole.arrays (number_at decls n (array x)) ≡ Some (record { name = x.name.text; first = first; length = x.length.value; element_type = value_type; class = class })
-
-  pub array_at : (n : ℕ) (x : Array) → slice_get decls n ≡ Some (array x) → ArrayAt n x
-  array_at n x at =
-      let l = lands decls clean whole is n (array x) at in
-      let p = l.was in
-      let a = l.step.news in
-      let y = array_row p x a.0 a.1 in
-      let number : length p.arrays ≡ number_at decls n (array x) =
-      l.step.counts.arrays x ∙ sym (number_landed decls whole n (array x) l) in
-      record {
-        first = length p.cells;
-        class = a.0;
-        value_type = a.1;
-        typed = a.3;
-        here = subst (λ (k : ℕ). slice_get whole.arrays k ≡ Some y) number
-            (stands (λ z. z.arrays) (λ z a. refl) l.step.ends (length p.arrays) y (get_last p.arrays y []));
-      }
-
   pub record PoolAt (n : ℕ) (x : Pool) : Type 0 where
     pub structure : ℕ
     pub named : struct_named decls x.target ≡ Some structure
@@ -114,14 +68,11 @@ module _ (decls : List Decl) (clean : Clean decls) (whole : core.Program) (is : 
       λ k. record { name = x.name.text; first = k; length = x.length.value; structure = s } in
       let ahead : length p.objects ≡ objects_ahead decls n =
       l.step.counts.objects ∙ sym (total_landed decls whole n (pool x) l objects_of) in
-      let number : length p.pools ≡ number_at decls n (pool x) =
-      l.step.counts.pools x ∙ sym (number_landed decls whole n (pool x) l) in
-      let here = stands (λ z. z.pools) (λ z a. refl) l.step.ends (length p.pools) (pool_row p x s) (get_last p.pools (pool_row p x s) []) in
       record {
         structure = s;
         named = l.step.news.named;
-        here = subst (λ (k : ℕ). slice_get whole.pools k ≡ Some (row (objects_ahead decls n))) number
-            (here ∙ ap (λ (k : ℕ). Some (row k)) ahead);
+        here = numbered_row (λ z. z.pools) (λ z a. refl) l (pool_row p x s) refl (l.step.counts.pools x)
+            ∙ ap (λ (k : ℕ). Some (row k)) ahead;
       }
 
 -- ---- structs
@@ -229,13 +180,24 @@ pub sound_of : (decls : List Decl) → Clean decls → (whole : core.Program) �
     Sound decls whole
 sound_of decls clean whole is = record {
   cell = λ n v t at ty.
-      (let g = global_at decls clean whole is n v at in
-      let same : Some g.value_type ≡ Some t = sym g.typed ∙ ty in
-      ap (λ (o : Option Cell). o >>= λ c. if_global c.owner c.value_type) g.cell ∙ same);
+      (let l = lands decls clean whole is n (global v) at in
+      let p = l.was in
+      let a = l.step.news in
+      let c = global_cell p a.1 a.2 in
+      let ahead : length p.cells ≡ cells_ahead decls n =
+      l.step.counts.cells ∙ sym (total_landed decls whole n (global v) l (cells_of decls)) in
+      let small : cells_ahead decls n ≤ CELL_LIMIT = subst (λ (k : ℕ). k ≤ CELL_LIMIT) ahead a.6 in
+      let here : slice_get whole.cells (cell_of decls n) ≡ Some c =
+      subst (λ (k : ℕ). slice_get whole.cells k ≡ Some c) (ahead ∙ sym (under (cells_ahead decls n) CELL_LIMIT small))
+      (stands (λ z. z.cells) (λ z a. refl) l.step.ends (length p.cells) c (get_last p.cells c [])) in
+      let same : Some a.1 ≡ Some t = sym a.4 ∙ ty in
+      ap (λ (o : Option Cell). o >>= λ c. if_global c.owner c.value_type) here ∙ same);
   array = λ n x t at ty.
-      (let g = array_at decls clean whole is n x at in
-      let same : Some g.value_type ≡ Some t = sym g.typed ∙ ty in
-      ap (λ (o : Option core.Array). o >>= λ z. Some z.element_type) g.here ∙ same);
+      (let l = lands decls clean whole is n (array x) at in
+      let a = l.step.news in
+      let here = numbered_row (λ z. z.arrays) (λ z a. refl) l (array_row l.was x a.0 a.1) refl (l.step.counts.arrays x) in
+      let same : Some a.1 ≡ Some t = sym a.3 ∙ ty in
+      ap (λ (o : Option core.Array). o >>= λ z. Some z.element_type) here ∙ same);
   pool = λ n x s at ty.
       (let g = pool_at decls clean whole is n x at in
       let same : Some g.structure ≡ Some s = sym g.named ∙ ty in

@@ -28,13 +28,12 @@ use Rattle.resolution.proofs.AllFaults.{of_totals}
 use Rattle.resolution.proofs.TrueStatements.{length_push}
 use Rattle.resolution.proofs.FaultlessExpressions.{NoneIn, none_left, none_right, not_if, Clean}
 use Rattle.resolution.proofs.Typed.{final_in}
-use Rattle.resolution.proofs.LaidLists.{rows_left, rows_right, get_last, only, bind_got}
+use Rattle.resolution.proofs.LaidLists.{rows_left, rows_right, get_last, only, bind_got, row_right}
 use Rattle.resolution.proofs.LaidStages.{stands, fields_in, locks_in, lock_numbered, global_row, array_row}
 use Rattle.resolution.proofs.LaidWalk.{NewRows, LockRow, ClassRow, FieldRow, parted, lands, each_row, few}
 use Rattle.resolution.proofs.LaidWalk.{counted_whole}
 use Rattle.resolution.proofs.LaidFacts.{struct_landed, struct_by_number, sound_of, under, total_landed}
 use Rattle.resolution.proofs.Tests.{le_false}
-use Rattle.resolution.proofs.LaidLists.{row_right}
 
 -- ---- how many classes there are
 

@@ -4,8 +4,7 @@ use Rattle.std.proofs.Common.{true, false, refl, sym, ap, ◌∙◌, subst, arit
 use Rattle.std.specs.Prelude.{ℤ, pos, neg_ℤ, slice_get, ⊤, nat_lt}
 use Rattle.std.proofs.lemmas.Option.{slice_get_within}
 use Rattle.std.proofs.lemmas.Bool.{eqb-true}
-use Rattle.syntax.specs.Trees.{Ident, Const, Member, Final, Field}
-use Rattle.syntax.specs.Trees.{Struct, Pool, Decl, struct, global, array, pool}
+use Rattle.syntax.specs.Trees.{Ident, Const, Member, Final, Field, Struct, Pool, Decl, struct, global, array, pool}
 use Rattle.core_lang.specs.declared.value.Value.{Value}
 use Rattle.core_lang.specs.declared.value.Value.TheVariants.{Int, Ref}
 use Rattle.core_lang.specs.declared.value.ValueType as core_type
@@ -31,15 +30,14 @@ use Rattle.resolution.proofs.Named.{named_is}
 use Rattle.resolution.specs.Theory.Facts.{struct_at}
 use Rattle.resolution.proofs.FaultlessExpressions.{Clean}
 use Rattle.resolution.proofs.Typed.{field_in}
-use Rattle.resolution.proofs.LaidLists.{grows_more, get_last, get_behind, get_parts, only}
-use Rattle.resolution.proofs.LaidStages.{fields_in, finals_in, CellOf, FinalOf, Objected, Chain, Begins}
-use Rattle.resolution.proofs.LaidStages.{begins_on, plus, held, next_object, global_row, global_cell, array_row, pool_row}
-use Rattle.resolution.proofs.LaidWalk.{FieldRow, chain_objects, elements_length, all_objects_few, Step, added, new_objects}
-use Rattle.resolution.proofs.LaidWalk.{NewRows, each_row, counted_whole}
+use Rattle.resolution.proofs.LaidLists.{grows_more, get_last, get_behind, get_parts, only, row_left, row_right}
+use Rattle.resolution.proofs.LaidStages.{fields_in, finals_in, CellOf, FinalOf, Objected, Chain, Begins, begins_on}
+use Rattle.resolution.proofs.LaidStages.{plus, held, next_object, global_row, global_cell, array_row, pool_row}
+use Rattle.resolution.proofs.LaidStages.{stands}
+use Rattle.resolution.proofs.LaidWalk.{FieldRow, chain_objects, elements_length, all_objects_few, Step, added}
+use Rattle.resolution.proofs.LaidWalk.{new_objects, NewRows, each_row, counted_whole}
 use Rattle.resolution.proofs.LaidFacts.{struct_of_number, pool_at, under}
 use Rattle.resolution.proofs.Tests.{lt_of, lt_false}
-use Rattle.resolution.proofs.LaidLists.{row_left, row_right}
-use Rattle.resolution.proofs.LaidStages.{stands}
 
 -- ---- numbers
 

@@ -18,7 +18,8 @@ use Rattle.core_lang.specs.declared.typed.Field as the_field
 use Rattle.core_lang.specs.declared.typed.FinalField as the_final
 use Rattle.core_lang.specs.declared.typed.Typed.{Typed}
 use Rattle.core_lang.specs.Serial.{opening_heap}
-use Rattle.core_lang.specs.Typing.{lookup, struct_of, HasType, HaveTypes, IsHeap, local_types, final_target, field_type}
+use Rattle.core_lang.specs.Typing.{lookup, struct_of, HasType, HaveTypes, IsHeap, local_types, final_target}
+use Rattle.core_lang.specs.Typing.{field_type}
 use Rattle.core_lang.specs.declared.typed.LockClass as the_class
 use Rattle.core_lang.specs.declared.typed.LockClass.TheVariants as class
 use Rattle.core_lang.specs.declared.tree.Local as the_local
@@ -41,7 +42,7 @@ use Rattle.resolution.proofs.Typed.{map_got, get_map, final_in, field_in, final_
 use Rattle.resolution.proofs.TypedResolvedExprs.{Sound}
 use Rattle.resolution.proofs.TypedCalls.{HasHelpers}
 use Rattle.resolution.proofs.StatementRules.{section_is}
-use Rattle.resolution.proofs.LaidLists.{Rows, bind_got}
+use Rattle.resolution.proofs.LaidLists.{Rows, bind_got, row_right}
 use Rattle.resolution.proofs.LaidStages.{fields_in, finals_in}
 use Rattle.resolution.proofs.LaidWalk.{FinalRow, FieldRow}
 use Rattle.resolution.proofs.LaidFacts.{StructAt, struct_of_number, sound_of, sections_of, helpers_of}
@@ -51,7 +52,6 @@ use Rattle.resolution.proofs.LaidScripts.{Argument, threads_of, sectioned, param
 use Rattle.resolution.proofs.LaidScripts.{argument_holds}
 use Rattle.resolution.proofs.LaidObjects.{one_of, ObjectAt, objects_of_program, pools_of, globals_of, arrays_of}
 use Rattle.resolution.proofs.LaidObjects.{struct_in, OwnerFact, cells_of_program, Holds, opened_holds, referred_holds}
-use Rattle.resolution.proofs.LaidLists.{row_right}
 
 -- ---- what the views say
 

@@ -1,11 +1,8 @@
 -- What the threads of a resolved program call.
-use Rattle.std.proofs.Common.{◌≡◌, ℕ, zero, suc, List, [], ◌∷◌, ◌++◌, length, Option, Some, true, refl, sym}
-use Rattle.std.proofs.Common.{ap, ◌∙◌, subst}
-use Rattle.std.proofs.Common.{append-nil}
-use Rattle.std.proofs.Common.{append_assoc}
+use Rattle.std.proofs.Common.{◌≡◌, ℕ, zero, suc, List, [], ◌∷◌, ◌++◌, length, Option, Some, true, refl, sym, ap, ◌∙◌}
+use Rattle.std.proofs.Common.{subst, append-nil, append_assoc}
 use Rattle.std.specs.Prelude.{slice_get, take, map}
-use Rattle.syntax.specs.Trees.{ValueType, Const, Param, Section, Items, Decl}
-use Rattle.syntax.specs.Trees.{atomic, helper, thread}
+use Rattle.syntax.specs.Trees.{ValueType, Const, Param, Section, Items, Decl, atomic, helper, thread}
 use Rattle.core_lang.specs.declared.value.Value.{Value}
 use Rattle.core_lang.specs.declared.value.ValueType as core_type
 use Rattle.core_lang.specs.declared.tree.LocalKind.TheVariants as kind
@@ -24,11 +21,10 @@ use Rattle.resolution.proofs.FaultlessExpressions.{Clean}
 use Rattle.resolution.proofs.Typed.{types_of, get_map}
 use Rattle.resolution.proofs.TypedCalls.{TypesAre, HasHelpers}
 use Rattle.resolution.proofs.TypedStatements.{all_front, locals_got}
-use Rattle.resolution.proofs.LaidLists.{Rows, get_last, only}
+use Rattle.resolution.proofs.LaidLists.{Rows, only}
 use Rattle.resolution.proofs.LaidWalk.{NewRows, lands, each_row}
-use Rattle.resolution.proofs.LaidFacts.{number_landed}
+use Rattle.resolution.proofs.LaidFacts.{numbered_row}
 use Rattle.resolution.proofs.LaidObjects.{Holds, const_holds}
-use Rattle.resolution.proofs.LaidStages.{stands}
 
 -- ---- arguments
 
@@ -160,12 +156,8 @@ pub section_at : (decls : List Decl) → Clean decls → (whole : core.Program) 
     (x : core.Section) × (slice_get whole.sections (number_at decls i (atomic s)) ≡ Some x) × TypesSection decls section_limits s x
 section_at decls clean whole is i s at =
     let l = lands decls clean whole is i (atomic s) at in
-    let a = l.step.news in
-    let p = l.was in
-    let here = stands (λ z. z.sections) (λ z a. refl) l.step.ends (length p.sections) a.0 (get_last p.sections a.0 []) in
-    let number : length p.sections ≡ number_at decls i (atomic s) =
-    l.step.counts.sections s ∙ sym (number_landed decls whole i (atomic s) l) in
-    (a.0, subst (λ (k : ℕ). slice_get whole.sections k ≡ Some a.0) number here, a.1)
+    let x = l.step.news.0 in
+    (x, numbered_row (λ z. z.sections) (λ z a. refl) l x refl (l.step.counts.sections s), l.step.news.1)
 
 -- the same of a helper
 pub helper_at : (decls : List Decl) → Clean decls → (whole : core.Program) → AreTables decls whole →
@@ -173,12 +165,8 @@ pub helper_at : (decls : List Decl) → Clean decls → (whole : core.Program) �
     (x : core.Section) × (slice_get whole.helpers (number_at decls i (helper s)) ≡ Some x) × TypesSection decls helper_limits s x
 helper_at decls clean whole is i s at =
     let l = lands decls clean whole is i (helper s) at in
-    let a = l.step.news in
-    let p = l.was in
-    let here = stands (λ z. z.helpers) (λ z a. refl) l.step.ends (length p.helpers) a.0 (get_last p.helpers a.0 []) in
-    let number : length p.helpers ≡ number_at decls i (helper s) =
-    l.step.counts.helpers s ∙ sym (number_landed decls whole i (helper s) l) in
-    (a.0, subst (λ (k : ℕ). slice_get whole.helpers k ≡ Some a.0) number here, a.1)
+    let x = l.step.news.0 in
+    (x, numbered_row (λ z. z.helpers) (λ z a. refl) l x refl (l.step.counts.helpers s), l.step.news.1)
 
 -- the types of the first locals are those of the parameters
 types_are : (decls : List Decl) (ps : List Param) (ls : List core.Local) →

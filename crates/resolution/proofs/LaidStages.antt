@@ -1,14 +1,9 @@
 -- What each step of resolution adds to a program.
-use Rattle.std.proofs.Common.{◌≡◌, ℕ, zero, suc, ◌+◌, ◌≤◌, List, [], ◌∷◌, ◌++◌, length, Option, Some}
-use Rattle.std.proofs.Common.{refl, sym, ap, ◌∙◌, subst, arith}
-use Rattle.std.proofs.Common.{append-nil}
-use Rattle.std.proofs.Common.{append_assoc}
+use Rattle.std.proofs.Common.{◌≡◌, ℕ, zero, suc, ◌+◌, ◌≤◌, List, [], ◌∷◌, ◌++◌, length, Option, Some, refl, sym, ap}
+use Rattle.std.proofs.Common.{◌∙◌, subst, arith, append-nil, append_assoc}
 use Rattle.std.specs.Prelude.{slice_get}
 use Rattle.syntax.specs.Trees.{Ident, Const, Member, lock_member, final_member, field_member, Final, Field, Decl}
-use Rattle.syntax.specs.Trees.{lock, struct, global, array, pool, init, atomic, helper, thread}
-use Rattle.syntax.specs.Trees.{Array}
-use Rattle.syntax.specs.Trees.{Pool}
-use Rattle.syntax.specs.Trees.{Variable}
+use Rattle.syntax.specs.Trees.{lock, struct, global, array, pool, init, atomic, helper, thread, Array, Pool, Variable}
 use Rattle.core_lang.specs.declared.value.Value.{Value}
 use Rattle.core_lang.specs.declared.value.Value.TheVariants.{Ref}
 use Rattle.core_lang.specs.declared.value.ValueType as core_type
@@ -28,8 +23,7 @@ use Rattle.resolution.specs.Tables.{Makes, lock_classes, elements, next, OpensWi
 use Rattle.resolution.specs.Tables.{final_opened, field_opened, AddObjects, no_object, one_object_more, AreCalls}
 use Rattle.resolution.specs.Tables.{nothing_yet, Adds, adds_class, adds_struct, adds_global, adds_array, adds_pool}
 use Rattle.resolution.specs.Tables.{adds_nothing, adds_section, adds_helper, adds_thread}
-use Rattle.resolution.proofs.LaidLists.{Rows, Grows, up_got}
-use Rattle.resolution.proofs.LaidLists.{grows_more}
+use Rattle.resolution.proofs.LaidLists.{Rows, Grows, up_got, grows_more}
 
 -- ---- members by kind
 

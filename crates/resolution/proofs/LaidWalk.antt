@@ -1,11 +1,10 @@
 -- A program is resolved step by step, and where each step stands.
-use Rattle.std.proofs.Common.{◌≡◌, ℕ, zero, suc, ◌+◌, ◌*◌, ◌≤◌, List, [], ◌∷◌, ◌++◌, length, Option, Some, refl}
-use Rattle.std.proofs.Common.{sym, ap, ◌∙◌, subst, append_assoc, arith}
-use Rattle.std.proofs.Common.{Bool}
+use Rattle.std.proofs.Common.{◌≡◌, ℕ, zero, suc, ◌+◌, ◌*◌, ◌≤◌, List, [], ◌∷◌, ◌++◌, length, Option, Some, refl, sym}
+use Rattle.std.proofs.Common.{ap, ◌∙◌, subst, append_assoc, arith, Bool}
 use Rattle.std.specs.Prelude.{slice_get, take, ⊤}
 use Rattle.std.proofs.lemmas.List.{length-append, append-nil}
-use Rattle.syntax.specs.Trees.{Ident, Member, lock_member, field_member, Final, Field, Struct, Array}
-use Rattle.syntax.specs.Trees.{Pool, Section, Decl, lock, struct, array, pool, atomic, helper}
+use Rattle.syntax.specs.Trees.{Ident, Member, lock_member, field_member, Final, Field, Struct, Array, Pool, Section}
+use Rattle.syntax.specs.Trees.{Decl, lock, struct, array, pool, atomic, helper}
 use Rattle.core_lang.specs.declared.value.ValueType as core_type
 use Rattle.core_lang.specs.declared.typed.Owner.TheVariants as owner
 use Rattle.resolution.specs.Core as core
@@ -16,8 +15,7 @@ use Rattle.resolution.specs.Constants.{members_of, members_in, default_of}
 use Rattle.resolution.specs.Annotations.{protection_of}
 use Rattle.resolution.specs.Working.FaultLists.{count_faults, total_faults}
 use Rattle.resolution.specs.Tables.{nothing_yet, AreTables, AddAll, no_declaration, first_and_rest, Makes, no_member}
-use Rattle.resolution.specs.Tables.{lock_field, final_field, lock_classes, field}
-use Rattle.resolution.specs.Tables.{elements}
+use Rattle.resolution.specs.Tables.{lock_field, final_field, lock_classes, field, elements}
 use Rattle.resolution.proofs.Named.{named_is}
 use Rattle.resolution.proofs.AllFaults.{of_totals}
 use Rattle.resolution.proofs.TrueStatements.{length_push}
@@ -26,12 +24,8 @@ use Rattle.resolution.proofs.FaultlessMembers.{is_field, fields_are}
 use Rattle.resolution.proofs.FaultlessPrograms.{total_push, objects_fit, struct_once}
 use Rattle.resolution.proofs.LaidLists.{Rows, rows_length, get_last, get_pushed, take_front, as_one, count_push}
 use Rattle.resolution.proofs.LaidLists.{get_parts}
-use Rattle.resolution.proofs.LaidStages.{fields_in, finals_in, locks_in, Chain, adds, Begins}
-use Rattle.resolution.proofs.LaidStages.{begins_same, begins_on}
-use Rattle.resolution.proofs.LaidStages.{News}
-use Rattle.resolution.proofs.LaidStages.{fresh}
-use Rattle.resolution.proofs.LaidStages.{next_object}
-use Rattle.resolution.proofs.LaidStages.{plus}
+use Rattle.resolution.proofs.LaidStages.{fields_in, finals_in, locks_in, Chain, adds, Begins, begins_same, begins_on}
+use Rattle.resolution.proofs.LaidStages.{News, fresh, next_object, plus}
 
 -- ---- a struct's parts
 

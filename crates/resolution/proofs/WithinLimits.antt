@@ -6,8 +6,8 @@ use Rattle.std.proofs.lemmas.List.{length-append, length-map, append-nil}
 use Rattle.source.specs.declared.fault.Code.TheVariants.{LimitExceeded}
 use Rattle.syntax.specs.Trees.{Stmt, let_local, let_owned, let_call, var_local, assign, if_then, while, print}
 use Rattle.syntax.specs.Trees.{return_value, Stmts, no_stmts, stmt, Otherwise, no_else, else_do, Param, Section, call}
-use Rattle.syntax.specs.Trees.{Items, Member, lock_member, final_member, field_member, Thread, Decl, struct}
-use Rattle.syntax.specs.Trees.{atomic, helper, thread}
+use Rattle.syntax.specs.Trees.{Items, Member, lock_member, final_member, field_member, Thread, Decl, struct, atomic}
+use Rattle.syntax.specs.Trees.{helper, thread}
 use Rattle.core_lang.specs.declared.tree.LocalKind.TheVariants as kind
 use Rattle.core_lang.specs.declared.tree.Section as the_section
 use Rattle.core_lang.specs.declared.typed.Struct as the_struct
@@ -21,7 +21,8 @@ use Rattle.resolution.specs.CoreViews.{core_section, core_call, core_thread, cor
 use Rattle.resolution.specs.Limits.{STRUCT_LIMIT, MEMBER_LIMIT, CELL_LIMIT, SECTION_LIMIT, THREAD_LIMIT}
 use Rattle.resolution.specs.Limits.{PARAMETER_LIMIT, LOCAL_LIMIT, CALL_LIMIT, section_limits}
 use Rattle.resolution.specs.Scopes as scopes
-use Rattle.resolution.specs.Scopes.{Scope, outside, meaning, helper_meant, type_of, count, alike, has_body, bound, left}
+use Rattle.resolution.specs.Scopes.{Scope, outside, meaning, helper_meant, type_of, count, alike, has_body, bound}
+use Rattle.resolution.specs.Scopes.{left}
 use Rattle.resolution.specs.Numbers.{total, cells_of, calls_in_all, calls_of}
 use Rattle.resolution.specs.Expressions.{want}
 use Rattle.resolution.specs.Statements.{after, after_else, after_all, ahead_of, entry}
@@ -46,8 +47,7 @@ use Rattle.resolution.proofs.LaidLists.{rows_length, take_front, as_one, count_p
 use Rattle.resolution.proofs.LaidStages.{fields_in, finals_in, locks_in, plus}
 use Rattle.resolution.proofs.LaidWalk.{LockRow, FinalRow, FieldRow, Counts, Step, added, Kept, walked_whole}
 use Rattle.resolution.proofs.LaidWalk.{counted_whole}
-use Rattle.resolution.proofs.LaidFacts.{struct_by_number}
-use Rattle.resolution.proofs.LaidFacts.{sections_of}
+use Rattle.resolution.proofs.LaidFacts.{struct_by_number, sections_of}
 use Rattle.resolution.proofs.LaidLocks.{few_classes}
 use Rattle.resolution.proofs.LaidObjects.{few_objects}
 use Rattle.resolution.proofs.LaidScripts.{sectioned}
