@@ -96,7 +96,8 @@ pub const_ruled : (decls : List Decl) (w : Want) (c : Const) (v : Value) → typ
     Yields decls w c v
 const_ruled decls w c v e =
     when (Yields decls w c) (typed_const decls w c)
-    (const_yields decls w c (const_sort decls c) (const_value decls c) (const_sorts decls c) (const_denotes decls c)) v e
+    (const_yields decls w c (const_sort decls c) (const_value decls c) (const_sorts decls c) (const_denotes decls c))
+    v e
 
 -- what a list with one more ahead is made of
 added_got : {A : Type 0} (o : Option A) (r : Option (List A)) (ys : List A) → added o r ≡ Some ys →
@@ -169,6 +170,7 @@ pub opened_is : {decls : List Decl} {t : ValueType} {g : Option Const} {v : Valu
 opened_is by_default = refl
 opened_is (by_constant h) = const_is h
 
-pub referred_is : {decls : List Decl} {s o : ℕ} {c : Const} → Yields decls (wanted.Value (Reference s)) c (Ref (Some o)) →
+pub referred_is : {decls : List Decl} {s o : ℕ} {c : Const} →
+    Yields decls (wanted.Value (Reference s)) c (Ref (Some o)) →
     referred decls (Some s) (Some c) ≡ Some o
 referred_is h = ap object_in (const_is h)

@@ -5,7 +5,8 @@ use Rattle.std.specs.Prelude.{pos, neg_ℤ, nat_le, nat_lt, ◌&&◌, is_some, s
 use Rattle.source.specs.Texts.{NUMBER_LIMIT}
 use Rattle.source.specs.declared.span.Span.{Span}
 use Rattle.source.specs.declared.fault.Code.{Code}
-use Rattle.source.specs.declared.fault.Code.TheVariants.{NumberTooLarge, UnknownName, WrongType, NeitherFinalNorProtected}
+use Rattle.source.specs.declared.fault.Code.TheVariants.{NumberTooLarge, UnknownName, WrongType}
+use Rattle.source.specs.declared.fault.Code.TheVariants.{NeitherFinalNorProtected}
 use Rattle.source.specs.declared.fault.Code.TheVariants.{ProtectedByNoLock, ProtectedByPassesNonFinal}
 use Rattle.source.specs.declared.fault.Code.TheVariants.{InitOutOfRangeOrRepeated}
 use Rattle.source.specs.declared.token.Number.{Number}
@@ -73,14 +74,8 @@ member_valued decls clean p x n (Some (k, pool q)) at up none =
       val = Ref (Some (object_of decls k n.value));
       valued = an_object at (le_false q.length.value n.value beyond);
     }
-member_valued decls clean p x n (Some (k, lock y)) at up none = absurd (unfit_not decls WrongType p (a_decl k (lock y)) refl none)
-member_valued decls clean p x n (Some (k, struct s)) at up none = absurd (unfit_not decls WrongType p (a_decl k (struct s)) refl none)
-member_valued decls clean p x n (Some (k, global v)) at up none = absurd (unfit_not decls WrongType p (a_decl k (global v)) (decl_typed decls clean k (global v) (up k (global v) refl)) none)
-member_valued decls clean p x n (Some (k, array a)) at up none = absurd (unfit_not decls WrongType p (a_decl k (array a)) (decl_typed decls clean k (array a) (up k (array a) refl)) none)
-member_valued decls clean p x n (Some (k, init j)) at up none = absurd (unfit_not decls WrongType p (a_decl k (init j)) refl none)
-member_valued decls clean p x n (Some (k, atomic s)) at up none = absurd (unfit_not decls WrongType p (a_decl k (atomic s)) refl none)
-member_valued decls clean p x n (Some (k, helper s)) at up none = absurd (unfit_not decls WrongType p (a_decl k (helper s)) refl none)
-member_valued decls clean p x n (Some (k, thread t)) at up none = absurd (unfit_not decls WrongType p (a_decl k (thread t)) refl none)
+member_valued decls clean p x n (Some (k, d)) at up none =
+    absurd (unfit_not decls WrongType p (a_decl k d) (decl_typed decls clean k d (up k d refl)) none)
 
 const_valued : (decls : List Decl) → Clean decls → (c : Const) → NoneIn (own_faults decls c) → Valued decls c
 const_valued decls clean (int_const n) none =

@@ -176,7 +176,8 @@ field_ready : (decls : List Decl) → Clean decls → (g : InitTarget) (f : Fiel
     ((c : Const) → o ≡ Some c → NoneIn (const_faults decls (want (type_of (outside decls) f.value_type)) c)) →
     Ready decls g (field_member f)
 field_ready decls clean g f t None is up =
-    (t.value_type, default_of t.value_type, t.is, subst (λ (y : Option Const). Opens decls t.value_type y (default_of t.value_type)) (sym is) by_default)
+    let v = default_of t.value_type in
+    (t.value_type, v, t.is, subst (λ (y : Option Const). Opens decls t.value_type y v) (sym is) by_default)
 field_ready decls clean g f t (Some c) is up =
     let v = const_is decls clean (wanted.Value t.value_type) c (subst (λ (y : Option core_type.ValueType). NoneIn (const_faults decls (want y) c)) t.is (up c refl)) in
     (t.value_type, v.0, t.is, subst (λ (y : Option Const). Opens decls t.value_type y v.0) (sym is) (by_constant v.1))

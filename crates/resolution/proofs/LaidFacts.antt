@@ -87,12 +87,14 @@ pub record StructAt (decls : List Decl) (whole : core.Program) (k : ℕ) (x : St
   pub finals : Rows (FinalRow decls) 0 (finals_in x.members) y.finals
   pub fields : Rows (FieldRow decls place x.members) 0 (fields_in x.members) y.fields
 
-structs_more : (before : List Decl) (d : Decl) → structs_in (before ++ d ∷ []) ≡ structs_in before ++ structs_in (d ∷ [])
+structs_more : (before : List Decl) (d : Decl) →
+    structs_in (before ++ d ∷ []) ≡ structs_in before ++ structs_in (d ∷ [])
 structs_more [] d = refl
 structs_more (struct x ∷ before) d = ap (λ (xs : List Struct). x ∷ xs) (structs_more before d)
 structs_more (y ∷ before) d = structs_more before d
 
-unfoldable pub struct_landed : (decls : List Decl) (whole : core.Program) (before : List Decl) (x : Struct) (p : core.Program)
+unfoldable pub struct_landed : (decls : List Decl) (whole : core.Program) (before : List Decl) (x : Struct)
+    (p : core.Program)
     (st : Step decls whole before (struct x) p) → StructAt decls whole (length p.structs) x st.news.0
 struct_landed decls whole before x p st =
     let a = st.news in
@@ -109,7 +111,8 @@ struct_landed decls whole before x p st =
       classes = λ l z e.
           (let c = row_left (ClassRow k) (locks_in x.members) cs r.classes l z e in
           subst (λ (n : ℕ). slice_get whole.classes n ≡ Some (core.lock_field k l)) (ap (λ (n : ℕ). n + l) ahead)
-          (stands (λ z. z.classes) (λ z a. refl) st.ends (length p.classes + l) c.0 (get_behind p.classes cs l c.0 c.1) ∙ ap Some c.2));
+          (stands (λ z. z.classes) (λ z a. refl) st.ends (length p.classes + l) c.0
+          (get_behind p.classes cs l c.0 c.1) ∙ ap Some c.2));
       finals = r.finals;
       fields = r.fields;
     }
@@ -195,7 +198,8 @@ sound_of decls clean whole is = record {
   array = λ n x t at ty.
       (let l = lands decls clean whole is n (array x) at in
       let a = l.step.news in
-      let here = numbered_row (λ z. z.arrays) (λ z a. refl) l (array_row l.was x a.0 a.1) refl (l.step.counts.arrays x) in
+      let here = numbered_row (λ z. z.arrays) (λ z a. refl) l (array_row l.was x a.0 a.1) refl
+      (l.step.counts.arrays x) in
       let same : Some a.1 ≡ Some t = sym a.3 ∙ ty in
       ap (λ (o : Option core.Array). o >>= λ z. Some z.element_type) here ∙ same);
   pool = λ n x s at ty.
@@ -205,13 +209,15 @@ sound_of decls clean whole is = record {
   final = λ s x m f k at here ty.
       (let r = struct_of_number decls clean whole is s x at in
       let n = member_number x.members m (final_member f) in
-      let y = row_left (FinalRow decls) (finals_in x.members) r.0.finals r.2.finals n f (member_final decls clean x s m f at here) in
+      let y = row_left (FinalRow decls) (finals_in x.members) r.0.finals r.2.finals n f
+      (member_final decls clean x s m f at here) in
       let same : Some y.0.target ≡ Some k = sym y.2 ∙ ty in
       ap (λ (o : Option core.Struct). o >>= λ z. slice_get z.finals n >>= λ w. Some w.target) r.1 ∙ ap (λ (o : Option core.FinalField). o >>= λ w. Some w.target) y.1 ∙ same);
   field = λ s x m f t at here ty.
       (let r = struct_of_number decls clean whole is s x at in
       let n = member_number x.members m (field_member f) in
-      let y = row_left (FieldRow decls r.2.place x.members) (fields_in x.members) r.0.fields r.2.fields n f (member_field decls clean x s m f at here) in
+      let y = row_left (FieldRow decls r.2.place x.members) (fields_in x.members) r.0.fields r.2.fields n f
+      (member_field decls clean x s m f at here) in
       let same : Some y.0.value_type ≡ Some t = sym y.2.0 ∙ ty in
       ap (λ (o : Option core.Struct). o >>= λ z. slice_get z.fields n >>= λ w. Some w.value_type) r.1 ∙ ap (λ (o : Option core.Field). o >>= λ w. Some w.value_type) y.1 ∙ same);
 }
@@ -219,7 +225,8 @@ sound_of decls clean whole is = record {
 -- ---- sections and helpers
 
 -- the declaration of a section or a helper
-pub record BodyAt (decls : List Decl) (kind : Section → Decl) (limits : BodyLimits) (k : ℕ) (x : core.Section) : Type 0 where
+pub record BodyAt (decls : List Decl) (kind : Section → Decl) (limits : BodyLimits) (k : ℕ)
+    (x : core.Section) : Type 0 where
   pub place : ℕ
   pub section : Section
   pub at : slice_get decls place ≡ Some (kind section)

@@ -135,7 +135,8 @@ module _ (decls : List Decl) (clean : Clean decls) (whole : core.Program) (is : 
       let here = stands (λ z. z.classes) (λ z a. refl) l.step.ends (length p.classes) c (get_last p.classes c []) in
       let n = l.step.counts.classes in
       let t = total_landed decls whole i (lock x) l classes_of in
-      class_here i 0 c (subst (λ (k : ℕ). slice_get whole.classes k ≡ Some c) (let z : length p.classes ≡ classes_ahead decls i + 0 = omega (arith, n, t) in z) here)
+      class_here i 0 c (subst (λ (k : ℕ). slice_get whole.classes k ≡ Some c)
+      (let z : length p.classes ≡ classes_ahead decls i + 0 = omega (arith, n, t) in z) here)
 
   -- the class of a struct's lock field
   lock_field_here : (i : ℕ) (x : Struct) → slice_get decls i ≡ Some (struct x) → (l : ℕ) (z : Ident) →
@@ -165,7 +166,8 @@ module _ (decls : List Decl) (clean : Clean decls) (whole : core.Program) (is : 
 
   globals_new : NewRows decls whole (λ p. p.globals) (λ n x. GlobalClass whole x.class)
   globals_new before (global v) p st k x e =
-      only (λ n y. GlobalClass whole y.class) 0 (global_row p v st.news.0) (class_of_is v.protection st.news.0 st.news.3)
+      only (λ n y. GlobalClass whole y.class) 0 (global_row p v st.news.0)
+      (class_of_is v.protection st.news.0 st.news.3)
       k x e
   globals_new before d p st k x e = cc
 

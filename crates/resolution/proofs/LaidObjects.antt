@@ -92,18 +92,23 @@ object_new decls whole number ms p q w b =
     let x = next_object number p in
     record {
       object = x;
-      here = stands (λ z. z.objects) (λ z a. refl) b (length p.objects) x (ap (λ (z : core.Program). slice_get z.objects (length p.objects)) w.is ∙ get_last p.objects x []);
+      here = stands (λ z. z.objects) (λ z a. refl) b (length p.objects) x
+          (ap (λ (z : core.Program). slice_get z.objects (length p.objects)) w.is ∙ get_last p.objects x []);
       pool = refl;
       own = λ k f e.
           (let r = row_left (CellOf decls (length p.objects)) (fields_in ms) w.cells w.own k f e in (
             r.0,
-            stands (λ z. z.cells) (λ z a. refl) b (length p.cells + k) r.0 (ap (λ (z : core.Program). slice_get z.cells (length p.cells + k)) w.is ∙ get_behind p.cells w.cells k r.0 r.1),
+            stands (λ z. z.cells) (λ z a. refl) b (length p.cells + k) r.0
+                (ap (λ (z : core.Program). slice_get z.cells (length p.cells + k)) w.is
+                ∙ get_behind p.cells w.cells k r.0 r.1),
             r.2,
           ));
       refs = λ k f e.
           (let r = row_left (FinalOf decls) (finals_in ms) w.finals w.refs k f e in (
             r.0,
-            stands (λ z. z.finals) (λ z a. refl) b (length p.finals + k) r.0 (ap (λ (z : core.Program). slice_get z.finals (length p.finals + k)) w.is ∙ get_behind p.finals w.finals k r.0 r.1),
+            stands (λ z. z.finals) (λ z a. refl) b (length p.finals + k) r.0
+                (ap (λ (z : core.Program). slice_get z.finals (length p.finals + k)) w.is
+                ∙ get_behind p.finals w.finals k r.0 r.1),
             r.2,
           ));
     }
@@ -170,7 +175,8 @@ objects_new decls whole before (pool x) p st k y e =
     let size = new_objects decls (length before) p (pool x) n in
     let less : k < x.length.value = omega (arith, within, size) in
     let new = f.objects k less in
-    let there = stands (λ z. z.objects) (λ z a. refl) st.ends (length p.objects + k) y (get_behind p.objects n.objects k y e) in
+    let there = stands (λ z. z.objects) (λ z a. refl) st.ends (length p.objects + k) y
+    (get_behind p.objects n.objects k y e) in
     let same : new.object ≡ y = one_of whole.objects (length p.objects + k) new.object y new.here there in
     record {
       pool = z;
@@ -260,7 +266,8 @@ OwnerFact whole place (owner.Field o f) =
 
 -- a cell has its owner, and opens with a value that some constant or none gives
 abbrev pub CellFact : List Decl → core.Program → ℕ → Cell → Type 0
-CellFact decls whole place c = OwnerFact whole place c.owner × ((g : Option Const) × Opens decls c.value_type g c.opening)
+CellFact decls whole place c =
+    OwnerFact whole place c.owner × ((g : Option Const) × Opens decls c.value_type g c.opening)
 
 -- what is known of each new cell of an object
 abbrev Fresh : List Decl → core.Program → ℕ → List Member → Type 0
@@ -278,7 +285,8 @@ chain_fact decls whole number ms fresh (suc n) p q c b k y from e =
     let o = length m.objects in
     let z = next_object number m in
     let before = begins_object decls number ms m q whole w b in
-    let here = stands (λ z. z.objects) (λ z a. refl) b o z (ap (λ (v : core.Program). slice_get v.objects o) w.is ∙ get_last m.objects z []) in
+    let here = stands (λ z. z.objects) (λ z a. refl) b o z
+    (ap (λ (v : core.Program). slice_get v.objects o) w.is ∙ get_last m.objects z []) in
     get_parts m.cells w.cells k y (CellFact decls whole k y)
     (ap (λ (v : core.Program). slice_get v.cells k) (sym w.is) ∙ e)
     (chain_fact decls whole number ms fresh n p m c.1 before k y from)
@@ -299,7 +307,8 @@ cells_new decls clean whole is before (array x) p st k c e =
     let within = slice_get_within (elements a n.1 x.length.value) k c e in
     let len = elements_length a n.1 x.length.value in
     let less : k < x.length.value = omega (arith, within, len) in
-    let same = one_of (elements a n.1 x.length.value) k (element a n.1 k) c (element_at a n.1 x.length.value k less) e in
+    let same = one_of (elements a n.1 x.length.value) k (element a n.1 k) c
+    (element_at a n.1 x.length.value k less) e in
     subst (CellFact decls whole (length p.cells + k)) same
     ((y, stands (λ z. z.arrays) (λ z a. refl) st.ends a y (get_last p.arrays y []), less, refl), (None, by_default))
 cells_new decls clean whole is before (pool x) p st k0 c e =

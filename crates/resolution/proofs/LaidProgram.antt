@@ -151,11 +151,13 @@ module _ (decls : List Decl) (clean : Clean decls) (program : Typed) (is : Resol
 
   pub sections_are : (k : ℕ) (x : core.Section) → slice_get (core_of program).sections k ≡ Some x →
       (i : ℕ) × (s : Section) × (slice_get decls i ≡ Some (atomic s)) × (number_at decls i (atomic s) ≡ k) × (typed_section decls section_limits s ≡ Some x)
-  sections_are k x e = let r = sections_of decls clean (core_of program) is k x e in (r.place, r.section, r.at, r.number, section_is r.typed)
+  sections_are k x e = let r = sections_of decls clean (core_of program) is k x e in
+      (r.place, r.section, r.at, r.number, section_is r.typed)
 
   pub helpers_are : (k : ℕ) (x : core.Section) → slice_get (core_of program).helpers k ≡ Some x →
       (i : ℕ) × (s : Section) × (slice_get decls i ≡ Some (helper s)) × (number_at decls i (helper s) ≡ k) × (typed_section decls helper_limits s ≡ Some x)
-  helpers_are k x e = let r = helpers_of decls clean (core_of program) is k x e in (r.place, r.section, r.at, r.number, section_is r.typed)
+  helpers_are k x e = let r = helpers_of decls clean (core_of program) is k x e in
+      (r.place, r.section, r.at, r.number, section_is r.typed)
 
   pub helped : HasHelpers decls (core_of program)
   helped = has_helpers decls clean (core_of program) is
@@ -199,7 +201,8 @@ module _ (decls : List Decl) (clean : Clean decls) (program : Typed) (is : Resol
       let a = bind_got (slice_get (core_of program).structs s) (λ y. slice_get y.fields f >>= λ z. Some z.value_type) t e in
       let same : a.0 ≡ k.view = one_of (core_of program).structs s a.0 k.view a.1 k.there in
       let b = bind_got (slice_get a.0.fields f) (λ z. Some z.value_type) t a.2 in
-      let r = row_right (FieldRow decls k.struct_at.place k.at.structure.members) (fields_in k.at.structure.members) k.view.fields k.struct_at.fields f b.0 (ap (λ (y : core.Struct). slice_get y.fields f) (sym same) ∙ b.1) in
+      let r = row_right (FieldRow decls k.struct_at.place k.at.structure.members) (fields_in k.at.structure.members)
+      k.view.fields k.struct_at.fields f b.0 (ap (λ (y : core.Struct). slice_get y.fields f) (sym same) ∙ b.1) in
       let c = k.at.own f r.0 r.1 in
       let ty : Some c.2.0 ≡ Some t = sym c.2.3 ∙ r.2.0 ∙ b.2 in
       let eq : c.2.0 ≡ t = cc in
@@ -211,7 +214,8 @@ module _ (decls : List Decl) (clean : Clean decls) (program : Typed) (is : Resol
       let a = bind_got (slice_get (core_of program).structs s) (λ y. slice_get y.finals f >>= λ z. Some z.target) target e in
       let same : a.0 ≡ k.view = one_of (core_of program).structs s a.0 k.view a.1 k.there in
       let b = bind_got (slice_get a.0.finals f) (λ z. Some z.target) target a.2 in
-      let r = row_right (FinalRow decls) (finals_in k.at.structure.members) k.view.finals k.struct_at.finals f b.0 (ap (λ (y : core.Struct). slice_get y.finals f) (sym same) ∙ b.1) in
+      let r = row_right (FinalRow decls) (finals_in k.at.structure.members) k.view.finals k.struct_at.finals f b.0
+      (ap (λ (y : core.Struct). slice_get y.finals f) (sym same) ∙ b.1) in
       let c = k.at.refs f r.0 r.1 in
       let ty : Some c.2.0 ≡ Some target = sym c.2.2 ∙ r.2 ∙ b.2 in
       let h = referred_holds decls clean (core_of program) is c.2.0 c.2.1 c.0 c.2.3 in

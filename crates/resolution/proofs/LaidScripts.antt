@@ -90,7 +90,8 @@ threads_new : (decls : List Decl) (whole : core.Program) →
     NewRows decls whole (λ p. p.threads) (λ n t. AllCalls decls t.calls)
 threads_new decls whole before (thread x) p st k t e =
     let n = st.news in
-    only (λ m y. AllCalls decls y.calls) 0 (record { name = x.name.text; calls = n.0 }) (calls_are decls x.items n.0 n.1)
+    only (λ m y. AllCalls decls y.calls) 0 (record { name = x.name.text; calls = n.0 })
+    (calls_are decls x.items n.0 n.1)
     k t e
 threads_new decls whole before d p st k t e = cc
 
@@ -153,7 +154,8 @@ parameter_local decls limits s x e n p at =
 
 pub section_at : (decls : List Decl) → Clean decls → (whole : core.Program) → AreTables decls whole →
     (i : ℕ) (s : Section) → slice_get decls i ≡ Some (atomic s) →
-    (x : core.Section) × (slice_get whole.sections (number_at decls i (atomic s)) ≡ Some x) × TypesSection decls section_limits s x
+    (x : core.Section) × (slice_get whole.sections (number_at decls i (atomic s)) ≡ Some x) ×
+    TypesSection decls section_limits s x
 section_at decls clean whole is i s at =
     let l = lands decls clean whole is i (atomic s) at in
     let x = l.step.news.0 in
@@ -162,7 +164,8 @@ section_at decls clean whole is i s at =
 -- the same of a helper
 pub helper_at : (decls : List Decl) → Clean decls → (whole : core.Program) → AreTables decls whole →
     (i : ℕ) (s : Section) → slice_get decls i ≡ Some (helper s) →
-    (x : core.Section) × (slice_get whole.helpers (number_at decls i (helper s)) ≡ Some x) × TypesSection decls helper_limits s x
+    (x : core.Section) × (slice_get whole.helpers (number_at decls i (helper s)) ≡ Some x) ×
+    TypesSection decls helper_limits s x
 helper_at decls clean whole is i s at =
     let l = lands decls clean whole is i (helper s) at in
     let x = l.step.news.0 in
@@ -198,4 +201,5 @@ pub argument_holds : (decls : List Decl) → Clean decls → (whole : core.Progr
     (n : ℕ) (p : Param) (v : Value) (t : core_type.ValueType) → Argument decls n p v →
     type_of (outside decls) p.value_type ≡ Some t → Holds whole t v
 argument_holds decls clean whole is n p v t a e =
-    const_holds decls clean whole is t a.0 v (subst (λ (o : Option core_type.ValueType). Yields decls (want o) a.0 v) e a.1)
+    const_holds decls clean whole is t a.0 v
+    (subst (λ (o : Option core_type.ValueType). Yields decls (want o) a.0 v) e a.1)

@@ -70,11 +70,15 @@ lock_numbered (x ∷ ms) (suc m) f e = lock_numbered ms m f e
 
 -- a field's cell
 abbrev pub CellOf : List Decl → ℕ → ℕ → Field → Cell → Type 0
-CellOf decls o k f c = (t : core_type.ValueType) × (v : Value) × (g : Option Const) × (type_of (outside decls) f.value_type ≡ Some t) × Opens decls t g v × (c ≡ record { owner = owner.Field o k; value_type = t; opening = v })
+CellOf decls o k f c =
+    (t : core_type.ValueType) × (v : Value) × (g : Option Const) × (type_of (outside decls) f.value_type ≡ Some t) ×
+    Opens decls t g v × (c ≡ record { owner = owner.Field o k; value_type = t; opening = v })
 
 -- a final reference's object
 abbrev pub FinalOf : List Decl → ℕ → Final → ℕ → Type 0
-FinalOf decls k f n = (s : ℕ) × (c : Const) × (struct_named decls f.target ≡ Some s) × Yields decls (wanted.Value (Reference s)) c (Ref (Some n))
+FinalOf decls k f n =
+    (s : ℕ) × (c : Const) × (struct_named decls f.target ≡ Some s) ×
+    Yields decls (wanted.Value (Reference s)) c (Ref (Some n))
 
 -- what an object opens with, row by row
 opened_rows : (decls : List Decl) (object : ℕ) (at : InitTarget) (fields n : ℕ) (ms : List Member) (os : List ℕ)

@@ -136,7 +136,8 @@ pub elements_length : (a : ℕ) (t : core_type.ValueType) (n : ℕ) → length (
 elements_length a t zero = refl
 elements_length a t (suc n) =
     let r = elements_length a t n in
-    let l = length_push (elements a t n) (record { owner = owner.Element a n; value_type = t; opening = default_of t }) in
+    let l = length_push (elements a t n)
+    (record { owner = owner.Element a n; value_type = t; opening = default_of t }) in
     omega (arith, r, l)
 
 -- ---- how far a program has come
@@ -231,7 +232,8 @@ counts_next decls clean before d p n h =
 -- ---- the walk
 
 -- a declaration with those before it, and what it adds to their tables
-pub record Step (decls : List Decl) (whole : core.Program) (before : List Decl) (d : Decl) (p : core.Program) : Type 0 where
+pub record Step (decls : List Decl) (whole : core.Program) (before : List Decl) (d : Decl)
+    (p : core.Program) : Type 0 where
   pub at : slice_get decls (length before) ≡ Some d
   pub ahead : take (length before) decls ≡ before
   pub counts : Counts decls before p
@@ -242,7 +244,8 @@ abbrev pub added : {decls : List Decl} {whole : core.Program} {before : List Dec
     Step decls whole before d p → core.Program
 added {decls = decls} {before = before} {d = d} {p = p} st = fresh decls (length before) p d st.news
 
-record First (decls before : List Decl) (p : core.Program) (d : Decl) (ds : List Decl) (whole : core.Program) : Type 0 where
+record First (decls before : List Decl) (p : core.Program) (d : Decl) (ds : List Decl)
+    (whole : core.Program) : Type 0 where
   news : News decls (length before) p d
   rest : AddAll decls (length (before ++ d ∷ [])) ds (plus p (fresh decls (length before) p d news)) whole
 
@@ -348,9 +351,15 @@ module _ (decls : List Decl) (clean : Clean decls) (whole : core.Program) (is : 
       nothing n x e = cc
 
   pub lands : (i : ℕ) (d : Decl) → slice_get decls i ≡ Some d → Landed decls whole i d
-  lands = walked_whole (λ b p. (i : ℕ) (d : Decl) → slice_get b i ≡ Some d → Landed decls whole i d) (λ i d e. nothing i d e)
+  lands = walked_whole (λ b p. (i : ℕ) (d : Decl) → slice_get b i ≡ Some d → Landed decls whole i d)
+      (λ i d e. nothing i d e)
       (λ before d p st k i x e. get_pushed before d i x (Landed decls whole i x) e (k i x)
-      (λ a b. record { before = before; was = p; step = subst (λ (y : Decl). Step decls whole before y p) b st; place = sym a }))
+      (λ a b. record {
+        before = before;
+        was = p;
+        step = subst (λ (y : Decl). Step decls whole before y p) b st;
+        place = sym a;
+      }))
     where
       nothing : (i : ℕ) (d : Decl) → slice_get [] i ≡ Some d → Landed decls whole i d
       nothing i d e = cc

@@ -31,7 +31,8 @@ only_ruled decls c (Some (i, atomic s)) cs is ds e h more =
     by_arguments (Some vs) g k =
         let y : core.Call = record { section = number_at decls i (atomic s); arguments = vs } in
         let same : y ∷ [] ≡ cs = cc in
-        subst (λ (xs : List core.Call). AreCalls decls (item (call c) is) (xs ++ ds)) same (one_call e (arguments_ruled decls s.params c.arguments vs g) more)
+        subst (λ (xs : List core.Call). AreCalls decls (item (call c) is) (xs ++ ds)) same
+        (one_call e (arguments_ruled decls s.params c.arguments vs g) more)
     by_arguments None g k = cc
 only_ruled decls c (Some (i, lock x)) cs is ds e h more = cc
 only_ruled decls c (Some (i, struct x)) cs is ds e h more = cc

@@ -106,7 +106,9 @@ misfit_if decls p false h f i = of_one decls WrongType p f (h refl) i
 true_sort : (decls : List Decl) (w : Want) (c : Const) → HasConst decls w c → (s : Option Sort) →
     const_sort decls c ≡ s → (f : Mistake) → IsAmong f (sort_misfit w (const_start c) s) → IsTrue_of decls f
 true_sort decls w c h None is f i = absurd i
-true_sort decls w c h (Some s) is f i = misfit_if decls (const_start c) (fits_sort w s) (λ e. wrong_type (fault.unwanted_constant h (sort_ruled decls c s is) e)) f i
+true_sort decls w c h (Some s) is f i =
+    misfit_if decls (const_start c) (fits_sort w s)
+    (λ e. wrong_type (fault.unwanted_constant h (sort_ruled decls c s is) e)) f i
 
 pub true_const : (decls : List Decl) (w : Want) (c : Const) → HasConst decls w c → (f : Mistake) →
     IsAmong f (const_faults decls w c) → IsTrue_of decls f

@@ -31,7 +31,8 @@ pub data IsOfSort (decls : List Decl) : Const → Sort → Type 0 where
       the_decl decls x.text ≡ Some (i, pool p) → struct_named decls p.target ≡ Some s →
       IsOfSort decls (member_const x n) (Of (Reference s))
 
--- the object that is the member of this index of the pool at this place; past the limit all have one number, and the program has a fault
+-- the object that is the member of this index of the pool at this place; past the limit all have one number, and the
+-- program has a fault
 abbrev pub object_of : List Decl → ℕ → ℕ → ℕ
 object_of decls i n = min (objects_ahead decls i + n) OBJECT_LIMIT
 
@@ -96,7 +97,8 @@ init_target_in p index (Some ms) q = init_target_at p index (the_member ms q)
 init_target_in p index None q = None
 
 abbrev pub init_target_to : List Decl → Option (ℕ × Decl) → ℕ → List ℕ → Option InitTarget
-init_target_to decls (Some (i, pool p)) index q = if nat_lt index p.length.value then init_target_in i index (members_of decls p.target) q else None
+init_target_to decls (Some (i, pool p)) index q =
+    if nat_lt index p.length.value then init_target_in i index (members_of decls p.target) q else None
 init_target_to decls _ index q = None
 
 -- what an `init` gives a value to, if there is such a thing

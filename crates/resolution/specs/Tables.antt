@@ -2,7 +2,8 @@
 -- at its end, and its number is how many stand there before it.
 use Rattle.std.specs.Prelude.{◌≡◌, ℕ, zero, suc, ◌+◌, ◌≤◌, List, [], ◌∷◌, ◌++◌, length, Some}
 use Rattle.source.specs.declared.token.Number.{Number}
-use Rattle.syntax.specs.Trees.{Ident, Const, Member, lock_member, final_member, field_member, Final, Field, Struct, Variable}
+use Rattle.syntax.specs.Trees.{Ident, Const, Member, lock_member, final_member, field_member, Final, Field, Struct}
+use Rattle.syntax.specs.Trees.{Variable}
 use Rattle.syntax.specs.Trees.{Array, Pool, Init, Section, Thread, Decl, lock, struct, global, array, pool, init}
 use Rattle.syntax.specs.Trees.{atomic, helper, thread, Call, Items, no_items, item, call, repeat}
 use Rattle.core_lang.specs.declared.value.Value.{Value}

@@ -31,7 +31,8 @@ use Rattle.resolution.specs.Expressions.{ResolvedExpr}
 use Rattle.resolution.specs.Typing.{Types, Assigns, IsFinalOf, TypesStmt, TypesBody, TypesSection}
 use Rattle.resolution.specs.Working.TypedExpressions.{typed}
 use Rattle.resolution.specs.Working.TypedOwners.{owner_field}
-use Rattle.resolution.specs.Working.TypedStatements.{Assignee, wanted_by, target_of, set_to, does, typed_stmt, Body, typed_body}
+use Rattle.resolution.specs.Working.TypedStatements.{Assignee, wanted_by, target_of, set_to, does, typed_stmt, Body}
+use Rattle.resolution.specs.Working.TypedStatements.{typed_body}
 use Rattle.resolution.specs.Working.TypedSections.{typed_section}
 use Rattle.resolution.specs.Constants.{IsOfSort, Yields, AreArguments, Opens}
 use Rattle.resolution.specs.Working.TypedConstants.{const_sort, typed_const, typed_arguments, opened, referred}
@@ -122,7 +123,8 @@ abbrev pub WantedAreAsked : Type 0
 WantedAreAsked =
     (sc : Scope) (p : Place) →
     ((e : Expr) → Asks sc (assign p e) (wanted_by (target_of sc p)) e) ×
-    ((t : ValueType) (set : core.Expr → core.Action) → Assigns sc p t set → wanted_by (target_of sc p) ≡ wanted.Value t) ×
+    ((t : ValueType) (set : core.Expr → core.Action) → Assigns sc p t set →
+    wanted_by (target_of sc p) ≡ wanted.Value t) ×
     (((t : ValueType) (set : core.Expr → core.Action) → Assigns sc p t set → ⊥) →
     wanted_by (target_of sc p) ≡ wanted.Anything)
 

@@ -1,5 +1,6 @@
 use Rattle.resolution.proofs.ExpressionRules.{types_is, typed_is}
-use Rattle.resolution.proofs.OwnerRules.{target_types, target_is, asks_right, wanted_right, wanted_nothing, final_of_type, final_is}
+use Rattle.resolution.proofs.OwnerRules.{target_types, target_is, asks_right, wanted_right, wanted_nothing}
+use Rattle.resolution.proofs.OwnerRules.{final_of_type, final_is}
 use Rattle.resolution.proofs.StatementRules.{types_stmt, stmt_is, types_body, body_is, types_the_section, section_is}
 use Rattle.resolution.proofs.laws.typed_by_rules.Goals as goal
 
