@@ -1,15 +1,13 @@
 -- What a resolved program holds of its declarations.
-use Rattle.std.proofs.Common.{◌≡◌, ℕ, suc, ◌+◌, ◌≤◌, List, [], ◌∷◌, ◌++◌, length, Option, Some, refl, sym, ap, ◌∙◌}
+use Rattle.std.proofs.Common.{◌≡◌, ℕ, suc, ◌+◌, ◌≤◌, List, [], ◌∷◌, ◌++◌, length, Some, refl, sym, ap, ◌∙◌}
 use Rattle.std.proofs.Common.{subst, arith}
 use Rattle.std.specs.Prelude.{slice_get, take, min}
 use Rattle.std.proofs.lemmas.Option.{slice_get_within}
 use Rattle.syntax.specs.Trees.{Ident, Member, final_member, field_member, Final, Field, Struct, Pool}
 use Rattle.syntax.specs.Trees.{Section, Decl, struct, global, array, pool, atomic, helper}
-use Rattle.core_lang.specs.declared.typed.Cell.{Cell}
-use Rattle.core_lang.specs.Typing.{if_global}
 use Rattle.resolution.specs.Core as core
 use Rattle.resolution.specs.Limits.{CELL_LIMIT, MEMBER_LIMIT, section_limits, helper_limits}
-use Rattle.resolution.specs.Scopes.{◌>>=◌, struct_named, count, alike, number_at, number_in}
+use Rattle.resolution.specs.Scopes.{struct_named, count, alike, number_at, number_in}
 use Rattle.resolution.specs.Scopes.{structs_in, the_struct}
 use Rattle.resolution.specs.Numbers.{total, classes_of, objects_of, cells_of, classes_ahead, cells_ahead}
 use Rattle.resolution.specs.Numbers.{objects_ahead}
@@ -32,6 +30,14 @@ use Rattle.resolution.proofs.LaidWalk.{added, Landed, lands, each_row, walked_wh
 
 pub under : (n limit : ℕ) → n ≤ limit → min n limit ≡ n
 under n limit le = omega (arith, le)
+
+-- what stands in a list that is no longer than a limit, stands there
+pub at_most : {A : Type 0} (xs : List A) (n limit : ℕ) (x : A) → length xs ≤ limit → slice_get xs n ≡ Some x →
+    slice_get xs (min n limit) ≡ Some x
+at_most xs n limit x few e =
+    let within = slice_get_within xs n x e in
+    let le : n ≤ limit = omega (arith, within, few) in
+    subst (λ (k : ℕ). slice_get xs k ≡ Some x) (sym (under n limit le)) e
 
 pub number_landed : (decls : List Decl) (whole : core.Program) (i : ℕ) (d : Decl) (l : Landed decls whole i d) →
     number_at decls i d ≡ count (alike d) l.before
@@ -159,23 +165,21 @@ pub member_field : (decls : List Decl) → Clean decls → (x : Struct) (s m : �
     the_struct decls s ≡ Some x → slice_get x.members m ≡ Some (field_member f) →
     slice_get (fields_in x.members) (member_number x.members m (field_member f)) ≡ Some f
 member_field decls clean x s m f is at =
-    let h = field_numbered x.members m f at in
-    let a = slice_get_within (fields_in x.members) (number_in x.members m (field_member f)) f h in
     let b = fields_counted x.members in
     let c = count_few is_field x.members in
     let d = struct_few decls clean x (struct_has decls s x is) in
-    subst (λ (k : ℕ). slice_get (fields_in x.members) k ≡ Some f) (sym (under (number_in x.members m (field_member f)) MEMBER_LIMIT (let z : number_in x.members m (field_member f) ≤ MEMBER_LIMIT = omega (arith, a, b, c, d) in z))) h
+    at_most (fields_in x.members) (number_in x.members m (field_member f)) MEMBER_LIMIT f (omega (arith, b, c, d))
+    (field_numbered x.members m f at)
 
 pub member_final : (decls : List Decl) → Clean decls → (x : Struct) (s m : ℕ) (f : Final) →
     the_struct decls s ≡ Some x → slice_get x.members m ≡ Some (final_member f) →
     slice_get (finals_in x.members) (member_number x.members m (final_member f)) ≡ Some f
 member_final decls clean x s m f is at =
-    let h = final_numbered x.members m f at in
-    let a = slice_get_within (finals_in x.members) (number_in x.members m (final_member f)) f h in
     let b = finals_counted x.members in
     let c = count_few is_final x.members in
     let d = struct_few decls clean x (struct_has decls s x is) in
-    subst (λ (k : ℕ). slice_get (finals_in x.members) k ≡ Some f) (sym (under (number_in x.members m (final_member f)) MEMBER_LIMIT (let z : number_in x.members m (final_member f) ≤ MEMBER_LIMIT = omega (arith, a, b, c, d) in z))) h
+    at_most (finals_in x.members) (number_in x.members m (final_member f)) MEMBER_LIMIT f (omega (arith, b, c, d))
+    (final_numbered x.members m f at)
 
 -- ---- the program has each thing with its type at its number
 
@@ -194,32 +198,32 @@ sound_of decls clean whole is = record {
       subst (λ (k : ℕ). slice_get whole.cells k ≡ Some c) (ahead ∙ sym (under (cells_ahead decls n) CELL_LIMIT small))
       (stands (λ z. z.cells) (λ z a. refl) l.step.ends (length p.cells) c (get_last p.cells c [])) in
       let same : Some a.1 ≡ Some t = sym a.4 ∙ ty in
-      ap (λ (o : Option Cell). o >>= λ c. if_global c.owner c.value_type) here ∙ same);
+      rw here same);
   array = λ n x t at ty.
       (let l = lands decls clean whole is n (array x) at in
       let a = l.step.news in
       let here = numbered_row (λ z. z.arrays) (λ z a. refl) l (array_row l.was x a.0 a.1) refl
       (l.step.counts.arrays x) in
       let same : Some a.1 ≡ Some t = sym a.3 ∙ ty in
-      ap (λ (o : Option core.Array). o >>= λ z. Some z.element_type) here ∙ same);
+      rw here same);
   pool = λ n x s at ty.
       (let g = pool_at decls clean whole is n x at in
       let same : Some g.structure ≡ Some s = sym g.named ∙ ty in
-      ap (λ (o : Option core.Pool). o >>= λ z. Some z.structure) g.here ∙ same);
+      rw (g.here) same);
   final = λ s x m f k at here ty.
       (let r = struct_of_number decls clean whole is s x at in
       let n = member_number x.members m (final_member f) in
       let y = row_left (FinalRow decls) (finals_in x.members) r.0.finals r.2.finals n f
       (member_final decls clean x s m f at here) in
       let same : Some y.0.target ≡ Some k = sym y.2 ∙ ty in
-      ap (λ (o : Option core.Struct). o >>= λ z. slice_get z.finals n >>= λ w. Some w.target) r.1 ∙ ap (λ (o : Option core.FinalField). o >>= λ w. Some w.target) y.1 ∙ same);
+      rw (r.1, y.1) same);
   field = λ s x m f t at here ty.
       (let r = struct_of_number decls clean whole is s x at in
       let n = member_number x.members m (field_member f) in
       let y = row_left (FieldRow decls r.2.place x.members) (fields_in x.members) r.0.fields r.2.fields n f
       (member_field decls clean x s m f at here) in
       let same : Some y.0.value_type ≡ Some t = sym y.2.0 ∙ ty in
-      ap (λ (o : Option core.Struct). o >>= λ z. slice_get z.fields n >>= λ w. Some w.value_type) r.1 ∙ ap (λ (o : Option core.Field). o >>= λ w. Some w.value_type) y.1 ∙ same);
+      rw (r.1, y.1) same);
 }
 
 -- ---- sections and helpers

@@ -2,7 +2,6 @@
 use Rattle.std.proofs.Common.{◌≡◌, ℕ, zero, suc, ◌+◌, ◌<◌, ◌≤◌, List, [], ◌∷◌, ◌++◌, length, Option, Some, None, true}
 use Rattle.std.proofs.Common.{refl, sym, ap, ◌∙◌, subst, arith}
 use Rattle.std.specs.Prelude.{slice_get, ⊤, nat_le, ◌&&◌}
-use Rattle.std.proofs.lemmas.Option.{slice_get_within}
 use Rattle.source.specs.declared.fault.Code.TheVariants.{LimitExceeded}
 use Rattle.syntax.specs.Trees.{Ident, Protection, Member, lock_member, final_member, field_member, Final, Field}
 use Rattle.syntax.specs.Trees.{Struct, Decl, lock, struct, global, array}
@@ -32,7 +31,7 @@ use Rattle.resolution.proofs.LaidLists.{rows_left, rows_right, get_last, only, b
 use Rattle.resolution.proofs.LaidStages.{stands, fields_in, locks_in, lock_numbered, global_row, array_row}
 use Rattle.resolution.proofs.LaidWalk.{NewRows, LockRow, ClassRow, FieldRow, parted, lands, each_row, few}
 use Rattle.resolution.proofs.LaidWalk.{counted_whole}
-use Rattle.resolution.proofs.LaidFacts.{struct_landed, struct_by_number, sound_of, under, total_landed}
+use Rattle.resolution.proofs.LaidFacts.{struct_landed, struct_by_number, sound_of, at_most, total_landed}
 use Rattle.resolution.proofs.Tests.{le_false}
 
 -- ---- how many classes there are
@@ -121,10 +120,7 @@ module _ (decls : List Decl) (clean : Clean decls) (whole : core.Program) (is : 
 
   class_here : (i n : ℕ) (c : core.LockClass) → slice_get whole.classes (classes_ahead decls i + n) ≡ Some c →
       slice_get whole.classes (class_number decls i n) ≡ Some c
-  class_here i n c e =
-      let a = slice_get_within whole.classes (classes_ahead decls i + n) c e in
-      let b = few_classes in
-      subst (λ (k : ℕ). slice_get whole.classes k ≡ Some c) (sym (under (classes_ahead decls i + n) CLASS_LIMIT (let z : classes_ahead decls i + n ≤ CLASS_LIMIT = omega (arith, a, b) in z))) e
+  class_here i n c e = at_most whole.classes (classes_ahead decls i + n) CLASS_LIMIT c few_classes e
 
   lock_here : (i : ℕ) (x : Ident) → slice_get decls i ≡ Some (lock x) →
       slice_get whole.classes (class_number decls i 0) ≡ Some (core.global_lock x.text)

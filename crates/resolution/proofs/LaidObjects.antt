@@ -36,7 +36,7 @@ use Rattle.resolution.proofs.LaidStages.{plus, held, next_object, global_row, gl
 use Rattle.resolution.proofs.LaidStages.{stands}
 use Rattle.resolution.proofs.LaidWalk.{FieldRow, chain_objects, elements_length, all_objects_few, Step, added}
 use Rattle.resolution.proofs.LaidWalk.{new_objects, NewRows, each_row, counted_whole}
-use Rattle.resolution.proofs.LaidFacts.{struct_of_number, pool_at, under}
+use Rattle.resolution.proofs.LaidFacts.{struct_of_number, pool_at, at_most}
 use Rattle.resolution.proofs.Tests.{lt_of, lt_false}
 
 -- ---- numbers
@@ -258,6 +258,10 @@ arrays_of decls clean whole is =
 abbrev pub struct_in : core.Program → ℕ → Option ℕ
 struct_in p o = slice_get p.objects o >>= λ x. slice_get p.pools x.pool >>= λ y. Some y.structure
 
+pub struct_of_object : (p : core.Program) (o n : ℕ) (x : Object) (y : core.Pool) → slice_get p.objects o ≡ Some x →
+    x.pool ≡ n → slice_get p.pools n ≡ Some y → struct_in p o ≡ Some y.structure
+struct_of_object p o n x y at number row = rw (at, number, row) refl
+
 abbrev pub OwnerFact : core.Program → ℕ → Owner → Type 0
 OwnerFact whole place (owner.Global g) = (x : core.GlobalVariable) × (slice_get whole.globals g ≡ Some x) × (place ≡ x.cell)
 OwnerFact whole place (owner.Element n i) = (x : core.Array) × (slice_get whole.arrays n ≡ Some x) × (i < x.length) × (place ≡ x.first + i)
@@ -321,10 +325,7 @@ cells_new decls clean whole is before (pool x) p st k0 c e =
     (λ o w at in_pool k f c has of.
     (let r = row_left (FieldRow decls y.2.place m.0.members) (fields_in m.0.members) y.0.fields y.2.fields k f
     (ap (λ (ms : List Member). slice_get (fields_in ms) k) m.2 ∙ has) in
-    let structure : struct_in whole o ≡ Some a.structure =
-    ap (λ (t : Option Object). t >>= λ u. slice_get whole.pools u.pool >>= λ v. Some v.structure) at
-    ∙ ap (λ (t : ℕ). slice_get whole.pools t >>= λ v. Some v.structure) in_pool
-    ∙ ap (λ (t : Option core.Pool). t >>= λ v. Some v.structure) here in
+    let structure = struct_of_object whole o (length p.pools) w z at in_pool here in
     let field : field_in whole a.structure k ≡ Some r.0.value_type =
     ap (λ (t : Option core.Struct). t >>= λ u. slice_get u.fields k >>= λ v. Some v.value_type) y.1
     ∙ ap (λ (t : Option core.Field). t >>= λ v. Some v.value_type) r.1 in
@@ -362,12 +363,10 @@ member_is_of decls clean whole is i x n s at less named =
     let p = pool_at decls clean whole is i x at in
     let f = pools_of decls clean whole is (number_at decls i (pool x)) (record { name = x.name.text; first = objects_ahead decls i; length = x.length.value; structure = p.structure }) p.here in
     let new = f.objects n less in
-    let within = slice_get_within whole.objects (objects_ahead decls i + n) new.object new.here in
     let few = few_objects decls clean whole is in
-    let place : objects_ahead decls i + n ≡ object_of decls i n = sym (under (objects_ahead decls i + n) OBJECT_LIMIT (let z : objects_ahead decls i + n ≤ OBJECT_LIMIT = omega (arith, within, few) in z)) in
-    let same : Some p.structure ≡ Some s = sym p.named ∙ named in
-    subst (λ (k : ℕ). struct_in whole k ≡ Some s) place
-    (ap (λ (t : Option Object). t >>= λ u. slice_get whole.pools u.pool >>= λ v. Some v.structure) new.here ∙ ap (λ (t : ℕ). slice_get whole.pools t >>= λ v. Some v.structure) new.pool ∙ ap (λ (t : Option core.Pool). t >>= λ v. Some v.structure) p.here ∙ same)
+    let here = at_most whole.objects (objects_ahead decls i + n) OBJECT_LIMIT new.object few new.here in
+    struct_of_object whole (object_of decls i n) (number_at decls i (pool x)) new.object _ here new.pool p.here
+    ∙ sym p.named ∙ named
 
 number_holds : (p : core.Program) (t : core_type.ValueType) (z : ℤ) → fits_type t (sort.Of Integer) ≡ true →
     Holds p t (Int z)

@@ -51,7 +51,7 @@ use Rattle.resolution.proofs.LaidLocks.{arrays_have, lock_fields_have, fields_ha
 use Rattle.resolution.proofs.LaidScripts.{Argument, threads_of, sectioned, parameter_local, section_at, has_helpers}
 use Rattle.resolution.proofs.LaidScripts.{argument_holds}
 use Rattle.resolution.proofs.LaidObjects.{one_of, ObjectAt, objects_of_program, pools_of, globals_of, arrays_of}
-use Rattle.resolution.proofs.LaidObjects.{struct_in, OwnerFact, cells_of_program, Holds, opened_holds, referred_holds}
+use Rattle.resolution.proofs.LaidObjects.{struct_in, struct_of_object, OwnerFact, cells_of_program, Holds, opened_holds, referred_holds}
 
 -- ---- what the views say
 
@@ -188,8 +188,7 @@ module _ (decls : List Decl) (clean : Clean decls) (program : Typed) (is : Resol
       struct_of program.shape o ≡ Some s → Kind o x s
   kind o x s e h =
       let at = objects_of_program decls clean (core_of program) is o x e in
-      let g : struct_in (core_of program) o ≡ Some at.pool.structure =
-      ap (λ (t : Option Object). t >>= λ u. slice_get (core_of program).pools u.pool >>= λ v. Some v.structure) e ∙ ap (λ (t : Option core.Pool). t >>= λ v. Some v.structure) at.there in
+      let g = struct_of_object (core_of program) o x.pool x at.pool e refl at.there in
       let same : Some at.pool.structure ≡ Some s = sym g ∙ struct_back program o s h in
       let eq : at.pool.structure ≡ s = cc in
       let r = struct_of_number decls clean (core_of program) is s at.structure (subst (λ (k : ℕ). the_struct decls k ≡ Some at.structure) eq at.is) in
