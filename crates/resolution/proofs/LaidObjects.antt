@@ -326,9 +326,7 @@ cells_new decls clean whole is before (pool x) p st k0 c e =
     (let r = row_left (FieldRow decls y.2.place m.0.members) (fields_in m.0.members) y.0.fields y.2.fields k f
     (ap (λ (ms : List Member). slice_get (fields_in ms) k) m.2 ∙ has) in
     let structure = struct_of_object whole o (length p.pools) w z at in_pool here in
-    let field : field_in whole a.structure k ≡ Some r.0.value_type =
-    ap (λ (t : Option core.Struct). t >>= λ u. slice_get u.fields k >>= λ v. Some v.value_type) y.1
-    ∙ ap (λ (t : Option core.Field). t >>= λ v. Some v.value_type) r.1 in
+    let field : field_in whole a.structure k ≡ Some r.0.value_type = rw (y.1, r.1) refl in
     subst (CellFact decls whole (w.cells + k)) (sym of.5)
     ((w, at, refl, (a.structure, r.0.value_type, structure, field)), (of.2, of.4))))
     x.length.value (record p { pools = p.pools ++ z ∷ [] }) (plus p (added st)) a.chain st.ends (length p.cells + k0) c

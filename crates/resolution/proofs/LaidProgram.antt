@@ -72,21 +72,19 @@ module _ (program : Typed) where
   struct_back o s e =
       let a = lookup_got (slice_get program.shape.objects.items o) (λ (x : Object). lookup (slice_get program.shape.pools.items x.pool) (λ (p : the_pool.Pool). Some p.structure)) s e in
       let b = lookup_got (slice_get program.shape.pools.items a.0.pool) (λ (p : the_pool.Pool). Some p.structure) s a.2 in
-      ap (λ (t : Option Object). t >>= λ x. slice_get (core_of program).pools x.pool >>= λ y. Some y.structure) a.1 ∙ ap (λ (t : Option core.Pool). t >>= λ y. Some y.structure) (get_map core_pool program.shape.pools.items a.0.pool b.0 b.1) ∙ b.2
+      rw (a.1, get_map core_pool program.shape.pools.items a.0.pool b.0 b.1) b.2
 
   pub field_back : (s f : ℕ) (t : ValueType) → field_type program s f ≡ Some t → field_in (core_of program) s f ≡ Some t
   field_back s f t e =
       let a = lookup_got (slice_get program.structs.items s) (λ (x : the_struct_of.Struct). lookup (slice_get x.fields.items f) (λ (y : the_field.Field). Some y.value_type)) t e in
       let b = lookup_got (slice_get a.0.fields.items f) (λ (y : the_field.Field). Some y.value_type) t a.2 in
-      ap (λ (z : Option core.Struct). z >>= λ x. slice_get x.fields f >>= λ y. Some y.value_type) (get_map core_struct program.structs.items s a.0 a.1)
-      ∙ ap (λ (z : Option core.Field). z >>= λ y. Some y.value_type) (get_map core_field a.0.fields.items f b.0 b.1) ∙ b.2
+      rw (get_map core_struct program.structs.items s a.0 a.1, get_map core_field a.0.fields.items f b.0 b.1) b.2
 
   pub final_back : (s f k : ℕ) → final_target program s f ≡ Some k → final_in (core_of program) s f ≡ Some k
   final_back s f k e =
       let a = lookup_got (slice_get program.structs.items s) (λ (x : the_struct_of.Struct). lookup (slice_get x.finals.items f) (λ (y : the_final.FinalField). Some y.target)) k e in
       let b = lookup_got (slice_get a.0.finals.items f) (λ (y : the_final.FinalField). Some y.target) k a.2 in
-      ap (λ (z : Option core.Struct). z >>= λ x. slice_get x.finals f >>= λ y. Some y.target) (get_map core_struct program.structs.items s a.0 a.1)
-      ∙ ap (λ (z : Option core.FinalField). z >>= λ y. Some y.target) (get_map core_final a.0.finals.items f b.0 b.1) ∙ b.2
+      rw (get_map core_struct program.structs.items s a.0 a.1, get_map core_final a.0.finals.items f b.0 b.1) b.2
 
   pub holds_is : (t : ValueType) (v : Value) → Holds (core_of program) t v → HasType program.shape t v
   holds_is Integer (Int n) h = tt
