@@ -19,7 +19,7 @@ use Rattle.resolution.proofs.FaultlessExpressions.{struct_has, Clean}
 use Rattle.resolution.proofs.FaultlessMembers.{is_field, is_final, count_few}
 use Rattle.resolution.proofs.FaultlessPrograms.{struct_few}
 use Rattle.resolution.proofs.TypedResolvedExprs.{Sound}
-use Rattle.resolution.proofs.LaidLists.{Rows, rows_append, get_last, get_behind, only, row_left, row_right}
+use Rattle.resolution.proofs.LaidLists.{Rows, rows_append, get_last, get_behind, only, row_left, row_right, no_row}
 use Rattle.resolution.proofs.LaidStages.{fields_in, finals_in, locks_in, field_numbered, final_numbered, global_cell}
 use Rattle.resolution.proofs.LaidStages.{array_row, pool_row, stands}
 use Rattle.resolution.proofs.LaidStages.{plus}
@@ -253,7 +253,7 @@ sections_new decls whole before (atomic s) p st k x e =
       number = ap (count (alike (atomic s))) st.ahead ∙ sym (st.counts.sections s);
       typed = st.news.1;
     }) k x e
-sections_new decls whole before d p st k x e = cc
+sections_new decls whole before d p st k x e = no_row k x e
 
 pub sections_of : (decls : List Decl) → Clean decls → (whole : core.Program) → AreTables decls whole →
     (k : ℕ) (x : core.Section) → slice_get whole.sections k ≡ Some x → SectionAt decls k x
@@ -270,7 +270,7 @@ helpers_new decls whole before (helper s) p st k x e =
       number = ap (count (alike (helper s))) st.ahead ∙ sym (st.counts.helpers s);
       typed = st.news.1;
     }) k x e
-helpers_new decls whole before d p st k x e = cc
+helpers_new decls whole before d p st k x e = no_row k x e
 
 pub helpers_of : (decls : List Decl) → Clean decls → (whole : core.Program) → AreTables decls whole →
     (k : ℕ) (x : core.Section) → slice_get whole.helpers k ≡ Some x → HelperAt decls k x

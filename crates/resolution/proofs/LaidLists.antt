@@ -106,6 +106,10 @@ get_pushed [] x (suc n) y C e f g = cc
 get_pushed (z ∷ xs) x zero y C e f g = f e
 get_pushed (z ∷ xs) x (suc n) y C e f g = get_pushed xs x n y C e f (λ p s. g (ap suc p) s)
 
+-- none has no row
+pub no_row : {A : Type 0} {P : Type 0} (k : ℕ) (x : A) → slice_get [] k ≡ Some x → P
+no_row k x e = cc
+
 -- what holds of the only one holds of each
 pub only : {A : Type 0} (F : ℕ → A → Type 0) (n : ℕ) (x : A) → F n x → (k : ℕ) (y : A) → slice_get (x ∷ []) k ≡ Some y →
     F (n + k) y

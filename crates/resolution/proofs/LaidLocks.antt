@@ -27,7 +27,7 @@ use Rattle.resolution.proofs.AllFaults.{of_totals}
 use Rattle.resolution.proofs.TrueStatements.{length_push}
 use Rattle.resolution.proofs.FaultlessExpressions.{NoneIn, none_left, none_right, not_if, Clean}
 use Rattle.resolution.proofs.Typed.{final_in}
-use Rattle.resolution.proofs.LaidLists.{rows_left, rows_right, get_last, only, bind_got, row_right}
+use Rattle.resolution.proofs.LaidLists.{rows_left, rows_right, get_last, only, bind_got, row_right, no_row}
 use Rattle.resolution.proofs.LaidStages.{stands, fields_in, locks_in, lock_numbered, global_row, array_row}
 use Rattle.resolution.proofs.LaidWalk.{NewRows, LockRow, ClassRow, FieldRow, parted, lands, each_row, few}
 use Rattle.resolution.proofs.LaidWalk.{counted_whole}
@@ -78,7 +78,7 @@ classes_new decls whole before (struct x) p st l c e =
     let z = row_right (ClassRow k) (locks_in x.members) (lock_classes k 0 a.0.locks) r.classes l c e in
     let f = rows_left LockRow (length p.classes) (locks_in x.members) a.0.locks r.locks l z.0 z.1 in
     subst (ClassFact whole (length p.classes + l)) (sym z.2) (a.0, here, f.0, f.1, f.2)
-classes_new decls whole before d p st k c e = cc
+classes_new decls whole before d p st k c e = no_row k c e
 
 pub classes_of_program : (decls : List Decl) → Clean decls → (whole : core.Program) → AreTables decls whole →
     (n : ℕ) (c : core.LockClass) → slice_get whole.classes n ≡ Some c → ClassFact whole n c
@@ -165,13 +165,13 @@ module _ (decls : List Decl) (clean : Clean decls) (whole : core.Program) (is : 
       only (λ n y. GlobalClass whole y.class) 0 (global_row p v st.news.0)
       (class_of_is v.protection st.news.0 st.news.3)
       k x e
-  globals_new before d p st k x e = cc
+  globals_new before d p st k x e = no_row k x e
 
   arrays_new : NewRows decls whole (λ p. p.arrays) (λ n x. GlobalClass whole x.class)
   arrays_new before (array y) p st k x e =
       only (λ n z. GlobalClass whole z.class) 0 (array_row p y st.news.0 st.news.1)
       (class_of_is y.protection st.news.0 st.news.2) k x e
-  arrays_new before d p st k x e = cc
+  arrays_new before d p st k x e = no_row k x e
 
   pub globals_have : (g : ℕ) (x : core.GlobalVariable) → slice_get whole.globals g ≡ Some x → GlobalClass whole x.class
   globals_have =

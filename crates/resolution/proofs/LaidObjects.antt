@@ -30,7 +30,7 @@ use Rattle.resolution.proofs.Named.{named_is}
 use Rattle.resolution.specs.Theory.Facts.{struct_at}
 use Rattle.resolution.proofs.FaultlessExpressions.{Clean}
 use Rattle.resolution.proofs.Typed.{field_in}
-use Rattle.resolution.proofs.LaidLists.{grows_more, get_last, get_behind, get_parts, only, row_left, row_right}
+use Rattle.resolution.proofs.LaidLists.{grows_more, get_last, get_behind, get_parts, only, row_left, row_right, no_row}
 use Rattle.resolution.proofs.LaidStages.{fields_in, finals_in, CellOf, FinalOf, Objected, Chain, Begins, begins_on}
 use Rattle.resolution.proofs.LaidStages.{plus, held, next_object, global_row, global_cell, array_row, pool_row}
 use Rattle.resolution.proofs.LaidStages.{stands}
@@ -158,7 +158,7 @@ pools_new : (decls : List Decl) (whole : core.Program) → NewRows decls whole (
 pools_new decls whole before (pool x) p st k y e =
     only (PoolFact decls whole) (length p.pools) (pool_row p x st.news.structure) (pool_fact decls whole before x p st)
     k y e
-pools_new decls whole before d p st k y e = cc
+pools_new decls whole before d p st k y e = no_row k y e
 
 pub pools_of : (decls : List Decl) → Clean decls → (whole : core.Program) → AreTables decls whole →
     (n : ℕ) (x : core.Pool) → slice_get whole.pools n ≡ Some x → PoolFact decls whole n x
@@ -189,7 +189,7 @@ objects_new decls whole before (pool x) p st k y e =
       own = subst (OwnOf decls whole f.structure.members (length p.objects + k)) same new.own;
       refs = subst (RefsOf decls whole f.structure.members) same new.refs;
     }
-objects_new decls whole before d p st k y e = cc
+objects_new decls whole before d p st k y e = no_row k y e
 
 pub objects_of_program : (decls : List Decl) → Clean decls → (whole : core.Program) → AreTables decls whole →
     (o : ℕ) (x : Object) → slice_get whole.objects o ≡ Some x → ObjectAt decls whole o x
@@ -211,7 +211,7 @@ globals_new decls whole before (global v) p st k x e =
     let c = global_cell p n.1 n.2 in
     only (GlobalFact whole) (length p.globals) (global_row p v n.0)
     (c, stands (λ z. z.cells) (λ z a. refl) st.ends (length p.cells) c (get_last p.cells c []), refl) k x e
-globals_new decls whole before d p st k x e = cc
+globals_new decls whole before d p st k x e = no_row k x e
 
 pub globals_of : (decls : List Decl) → Clean decls → (whole : core.Program) → AreTables decls whole →
     (g : ℕ) (x : core.GlobalVariable) → slice_get whole.globals g ≡ Some x → GlobalFact whole g x
@@ -246,7 +246,7 @@ arrays_new decls whole before (array x) p st k y e =
       refl,
       refl,
     )) k y e
-arrays_new decls whole before d p st k y e = cc
+arrays_new decls whole before d p st k y e = no_row k y e
 
 pub arrays_of : (decls : List Decl) → Clean decls → (whole : core.Program) → AreTables decls whole →
     (n : ℕ) (x : core.Array) → slice_get whole.arrays n ≡ Some x → ArrayFact whole n x
@@ -331,7 +331,7 @@ cells_new decls clean whole is before (pool x) p st k0 c e =
     ((w, at, refl, (a.structure, r.0.value_type, structure, field)), (of.2, of.4))))
     x.length.value (record p { pools = p.pools ++ z ∷ [] }) (plus p (added st)) a.chain st.ends (length p.cells + k0) c
     (omega arith) (get_behind p.cells a.cells k0 c e)
-cells_new decls clean whole is before d p st k c e = cc
+cells_new decls clean whole is before d p st k c e = no_row k c e
 
 pub cells_of_program : (decls : List Decl) → Clean decls → (whole : core.Program) → AreTables decls whole →
     (n : ℕ) (c : Cell) → slice_get whole.cells n ≡ Some c → CellFact decls whole n c

@@ -21,7 +21,7 @@ use Rattle.resolution.proofs.FaultlessExpressions.{Clean}
 use Rattle.resolution.proofs.Typed.{types_of, get_map}
 use Rattle.resolution.proofs.TypedCalls.{TypesAre, HasHelpers}
 use Rattle.resolution.proofs.TypedStatements.{all_front, locals_got}
-use Rattle.resolution.proofs.LaidLists.{Rows, only}
+use Rattle.resolution.proofs.LaidLists.{Rows, only, no_row}
 use Rattle.resolution.proofs.LaidWalk.{NewRows, lands, each_row}
 use Rattle.resolution.proofs.LaidFacts.{numbered_row}
 use Rattle.resolution.proofs.LaidObjects.{Holds, const_holds}
@@ -93,7 +93,7 @@ threads_new decls whole before (thread x) p st k t e =
     only (λ m y. AllCalls decls y.calls) 0 (record { name = x.name.text; calls = n.0 })
     (calls_are decls x.items n.0 n.1)
     k t e
-threads_new decls whole before d p st k t e = cc
+threads_new decls whole before d p st k t e = no_row k t e
 
 pub threads_of : (decls : List Decl) → Clean decls → (whole : core.Program) → AreTables decls whole →
     (n : ℕ) (t : core.Thread) → slice_get whole.threads n ≡ Some t → (k : ℕ) (c : core.Call) →

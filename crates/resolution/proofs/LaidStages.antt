@@ -273,18 +273,32 @@ fresh decls i p (atomic s) n = record nothing_yet { sections = n.0 ∷ [] }
 fresh decls i p (helper s) n = record nothing_yet { helpers = n.0 ∷ [] }
 fresh decls i p (thread t) n = record nothing_yet { threads = record { name = t.name.text; calls = n.0 } ∷ [] }
 
+-- what is written into tables is written into those to which nothing is added
+with_same : (p : core.Program) (f : core.Program → core.Program) → f p ≡ f (plus p nothing_yet)
+with_same p f = ap f (sym (plus_nothing p))
+
 -- the tables with a declaration are those before it with what it adds
 pub adds : (decls : List Decl) (i : ℕ) (p : core.Program) (d : Decl) (q : core.Program) → Adds decls i d p q →
     (n : News decls i p d) × (q ≡ plus p (fresh decls i p d n))
-adds decls i p d q adds_class = (tt, simp append-nil)
-adds decls i p d q (adds_struct {t = t} m) = ((t, m), simp append-nil)
-adds decls i p d q (adds_global {class = c} {cell = n} {t = t} {v = w} f g h e) =
-    let u = up_got CELL_LIMIT (length p.cells) n e in
-    ((c, t, w, f, g, h, u.1), rw (← u.0) (simp append-nil))
+adds decls i p d q (adds_class {x = x}) =
+    (tt, with_same p (λ z. record z { classes = p.classes ++ core.global_lock x.text ∷ [] }))
+adds decls i p d q (adds_struct {t = t} m) =
+    let cs = lock_classes (length p.structs) 0 t.locks in
+    ((t, m), with_same p (λ z. record z { classes = p.classes ++ cs; structs = p.structs ++ t ∷ [] }))
+adds decls i p d q (adds_global {x = v} {class = c} {cell = n} {t = t} {v = w} f g h e) =
+    let u = up_got CELL_LIMIT (length p.cells) n e in (
+      (c, t, w, f, g, h, u.1),
+      rw (← u.0) (with_same p
+          (λ z. record z { globals = p.globals ++ global_row p v c ∷ []; cells = p.cells ++ global_cell p t w ∷ [] })),
+    )
 adds decls i p d q (adds_array {a = x} {class = c} {first = n} {count = m} {t = t} f g e h) =
     let u = up_got CELL_LIMIT (length p.cells) n e in
     let w = up_got CELL_LIMIT x.length.value m h in
-    ((c, t, f, g), rw (← u.0, ← w.0) (simp append-nil))
+    let cs = elements (length p.arrays) t x.length.value in (
+      (c, t, f, g),
+      rw (← u.0, ← w.0) (with_same p
+          (λ z. record z { arrays = p.arrays ++ array_row p x c t ∷ []; cells = p.cells ++ cs })),
+    )
 adds decls i p d q (adds_pool {x = x} {structure = s} {first = n} {count = m} {ms = ms} f g e h more) =
     let u = up_got OBJECT_LIMIT (length p.objects) n e in
     let w = up_got OBJECT_LIMIT x.length.value m h in
@@ -294,7 +308,8 @@ adds decls i p d q (adds_pool {x = x} {structure = s} {first = n} {count = m} {m
     rw (u.0, w.0) (chain_is decls i (length p.pools) ms m _ q more) in
     let r = chain_things decls (length p.pools) ms x.length.value p1 q c in
     let is : q ≡ plus p (record (held r.objects r.finals r.cells) { pools = row ∷ [] }) =
-    r.are ∙ simp append-nil in (
+    r.are ∙ ap (λ (rows : List core.Pool). record (plus p (held r.objects r.finals r.cells)) { pools = rows })
+    (append-nil (p.pools ++ row ∷ [])) in (
       record {
         structure = s;
         members = ms;
@@ -308,6 +323,10 @@ adds decls i p d q (adds_pool {x = x} {structure = s} {first = n} {count = m} {m
       is,
     )
 adds decls i p d q adds_nothing = (tt, sym (plus_nothing p))
-adds decls i p d q (adds_section {t = t} h) = ((t, h), simp append-nil)
-adds decls i p d q (adds_helper {t = t} h) = ((t, h), simp append-nil)
-adds decls i p d q (adds_thread {calls = calls} few are) = ((calls, are), simp append-nil)
+adds decls i p d q (adds_section {t = t} h) =
+    ((t, h), with_same p (λ z. record z { sections = p.sections ++ t ∷ [] }))
+adds decls i p d q (adds_helper {t = t} h) =
+    ((t, h), with_same p (λ z. record z { helpers = p.helpers ++ t ∷ [] }))
+adds decls i p d q (adds_thread {x = x} {calls = calls} few are) =
+    let t : core.Thread = record { name = x.name.text; calls = calls } in
+    ((calls, are), with_same p (λ z. record z { threads = p.threads ++ t ∷ [] }))
