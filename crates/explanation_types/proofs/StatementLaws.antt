@@ -15,7 +15,7 @@ use Rattle.resolution.specs.Scopes.{Scope, meaning, helper_meant, left}
 use Rattle.resolution.specs.Working.TypedStatements.{target_of, wanted_by}
 use Rattle.resolution.specs.Statements.{after, after_all}
 use Rattle.resolution.specs.Constants.{want_of}
-use Rattle.resolution.proofs.OwnerRules.{asks_right, wanted_right, wanted_nothing}
+use Rattle.resolution.specs.Working.Laws.{WantedAreAsked}
 use Rattle.resolution.specs.Where.{Has, first, further, Among, here, later, in_then, in_else, in_while, IsArgument}
 use Rattle.resolution.specs.Where.{for_parameter, for_nothing, Asks, of_let, of_owned, of_let_call, of_var, of_assign, of_unassignable}
 use Rattle.resolution.specs.Where.{of_index, of_if, of_while, of_print, of_return, of_call_alone, Within}
@@ -80,7 +80,7 @@ module _ (say : Scope → Stmt → List Clash) (n : Clash) where
 same_count : (i j : ℕ) → i ≡ j → (i == j) ≡ true
 same_count i j e = grind (arith, nat_tests)
 
-module _ (say : Scope → Want → Expr → List Clash) (n : Clash) where
+module _ (wants : WantedAreAsked) (say : Scope → Want → Expr → List Clash) (n : Clash) where
   argument_has : (sc : Scope) (ps : List Param) (es : List Expr) (k : ℕ) (p : Param) (e : Expr) →
       slice_get ps k ≡ Some p → slice_get es k ≡ Some e → Has (of_expr say sc (want_of sc.decls p) e) n →
       Has (of_arguments say sc ps es) n
@@ -111,8 +111,8 @@ module _ (say : Scope → Want → Expr → List Clash) (n : Clash) where
   asked_has of_owned h = h
   asked_has (of_let_call {sc = sc} {l = k} {w = w} {e = e} a) h = passed_has sc (helper_meant (meaning sc k.call.helper.text)) k.call.arguments w e a h
   asked_has of_var h = h
-  asked_has (of_assign {sc = sc} {p = p} {e = e} a) h = l.in_right (in_place say sc p) _ (subst (λ (v : Want). Has (of_expr say sc v e) n) (sym (wanted_right a)) h)
-  asked_has (of_unassignable {sc = sc} {p = p} {e = e} never) h = l.in_right (in_place say sc p) _ (subst (λ (v : Want). Has (of_expr say sc v e) n) (sym (wanted_nothing sc p never)) h)
+  asked_has (of_assign {sc = sc} {p = p} {e = e} {t = t} {set = set} a) h = l.in_right (in_place say sc p) _ (subst (λ (v : Want). Has (of_expr say sc v e) n) (sym ((wants sc p).1 t set a)) h)
+  asked_has (of_unassignable {sc = sc} {p = p} {e = e} never) h = l.in_right (in_place say sc p) _ (subst (λ (v : Want). Has (of_expr say sc v e) n) (sym ((wants sc p).2 never)) h)
   asked_has (of_index {sc = sc} {x = x} {i = i} {e = e}) h = l.in_left (of_expr say sc (Value Integer) i) (of_expr say sc (wanted_by (target_of sc (element x i))) e) h
   asked_has of_if h = h
   asked_has of_while h = h
@@ -168,7 +168,7 @@ module _ (say : Scope → Want → Expr → List Clash) (n : Clash) where
     from_own sc (let_owned k o) up h = up _ k.value of_owned h
     from_own sc (let_call k) up h = from_passed sc (helper_meant (meaning sc k.call.helper.text)) k.call.arguments (λ w e a. up w e (of_let_call a)) h
     from_own sc (var_local k) up h = up _ k.value of_var h
-    from_own sc (assign p e) up h = l.either (in_place say sc p) (of_expr say sc (wanted_by (target_of sc p)) e) (from_index sc p e up) (up _ e (asks_right sc p e)) h
+    from_own sc (assign p e) up h = l.either (in_place say sc p) (of_expr say sc (wanted_by (target_of sc p)) e) (from_index sc p e up) (up _ e ((wants sc p).0 e)) h
     from_own sc (if_then start e body close other) up h = up _ e of_if h
     from_own sc (while start e body close) up h = up _ e of_while h
     from_own sc (print start e) up h = up _ e of_print h

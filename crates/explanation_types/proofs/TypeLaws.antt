@@ -10,7 +10,7 @@ use Rattle.core_lang.specs.declared.value.ValueType as core_type
 use Rattle.core_lang.specs.declared.value.ValueType.TheVariants.{Integer, Reference}
 use Rattle.syntax.specs.declared.tree.Comparison as written_sign
 use Rattle.syntax.specs.declared.tree.Comparison.TheVariants as sign
-use Rattle.syntax.specs.Trees.{ValueType, Const, Expr, int, null, place, paren, prefix, chain, compare, Local, Owner}
+use Rattle.syntax.specs.Trees.{Ident, ValueType, Const, Expr, int, null, place, paren, prefix, chain, compare, Local, Owner}
 use Rattle.syntax.specs.Trees.{CalledLocal, Stmt, let_local, let_owned, let_call, var_local, assign, if_then, while}
 use Rattle.syntax.specs.Trees.{print, return_value, call, Section, Decl}
 use Rattle.resolution.specs.Core as core
@@ -19,10 +19,10 @@ use Rattle.resolution.specs.declared.wanted.Sort.TheVariants as sort
 use Rattle.resolution.specs.declared.wanted.Want.{Want}
 use Rattle.resolution.specs.declared.wanted.Want.TheVariants.{Anything, Condition, Value}
 use Rattle.resolution.specs.Expressions.{ResolvedExpr, value, truth, alike_sorts, fits, fits_sort, fits_type}
-use Rattle.resolution.proofs.ExpressionRules.{types_is, typed_is}
-use Rattle.resolution.proofs.OwnerRules.{final_types, final_is}
+use Rattle.resolution.specs.Typing.{Types, IsFinalOf}
+use Rattle.resolution.specs.Working.Laws.{ExpressionsByRules, WantedAreAsked, FinalsByRules, SortsByRules}
 use Rattle.resolution.specs.Working.TypedExpressions.{typed}
-use Rattle.resolution.specs.Constants.{const_sort}
+use Rattle.resolution.specs.Working.TypedConstants.{const_sort}
 use Rattle.resolution.specs.Faults.{AreUnlike, start_of, const_start}
 use Rattle.resolution.specs.Expressions.{IsEquality}
 use Rattle.resolution.specs.Working.TypedOwners.{owner_field}
@@ -266,7 +266,20 @@ expr_decls (in_stmt b a i) = decls_there b
 
 -- ---- the clashes are the true ones
 
-module _ (at : ℕ) (decls : List Decl) where
+-- by the laws of resolution
+module _ (exprs : ExpressionsByRules) (wants : WantedAreAsked) (finals : FinalsByRules) (sorts : SortsByRules)
+    (at : ℕ) (decls : List Decl) where
+  types_is : (sc : Scope) (e : Expr) (s : ResolvedExpr) → typed sc e ≡ Some s → Types sc e s
+  types_is sc e s is = (exprs sc e s).0 is
+
+  typed_is : {sc : Scope} {e : Expr} {s : ResolvedExpr} → Types sc e s → typed sc e ≡ Some s
+  typed_is {sc = sc} {e = e} {s = s} h = (exprs sc e s).1 h
+
+  final_types : (ds : List Decl) (o : Option core_type.ValueType) (x : Ident) (f : OwnerField) →
+      owner_field ds o x ≡ Some f → (t : core_type.ValueType) × (o ≡ Some t) × IsFinalOf ds t x f
+  final_types ds (Some t) x f is = (t, refl, (finals ds t x f).0 is)
+  final_types ds None x f is = cc
+
   module _ (n : Clash) where
     abbrev Told : Type 0
     Told = IsTypeNote decls at (clash_note decls n)
@@ -330,7 +343,7 @@ module _ (at : ℕ) (decls : List Decl) where
         (λ ds. types_note (type_words ds f.value_type) (type_words ds t)) (decls_there b) refl said (of_owner b final.1 final.2 meant is no_fit there))) h
 
     true_own : (sc : Scope) (s : Stmt) → HasStmt decls sc s → Has (of_own (said_by at) sc s) n → Told
-    true_own sc s b h = from_exprs (said_by at) n Told sc s (λ w v e y a i. true_expression sc v y (in_stmt b a i)) h
+    true_own sc s b h = from_exprs wants (said_by at) n Told sc s (λ w v e y a i. true_expression sc v y (in_stmt b a i)) h
 
     true_stmt : (sc : Scope) (s : Stmt) → HasStmt decls sc s → Has (said_of_stmt at sc s) n → Told
     true_stmt sc (let_owned k o) b h =
@@ -350,7 +363,7 @@ module _ (at : ℕ) (decls : List Decl) where
     true_constant w c b h =
         from_here Told n (const_start c) at (unfit w (const_kind (const_sort decls c)))
         (λ there. from_const_said Told n w (const_sort decls c)
-        (λ s is no_fit said. tell (types_clash w (kind.Value s)) (λ ds. types_note (want_words ds w) (sort_words ds s)) {ds = decls} refl refl said (of_constant b is no_fit there))) h
+        (λ s is no_fit said. tell (types_clash w (kind.Value s)) (λ ds. types_note (want_words ds w) (sort_words ds s)) {ds = decls} refl refl said (of_constant b ((sorts decls c s).0 is) no_fit there))) h
 
     all_true : Has (all_clashes at decls) n → Told
     all_true h = from_any (said_of_stmt at) (said_of_const at decls) decls n Told true_stmt true_constant h
@@ -375,7 +388,7 @@ module _ (at : ℕ) (decls : List Decl) where
 
     expr_has : {sc : Scope} {w : Want} {e : Expr} → HasExpr decls sc w e → Has (said_by at sc w e) n →
         Has (all_clashes at decls) n
-    expr_has (in_stmt {sc = sc} {s = s} b a i) h = stmt_has b (own_has sc s (within_has (said_by at) n a i h))
+    expr_has (in_stmt {sc = sc} {s = s} b a i) h = stmt_has b (own_has sc s (within_has wants (said_by at) n a i h))
 
     result_told : {sc : Scope} {k : CalledLocal} {t : core_type.ValueType} {i : ℕ} {s : Section} →
         HasStmt decls sc (let_call k) →
@@ -423,7 +436,7 @@ module _ (at : ℕ) (decls : List Decl) where
       let k = types_clash w (kind.Value s) in
       in_words k (λ ds. types_note (want_words ds w) (sort_words ds s)) {ds = decls} refl refl
       (each_const (said_of_stmt at) (said_of_const at decls) decls k b
-      (here_has (const_start c) at (unfit w (const_kind (const_sort decls c))) k there (const_has w (const_sort decls c) s is no_fit)))
+      (here_has (const_start c) at (unfit w (const_kind (const_sort decls c))) k there (const_has w (const_sort decls c) s ((sorts decls c s).1 is) no_fit)))
   each_told m (of_sides {a = a} {b = f} {s = s} {t = t} b equal first_is second_is unlike there) =
       in_words (sides s t) (λ ds. sides_note (found_words ds s) (found_words ds t)) (expr_decls b) (sides_words decls s t)
       (sides_told b equal (typed_is first_is) (typed_is second_is) (blamed_unlike at (start_of a) (start_of f) s t unlike there))
@@ -451,7 +464,7 @@ module _ (at : ℕ) (decls : List Decl) where
       (owner_told c b
       (l.in_right (member_owned_at at (type_of sc k.value_type) o) _
       (here_has o.local.span.start at (local_owned sc (type_of sc k.value_type) o) c there
-      (owner_has (owner_field sc.decls (type_of sc k.value_type) o.field) (meaning sc o.local.text) f i d u (ap (λ (q : Option core_type.ValueType). owner_field sc.decls q o.field) type_is ∙ final_is final) meant is no_fit))))
+      (owner_has (owner_field sc.decls (type_of sc k.value_type) o.field) (meaning sc o.local.text) f i d u (ap (λ (q : Option core_type.ValueType). owner_field sc.decls q o.field) type_is ∙ (finals sc.decls _ o.field f).1 final) meant is no_fit))))
 
   -- ---- one of them
 

@@ -17,10 +17,10 @@ use Rattle.resolution.specs.Scopes as local
 use Rattle.resolution.specs.Scopes.{Scope, a_local, helper_meant, meaning, result_of, the_struct, type_of}
 use Rattle.resolution.specs.Expressions.{ResolvedExpr, value, truth, fits, fits_sort, fits_type}
 use Rattle.resolution.specs.Typing.{Types, IsFinalOf}
-use Rattle.resolution.specs.Constants.{const_sort}
+use Rattle.resolution.specs.Constants.{IsOfSort}
 use Rattle.resolution.specs.Faults.{AreUnlike, start_of, const_start}
 use Rattle.resolution.specs.Expressions.{IsEquality}
-use Rattle.resolution.specs.Where.{Has, HasExpr, HasConst, HasStmt}
+use Rattle.resolution.specs.Where.{HasExpr, HasConst, HasStmt}
 
 -- ---- types in words
 
@@ -63,7 +63,7 @@ pub data IsTypeNote (decls : List Decl) (at : ℕ) : Note → Type 0 where
       HasExpr decls sc w e → Types sc e s → fits w s ≡ false → start_of e ≡ at →
       IsTypeNote decls at (types_note (want_words sc.decls w) (found_words sc.decls s))
   of_constant : {w : Want} {c : Const} {s : Sort} →
-      HasConst decls w c → const_sort decls c ≡ Some s → fits_sort w s ≡ false → const_start c ≡ at →
+      HasConst decls w c → IsOfSort decls c s → fits_sort w s ≡ false → const_start c ≡ at →
       IsTypeNote decls at (types_note (want_words decls w) (sort_words decls s))
   of_sides : {sc : Scope} {w : Want} {a b : Expr} {c : written.Comparison} {s t : ResolvedExpr} →
       HasExpr decls sc w (compare a c b) → IsEquality c → Types sc a s → Types sc b t → AreUnlike s t → start_of b ≡ at →

@@ -2,7 +2,8 @@
 
 ghost use Rattle.std.specs.Prelude.{◌≡◌, OnOk, length};
 ghost use Rattle.syntax.specs.Views.{const_of, decl_of, item_of, items_of};
-ghost use Rattle.resolution.specs.Constants.{const_sort, initialised, member_want};
+ghost use Rattle.resolution.specs.Constants.{initialised, member_want};
+ghost use Rattle.resolution.specs.Working.TypedConstants.{const_sort};
 ghost use Rattle.resolution.specs.Faults.{const_start};
 ghost use Rattle.types_symbols.specs.{decls_of};
 ghost use Rattle.explanation_types.specs.Working.Values.{Adds, const_kind, constant_clashes, decl_clashes, item_clashes, items_clashes, member_seen, said_of_const};

@@ -9,6 +9,7 @@ use crate::clash::Clash;
 use crate::searches::Search;
 use crate::words::clash_note;
 use explanation::Note;
+use resolution::laws::{constants_by_rules, typed_by_rules};
 use source::memory::NoMemory;
 use std::alloc::{AllocError, Global};
 use types_symbols::table::SymbolTable;
@@ -37,6 +38,8 @@ pub fn type_note(alloc: Global, symbols: &SymbolTable, at: usize) -> Result<Opti
     let mut found = all_clashes(alloc, symbols, at)?;
     let last = found.pop();
     drop(found);
+    typed_by_rules();
+    constants_by_rules();
     match last {
         Some(clash) => Ok(Some(clash_note(alloc, symbols, clash)?)),
         None => Ok(None),

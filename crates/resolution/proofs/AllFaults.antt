@@ -43,6 +43,7 @@ use Rattle.resolution.specs.Constants.{pool_members, initialised, member_want, g
 use Rattle.resolution.specs.Statements.{ahead_of}
 use Rattle.resolution.specs.Where.{Has, first, further, HasStmt, HasExpr, Binds}
 use Rattle.resolution.specs.Where.{HasCall, HasConst}
+use Rattle.resolution.proofs.ConstantRules.{sort_is}
 use Rattle.resolution.proofs.ExpressionRules.{typed_is}
 use Rattle.resolution.proofs.OwnerRules.{final_is, has_no_last}
 use Rattle.resolution.specs.Faults as fault
@@ -315,7 +316,10 @@ wrong_in : (decls : List Decl) (p : ℕ) → IsWrongType decls p → listed decl
 wrong_in decls p (fault.unwanted {sc = sc} {w = w} {e = e} {s = s} h is no_fit) =
     of_wanted decls sc w e h _ (m.in_right _ (expr_faults sc e) _ (at WrongType (start_of e) _ (ap (misfit w (start_of e)) (typed_is is) ∙ misfit_is (start_of e) (fits w s) no_fit)))
 wrong_in decls p (fault.unwanted_constant {w = w} {c = c} {s = s} h is no_fit) =
-    of_const decls w c h _ (m.in_right _ (own_faults decls c) _ (at WrongType (const_start c) _ (ap (sort_misfit w (const_start c)) is ∙ misfit_is (const_start c) (fits_sort w s) no_fit)))
+    of_const decls w c h _
+    (m.in_right _ (own_faults decls c) _
+    (at WrongType (const_start c) _ (ap (sort_misfit w (const_start c)) (sort_is is)
+    ∙ misfit_is (const_start c) (fits_sort w s) no_fit)))
 wrong_in decls p (fault.unlike_sides {sc = sc} {w = w} {a = a} {b = b} {c = c} {s = s} {t = t} h so x y un) =
     of_sides decls sc w a b c h so (start_of b) (ap (λ (q : Option ResolvedExpr). unlike (start_of a) (start_of b) q (typed sc b)) (typed_is x) ∙ ap (unlike (start_of a) (start_of b) (Some s)) (typed_is y) ∙ unlike_is (start_of a) (start_of b) s t un)
 wrong_in decls p (fault.truths_compared {sc = sc} {w = w} {a = a} {b = b} {c = c} {x = x} h so e g) =

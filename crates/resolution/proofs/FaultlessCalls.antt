@@ -15,7 +15,8 @@ use Rattle.resolution.specs.Scopes.{number_at, type_of}
 use Rattle.resolution.specs.Expressions.{want, fits_type}
 use Rattle.resolution.specs.Working.TypedExpressions.{fitting, as_value, typed}
 use Rattle.resolution.specs.Working.TypedOwners.{is_of}
-use Rattle.resolution.specs.Constants.{added, want_of}
+use Rattle.resolution.specs.Constants.{want_of}
+use Rattle.resolution.specs.Working.TypedConstants.{added}
 use Rattle.resolution.specs.Working.TypedStatements.{typed_values, called, call_resolved, type_given, can_take}
 use Rattle.resolution.specs.Where.{Has, HasBody, of_helper, of_parameter, of_result, first, further}
 use Rattle.resolution.specs.Working.FaultLists as list

@@ -1,10 +1,12 @@
 -- Constants, annotations, sections and calls for which no fault is listed are resolved.
-use Rattle.std.proofs.Common.{◌≡◌, ℕ, List, [], ◌∷◌, ◌++◌, length, Option, Some, None, Bool, true, false, refl, sym}
-use Rattle.std.proofs.Common.{ap, ◌∙◌, subst, if◌then◌else◌, arith}
-use Rattle.std.specs.Prelude.{ℤ, neg_ℤ, nat_le, nat_lt, ◌&&◌, is_some, slice_get}
+use Rattle.std.proofs.Common.{◌≡◌, ℕ, ◌≤◌, List, [], ◌∷◌, ◌++◌, length, Option, Some, None, true, refl}
+use Rattle.std.proofs.Common.{ap, ◌∙◌, subst, arith}
+use Rattle.std.specs.Prelude.{pos, neg_ℤ, nat_le, nat_lt, ◌&&◌, is_some, slice_get}
+use Rattle.source.specs.Texts.{NUMBER_LIMIT}
 use Rattle.source.specs.declared.span.Span.{Span}
 use Rattle.source.specs.declared.fault.Code.{Code}
-use Rattle.source.specs.declared.fault.Code.TheVariants.{UnknownName, WrongType, NeitherFinalNorProtected}
+use Rattle.source.specs.declared.fault.Code.TheVariants.{NumberTooLarge, UnknownName, WrongType}
+use Rattle.source.specs.declared.fault.Code.TheVariants.{NeitherFinalNorProtected}
 use Rattle.source.specs.declared.fault.Code.TheVariants.{ProtectedByNoLock, ProtectedByPassesNonFinal}
 use Rattle.source.specs.declared.fault.Code.TheVariants.{InitOutOfRangeOrRepeated}
 use Rattle.source.specs.declared.token.Number.{Number}
@@ -22,10 +24,10 @@ use Rattle.resolution.specs.Core as core
 use Rattle.resolution.specs.Scopes as scope
 use Rattle.resolution.specs.Scopes.{◌>>=◌, Scope, outside, a_decl, meaning, declared_as, number_at, the_decl}
 use Rattle.resolution.specs.Scopes.{the_member, has_type, member_has_type, type_of, struct_named, bound, entered}
-use Rattle.resolution.specs.Expressions.{number_value, fits_sort, member_number}
-use Rattle.resolution.specs.Constants.{number_sort, const_sort, const_value, if_fitting, typed_const, added, want_of}
-use Rattle.resolution.specs.Constants.{typed_arguments, member_sort, reference_sort, member_of, object_of, referred}
-use Rattle.resolution.specs.Constants.{object_in}
+use Rattle.resolution.specs.Expressions.{fits_sort, member_number}
+use Rattle.resolution.specs.Constants.{IsOfSort, number_sort, negative_sort, null_sort, member_sort, object_of}
+use Rattle.resolution.specs.Constants.{Denotes, a_number, a_negative, no_object, an_object, Yields, yields, want_of}
+use Rattle.resolution.specs.Constants.{AreArguments, no_constant, one_constant}
 use Rattle.resolution.specs.Annotations.{class_in, class_of, class_number, AnnotationCursor, at_struct}
 use Rattle.resolution.specs.Annotations.{through_member, stepped_on, ended_at, along, protection_by, cursor_at}
 use Rattle.resolution.specs.Annotations.{protection_of}
@@ -42,110 +44,94 @@ use Rattle.resolution.specs.Working.FaultLists.{item_faults, items_faults, decl_
 use Rattle.resolution.proofs.Named.{named_is, member_is}
 use Rattle.resolution.proofs.FaultlessExpressions.{NoneIn, none_left, none_right, not_one, not_if, at_has, decl_has}
 use Rattle.resolution.proofs.FaultlessExpressions.{Clean, known, known_named, decl_typed, unfit_not, fit_if}
-use Rattle.resolution.proofs.FaultlessResolvedExprs.{number_is}
-use Rattle.resolution.proofs.Tests.{lt_true, le_false, and_false}
+use Rattle.resolution.proofs.ConstantRules.{sort_is}
+use Rattle.resolution.proofs.Tests.{lt_false, le_false, and_false}
 
 -- ---- constants
 
--- a constant that has a type and a value
+-- a constant that has a sort and a value
 pub record Valued (decls : List Decl) (c : Const) : Type 0 where
   pub kind : Sort
-  pub sorted : const_sort decls c ≡ Some kind
+  pub sorted : IsOfSort decls c kind
   pub val : Value
-  pub valued : const_value decls c ≡ Some val
+  pub valued : Denotes decls c val
 
-member_valued : (decls : List Decl) → Clean decls → (p : ℕ) (n : Number) (o : Option (ℕ × Decl)) →
-    ((k : ℕ) (d : Decl) → ◌≡◌ {A = Option (ℕ × Decl)} o (Some (k, d)) → Has decls d) →
-    NoneIn (index_faults decls p o n) →
-    (s : Sort) × (member_sort decls o ≡ Some s) × ((v : Value) × (member_of decls o n.value ≡ Some v))
-member_valued decls clean p n None up none = absurd (not_one UnknownName p none)
-member_valued decls clean p n (Some (k, pool q)) up none =
+small : (n : Number) → NoneIn (number_faults n) → n.value ≤ NUMBER_LIMIT
+small n none =
+    lt_false NUMBER_LIMIT n.value (not_if (nat_lt NUMBER_LIMIT n.value) NumberTooLarge n.span.start none)
+
+member_valued : (decls : List Decl) → Clean decls → (p : ℕ) (x : Ident) (n : Number) (o : Option (ℕ × Decl)) →
+    the_decl decls x.text ≡ o → ((k : ℕ) (d : Decl) → ◌≡◌ {A = Option (ℕ × Decl)} o (Some (k, d)) → Has decls d) →
+    NoneIn (index_faults decls p o n) → Valued decls (member_const x n)
+member_valued decls clean p x n None at up none = absurd (not_one UnknownName p none)
+member_valued decls clean p x n (Some (k, pool q)) at up none =
     let h = up k (pool q) refl in
     let t = known_named decls clean q.target (of_pool h) in
     let beyond = and_false (has_type decls (a_decl k (pool q))) (nat_le q.length.value n.value) (decl_typed decls clean k (pool q) h) (not_if (has_type decls (a_decl k (pool q)) && nat_le q.length.value n.value) InitOutOfRangeOrRepeated n.span.start none) in
-    (sort.Of (Reference t.number), ap reference_sort t.is, (Ref (Some (object_of decls k n.value)), ap (λ (b : Bool). if b then Some (Ref (Some (object_of decls k n.value))) else None) (lt_true n.value q.length.value (le_false q.length.value n.value beyond))))
-member_valued decls clean p n (Some (k, lock y)) up none = absurd (unfit_not decls WrongType p (a_decl k (lock y)) refl none)
-member_valued decls clean p n (Some (k, struct s)) up none = absurd (unfit_not decls WrongType p (a_decl k (struct s)) refl none)
-member_valued decls clean p n (Some (k, global v)) up none = absurd (unfit_not decls WrongType p (a_decl k (global v)) (decl_typed decls clean k (global v) (up k (global v) refl)) none)
-member_valued decls clean p n (Some (k, array a)) up none = absurd (unfit_not decls WrongType p (a_decl k (array a)) (decl_typed decls clean k (array a) (up k (array a) refl)) none)
-member_valued decls clean p n (Some (k, init j)) up none = absurd (unfit_not decls WrongType p (a_decl k (init j)) refl none)
-member_valued decls clean p n (Some (k, atomic s)) up none = absurd (unfit_not decls WrongType p (a_decl k (atomic s)) refl none)
-member_valued decls clean p n (Some (k, helper s)) up none = absurd (unfit_not decls WrongType p (a_decl k (helper s)) refl none)
-member_valued decls clean p n (Some (k, thread t)) up none = absurd (unfit_not decls WrongType p (a_decl k (thread t)) refl none)
+    record {
+      kind = sort.Of (Reference t.number);
+      sorted = member_sort at t.is;
+      val = Ref (Some (object_of decls k n.value));
+      valued = an_object at (le_false q.length.value n.value beyond);
+    }
+member_valued decls clean p x n (Some (k, d)) at up none =
+    absurd (unfit_not decls WrongType p (a_decl k d) (decl_typed decls clean k d (up k d refl)) none)
 
 const_valued : (decls : List Decl) → Clean decls → (c : Const) → NoneIn (own_faults decls c) → Valued decls c
-const_valued decls clean (int_const n) none = let z = number_is n none in record { kind = sort.Of Integer; sorted = rw z.1 refl; val = Int z.0; valued = rw z.1 refl }
-const_valued decls clean (negative sign n) none = let z = number_is n none in record { kind = sort.Of Integer; sorted = rw z.1 refl; val = Int (neg_ℤ z.0); valued = rw z.1 refl }
-const_valued decls clean (null_const at) none = record { kind = sort.Null; sorted = refl; val = Ref None; valued = refl }
+const_valued decls clean (int_const n) none =
+    record { kind = sort.Of Integer; sorted = number_sort (small n none); val = Int (pos n.value); valued = a_number }
+const_valued decls clean (negative sign n) none = record {
+  kind = sort.Of Integer;
+  sorted = negative_sort (small n none);
+  val = Int (neg_ℤ (pos n.value));
+  valued = a_negative;
+}
+const_valued decls clean (null_const at) none =
+    record { kind = sort.Null; sorted = null_sort; val = Ref None; valued = no_object }
 const_valued decls clean (member_const x n) none =
-    let r = member_valued decls clean x.span.start n (the_decl decls x.text) (λ k d e. decl_has decls x.text k d e) none in
-    record { kind = r.0; sorted = r.1; val = r.2.0; valued = r.2.1 }
-
--- what is left of a constant that fits
-pub record Fits (decls : List Decl) (w : Want) (c : Const) : Type 0 where
-  pub of : Valued decls c
-  pub fit : fits_sort w of.kind ≡ true
-  pub is : typed_const decls w c ≡ Some of.val
+    member_valued decls clean x.span.start x n (the_decl decls x.text) refl (λ k d e. decl_has decls x.text k d e) none
 
 pub const_is : (decls : List Decl) → Clean decls → (w : Want) (c : Const) → NoneIn (const_faults decls w c) →
-    Fits decls w c
+    (v : Value) × Yields decls w c v
 const_is decls clean w c none =
     let v = const_valued decls clean c (none_left (own_faults decls c) _ none) in
     let p = const_start c in
-    let misfit : NoneIn (sort_misfit w p (Some v.kind)) = subst (λ (o : Option Sort). NoneIn (sort_misfit w p o)) v.sorted (none_right (own_faults decls c) _ none) in
-    let fit : fits_sort w v.kind ≡ true = fit_if p (fits_sort w v.kind) misfit in
-    record { of = v; fit = fit; is = ap (λ (o : Option Sort). if_fitting w o (const_value decls c)) v.sorted ∙ ap (if_fitting w (Some v.kind)) v.valued ∙ ap (λ (b : Bool). if b then Some v.val else None) fit }
+    let misfit : NoneIn (sort_misfit w p (Some v.kind)) =
+    subst (λ (o : Option Sort). NoneIn (sort_misfit w p o)) (sort_is v.sorted)
+    (none_right (own_faults decls c) _ none) in
+    (v.val, yields v.sorted (fit_if p (fits_sort w v.kind) misfit) v.valued)
 
 pub arguments_are : (decls : List Decl) → Clean decls → (ps : List Param) (cs : List Const) → length cs ≡ length ps →
-    NoneIn (argument_faults decls ps cs) → (vs : List Value) × (typed_arguments decls ps cs ≡ Some vs)
-arguments_are decls clean [] [] e none = ([], refl)
+    NoneIn (argument_faults decls ps cs) → (vs : List Value) × AreArguments decls ps cs vs
+arguments_are decls clean [] [] e none = ([], no_constant)
 arguments_are decls clean [] (c ∷ cs) e none = absurd (omega (arith, e))
 arguments_are decls clean (p ∷ ps) [] e none = absurd (omega (arith, e))
 arguments_are decls clean (p ∷ ps) (c ∷ cs) e none =
-    let v = const_is decls clean (want_of decls p) c (none_left (const_faults decls (want_of decls p) c) _ none) in
-    let r = arguments_are decls clean ps cs (omega (arith, e)) (none_right (const_faults decls (want_of decls p) c) _ none) in
-    (v.of.val ∷ r.0, ap (λ (o : Option Value). added o (typed_arguments decls ps cs)) v.is ∙ ap (added (Some v.of.val)) r.1)
-
--- a number fits no reference
-no_number : (decls : List Decl) (s : ℕ) (c : Const) (o : Option ℤ) → const_sort decls c ≡ number_sort o →
-    Fits decls (wanted.Value (Reference s)) c → ⊥
-no_number decls s c None e v = let t : Some v.of.kind ≡ None = sym v.of.sorted ∙ e in cc
-no_number decls s c (Some z) e v =
-    let t : Some v.of.kind ≡ Some (sort.Of Integer) = sym v.of.sorted ∙ e in
-    let k : v.of.kind ≡ sort.Of Integer = cc in
-    let f : fits_sort (wanted.Value (Reference s)) (sort.Of Integer) ≡ true = subst (λ (x : Sort). fits_sort (wanted.Value (Reference s)) x ≡ true) k v.fit in
-    cc
-
--- a member of a pool is an object
-object_if : (o : ℕ) (v : Value) (b : Bool) → (if b then Some (Ref (Some o)) else None) ≡ Some v →
-    (k : ℕ) × (v ≡ Ref (Some k))
-object_if o v true h = (o, let s : Ref (Some o) ≡ v = cc in sym s)
-object_if o v false h = cc
-
-member_object : (decls : List Decl) (d : Option (ℕ × Decl)) (n : ℕ) (v : Value) → member_of decls d n ≡ Some v →
-    (o : ℕ) × (v ≡ Ref (Some o))
-member_object decls (Some (k, pool p)) n v e = object_if (object_of decls k n) v (nat_lt n p.length.value) e
-member_object decls (Some (k, lock y)) n v e = cc
-member_object decls (Some (k, struct y)) n v e = cc
-member_object decls (Some (k, global y)) n v e = cc
-member_object decls (Some (k, array y)) n v e = cc
-member_object decls (Some (k, init y)) n v e = cc
-member_object decls (Some (k, atomic y)) n v e = cc
-member_object decls (Some (k, helper y)) n v e = cc
-member_object decls (Some (k, thread y)) n v e = cc
-member_object decls None n v e = cc
+    let faults = const_faults decls (want_of decls p) c in
+    let v = const_is decls clean (want_of decls p) c (none_left faults _ none) in
+    let r = arguments_are decls clean ps cs (omega (arith, e)) (none_right faults _ none) in
+    (v.0 ∷ r.0, one_constant v.1 r.1)
 
 -- a final reference's constant that isn't null names an object
+object_of_reference : (decls : List Decl) (s : ℕ) (c : Const) (k : Sort) (v : Value) → IsOfSort decls c k →
+    fits_sort (wanted.Value (Reference s)) k ≡ true → Denotes decls c v → ((at : Span) → c ≡ null_const at → ⊥) →
+    (o : ℕ) × (v ≡ Ref (Some o))
+object_of_reference decls s c k v h fit (an_object {n = n} {i = i} e l) not_null = (object_of decls i n.value, refl)
+object_of_reference decls s c k v h fit (no_object {at = at}) not_null = absurd (not_null at refl)
+object_of_reference decls s c k v (number_sort l) fit a_number not_null = cc
+object_of_reference decls s c k v (negative_sort l) fit a_negative not_null = cc
+
 pub referred_is : (decls : List Decl) → Clean decls → (s : ℕ) (c : Const) →
     NoneIn (const_faults decls (wanted.Value (Reference s)) c) → ((at : Span) → c ≡ null_const at → ⊥) →
-    (o : ℕ) × (referred decls (Some s) (Some c) ≡ Some o)
-referred_is decls clean s (null_const at) none not_null = absurd (not_null at refl)
-referred_is decls clean s (int_const n) none not_null = absurd (no_number decls s (int_const n) (number_value n) refl (const_is decls clean (wanted.Value (Reference s)) (int_const n) none))
-referred_is decls clean s (negative sign n) none not_null = absurd (no_number decls s (negative sign n) (number_value n) refl (const_is decls clean (wanted.Value (Reference s)) (negative sign n) none))
-referred_is decls clean s (member_const x n) none not_null =
-    let v = const_is decls clean (wanted.Value (Reference s)) (member_const x n) none in
-    let o = member_object decls (the_decl decls x.text) n.value v.of.val v.of.valued in
-    (o.0, ap object_in v.is ∙ ap (λ (y : Value). object_in (Some y)) o.1)
+    (o : ℕ) × Yields decls (wanted.Value (Reference s)) c (Ref (Some o))
+referred_is decls clean s c none not_null =
+    by_rule (const_is decls clean (wanted.Value (Reference s)) c none)
+  where
+    by_rule : (v : Value) × Yields decls (wanted.Value (Reference s)) c v →
+        (o : ℕ) × Yields decls (wanted.Value (Reference s)) c (Ref (Some o))
+    by_rule (v, yields {s = k} h fit d) =
+        let o = object_of_reference decls s c k v h fit d not_null in
+        (o.0, subst (Yields decls (wanted.Value (Reference s)) c) o.1 (yields h fit d))
 
 -- ---- annotations
 

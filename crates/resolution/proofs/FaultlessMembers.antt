@@ -8,6 +8,7 @@ use Rattle.source.specs.declared.fault.Code.TheVariants.{DeclaredTwice, LimitExc
 use Rattle.syntax.specs.Trees.{Const, null_const, ref_type, Member, lock_member, final_member, field_member, Final}
 use Rattle.syntax.specs.Trees.{Field, Struct, Pool, Decl, struct, pool, init}
 use Rattle.core_lang.specs.declared.value.Value.{Value}
+use Rattle.core_lang.specs.declared.value.Value.TheVariants.{Ref}
 use Rattle.core_lang.specs.declared.value.ValueType as core_type
 use Rattle.core_lang.specs.declared.value.ValueType.TheVariants.{Reference}
 use Rattle.resolution.specs.declared.init_target.InitTarget.{InitTarget}
@@ -17,8 +18,8 @@ use Rattle.resolution.specs.Scopes.{◌>>=◌, outside, place_from, place_of, be
 use Rattle.resolution.specs.Scopes.{the_member, type_of, struct_named, count}
 use Rattle.resolution.specs.Numbers.{is_lock, new_field, fields_from}
 use Rattle.resolution.specs.Expressions.{want}
-use Rattle.resolution.specs.Constants.{members_of, pool_members, initialised, member_want, given, opened, default_of}
-use Rattle.resolution.specs.Constants.{referred}
+use Rattle.resolution.specs.Constants.{Yields, members_of, pool_members, initialised, member_want, given, default_of}
+use Rattle.resolution.specs.Constants.{Opens, by_default, by_constant}
 use Rattle.resolution.specs.Where.{Has, of_final, of_field}
 use Rattle.resolution.specs.Faults as fault
 use Rattle.resolution.specs.Faults.{final_missing}
@@ -129,10 +130,12 @@ count_few p (m ∷ ms) = by_test (p m) (count_few p ms)
 -- a member that has its value
 abbrev pub Ready : List Decl → InitTarget → Member → Type 0
 Ready decls g (lock_member x) = Unit {0}
-Ready decls g (final_member f) = (o : ℕ) × (referred decls (struct_named decls f.target) (given decls g) ≡ Some o)
+Ready decls g (final_member f) =
+    (s : ℕ) × (c : Const) × (o : ℕ) × (struct_named decls f.target ≡ Some s) × (given decls g ≡ Some c) ×
+    Yields decls (wanted.Value (Reference s)) c (Ref (Some o))
 Ready decls g (field_member f) =
     (t : core_type.ValueType) × (v : Value) × (type_of (outside decls) f.value_type ≡ Some t) ×
-    (opened decls t (given decls g) ≡ Some v)
+    Opens decls t (given decls g) v
 
 -- what is listed for an `init` that gives a member its value
 pub record Judged (decls : List Decl) (x : Member) (m : ℕ) (c : Const) : Type 0 where
@@ -173,10 +176,11 @@ field_ready : (decls : List Decl) → Clean decls → (g : InitTarget) (f : Fiel
     ((c : Const) → o ≡ Some c → NoneIn (const_faults decls (want (type_of (outside decls) f.value_type)) c)) →
     Ready decls g (field_member f)
 field_ready decls clean g f t None is up =
-    (t.value_type, default_of t.value_type, t.is, ap (opened decls t.value_type) is)
+    let v = default_of t.value_type in
+    (t.value_type, v, t.is, subst (λ (y : Option Const). Opens decls t.value_type y v) (sym is) by_default)
 field_ready decls clean g f t (Some c) is up =
     let v = const_is decls clean (wanted.Value t.value_type) c (subst (λ (y : Option core_type.ValueType). NoneIn (const_faults decls (want y) c)) t.is (up c refl)) in
-    (t.value_type, v.of.val, t.is, ap (opened decls t.value_type) is ∙ v.is)
+    (t.value_type, v.0, t.is, subst (λ (y : Option Const). Opens decls t.value_type y v.0) (sym is) (by_constant v.1))
 
 no_null : (decls : List Decl) (f : Final) (m s : ℕ) (c : Const) → struct_named decls f.target ≡ Some s →
     NoneIn (null_faults decls (Some (m, final_member f)) c) → (at : Span) → c ≡ null_const at → ⊥
@@ -195,7 +199,7 @@ final_ready decls clean g f k (Some c) is missing up =
     let ty : type_of (outside decls) (ref_type f.target) ≡ Some (Reference k.number) = ap (λ (o : Option ℕ). o >>= λ n. Some (Reference n)) k.is in
     let fits = subst (λ (y : Option core_type.ValueType). NoneIn (const_faults decls (want y) c)) ty j.fits in
     let r = referred_is decls clean k.number c fits (no_null decls f g.member k.number c k.is j.not_null) in
-    (r.0, ap (λ (o : Option ℕ). referred decls o (given decls g)) k.is ∙ ap (referred decls (Some k.number)) is ∙ r.1)
+    (k.number, c, r.0, k.is, is, r.1)
 
 -- each member of each member of a pool is ready
 pub ready : (decls : List Decl) → Clean decls → (i n : ℕ) (p : Pool) (s : Struct) →

@@ -20,7 +20,7 @@ use Rattle.resolution.specs.Limits.{up_to, STRUCT_LIMIT}
 use Rattle.resolution.specs.Scopes.{outside, bears, the_decl, type_of, count, alike}
 use Rattle.resolution.specs.Numbers.{width, total, classes_of, objects_of, cells_of, calls_of}
 use Rattle.resolution.specs.Expressions.{want}
-use Rattle.resolution.specs.Constants.{members_of, members_in, default_of, opened}
+use Rattle.resolution.specs.Constants.{members_of, members_in, default_of, Opens, by_default, by_constant}
 use Rattle.resolution.specs.Tables.{nothing_yet, Makes, no_member, lock_field, final_field, field, lock_classes}
 use Rattle.resolution.specs.Tables.{elements, next, OpensWith, with_nothing, past_lock, final_opened, field_opened}
 use Rattle.resolution.specs.Tables.{AddObjects, no_object, one_object_more, Adds, adds_class, adds_struct}
@@ -170,9 +170,9 @@ members_put decls object at fields (final_member f ∷ ms) up =
     let o = ready_now decls at (final_member f) ms up in
     let r = members_put decls object (next at) fields ms (ready_next decls at (final_member f) ms up) in
     record {
-      finals = o.0 ∷ r.finals;
+      finals = o.2 ∷ r.finals;
       cells = r.cells;
-      opens = final_opened o.1 r.opens;
+      opens = final_opened o.3 o.4 o.5 r.opens;
       final_count = ap suc r.final_count;
       cell_count = r.cell_count;
     }
@@ -300,11 +300,11 @@ same_counted decls before d p q n ec eo ef zc zo =
 
 -- what a global opens with
 opening_is : (decls : List Decl) → Clean decls → (o : Option core_type.ValueType) (t : Typing decls o) →
-    (c : Option Const) → NoneIn (opening_faults decls (want o) c) → (v : Value) × (opened decls t.value_type c ≡ Some v)
-opening_is decls clean o t None none = (default_of t.value_type, refl)
+    (c : Option Const) → NoneIn (opening_faults decls (want o) c) → (v : Value) × Opens decls t.value_type c v
+opening_is decls clean o t None none = (default_of t.value_type, by_default)
 opening_is decls clean o t (Some c) none =
     let v = const_is decls clean (wanted.Value t.value_type) c (subst (λ (x : Option core_type.ValueType). NoneIn (const_faults decls (want x) c)) t.is none) in
-    (v.of.val, v.is)
+    (v.0, by_constant v.1)
 
 global_is : (decls before : List Decl) (i : ℕ) (v : Variable) (p : core.Program) → Stage decls before i (global v) p →
     Extends decls before i (global v) p

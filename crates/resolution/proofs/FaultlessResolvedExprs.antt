@@ -26,7 +26,8 @@ use Rattle.resolution.specs.Scopes.{Scope, meaning}
 use Rattle.resolution.specs.Expressions.{ResolvedExpr, value, truth, fits}
 use Rattle.resolution.specs.Working.TypedExpressions.{fitting, as_value, number_resolved}
 use Rattle.resolution.specs.Working.TypedExpressions.{test_resolved, literal, negated}
-use Rattle.resolution.specs.Expressions.{alike_sorts, number_value, operator_of}
+use Rattle.resolution.specs.Expressions.{alike_sorts, operator_of}
+use Rattle.resolution.specs.Working.TypedExpressions.{number_value}
 use Rattle.resolution.specs.Working.TypedExpressions.{not_so, parenthesised, chained, linked, Tests, one_test, tested}
 use Rattle.resolution.specs.Working.TypedExpressions.{all_hold}
 use Rattle.resolution.specs.Working.TypedExpressions.{one_holds, ordered, equated, compared, typed, typed_place}

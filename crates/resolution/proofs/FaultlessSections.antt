@@ -18,7 +18,8 @@ use Rattle.resolution.specs.declared.body_limits.BodyLimits.{BodyLimits}
 use Rattle.resolution.specs.Scopes as scope
 use Rattle.resolution.specs.Scopes.{◌>>=◌, Scope, outside, a_decl, number_at, the_decl, type_of, result_of, bound}
 use Rattle.resolution.specs.Scopes.{entered}
-use Rattle.resolution.specs.Constants.{added, typed_arguments}
+use Rattle.resolution.specs.Constants.{AreArguments}
+use Rattle.resolution.specs.Working.TypedConstants.{added}
 use Rattle.resolution.specs.Statements.{ahead_of, entry}
 use Rattle.resolution.specs.Working.TypedSections.{core_locals, section_with, section_of, typed_section}
 use Rattle.resolution.specs.Tables.{copies, AreCalls, no_call, one_call, repeated}
@@ -157,7 +158,7 @@ record Called (decls : List Decl) (o : Option (ℕ × Decl)) (cs : List Const) :
   section : Section
   arguments : List Value
   means : o ≡ Some (place, atomic section)
-  fit : typed_arguments decls section.params cs ≡ Some arguments
+  fit : AreArguments decls section.params cs arguments
 
 argument_if : (decls : List Decl) → Clean decls → (p i : ℕ) (s : Section) (cs : List Const) (b : Bool) →
     (length cs == length s.params) ≡ b →

@@ -4,7 +4,6 @@ use Rattle.std.proofs.Common.{true, false, if◌then◌else◌, refl, ap, subst,
 use Rattle.std.specs.Prelude.{slice_get, take, ⊤, nat_le}
 use Rattle.resolution.specs.Limits.{up_to}
 use Rattle.resolution.specs.Scopes.{◌>>=◌, count}
-use Rattle.resolution.specs.Constants.{added}
 use Rattle.resolution.proofs.Tests.{le_of}
 
 -- ---- rows: each of one list with the one at its place in another
@@ -37,6 +36,19 @@ rows_right R n (a ∷ xs) (b ∷ ys) h (suc k) y e =
     let r = rows_right R (suc n) xs ys h.1 k y e in
     (r.0, r.1, subst (λ (j : ℕ). R j r.0 y) (let z : suc n + k ≡ n + suc k = omega arith in z) r.2)
 
+-- of rows from the first on
+pub row_left : {A B : Type 0} (R : ℕ → A → B → Type 0) (xs : List A) (ys : List B) → Rows R 0 xs ys → (k : ℕ) (x : A) →
+    slice_get xs k ≡ Some x → (y : B) × (slice_get ys k ≡ Some y) × R k x y
+row_left R xs ys h k x e =
+    let r = rows_left R 0 xs ys h k x e in
+    (r.0, r.1, subst (λ (j : ℕ). R j x r.0) (let z : 0 + k ≡ k = omega arith in z) r.2)
+
+pub row_right : {A B : Type 0} (R : ℕ → A → B → Type 0) (xs : List A) (ys : List B) → Rows R 0 xs ys → (k : ℕ) (y : B) →
+    slice_get ys k ≡ Some y → (x : A) × (slice_get xs k ≡ Some x) × R k x y
+row_right R xs ys h k y e =
+    let r = rows_right R 0 xs ys h k y e in
+    (r.0, r.1, subst (λ (j : ℕ). R j r.0 y) (let z : 0 + k ≡ k = omega arith in z) r.2)
+
 pub rows_length : {A B : Type 0} (R : ℕ → A → B → Type 0) (n : ℕ) (xs : List A) (ys : List B) → Rows R n xs ys →
     length ys ≡ length xs
 rows_length R n [] [] h = refl
@@ -44,12 +56,15 @@ rows_length R n [] (y ∷ ys) h = absurd h
 rows_length R n (x ∷ xs) [] h = absurd h
 rows_length R n (x ∷ xs) (y ∷ ys) h = ap suc (rows_length R (suc n) xs ys h.1)
 
-pub rows_push : {A B : Type 0} (R : ℕ → A → B → Type 0) (n : ℕ) (xs : List A) (ys : List B) (x : A) (y : B) →
-    Rows R n xs ys → R (n + length ys) x y → Rows R n (xs ++ x ∷ []) (ys ++ y ∷ [])
-rows_push R n [] [] x y h r = (subst (λ (j : ℕ). R j x y) (let z : n + 0 ≡ n = omega arith in z) r, tt)
-rows_push R n [] (b ∷ ys) x y h r = absurd h
-rows_push R n (a ∷ xs) [] x y h r = absurd h
-rows_push R n (a ∷ xs) (b ∷ ys) x y h r = (h.0, rows_push R (suc n) xs ys x y h.1 (subst (λ (j : ℕ). R j x y) (let z : n + suc (length ys) ≡ suc n + length ys = omega arith in z) r))
+-- rows behind rows
+pub rows_append : {A B : Type 0} (R : ℕ → A → B → Type 0) (n : ℕ) (xs : List A) (ys : List B) (us : List A)
+    (vs : List B) → Rows R n xs ys → Rows R (n + length ys) us vs → Rows R n (xs ++ us) (ys ++ vs)
+rows_append R n [] [] us vs h r = subst (λ (j : ℕ). Rows R j us vs) (let z : n + 0 ≡ n = omega arith in z) r
+rows_append R n [] (y ∷ ys) us vs h r = absurd h
+rows_append R n (x ∷ xs) [] us vs h r = absurd h
+rows_append R n (x ∷ xs) (y ∷ ys) us vs h r =
+    let z : n + suc (length ys) ≡ suc n + length ys = omega arith in
+    (h.0, rows_append R (suc n) xs ys us vs h.1 (subst (λ (j : ℕ). Rows R j us vs) z r))
 
 -- ---- lists that grow
 
@@ -91,6 +106,19 @@ get_pushed [] x (suc n) y C e f g = cc
 get_pushed (z ∷ xs) x zero y C e f g = f e
 get_pushed (z ∷ xs) x (suc n) y C e f g = get_pushed xs x n y C e f (λ p s. g (ap suc p) s)
 
+-- none has no row
+pub no_row : {A : Type 0} {P : Type 0} (k : ℕ) (x : A) → slice_get [] k ≡ Some x → P
+no_row k x e = cc
+
+-- what holds of the only one holds of each
+pub only : {A : Type 0} (F : ℕ → A → Type 0) (n : ℕ) (x : A) → F n x → (k : ℕ) (y : A) → slice_get (x ∷ []) k ≡ Some y →
+    F (n + k) y
+only F n x h zero y e =
+    let same : x ≡ y = cc in
+    let place : n ≡ n + 0 = omega arith in
+    subst (F (n + 0)) same (subst (λ (m : ℕ). F m x) place h)
+only F n x h (suc k) y e = cc
+
 pub take_front : {A : Type 0} (xs ys : List A) → take (length xs) (xs ++ ys) ≡ xs
 take_front [] ys = refl
 take_front {A = A} (x ∷ xs) ys = ap (λ (zs : List A). x ∷ zs) (take_front xs ys)
@@ -125,10 +153,3 @@ up_if limit n k false t e = cc
 
 pub up_got : (limit n k : ℕ) → up_to limit n ≡ Some k → (n ≡ k) × (n ≤ limit)
 up_got limit n k e = up_if limit n k (nat_le n limit) refl e
-
--- what a list with one more ahead is made of
-pub added_got : {A : Type 0} (o : Option A) (r : Option (List A)) (ys : List A) → added o r ≡ Some ys →
-    (x : A) × (xs : List A) × (o ≡ Some x) × (r ≡ Some xs) × (x ∷ xs ≡ ys)
-added_got (Some x) (Some xs) ys e = (x, xs, refl, refl, cc)
-added_got (Some x) None ys e = cc
-added_got None r ys e = cc

@@ -1,11 +1,10 @@
 -- Which locks protect the parts of a resolved program.
 use Rattle.std.proofs.Common.{◌≡◌, ℕ, zero, suc, ◌+◌, ◌<◌, ◌≤◌, List, [], ◌∷◌, ◌++◌, length, Option, Some, None, true}
-use Rattle.std.proofs.Common.{false, refl, sym, ap, ◌∙◌, subst, append_assoc, arith}
+use Rattle.std.proofs.Common.{refl, sym, ap, ◌∙◌, subst, arith}
 use Rattle.std.specs.Prelude.{slice_get, ⊤, nat_le, ◌&&◌}
-use Rattle.std.proofs.lemmas.Option.{slice_get_within}
 use Rattle.source.specs.declared.fault.Code.TheVariants.{LimitExceeded}
 use Rattle.syntax.specs.Trees.{Ident, Protection, Member, lock_member, final_member, field_member, Final, Field}
-use Rattle.syntax.specs.Trees.{Struct, Decl, lock, struct, global, array, pool, init, atomic, helper, thread}
+use Rattle.syntax.specs.Trees.{Struct, Decl, lock, struct, global, array}
 use Rattle.resolution.specs.Core as core
 use Rattle.resolution.specs.Limits.{CLASS_LIMIT, MEMBER_LIMIT, STRUCT_LIMIT, FINAL_LIMIT}
 use Rattle.resolution.specs.Scopes.{outside, bears, the_decl, the_member, struct_named, count, alike, number_at}
@@ -16,11 +15,10 @@ use Rattle.resolution.specs.Annotations.{class_number, class_in, class_of, Annot
 use Rattle.resolution.specs.Annotations.{through_member, stepped_on, ended_at, along, protection_by, cursor_at}
 use Rattle.resolution.specs.Annotations.{protection_of}
 use Rattle.resolution.specs.Where.{Has, first, further}
-use Rattle.resolution.specs.Working.Building.{array_added}
 use Rattle.resolution.specs.Working.FaultLists as list
 use Rattle.resolution.specs.Working.FaultLists.{one_if, member_counts, count_faults, total_faults, passed_faults}
 use Rattle.resolution.specs.Working.FaultLists.{along_faults, annotation_faults, protection_faults, type_faults}
-use Rattle.resolution.specs.Tables.{nothing_yet, AreTables, lock_classes}
+use Rattle.resolution.specs.Tables.{AreTables, lock_classes}
 use Rattle.resolution.proofs.Members.{in_right}
 use Rattle.resolution.proofs.Named.{named_is, member_is}
 use Rattle.resolution.specs.Theory.Facts.{struct_at}
@@ -28,16 +26,13 @@ use Rattle.resolution.proofs.Parts.{of_place_at, in_members_field}
 use Rattle.resolution.proofs.AllFaults.{of_totals}
 use Rattle.resolution.proofs.TrueStatements.{length_push}
 use Rattle.resolution.proofs.FaultlessExpressions.{NoneIn, none_left, none_right, not_if, Clean}
-use Rattle.resolution.proofs.FaultlessPrograms.{total_push}
 use Rattle.resolution.proofs.Typed.{final_in}
-use Rattle.resolution.proofs.LaidLists.{rows_left, rows_right, get_last, get_behind, get_pushed, get_parts, bind_got}
-use Rattle.resolution.proofs.LaidStages.{fields_in, locks_in, lock_numbered}
-use Rattle.resolution.proofs.LaidWalk.{LockRow, ClassRow, FieldRow, parted, elements_leave, Step, lands, walked_whole}
+use Rattle.resolution.proofs.LaidLists.{rows_left, rows_right, get_last, only, bind_got, row_right, no_row}
+use Rattle.resolution.proofs.LaidStages.{stands, fields_in, locks_in, lock_numbered, global_row, array_row}
+use Rattle.resolution.proofs.LaidWalk.{NewRows, LockRow, ClassRow, FieldRow, parted, lands, each_row, few}
 use Rattle.resolution.proofs.LaidWalk.{counted_whole}
-use Rattle.resolution.proofs.LaidFacts.{struct_by_number, sound_of, under, number_landed, total_landed, keeps_globals}
-use Rattle.resolution.proofs.LaidFacts.{keeps_arrays, keeps_classes}
+use Rattle.resolution.proofs.LaidFacts.{struct_landed, struct_by_number, sound_of, at_most, total_landed}
 use Rattle.resolution.proofs.Tests.{le_false}
-use Rattle.std.proofs.lemmas.List.{append-nil}
 
 -- ---- how many classes there are
 
@@ -51,36 +46,16 @@ members_classes classes n (lock_member x ∷ ms) none le =
     let less : classes < CLASS_LIMIT = le_false CLASS_LIMIT classes (not_if (true && nat_le CLASS_LIMIT classes) LimitExceeded x.span.start (none_right a b (none_left (a ++ b) rest none))) in
     let r = members_classes (classes + 1) (n + 1) ms (none_right (a ++ b) rest none) (let z : classes + 1 ≤ CLASS_LIMIT = omega (arith, less) in z) in
     omega (arith, r)
-members_classes classes n (final_member f ∷ ms) none le =
-    let a = one_if (nat_le MEMBER_LIMIT n) LimitExceeded f.name.span.start in
-    let b = one_if (false && nat_le CLASS_LIMIT classes) LimitExceeded f.name.span.start in
-    let r = members_classes (classes + 0) (n + 1) ms (none_right (a ++ b) (member_counts (classes + 0) (n + 1) ms) none) (let z : classes + 0 ≤ CLASS_LIMIT = omega (arith, le) in z) in
-    omega (arith, r)
-members_classes classes n (field_member f ∷ ms) none le =
-    let a = one_if (nat_le MEMBER_LIMIT n) LimitExceeded f.name.span.start in
-    let b = one_if (false && nat_le CLASS_LIMIT classes) LimitExceeded f.name.span.start in
-    let r = members_classes (classes + 0) (n + 1) ms (none_right (a ++ b) (member_counts (classes + 0) (n + 1) ms) none) (let z : classes + 0 ≤ CLASS_LIMIT = omega (arith, le) in z) in
+members_classes classes n (m ∷ ms) none le =
+    let z : classes + 0 ≤ CLASS_LIMIT = omega (arith, le) in
+    let r = members_classes (classes + 0) (n + 1) ms (none_right _ (member_counts (classes + 0) (n + 1) ms) none) z in
     omega (arith, r)
 
 classes_fit : (decls before : List Decl) (d : Decl) → NoneIn (count_faults decls before d) →
     total classes_of before ≤ CLASS_LIMIT → total classes_of before + classes_of d ≤ CLASS_LIMIT
 classes_fit decls before (lock x) none le = let l : total classes_of before < CLASS_LIMIT = le_false CLASS_LIMIT (total classes_of before) (not_if (nat_le CLASS_LIMIT (total classes_of before)) LimitExceeded x.span.start none) in omega (arith, l)
 classes_fit decls before (struct s) none le = members_classes (total classes_of before) 0 s.members (none_right (one_if (nat_le STRUCT_LIMIT (count (alike (struct s)) before)) LimitExceeded s.name.span.start) _ none) le
-classes_fit decls before (global x) none le = omega (arith, le)
-classes_fit decls before (array x) none le = omega (arith, le)
-classes_fit decls before (pool x) none le = omega (arith, le)
-classes_fit decls before (init x) none le = omega (arith, le)
-classes_fit decls before (atomic x) none le = omega (arith, le)
-classes_fit decls before (helper x) none le = omega (arith, le)
-classes_fit decls before (thread x) none le = omega (arith, le)
-
-classes_few : (decls before ds : List Decl) → NoneIn (total_faults decls before ds) →
-    total classes_of before ≤ CLASS_LIMIT → total classes_of (before ++ ds) ≤ CLASS_LIMIT
-classes_few decls before [] none le = subst (λ (xs : List Decl). total classes_of xs ≤ CLASS_LIMIT) (sym (append-nil before)) le
-classes_few decls before (d ∷ ds) none le =
-    let fit = classes_fit decls before d (none_left (count_faults decls before d) (total_faults decls (before ++ d ∷ []) ds) none) le in
-    let more : total classes_of (before ++ d ∷ []) ≤ CLASS_LIMIT = (let t = total_push classes_of before d in omega (arith, t, fit)) in
-    subst (λ (xs : List Decl). total classes_of xs ≤ CLASS_LIMIT) (append_assoc before (d ∷ []) ds) (classes_few decls (before ++ d ∷ []) ds (none_right (count_faults decls before d) (total_faults decls (before ++ d ∷ []) ds) none) more)
+classes_fit decls before d none le = omega (arith, le)
 
 -- ---- classes
 
@@ -92,42 +67,23 @@ abbrev pub ClassFact : core.Program → ℕ → core.LockClass → Type 0
 ClassFact whole n (core.global_lock name) = ⊤
 ClassFact whole n (core.lock_field k l) = (y : core.Struct) × (slice_get whole.structs k ≡ Some y) × (f : core.LockField) × (slice_get y.locks l ≡ Some f) × (f.class ≡ n)
 
-abbrev AllClasses : core.Program → core.Program → Type 0
-AllClasses whole p = (n : ℕ) (c : core.LockClass) → slice_get p.classes n ≡ Some c → ClassFact whole n c
-
-classes_next : (decls : List Decl) (whole : core.Program) (before : List Decl) (d : Decl) (p q : core.Program) →
-    Step decls whole before d p q → AllClasses whole p → AllClasses whole q
-classes_next decls whole before (lock x) p q st h n c e =
-    get_pushed p.classes (core.global_lock x.text) n c (ClassFact whole n c) (ap (λ (w : core.Program). slice_get w.classes n) st.adds ∙ e) (h n c) (λ i same. subst (ClassFact whole n) same tt)
-classes_next decls whole before (struct x) p q st h n c e =
-    let a = st.adds in
+classes_new : (decls : List Decl) (whole : core.Program) → NewRows decls whole (λ p. p.classes) (ClassFact whole)
+classes_new decls whole before (lock x) p st k c e =
+    only (ClassFact whole) (length p.classes) (core.global_lock x.text) tt k c e
+classes_new decls whole before (struct x) p st l c e =
+    let a = st.news in
     let k = length p.structs in
     let r = parted decls (length before) x (length p.classes) k 0 0 0 x.members a.0 a.1 in
-    let cs = lock_classes k 0 a.0.locks in
-    let classes : q.classes ≡ p.classes ++ cs = ap (λ (z : core.Program). z.classes) (sym a.2) in
-    let here : slice_get whole.structs k ≡ Some a.0 =
-    st.ends.structs k a.0
-    (subst (λ (w : core.Program). slice_get w.structs k ≡ Some a.0) a.2 (get_last p.structs a.0 [])) in
-    get_parts p.classes cs n c (ClassFact whole n c)
-    (ap (λ (zs : List core.LockClass). slice_get zs n) (sym classes) ∙ e) (h n c)
-    (λ b. (let z = rows_right (ClassRow k) 0 (locks_in x.members) cs r.classes b.by c b.here in
-    let f = rows_left LockRow (length p.classes) (locks_in x.members) a.0.locks r.locks b.by z.0 z.1 in
-    let is : c ≡ core.lock_field k b.by = z.2 ∙ ap (core.lock_field k) (let w : 0 + b.by ≡ b.by = omega arith in w) in
-    subst (ClassFact whole n) (sym is) (a.0, here, f.0, f.1, f.2 ∙ sym b.place)))
-classes_next decls whole before (global y) p q st h n x e = h n x (ap (λ (zs : List core.LockClass). slice_get zs n) (sym (keeps_classes decls (length before) p (global y) q st.adds)) ∙ e)
-classes_next decls whole before (array y) p q st h n x e = h n x (ap (λ (zs : List core.LockClass). slice_get zs n) (sym (keeps_classes decls (length before) p (array y) q st.adds)) ∙ e)
-classes_next decls whole before (pool y) p q st h n x e = h n x (ap (λ (zs : List core.LockClass). slice_get zs n) (sym (keeps_classes decls (length before) p (pool y) q st.adds)) ∙ e)
-classes_next decls whole before (init y) p q st h n x e = h n x (ap (λ (zs : List core.LockClass). slice_get zs n) (sym (keeps_classes decls (length before) p (init y) q st.adds)) ∙ e)
-classes_next decls whole before (atomic y) p q st h n x e = h n x (ap (λ (zs : List core.LockClass). slice_get zs n) (sym (keeps_classes decls (length before) p (atomic y) q st.adds)) ∙ e)
-classes_next decls whole before (helper y) p q st h n x e = h n x (ap (λ (zs : List core.LockClass). slice_get zs n) (sym (keeps_classes decls (length before) p (helper y) q st.adds)) ∙ e)
-classes_next decls whole before (thread y) p q st h n x e = h n x (ap (λ (zs : List core.LockClass). slice_get zs n) (sym (keeps_classes decls (length before) p (thread y) q st.adds)) ∙ e)
-
-no_classes : (whole : core.Program) → AllClasses whole nothing_yet
-no_classes whole k x e = cc
+    let here = stands (λ z. z.structs) (λ z a. refl) st.ends k a.0 (get_last p.structs a.0 []) in
+    let z = row_right (ClassRow k) (locks_in x.members) (lock_classes k 0 a.0.locks) r.classes l c e in
+    let f = rows_left LockRow (length p.classes) (locks_in x.members) a.0.locks r.locks l z.0 z.1 in
+    subst (ClassFact whole (length p.classes + l)) (sym z.2) (a.0, here, f.0, f.1, f.2)
+classes_new decls whole before d p st k c e = no_row k c e
 
 pub classes_of_program : (decls : List Decl) → Clean decls → (whole : core.Program) → AreTables decls whole →
-    AllClasses whole whole
-classes_of_program decls clean whole is = walked_whole decls clean whole is (λ b p. AllClasses whole p) (no_classes whole) (classes_next decls whole)
+    (n : ℕ) (c : core.LockClass) → slice_get whole.classes n ≡ Some c → ClassFact whole n c
+classes_of_program decls clean whole is =
+    each_row decls clean whole is (λ p. p.classes) (λ p a. refl) refl (ClassFact whole) (classes_new decls whole)
 
 -- final references that lead on, as data
 abbrev pub LeadIn : core.Program → ℕ → List ℕ → ℕ → Type 0
@@ -148,69 +104,55 @@ ProtectsIn whole s p = (c : core.LockClass) × (slice_get whole.classes p.class 
 
 has_field : (ms : List Member) (k : ℕ) (f : Field) → slice_get (fields_in ms) k ≡ Some f → Has ms (field_member f)
 has_field [] k f e = cc
-has_field (lock_member x ∷ ms) k f e = further (has_field ms k f e)
-has_field (final_member x ∷ ms) k f e = further (has_field ms k f e)
-has_field (field_member x ∷ ms) zero f e = let s : x ≡ f = cc in subst (λ (y : Field). Has (field_member x ∷ ms) (field_member y)) s first
+has_field (field_member x ∷ ms) zero f e =
+    let s : x ≡ f = cc in
+    subst (λ (y : Field). Has (field_member x ∷ ms) (field_member y)) s first
 has_field (field_member x ∷ ms) (suc k) f e = further (has_field ms k f e)
+has_field (x ∷ ms) k f e = further (has_field ms k f e)
 
 module _ (decls : List Decl) (clean : Clean decls) (whole : core.Program) (is : AreTables decls whole) where
   pub few_classes : length whole.classes ≤ CLASS_LIMIT
-  few_classes = let e = (counted_whole decls clean whole is).classes in let l = classes_few decls [] decls (λ f i. clean f (of_totals decls f i)) (let z : 0 ≤ CLASS_LIMIT = omega arith in z) in omega (arith, e, l)
+  few_classes =
+      let e = (counted_whole decls clean whole is).classes in
+      let l = few classes_of CLASS_LIMIT decls (classes_fit decls) [] decls (λ f i. clean f (of_totals decls f i))
+      (let z : 0 ≤ CLASS_LIMIT = omega arith in z) in
+      omega (arith, e, l)
 
   class_here : (i n : ℕ) (c : core.LockClass) → slice_get whole.classes (classes_ahead decls i + n) ≡ Some c →
       slice_get whole.classes (class_number decls i n) ≡ Some c
-  class_here i n c e =
-      let a = slice_get_within whole.classes (classes_ahead decls i + n) c e in
-      let b = few_classes in
-      subst (λ (k : ℕ). slice_get whole.classes k ≡ Some c) (sym (under (classes_ahead decls i + n) CLASS_LIMIT (let z : classes_ahead decls i + n ≤ CLASS_LIMIT = omega (arith, a, b) in z))) e
+  class_here i n c e = at_most whole.classes (classes_ahead decls i + n) CLASS_LIMIT c few_classes e
 
   lock_here : (i : ℕ) (x : Ident) → slice_get decls i ≡ Some (lock x) →
       slice_get whole.classes (class_number decls i 0) ≡ Some (core.global_lock x.text)
   lock_here i x at =
       let l = lands decls clean whole is i (lock x) at in
       let c = core.global_lock x.text in
-      let here : slice_get whole.classes (length l.was.classes) ≡ Some c = l.step.ends.classes (length l.was.classes) c (subst (λ (z : core.Program). slice_get z.classes (length l.was.classes) ≡ Some c) l.step.adds (get_last l.was.classes c [])) in
+      let p = l.was in
+      let here = stands (λ z. z.classes) (λ z a. refl) l.step.ends (length p.classes) c (get_last p.classes c []) in
       let n = l.step.counts.classes in
       let t = total_landed decls whole i (lock x) l classes_of in
-      class_here i 0 c (subst (λ (k : ℕ). slice_get whole.classes k ≡ Some c) (let z : length l.was.classes ≡ classes_ahead decls i + 0 = omega (arith, n, t) in z) here)
+      class_here i 0 c (subst (λ (k : ℕ). slice_get whole.classes k ≡ Some c)
+      (let z : length p.classes ≡ classes_ahead decls i + 0 = omega (arith, n, t) in z) here)
 
   -- the class of a struct's lock field
   lock_field_here : (i : ℕ) (x : Struct) → slice_get decls i ≡ Some (struct x) → (l : ℕ) (z : Ident) →
       slice_get (locks_in x.members) l ≡ Some z →
       slice_get whole.classes (class_number decls i l) ≡ Some (core.lock_field (number_at decls i (struct x)) l)
+  unfolding struct_landed
   lock_field_here i x at l z e =
       let d = lands decls clean whole is i (struct x) at in
-      let p = d.was in
-      let a = d.step.adds in
-      let k = length p.structs in
-      let r = parted decls (length d.before) x (length p.classes) k 0 0 0 x.members a.0 a.1 in
-      let cs = lock_classes k 0 a.0.locks in
-      let classes : d.is.classes ≡ p.classes ++ cs = ap (λ (w : core.Program). w.classes) (sym a.2) in
-      let c = rows_left (ClassRow k) 0 (locks_in x.members) cs r.classes l z e in
-      let here : slice_get d.is.classes (length p.classes + l) ≡ Some c.0 =
-      ap (λ (zs : List core.LockClass). slice_get zs (length p.classes + l)) classes
-      ∙ get_behind p.classes cs l c.0 c.1 in
-      let number : k ≡ number_at decls i (struct x) = d.step.counts.structs x ∙ sym (number_landed decls whole i (struct x) d) in
-      let same : c.0 ≡ core.lock_field (number_at decls i (struct x)) l = c.2 ∙ ap (core.lock_field k) (let w : 0 + l ≡ l = omega arith in w) ∙ ap (λ (j : ℕ). core.lock_field j l) number in
-      let ahead : length p.classes ≡ classes_ahead decls i = d.step.counts.classes ∙ sym (total_landed decls whole i (struct x) d classes_of) in
+      let f = struct_landed decls whole d.before x d.was d.step in
       class_here i l (core.lock_field (number_at decls i (struct x)) l)
-      (subst (λ (j : ℕ). slice_get whole.classes (j + l) ≡ Some (core.lock_field (number_at decls i (struct x)) l)) ahead (d.step.ends.classes (length p.classes + l) c.0 here ∙ ap Some same))
+      (subst (λ (n : ℕ). slice_get whole.classes (classes_ahead decls n + l)
+      ≡ Some (core.lock_field (number_at decls n (struct x)) l)) d.place
+      (f.classes l z e ∙ ap (λ (k : ℕ). Some (core.lock_field k l)) (sym f.number)))
 
   class_in_is : (q : List ℕ) (o : Option (ℕ × Decl)) (ys : List Ident) (c : ℕ) → the_decl decls q ≡ o →
       class_in decls o ys ≡ Some c → GlobalClass whole c
   class_in_is q (Some (i, lock x)) [] c at e =
       let same : class_number decls i 0 ≡ c = cc in
       subst (GlobalClass whole) same (x.text, lock_here i x (named_is bears decls q i (lock x) at).here)
-  class_in_is q (Some (i, lock x)) (y ∷ ys) c at e = cc
-  class_in_is q (Some (i, struct x)) ys c at e = cc
-  class_in_is q (Some (i, global x)) ys c at e = cc
-  class_in_is q (Some (i, array x)) ys c at e = cc
-  class_in_is q (Some (i, pool x)) ys c at e = cc
-  class_in_is q (Some (i, init x)) ys c at e = cc
-  class_in_is q (Some (i, atomic x)) ys c at e = cc
-  class_in_is q (Some (i, helper x)) ys c at e = cc
-  class_in_is q (Some (i, thread x)) ys c at e = cc
-  class_in_is q None ys c at e = cc
+  class_in_is q o ys c at e = cc
 
   class_of_is : (o : Option Protection) (c : ℕ) → class_of decls o ≡ Some c → GlobalClass whole c
   class_of_is (Some p) c e = class_in_is p.first.text (the_decl decls p.first.text) p.rest c refl e
@@ -218,56 +160,26 @@ module _ (decls : List Decl) (clean : Clean decls) (whole : core.Program) (is : 
 
   -- ---- globals and arrays
 
-  abbrev GlobalsHave : core.Program → Type 0
-  GlobalsHave p = (g : ℕ) (x : core.GlobalVariable) → slice_get p.globals g ≡ Some x → GlobalClass whole x.class
+  globals_new : NewRows decls whole (λ p. p.globals) (λ n x. GlobalClass whole x.class)
+  globals_new before (global v) p st k x e =
+      only (λ n y. GlobalClass whole y.class) 0 (global_row p v st.news.0)
+      (class_of_is v.protection st.news.0 st.news.3)
+      k x e
+  globals_new before d p st k x e = no_row k x e
 
-  abbrev ArraysHave : core.Program → Type 0
-  ArraysHave p = (g : ℕ) (x : core.Array) → slice_get p.arrays g ≡ Some x → GlobalClass whole x.class
+  arrays_new : NewRows decls whole (λ p. p.arrays) (λ n x. GlobalClass whole x.class)
+  arrays_new before (array y) p st k x e =
+      only (λ n z. GlobalClass whole z.class) 0 (array_row p y st.news.0 st.news.1)
+      (class_of_is y.protection st.news.0 st.news.2) k x e
+  arrays_new before d p st k x e = no_row k x e
 
-  globals_have_next : (before : List Decl) (d : Decl) (p q : core.Program) → Step decls whole before d p q →
-      GlobalsHave p → GlobalsHave q
-  globals_have_next before (lock y) p q st h n x e = h n x (ap (λ (zs : List core.GlobalVariable). slice_get zs n) (sym (keeps_globals decls (length before) p (lock y) q st.adds)) ∙ e)
-  globals_have_next before (struct y) p q st h n x e = h n x (ap (λ (zs : List core.GlobalVariable). slice_get zs n) (sym (keeps_globals decls (length before) p (struct y) q st.adds)) ∙ e)
-  globals_have_next before (global v) p q st h n y e =
-      let a = st.adds in
-      get_pushed p.globals (record { name = v.name.text; cell = length p.cells; class = a.0 }) n y (GlobalClass whole y.class) (ap (λ (w : core.Program). slice_get w.globals n) a.7 ∙ e) (h n y)
-      (λ i same. subst (λ (z : core.GlobalVariable). GlobalClass whole z.class) same (class_of_is v.protection a.0 a.3))
-  globals_have_next before (array y) p q st h n x e = h n x (ap (λ (zs : List core.GlobalVariable). slice_get zs n) (sym (keeps_globals decls (length before) p (array y) q st.adds)) ∙ e)
-  globals_have_next before (pool y) p q st h n x e = h n x (ap (λ (zs : List core.GlobalVariable). slice_get zs n) (sym (keeps_globals decls (length before) p (pool y) q st.adds)) ∙ e)
-  globals_have_next before (init y) p q st h n x e = h n x (ap (λ (zs : List core.GlobalVariable). slice_get zs n) (sym (keeps_globals decls (length before) p (init y) q st.adds)) ∙ e)
-  globals_have_next before (atomic y) p q st h n x e = h n x (ap (λ (zs : List core.GlobalVariable). slice_get zs n) (sym (keeps_globals decls (length before) p (atomic y) q st.adds)) ∙ e)
-  globals_have_next before (helper y) p q st h n x e = h n x (ap (λ (zs : List core.GlobalVariable). slice_get zs n) (sym (keeps_globals decls (length before) p (helper y) q st.adds)) ∙ e)
-  globals_have_next before (thread y) p q st h n x e = h n x (ap (λ (zs : List core.GlobalVariable). slice_get zs n) (sym (keeps_globals decls (length before) p (thread y) q st.adds)) ∙ e)
+  pub globals_have : (g : ℕ) (x : core.GlobalVariable) → slice_get whole.globals g ≡ Some x → GlobalClass whole x.class
+  globals_have =
+      each_row decls clean whole is (λ p. p.globals) (λ p a. refl) refl (λ n x. GlobalClass whole x.class) globals_new
 
-  arrays_have_next : (before : List Decl) (d : Decl) (p q : core.Program) → Step decls whole before d p q →
-      ArraysHave p → ArraysHave q
-  arrays_have_next before (lock y) p q st h n x e = h n x (ap (λ (zs : List core.Array). slice_get zs n) (sym (keeps_arrays decls (length before) p (lock y) q st.adds)) ∙ e)
-  arrays_have_next before (struct y) p q st h n x e = h n x (ap (λ (zs : List core.Array). slice_get zs n) (sym (keeps_arrays decls (length before) p (struct y) q st.adds)) ∙ e)
-  arrays_have_next before (global y) p q st h n x e = h n x (ap (λ (zs : List core.Array). slice_get zs n) (sym (keeps_arrays decls (length before) p (global y) q st.adds)) ∙ e)
-  arrays_have_next before (array x) p q st h n y e =
-      let a = st.adds in
-      let z : core.Array = record { name = x.name.text; first = length p.cells; length = x.length.value; element_type = a.1; class = a.0 } in
-      let p1 = array_added p x.name.text (length p.cells) x.length.value a.1 a.0 in
-      let arrays : q.arrays ≡ p.arrays ++ z ∷ [] = ap (λ (w : core.Program). w.arrays) (sym a.4) ∙ (elements_leave p1 (length p.arrays) a.1 x.length.value).arrays in
-      get_pushed p.arrays z n y (GlobalClass whole y.class) (ap (λ (zs : List core.Array). slice_get zs n) (sym arrays) ∙ e) (h n y)
-      (λ i same. subst (λ (w : core.Array). GlobalClass whole w.class) same (class_of_is x.protection a.0 a.2))
-  arrays_have_next before (pool y) p q st h n x e = h n x (ap (λ (zs : List core.Array). slice_get zs n) (sym (keeps_arrays decls (length before) p (pool y) q st.adds)) ∙ e)
-  arrays_have_next before (init y) p q st h n x e = h n x (ap (λ (zs : List core.Array). slice_get zs n) (sym (keeps_arrays decls (length before) p (init y) q st.adds)) ∙ e)
-  arrays_have_next before (atomic y) p q st h n x e = h n x (ap (λ (zs : List core.Array). slice_get zs n) (sym (keeps_arrays decls (length before) p (atomic y) q st.adds)) ∙ e)
-  arrays_have_next before (helper y) p q st h n x e = h n x (ap (λ (zs : List core.Array). slice_get zs n) (sym (keeps_arrays decls (length before) p (helper y) q st.adds)) ∙ e)
-  arrays_have_next before (thread y) p q st h n x e = h n x (ap (λ (zs : List core.Array). slice_get zs n) (sym (keeps_arrays decls (length before) p (thread y) q st.adds)) ∙ e)
-
-  no_globals_have : GlobalsHave nothing_yet
-  no_globals_have k x e = cc
-
-  no_arrays_have : ArraysHave nothing_yet
-  no_arrays_have k x e = cc
-
-  pub globals_have : GlobalsHave whole
-  globals_have = walked_whole decls clean whole is (λ b p. GlobalsHave p) no_globals_have globals_have_next
-
-  pub arrays_have : ArraysHave whole
-  arrays_have = walked_whole decls clean whole is (λ b p. ArraysHave p) no_arrays_have arrays_have_next
+  pub arrays_have : (g : ℕ) (x : core.Array) → slice_get whole.arrays g ≡ Some x → GlobalClass whole x.class
+  arrays_have =
+      each_row decls clean whole is (λ p. p.arrays) (λ p a. refl) refl (λ n x. GlobalClass whole x.class) arrays_new
 
   -- ---- lock fields
 
@@ -304,9 +216,7 @@ module _ (decls : List Decl) (clean : Clean decls) (whole : core.Program) (is : 
       let there : slice_get (locks_in h.structure.members) n ≡ Some x = subst (λ (ms : List Member). slice_get (locks_in ms) n ≡ Some x) h.same (lock_numbered st.members i x (member_is st.members q i (lock_member x) m).0) in
       let same : record { through = st.through; class = class_number decls st.structure n } ≡ p = cc in
       subst (ProtectsIn whole s) same (core.lock_field (number_at decls st.structure (struct h.structure)) n, lock_field_here st.structure h.structure h.at n x there, (h.short, h.lead))
-  at_end s st h q (Some (i, final_member f)) m p e = cc
-  at_end s st h q (Some (i, field_member f)) m p e = cc
-  at_end s st h q None m p e = cc
+  at_end s st h q o m p e = cc
 
   over_final : (s : ℕ) (st : AnnotationCursor) → Stood s st → (i : ℕ) (f : Final) →
       slice_get st.members i ≡ Some (final_member f) → length st.through < 3 → (o : Option (ℕ × Decl)) →
@@ -328,24 +238,14 @@ module _ (decls : List Decl) (clean : Clean decls) (whole : core.Program) (is : 
         lead = lead_more whole s st.through (number_at decls st.structure (struct h.structure)) k (number_at decls n (struct x)) h.lead lead2;
         short = (let l = length_push st.through k in let z : length (st.through ++ k ∷ []) ≤ 3 = omega (arith, l, less) in z);
       })
-  over_final s st h i f m less (Some (n, lock x)) d to e = cc
-  over_final s st h i f m less (Some (n, global x)) d to e = cc
-  over_final s st h i f m less (Some (n, array x)) d to e = cc
-  over_final s st h i f m less (Some (n, pool x)) d to e = cc
-  over_final s st h i f m less (Some (n, init x)) d to e = cc
-  over_final s st h i f m less (Some (n, atomic x)) d to e = cc
-  over_final s st h i f m less (Some (n, helper x)) d to e = cc
-  over_final s st h i f m less (Some (n, thread x)) d to e = cc
-  over_final s st h i f m less None d to e = cc
+  over_final s st h i f m less o d to e = cc
 
   stepped : (s head here : ℕ) (st : AnnotationCursor) → Stood s st → (q : List ℕ) (o : Option (ℕ × Member)) →
       the_member st.members q ≡ o → NoneIn (passed_faults decls head here (length st.through) o) →
       (to : AnnotationCursor) → through_member decls st o ≡ Some to → Stood s to
   stepped s head here st h q (Some (i, final_member f)) m none to e =
       over_final s st h i f (member_is st.members q i (final_member f) m).0 (le_false FINAL_LIMIT (length st.through) (not_if (nat_le FINAL_LIMIT (length st.through)) LimitExceeded head none)) (the_decl decls f.target.text) refl to e
-  stepped s head here st h q (Some (i, lock_member x)) m none to e = cc
-  stepped s head here st h q (Some (i, field_member x)) m none to e = cc
-  stepped s head here st h q None m none to e = cc
+  stepped s head here st h q o m none to e = cc
 
   along_ok : (s head : ℕ) (st : AnnotationCursor) → Stood s st → (y : Ident) (ys : List Ident) →
       NoneIn (along_faults decls head (Some st) y ys) → (p : core.Protection) → along decls (Some st) y ys ≡ Some p →
@@ -379,7 +279,7 @@ module _ (decls : List Decl) (clean : Clean decls) (whole : core.Program) (is : 
       let r = struct_by_number decls clean whole is s y at in
       let x = r.0 in
       let i = r.2.place in
-      let w = rows_right (FieldRow decls i x.members) 0 (fields_in x.members) y.fields r.2.fields f z e in
+      let w = row_right (FieldRow decls i x.members) (fields_in x.members) y.fields r.2.fields f z e in
       let g = w.0 in
       let a = type_faults (outside decls) g.value_type in
       let none : NoneIn (protection_faults decls i x.members g.name.span.start g.protection) =

@@ -1,11 +1,10 @@
 -- Where a resolved program has its objects and its cells.
 use Rattle.std.proofs.Common.{◌≡◌, ℕ, zero, suc, ◌+◌, ◌<◌, ◌≤◌, List, [], ◌∷◌, ◌++◌, length, Option, Some, None, Bool}
-use Rattle.std.proofs.Common.{true, false, if◌then◌else◌, refl, sym, ap, ◌∙◌, subst, arith}
-use Rattle.std.specs.Prelude.{ℤ, neg_ℤ, slice_get, ⊤, nat_lt}
+use Rattle.std.proofs.Common.{true, false, refl, sym, ap, ◌∙◌, subst, arith}
+use Rattle.std.specs.Prelude.{ℤ, pos, neg_ℤ, slice_get, ⊤, nat_lt}
 use Rattle.std.proofs.lemmas.Option.{slice_get_within}
 use Rattle.std.proofs.lemmas.Bool.{eqb-true}
-use Rattle.syntax.specs.Trees.{Ident, Const, int_const, negative, null_const, member_const, Member, Final, Field}
-use Rattle.syntax.specs.Trees.{Struct, Pool, Decl, lock, struct, global, array, pool, init, atomic, helper, thread}
+use Rattle.syntax.specs.Trees.{Ident, Const, Member, Final, Field, Struct, Pool, Decl, struct, global, array, pool}
 use Rattle.core_lang.specs.declared.value.Value.{Value}
 use Rattle.core_lang.specs.declared.value.Value.TheVariants.{Int, Ref}
 use Rattle.core_lang.specs.declared.value.ValueType as core_type
@@ -22,69 +21,23 @@ use Rattle.resolution.specs.Limits.{OBJECT_LIMIT}
 use Rattle.resolution.specs.Scopes.{◌>>=◌, bears, the_decl, declared_as, struct_meant, struct_named, number_at}
 use Rattle.resolution.specs.Scopes.{the_struct}
 use Rattle.resolution.specs.Numbers.{objects_ahead}
-use Rattle.resolution.specs.Expressions.{number_value, fits_type}
-use Rattle.resolution.specs.Constants.{number_sort, reference_sort, member_sort, const_sort, object_of, member_of}
-use Rattle.resolution.specs.Constants.{const_value, if_fitting, typed_const, members_of, members_in, opened}
-use Rattle.resolution.specs.Constants.{default_of, object_in, referred}
-use Rattle.resolution.specs.Working.Building.{with_elements, array_added, pool_added}
-use Rattle.resolution.specs.Tables.{nothing_yet, AreTables}
+use Rattle.resolution.specs.Expressions.{fits_type}
+use Rattle.resolution.specs.Constants.{IsOfSort, number_sort, negative_sort, null_sort, member_sort, object_of}
+use Rattle.resolution.specs.Constants.{Denotes, a_number, a_negative, no_object, an_object, Yields, yields}
+use Rattle.resolution.specs.Constants.{members_of, members_in, default_of, Opens, by_default, by_constant}
+use Rattle.resolution.specs.Tables.{elements, AreTables}
 use Rattle.resolution.proofs.Named.{named_is}
 use Rattle.resolution.specs.Theory.Facts.{struct_at}
 use Rattle.resolution.proofs.FaultlessExpressions.{Clean}
 use Rattle.resolution.proofs.Typed.{field_in}
-use Rattle.resolution.proofs.LaidLists.{rows_left, rows_right, get_last, get_behind, get_pushed, get_parts, bind_got}
-use Rattle.resolution.proofs.LaidStages.{fields_in, finals_in, CellOf, FinalOf, Objected, Chain, Adds, Begins}
-use Rattle.resolution.proofs.LaidStages.{begins_on, begins_cell, begins_object}
-use Rattle.resolution.proofs.LaidWalk.{FieldRow, chain_leaves, chain_objects, elements_leave, elements_objects}
-use Rattle.resolution.proofs.LaidWalk.{elements_cells, all_objects_few, Step, walked_whole, counted_whole}
-use Rattle.resolution.proofs.LaidFacts.{struct_of_number, pool_at, under, keeps_globals, keeps_arrays, keeps_pools}
+use Rattle.resolution.proofs.LaidLists.{grows_more, get_last, get_behind, get_parts, only, row_left, row_right, no_row}
+use Rattle.resolution.proofs.LaidStages.{fields_in, finals_in, CellOf, FinalOf, Objected, Chain, Begins, begins_on}
+use Rattle.resolution.proofs.LaidStages.{plus, held, next_object, global_row, global_cell, array_row, pool_row}
+use Rattle.resolution.proofs.LaidStages.{stands}
+use Rattle.resolution.proofs.LaidWalk.{FieldRow, chain_objects, elements_length, all_objects_few, Step, added}
+use Rattle.resolution.proofs.LaidWalk.{new_objects, NewRows, each_row, counted_whole}
+use Rattle.resolution.proofs.LaidFacts.{struct_of_number, pool_at, at_most}
 use Rattle.resolution.proofs.Tests.{lt_of, lt_false}
-
-abbrev KeepsObjects : Decl → core.Program → core.Program → Type 0
-KeepsObjects (lock x) p q = q.objects ≡ p.objects
-KeepsObjects (struct x) p q = q.objects ≡ p.objects
-KeepsObjects (global x) p q = q.objects ≡ p.objects
-KeepsObjects (array x) p q = q.objects ≡ p.objects
-KeepsObjects (pool x) p q = ⊤
-KeepsObjects (init x) p q = q.objects ≡ p.objects
-KeepsObjects (atomic x) p q = q.objects ≡ p.objects
-KeepsObjects (helper x) p q = q.objects ≡ p.objects
-KeepsObjects (thread x) p q = q.objects ≡ p.objects
-
-keeps_objects : (decls : List Decl) (i : ℕ) (p : core.Program) (d : Decl) (q : core.Program) → Adds decls i p d q →
-    KeepsObjects d p q
-keeps_objects decls i p (lock x) q a = ap (λ (z : core.Program). z.objects) (sym a)
-keeps_objects decls i p (struct x) q a = ap (λ (z : core.Program). z.objects) (sym a.2)
-keeps_objects decls i p (global x) q a = ap (λ (z : core.Program). z.objects) (sym a.7)
-keeps_objects decls i p (array x) q a = ap (λ (z : core.Program). z.objects) (sym a.4) ∙ elements_objects (array_added p x.name.text (length p.cells) x.length.value a.1 a.0) (length p.arrays) a.1 x.length.value
-keeps_objects decls i p (pool x) q a = tt
-keeps_objects decls i p (init x) q a = ap (λ (z : core.Program). z.objects) (sym a)
-keeps_objects decls i p (atomic x) q a = ap (λ (z : core.Program). z.objects) (sym a.2)
-keeps_objects decls i p (helper x) q a = ap (λ (z : core.Program). z.objects) (sym a.2)
-keeps_objects decls i p (thread x) q a = ap (λ (z : core.Program). z.objects) (sym a.2)
-
-abbrev KeepsCells : Decl → core.Program → core.Program → Type 0
-KeepsCells (lock x) p q = q.cells ≡ p.cells
-KeepsCells (struct x) p q = q.cells ≡ p.cells
-KeepsCells (global x) p q = ⊤
-KeepsCells (array x) p q = ⊤
-KeepsCells (pool x) p q = ⊤
-KeepsCells (init x) p q = q.cells ≡ p.cells
-KeepsCells (atomic x) p q = q.cells ≡ p.cells
-KeepsCells (helper x) p q = q.cells ≡ p.cells
-KeepsCells (thread x) p q = q.cells ≡ p.cells
-
-keeps_cells : (decls : List Decl) (i : ℕ) (p : core.Program) (d : Decl) (q : core.Program) → Adds decls i p d q →
-    KeepsCells d p q
-keeps_cells decls i p (lock x) q a = ap (λ (z : core.Program). z.cells) (sym a)
-keeps_cells decls i p (struct x) q a = ap (λ (z : core.Program). z.cells) (sym a.2)
-keeps_cells decls i p (global x) q a = tt
-keeps_cells decls i p (array x) q a = tt
-keeps_cells decls i p (pool x) q a = tt
-keeps_cells decls i p (init x) q a = ap (λ (z : core.Program). z.cells) (sym a)
-keeps_cells decls i p (atomic x) q a = ap (λ (z : core.Program). z.cells) (sym a.2)
-keeps_cells decls i p (helper x) q a = ap (λ (z : core.Program). z.cells) (sym a.2)
-keeps_cells decls i p (thread x) q a = ap (λ (z : core.Program). z.cells) (sym a.2)
 
 -- ---- numbers
 
@@ -94,16 +47,6 @@ split_less m n C f g = by_test (nat_lt m n) refl
     by_test : (b : Bool) → nat_lt m n ≡ b → C
     by_test true e = f (lt_of m n e)
     by_test false e = g (lt_false m n e)
-
-there : {A : Type 0} (xs : List A) (k : ℕ) → k < length xs → (x : A) × (slice_get xs k ≡ Some x)
-there [] k l = absurd (omega (arith, l))
-there (x ∷ xs) zero l = (x, refl)
-there (x ∷ xs) (suc k) l = there xs k (omega (arith, l))
-
-difference : (n m : ℕ) → n ≤ m → (d : ℕ) × (m ≡ n + d)
-difference zero m l = (m, omega arith)
-difference (suc n) zero l = absurd (omega (arith, l))
-difference (suc n) (suc m) l = let r = difference n m (omega (arith, l)) in let e = r.1 in (r.0, omega (arith, e))
 
 pub one_of : {A : Type 0} (xs : List A) (k : ℕ) (x y : A) → slice_get xs k ≡ Some x → slice_get xs k ≡ Some y → x ≡ y
 one_of {A = A} xs k x y a b = let s : ◌≡◌ {A = Option A} (Some x) (Some y) = sym a ∙ b in cc
@@ -119,15 +62,7 @@ named_members decls x s ms e h = by_decl (the_decl decls x.text) refl e h
     by_decl (Some (n, struct y)) is a b =
         let k : number_at decls n (struct y) ≡ s = cc in
         (y, subst (λ (j : ℕ). the_struct decls j ≡ Some y) k (struct_at decls n y (named_is bears decls x.text n (struct y) is).here), cc)
-    by_decl (Some (n, lock y)) is a b = cc
-    by_decl (Some (n, global y)) is a b = cc
-    by_decl (Some (n, array y)) is a b = cc
-    by_decl (Some (n, pool y)) is a b = cc
-    by_decl (Some (n, init y)) is a b = cc
-    by_decl (Some (n, atomic y)) is a b = cc
-    by_decl (Some (n, helper y)) is a b = cc
-    by_decl (Some (n, thread y)) is a b = cc
-    by_decl None is a b = cc
+    by_decl o is a b = cc
 
 -- ---- objects
 
@@ -144,25 +79,37 @@ pub record New (decls : List Decl) (whole : core.Program) (number : ℕ) (ms : L
   pub own : OwnOf decls whole ms o object
   pub refs : RefsOf decls whole ms object
 
+-- what an object was added to, begins what follows
+begins_object : (decls : List Decl) (number : ℕ) (ms : List Member) (p q whole : core.Program) →
+    Objected decls number ms p q → Begins q whole → Begins p whole
+begins_object decls number ms p q whole w b =
+    begins_on p (held (next_object number p ∷ []) w.finals w.cells) whole
+    (subst (λ (z : core.Program). Begins z whole) w.is b)
+
 object_new : (decls : List Decl) (whole : core.Program) (number : ℕ) (ms : List Member) (p q : core.Program) →
     Objected decls number ms p q → Begins q whole → New decls whole number ms (length p.objects)
 object_new decls whole number ms p q w b =
-    let x : Object = record { pool = number; cells = length p.cells; finals = length p.finals } in
+    let x = next_object number p in
     record {
       object = x;
-      here = b.objects (length p.objects) x (ap (λ (z : core.Program). slice_get z.objects (length p.objects)) w.is ∙ get_last p.objects x []);
+      here = stands (λ z. z.objects) (λ z a. refl) b (length p.objects) x
+          (ap (λ (z : core.Program). slice_get z.objects (length p.objects)) w.is ∙ get_last p.objects x []);
       pool = refl;
       own = λ k f e.
-          (let r = rows_left (CellOf decls (length p.objects)) 0 (fields_in ms) w.cells w.own k f e in (
+          (let r = row_left (CellOf decls (length p.objects)) (fields_in ms) w.cells w.own k f e in (
             r.0,
-            b.cells (length p.cells + k) r.0 (ap (λ (z : core.Program). slice_get z.cells (length p.cells + k)) w.is ∙ get_behind p.cells w.cells k r.0 r.1),
-            subst (λ (j : ℕ). CellOf decls (length p.objects) j f r.0) (let z : 0 + k ≡ k = omega arith in z) r.2,
+            stands (λ z. z.cells) (λ z a. refl) b (length p.cells + k) r.0
+                (ap (λ (z : core.Program). slice_get z.cells (length p.cells + k)) w.is
+                ∙ get_behind p.cells w.cells k r.0 r.1),
+            r.2,
           ));
       refs = λ k f e.
-          (let r = rows_left (FinalOf decls) 0 (finals_in ms) w.finals w.refs k f e in (
+          (let r = row_left (FinalOf decls) (finals_in ms) w.finals w.refs k f e in (
             r.0,
-            b.finals (length p.finals + k) r.0 (ap (λ (z : core.Program). slice_get z.finals (length p.finals + k)) w.is ∙ get_behind p.finals w.finals k r.0 r.1),
-            subst (λ (j : ℕ). FinalOf decls j f r.0) (let z : 0 + k ≡ k = omega arith in z) r.2,
+            stands (λ z. z.finals) (λ z a. refl) b (length p.finals + k) r.0
+                (ap (λ (z : core.Program). slice_get z.finals (length p.finals + k)) w.is
+                ∙ get_behind p.finals w.finals k r.0 r.1),
+            r.2,
           ));
     }
 
@@ -171,7 +118,7 @@ chain_new : (decls : List Decl) (whole : core.Program) (number : ℕ) (ms : List
 chain_new decls whole number ms zero p q c b m less = absurd (omega (arith, less))
 chain_new decls whole number ms (suc n) p q c b m less =
     split_less m n (New decls whole number ms (length p.objects + m))
-    (λ l. chain_new decls whole number ms n p c.0 c.1 (begins_on c.0 q whole (begins_object decls number ms c.0 q c.2) b) m l)
+    (λ l. chain_new decls whole number ms n p c.0 c.1 (begins_object decls number ms c.0 q whole c.2 b) m l)
     (λ l. subst (New decls whole number ms) (let e = chain_objects decls number ms n p c.0 c.1 in let z : length c.0.objects ≡ length p.objects + m = omega (arith, e, l, less) in z) (object_new decls whole number ms c.0 q c.2 b))
 
 -- an object, by its number
@@ -191,91 +138,64 @@ pub record PoolFact (decls : List Decl) (whole : core.Program) (n : ℕ) (x : co
   pub is : the_struct decls x.structure ≡ Some structure
   pub objects : (i : ℕ) → i < x.length → New decls whole n structure.members (x.first + i)
 
-abbrev AllObjects : List Decl → core.Program → core.Program → Type 0
-AllObjects decls whole p = (o : ℕ) (x : Object) → slice_get p.objects o ≡ Some x → ObjectAt decls whole o x
-
-abbrev AllPools : List Decl → core.Program → core.Program → Type 0
-AllPools decls whole p = (n : ℕ) (x : core.Pool) → slice_get p.pools n ≡ Some x → PoolFact decls whole n x
-
 -- the pool that a step adds
-pool_fact : (decls : List Decl) (whole : core.Program) (before : List Decl) (x : Pool) (p q : core.Program) (st : Step decls whole before (pool x) p q) → PoolFact decls whole (length p.pools) (record { name = x.name.text; first = length p.objects; length = x.length.value; structure = st.adds.0 })
-pool_fact decls whole before x p q st =
-    let a = st.adds in
-    let m = named_members decls x.target a.0 a.1 a.2 a.3 in
+pool_fact : (decls : List Decl) (whole : core.Program) (before : List Decl) (x : Pool) (p : core.Program)
+    (st : Step decls whole before (pool x) p) →
+    PoolFact decls whole (length p.pools) (pool_row p x st.news.structure)
+pool_fact decls whole before x p st =
+    let n = st.news in
+    let m = named_members decls x.target n.structure n.members n.named n.are in
     record {
       structure = m.0;
       is = m.1;
-      objects = λ i less. subst (λ (ms : List Member). New decls whole (length p.pools) ms (length p.objects + i)) (sym m.2) (chain_new decls whole (length p.pools) a.1 x.length.value (pool_added p x.name.text (length p.objects) x.length.value a.0) q a.4 st.ends i less);
+      objects = λ i less.
+          subst (λ (ms : List Member). New decls whole (length p.pools) ms (length p.objects + i)) (sym m.2)
+          (chain_new decls whole (length p.pools) n.members x.length.value
+          (record p { pools = p.pools ++ pool_row p x n.structure ∷ [] }) (plus p (added st)) n.chain st.ends i less);
     }
 
-pools_next : (decls : List Decl) (whole : core.Program) (before : List Decl) (d : Decl) (p q : core.Program) →
-    Step decls whole before d p q → AllPools decls whole p → AllPools decls whole q
-pools_next decls whole before (lock y) p q st h n x e = h n x (ap (λ (zs : List core.Pool). slice_get zs n) (sym (keeps_pools decls (length before) p (lock y) q st.adds)) ∙ e)
-pools_next decls whole before (struct y) p q st h n x e = h n x (ap (λ (zs : List core.Pool). slice_get zs n) (sym (keeps_pools decls (length before) p (struct y) q st.adds)) ∙ e)
-pools_next decls whole before (global y) p q st h n x e = h n x (ap (λ (zs : List core.Pool). slice_get zs n) (sym (keeps_pools decls (length before) p (global y) q st.adds)) ∙ e)
-pools_next decls whole before (array y) p q st h n x e = h n x (ap (λ (zs : List core.Pool). slice_get zs n) (sym (keeps_pools decls (length before) p (array y) q st.adds)) ∙ e)
-pools_next decls whole before (pool x) p q st h n y e =
-    let a = st.adds in
-    let z : core.Pool = record { name = x.name.text; first = length p.objects; length = x.length.value; structure = a.0 } in
-    let pools : q.pools ≡ p.pools ++ z ∷ [] = (chain_leaves decls (length p.pools) a.1 x.length.value (pool_added p x.name.text (length p.objects) x.length.value a.0) q a.4).pools in
-    get_pushed p.pools z n y (PoolFact decls whole n y) (ap (λ (zs : List core.Pool). slice_get zs n) (sym pools) ∙ e) (h n y)
-    (λ i same. subst (λ (k : ℕ). PoolFact decls whole k y) (sym i) (subst (PoolFact decls whole (length p.pools)) same (pool_fact decls whole before x p q st)))
-pools_next decls whole before (init y) p q st h n x e = h n x (ap (λ (zs : List core.Pool). slice_get zs n) (sym (keeps_pools decls (length before) p (init y) q st.adds)) ∙ e)
-pools_next decls whole before (atomic y) p q st h n x e = h n x (ap (λ (zs : List core.Pool). slice_get zs n) (sym (keeps_pools decls (length before) p (atomic y) q st.adds)) ∙ e)
-pools_next decls whole before (helper y) p q st h n x e = h n x (ap (λ (zs : List core.Pool). slice_get zs n) (sym (keeps_pools decls (length before) p (helper y) q st.adds)) ∙ e)
-pools_next decls whole before (thread y) p q st h n x e = h n x (ap (λ (zs : List core.Pool). slice_get zs n) (sym (keeps_pools decls (length before) p (thread y) q st.adds)) ∙ e)
-
-no_pools : (decls : List Decl) (whole : core.Program) → AllPools decls whole nothing_yet
-no_pools decls whole k x e = cc
+pools_new : (decls : List Decl) (whole : core.Program) → NewRows decls whole (λ p. p.pools) (PoolFact decls whole)
+pools_new decls whole before (pool x) p st k y e =
+    only (PoolFact decls whole) (length p.pools) (pool_row p x st.news.structure) (pool_fact decls whole before x p st)
+    k y e
+pools_new decls whole before d p st k y e = no_row k y e
 
 pub pools_of : (decls : List Decl) → Clean decls → (whole : core.Program) → AreTables decls whole →
-    AllPools decls whole whole
-pools_of decls clean whole is = walked_whole decls clean whole is (λ b p. AllPools decls whole p) (no_pools decls whole) (pools_next decls whole)
+    (n : ℕ) (x : core.Pool) → slice_get whole.pools n ≡ Some x → PoolFact decls whole n x
+pools_of decls clean whole is =
+    each_row decls clean whole is (λ p. p.pools) (λ p a. refl) refl (PoolFact decls whole) (pools_new decls whole)
 
-objects_next : (decls : List Decl) (whole : core.Program) (before : List Decl) (d : Decl) (p q : core.Program) →
-    Step decls whole before d p q → AllObjects decls whole p → AllObjects decls whole q
-objects_next decls whole before (lock y) p q st h n x e = h n x (ap (λ (zs : List Object). slice_get zs n) (sym (keeps_objects decls (length before) p (lock y) q st.adds)) ∙ e)
-objects_next decls whole before (struct y) p q st h n x e = h n x (ap (λ (zs : List Object). slice_get zs n) (sym (keeps_objects decls (length before) p (struct y) q st.adds)) ∙ e)
-objects_next decls whole before (global y) p q st h n x e = h n x (ap (λ (zs : List Object). slice_get zs n) (sym (keeps_objects decls (length before) p (global y) q st.adds)) ∙ e)
-objects_next decls whole before (array y) p q st h n x e = h n x (ap (λ (zs : List Object). slice_get zs n) (sym (keeps_objects decls (length before) p (array y) q st.adds)) ∙ e)
-objects_next decls whole before (pool x) p q st h o y e =
-    let a = st.adds in
-    let z : core.Pool = record { name = x.name.text; first = length p.objects; length = x.length.value; structure = a.0 } in
-    let p1 = pool_added p x.name.text (length p.objects) x.length.value a.0 in
-    let pools : q.pools ≡ p.pools ++ z ∷ [] = (chain_leaves decls (length p.pools) a.1 x.length.value p1 q a.4).pools in
-    let here : slice_get whole.pools (length p.pools) ≡ Some z = st.ends.pools (length p.pools) z (ap (λ (zs : List core.Pool). slice_get zs (length p.pools)) pools ∙ get_last p.pools z []) in
-    let f = pool_fact decls whole before x p q st in
-    let len : length q.objects ≡ length p.objects + x.length.value = chain_objects decls (length p.pools) a.1 x.length.value p1 q a.4 in
-    let within = slice_get_within q.objects o y e in
-    let in_whole = st.ends.objects o y e in
-    split_less o (length p.objects) (ObjectAt decls whole o y)
-    (λ l. (let t = there p.objects o l in h o y (t.1 ∙ ap Some (one_of whole.objects o t.0 y (st.ends.objects o t.0 (st.begins.objects o t.0 t.1)) in_whole))))
-    (λ l. (let d = difference (length p.objects) o l in
-    let at = d.1 in
-    let less : d.0 < x.length.value = omega (arith, at, within, len) in
-    let new = subst (New decls whole (length p.pools) f.structure.members) (sym at) (f.objects d.0 less) in
-    let same : new.object ≡ y = one_of whole.objects o new.object y new.here in_whole in
+objects_new : (decls : List Decl) (whole : core.Program) →
+    NewRows decls whole (λ p. p.objects) (ObjectAt decls whole)
+objects_new decls whole before (pool x) p st k y e =
+    let n = st.news in
+    let z = pool_row p x n.structure in
+    let f = pool_fact decls whole before x p st in
+    let within = slice_get_within n.objects k y e in
+    let size = new_objects decls (length before) p (pool x) n in
+    let less : k < x.length.value = omega (arith, within, size) in
+    let new = f.objects k less in
+    let there = stands (λ z. z.objects) (λ z a. refl) st.ends (length p.objects + k) y
+    (get_behind p.objects n.objects k y e) in
+    let same : new.object ≡ y = one_of whole.objects (length p.objects + k) new.object y new.here there in
     record {
       pool = z;
-      there = subst (λ (k : ℕ). slice_get whole.pools k ≡ Some z) (sym new.pool ∙ ap (λ (w : Object). w.pool) same) here;
-      from = l;
-      to = (let g : o < length p.objects + x.length.value = omega (arith, within, len) in g);
+      there = subst (λ (m : ℕ). slice_get whole.pools m ≡ Some z) (sym new.pool ∙ ap (λ (w : Object). w.pool) same)
+          (stands (λ z. z.pools) (λ z a. refl) st.ends (length p.pools) z (get_last p.pools z []));
+      from = omega arith;
+      to = omega (arith, less);
       structure = f.structure;
       is = f.is;
-      own = subst (OwnOf decls whole f.structure.members o) same new.own;
+      own = subst (OwnOf decls whole f.structure.members (length p.objects + k)) same new.own;
       refs = subst (RefsOf decls whole f.structure.members) same new.refs;
-    }))
-objects_next decls whole before (init y) p q st h n x e = h n x (ap (λ (zs : List Object). slice_get zs n) (sym (keeps_objects decls (length before) p (init y) q st.adds)) ∙ e)
-objects_next decls whole before (atomic y) p q st h n x e = h n x (ap (λ (zs : List Object). slice_get zs n) (sym (keeps_objects decls (length before) p (atomic y) q st.adds)) ∙ e)
-objects_next decls whole before (helper y) p q st h n x e = h n x (ap (λ (zs : List Object). slice_get zs n) (sym (keeps_objects decls (length before) p (helper y) q st.adds)) ∙ e)
-objects_next decls whole before (thread y) p q st h n x e = h n x (ap (λ (zs : List Object). slice_get zs n) (sym (keeps_objects decls (length before) p (thread y) q st.adds)) ∙ e)
-
-no_objects : (decls : List Decl) (whole : core.Program) → AllObjects decls whole nothing_yet
-no_objects decls whole k x e = cc
+    }
+objects_new decls whole before d p st k y e = no_row k y e
 
 pub objects_of_program : (decls : List Decl) → Clean decls → (whole : core.Program) → AreTables decls whole →
-    AllObjects decls whole whole
-objects_of_program decls clean whole is = walked_whole decls clean whole is (λ b p. AllObjects decls whole p) (no_objects decls whole) (objects_next decls whole)
+    (o : ℕ) (x : Object) → slice_get whole.objects o ≡ Some x → ObjectAt decls whole o x
+objects_of_program decls clean whole is =
+    each_row decls clean whole is (λ p. p.objects) (λ p a. refl) refl (ObjectAt decls whole)
+    (objects_new decls whole)
 
 -- ---- globals and arrays
 
@@ -285,81 +205,62 @@ GlobalFact whole g x = (c : Cell) × (slice_get whole.cells x.cell ≡ Some c) �
 abbrev pub ArrayFact : core.Program → ℕ → core.Array → Type 0
 ArrayFact whole n x = (i : ℕ) → i < x.length → (c : Cell) × (slice_get whole.cells (x.first + i) ≡ Some c) × (c.owner ≡ owner.Element n i) × (c.value_type ≡ x.element_type)
 
-abbrev AllGlobals : core.Program → core.Program → Type 0
-AllGlobals whole p = (g : ℕ) (x : core.GlobalVariable) → slice_get p.globals g ≡ Some x → GlobalFact whole g x
-
-abbrev AllArrays : core.Program → core.Program → Type 0
-AllArrays whole p = (n : ℕ) (x : core.Array) → slice_get p.arrays n ≡ Some x → ArrayFact whole n x
-
-globals_next : (decls : List Decl) (whole : core.Program) (before : List Decl) (d : Decl) (p q : core.Program) →
-    Step decls whole before d p q → AllGlobals whole p → AllGlobals whole q
-globals_next decls whole before (lock y) p q st h n x e = h n x (ap (λ (zs : List core.GlobalVariable). slice_get zs n) (sym (keeps_globals decls (length before) p (lock y) q st.adds)) ∙ e)
-globals_next decls whole before (struct y) p q st h n x e = h n x (ap (λ (zs : List core.GlobalVariable). slice_get zs n) (sym (keeps_globals decls (length before) p (struct y) q st.adds)) ∙ e)
-globals_next decls whole before (global v) p q st h n y e =
-    let a = st.adds in
-    let z : core.GlobalVariable = record { name = v.name.text; cell = length p.cells; class = a.0 } in
-    let c : Cell = record { owner = owner.Global (length p.globals); value_type = a.1; opening = a.2 } in
-    let here : slice_get whole.cells (length p.cells) ≡ Some c = st.ends.cells (length p.cells) c (subst (λ (w : core.Program). slice_get w.cells (length p.cells) ≡ Some c) a.7 (get_last p.cells c [])) in
-    get_pushed p.globals z n y (GlobalFact whole n y) (ap (λ (w : core.Program). slice_get w.globals n) a.7 ∙ e) (h n y)
-    (λ i same. subst (GlobalFact whole n) same (c, here, ap owner.Global (sym i)))
-globals_next decls whole before (array y) p q st h n x e = h n x (ap (λ (zs : List core.GlobalVariable). slice_get zs n) (sym (keeps_globals decls (length before) p (array y) q st.adds)) ∙ e)
-globals_next decls whole before (pool y) p q st h n x e = h n x (ap (λ (zs : List core.GlobalVariable). slice_get zs n) (sym (keeps_globals decls (length before) p (pool y) q st.adds)) ∙ e)
-globals_next decls whole before (init y) p q st h n x e = h n x (ap (λ (zs : List core.GlobalVariable). slice_get zs n) (sym (keeps_globals decls (length before) p (init y) q st.adds)) ∙ e)
-globals_next decls whole before (atomic y) p q st h n x e = h n x (ap (λ (zs : List core.GlobalVariable). slice_get zs n) (sym (keeps_globals decls (length before) p (atomic y) q st.adds)) ∙ e)
-globals_next decls whole before (helper y) p q st h n x e = h n x (ap (λ (zs : List core.GlobalVariable). slice_get zs n) (sym (keeps_globals decls (length before) p (helper y) q st.adds)) ∙ e)
-globals_next decls whole before (thread y) p q st h n x e = h n x (ap (λ (zs : List core.GlobalVariable). slice_get zs n) (sym (keeps_globals decls (length before) p (thread y) q st.adds)) ∙ e)
-
-no_globals : (whole : core.Program) → AllGlobals whole nothing_yet
-no_globals whole k x e = cc
+globals_new : (decls : List Decl) (whole : core.Program) → NewRows decls whole (λ p. p.globals) (GlobalFact whole)
+globals_new decls whole before (global v) p st k x e =
+    let n = st.news in
+    let c = global_cell p n.1 n.2 in
+    only (GlobalFact whole) (length p.globals) (global_row p v n.0)
+    (c, stands (λ z. z.cells) (λ z a. refl) st.ends (length p.cells) c (get_last p.cells c []), refl) k x e
+globals_new decls whole before d p st k x e = no_row k x e
 
 pub globals_of : (decls : List Decl) → Clean decls → (whole : core.Program) → AreTables decls whole →
-    AllGlobals whole whole
-globals_of decls clean whole is = walked_whole decls clean whole is (λ b p. AllGlobals whole p) (no_globals whole) (globals_next decls whole)
+    (g : ℕ) (x : core.GlobalVariable) → slice_get whole.globals g ≡ Some x → GlobalFact whole g x
+globals_of decls clean whole is =
+    each_row decls clean whole is (λ p. p.globals) (λ p a. refl) refl (GlobalFact whole) (globals_new decls whole)
 
-element_at : (whole p : core.Program) (a : ℕ) (t : core_type.ValueType) (n : ℕ) →
-    Begins (with_elements p a t n) whole → (i : ℕ) → i < n →
-    slice_get whole.cells (length p.cells + i) ≡ Some (record { owner = owner.Element a i; value_type = t; opening = default_of t })
-element_at whole p a t zero b i less = absurd (omega (arith, less))
-element_at whole p a t (suc n) b i less =
-    let m = with_elements p a t n in
-    let c : ℕ → Cell = λ k. record { owner = owner.Element a k; value_type = t; opening = default_of t } in
-    split_less i n (slice_get whole.cells (length p.cells + i) ≡ Some (c i))
-    (λ l. element_at whole p a t n (begins_on m (with_elements p a t (suc n)) whole (begins_cell m (c n)) b) i l)
-    (λ l. (let same : n ≡ i = omega (arith, l, less) in
-    let e = elements_cells p a t n in
-    let place : length m.cells ≡ length p.cells + i = omega (arith, e, same) in
-    subst (λ (k : ℕ). slice_get whole.cells k ≡ Some (c i)) place (b.cells (length m.cells) (c n) (get_last m.cells (c n) []) ∙ ap (λ (k : ℕ). Some (c k)) same)))
+abbrev element : ℕ → core_type.ValueType → ℕ → Cell
+element a t i = record { owner = owner.Element a i; value_type = t; opening = default_of t }
 
-arrays_next : (decls : List Decl) (whole : core.Program) (before : List Decl) (d : Decl) (p q : core.Program) →
-    Step decls whole before d p q → AllArrays whole p → AllArrays whole q
-arrays_next decls whole before (lock y) p q st h n x e = h n x (ap (λ (zs : List core.Array). slice_get zs n) (sym (keeps_arrays decls (length before) p (lock y) q st.adds)) ∙ e)
-arrays_next decls whole before (struct y) p q st h n x e = h n x (ap (λ (zs : List core.Array). slice_get zs n) (sym (keeps_arrays decls (length before) p (struct y) q st.adds)) ∙ e)
-arrays_next decls whole before (global y) p q st h n x e = h n x (ap (λ (zs : List core.Array). slice_get zs n) (sym (keeps_arrays decls (length before) p (global y) q st.adds)) ∙ e)
-arrays_next decls whole before (array x) p q st h n y e =
-    let a = st.adds in
-    let z : core.Array = record { name = x.name.text; first = length p.cells; length = x.length.value; element_type = a.1; class = a.0 } in
-    let p1 = array_added p x.name.text (length p.cells) x.length.value a.1 a.0 in
-    let arrays : q.arrays ≡ p.arrays ++ z ∷ [] = ap (λ (w : core.Program). w.arrays) (sym a.4) ∙ (elements_leave p1 (length p.arrays) a.1 x.length.value).arrays in
-    get_pushed p.arrays z n y (ArrayFact whole n y) (ap (λ (zs : List core.Array). slice_get zs n) (sym arrays) ∙ e) (h n y)
-    (λ i same. subst (ArrayFact whole n) same
-    (λ j less. (record { owner = owner.Element (length p.arrays) j; value_type = a.1; opening = default_of a.1 }, element_at whole p1 (length p.arrays) a.1 x.length.value (subst (λ (w : core.Program). Begins w whole) (sym a.4) st.ends) j less, ap (λ (k : ℕ). owner.Element k j) (sym i), refl)))
-arrays_next decls whole before (pool y) p q st h n x e = h n x (ap (λ (zs : List core.Array). slice_get zs n) (sym (keeps_arrays decls (length before) p (pool y) q st.adds)) ∙ e)
-arrays_next decls whole before (init y) p q st h n x e = h n x (ap (λ (zs : List core.Array). slice_get zs n) (sym (keeps_arrays decls (length before) p (init y) q st.adds)) ∙ e)
-arrays_next decls whole before (atomic y) p q st h n x e = h n x (ap (λ (zs : List core.Array). slice_get zs n) (sym (keeps_arrays decls (length before) p (atomic y) q st.adds)) ∙ e)
-arrays_next decls whole before (helper y) p q st h n x e = h n x (ap (λ (zs : List core.Array). slice_get zs n) (sym (keeps_arrays decls (length before) p (helper y) q st.adds)) ∙ e)
-arrays_next decls whole before (thread y) p q st h n x e = h n x (ap (λ (zs : List core.Array). slice_get zs n) (sym (keeps_arrays decls (length before) p (thread y) q st.adds)) ∙ e)
+element_at : (a : ℕ) (t : core_type.ValueType) (n i : ℕ) → i < n → slice_get (elements a t n) i ≡ Some (element a t i)
+element_at a t zero i less = absurd (omega (arith, less))
+element_at a t (suc n) i less =
+    let len = elements_length a t n in
+    split_less i n (slice_get (elements a t (suc n)) i ≡ Some (element a t i))
+    (λ l. grows_more (elements a t n) (element a t n ∷ []) i (element a t i) (element_at a t n i l))
+    (λ l. (let here : length (elements a t n) ≡ i = omega (arith, l, less, len) in
+    let same : n ≡ i = omega (arith, l, less) in
+    subst (λ (k : ℕ). slice_get (elements a t (suc n)) k ≡ Some (element a t k)) same
+    (subst (λ (k : ℕ). slice_get (elements a t (suc n)) k ≡ Some (element a t n)) len
+    (get_last (elements a t n) (element a t n) []))))
 
-no_arrays : (whole : core.Program) → AllArrays whole nothing_yet
-no_arrays whole k x e = cc
+arrays_new : (decls : List Decl) (whole : core.Program) → NewRows decls whole (λ p. p.arrays) (ArrayFact whole)
+arrays_new decls whole before (array x) p st k y e =
+    let n = st.news in
+    let a = length p.arrays in
+    let cs = elements a n.1 x.length.value in
+    only (ArrayFact whole) a (array_row p x n.0 n.1)
+    (λ i less. (
+      element a n.1 i,
+      stands (λ z. z.cells) (λ z a. refl) st.ends (length p.cells + i) (element a n.1 i)
+          (get_behind p.cells cs i (element a n.1 i) (element_at a n.1 x.length.value i less)),
+      refl,
+      refl,
+    )) k y e
+arrays_new decls whole before d p st k y e = no_row k y e
 
 pub arrays_of : (decls : List Decl) → Clean decls → (whole : core.Program) → AreTables decls whole →
-    AllArrays whole whole
-arrays_of decls clean whole is = walked_whole decls clean whole is (λ b p. AllArrays whole p) (no_arrays whole) (arrays_next decls whole)
+    (n : ℕ) (x : core.Array) → slice_get whole.arrays n ≡ Some x → ArrayFact whole n x
+arrays_of decls clean whole is =
+    each_row decls clean whole is (λ p. p.arrays) (λ p a. refl) refl (ArrayFact whole) (arrays_new decls whole)
 
 -- ---- the cells
 
 abbrev pub struct_in : core.Program → ℕ → Option ℕ
 struct_in p o = slice_get p.objects o >>= λ x. slice_get p.pools x.pool >>= λ y. Some y.structure
+
+pub struct_of_object : (p : core.Program) (o n : ℕ) (x : Object) (y : core.Pool) → slice_get p.objects o ≡ Some x →
+    x.pool ≡ n → slice_get p.pools n ≡ Some y → struct_in p o ≡ Some y.structure
+struct_of_object p o n x y at number row = rw (at, number, row) refl
 
 abbrev pub OwnerFact : core.Program → ℕ → Owner → Type 0
 OwnerFact whole place (owner.Global g) = (x : core.GlobalVariable) × (slice_get whole.globals g ≡ Some x) × (place ≡ x.cell)
@@ -369,19 +270,8 @@ OwnerFact whole place (owner.Field o f) =
 
 -- a cell has its owner, and opens with a value that some constant or none gives
 abbrev pub CellFact : List Decl → core.Program → ℕ → Cell → Type 0
-CellFact decls whole place c = OwnerFact whole place c.owner × ((g : Option Const) × (opened decls c.value_type g ≡ Some c.opening))
-
-abbrev AllCells : List Decl → core.Program → core.Program → Type 0
-AllCells decls whole p = (n : ℕ) (c : Cell) → slice_get p.cells n ≡ Some c → CellFact decls whole n c
-
-elements_fact : (decls : List Decl) (whole p : core.Program) (a : ℕ) (t : core_type.ValueType) (n : ℕ) (x : core.Array) → slice_get whole.arrays a ≡ Some x → x.first ≡ length p.cells → n ≤ x.length → AllCells decls whole p → AllCells decls whole (with_elements p a t n)
-elements_fact decls whole p a t zero x at first le h k c e = h k c e
-elements_fact decls whole p a t (suc n) x at first le h k c e =
-    let m = with_elements p a t n in
-    let z : Cell = record { owner = owner.Element a n; value_type = t; opening = default_of t } in
-    let len = elements_cells p a t n in
-    get_pushed m.cells z k c (CellFact decls whole k c) e (elements_fact decls whole p a t n x at first (omega (arith, le)) h k c)
-    (λ i same. subst (CellFact decls whole k) same ((x, at, (let l : n < x.length = omega (arith, le) in l), (let l : k ≡ x.first + n = omega (arith, i, len, first) in l)), (None, refl)))
+CellFact decls whole place c =
+    OwnerFact whole place c.owner × ((g : Option Const) × Opens decls c.value_type g c.opening)
 
 -- what is known of each new cell of an object
 abbrev Fresh : List Decl → core.Program → ℕ → List Member → Type 0
@@ -389,64 +279,65 @@ Fresh decls whole number ms = (o : ℕ) (x : Object) → slice_get whole.objects
 
 chain_fact : (decls : List Decl) (whole : core.Program) (number : ℕ) (ms : List Member) →
     Fresh decls whole number ms → (n : ℕ) (p q : core.Program) → Chain decls number ms n p q → Begins q whole →
-    AllCells decls whole p → AllCells decls whole q
-chain_fact decls whole number ms fresh zero p q c b h k y e = subst (AllCells decls whole) c h k y e
-chain_fact decls whole number ms fresh (suc n) p q c b h k y e =
+    (k : ℕ) (y : Cell) → length p.cells ≤ k → slice_get q.cells k ≡ Some y → CellFact decls whole k y
+chain_fact decls whole number ms fresh zero p q c b k y from e =
+    let within = slice_get_within p.cells k y (ap (λ (v : core.Program). slice_get v.cells k) c ∙ e) in
+    absurd (omega (arith, within, from))
+chain_fact decls whole number ms fresh (suc n) p q c b k y from e =
     let m = c.0 in
     let w = c.2 in
-    let z : Object = record { pool = number; cells = length m.cells; finals = length m.finals } in
-    let before = chain_fact decls whole number ms fresh n p m c.1 (begins_on m q whole (begins_object decls number ms m q w) b) h in
-    let here : slice_get whole.objects (length m.objects) ≡ Some z = b.objects (length m.objects) z (ap (λ (v : core.Program). slice_get v.objects (length m.objects)) w.is ∙ get_last m.objects z []) in
-    get_parts m.cells w.cells k y (CellFact decls whole k y) (ap (λ (v : core.Program). slice_get v.cells k) (sym w.is) ∙ e) (before k y)
-    (λ d. (let r = rows_right (CellOf decls (length m.objects)) 0 (fields_in ms) w.cells w.own d.by y d.here in
-    subst (λ (j : ℕ). CellFact decls whole j y) (sym d.place)
-    (fresh (length m.objects) z here refl d.by r.0 y r.1 (subst (λ (j : ℕ). CellOf decls (length m.objects) j r.0 y) (let g : 0 + d.by ≡ d.by = omega arith in g) r.2))))
+    let o = length m.objects in
+    let z = next_object number m in
+    let before = begins_object decls number ms m q whole w b in
+    let here = stands (λ z. z.objects) (λ z a. refl) b o z
+    (ap (λ (v : core.Program). slice_get v.objects o) w.is ∙ get_last m.objects z []) in
+    get_parts m.cells w.cells k y (CellFact decls whole k y)
+    (ap (λ (v : core.Program). slice_get v.cells k) (sym w.is) ∙ e)
+    (chain_fact decls whole number ms fresh n p m c.1 before k y from)
+    (λ d. (let r = row_right (CellOf decls o) (fields_in ms) w.cells w.own d.by y d.here in
+    subst (λ (j : ℕ). CellFact decls whole j y) (sym d.place) (fresh o z here refl d.by r.0 y r.1 r.2)))
 
-cells_next : (decls : List Decl) → Clean decls → (whole : core.Program) → AreTables decls whole →
-    (before : List Decl) (d : Decl) (p q : core.Program) → Step decls whole before d p q → AllCells decls whole p →
-    AllCells decls whole q
-cells_next decls clean whole is before (lock y) p q st h n c e = h n c (ap (λ (zs : List Cell). slice_get zs n) (sym (keeps_cells decls (length before) p (lock y) q st.adds)) ∙ e)
-cells_next decls clean whole is before (struct y) p q st h n c e = h n c (ap (λ (zs : List Cell). slice_get zs n) (sym (keeps_cells decls (length before) p (struct y) q st.adds)) ∙ e)
-cells_next decls clean whole is before (global v) p q st h n c e =
-    let a = st.adds in
-    let x : core.GlobalVariable = record { name = v.name.text; cell = length p.cells; class = a.0 } in
-    let z : Cell = record { owner = owner.Global (length p.globals); value_type = a.1; opening = a.2 } in
-    let here : slice_get whole.globals (length p.globals) ≡ Some x = st.ends.globals (length p.globals) x (subst (λ (w : core.Program). slice_get w.globals (length p.globals) ≡ Some x) a.7 (get_last p.globals x [])) in
-    get_pushed p.cells z n c (CellFact decls whole n c) (ap (λ (w : core.Program). slice_get w.cells n) a.7 ∙ e) (h n c)
-    (λ i same. subst (CellFact decls whole n) same ((x, here, i), (v.value, a.5)))
-cells_next decls clean whole is before (array x) p q st h n c e =
-    let a = st.adds in
-    let z : core.Array = record { name = x.name.text; first = length p.cells; length = x.length.value; element_type = a.1; class = a.0 } in
-    let p1 = array_added p x.name.text (length p.cells) x.length.value a.1 a.0 in
-    let arrays : q.arrays ≡ p.arrays ++ z ∷ [] = ap (λ (w : core.Program). w.arrays) (sym a.4) ∙ (elements_leave p1 (length p.arrays) a.1 x.length.value).arrays in
-    let here : slice_get whole.arrays (length p.arrays) ≡ Some z = st.ends.arrays (length p.arrays) z (ap (λ (zs : List core.Array). slice_get zs (length p.arrays)) arrays ∙ get_last p.arrays z []) in
-    subst (AllCells decls whole) a.4 (elements_fact decls whole p1 (length p.arrays) a.1 x.length.value z here refl (omega arith) h) n c e
-cells_next decls clean whole is before (pool x) p q st h n c0 e =
-    let a = st.adds in
-    let z : core.Pool = record { name = x.name.text; first = length p.objects; length = x.length.value; structure = a.0 } in
-    let p1 = pool_added p x.name.text (length p.objects) x.length.value a.0 in
-    let pools : q.pools ≡ p.pools ++ z ∷ [] = (chain_leaves decls (length p.pools) a.1 x.length.value p1 q a.4).pools in
-    let here : slice_get whole.pools (length p.pools) ≡ Some z = st.ends.pools (length p.pools) z (ap (λ (zs : List core.Pool). slice_get zs (length p.pools)) pools ∙ get_last p.pools z []) in
-    let m = named_members decls x.target a.0 a.1 a.2 a.3 in
-    let y = struct_of_number decls clean whole is a.0 m.0 m.1 in
-    chain_fact decls whole (length p.pools) a.1
+cells_new : (decls : List Decl) → Clean decls → (whole : core.Program) → AreTables decls whole →
+    NewRows decls whole (λ p. p.cells) (CellFact decls whole)
+cells_new decls clean whole is before (global v) p st k c e =
+    let n = st.news in
+    let x = global_row p v n.0 in
+    let here = stands (λ z. z.globals) (λ z a. refl) st.ends (length p.globals) x (get_last p.globals x []) in
+    only (CellFact decls whole) (length p.cells) (global_cell p n.1 n.2) ((x, here, refl), (v.value, n.5)) k c e
+cells_new decls clean whole is before (array x) p st k c e =
+    let n = st.news in
+    let a = length p.arrays in
+    let y = array_row p x n.0 n.1 in
+    let within = slice_get_within (elements a n.1 x.length.value) k c e in
+    let len = elements_length a n.1 x.length.value in
+    let less : k < x.length.value = omega (arith, within, len) in
+    let same = one_of (elements a n.1 x.length.value) k (element a n.1 k) c
+    (element_at a n.1 x.length.value k less) e in
+    subst (CellFact decls whole (length p.cells + k)) same
+    ((y, stands (λ z. z.arrays) (λ z a. refl) st.ends a y (get_last p.arrays y []), less, refl), (None, by_default))
+cells_new decls clean whole is before (pool x) p st k0 c e =
+    let a = st.news in
+    let z = pool_row p x a.structure in
+    let here = stands (λ z. z.pools) (λ z a. refl) st.ends (length p.pools) z (get_last p.pools z []) in
+    let m = named_members decls x.target a.structure a.members a.named a.are in
+    let y = struct_of_number decls clean whole is a.structure m.0 m.1 in
+    chain_fact decls whole (length p.pools) a.members
     (λ o w at in_pool k f c has of.
-    (let r = rows_left (FieldRow decls y.2.place m.0.members) 0 (fields_in m.0.members) y.0.fields y.2.fields k f (ap (λ (ms : List Member). slice_get (fields_in ms) k) m.2 ∙ has) in
-    let structure : struct_in whole o ≡ Some a.0 = ap (λ (t : Option Object). t >>= λ u. slice_get whole.pools u.pool >>= λ v. Some v.structure) at ∙ ap (λ (t : ℕ). slice_get whole.pools t >>= λ v. Some v.structure) in_pool ∙ ap (λ (t : Option core.Pool). t >>= λ v. Some v.structure) here in
-    let field : field_in whole a.0 k ≡ Some r.0.value_type = ap (λ (t : Option core.Struct). t >>= λ u. slice_get u.fields k >>= λ v. Some v.value_type) y.1 ∙ ap (λ (t : Option core.Field). t >>= λ v. Some v.value_type) r.1 in
-    subst (CellFact decls whole (w.cells + k)) (sym of.5) ((w, at, refl, (a.0, r.0.value_type, structure, field)), (of.2, of.4))))
-    x.length.value p1 q a.4 st.ends h n c0 e
-cells_next decls clean whole is before (init y) p q st h n c e = h n c (ap (λ (zs : List Cell). slice_get zs n) (sym (keeps_cells decls (length before) p (init y) q st.adds)) ∙ e)
-cells_next decls clean whole is before (atomic y) p q st h n c e = h n c (ap (λ (zs : List Cell). slice_get zs n) (sym (keeps_cells decls (length before) p (atomic y) q st.adds)) ∙ e)
-cells_next decls clean whole is before (helper y) p q st h n c e = h n c (ap (λ (zs : List Cell). slice_get zs n) (sym (keeps_cells decls (length before) p (helper y) q st.adds)) ∙ e)
-cells_next decls clean whole is before (thread y) p q st h n c e = h n c (ap (λ (zs : List Cell). slice_get zs n) (sym (keeps_cells decls (length before) p (thread y) q st.adds)) ∙ e)
-
-no_cells : (decls : List Decl) (whole : core.Program) → AllCells decls whole nothing_yet
-no_cells decls whole k x e = cc
+    (let r = row_left (FieldRow decls y.2.place m.0.members) (fields_in m.0.members) y.0.fields y.2.fields k f
+    (ap (λ (ms : List Member). slice_get (fields_in ms) k) m.2 ∙ has) in
+    let structure = struct_of_object whole o (length p.pools) w z at in_pool here in
+    let field : field_in whole a.structure k ≡ Some r.0.value_type = rw (y.1, r.1) refl in
+    subst (CellFact decls whole (w.cells + k)) (sym of.5)
+    ((w, at, refl, (a.structure, r.0.value_type, structure, field)), (of.2, of.4))))
+    x.length.value (record p { pools = p.pools ++ z ∷ [] }) (plus p (added st)) a.chain st.ends (length p.cells + k0) c
+    (omega arith) (get_behind p.cells a.cells k0 c e)
+cells_new decls clean whole is before d p st k c e = no_row k c e
 
 pub cells_of_program : (decls : List Decl) → Clean decls → (whole : core.Program) → AreTables decls whole →
-    AllCells decls whole whole
-cells_of_program decls clean whole is = walked_whole decls clean whole is (λ b p. AllCells decls whole p) (no_cells decls whole) (cells_next decls clean whole is)
+    (n : ℕ) (c : Cell) → slice_get whole.cells n ≡ Some c → CellFact decls whole n c
+cells_of_program decls clean whole is =
+    each_row decls clean whole is (λ p. p.cells) (λ p a. refl) refl (CellFact decls whole)
+    (cells_new decls clean whole is)
 
 -- ---- values
 
@@ -470,25 +361,10 @@ member_is_of decls clean whole is i x n s at less named =
     let p = pool_at decls clean whole is i x at in
     let f = pools_of decls clean whole is (number_at decls i (pool x)) (record { name = x.name.text; first = objects_ahead decls i; length = x.length.value; structure = p.structure }) p.here in
     let new = f.objects n less in
-    let within = slice_get_within whole.objects (objects_ahead decls i + n) new.object new.here in
     let few = few_objects decls clean whole is in
-    let place : objects_ahead decls i + n ≡ object_of decls i n = sym (under (objects_ahead decls i + n) OBJECT_LIMIT (let z : objects_ahead decls i + n ≤ OBJECT_LIMIT = omega (arith, within, few) in z)) in
-    let same : Some p.structure ≡ Some s = sym p.named ∙ named in
-    subst (λ (k : ℕ). struct_in whole k ≡ Some s) place
-    (ap (λ (t : Option Object). t >>= λ u. slice_get whole.pools u.pool >>= λ v. Some v.structure) new.here ∙ ap (λ (t : ℕ). slice_get whole.pools t >>= λ v. Some v.structure) new.pool ∙ ap (λ (t : Option core.Pool). t >>= λ v. Some v.structure) p.here ∙ same)
-
-if_holds : (b : Bool) (v w : Option Value) (u : Value) → (if b then v else None) ≡ Some u → (b ≡ true) × (v ≡ Some u)
-if_holds true v w u e = (refl, e)
-if_holds false v w u e = cc
-
-fitting_got : (t : core_type.ValueType) (o : Option Sort) (v : Option Value) (u : Value) →
-    if_fitting (wanted.Value t) o v ≡ Some u → (s : Sort) × (o ≡ Some s) × (fits_type t s ≡ true) × (v ≡ Some u)
-fitting_got t (Some s) v u e = let r = if_holds (fits_type t s) v v u e in (s, refl, r.0, r.1)
-fitting_got t None v u e = cc
-
-sort_got : (o : Option ℤ) (s : Sort) → number_sort o ≡ Some s → s ≡ sort.Of Integer
-sort_got (Some z) s e = let h : sort.Of Integer ≡ s = cc in sym h
-sort_got None s e = cc
+    let here = at_most whole.objects (objects_ahead decls i + n) OBJECT_LIMIT new.object few new.here in
+    struct_of_object whole (object_of decls i n) (number_at decls i (pool x)) new.object _ here new.pool p.here
+    ∙ sym p.named ∙ named
 
 number_holds : (p : core.Program) (t : core_type.ValueType) (z : ℤ) → fits_type t (sort.Of Integer) ≡ true →
     Holds p t (Int z)
@@ -504,72 +380,39 @@ object_holds : (p : core.Program) (t : core_type.ValueType) (s o : ℕ) → fits
 object_holds p Integer s o e h = cc
 object_holds p (Reference r) s o e h = h ∙ ap Some (sym (eqb-true r s e))
 
-reference_got : (o : Option ℕ) (s : Sort) → reference_sort o ≡ Some s →
-    (k : ℕ) × (o ≡ Some k) × (s ≡ sort.Of (Reference k))
-reference_got (Some k) s e = (k, refl, let h : sort.Of (Reference k) ≡ s = cc in sym h)
-reference_got None s e = cc
-
 module _ (decls : List Decl) (clean : Clean decls) (whole : core.Program) (is : AreTables decls whole) where
-  member_holds : (t : core_type.ValueType) (n : ℕ) (o : Option (ℕ × Decl)) →
-      ((i : ℕ) (x : Pool) → ◌≡◌ {A = Option (ℕ × Decl)} o (Some (i, pool x)) → slice_get decls i ≡ Some (pool x)) →
-      (s : Sort) → member_sort decls o ≡ Some s → fits_type t s ≡ true → (u : Value) → member_of decls o n ≡ Some u →
-      Holds whole t u
-  member_holds t n (Some (i, pool x)) up s e fit u v =
-      let r = reference_got (struct_named decls x.target) s e in
-      let w = if_holds (nat_lt n x.length.value) (Some (Ref (Some (object_of decls i n)))) None u v in
-      let f : fits_type t (sort.Of (Reference r.0)) ≡ true = ap (fits_type t) (sym r.2) ∙ fit in
-      let same : Ref (Some (object_of decls i n)) ≡ u = (let h = w.1 in cc) in
-      subst (Holds whole t) same (object_holds whole t r.0 (object_of decls i n) f (member_is_of decls clean whole is i x n r.0 (up i x refl) (lt_of n x.length.value w.0) r.1))
-  member_holds t n (Some (i, lock x)) up s e fit u v = cc
-  member_holds t n (Some (i, struct x)) up s e fit u v = cc
-  member_holds t n (Some (i, global x)) up s e fit u v = cc
-  member_holds t n (Some (i, array x)) up s e fit u v = cc
-  member_holds t n (Some (i, init x)) up s e fit u v = cc
-  member_holds t n (Some (i, atomic x)) up s e fit u v = cc
-  member_holds t n (Some (i, helper x)) up s e fit u v = cc
-  member_holds t n (Some (i, thread x)) up s e fit u v = cc
-  member_holds t n None up s e fit u v = cc
-
-  const_by : (t : core_type.ValueType) (c : Const) (s : Sort) → const_sort decls c ≡ Some s → fits_type t s ≡ true →
-      (u : Value) → const_value decls c ≡ Some u → Holds whole t u
-  const_by t (int_const n) s e fit u v =
-      let r = bind_got (number_value n) (λ z. Some (Int z)) u v in
-      let k = sort_got (number_value n) s e in
-      let same : Int r.0 ≡ u = (let h = r.2 in cc) in
-      subst (Holds whole t) same (number_holds whole t r.0 (ap (fits_type t) (sym k) ∙ fit))
-  const_by t (negative at n) s e fit u v =
-      let r = bind_got (number_value n) (λ z. Some (Int (neg_ℤ z))) u v in
-      let k = sort_got (number_value n) s e in
-      let same : Int (neg_ℤ r.0) ≡ u = (let h = r.2 in cc) in
-      subst (Holds whole t) same (number_holds whole t (neg_ℤ r.0) (ap (fits_type t) (sym k) ∙ fit))
-  const_by t (null_const at) s e fit u v =
-      let k : sort.Null ≡ s = cc in
-      let same : Ref None ≡ u = cc in
-      subst (Holds whole t) same (null_holds whole t (ap (fits_type t) k ∙ fit))
-  const_by t (member_const x n) s e fit u v = member_holds t n.value (the_decl decls x.text) (λ i y h. (named_is bears decls x.text i (pool y) h).here) s e fit u v
+  denoted_holds : (t : core_type.ValueType) (c : Const) (s : Sort) (u : Value) → IsOfSort decls c s →
+      fits_type t s ≡ true → Denotes decls c u → Holds whole t u
+  denoted_holds t c s u (number_sort l) fit (a_number {n = n}) = number_holds whole t (pos n.value) fit
+  denoted_holds t c s u (negative_sort l) fit (a_negative {n = n}) =
+      number_holds whole t (neg_ℤ (pos n.value)) fit
+  denoted_holds t c s u null_sort fit no_object = null_holds whole t fit
+  denoted_holds t c s u (member_sort {x = x} {i = i} {s = k} {p = p} e named) fit
+      (an_object {n = n} {i = j} {p = q} g less) =
+      let same : ◌≡◌ {A = Option (ℕ × Decl)} (Some (i, pool p)) (Some (j, pool q)) = sym e ∙ g in
+      let both : ◌≡◌ {A = ℕ × Decl} (i, pool p) (j, pool q) = cc in
+      let decl : pool p ≡ pool q = ap (λ (y : ℕ × Decl). y.1) both in
+      let pools : p ≡ q = cc in
+      let target : struct_named decls q.target ≡ Some k =
+      ap (λ (r : Pool). struct_named decls r.target) (sym pools) ∙ named in
+      object_holds whole t k (object_of decls j n.value) fit
+      (member_is_of decls clean whole is j q n.value k (named_is bears decls x.text j (pool q) g).here less target)
 
   -- a constant that is given where a type is wanted is of the type
-  pub const_holds : (t : core_type.ValueType) (c : Const) (u : Value) →
-      typed_const decls (wanted.Value t) c ≡ Some u → Holds whole t u
-  const_holds t c u e = let r = fitting_got t (const_sort decls c) (const_value decls c) u e in const_by t c r.0 r.1 r.2 u r.3
+  pub const_holds : (t : core_type.ValueType) (c : Const) (u : Value) → Yields decls (wanted.Value t) c u →
+      Holds whole t u
+  const_holds t c u (yields {s = s} h fit d) = denoted_holds t c s u h fit d
 
   default_holds : (t : core_type.ValueType) → Holds whole t (default_of t)
   default_holds Integer = tt
   default_holds (Reference s) = tt
 
   -- so is the value that a thing opens with
-  pub opened_holds : (t : core_type.ValueType) (g : Option Const) (u : Value) → opened decls t g ≡ Some u →
-      Holds whole t u
-  opened_holds t None u e = let same : default_of t ≡ u = cc in subst (Holds whole t) same (default_holds t)
-  opened_holds t (Some c) u e = const_holds t c u e
-
-  object_got_in : (o : Option Value) (n : ℕ) → object_in o ≡ Some n → o ≡ Some (Ref (Some n))
-  object_got_in (Some (Ref (Some k))) n e = let s : k ≡ n = cc in ap (λ (j : ℕ). Some (Ref (Some j))) s
-  object_got_in (Some (Ref None)) n e = cc
-  object_got_in (Some (Int z)) n e = cc
-  object_got_in None n e = cc
+  pub opened_holds : (t : core_type.ValueType) (g : Option Const) (u : Value) → Opens decls t g u → Holds whole t u
+  opened_holds t g u by_default = default_holds t
+  opened_holds t g u (by_constant {c = c} h) = const_holds t c u h
 
   -- a final reference leads to an object of its struct
-  pub referred_holds : (s : ℕ) (c : Const) (n : ℕ) → referred decls (Some s) (Some c) ≡ Some n →
+  pub referred_holds : (s : ℕ) (c : Const) (n : ℕ) → Yields decls (wanted.Value (Reference s)) c (Ref (Some n)) →
       struct_in whole n ≡ Some s
-  referred_holds s c n e = const_holds (Reference s) c (Ref (Some n)) (object_got_in (typed_const decls (wanted.Value (Reference s)) c) n e)
+  referred_holds s c n h = const_holds (Reference s) c (Ref (Some n)) h

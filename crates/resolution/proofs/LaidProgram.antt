@@ -18,7 +18,8 @@ use Rattle.core_lang.specs.declared.typed.Field as the_field
 use Rattle.core_lang.specs.declared.typed.FinalField as the_final
 use Rattle.core_lang.specs.declared.typed.Typed.{Typed}
 use Rattle.core_lang.specs.Serial.{opening_heap}
-use Rattle.core_lang.specs.Typing.{lookup, struct_of, HasType, HaveTypes, IsHeap, local_types, final_target, field_type}
+use Rattle.core_lang.specs.Typing.{lookup, struct_of, HasType, HaveTypes, IsHeap, local_types, final_target}
+use Rattle.core_lang.specs.Typing.{field_type}
 use Rattle.core_lang.specs.declared.typed.LockClass as the_class
 use Rattle.core_lang.specs.declared.typed.LockClass.TheVariants as class
 use Rattle.core_lang.specs.declared.tree.Local as the_local
@@ -40,7 +41,8 @@ use Rattle.resolution.proofs.FaultlessExpressions.{Clean, at_has}
 use Rattle.resolution.proofs.Typed.{map_got, get_map, final_in, field_in, final_target_is, field_type_is}
 use Rattle.resolution.proofs.TypedResolvedExprs.{Sound}
 use Rattle.resolution.proofs.TypedCalls.{HasHelpers}
-use Rattle.resolution.proofs.LaidLists.{Rows, rows_right, bind_got}
+use Rattle.resolution.proofs.StatementRules.{section_is}
+use Rattle.resolution.proofs.LaidLists.{Rows, bind_got, row_right}
 use Rattle.resolution.proofs.LaidStages.{fields_in, finals_in}
 use Rattle.resolution.proofs.LaidWalk.{FinalRow, FieldRow}
 use Rattle.resolution.proofs.LaidFacts.{StructAt, struct_of_number, sound_of, sections_of, helpers_of}
@@ -49,7 +51,7 @@ use Rattle.resolution.proofs.LaidLocks.{arrays_have, lock_fields_have, fields_ha
 use Rattle.resolution.proofs.LaidScripts.{Argument, threads_of, sectioned, parameter_local, section_at, has_helpers}
 use Rattle.resolution.proofs.LaidScripts.{argument_holds}
 use Rattle.resolution.proofs.LaidObjects.{one_of, ObjectAt, objects_of_program, pools_of, globals_of, arrays_of}
-use Rattle.resolution.proofs.LaidObjects.{struct_in, OwnerFact, cells_of_program, Holds, opened_holds, referred_holds}
+use Rattle.resolution.proofs.LaidObjects.{struct_in, struct_of_object, OwnerFact, cells_of_program, Holds, opened_holds, referred_holds}
 
 -- ---- what the views say
 
@@ -70,21 +72,19 @@ module _ (program : Typed) where
   struct_back o s e =
       let a = lookup_got (slice_get program.shape.objects.items o) (λ (x : Object). lookup (slice_get program.shape.pools.items x.pool) (λ (p : the_pool.Pool). Some p.structure)) s e in
       let b = lookup_got (slice_get program.shape.pools.items a.0.pool) (λ (p : the_pool.Pool). Some p.structure) s a.2 in
-      ap (λ (t : Option Object). t >>= λ x. slice_get (core_of program).pools x.pool >>= λ y. Some y.structure) a.1 ∙ ap (λ (t : Option core.Pool). t >>= λ y. Some y.structure) (get_map core_pool program.shape.pools.items a.0.pool b.0 b.1) ∙ b.2
+      rw (a.1, get_map core_pool program.shape.pools.items a.0.pool b.0 b.1) b.2
 
   pub field_back : (s f : ℕ) (t : ValueType) → field_type program s f ≡ Some t → field_in (core_of program) s f ≡ Some t
   field_back s f t e =
       let a = lookup_got (slice_get program.structs.items s) (λ (x : the_struct_of.Struct). lookup (slice_get x.fields.items f) (λ (y : the_field.Field). Some y.value_type)) t e in
       let b = lookup_got (slice_get a.0.fields.items f) (λ (y : the_field.Field). Some y.value_type) t a.2 in
-      ap (λ (z : Option core.Struct). z >>= λ x. slice_get x.fields f >>= λ y. Some y.value_type) (get_map core_struct program.structs.items s a.0 a.1)
-      ∙ ap (λ (z : Option core.Field). z >>= λ y. Some y.value_type) (get_map core_field a.0.fields.items f b.0 b.1) ∙ b.2
+      rw (get_map core_struct program.structs.items s a.0 a.1, get_map core_field a.0.fields.items f b.0 b.1) b.2
 
   pub final_back : (s f k : ℕ) → final_target program s f ≡ Some k → final_in (core_of program) s f ≡ Some k
   final_back s f k e =
       let a = lookup_got (slice_get program.structs.items s) (λ (x : the_struct_of.Struct). lookup (slice_get x.finals.items f) (λ (y : the_final.FinalField). Some y.target)) k e in
       let b = lookup_got (slice_get a.0.finals.items f) (λ (y : the_final.FinalField). Some y.target) k a.2 in
-      ap (λ (z : Option core.Struct). z >>= λ x. slice_get x.finals f >>= λ y. Some y.target) (get_map core_struct program.structs.items s a.0 a.1)
-      ∙ ap (λ (z : Option core.FinalField). z >>= λ y. Some y.target) (get_map core_final a.0.finals.items f b.0 b.1) ∙ b.2
+      rw (get_map core_struct program.structs.items s a.0 a.1, get_map core_final a.0.finals.items f b.0 b.1) b.2
 
   pub holds_is : (t : ValueType) (v : Value) → Holds (core_of program) t v → HasType program.shape t v
   holds_is Integer (Int n) h = tt
@@ -149,11 +149,13 @@ module _ (decls : List Decl) (clean : Clean decls) (program : Typed) (is : Resol
 
   pub sections_are : (k : ℕ) (x : core.Section) → slice_get (core_of program).sections k ≡ Some x →
       (i : ℕ) × (s : Section) × (slice_get decls i ≡ Some (atomic s)) × (number_at decls i (atomic s) ≡ k) × (typed_section decls section_limits s ≡ Some x)
-  sections_are k x e = let r = sections_of decls clean (core_of program) is k x e in (r.place, r.section, r.at, r.number, r.typed)
+  sections_are k x e = let r = sections_of decls clean (core_of program) is k x e in
+      (r.place, r.section, r.at, r.number, section_is r.typed)
 
   pub helpers_are : (k : ℕ) (x : core.Section) → slice_get (core_of program).helpers k ≡ Some x →
       (i : ℕ) × (s : Section) × (slice_get decls i ≡ Some (helper s)) × (number_at decls i (helper s) ≡ k) × (typed_section decls helper_limits s ≡ Some x)
-  helpers_are k x e = let r = helpers_of decls clean (core_of program) is k x e in (r.place, r.section, r.at, r.number, r.typed)
+  helpers_are k x e = let r = helpers_of decls clean (core_of program) is k x e in
+      (r.place, r.section, r.at, r.number, section_is r.typed)
 
   pub helped : HasHelpers decls (core_of program)
   helped = has_helpers decls clean (core_of program) is
@@ -184,8 +186,7 @@ module _ (decls : List Decl) (clean : Clean decls) (program : Typed) (is : Resol
       struct_of program.shape o ≡ Some s → Kind o x s
   kind o x s e h =
       let at = objects_of_program decls clean (core_of program) is o x e in
-      let g : struct_in (core_of program) o ≡ Some at.pool.structure =
-      ap (λ (t : Option Object). t >>= λ u. slice_get (core_of program).pools u.pool >>= λ v. Some v.structure) e ∙ ap (λ (t : Option core.Pool). t >>= λ v. Some v.structure) at.there in
+      let g = struct_of_object (core_of program) o x.pool x at.pool e refl at.there in
       let same : Some at.pool.structure ≡ Some s = sym g ∙ struct_back program o s h in
       let eq : at.pool.structure ≡ s = cc in
       let r = struct_of_number decls clean (core_of program) is s at.structure (subst (λ (k : ℕ). the_struct decls k ≡ Some at.structure) eq at.is) in
@@ -197,7 +198,8 @@ module _ (decls : List Decl) (clean : Clean decls) (program : Typed) (is : Resol
       let a = bind_got (slice_get (core_of program).structs s) (λ y. slice_get y.fields f >>= λ z. Some z.value_type) t e in
       let same : a.0 ≡ k.view = one_of (core_of program).structs s a.0 k.view a.1 k.there in
       let b = bind_got (slice_get a.0.fields f) (λ z. Some z.value_type) t a.2 in
-      let r = rows_right (FieldRow decls k.struct_at.place k.at.structure.members) 0 (fields_in k.at.structure.members) k.view.fields k.struct_at.fields f b.0 (ap (λ (y : core.Struct). slice_get y.fields f) (sym same) ∙ b.1) in
+      let r = row_right (FieldRow decls k.struct_at.place k.at.structure.members) (fields_in k.at.structure.members)
+      k.view.fields k.struct_at.fields f b.0 (ap (λ (y : core.Struct). slice_get y.fields f) (sym same) ∙ b.1) in
       let c = k.at.own f r.0 r.1 in
       let ty : Some c.2.0 ≡ Some t = sym c.2.3 ∙ r.2.0 ∙ b.2 in
       let eq : c.2.0 ≡ t = cc in
@@ -209,7 +211,8 @@ module _ (decls : List Decl) (clean : Clean decls) (program : Typed) (is : Resol
       let a = bind_got (slice_get (core_of program).structs s) (λ y. slice_get y.finals f >>= λ z. Some z.target) target e in
       let same : a.0 ≡ k.view = one_of (core_of program).structs s a.0 k.view a.1 k.there in
       let b = bind_got (slice_get a.0.finals f) (λ z. Some z.target) target a.2 in
-      let r = rows_right (FinalRow decls) 0 (finals_in k.at.structure.members) k.view.finals k.struct_at.finals f b.0 (ap (λ (y : core.Struct). slice_get y.finals f) (sym same) ∙ b.1) in
+      let r = row_right (FinalRow decls) (finals_in k.at.structure.members) k.view.finals k.struct_at.finals f b.0
+      (ap (λ (y : core.Struct). slice_get y.finals f) (sym same) ∙ b.1) in
       let c = k.at.refs f r.0 r.1 in
       let ty : Some c.2.0 ≡ Some target = sym c.2.2 ∙ r.2 ∙ b.2 in
       let h = referred_holds decls clean (core_of program) is c.2.0 c.2.1 c.0 c.2.3 in

@@ -2,6 +2,7 @@ pub mod Tests
 pub mod Named
 pub mod Members
 pub mod ExpressionRules
+pub mod ConstantRules
 pub mod OwnerRules
 pub mod StatementRules
 pub mod TrueExpressions

@@ -306,12 +306,16 @@ owned_is {sc = sc} (types_owner {o = o} {x = x} {f = f} {i = i} {l = l} final is
     (le_true i SOURCE_LIMIT few)
 
 -- the final reference that the code finds for a type, if it has one, is one by the rules
+pub final_of_type : (decls : List Decl) (t : ValueType) (x : Ident) (f : OwnerField) →
+    owner_field decls (Some t) x ≡ Some f → IsFinalOf decls t x f
+final_of_type decls t x f e = when (IsFinalOf decls t x) (owner_field decls (Some t) x) (field_final decls t x) f e
+
 pub final_types : (decls : List Decl) (o : Option ValueType) (x : Ident) (f : OwnerField) →
     owner_field decls o x ≡ Some f →
     (t : ValueType) × (o ≡ Some t) × IsFinalOf decls t x f
 final_types decls None x f e = cc
 final_types decls (Some t) x f e =
-    (t, refl, when (IsFinalOf decls t x) (owner_field decls (Some t) x) (field_final decls t x) f e)
+    (t, refl, final_of_type decls t x f e)
 
 -- steps of which the code finds no last field end with none
 pub ends_with_none : (steps base : List FieldStep) (k n : ℕ) → last_field steps ≡ None →

@@ -20,6 +20,7 @@ use Rattle.resolution.specs.Working.Building.{with_section, with_helper, with_th
 use Rattle.resolution.specs.Working.Building.{opening_of, with_elements, array_added, with_array, with_objects}
 use Rattle.resolution.specs.Working.Building.{pool_added, with_pool, extended, resolved_from}
 use Rattle.resolution.proofs.LaidLists.{bind_got}
+use Rattle.resolution.proofs.ConstantRules.{opened_ruled, opened_is}
 use Rattle.resolution.proofs.RuledStructs.{made_on, made_by_rules, rules_made, makes_name}
 use Rattle.resolution.proofs.RuledThreads.{calls_ruled, calls_built}
 use Rattle.resolution.proofs.RuledObjects.{elements_are, objects_by_rules, rules_objects}
@@ -58,7 +59,7 @@ module _ (decls : List Decl) (i : ℕ) (p : core.Program) where
       let a = bind_got (cell_at (length p.cells)) (λ cell. Some (global_added p x.name.text cell c t v)) q e in
       let some : Some (global_added p x.name.text a.0 c t v) ≡ Some q = a.2 in
       let same : global_added p x.name.text a.0 c t v ≡ q = cc in
-      subst (Adds decls i (global x) p) same (adds_global f g h a.1)
+      subst (Adds decls i (global x) p) same (adds_global f g (opened_ruled decls t x.value v h) a.1)
   global_ruled x (Some c) (Some t) None q f g h e = cc
   global_ruled x (Some c) None v q f g h e = cc
   global_ruled x None t v q f g h e = cc
@@ -162,7 +163,7 @@ built decls i p d q (adds_struct {s = s} {t = t} m) =
     let n = length p.classes in
     ap (with_struct p) (rules_made decls (length p.structs) i s n s.members t m (before decls i p s) refl)
     ∙ made_is decls i p s n s.members t m
-built decls i p d q (adds_global f g h e) = rw (f, g, h, e) refl
+built decls i p d q (adds_global f g h e) = let o = opened_is h in rw (f, g, o, e) refl
 built decls i p d q (adds_array {a = x} {class = class} {first = first} {count = count} {t = t} f g e h) =
     let same = elements_are (array_added p x.name.text first count t class) (length p.arrays) t count in
     rw (f, g, e, h) (ap Some same)

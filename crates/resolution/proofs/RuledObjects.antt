@@ -12,11 +12,13 @@ use Rattle.resolution.specs.declared.init_target.InitTarget.{InitTarget}
 use Rattle.resolution.specs.Core as core
 use Rattle.resolution.specs.Limits.{cell_at, final_at}
 use Rattle.resolution.specs.Scopes.{◌>>=◌, outside, type_of, struct_named}
-use Rattle.resolution.specs.Constants.{given, default_of, opened, referred}
+use Rattle.resolution.specs.Constants.{given, default_of}
+use Rattle.resolution.specs.Working.TypedConstants.{opened, referred}
 use Rattle.resolution.specs.Tables.{elements, next, OpensWith, with_nothing, past_lock, final_opened, field_opened}
 use Rattle.resolution.specs.Tables.{AddObjects, no_object, one_object_more}
 use Rattle.resolution.specs.Working.Building.{with_cell, opening_of, with_elements, Slot, slot_given, final_cell}
 use Rattle.resolution.specs.Working.Building.{field_cell, with_members, object_added, with_object, with_objects}
+use Rattle.resolution.proofs.ConstantRules.{opened_ruled, opened_is, referred_ruled, referred_is}
 use Rattle.resolution.proofs.LaidLists.{bind_got}
 
 -- ---- elements of an array
@@ -98,12 +100,13 @@ held_by_rules decls slot m n (lock_member x ∷ ms) p q e =
 held_by_rules decls slot m n (final_member f ∷ ms) p q e =
     let o = referred decls (struct_named decls f.target) (slot_given decls slot m) in
     let t = final_there decls slot (m + 1) n p q o ms e in
+    let y = referred_ruled decls (struct_named decls f.target) (slot_given decls slot m) t.0 t.1 in
     let r = held_by_rules decls slot (m + 1) n ms (with_final p t.0) q
     (ap (λ (x : Option ℕ). with_members decls slot (m + 1) n (final_cell p x) ms) (sym t.1) ∙ e) in
     record {
       finals = t.0 ∷ r.finals;
       cells = r.cells;
-      opens = final_opened t.1 r.opens;
+      opens = final_opened y.2 y.3 y.4 r.opens;
       is = sym (held_final p t.0 r.finals r.cells) ∙ r.is;
     }
 held_by_rules decls slot m n (field_member f ∷ ms) p q e =
@@ -120,7 +123,7 @@ held_by_rules decls slot m n (field_member f ∷ ms) p q e =
     record {
       finals = r.finals;
       cells = record { owner = w; value_type = t.0; opening = t.1 } ∷ r.cells;
-      opens = field_opened t.2 opening r.opens;
+      opens = field_opened t.2 (opened_ruled decls t.0 (slot_given decls slot m) t.1 opening) r.opens;
       is = sym (held_cell p w t.0 t.1 r.finals r.cells) ∙ r.is;
     }
 
@@ -133,15 +136,17 @@ pub rules_held : (decls : List Decl) (object : ℕ) (at : InitTarget) (n : ℕ) 
     with_members decls (slot_of at object) at.member n (Some p) ms ≡ Some (with_held p os cs)
 rules_held decls object at n ms os cs with_nothing p = ap Some (sym (held_none p))
 rules_held decls object at n ms os cs (past_lock {ms = rest} h) p = rules_held decls object (next at) n rest os cs h p
-rules_held decls object at n ms os cs (final_opened {o = o} {ms = rest} {os = fs} e h) p =
-    ap (λ (x : Option ℕ). with_members decls (slot_of at object) (at.member + 1) n (final_cell p x) rest) e
+rules_held decls object at n ms os cs (final_opened {o = o} {f = f} {c = c} {ms = rest} {os = fs} e g y h) p =
+    let there : referred decls (struct_named decls f.target) (given decls at) ≡ Some o =
+    ap (λ (x : Option ℕ). referred decls x (given decls at)) e ∙ ap (referred decls (Some _)) g ∙ referred_is y in
+    ap (λ (x : Option ℕ). with_members decls (slot_of at object) (at.member + 1) n (final_cell p x) rest) there
     ∙ rules_held decls object (next at) n rest fs cs h (with_final p o) ∙ ap Some (held_final p o fs cs)
 rules_held decls object at n ms os cs (field_opened {f = f} {ms = rest} {cs = ds} {t = t} {v = v} e g h) p =
     let w : Owner = owner.Field object n in
     ap (λ (x : Option core_type.ValueType). with_members decls (slot_of at object) (at.member + 1) (n + 1)
     (field_cell p w x (opening_of decls x (given decls at))) rest) e
     ∙ ap (λ (x : Option Value). with_members decls (slot_of at object) (at.member + 1) (n + 1)
-    (field_cell p w (Some t) x) rest) g
+    (field_cell p w (Some t) x) rest) (opened_is g)
     ∙ rules_held decls object (next at) (n + 1) rest os ds h (with_cell p w t v) ∙ ap Some (held_cell p w t v os ds)
 
 -- ---- objects, one after another

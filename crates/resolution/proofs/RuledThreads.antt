@@ -9,10 +9,11 @@ use Rattle.resolution.specs.Core as core
 use Rattle.resolution.specs.Limits.{CALL_LIMIT}
 use Rattle.resolution.specs.Scopes.{◌>>=◌, the_decl, number_at}
 use Rattle.resolution.specs.Numbers.{total, calls_of}
-use Rattle.resolution.specs.Constants.{typed_arguments}
+use Rattle.resolution.specs.Working.TypedConstants.{typed_arguments}
 use Rattle.resolution.specs.Tables.{copies, AreCalls, no_call, one_call, repeated}
 use Rattle.resolution.specs.Working.Building.{call_of, joined, one_call as only_call, typed_item, typed_items}
 use Rattle.resolution.specs.Working.Building.{few_calls, typed_calls}
+use Rattle.resolution.proofs.ConstantRules.{arguments_ruled, arguments_is}
 use Rattle.resolution.proofs.Tests.{le_of, le_true}
 use Rattle.resolution.proofs.LaidLists.{bind_got}
 
@@ -30,7 +31,8 @@ only_ruled decls c (Some (i, atomic s)) cs is ds e h more =
     by_arguments (Some vs) g k =
         let y : core.Call = record { section = number_at decls i (atomic s); arguments = vs } in
         let same : y ∷ [] ≡ cs = cc in
-        subst (λ (xs : List core.Call). AreCalls decls (item (call c) is) (xs ++ ds)) same (one_call e g more)
+        subst (λ (xs : List core.Call). AreCalls decls (item (call c) is) (xs ++ ds)) same
+        (one_call e (arguments_ruled decls s.params c.arguments vs g) more)
     by_arguments None g k = cc
 only_ruled decls c (Some (i, lock x)) cs is ds e h more = cc
 only_ruled decls c (Some (i, struct x)) cs is ds e h more = cc
@@ -82,7 +84,8 @@ items_built : (decls : List Decl) (is : Items) (cs : List core.Call) → AreCall
     typed_items decls is ≡ Some cs
 items_built decls is cs no_call = refl
 items_built decls is cs (one_call {is = rest} {cs = ds} e g more) = let h = items_built decls rest ds more in
-    rw (e, g, h) refl
+    let a = arguments_is g in
+    rw (e, a, h) refl
 items_built decls is cs (repeated {js = js} {is = rest} {bs = bs} {cs = ds} first more) =
     let g = items_built decls js bs first in
     let h = items_built decls rest ds more in

@@ -17,7 +17,8 @@ use Rattle.resolution.specs.Core as core
 use Rattle.resolution.specs.Scopes.{◌>>=◌, Scope, Local, outside, Meaning, a_decl, meaning}
 use Rattle.resolution.specs.Scopes.{helper_meant, number_at, type_of, result_of, left}
 use Rattle.resolution.specs.Expressions.{ResolvedExpr, value, truth, want}
-use Rattle.resolution.specs.Constants.{added, want_of}
+use Rattle.resolution.specs.Constants.{want_of}
+use Rattle.resolution.specs.Working.TypedConstants.{added}
 use Rattle.resolution.specs.Statements.{first_name, after, after_all, entry}
 use Rattle.resolution.specs.Typing.{Types, Gives, TypesOwner, TypesArguments, no_argument, one_argument, TypesCall}
 use Rattle.resolution.specs.Typing.{types_call, TypesStmt, types_let, types_owned, types_let_call}

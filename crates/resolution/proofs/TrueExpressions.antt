@@ -27,10 +27,12 @@ use Rattle.resolution.specs.Expressions.{ResolvedExpr, value, truth, fits, fits_
 use Rattle.resolution.specs.Working.TypedExpressions.{typed}
 use Rattle.resolution.specs.Expressions.{Walk, reached, at_lock, lost, stepped, walked, at_local, walk_from}
 use Rattle.resolution.specs.Statements.{first_name}
-use Rattle.resolution.specs.Constants.{const_sort, want_of}
+use Rattle.resolution.specs.Constants.{want_of}
+use Rattle.resolution.specs.Working.TypedConstants.{const_sort}
 use Rattle.resolution.specs.Where.{operand_want, prefix_want, side_want, HasLink, this_link, later_link, Within}
 use Rattle.resolution.specs.Where.{itself, in_parentheses, in_prefix, in_first, in_operand, in_left, in_right}
 use Rattle.resolution.specs.Where.{in_index, HasExpr, HasPlace, is_read, HasType, HasConst}
+use Rattle.resolution.proofs.ConstantRules.{sort_ruled}
 use Rattle.resolution.proofs.ExpressionRules.{types_is}
 use Rattle.resolution.specs.Faults as fault
 use Rattle.resolution.specs.Faults.{start_of, const_start, IsNoValue, HasNoElements, IsNoReference, IsNoStruct}
@@ -104,7 +106,9 @@ misfit_if decls p false h f i = of_one decls WrongType p f (h refl) i
 true_sort : (decls : List Decl) (w : Want) (c : Const) → HasConst decls w c → (s : Option Sort) →
     const_sort decls c ≡ s → (f : Mistake) → IsAmong f (sort_misfit w (const_start c) s) → IsTrue_of decls f
 true_sort decls w c h None is f i = absurd i
-true_sort decls w c h (Some s) is f i = misfit_if decls (const_start c) (fits_sort w s) (λ e. wrong_type (fault.unwanted_constant h is e)) f i
+true_sort decls w c h (Some s) is f i =
+    misfit_if decls (const_start c) (fits_sort w s)
+    (λ e. wrong_type (fault.unwanted_constant h (sort_ruled decls c s is) e)) f i
 
 pub true_const : (decls : List Decl) (w : Want) (c : Const) → HasConst decls w c → (f : Mistake) →
     IsAmong f (const_faults decls w c) → IsTrue_of decls f

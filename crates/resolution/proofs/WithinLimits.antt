@@ -6,8 +6,8 @@ use Rattle.std.proofs.lemmas.List.{length-append, length-map, append-nil}
 use Rattle.source.specs.declared.fault.Code.TheVariants.{LimitExceeded}
 use Rattle.syntax.specs.Trees.{Stmt, let_local, let_owned, let_call, var_local, assign, if_then, while, print}
 use Rattle.syntax.specs.Trees.{return_value, Stmts, no_stmts, stmt, Otherwise, no_else, else_do, Param, Section, call}
-use Rattle.syntax.specs.Trees.{Items, Member, lock_member, final_member, field_member, Thread, Decl, lock, struct}
-use Rattle.syntax.specs.Trees.{global, array, pool, init, atomic, helper, thread}
+use Rattle.syntax.specs.Trees.{Items, Member, lock_member, final_member, field_member, Thread, Decl, struct, atomic}
+use Rattle.syntax.specs.Trees.{helper, thread}
 use Rattle.core_lang.specs.declared.tree.LocalKind.TheVariants as kind
 use Rattle.core_lang.specs.declared.tree.Section as the_section
 use Rattle.core_lang.specs.declared.typed.Struct as the_struct
@@ -21,7 +21,8 @@ use Rattle.resolution.specs.CoreViews.{core_section, core_call, core_thread, cor
 use Rattle.resolution.specs.Limits.{STRUCT_LIMIT, MEMBER_LIMIT, CELL_LIMIT, SECTION_LIMIT, THREAD_LIMIT}
 use Rattle.resolution.specs.Limits.{PARAMETER_LIMIT, LOCAL_LIMIT, CALL_LIMIT, section_limits}
 use Rattle.resolution.specs.Scopes as scopes
-use Rattle.resolution.specs.Scopes.{Scope, outside, meaning, helper_meant, type_of, count, alike, has_body, bound, left}
+use Rattle.resolution.specs.Scopes.{Scope, outside, meaning, helper_meant, type_of, count, alike, has_body, bound}
+use Rattle.resolution.specs.Scopes.{left}
 use Rattle.resolution.specs.Numbers.{total, cells_of, calls_in_all, calls_of}
 use Rattle.resolution.specs.Expressions.{want}
 use Rattle.resolution.specs.Statements.{after, after_else, after_all, ahead_of, entry}
@@ -43,16 +44,15 @@ use Rattle.resolution.proofs.Typed.{get_map}
 use Rattle.resolution.proofs.ScopedStatements.{hidden_length}
 use Rattle.resolution.proofs.WellSections.{entered_length, locals_length}
 use Rattle.resolution.proofs.LaidLists.{rows_length, take_front, as_one, count_push}
-use Rattle.resolution.proofs.LaidStages.{fields_in, finals_in, locks_in}
-use Rattle.resolution.proofs.LaidWalk.{LockRow, FinalRow, FieldRow, Counts, Step, walked_whole, counted_whole}
-use Rattle.resolution.proofs.LaidFacts.{keeps_structs, keeps_sections, keeps_helpers, keeps_threads, struct_by_number}
-use Rattle.resolution.proofs.LaidFacts.{sections_of}
+use Rattle.resolution.proofs.LaidStages.{fields_in, finals_in, locks_in, plus}
+use Rattle.resolution.proofs.LaidWalk.{LockRow, FinalRow, FieldRow, Counts, Step, added, Kept, walked_whole}
+use Rattle.resolution.proofs.LaidWalk.{counted_whole}
+use Rattle.resolution.proofs.LaidFacts.{struct_by_number, sections_of}
 use Rattle.resolution.proofs.LaidLocks.{few_classes}
 use Rattle.resolution.proofs.LaidObjects.{few_objects}
 use Rattle.resolution.proofs.LaidScripts.{sectioned}
 use Rattle.resolution.proofs.Tests.{le_false}
 use Rattle.resolution.specs.Theory.Facts.{bodies_counted}
-use Rattle.resolution.proofs.StatementRules.{types_the_locals}
 
 -- ---- cells
 
@@ -109,9 +109,9 @@ calls_viewed (t ∷ ts) =
 
 -- nothing is listed for the count at a step
 none_at_step : (decls : List Decl) → Clean decls →
-    (whole : core.Program) (before : List Decl) (d : Decl) (p q : core.Program) → Step decls whole before d p q →
+    (whole : core.Program) (before : List Decl) (d : Decl) (p : core.Program) → Step decls whole before d p →
     NoneIn (count_faults decls before d)
-none_at_step decls clean whole before d p q st =
+none_at_step decls clean whole before d p st =
     let r = parts_at decls (length before) d st.at in
     let same : r.before ≡ before = sym (take_front r.before (d ∷ r.behind)) ∙ ap (take (length r.before)) (sym r.parts) ∙ ap (λ (n : ℕ). take n decls) r.place ∙ st.ahead in
     λ f i. clean f (of_counts decls before r.behind d (r.parts ∙ ap (λ (bs : List Decl). bs ++ d ∷ r.behind) same) f i)
@@ -124,22 +124,25 @@ record Few (before : List Decl) (p : core.Program) : Type 0 where
   threads_are : (t : Thread) → length p.threads ≡ count (alike (thread t)) before
   calls_are : calls_in_threads p.threads ≡ total calls_of before
 
--- a list that stays the same gets no longer
-same_few : {A : Type 0} (limit : ℕ) (xs ys : List A) → ys ≡ xs → length xs ≤ limit → length ys ≤ limit
-same_few {A = A} limit xs ys e le = subst (λ (zs : List A). length zs ≤ limit) (sym e) le
+-- a list to which nothing is added gets no longer
+same_few : {A : Type 0} (limit : ℕ) (xs : List A) → length xs ≤ limit → length (xs ++ []) ≤ limit
+same_few {A = A} limit xs le = subst (λ (zs : List A). length zs ≤ limit) (sym (append-nil xs)) le
 
 -- one more, where there is room
-one_more : {A : Type 0} (limit n : ℕ) (xs ys : List A) (x : A) → xs ++ x ∷ [] ≡ ys → length xs ≡ n →
-    nat_le limit n ≡ false → length ys ≤ limit
-one_more {A = A} limit n xs ys x e is full =
+one_more : {A : Type 0} (limit n : ℕ) (xs : List A) (x : A) → length xs ≡ n → nat_le limit n ≡ false →
+    length (xs ++ x ∷ []) ≤ limit
+one_more limit n xs x is full =
     let less = le_false limit n full in
     let l = length_push xs x in
-    same_few limit (xs ++ x ∷ []) ys (sym e) (omega (arith, less, l, is))
+    omega (arith, less, l, is)
 
 -- no more sections and helpers, or one more, where there is room
-same_bodies : (p q : core.Program) → q.sections ≡ p.sections → q.helpers ≡ p.helpers →
-    length p.sections + length p.helpers ≤ SECTION_LIMIT → length q.sections + length q.helpers ≤ SECTION_LIMIT
-same_bodies p q a b le = let x = ap length a in let y = ap length b in omega (arith, x, y, le)
+same_bodies : (p : core.Program) → length p.sections + length p.helpers ≤ SECTION_LIMIT →
+    length (p.sections ++ []) + length (p.helpers ++ []) ≤ SECTION_LIMIT
+same_bodies p le =
+    let x = ap length (append-nil p.sections) in
+    let y = ap length (append-nil p.helpers) in
+    omega (arith, x, y, le)
 
 few_bodies : (decls before : List Decl) (p q : core.Program) (s : Section) → Counts decls before p →
     nat_le SECTION_LIMIT (count has_body before) ≡ false →
@@ -153,63 +156,79 @@ few_bodies decls before p q s n full more =
     omega (arith, less, both, x, y, more)
 
 -- behind a declaration that is no thread
-few_more : (before : List Decl) (d : Decl) (p q : core.Program) → Few before p → length q.structs ≤ STRUCT_LIMIT →
-    length q.sections + length q.helpers ≤ SECTION_LIMIT → q.threads ≡ p.threads →
-    ((t : Thread) → as_one (alike (thread t) d) ≡ 0) → calls_of d ≡ 0 → Few (before ++ d ∷ []) q
-few_more before d p q h structs sections same none no_calls = record {
-  structs = structs;
-  sections = sections;
-  threads = same_few THREAD_LIMIT p.threads q.threads same h.threads;
-  threads_are = λ t. (let s : length q.threads ≡ length p.threads = ap length same in let a = h.threads_are t in let c = count_push (alike (thread t)) before d in let n = none t in omega (arith, s, a, c, n));
-  calls_are = (let s : calls_in_threads q.threads ≡ calls_in_threads p.threads = ap calls_in_threads same in let a = h.calls_are in let c = total_push calls_of before d in omega (arith, s, a, c, no_calls));
-}
+few_more : (before : List Decl) (d : Decl) (p a : core.Program) → Few before p →
+    length (p.structs ++ a.structs) ≤ STRUCT_LIMIT →
+    length (p.sections ++ a.sections) + length (p.helpers ++ a.helpers) ≤ SECTION_LIMIT → a.threads ≡ [] →
+    ((t : Thread) → as_one (alike (thread t) d) ≡ 0) → calls_of d ≡ 0 → Few (before ++ d ∷ []) (plus p a)
+few_more before d p a h structs sections none no_thread no_calls =
+    let same : p.threads ++ a.threads ≡ p.threads =
+    ap (λ (ts : List core.Thread). p.threads ++ ts) none ∙ append-nil p.threads in
+    record {
+      structs = structs;
+      sections = sections;
+      threads = subst (λ (ts : List core.Thread). length ts ≤ THREAD_LIMIT) (sym same) h.threads;
+      threads_are = λ t.
+          (let s = ap length same in
+          let b = h.threads_are t in
+          let c = count_push (alike (thread t)) before d in
+          let n = no_thread t in
+          omega (arith, s, b, c, n));
+      calls_are =
+          (let s = ap calls_in_threads same in
+          let b = h.calls_are in
+          let c = total_push calls_of before d in
+          omega (arith, s, b, c, no_calls));
+    }
 
-few_next : (decls : List Decl) → Clean decls →
-    (whole : core.Program) (before : List Decl) (d : Decl) (p q : core.Program) → Step decls whole before d p q →
-    Few before p → Few (before ++ d ∷ []) q
-few_next decls clean whole before (struct s) p q st h =
-    let a = st.adds in
-    let none = none_left (one_if (nat_le STRUCT_LIMIT (count (alike (struct s)) before)) LimitExceeded s.name.span.start) _ (none_at_step decls clean whole before (struct s) p q st) in
-    few_more before (struct s) p q h
-    (one_more STRUCT_LIMIT (count (alike (struct s)) before) p.structs q.structs a.0
-    (ap (λ (z : core.Program). z.structs) a.2) (st.counts.structs s)
-    (not_if (nat_le STRUCT_LIMIT (count (alike (struct s)) before)) LimitExceeded s.name.span.start none))
-    (same_bodies p q (keeps_sections decls (length before) p (struct s) q a) (keeps_helpers decls (length before) p (struct s) q a) h.sections) (keeps_threads decls (length before) p (struct s) q a) (λ t. refl) refl
-few_next decls clean whole before (atomic s) p q st h =
-    let a = st.adds in
-    few_more before (atomic s) p q h (same_few STRUCT_LIMIT p.structs q.structs (keeps_structs decls (length before) p (atomic s) q a) h.structs)
-    (few_bodies decls before p q s st.counts (not_if (nat_le SECTION_LIMIT (count has_body before)) LimitExceeded s.name.span.start (none_at_step decls clean whole before (atomic s) p q st))
-    (let m = ap length (ap (λ (z : core.Program). z.sections) a.2) in let l = length_push p.sections a.0 in let k = ap length (keeps_helpers decls (length before) p (atomic s) q a) in omega (arith, m, l, k)))
-    (keeps_threads decls (length before) p (atomic s) q a) (λ t. refl) refl
-few_next decls clean whole before (helper s) p q st h =
-    let a = st.adds in
-    few_more before (helper s) p q h (same_few STRUCT_LIMIT p.structs q.structs (keeps_structs decls (length before) p (helper s) q a) h.structs)
-    (few_bodies decls before p q s st.counts (not_if (nat_le SECTION_LIMIT (count has_body before)) LimitExceeded s.name.span.start (none_at_step decls clean whole before (helper s) p q st))
-    (let m = ap length (ap (λ (z : core.Program). z.helpers) a.2) in let l = length_push p.helpers a.0 in let k = ap length (keeps_sections decls (length before) p (helper s) q a) in omega (arith, m, l, k)))
-    (keeps_threads decls (length before) p (helper s) q a) (λ t. refl) refl
-few_next decls clean whole before (thread t) p q st h =
-    let a = st.adds in
+few_next : (decls : List Decl) → Clean decls → (whole : core.Program) → Kept decls whole Few
+few_next decls clean whole before (struct s) p st h =
+    let n = count (alike (struct s)) before in
+    let none = none_left (one_if (nat_le STRUCT_LIMIT n) LimitExceeded s.name.span.start) _
+    (none_at_step decls clean whole before (struct s) p st) in
+    few_more before (struct s) p (added st) h
+    (one_more STRUCT_LIMIT n p.structs st.news.0 (st.counts.structs s)
+    (not_if (nat_le STRUCT_LIMIT n) LimitExceeded s.name.span.start none))
+    (same_bodies p h.sections) refl (λ t. refl) refl
+few_next decls clean whole before (atomic s) p st h =
+    few_more before (atomic s) p (added st) h (same_few STRUCT_LIMIT p.structs h.structs)
+    (few_bodies decls before p (plus p (added st)) s st.counts
+    (not_if (nat_le SECTION_LIMIT (count has_body before)) LimitExceeded s.name.span.start
+    (none_at_step decls clean whole before (atomic s) p st))
+    (let l = length_push p.sections st.news.0 in let k = ap length (append-nil p.helpers) in omega (arith, l, k)))
+    refl (λ t. refl) refl
+few_next decls clean whole before (helper s) p st h =
+    few_more before (helper s) p (added st) h (same_few STRUCT_LIMIT p.structs h.structs)
+    (few_bodies decls before p (plus p (added st)) s st.counts
+    (not_if (nat_le SECTION_LIMIT (count has_body before)) LimitExceeded s.name.span.start
+    (none_at_step decls clean whole before (helper s) p st))
+    (let l = length_push p.helpers st.news.0 in let k = ap length (append-nil p.sections) in omega (arith, l, k)))
+    refl (λ t. refl) refl
+few_next decls clean whole before (thread t) p st h =
+    let a = st.news in
     let n = count (alike (thread t)) before in
     let x : core.Thread = record { name = t.name.text; calls = a.0 } in
-    let threads : p.threads ++ x ∷ [] ≡ q.threads = ap (λ (z : core.Program). z.threads) a.2 in
-    let none = none_left (one_if (nat_le THREAD_LIMIT n) LimitExceeded t.name.span.start) _ (none_at_step decls clean whole before (thread t) p q st) in
+    let none = none_left (one_if (nat_le THREAD_LIMIT n) LimitExceeded t.name.span.start) _
+    (none_at_step decls clean whole before (thread t) p st) in
     record {
-      structs = same_few STRUCT_LIMIT p.structs q.structs (keeps_structs decls (length before) p (thread t) q a) h.structs;
-      sections = same_bodies p q (keeps_sections decls (length before) p (thread t) q a) (keeps_helpers decls (length before) p (thread t) q a) h.sections;
-      threads = one_more THREAD_LIMIT n p.threads q.threads x threads (h.threads_are t) (not_if (nat_le THREAD_LIMIT n) LimitExceeded t.name.span.start none);
-      threads_are = λ y. (let s : length q.threads ≡ length (p.threads ++ x ∷ []) = ap length (sym threads) in let l = length_push p.threads x in let b = h.threads_are y in let c = count_push (alike (thread y)) before (thread t) in omega (arith, s, l, b, c));
-      calls_are = (let s : calls_in_threads q.threads ≡ calls_in_threads (p.threads ++ x ∷ []) = ap calls_in_threads (sym threads) in let l = calls_push p.threads x in let b = h.calls_are in let c = total_push calls_of before (thread t) in let i : length a.0 ≡ calls_of (thread t) = items_counted decls t.items a.0 a.1 in omega (arith, s, l, b, c, i));
+      structs = same_few STRUCT_LIMIT p.structs h.structs;
+      sections = same_bodies p h.sections;
+      threads = one_more THREAD_LIMIT n p.threads x (h.threads_are t)
+          (not_if (nat_le THREAD_LIMIT n) LimitExceeded t.name.span.start none);
+      threads_are = λ y.
+          (let l = length_push p.threads x in
+          let b = h.threads_are y in
+          let c = count_push (alike (thread y)) before (thread t) in
+          omega (arith, l, b, c));
+      calls_are =
+          (let l = calls_push p.threads x in
+          let b = h.calls_are in
+          let c = total_push calls_of before (thread t) in
+          let i : length a.0 ≡ calls_of (thread t) = items_counted decls t.items a.0 a.1 in
+          omega (arith, l, b, c, i));
     }
-few_next decls clean whole before (lock x) p q st h =
-    few_more before (lock x) p q h (same_few STRUCT_LIMIT p.structs q.structs (keeps_structs decls (length before) p (lock x) q st.adds) h.structs) (same_bodies p q (keeps_sections decls (length before) p (lock x) q st.adds) (keeps_helpers decls (length before) p (lock x) q st.adds) h.sections) (keeps_threads decls (length before) p (lock x) q st.adds) (λ t. refl) refl
-few_next decls clean whole before (global x) p q st h =
-    few_more before (global x) p q h (same_few STRUCT_LIMIT p.structs q.structs (keeps_structs decls (length before) p (global x) q st.adds) h.structs) (same_bodies p q (keeps_sections decls (length before) p (global x) q st.adds) (keeps_helpers decls (length before) p (global x) q st.adds) h.sections) (keeps_threads decls (length before) p (global x) q st.adds) (λ t. refl) refl
-few_next decls clean whole before (array x) p q st h =
-    few_more before (array x) p q h (same_few STRUCT_LIMIT p.structs q.structs (keeps_structs decls (length before) p (array x) q st.adds) h.structs) (same_bodies p q (keeps_sections decls (length before) p (array x) q st.adds) (keeps_helpers decls (length before) p (array x) q st.adds) h.sections) (keeps_threads decls (length before) p (array x) q st.adds) (λ t. refl) refl
-few_next decls clean whole before (pool x) p q st h =
-    few_more before (pool x) p q h (same_few STRUCT_LIMIT p.structs q.structs (keeps_structs decls (length before) p (pool x) q st.adds) h.structs) (same_bodies p q (keeps_sections decls (length before) p (pool x) q st.adds) (keeps_helpers decls (length before) p (pool x) q st.adds) h.sections) (keeps_threads decls (length before) p (pool x) q st.adds) (λ t. refl) refl
-few_next decls clean whole before (init x) p q st h =
-    few_more before (init x) p q h (same_few STRUCT_LIMIT p.structs q.structs (keeps_structs decls (length before) p (init x) q st.adds) h.structs) (same_bodies p q (keeps_sections decls (length before) p (init x) q st.adds) (keeps_helpers decls (length before) p (init x) q st.adds) h.sections) (keeps_threads decls (length before) p (init x) q st.adds) (λ t. refl) refl
+few_next decls clean whole before d p st h =
+    few_more before d p (added st) h (same_few STRUCT_LIMIT p.structs h.structs) (same_bodies p h.sections) refl
+    (λ t. refl) refl
 
 few_whole : (decls : List Decl) → Clean decls → (whole : core.Program) → AreTables decls whole → Few decls whole
 few_whole decls clean whole is = walked_whole decls clean whole is Few (record { structs = omega arith; sections = omega arith; threads = omega arith; threads_are = λ t. refl; calls_are = refl }) (few_next decls clean whole)
@@ -353,7 +372,7 @@ section_within decls clean whole is k x e =
     let begun : length (entry decls section_limits s).locals ≤ LOCAL_LIMIT = omega (arith, start, few) in
     let all : length (after_all (entry decls section_limits s) s.body.stmts).locals ≤ LOCAL_LIMIT = subst (λ (l : BodyLimits). length (after_all (entry decls section_limits s) s.body.stmts).locals ≤ l.locals) same
     (all_few (entry decls section_limits s) s.body.stmts (none_right (a ++ b) c none) (subst (λ (l : BodyLimits). length (entry decls section_limits s).locals ≤ l.locals) (sym same) begun)) in
-    let n = locals_length (types_the_locals (after_all (entry decls section_limits s) s.body.stmts).locals x.locals made.locals) in
+    let n = locals_length made.locals in
     let parameters = made.parameters in
     record { parameters = omega (arith, parameters, few); locals = omega (arith, n, all) }
 

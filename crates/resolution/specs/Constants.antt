@@ -1,84 +1,63 @@
 -- Constants, and what the declarations give the members of pools.
-use Rattle.std.specs.Prelude.{ℕ, ◌+◌, ℤ, pos, neg_ℤ, nat_lt, min, ◌==◌, ◌&&◌, Bool, false, List, [], ◌∷◌, Option}
-use Rattle.std.specs.Prelude.{Some, None, if◌then◌else◌}
+use Rattle.std.specs.Prelude.{◌≡◌, ℕ, ◌+◌, ◌≤◌, ◌<◌, pos, neg_ℤ, nat_lt, min, ◌==◌, ◌&&◌, Bool, true, false, List, []}
+use Rattle.std.specs.Prelude.{◌∷◌, Option, Some, None, if◌then◌else◌}
+use Rattle.source.specs.Texts.{NUMBER_LIMIT}
+use Rattle.source.specs.declared.span.Span.{Span}
+use Rattle.source.specs.declared.token.Number.{Number}
 use Rattle.syntax.specs.Trees.{Ident, ref_type, Const, int_const, negative, null_const, member_const, Decl, struct}
-use Rattle.syntax.specs.Trees.{pool, init, Member, lock_member, final_member, field_member, Init, Param}
+use Rattle.syntax.specs.Trees.{Pool, pool, init, Member, lock_member, final_member, field_member, Init, Param}
 use Rattle.core_lang.specs.declared.value.Value.{Value}
 use Rattle.core_lang.specs.declared.value.Value.TheVariants.{Int, Ref}
-use Rattle.core_lang.specs.declared.value.ValueType as core_type
+use Rattle.core_lang.specs.declared.value.ValueType.{ValueType}
 use Rattle.core_lang.specs.declared.value.ValueType.TheVariants.{Integer, Reference}
 use Rattle.resolution.specs.declared.init_target.InitTarget.{InitTarget}
 use Rattle.resolution.specs.declared.wanted.Sort.{Sort}
-use Rattle.resolution.specs.declared.wanted.Sort.TheVariants as sort
+use Rattle.resolution.specs.declared.wanted.Sort.TheVariants.{Of, Null}
 use Rattle.resolution.specs.declared.wanted.Want.{Want}
 use Rattle.resolution.specs.declared.wanted.Want.TheVariants as wanted
 use Rattle.resolution.specs.Limits.{OBJECT_LIMIT}
 use Rattle.resolution.specs.Scopes.{◌>>=◌, outside, named, the_decl, the_member, type_of, struct_named}
 use Rattle.resolution.specs.Numbers.{objects_ahead}
-use Rattle.resolution.specs.Expressions.{number_value, fits_sort, want}
+use Rattle.resolution.specs.Expressions.{fits_sort, want}
 
 -- ---- constants
 
-abbrev pub number_sort : Option ℤ → Option Sort
-number_sort (Some z) = Some (sort.Of Integer)
-number_sort None = None
+-- the sort of a constant; a member of a pool is a reference to an object of the pool's struct, whatever its index
+pub data IsOfSort (decls : List Decl) : Const → Sort → Type 0 where
+  number_sort : {n : Number} → n.value ≤ NUMBER_LIMIT → IsOfSort decls (int_const n) (Of Integer)
+  negative_sort : {sign : Span} {n : Number} → n.value ≤ NUMBER_LIMIT → IsOfSort decls (negative sign n) (Of Integer)
+  null_sort : {at : Span} → IsOfSort decls (null_const at) Null
+  member_sort : {x : Ident} {n : Number} {i s : ℕ} {p : Pool} →
+      the_decl decls x.text ≡ Some (i, pool p) → struct_named decls p.target ≡ Some s →
+      IsOfSort decls (member_const x n) (Of (Reference s))
 
-abbrev pub reference_sort : Option ℕ → Option Sort
-reference_sort (Some s) = Some (sort.Of (Reference s))
-reference_sort None = None
-
--- a member of what the name means: of a pool whose struct has no fault
-abbrev pub member_sort : List Decl → Option (ℕ × Decl) → Option Sort
-member_sort decls (Some (i, pool p)) = reference_sort (struct_named decls p.target)
-member_sort decls _ = None
-
--- what a constant is, if it has a type
-abbrev pub const_sort : List Decl → Const → Option Sort
-const_sort decls (int_const n) = number_sort (number_value n)
-const_sort decls (negative sign n) = number_sort (number_value n)
-const_sort decls (null_const at) = Some sort.Null
-const_sort decls (member_const p n) = member_sort decls (the_decl decls p.text)
-
--- the object that is the member of this index of the pool at this place; past the limit all have one number, and the program has a fault
+-- the object that is the member of this index of the pool at this place; past the limit all have one number, and the
+-- program has a fault
 abbrev pub object_of : List Decl → ℕ → ℕ → ℕ
 object_of decls i n = min (objects_ahead decls i + n) OBJECT_LIMIT
 
--- the member of this index of what the name means, if there is one
-abbrev pub member_of : List Decl → Option (ℕ × Decl) → ℕ → Option Value
-member_of decls (Some (i, pool p)) n = if nat_lt n p.length.value then Some (Ref (Some (object_of decls i n))) else None
-member_of decls _ n = None
+-- the value of a constant; the index of a member is below the length of its pool
+pub data Denotes (decls : List Decl) : Const → Value → Type 0 where
+  a_number : {n : Number} → Denotes decls (int_const n) (Int (pos n.value))
+  a_negative : {sign : Span} {n : Number} → Denotes decls (negative sign n) (Int (neg_ℤ (pos n.value)))
+  no_object : {at : Span} → Denotes decls (null_const at) (Ref None)
+  an_object : {x : Ident} {n : Number} {i : ℕ} {p : Pool} →
+      the_decl decls x.text ≡ Some (i, pool p) → n.value < p.length.value →
+      Denotes decls (member_const x n) (Ref (Some (object_of decls i n.value)))
 
-abbrev pub const_value : List Decl → Const → Option Value
-const_value decls (int_const n) = number_value n >>= λ z. Some (Int z)
-const_value decls (negative sign n) = number_value n >>= λ z. Some (Int (neg_ℤ z))
-const_value decls (null_const at) = Some (Ref None)
-const_value decls (member_const p n) = member_of decls (the_decl decls p.text) n.value
-
--- the value, if it is what is wanted
-abbrev pub if_fitting : Want → Option Sort → Option Value → Option Value
-if_fitting w (Some s) v = if fits_sort w s then v else None
-if_fitting w None v = None
-
--- the value of a constant, if it is what is wanted
-abbrev pub typed_const : List Decl → Want → Const → Option Value
-typed_const decls w c = if_fitting w (const_sort decls c) (const_value decls c)
-
--- each of them, if there are all
-abbrev pub added : {A : Type 0} → Option A → Option (List A) → Option (List A)
-added (Some x) (Some xs) = Some (x ∷ xs)
-added (Some x) None = None
-added None xs = None
+-- a constant is of a sort that is wanted, and this is its value
+pub data Yields (decls : List Decl) (w : Want) (c : Const) (v : Value) : Type 0 where
+  yields : {s : Sort} → IsOfSort decls c s → fits_sort w s ≡ true → Denotes decls c v → Yields decls w c v
 
 -- what a parameter wants of its argument
 abbrev pub want_of : List Decl → Param → Want
 want_of decls p = want (type_of (outside decls) p.value_type)
 
--- arguments, one for each parameter
-abbrev pub typed_arguments : List Decl → List Param → List Const → Option (List Value)
-typed_arguments decls [] [] = Some []
-typed_arguments decls [] (c ∷ cs) = None
-typed_arguments decls (p ∷ ps) [] = None
-typed_arguments decls (p ∷ ps) (c ∷ cs) = added (typed_const decls (want_of decls p) c) (typed_arguments decls ps cs)
+-- arguments, one for each parameter, and their values
+pub data AreArguments (decls : List Decl) : List Param → List Const → List Value → Type 0 where
+  no_constant : AreArguments decls [] [] []
+  one_constant : {p : Param} {c : Const} {v : Value} {ps : List Param} {cs : List Const} {vs : List Value} →
+      Yields decls (want_of decls p) c v → AreArguments decls ps cs vs → AreArguments decls (p ∷ ps) (c ∷ cs) (v ∷ vs)
 
 -- ---- what is given to members of pools
 
@@ -118,7 +97,8 @@ init_target_in p index (Some ms) q = init_target_at p index (the_member ms q)
 init_target_in p index None q = None
 
 abbrev pub init_target_to : List Decl → Option (ℕ × Decl) → ℕ → List ℕ → Option InitTarget
-init_target_to decls (Some (i, pool p)) index q = if nat_lt index p.length.value then init_target_in i index (members_of decls p.target) q else None
+init_target_to decls (Some (i, pool p)) index q =
+    if nat_lt index p.length.value then init_target_in i index (members_of decls p.target) q else None
 init_target_to decls _ index q = None
 
 -- what an `init` gives a value to, if there is such a thing
@@ -152,21 +132,11 @@ given decls g = value_in (giver decls decls g)
 -- ---- opening values
 
 -- what a value of the type is unless one is given: 0 or null
-abbrev pub default_of : core_type.ValueType → Value
+abbrev pub default_of : ValueType → Value
 default_of Integer = Int (pos 0)
 default_of (Reference s) = Ref None
 
--- the value that a thing of the type opens with
-abbrev pub opened : List Decl → core_type.ValueType → Option Const → Option Value
-opened decls t None = Some (default_of t)
-opened decls t (Some c) = typed_const decls (wanted.Value t) c
-
-abbrev pub object_in : Option Value → Option ℕ
-object_in (Some (Ref (Some o))) = Some o
-object_in _ = None
-
--- the object that a final reference to an object of the struct is given
-abbrev pub referred : List Decl → Option ℕ → Option Const → Option ℕ
-referred decls (Some s) (Some c) = object_in (typed_const decls (wanted.Value (Reference s)) c)
-referred decls (Some s) None = None
-referred decls None c = None
+-- what a thing of the type opens with: what it is given, else its default
+pub data Opens (decls : List Decl) (t : ValueType) : Option Const → Value → Type 0 where
+  by_default : Opens decls t None (default_of t)
+  by_constant : {c : Const} {v : Value} → Yields decls (wanted.Value t) c v → Opens decls t (Some c) v

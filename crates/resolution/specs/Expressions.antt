@@ -1,8 +1,5 @@
 -- What expressions are when each name is replaced by the number of what it means; and where paths lead.
-use Rattle.std.specs.Prelude.{ℕ, ℤ, pos, nat_le, min, Bool, true, false, List, [], ◌∷◌, ◌++◌, ◌==◌, Option, Some, None}
-use Rattle.std.specs.Prelude.{if◌then◌else◌}
-use Rattle.source.specs.Texts.{NUMBER_LIMIT}
-use Rattle.source.specs.declared.token.Number.{Number}
+use Rattle.std.specs.Prelude.{ℕ, min, Bool, true, false, List, [], ◌∷◌, ◌++◌, ◌==◌, Option, Some, None}
 use Rattle.syntax.specs.declared.tree.Operator as syntax_operator
 use Rattle.syntax.specs.declared.tree.Operator.TheVariants as op
 use Rattle.syntax.specs.declared.tree.Level.{Level}
@@ -69,10 +66,6 @@ want (Some t) = Value t
 want None = Anything
 
 -- ---- numbers, names and elements
-
--- a number, if it is one that a token can have
-abbrev pub number_value : Number → Option ℤ
-number_value n = if nat_le n.value NUMBER_LIMIT then Some (pos n.value) else None
 
 abbrev pub local_path : ℕ → ℕ → List FieldStep → core.Path
 local_path start i steps = record { start = start; local = i; fields = steps; in_parentheses = false }

@@ -43,7 +43,7 @@ use Rattle.resolution.specs.Expressions.{ResolvedExpr, value, truth, fits, fits_
 use Rattle.resolution.specs.Expressions.{operator_of, Walk, reached, at_lock, walk_from, IsEquality, IsOfNumbers}
 use Rattle.resolution.specs.declared.owner_field.OwnerField.{OwnerField}
 use Rattle.resolution.specs.Statements.{is_var, first_name}
-use Rattle.resolution.specs.Constants.{const_sort, members_of, pool_members, initialised, init_target_of, giver, given}
+use Rattle.resolution.specs.Constants.{IsOfSort, members_of, pool_members, initialised, init_target_of, giver, given}
 use Rattle.resolution.specs.Typing.{Types, IsFinalOf}
 use Rattle.resolution.specs.Annotations.{AnnotationCursor, through_member, cursor_at}
 use Rattle.core_lang_calls.specs.Faults.{IsGraphFault}
@@ -206,7 +206,7 @@ pub data IsWrongType (decls : List Decl) : ℕ → Type 0 where
   unwanted : {sc : Scope} {w : Want} {e : Expr} {s : ResolvedExpr} →
       HasExpr decls sc w e → Types sc e s → fits w s ≡ false → IsWrongType decls (start_of e)
   unwanted_constant : {w : Want} {c : Const} {s : Sort} →
-      HasConst decls w c → const_sort decls c ≡ Some s → fits_sort w s ≡ false → IsWrongType decls (const_start c)
+      HasConst decls w c → IsOfSort decls c s → fits_sort w s ≡ false → IsWrongType decls (const_start c)
   unlike_sides : {sc : Scope} {w : Want} {a b : Expr} {c : written.Comparison} {s t : ResolvedExpr} →
       HasExpr decls sc w (compare a c b) → IsEquality c → Types sc a s → Types sc b t → AreUnlike s t →
       IsWrongType decls (start_of b)

@@ -2,19 +2,23 @@
 -- at its end, and its number is how many stand there before it.
 use Rattle.std.specs.Prelude.{◌≡◌, ℕ, zero, suc, ◌+◌, ◌≤◌, List, [], ◌∷◌, ◌++◌, length, Some}
 use Rattle.source.specs.declared.token.Number.{Number}
-use Rattle.syntax.specs.Trees.{Ident, Member, lock_member, final_member, field_member, Final, Field, Struct, Variable}
+use Rattle.syntax.specs.Trees.{Ident, Const, Member, lock_member, final_member, field_member, Final, Field, Struct}
+use Rattle.syntax.specs.Trees.{Variable}
 use Rattle.syntax.specs.Trees.{Array, Pool, Init, Section, Thread, Decl, lock, struct, global, array, pool, init}
 use Rattle.syntax.specs.Trees.{atomic, helper, thread, Call, Items, no_items, item, call, repeat}
 use Rattle.core_lang.specs.declared.value.Value.{Value}
+use Rattle.core_lang.specs.declared.value.Value.TheVariants.{Ref}
 use Rattle.core_lang.specs.declared.value.ValueType.{ValueType}
+use Rattle.core_lang.specs.declared.value.ValueType.TheVariants.{Reference}
 use Rattle.core_lang.specs.declared.typed.Cell.{Cell}
 use Rattle.core_lang.specs.declared.typed.Owner.TheVariants as owner
 use Rattle.resolution.specs.declared.init_target.InitTarget.{InitTarget}
+use Rattle.resolution.specs.declared.wanted.Want.TheVariants as wanted
 use Rattle.resolution.specs.Core as core
 use Rattle.resolution.specs.Limits.{CALL_LIMIT, section_limits, helper_limits, object_at, cell_at, final_at}
 use Rattle.resolution.specs.Scopes.{outside, the_decl, number_at, type_of, struct_named}
 use Rattle.resolution.specs.Numbers.{total, calls_of}
-use Rattle.resolution.specs.Constants.{typed_arguments, members_of, given, default_of, opened, referred}
+use Rattle.resolution.specs.Constants.{Yields, AreArguments, members_of, given, default_of, Opens}
 use Rattle.resolution.specs.Annotations.{class_of, protection_of}
 use Rattle.resolution.specs.Typing.{TypesSection}
 
@@ -76,13 +80,15 @@ pub data OpensWith (decls : List Decl) (object : ℕ) : InitTarget → ℕ → L
   with_nothing : {at : InitTarget} {n : ℕ} → OpensWith decls object at n [] [] []
   past_lock : {at : InitTarget} {n : ℕ} {x : Ident} {ms : List Member} {os : List ℕ} {cs : List Cell} →
       OpensWith decls object (next at) n ms os cs → OpensWith decls object at n (lock_member x ∷ ms) os cs
-  final_opened : {at : InitTarget} {n o : ℕ} {f : Final} {ms : List Member} {os : List ℕ} {cs : List Cell} →
-      referred decls (struct_named decls f.target) (given decls at) ≡ Some o →
+  final_opened : {at : InitTarget} {n s o : ℕ} {f : Final} {c : Const} {ms : List Member} {os : List ℕ}
+      {cs : List Cell} →
+      struct_named decls f.target ≡ Some s → given decls at ≡ Some c →
+      Yields decls (wanted.Value (Reference s)) c (Ref (Some o)) →
       OpensWith decls object (next at) n ms os cs →
       OpensWith decls object at n (final_member f ∷ ms) (o ∷ os) cs
   field_opened : {at : InitTarget} {n : ℕ} {f : Field} {ms : List Member} {os : List ℕ} {cs : List Cell}
       {t : ValueType} {v : Value} →
-      type_of (outside decls) f.value_type ≡ Some t → opened decls t (given decls at) ≡ Some v →
+      type_of (outside decls) f.value_type ≡ Some t → Opens decls t (given decls at) v →
       OpensWith decls object (next at) (n + 1) ms os cs →
       OpensWith decls object at n (field_member f ∷ ms) os
       (record { owner = owner.Field object n; value_type = t; opening = v } ∷ cs)
@@ -114,7 +120,7 @@ copies (suc n) xs = xs ++ copies n xs
 pub data AreCalls (decls : List Decl) : Items → List core.Call → Type 0 where
   no_call : AreCalls decls no_items []
   one_call : {c : Call} {i : ℕ} {s : Section} {vs : List Value} {is : Items} {cs : List core.Call} →
-      the_decl decls c.section.text ≡ Some (i, atomic s) → typed_arguments decls s.params c.arguments ≡ Some vs →
+      the_decl decls c.section.text ≡ Some (i, atomic s) → AreArguments decls s.params c.arguments vs →
       AreCalls decls is cs →
       AreCalls decls (item (call c) is) (record { section = number_at decls i (atomic s); arguments = vs } ∷ cs)
   repeated : {n : Number} {js is : Items} {bs cs : List core.Call} → AreCalls decls js bs → AreCalls decls is cs →
@@ -133,7 +139,7 @@ pub data Adds (decls : List Decl) (i : ℕ) : Decl → core.Program → core.Pro
       })
   adds_global : {x : Variable} {p : core.Program} {class cell : ℕ} {t : ValueType} {v : Value} →
       class_of decls x.protection ≡ Some class → type_of (outside decls) x.value_type ≡ Some t →
-      opened decls t x.value ≡ Some v → cell_at (length p.cells) ≡ Some cell →
+      Opens decls t x.value v → cell_at (length p.cells) ≡ Some cell →
       Adds decls i (global x) p (record p {
         globals = p.globals ++ record { name = x.name.text; cell = cell; class = class } ∷ [];
         cells = p.cells ++ record { owner = owner.Global (length p.globals); value_type = t; opening = v } ∷ [];

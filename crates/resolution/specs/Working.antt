@@ -4,6 +4,7 @@ pub mod TypedExpressions
 pub mod TypedOwners
 pub mod TypedStatements
 pub mod TypedSections
+pub mod TypedConstants
 pub mod Building
 pub mod FaultLists
 pub mod Laws

@@ -1,6 +1,7 @@
 //! What holds of resolution and of faults: functions that do nothing, and whose contracts are the laws.
 
-ghost use Rattle.resolution.specs.Working.Laws.{ExpressionsByRules, FoundAreAssigned, AssignedAreFound, StatementsByRules, BodiesByRules, SectionsByRules};
+ghost use Rattle.resolution.specs.Working.Laws.{ExpressionsByRules, FoundAreAssigned, AssignedAreFound, WantedAreAsked, FinalsByRules, StatementsByRules, BodiesByRules, SectionsByRules};
+ghost use Rattle.resolution.specs.Working.Laws.{SortsByRules, ConstantsByRules, ArgumentsByRules, OpeningsByRules, ReferencesByRules};
 ghost use Rattle.resolution.specs.Working.Laws.{TheLeastIsAFault, NoneGoesBeforeTheLeast, NoLeastIsNoFault, HaveAtMostOneLeast, FaultlessAreResolved, ResolvedByRules, RulesAreResolved, StandsForOne, GraphOfResolved, ResolvedAreChecked, WithoutHelpersAreWellFormed};
 
 use core_lang_calls::laws::{faultless_keep_limits, listed_faults};
@@ -54,13 +55,25 @@ pub fn without_helpers()
     ensures { WithoutHelpersAreWellFormed }
 {}
 
-/// What the code computes of expressions, the left sides of assignments, statements, bodies and sections is what the
-/// rules of typing say of them, and the other way round.
+/// What the code computes of expressions, the left sides of assignments, what stands behind `where`, statements, bodies
+/// and sections is what the rules of typing say of them, and the other way round.
 pub fn typed_by_rules()
     ensures expressions { ExpressionsByRules }
     ensures found { FoundAreAssigned }
     ensures assigned { AssignedAreFound }
+    ensures wanted { WantedAreAsked }
+    ensures finals { FinalsByRules }
     ensures statements { StatementsByRules }
     ensures bodies { BodiesByRules }
     ensures sections { SectionsByRules }
+{}
+
+/// What the code computes of constants, of arguments, of what things open with and of what final references lead to is
+/// what the rules of constants say of them, and the other way round.
+pub fn constants_by_rules()
+    ensures sorts { SortsByRules }
+    ensures constants { ConstantsByRules }
+    ensures arguments { ArgumentsByRules }
+    ensures openings { OpeningsByRules }
+    ensures references { ReferencesByRules }
 {}

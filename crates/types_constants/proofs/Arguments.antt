@@ -9,7 +9,8 @@ use Rattle.syntax.specs.declared.tree.Const as rust_const
 use Rattle.syntax.specs.Views.{param_of, const_of}
 use Rattle.syntax.specs.Trees.{Decl, Param, Const}
 use Rattle.core_lang.specs.declared.value.Value.{Value}
-use Rattle.resolution.specs.Constants.{added, typed_const, want_of, typed_arguments}
+use Rattle.resolution.specs.Constants.{want_of}
+use Rattle.resolution.specs.Working.TypedConstants.{added, typed_const, typed_arguments}
 use Rattle.resolution.specs.Working.FaultLists.{argument_faults}
 
 pub typed_unlike : (decls : List Decl) (ps : List Param) (cs : List Const) → (length ps ≡ length cs → ⊥) →

@@ -4,7 +4,7 @@ ghost use Rattle.std.specs.Prelude.{◌≡◌, ◌<◌, ◌^◌, IfOk, option_ma
 ghost use Rattle.syntax.specs.Trees.{pool};
 ghost use Rattle.syntax.specs.Views.{member_of, const_of, pool_of};
 ghost use Rattle.resolution.specs.CoreViews.{core_of};
-ghost use Rattle.resolution.specs.Constants.{referred};
+ghost use Rattle.resolution.specs.Working.TypedConstants.{referred};
 ghost use Rattle.resolution.specs.Working.Building.{slot_given, opening_of, final_cell, field_cell};
 ghost use Rattle.resolution.specs.Limits.{up_to, object_at, cell_at, final_at};
 ghost use Rattle.source.specs.Mistakes.{least_of};

@@ -3,7 +3,8 @@ pub mod Theory
 -- what the public clauses cite
 pub use Rattle.resolution.specs.CoreViews.{core_expr, core_condition, core_path}
 pub use Rattle.resolution.specs.Scopes.{meaning, outside, bound, hidden_from, number_at, the_struct, type_of}
-pub use Rattle.resolution.specs.Expressions.{cell_of, local_path, walk_from, number_value, want, fits_type, fits_sort}
+pub use Rattle.resolution.specs.Expressions.{cell_of, local_path, walk_from, want, fits_type, fits_sort}
+pub use Rattle.resolution.specs.Working.TypedExpressions.{number_value}
 pub use Rattle.resolution.specs.Expressions.{operator_of}
 pub use Rattle.resolution.specs.Working.TypedExpressions.{typed, fitting, as_value, number_resolved, test_resolved}
 pub use Rattle.resolution.specs.Working.TypedExpressions.{named_value, path_value, literal, value_of, parenthesised}

@@ -2,7 +2,8 @@
 
 ghost use Rattle.std.specs.Prelude.{◌≡◌, IfOk, Some, option_map};
 ghost use Rattle.resolution.specs.CoreViews.{core_expr, core_condition};
-ghost use Rattle.resolution.specs.Expressions.{value, fits, alike_sorts, number_value, operator_of};
+ghost use Rattle.resolution.specs.Expressions.{value, fits, alike_sorts, operator_of};
+ghost use Rattle.resolution.specs.Working.TypedExpressions.{number_value};
 ghost use Rattle.resolution.specs.Working.TypedExpressions.{fitting, as_value, number_resolved, test_resolved, literal, value_of, parenthesised, negated, not_so, chained, ordered, equated, compared};
 ghost use Rattle.source.specs.Mistakes.{least_of};
 ghost use Rattle.resolution.specs.Working.FaultLists.{misfit, number_faults, unlike, side_faults, operator_faults};

@@ -1,7 +1,8 @@
 //! Numbers, and which values are what is wanted.
 
 ghost use Rattle.std.specs.Prelude.{◌≡◌};
-ghost use Rattle.resolution.specs.Expressions.{number_value, fits_type, fits_sort, want};
+ghost use Rattle.resolution.specs.Expressions.{fits_type, fits_sort, want};
+ghost use Rattle.resolution.specs.Working.TypedExpressions.{number_value};
 ghost use Rattle.source.specs.Mistakes.{least_of};
 ghost use Rattle.resolution.specs.Working.FaultLists.{number_faults};
 

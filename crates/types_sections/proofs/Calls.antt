@@ -10,7 +10,8 @@ use Rattle.resolution.specs.declared.wanted.Want.{Want}
 use Rattle.resolution.specs.Core as core
 use Rattle.resolution.specs.Scopes.{Scope}
 use Rattle.resolution.specs.Working.TypedExpressions.{fitting, as_value, typed}
-use Rattle.resolution.specs.Constants.{added, want_of}
+use Rattle.resolution.specs.Constants.{want_of}
+use Rattle.resolution.specs.Working.TypedConstants.{added}
 use Rattle.resolution.specs.Working.TypedStatements.{typed_values}
 use Rattle.resolution.specs.Working.Building.{joined}
 use Rattle.source.specs.Mistakes.{least_of}

@@ -16,7 +16,7 @@ use Rattle.syntax.specs.declared.tree.Param as the_param
 use Rattle.syntax.specs.declared.tree.Stmt as the_stmt
 use Rattle.syntax.specs.declared.tree.Section as the_section
 use Rattle.syntax.specs.declared.tree.Member as the_member
-use Rattle.syntax.specs.Trees.{ValueType, Const, Member, Call, Item, Items, Place, Expr, compare, Links, Ident, Local}
+use Rattle.syntax.specs.Trees.{ValueType, Const, Member, Item, Items, Place, Expr, compare, Links, Ident, Local}
 use Rattle.syntax.specs.Trees.{Owner, HelperCall, CalledLocal, Stmt, Stmts, Otherwise, let_owned, let_call, assign}
 use Rattle.syntax.specs.Trees.{Section, Decl}
 use Rattle.syntax.specs.Views.{const_of, expr_of, member_of, param_of, section_of, stmts_of}
@@ -37,9 +37,9 @@ use Rattle.resolution.specs.Expressions.{Walk, reached, at_lock, lost}
 use Rattle.resolution.specs.Working.TypedStatements.{last_field, target_of, wanted_by}
 use Rattle.explanation_types.specs.Working.Searches.{inside, in_links, of_expr, of_arguments, of_each, of_call}
 use Rattle.explanation_types.specs.Working.Searches.{of_own, in_blocks, in_else, of_stmts, of_body, of_constants}
-use Rattle.explanation_types.specs.Working.Searches.{of_call_in_thread, in_item, in_items, in_decl, in_decls}
+use Rattle.explanation_types.specs.Working.Searches.{in_item, in_items, in_decl, in_decls}
 use Rattle.resolution.specs.Faults.{start_of, const_start}
-use Rattle.resolution.specs.Constants.{const_sort}
+use Rattle.resolution.specs.Working.TypedConstants.{const_sort}
 use Rattle.explanation_types.specs.TypeNotes.{types_note, sides_note, sort_words, want_words}
 use Rattle.explanation_types.specs.declared.clash.Clash.{Clash}
 use Rattle.explanation_types.specs.declared.clash.Kind as the_kind

@@ -13,7 +13,8 @@ use Rattle.resolution.specs.Core as core
 use Rattle.resolution.specs.Limits.{CALL_LIMIT, section_limits, helper_limits, object_at, cell_at, final_at}
 use Rattle.resolution.specs.Scopes.{◌>>=◌, outside, the_decl, number_at, type_of, struct_named}
 use Rattle.resolution.specs.Numbers.{total, calls_of}
-use Rattle.resolution.specs.Constants.{typed_arguments, members_of, given, default_of, opened, referred}
+use Rattle.resolution.specs.Constants.{members_of, given, default_of}
+use Rattle.resolution.specs.Working.TypedConstants.{typed_arguments, opened, referred}
 use Rattle.resolution.specs.Annotations.{class_of, protection_of}
 use Rattle.resolution.specs.Working.TypedSections.{typed_section}
 use Rattle.resolution.specs.Tables.{nothing_yet, copies}

@@ -48,7 +48,8 @@ use Rattle.resolution.specs.declared.owner_field.OwnerField.{OwnerField}
 use Rattle.resolution.specs.Working.TypedOwners.{owner_field}
 use Rattle.resolution.specs.Statements.{is_var, after, after_all}
 use Rattle.resolution.specs.Working.TypedStatements.{last_field, target_of, wanted_by}
-use Rattle.resolution.specs.Constants.{const_sort, want_of, members_of, pool_members, member_want, initialised}
+use Rattle.resolution.specs.Constants.{want_of, members_of, pool_members, member_want, initialised}
+use Rattle.resolution.specs.Working.TypedConstants.{const_sort}
 use Rattle.resolution.specs.Constants.{init_target_of, giver, given}
 use Rattle.resolution.specs.Annotations.{AnnotationCursor, stepped_on, cursor_at}
 use Rattle.resolution.specs.Statements.{ahead_of}

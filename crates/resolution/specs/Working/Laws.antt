@@ -11,20 +11,31 @@ use Rattle.resolution.specs.Core as core
 use Rattle.resolution.specs.Working.Building.{resolved}
 use Rattle.resolution.specs.Tables.{AreTables}
 use Rattle.resolution.specs.Resolved.{Resolves}
-use Rattle.resolution.specs.Where.{Has}
+use Rattle.resolution.specs.Where.{Has, Asks}
 use Rattle.resolution.specs.Faults.{IsFault, HasNoFault}
 use Rattle.resolution.specs.Working.FaultLists.{program_faults}
 use Rattle.core_lang_calls.specs.Working.Programs.{IsGraphOf}
 use Rattle.resolution.specs.CallGraphs.{tree_graph}
-use Rattle.syntax.specs.Trees.{Expr, Place, Stmt, Stmts}
+use Rattle.syntax.specs.Trees.{Ident, Const, Param, Expr, Place, assign, Stmt, Stmts}
+use Rattle.core_lang.specs.declared.value.Value.{Value}
+use Rattle.core_lang.specs.declared.value.Value.TheVariants.{Ref}
 use Rattle.core_lang.specs.declared.value.ValueType.{ValueType}
+use Rattle.core_lang.specs.declared.value.ValueType.TheVariants.{Reference}
 use Rattle.resolution.specs.declared.body_limits.BodyLimits.{BodyLimits}
+use Rattle.resolution.specs.declared.owner_field.OwnerField.{OwnerField}
+use Rattle.resolution.specs.declared.wanted.Sort.{Sort}
+use Rattle.resolution.specs.declared.wanted.Want.{Want}
+use Rattle.resolution.specs.declared.wanted.Want.TheVariants as wanted
 use Rattle.resolution.specs.Scopes.{Scope}
 use Rattle.resolution.specs.Expressions.{ResolvedExpr}
-use Rattle.resolution.specs.Typing.{Types, Assigns, TypesStmt, TypesBody, TypesSection}
+use Rattle.resolution.specs.Typing.{Types, Assigns, IsFinalOf, TypesStmt, TypesBody, TypesSection}
 use Rattle.resolution.specs.Working.TypedExpressions.{typed}
-use Rattle.resolution.specs.Working.TypedStatements.{Assignee, target_of, set_to, does, typed_stmt, Body, typed_body}
+use Rattle.resolution.specs.Working.TypedOwners.{owner_field}
+use Rattle.resolution.specs.Working.TypedStatements.{Assignee, wanted_by, target_of, set_to, does, typed_stmt, Body}
+use Rattle.resolution.specs.Working.TypedStatements.{typed_body}
 use Rattle.resolution.specs.Working.TypedSections.{typed_section}
+use Rattle.resolution.specs.Constants.{IsOfSort, Yields, AreArguments, Opens}
+use Rattle.resolution.specs.Working.TypedConstants.{const_sort, typed_const, typed_arguments, opened, referred}
 
 -- the least fault of the program's list, if there is one
 abbrev pub the_least : List Decl → Option Mistake
@@ -107,6 +118,23 @@ AssignedAreFound =
     (sc : Scope) (p : Place) (t : ValueType) (set : core.Expr → core.Action) → Assigns sc p t set →
     (a : Assignee) × (target_of sc p ≡ Some a) × (a.value_type ≡ t) × (set_to a.target ≡ set)
 
+-- what the code takes to be wanted of the value that is assigned is what the rules ask of it
+abbrev pub WantedAreAsked : Type 0
+WantedAreAsked =
+    (sc : Scope) (p : Place) →
+    ((e : Expr) → Asks sc (assign p e) (wanted_by (target_of sc p)) e) ×
+    ((t : ValueType) (set : core.Expr → core.Action) → Assigns sc p t set →
+    wanted_by (target_of sc p) ≡ wanted.Value t) ×
+    (((t : ValueType) (set : core.Expr → core.Action) → Assigns sc p t set → ⊥) →
+    wanted_by (target_of sc p) ≡ wanted.Anything)
+
+-- the final reference of a type that a name behind `where` means
+abbrev pub FinalsByRules : Type 0
+FinalsByRules =
+    (decls : List Decl) (t : ValueType) (x : Ident) (f : OwnerField) →
+    (owner_field decls (Some t) x ≡ Some f → IsFinalOf decls t x f) ×
+    (IsFinalOf decls t x f → owner_field decls (Some t) x ≡ Some f)
+
 abbrev pub StatementsByRules : Type 0
 StatementsByRules =
     (sc : Scope) (s : Stmt) (x : core.Stmt) →
@@ -124,3 +152,32 @@ SectionsByRules =
     (decls : List Decl) (limits : BodyLimits) (s : Section) (x : core.Section) →
     (typed_section decls limits s ≡ Some x → TypesSection decls limits s x) ×
     (TypesSection decls limits s x → typed_section decls limits s ≡ Some x)
+
+-- ---- the same of constants
+
+abbrev pub SortsByRules : Type 0
+SortsByRules =
+    (decls : List Decl) (c : Const) (s : Sort) →
+    (const_sort decls c ≡ Some s → IsOfSort decls c s) × (IsOfSort decls c s → const_sort decls c ≡ Some s)
+
+abbrev pub ConstantsByRules : Type 0
+ConstantsByRules =
+    (decls : List Decl) (w : Want) (c : Const) (v : Value) →
+    (typed_const decls w c ≡ Some v → Yields decls w c v) × (Yields decls w c v → typed_const decls w c ≡ Some v)
+
+abbrev pub ArgumentsByRules : Type 0
+ArgumentsByRules =
+    (decls : List Decl) (ps : List Param) (cs : List Const) (vs : List Value) →
+    (typed_arguments decls ps cs ≡ Some vs → AreArguments decls ps cs vs) ×
+    (AreArguments decls ps cs vs → typed_arguments decls ps cs ≡ Some vs)
+
+abbrev pub OpeningsByRules : Type 0
+OpeningsByRules =
+    (decls : List Decl) (t : ValueType) (given : Option Const) (v : Value) →
+    (opened decls t given ≡ Some v → Opens decls t given v) × (Opens decls t given v → opened decls t given ≡ Some v)
+
+abbrev pub ReferencesByRules : Type 0
+ReferencesByRules =
+    (decls : List Decl) (s : ℕ) (c : Const) (o : ℕ) →
+    (referred decls (Some s) (Some c) ≡ Some o → Yields decls (wanted.Value (Reference s)) c (Ref (Some o))) ×
+    (Yields decls (wanted.Value (Reference s)) c (Ref (Some o)) → referred decls (Some s) (Some c) ≡ Some o)

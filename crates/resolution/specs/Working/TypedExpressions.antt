@@ -1,5 +1,7 @@
 -- What the code computes: an expression with each name replaced by the number of what it means, where it has a type.
-use Rattle.std.specs.Prelude.{ℕ, ℤ, true, List, [], Option, Some, None, if◌then◌else◌}
+use Rattle.std.specs.Prelude.{ℕ, ℤ, pos, nat_le, true, List, [], Option, Some, None, if◌then◌else◌}
+use Rattle.source.specs.Texts.{NUMBER_LIMIT}
+use Rattle.source.specs.declared.token.Number.{Number}
 use Rattle.syntax.specs.declared.tree.Level.TheVariants.{Term, Sum, Conjunction, Disjunction}
 use Rattle.syntax.specs.declared.tree.Prefix.TheVariants.{Negate, Not}
 use Rattle.syntax.specs.declared.tree.Comparison as written
@@ -18,7 +20,7 @@ use Rattle.resolution.specs.declared.wanted.Want.TheVariants.{Condition, Value}
 use Rattle.resolution.specs.Core as core
 use Rattle.resolution.specs.Scopes.{Scope, outside, Meaning, a_local, a_decl, nothing, meaning, number_at, type_of}
 use Rattle.resolution.specs.Scopes.{struct_named}
-use Rattle.resolution.specs.Expressions.{ResolvedExpr, value, truth, fits, alike_sorts, number_value, cell_of}
+use Rattle.resolution.specs.Expressions.{ResolvedExpr, value, truth, fits, alike_sorts, cell_of}
 use Rattle.resolution.specs.Expressions.{local_path, Walk, reached, at_lock, lost, walk_from, operator_of}
 
 -- ---- what is given, and what is wanted
@@ -38,6 +40,10 @@ as_truth (Some (value e s)) = None
 as_truth None = None
 
 -- ---- numbers, names and elements
+
+-- a number, if it is one that a token can have
+abbrev pub number_value : Number → Option ℤ
+number_value n = if nat_le n.value NUMBER_LIMIT then Some (pos n.value) else None
 
 abbrev pub literal : Option ℤ → Option ResolvedExpr
 literal (Some z) = Some (value (core.number z) (sort.Of Integer))

@@ -6,7 +6,7 @@ use Rattle.resolution.specs.declared.body_limits.BodyLimits.{BodyLimits}
 use Rattle.resolution.specs.Scopes.{◌>>=◌, Scope, Local, outside, type_of, entered}
 use Rattle.resolution.specs.Working.TypedStatements.{Body, typed_body}
 use Rattle.resolution.specs.Statements.{ahead_of, after_all}
-use Rattle.resolution.specs.Constants.{added}
+use Rattle.resolution.specs.Working.TypedConstants.{added}
 
 abbrev pub core_local : Local → Option core.Local
 core_local l = l.value_type >>= λ t. Some (record { name = l.name; kind = l.kind; value_type = t })

@@ -17,7 +17,8 @@ use Rattle.resolution.specs.Expressions.{want, Walk, reached}
 use Rattle.resolution.specs.Working.TypedExpressions.{fitting, as_value, number_resolved, test_resolved, typed}
 use Rattle.resolution.specs.Expressions.{at_lock, lost, walk_from, local_path, cell_of}
 use Rattle.resolution.specs.Working.TypedOwners.{is_of, owned_by}
-use Rattle.resolution.specs.Constants.{added, want_of}
+use Rattle.resolution.specs.Constants.{want_of}
+use Rattle.resolution.specs.Working.TypedConstants.{added}
 use Rattle.resolution.specs.Statements.{is_var, first_name, after, after_all}
 
 -- ---- the left side of an assignment

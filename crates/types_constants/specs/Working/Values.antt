@@ -12,7 +12,7 @@ use Rattle.core_lang.specs.declared.value.Value.{Value}
 use Rattle.core_lang.specs.declared.typed.Call as the_call
 use Rattle.resolution.specs.Core as core
 use Rattle.resolution.specs.CoreViews.{core_call}
-use Rattle.resolution.specs.Constants.{typed_arguments}
+use Rattle.resolution.specs.Working.TypedConstants.{typed_arguments}
 use Rattle.resolution.specs.Working.Building.{joined}
 use Rattle.resolution.specs.Working.FaultLists.{argument_faults}
 use Rattle.types_symbols.specs.declared.table.SymbolTable.{SymbolTable}

@@ -4,7 +4,7 @@ use Rattle.syntax.specs.Trees.{Decl, Member, lock_member, final_member, field_me
 use Rattle.core_lang.specs.declared.typed.Owner.TheVariants as owner
 use Rattle.resolution.specs.Core as core
 use Rattle.resolution.specs.Scopes.{◌>>=◌, outside, type_of, struct_named}
-use Rattle.resolution.specs.Constants.{referred}
+use Rattle.resolution.specs.Working.TypedConstants.{referred}
 use Rattle.resolution.specs.Working.Building.{Slot, slot_given, final_cell, field_cell, opening_of}
 use Rattle.types_declarations.specs.declared.pool.Slot as s
 

@@ -1,5 +1,6 @@
 use Rattle.resolution.proofs.ExpressionRules.{types_is, typed_is}
-use Rattle.resolution.proofs.OwnerRules.{target_types, target_is}
+use Rattle.resolution.proofs.OwnerRules.{target_types, target_is, asks_right, wanted_right, wanted_nothing}
+use Rattle.resolution.proofs.OwnerRules.{final_of_type, final_is}
 use Rattle.resolution.proofs.StatementRules.{types_stmt, stmt_is, types_body, body_is, types_the_section, section_is}
 use Rattle.resolution.proofs.laws.typed_by_rules.Goals as goal
 
@@ -11,6 +12,12 @@ returns-clause-found c = λ sc p a. target_types sc p a
 
 pub returns-clause-assigned : goal.returns-clause-assigned
 returns-clause-assigned c = λ sc p t set h. target_is h
+
+pub returns-clause-wanted : goal.returns-clause-wanted
+returns-clause-wanted c = λ sc p. (asks_right sc p, λ t set h. wanted_right h, wanted_nothing sc p)
+
+pub returns-clause-finals : goal.returns-clause-finals
+returns-clause-finals c = λ decls t x f. (final_of_type decls t x f, final_is)
 
 pub returns-clause-statements : goal.returns-clause-statements
 returns-clause-statements c = λ sc s x. (types_stmt sc s x, stmt_is)

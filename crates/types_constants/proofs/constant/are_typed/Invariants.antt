@@ -1,7 +1,7 @@
 use Rattle.std.proofs.Common.{◌≡◌, drop}
 use Rattle.std.specs.Prelude.{map, is_some}
 use Rattle.syntax.specs.Views.{param_of, const_of}
-use Rattle.resolution.specs.Constants.{typed_arguments}
+use Rattle.resolution.specs.Working.TypedConstants.{typed_arguments}
 use Rattle.types_symbols.specs.Working.Views.{decls_of}
 use Rattle.types_constants.proofs.constant.are_typed.Given as goal
 

@@ -1,7 +1,7 @@
 use Rattle.std.proofs.Common.{◌≡◌, drop}
 use Rattle.std.specs.Prelude.{map, option_map}
 use Rattle.syntax.specs.Views.{param_of, const_of}
-use Rattle.resolution.specs.Constants.{typed_arguments}
+use Rattle.resolution.specs.Working.TypedConstants.{typed_arguments}
 use Rattle.resolution.specs.Working.Building.{joined}
 use Rattle.types_symbols.specs.Working.Views.{decls_of}
 use Rattle.types_constants.proofs.constant.typed_arguments.Given as goal
