@@ -59,25 +59,25 @@ module _ (operand : Reader Expr) (shorter : Shortens operand) (k : Level) where
   pub link_goes_on : (ls : List l.Link) (x : l.Link) (ts after rest : List Tok) (total : Result (Links × List Tok) Stop)
       → op_at k ts ≡ Some (x.op, after) → operand after ≡ Ok (expr_of x.operand, rest)
       → with_front (links_before ls) (links_at operand k ts) ≡ total → with_front (links_before (ls ++ x ∷ []))
-          (links_at operand k rest) ≡ total
+      (links_at operand k rest) ≡ total
   link_goes_on ls x ts after rest total found read =
       goes_on no_links add_link (next_link operand k) (next_link_shortens operand shorter k) (links_before ls)
-          (links_before (ls ++ x ∷ [])) ts rest (x.op, expr_of x.operand) total (rw (found, read) refl)
-          (links_before-push ls x)
+      (links_before (ls ++ x ∷ [])) ts rest (x.op, expr_of x.operand) total (rw (found, read) refl)
+      (links_before-push ls x)
 
   pub link_ends : (ls : List l.Link) (ts : List Tok) (total : Result (Links × List Tok) Stop) → op_at k ts ≡ None →
       with_front (links_before ls) (links_at operand k ts) ≡ total → total ≡ Ok (links_of ls, ts)
   link_ends ls ts total found so_far =
       ends no_links add_link (next_link operand k) (next_link_shortens operand shorter k) (links_before ls) ts total
-          (rw found refl) so_far ∙ ap (λ (x : Links). Ok (x, ts)) (links_before-nothing ls)
+      (rw found refl) so_far ∙ ap (λ (x : Links). Ok (x, ts)) (links_before-nothing ls)
 
   pub link_stops : (e : Stop) (front : Links →
       Links) (ts after : List Tok) (op : Operator) (total : Result (Links × List Tok) Stop) → op_at k ts ≡ Some
-          (op, after) → Fails e (operand after) → with_front front (links_at operand k ts) ≡ total → Fails e total
+      (op, after) → Fails e (operand after) → with_front front (links_at operand k ts) ≡ total → Fails e total
   link_stops e front ts after op total found fails =
       stops no_links add_link (next_link operand k) (next_link_shortens operand shorter k) e front ts
-          (operand after >>= λ x. Ok ((op, x.0), x.1)) total (rw found refl)
-          (fails_on e (operand after) (λ x. Ok ((op, x.0), x.1)) fails)
+      (operand after >>= λ x. Ok ((op, x.0), x.1)) total (rw found refl)
+      (fails_on e (operand after) (λ x. Ok ((op, x.0), x.1)) fails)
 
 -- ---- the first operand, and the first link
 
@@ -128,11 +128,11 @@ module _ (operand : Reader Expr) (shorter : Shortens operand) (k : Level) (ts mi
     operand_stops e fails =
         let one : Result ((Operator × Expr) × List Tok) Stop = operand after >>= λ y. Ok ((op, y.0), y.1) in
         let more : (Operator × Expr) × List Tok → Result (Links × List Tok) Stop = λ y. links_at operand k y.1 >>= λ l.
-            Ok (add_link y.0 l.0, l.1) in
+        Ok (add_link y.0 l.0, l.1) in
         let all : links_at operand k mid ≡ (one >>= more) = by_turn mid ∙ rw found refl in
         subst (Fails e) (sym (by_links ∙ ap (chained_from k x) all))
         (fails_on e (one >>= more) (λ l. Ok (chained k x l.0, l.1)) (fails_on e one more
-            (fails_on e (operand after) (λ y. Ok ((op, y.0), y.1)) fails)))
+        (fails_on e (operand after) (λ y. Ok ((op, y.0), y.1)) fails)))
 
     module _ (y : Expr) (rest : List Tok) (read : operand after ≡ Ok (y, rest)) where
       with_links : chain_at operand k ts ≡ chain_from k x (links_behind operand k (op, y) rest)

@@ -88,8 +88,12 @@ pub record NoOps (n : ℕ) (ts : List Tok) : Type 0 where
   pub no_place : NoPlace ts
 
 no_ops_less : (m n : ℕ) (ts : List Tok) → m ≤ n → NoOps n ts → NoOps m ts
-no_ops_less m n ts le h = record { none = λ k low. h.none k (le_trans low le); no_comparison = λ low. h.no_comparison
-    (le_trans low le); no_place = h.no_place }
+no_ops_less m n ts le h = record {
+  none = λ k low. h.none k (le_trans low le);
+  no_comparison = λ low. h.no_comparison
+      (le_trans low le);
+  no_place = h.no_place;
+}
 
 op_found : (op : Operator) (at : Span) (ts : List Tok) →
     op_at (level_of op) (tok (mark (sign_of op)) at ∷ ts) ≡ Some (op, ts)
@@ -156,8 +160,12 @@ op_no_place Or at ts = record { no_bracket = refl; no_dot = refl; no_field = ref
 
 op_not_below : (op : Operator) (at : Span) (ts : List Tok) →
     NoOps (below (level_of op)) (tok (mark (sign_of op)) at ∷ ts)
-op_not_below op at ts = record { none = tighter op at ts; no_comparison = λ low. op_no_comparison op at ts; no_place =
-    op_no_place op at ts }
+op_not_below op at ts = record {
+  none = tighter op at ts;
+  no_comparison = λ low. op_no_comparison op at ts;
+  no_place =
+      op_no_place op at ts;
+}
 
 -- before a comparison
 
@@ -209,8 +217,12 @@ comparison_no_place Greater at ts = record { no_bracket = refl; no_dot = refl; n
 comparison_no_place GreaterOrEqual at ts = record { no_bracket = refl; no_dot = refl; no_field = refl }
 
 no_ops_comparison : (c : Comparison) (at : Span) (ts : List Tok) → NoOps SUM (tok (mark (comparison_sign c)) at ∷ ts)
-no_ops_comparison c at ts = record { none = λ k low. compared_none c at ts k; no_comparison = λ low. absurd
-    (omega arith); no_place = comparison_no_place c at ts }
+no_ops_comparison c at ts = record {
+  none = λ k low. compared_none c at ts k;
+  no_comparison = λ low. absurd
+      (omega arith);
+  no_place = comparison_no_place c at ts;
+}
 
 -- before and behind links no tighter operator stands
 links_stop : {k : Level} {l : Links} {ts rest : List Tok} → IsLinks k l ts rest → NoOps (rank k) rest →
@@ -235,21 +247,21 @@ module _ (operand : Reader Expr) (shorter : Shortens operand) (k : Level) where
       Finds (links_at operand k ts) (link op x l, rest)
   link_found op x l ts after mid rest e first more =
       let item = finds_then {B = (Operator × Expr) × List Tok} (operand after) (λ y. Ok ((op, y.0), y.1)) (x, mid)
-          ((op, x), mid) first (found refl) in
+      ((op, x), mid) first (found refl) in
       same_finds (links_at operand k ts) ((operand after >>= λ y. Ok ((op, y.0), y.1)) >>= λ y. links_at operand k y.1
-          >>= λ l. Ok (add_link y.0 l.0, l.1)) (link op x l, rest) (by_turn ts ∙ rw e refl)
-          (finds_then (operand after >>= λ y. Ok ((op, y.0), y.1)) (λ y. links_at operand k y.1 >>= λ l. Ok
-          (add_link y.0 l.0, l.1)) ((op, x), mid) (link op x l, rest) item
-          (finds_then (links_at operand k mid) (λ l. Ok (link op x l.0, l.1)) (l, rest) (link op x l, rest) more
-          (found refl)))
+      >>= λ l. Ok (add_link y.0 l.0, l.1)) (link op x l, rest) (by_turn ts ∙ rw e refl)
+      (finds_then (operand after >>= λ y. Ok ((op, y.0), y.1)) (λ y. links_at operand k y.1 >>= λ l. Ok
+      (add_link y.0 l.0, l.1)) ((op, x), mid) (link op x l, rest) item
+      (finds_then (links_at operand k mid) (λ l. Ok (link op x l.0, l.1)) (l, rest) (link op x l, rest) more
+      (found refl)))
 
   chain_found : (x : Expr) (l : Links) (ts mid rest : List Tok) → Finds (operand ts) (x, mid) →
       Finds (links_at operand k mid) (l, rest) → Finds (chain_at operand k ts) (chained k x l, rest)
   unfolding chain_at
   chain_found x l ts mid rest first more =
       finds_then (operand ts) (λ y. links_at operand k y.1 >>= λ l. Ok (chained k y.0 l.0, l.1)) (x, mid)
-          (chained k x l, rest) first (finds_then (links_at operand k mid) (λ l. Ok (chained k x l.0, l.1)) (l, rest)
-          (chained k x l, rest) more (found refl))
+      (chained k x l, rest) first (finds_then (links_at operand k mid) (λ l. Ok (chained k x l.0, l.1)) (l, rest)
+      (chained k x l, rest) more (found refl))
 
 -- ---- what is read at a rank is read at a higher one
 
@@ -347,8 +359,12 @@ none_before_close at ts Disjunction = refl
 
 pub no_ops_close : (at : Span) (ts : List Tok) → NoOps ANY (tok (mark CloseParen) at ∷ ts)
 unfolding comparison_at skip_at
-no_ops_close at ts = record { none = λ k low. none_before_close at ts k; no_comparison = λ low. refl; no_place = record
-    { no_bracket = refl; no_dot = refl; no_field = refl } }
+no_ops_close at ts = record {
+  none = λ k low. none_before_close at ts k;
+  no_comparison = λ low. refl;
+  no_place = record
+      { no_bracket = refl; no_dot = refl; no_field = refl };
+}
 
 none_before_comma : (at : Span) (ts : List Tok) (k : Level) → op_at k (tok (mark Comma) at ∷ ts) ≡ None
 unfolding op_at
@@ -359,8 +375,12 @@ none_before_comma at ts Disjunction = refl
 
 pub no_ops_comma : (at : Span) (ts : List Tok) → NoOps ANY (tok (mark Comma) at ∷ ts)
 unfolding comparison_at skip_at
-no_ops_comma at ts = record { none = λ k low. none_before_comma at ts k; no_comparison = λ low. refl; no_place = record
-    { no_bracket = refl; no_dot = refl; no_field = refl } }
+no_ops_comma at ts = record {
+  none = λ k low. none_before_comma at ts k;
+  no_comparison = λ low. refl;
+  no_place = record
+      { no_bracket = refl; no_dot = refl; no_field = refl };
+}
 
 none_before_bracket : (at : Span) (ts : List Tok) (k : Level) → op_at k (tok (mark CloseBracket) at ∷ ts) ≡ None
 unfolding op_at
@@ -371,8 +391,12 @@ none_before_bracket at ts Disjunction = refl
 
 pub no_ops_bracket : (at : Span) (ts : List Tok) → NoOps ANY (tok (mark CloseBracket) at ∷ ts)
 unfolding comparison_at skip_at
-no_ops_bracket at ts = record { none = λ k low. none_before_bracket at ts k; no_comparison = λ low. refl; no_place =
-    record { no_bracket = refl; no_dot = refl; no_field = refl } }
+no_ops_bracket at ts = record {
+  none = λ k low. none_before_bracket at ts k;
+  no_comparison = λ low. refl;
+  no_place =
+      record { no_bracket = refl; no_dot = refl; no_field = refl };
+}
 
 none_before_semicolon : (at : Span) (ts : List Tok) (k : Level) → op_at k (tok (mark Semicolon) at ∷ ts) ≡ None
 unfolding op_at
@@ -383,8 +407,12 @@ none_before_semicolon at ts Disjunction = refl
 
 pub no_ops_semicolon : (at : Span) (ts : List Tok) → NoOps ANY (tok (mark Semicolon) at ∷ ts)
 unfolding comparison_at skip_at
-no_ops_semicolon at ts = record { none = λ k low. none_before_semicolon at ts k; no_comparison = λ low. refl; no_place =
-    record { no_bracket = refl; no_dot = refl; no_field = refl } }
+no_ops_semicolon at ts = record {
+  none = λ k low. none_before_semicolon at ts k;
+  no_comparison = λ low. refl;
+  no_place =
+      record { no_bracket = refl; no_dot = refl; no_field = refl };
+}
 
 none_before_where : (at : Span) (ts : List Tok) (k : Level) → op_at k (tok (word keyword.Where) at ∷ ts) ≡ None
 unfolding op_at
@@ -395,8 +423,12 @@ none_before_where at ts Disjunction = refl
 
 pub no_ops_where : (at : Span) (ts : List Tok) → NoOps ANY (tok (word keyword.Where) at ∷ ts)
 unfolding comparison_at skip_at
-no_ops_where at ts = record { none = λ k low. none_before_where at ts k; no_comparison = λ low. refl; no_place = record
-    { no_bracket = refl; no_dot = refl; no_field = refl } }
+no_ops_where at ts = record {
+  none = λ k low. none_before_where at ts k;
+  no_comparison = λ low. refl;
+  no_place = record
+      { no_bracket = refl; no_dot = refl; no_field = refl };
+}
 
 pub no_place_equals : (at : Span) (ts : List Tok) → NoPlace (tok (mark Equals) at ∷ ts)
 unfolding skip_at
@@ -409,7 +441,7 @@ unfolding prim_with inside_at sign_at
 paren_found zero at close e ts rest h = deep (suc (length ts)) refl
 paren_found (suc room) at close e ts rest h =
     finds_then (rank_at ANY room ts) (λ e. sign_at CloseParen e.1 >>= λ c. Ok (paren at e.0, c.1))
-        (e, tok (mark CloseParen) close ∷ rest) (paren at e, rest) (h room) (found refl)
+    (e, tok (mark CloseParen) close ∷ rest) (paren at e, rest) (h room) (found refl)
 
 prefix_found : (room : ℕ) (op : Prefix) (at : Span) (e : Expr) (ts rest : List Tok) →
     Finds (prim_at room ts) (e, rest) →
@@ -428,11 +460,11 @@ compare_found room c at left right ts mid rest f g =
     let sum = level_at Sum room in
     let behind = tok (mark (comparison_sign c)) at ∷ mid in
     finds_then (sum ts) (λ l. compared_from sum l.0 (comparison_at l.1) l.1) (left, behind) (compare left c right, rest)
-        f
+    f
     (same_finds (compared_from sum left (comparison_at behind) behind) (sum mid >>= λ r. Ok (compare left c r.0, r.1))
-        (compare left c right, rest) (ap (λ o. compared_from sum left o behind) (comparison_found c at mid))
-        (finds_then (sum mid) (λ r. Ok (compare left c r.0, r.1)) (right, rest) (compare left c right, rest) g
-        (found refl)))
+    (compare left c right, rest) (ap (λ o. compared_from sum left o behind) (comparison_found c at mid))
+    (finds_then (sum mid) (λ r. Ok (compare left c r.0, r.1)) (right, rest) (compare left c right, rest) g
+    (found refl)))
 
 -- ---- places
 
@@ -443,11 +475,11 @@ unfolding element_at open_at inside_at sign_at
 element_found zero x e begin close ts rest h = deep (suc (length ts)) refl
 element_found (suc room) x e begin close ts rest h =
     finds_then (rank_at ANY room ts) (λ e. sign_at CloseBracket e.1 >>= λ c. Ok (element x e.0, c.1))
-        (e, tok (mark CloseBracket) close ∷ rest) (element x e, rest) (h room) (found refl)
+    (e, tok (mark CloseBracket) close ∷ rest) (element x e, rest) (h room) (found refl)
 
 fields_back : {y : List Ident} {ts rest : List Tok} → IsFields y ts rest →
     Both (IsTok (mark Dot)) (λ d. Both IsName (λ first. Both (AreMany (IsAfter Dot IsName))
-        (λ more. Done (first ∷ more)))) y ts rest
+    (λ more. Done (first ∷ more)))) y ts rest
 fields_back (is_fields more) = both is_tok (both is_name (both more done))
 
 done_stops : {B : Type 0} {x y : B} {ts rest : List Tok} → Done x y ts rest → NoSign Dot rest → NoSign Dot ts
@@ -458,8 +490,8 @@ unfolding fields_at
 fields_found =
     production_found IsFields
     (and_found (sign_found Dot) (and_found name_found (then_found {F = NoSign Dot}
-        (each_found IsName name_at name_found Dot next_name_shortens) (λ x a y ts rest r f. done_stops r f)
-        (ends_found (λ x. x.0.1 ∷ x.1)))))
+    (each_found IsName name_at name_found Dot next_name_shortens) (λ x a y ts rest r f. done_stops r f)
+    (ends_found (λ x. x.0.1 ∷ x.1)))))
     (λ y ts rest h. fields_back h)
 
 -- a place is a name and what is read behind it
@@ -494,8 +526,8 @@ module _ (room : ℕ) (x : Ident) where
   path_found fs dot ts rest h =
       let us = tok (mark Dot) dot ∷ ts in
       choose_right (mark OpenBracket) (element_at room (inside_at room) x) behind_bracket us (path x fs, rest) refl
-          (choose_left (mark Dot) (path_at x) (alone_at x) us (path x fs, rest) refl
-          (finds_then (fields_at us) (λ fs. Ok (path x fs.0, fs.1)) (fs, rest) (path x fs, rest) h (found refl)))
+      (choose_left (mark Dot) (path_at x) (alone_at x) us (path x fs, rest) refl
+      (finds_then (fields_at us) (λ fs. Ok (path x fs.0, fs.1)) (fs, rest) (path x fs, rest) h (found refl)))
 
   bracket_found : (e : Expr) (begin : Span) (ts rest : List Tok) →
       Finds (element_at room (inside_at room) x (tok (mark OpenBracket) begin ∷ ts)) (element x e, rest) →
@@ -521,14 +553,14 @@ mutual
   expr_found {n = n} (is_chain {k = k} {first = first} {x = x} {op = op} {more = more} {ts = ts} {mid = mid}
       {rest = rest} le a b) room h =
       lift room (chain k first (link op x more)) ts rest (rank k) n (rank_some k) le h
-          (same_finds (rank_at (rank k) room ts) (chain_at (rank_at (below k) room) k ts) _ (rank_is k room ts)
-          (chain_found (rank_at (below k) room) (rank_shortens k room) k first (link op x more) ts mid rest
-          (expr_found a room (more_stop b)) (links_found b room (no_ops_less (rank k) n rest le h))))
+      (same_finds (rank_at (rank k) room ts) (chain_at (rank_at (below k) room) k ts) _ (rank_is k room ts)
+      (chain_found (rank_at (below k) room) (rank_shortens k room) k first (link op x more) ts mid rest
+      (expr_found a room (more_stop b)) (links_found b room (no_ops_less (rank k) n rest le h))))
   expr_found {n = n} (is_compare {c = c} {left = left} {right = right} {at = at} {ts = ts} {mid = mid} {rest = rest} le
       a b) room h =
       lift room (compare left c right) ts rest COMPARED n (omega arith) le h
-          (compare_found room c at left right ts mid rest (expr_found a room (no_ops_comparison c at mid))
-          (expr_found b room (no_ops_less SUM n rest (omega (arith, le)) h)))
+      (compare_found room c at left right ts mid rest (expr_found a room (no_ops_comparison c at mid))
+      (expr_found b room (no_ops_less SUM n rest (omega (arith, le)) h)))
 
   pub links_found : {k : Level} {l : Links} {ts rest : List Tok} → IsLinks k l ts rest → (room : ℕ) →
       NoOps (rank k) rest → Finds (links_at (rank_at (below k) room) k ts) (l, rest)
@@ -536,19 +568,33 @@ mutual
       ts (h.none k (le_refl (rank k)))
   links_found (is_link {op = op} {x = x} {more = l} {at = at} {ts = ts} {mid = mid} {rest = rest} e more) room h =
       link_found (rank_at (below (level_of op)) room) (rank_shortens (level_of op) room) (level_of op) op x l _ ts mid
-          rest (op_found op at ts) (expr_found e room (links_stop more h)) (links_found more room h)
+      rest (op_found op at ts) (expr_found e room (links_stop more h)) (links_found more room h)
 
   pub place_found : {p : Place} {ts rest : List Tok} → IsPlace p ts rest → (room : ℕ) → NoPlace rest →
       PlaceFound room p ts rest
-  place_found (is_lone {x = x} {ts = ts}) room h = record { first = x; behind = ts; parts = refl; finds = lone_found
-      room x ts h }
-  place_found (is_element {x = x} {e = e} {begin = begin} {close = close} {ts = ts} {rest = rest} i) room h = record
-      { first = x; behind = tok (mark OpenBracket) begin ∷ ts; parts = refl; finds = bracket_found room x e begin ts
-      rest (element_found room x e begin close ts rest (λ room. expr_found i room (no_ops_bracket close rest))) }
+  place_found (is_lone {x = x} {ts = ts}) room h = record {
+    first = x;
+    behind = ts;
+    parts = refl;
+    finds = lone_found
+        room x ts h;
+  }
+  place_found (is_element {x = x} {e = e} {begin = begin} {close = close} {ts = ts} {rest = rest} i) room h = record {
+    first = x;
+    behind = tok (mark OpenBracket) begin ∷ ts;
+    parts = refl;
+    finds = bracket_found room x e begin ts
+        rest (element_found room x e begin close ts rest (λ room. expr_found i room (no_ops_bracket close rest)));
+  }
   place_found (is_path {x = x} {first = first} {fields = fields} {dot = dot} {ts = ts} {rest = rest} more) room h =
-      record { first = x; behind = tok (mark Dot) dot ∷ name_tok first ∷ ts; parts = refl; finds = path_found room x
-      (first ∷ fields) dot (name_tok first ∷ ts) rest (fields_found (first ∷ fields)
-      (tok (mark Dot) dot ∷ name_tok first ∷ ts) rest (is_fields more) h.no_field) }
+      record {
+        first = x;
+        behind = tok (mark Dot) dot ∷ name_tok first ∷ ts;
+        parts = refl;
+        finds = path_found room x
+            (first ∷ fields) dot (name_tok first ∷ ts) rest (fields_found (first ∷ fields)
+            (tok (mark Dot) dot ∷ name_tok first ∷ ts) rest (is_fields more) h.no_field);
+      }
 
 pub any_found : {e : Expr} {ts rest : List Tok} → IsExpr ANY e ts rest → (room : ℕ) → NoOps ANY rest →
     Finds (expr_at room ts) (e, rest)
@@ -588,7 +634,7 @@ unfolding ended_at
 ended_found room =
     production_found IsEnded
     (then_found {F = NoOps ANY} (λ e ts mid h f. any_found h room f) (λ x a y ts rest r f. semicolon_stops r)
-        (and_found (sign_found Semicolon) (ends_found (λ x. x.0.1))))
+    (and_found (sign_found Semicolon) (ends_found (λ x. x.0.1))))
     (λ y ts rest h. ended_back h)
 
 pub condition_found : (room : ℕ) (e : Expr) (before behind : Span) (ts rest : List Tok) →
@@ -612,4 +658,4 @@ unfolding inside_at
 arguments_found room r e =
     subst (λ (n : ℕ). FindsPart ClosesAll (AreListed (IsExpr ANY)) (listed_at (inside_at n))) (sym e)
     (listed_ended (NoOps ANY) (IsExpr ANY) (expr_at r) (λ x ts mid h stops. any_found h r stops) no_ops_comma
-        (next_argument_shortens r) (λ x ts rest h. (expr_starts h).0))
+    (next_argument_shortens r) (λ x ts rest h. (expr_starts h).0))

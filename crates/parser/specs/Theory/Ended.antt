@@ -58,14 +58,19 @@ module _ {T R A : Type 0} (s : Sign) (part : Reader A) (ts : List Tok) where
       Ended s part ts rest (view y)
   ended (Ok x) view see y rest is h =
       let found = sign_read (sign_at s (see x.1)) x.0 y rest h in
-      record { between = see x.1; at = found.at; read = is ∙ ap (λ (a : T). Ok (view a, see x.1)) found.same; sign =
-          found.is }
+      record {
+        between = see x.1;
+        at = found.at;
+        read = is ∙ ap (λ (a : T). Ok (view a, see x.1)) found.same;
+        sign =
+            found.is;
+      }
   ended (Err e) view see y rest is h = absurd cc
 
   pub unended : {B : Type 0} (read : Result (T × R) Stop) (view : T → A) (see : R →
       List Tok) (e : Stop) (more : A × List Tok → Span × List Tok →
       Result B Stop) → Gives (λ x. (view x.0, see x.1)) read (part ts) → Fails e (closing s see read) → Fails e
-          (part ts >>= λ x. sign_at s x.1 >>= more x)
+      (part ts >>= λ x. sign_at s x.1 >>= more x)
   unended (Ok x) view see e more is h = rw is (fails_more e (sign_at s (see x.1)) (kept x.0) (more (view x.0, see x.1))
       (λ c never. never_fails e _ _ never) h)
   unended (Err d) view see e more is h = passed_on (T × List Tok) e d (part ts >>= λ x. sign_at s x.1 >>= more x)

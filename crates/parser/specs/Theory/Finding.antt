@@ -57,17 +57,17 @@ ends_found {F = F} make = record { find = done_found make F }
 module _ {X A B : Type 0} (F G : List Tok → Type 0) (RF : A → List Tok → List Tok → Type 0) (f : Reader A)
     (R : X × A → B → List Tok → List Tok → Type 0) (g : X × A → Reader B) (part : FindsPart F RF f)
     (follows : (x : X) (a : A) (y : B) (ts rest : List Tok) → R (x, a) y ts rest → G rest → F ts) (more : Finding G R g)
-    where
-  both_found : (x : X) (y : B) (ts rest : List Tok) → Both RF (λ a. R (x, a)) y ts rest → G rest →
-      Finds (f ts >>= λ a. g (x, a.0) a.1) (y, rest)
-  both_found x y ts rest (both {x = a} {mid = mid} r q) follow =
-      finds_then (f ts) (λ a. g (x, a.0) a.1) (a, mid) (y, rest) (part a ts mid r (follows x a y mid rest q follow))
-          (more.find (x, a) y mid rest q follow)
+  where
+    both_found : (x : X) (y : B) (ts rest : List Tok) → Both RF (λ a. R (x, a)) y ts rest → G rest →
+        Finds (f ts >>= λ a. g (x, a.0) a.1) (y, rest)
+    both_found x y ts rest (both {x = a} {mid = mid} r q) follow =
+        finds_then (f ts) (λ a. g (x, a.0) a.1) (a, mid) (y, rest) (part a ts mid r (follows x a y mid rest q follow))
+        (more.find (x, a) y mid rest q follow)
 
 pub then_found : {X A B : Type 0} {F G : List Tok → Type 0} {RF : A → List Tok → List Tok →
     Type 0} {f : Reader A} {R : X × A → B → List Tok → List Tok → Type 0} {g : X × A → Reader B}
     → FindsPart F RF f → ((x : X) (a : A) (y : B) (ts rest : List Tok) → R (x, a) y ts rest → G rest → F ts) → Finding G
-        R g
+    R g
     → Finding G (λ (x : X). Both RF (λ a. R (x, a))) (λ (x : X) ts. f ts >>= λ a. g (x, a.0) a.1)
 then_found {F = F} {G = G} {RF = RF} {f = f} {R = R} {g = g} part follows more = record
     { find = both_found F G RF f R g part follows more }
@@ -77,8 +77,10 @@ pub and_found : {X A B : Type 0} {G : List Tok → Type 0} {RF : A → List Tok 
     Type 0} {f : Reader A} {R : X × A → B → List Tok → List Tok → Type 0} {g : X × A → Reader B}
     → FindsPart Anything RF f → Finding G R g
     → Finding G (λ (x : X). Both RF (λ a. R (x, a))) (λ (x : X) ts. f ts >>= λ a. g (x, a.0) a.1)
-and_found {G = G} {RF = RF} {f = f} {R = R} {g = g} part more = record { find = both_found Anything G RF f R g part
-    (λ x a y ts rest r follow. tt) more }
+and_found {G = G} {RF = RF} {f = f} {R = R} {g = g} part more = record {
+  find = both_found Anything G RF f R g part
+      (λ x a y ts rest r follow. tt) more;
+}
 
 pub production_found : {B : Type 0} {F : List Tok → Type 0} {R : Unit {0} → B → List Tok → List Tok →
     Type 0} {g : Unit {0} → Reader B} (RH : B → List Tok → List Tok → Type 0)
@@ -116,14 +118,14 @@ module _ {X B : Type 0} (G : List Tok → Type 0) (s : Sign) (R : X × Span → 
       (λ a. g (x, a.0) a.1) (y, rest)
   open_found (suc r) more x y _ rest (both {x = a} {mid = mid} is_tok q) follow =
       finds_then (open_at s (suc r) (tok (mark s) a ∷ mid)) (λ a. g (x, a.0) a.1) (a, mid) (y, rest)
-          (room_found s r a mid) ((more r refl).find (x, a) y mid rest q follow)
+      (room_found s r a mid) ((more r refl).find (x, a) y mid rest q follow)
 
 -- an opening sign, and what is behind it, which is read only where one may be opened
 pub open_then : {X B : Type 0} {G : List Tok → Type 0} (s : Sign) (room : ℕ) {R : X × Span → B → List Tok → List Tok →
     Type 0} {g : X × Span → Reader B}
     → ((r : ℕ) → room ≡ suc r → Finding G R g)
     → Finding G (λ (x : X). Both (IsTok (mark s)) (λ a. R (x, a))) (λ (x : X) ts. open_at s room ts >>= λ a. g (x, a.0)
-        a.1)
+    a.1)
 open_then {G = G} s room {R = R} {g = g} more = record { find = open_found G s R g room more }
 
 pub name_found : FindsPart Anything IsName name_at
@@ -150,7 +152,7 @@ unfolding maybe_at
 maybe_found {A = A} {f = f} k part starts _ ts mid left_out follow = found (ap (λ (b : Bool). maybe_from f b ts) follow)
 maybe_found {A = A} {f = f} k part starts _ ts mid (given {x = x} r) follow =
     same_finds _ (maybe_from f true ts) (Some x, mid) (ap (λ (b : Bool). maybe_from f b ts) (starts x ts mid r))
-        (finds_then (f ts) (λ x. Ok (Some x.0, x.1)) (x, mid) (Some x, mid) (part x ts mid r tt) (found refl))
+    (finds_then (f ts) (λ x. Ok (Some x.0, x.1)) (x, mid) (Some x, mid) (part x ts mid r tt) (found refl))
 
 -- the sign does not come next
 abbrev pub NoSign : Sign → List Tok → Type 0
@@ -185,11 +187,11 @@ module _ {A : Type 0} (E : List Tok → Type 0) (R : A → List Tok → List Tok
         follow.0)
     each_ended _ ts rest (one_more {xs = xs} {mid = mid} (after {x = x} {at = at} {ts = us} r) more) follow =
         same_finds _ (f us >>= λ y. after_each s f y.1 >>= λ l. Ok (y.0 ∷ l.0, l.1)) (x ∷ xs, rest)
-            (each_turn ts ∙ ap (λ o. turn [] ◌∷◌ (after_each s f) (behind f o) ts) (skip_found s at us))
-            (finds_then (f us) (λ y. after_each s f y.1 >>= λ l. Ok (y.0 ∷ l.0, l.1)) (x, mid) (x ∷ xs, rest)
-            (part x us mid r (ends_before s before_sign more follow.1))
-            (finds_then (after_each s f mid) (λ l. Ok (x ∷ l.0, l.1)) (xs, rest) (x ∷ xs, rest)
-            (each_ended xs mid rest more follow) (found refl)))
+        (each_turn ts ∙ ap (λ o. turn [] ◌∷◌ (after_each s f) (behind f o) ts) (skip_found s at us))
+        (finds_then (f us) (λ y. after_each s f y.1 >>= λ l. Ok (y.0 ∷ l.0, l.1)) (x, mid) (x ∷ xs, rest)
+        (part x us mid r (ends_before s before_sign more follow.1))
+        (finds_then (after_each s f mid) (λ l. Ok (x ∷ l.0, l.1)) (xs, rest) (x ∷ xs, rest)
+        (each_ended xs mid rest more follow) (found refl)))
 
   pub listed_ended : ((at : Span) (ts : List Tok) → E (tok (mark Comma) at ∷ ts)) →
       NextShortens (next_after Comma f) →
@@ -200,10 +202,10 @@ module _ {A : Type 0} (E : List Tok → Type 0) (R : A → List Tok → List Tok
       (ap (λ (b : Bool). listed_from f b ts) follow.0.closing)
   listed_ended before_comma shorter starts _ ts rest (listed {x = x} {xs = xs} {mid = mid} r more) follow =
       same_finds _ (listed_from f false ts) (x ∷ xs, rest) (ap (λ (b : Bool). listed_from f b ts) (starts x ts mid r))
-          (finds_then (f ts) (λ y. after_each Comma f y.1 >>= λ l. Ok (y.0 ∷ l.0, l.1)) (x, mid) (x ∷ xs, rest)
-          (part x ts mid r (ends_before Comma before_comma more follow.1))
-          (finds_then (after_each Comma f mid) (λ l. Ok (x ∷ l.0, l.1)) (xs, rest) (x ∷ xs, rest)
-          (each_ended Comma before_comma shorter xs mid rest more (follow.0.no_comma, follow.1)) (found refl)))
+      (finds_then (f ts) (λ y. after_each Comma f y.1 >>= λ l. Ok (y.0 ∷ l.0, l.1)) (x, mid) (x ∷ xs, rest)
+      (part x ts mid r (ends_before Comma before_comma more follow.1))
+      (finds_then (after_each Comma f mid) (λ l. Ok (x ∷ l.0, l.1)) (xs, rest) (x ∷ xs, rest)
+      (each_ended Comma before_comma shorter xs mid rest more (follow.0.no_comma, follow.1)) (found refl)))
 
 -- items that anything may follow
 module _ {A : Type 0} (R : A → List Tok → List Tok → Type 0) (f : Reader A) (part : FindsPart Anything R f) where
@@ -230,11 +232,11 @@ module _ {A L : Type 0} (nil : L) (cons : A → L → L) (k : Lexeme) (f : Reade
       Finds (many_at nil cons (next_until k f) ts) (cons x l, rest)
   until_found x l ts mid rest e first more =
       same_finds (many_at nil cons (next_until k f) ts) (f ts >>= λ y. many_at nil cons (next_until k f) y.1 >>= λ l. Ok
-          (cons y.0 l.0, l.1)) (cons x l, rest) (many_at-turn nil cons (next_until k f) shorter ts ∙ ap
-          (λ b. turn nil cons (many_at nil cons (next_until k f)) (next_unless b (f ts)) ts) e)
-          (finds_then (f ts) (λ y. many_at nil cons (next_until k f) y.1 >>= λ l. Ok (cons y.0 l.0, l.1)) (x, mid)
-          (cons x l, rest) first (finds_then (many_at nil cons (next_until k f) mid) (λ l. Ok (cons x l.0, l.1))
-          (l, rest) (cons x l, rest) more (found refl)))
+      (cons y.0 l.0, l.1)) (cons x l, rest) (many_at-turn nil cons (next_until k f) shorter ts ∙ ap
+      (λ b. turn nil cons (many_at nil cons (next_until k f)) (next_unless b (f ts)) ts) e)
+      (finds_then (f ts) (λ y. many_at nil cons (next_until k f) y.1 >>= λ l. Ok (cons y.0 l.0, l.1)) (x, mid)
+      (cons x l, rest) first (finds_then (many_at nil cons (next_until k f) mid) (λ l. Ok (cons x l.0, l.1))
+      (l, rest) (cons x l, rest) more (found refl)))
 
 -- ---- one part or another, by the next token
 

@@ -24,7 +24,7 @@ pub left_over : (tokens : List Token) → 1 ≤ length tokens → suc (length (s
 left_over [] le = absurd (omega (arith, le))
 left_over (x ∷ xs) le =
     ap (λ (ys : List Token). suc (length (seen ys))) (take_all (length (x ∷ xs) - 1) xs (omega arith)) ∙ ap suc
-        (length-map xs seen_token)
+    (length-map xs seen_token)
 
 module _ (tokens : List Token) (first t : Token) (le : 1 ≤ length tokens) (is : first ≡ get_or tokens 0 first)
     (e : first ≡ t) where
@@ -36,7 +36,7 @@ module _ (tokens : List Token) (first t : Token) (le : 1 ≤ length tokens) (is 
       parts [] low here = absurd (omega (arith, low))
       parts (x ∷ xs) low here =
           ap (λ (y : Token). seen_token y ∷ seen xs) (sym here ∙ e) ∙ ap (λ (ys : List Token). seen_token t ∷ seen ys)
-              (sym (take_all (length (x ∷ xs) - 1) xs (omega arith)))
+          (sym (take_all (length (x ∷ xs) - 1) xs (omega arith)))
 
   -- what is read is what is read from there
   pub at_first : {R : Type 0} (f : List Tok → R) → f (seen tokens) ≡ f (seen_token t ∷ seen (behind_first tokens))
@@ -148,7 +148,7 @@ module _ (tokens : List Token) (first : Token) (le : 1 ≤ length tokens) (is : 
     sign_opened room same some =
         at_first tokens first (Mark at m) le is e (open_at s room)
         ∙ ap (λ (b : Bool). if b then opened room at (seen (behind_first tokens)) else refused
-            (seen (behind_first tokens))) same
+        (seen (behind_first tokens))) same
         ∙ opened_some room at (seen (behind_first tokens)) some
 
     pub sign_too_deep : (room : ℕ) → same_sign m s ≡ true → room ≡ 0 →
@@ -157,7 +157,7 @@ module _ (tokens : List Token) (first : Token) (le : 1 ≤ length tokens) (is : 
     sign_too_deep room same none =
         at_first tokens first (Mark at m) le is e (open_at s room)
         ∙ ap (λ (b : Bool). if b then opened room at (seen (behind_first tokens)) else refused
-            (seen (behind_first tokens))) same
+        (seen (behind_first tokens))) same
         ∙ ap (λ (n : ℕ). opened n at (seen (behind_first tokens))) none
         ∙ ap (λ (n : ℕ). Err (TooDeep n)) (left_over tokens le)
 

@@ -38,9 +38,9 @@ no_room r e = absurd (omega arith)
 module _ (limit : ℕ) where
   -- a part, where P holds
   pub record Part (P : Type 0) {A : Type 0} (R : A → List Tok → List Tok → Type 0) (f : Reader A) (n d e : ℕ) : Type 0
-      where
-    pub law : P → Law limit R f n d e
-    pub can : Can R
+    where
+      pub law : P → Law limit R f n d e
+      pub can : Can R
 
   -- what is behind some parts that gave x
   pub record Rest (P : Type 0) {X B : Type 0} (R : X → B → List Tok → List Tok → Type 0) (g : X → Reader B) (n d e : ℕ)
@@ -62,11 +62,14 @@ module _ (limit : ℕ) where
   then_part {RF = RF} {f = f} {R = R} {g = g} {n = n} {m = m} {d = d} {e = e} {h = h} part more = record {
     law = λ p x.
         then_law limit RF (Both RF (λ a. R (x, a))) f (λ a. g (x, a)) n m d e h (part.law p)
-            (λ rest. let k = more.can rest in (k.0, λ a. ((k.1 (x, a)).0, λ ts is. both is (k.1 (x, a)).1)))
-            (λ a ts. implies limit (R (x, a)) (Then RF (Both RF (λ a. R (x, a))) a) (Says (g (x, a))) m e h ts
-            (λ y us rest r vs is. both is r) (g (x, a) ts) (more.law p (x, a) ts));
-    can = λ rest. let k = more.can rest in let j = part.can k.0 in (j.1, λ x.
-        ((k.1 (x, j.0)).0, both j.2 (k.1 (x, j.0)).1));
+        (λ rest. let k = more.can rest in (k.0, λ a. ((k.1 (x, a)).0, λ ts is. both is (k.1 (x, a)).1)))
+        (λ a ts. implies limit (R (x, a)) (Then RF (Both RF (λ a. R (x, a))) a) (Says (g (x, a))) m e h ts
+        (λ y us rest r vs is. both is r) (g (x, a) ts) (more.law p (x, a) ts));
+    can = λ rest. let k = more.can rest in let j = part.can k.0 in (
+      j.1,
+      λ x.
+          ((k.1 (x, j.0)).0, both j.2 (k.1 (x, j.0)).1),
+    );
   }
 
   -- an opening sign, and what is behind it, which is read only where one may be opened
@@ -74,16 +77,19 @@ module _ (limit : ℕ) where
       Type 0} {g : X × Span → Reader B} {m d h : ℕ}
       → d + room ≡ limit → IsOpening (mark s) → Rest (0 < room) R g m (after_sign d s) h
       → Rest P (λ (x : X). Both (IsTok (mark s)) (λ a. R (x, a))) (λ (x : X) ts. open_at s room ts >>= λ a. g (x, a.0)
-          a.1) 1 d h
+      a.1) 1 d h
   then_open s room {R = R} {g = g} {m = m} {d = d} {h = h} sum opens more = record {
     law = λ p x.
         open_then_law limit (Both (IsTok (mark s)) (λ a. R (x, a))) s room (λ a. g (x, a)) m d h sum opens
-            (λ rest. let k = more.can rest in (k.0, λ a. ((k.1 (x, a)).0, λ ts is. both is (k.1 (x, a)).1)))
-            (λ r e a ts. implies limit (R (x, a)) (Then (IsTok (mark s)) (Both (IsTok (mark s)) (λ a. R (x, a))) a)
-            (Says (g (x, a))) m (after_sign d s) h ts (λ y us rest q vs is. both is q) (g (x, a) ts)
-            (more.law (omega (arith, e)) (x, a) ts));
-    can = λ rest. let k = more.can rest in (tok (mark s) nowhere ∷ k.0, λ x.
-        ((k.1 (x, nowhere)).0, both is_tok (k.1 (x, nowhere)).1));
+        (λ rest. let k = more.can rest in (k.0, λ a. ((k.1 (x, a)).0, λ ts is. both is (k.1 (x, a)).1)))
+        (λ r e a ts. implies limit (R (x, a)) (Then (IsTok (mark s)) (Both (IsTok (mark s)) (λ a. R (x, a))) a)
+        (Says (g (x, a))) m (after_sign d s) h ts (λ y us rest q vs is. both is q) (g (x, a) ts)
+        (more.law (omega (arith, e)) (x, a) ts));
+    can = λ rest. let k = more.can rest in (
+      tok (mark s) nowhere ∷ k.0,
+      λ x.
+          ((k.1 (x, nowhere)).0, both is_tok (k.1 (x, nowhere)).1),
+    );
   }
 
   -- the law of the whole
@@ -98,19 +104,36 @@ module _ (limit : ℕ) where
 
   pub sign_part : {P : Type 0} (s : Sign) (d : ℕ) → (IsOpening (mark s) → ⊥) →
       Part P (IsTok (mark s)) (sign_at s) 1 d (after_sign d s)
-  sign_part s d shut = record { law = λ p. sign_law limit s d (λ o. absurd (shut o)); can = λ rest.
-      (nowhere, tok (mark s) nowhere ∷ rest, is_tok) }
+  sign_part s d shut = record {
+    law = λ p. sign_law limit s d (λ o. absurd (shut o));
+    can = λ rest.
+        (nowhere, tok (mark s) nowhere ∷ rest, is_tok);
+  }
 
   pub word_part : {P : Type 0} (w : Keyword) (d : ℕ) → Part P (IsTok (word w)) (word_at w) 1 d d
   word_part w d = record { law = λ p. word_law limit w d; can = λ rest. (nowhere, tok (word w) nowhere ∷ rest, is_tok) }
 
   pub name_part : {P : Type 0} (d : ℕ) → Part P IsName name_at 1 d d
-  name_part d = record { law = λ p. name_law limit d; can = λ rest. (record { text = []; span = nowhere }, tok (name [])
-      nowhere ∷ rest, is_name) }
+  name_part d = record {
+    law = λ p. name_law limit d;
+    can = λ rest. (
+      record { text = []; span = nowhere },
+      tok (name [])
+          nowhere ∷ rest,
+      is_name,
+    );
+  }
 
   pub int_part : {P : Type 0} (d : ℕ) → Part P IsInt int_at 1 d d
-  int_part d = record { law = λ p. int_law limit d; can = λ rest. (record { value = 0; span = nowhere }, tok (int 0)
-      nowhere ∷ rest, is_int_tok) }
+  int_part d = record {
+    law = λ p. int_law limit d;
+    can = λ rest. (
+      record { value = 0; span = nowhere },
+      tok (int 0)
+          nowhere ∷ rest,
+      is_int_tok,
+    );
+  }
 
   -- ---- parts that may be left out, and lists
 
@@ -132,9 +155,17 @@ module _ (limit : ℕ) where
       -- a part that may be left out
       some_law : Law limit (IsOptional R) (maybe_from f true) 1 d d
       some_law = then_law limit R (IsOptional R) f (λ x ts. Ok (Some x, ts)) 1 0 d d d law
-          (λ rest. (rest, λ x. (Some x, λ ts is. given is))) (λ x. λ ts. record
-          { taken = []; parts = refl; some = omega arith; no_end = tt; level = refl; shallow = tt; is = λ other us is.
-          given is; again = λ other same. refl })
+          (λ rest. (rest, λ x. (Some x, λ ts is. given is))) (λ x. λ ts. record {
+            taken = [];
+            parts = refl;
+            some = omega arith;
+            no_end = tt;
+            level = refl;
+            shallow = tt;
+            is = λ other us is.
+                given is;
+            again = λ other same. refl;
+          })
 
       none_law : Law limit (IsOptional R) (maybe_from f false) 0 d d
       none_law = give_law limit (IsOptional R) None d (λ ts. left_out)
@@ -169,9 +200,9 @@ module _ (limit : ℕ) where
         behind_law t e ts =
             let same : t ≡ tok (mark s) t.span = ap (λ (k : Lexeme). tok k t.span) e in
             subst (λ (n : ℕ). LawAt limit (at_rest (IsAfter s R) t) (Says f) 1 n d ts (f ts))
-                (sym (ap (open_after d) e ∙ flat)) (implies limit R (at_rest (IsAfter s R) t) (Says f) 1 d d ts
-                (λ x us rest is. subst (λ (u : Tok). IsAfter s R x (u ∷ us) rest) (sym same) (after is)) (f ts)
-                (law ts))
+            (sym (ap (open_after d) e ∙ flat)) (implies limit R (at_rest (IsAfter s R) t) (Says f) 1 d d ts
+            (λ x us rest is. subst (λ (u : Tok). IsAfter s R x (u ∷ us) rest) (sym same) (after is)) (f ts)
+            (law ts))
 
         found_sign : (t : Tok) (ts : List Tok) (b : Bool) → is_sign s t.kind ≡ b →
             NextAt limit (IsAfter s R) (next_after s f) d (t ∷ ts) (behind f (cond b (Some ts) None))
@@ -181,9 +212,9 @@ module _ (limit : ℕ) where
         found_sign t ts true e =
             let is : t.kind ≡ mark s = is_sign-true t.kind e in
             prefixed limit (IsAfter s R) (Says f) (SaysNext (next_after s f)) 1 d d t
-                (λ us q h. ap (λ b. behind f (cond b (Some us) None)) e ∙ ap Some h) ts
-                (λ bad. sign_is_no_end (sym is ∙ bad)) (λ o. absurd (shut (subst IsOpening is o))) (f ts)
-                (behind_law t is ts)
+            (λ us q h. ap (λ b. behind f (cond b (Some us) None)) e ∙ ap Some h) ts
+            (λ bad. sign_is_no_end (sym is ∙ bad)) (λ o. absurd (shut (subst IsOpening is o))) (f ts)
+            (behind_law t is ts)
 
         next_after_law : NextLaw limit (IsAfter s R) (next_after s f) d
         unfolding skip_at
@@ -202,11 +233,19 @@ module _ (limit : ℕ) where
       listed_some : Law limit (AreListed R) (listed_from f false) 1 d d
       listed_some =
           then_law limit R (AreListed R) f (λ x ts. after_each Comma f ts >>= λ l. Ok (x ∷ l.0, l.1)) 1 0 d d d law
-              (λ rest. (rest, λ x. (x ∷ [], λ ts is. listed is no_more))) (λ x.
+          (λ rest. (rest, λ x. (x ∷ [], λ ts is. listed is no_more))) (λ x.
           then_law limit (AreMany (IsAfter Comma R)) _ (after_each Comma f) (λ l ts. Ok (x ∷ l, ts)) 0 0 d d d
-              (after_each_law Comma refl (λ o. o)) (λ rest. (rest, λ l. (x ∷ l, λ ts ls us is. listed is ls)))
-              (λ l ts. record { taken = []; parts = refl; some = omega arith; no_end = tt; level = refl; shallow = tt;
-              is = λ other us ls vs is. listed is ls; again = λ other same. refl }))
+          (after_each_law Comma refl (λ o. o)) (λ rest. (rest, λ l. (x ∷ l, λ ts ls us is. listed is ls)))
+          (λ l ts. record {
+            taken = [];
+            parts = refl;
+            some = omega arith;
+            no_end = tt;
+            level = refl;
+            shallow = tt;
+            is = λ other us ls vs is. listed is ls;
+            again = λ other same. refl;
+          }))
 
       listed_none : Law limit (AreListed R) (listed_from f true) 0 d d
       listed_none = give_law limit (AreListed R) [] d (λ ts. none_listed)
@@ -229,19 +268,28 @@ module _ (limit : ℕ) where
   -- parts of these
   pub maybe_part : {P A : Type 0} {R : A → List Tok → List Tok → Type 0} {f : Reader A} (k : Lexeme) (d : ℕ) →
       Part P R f 1 d d → Part P (IsOptional R) (maybe_at k f) 0 d d
-  maybe_part {R = R} {f = f} k d part = record { law = λ p. maybe_law R f d (part.law p) k; can = λ rest.
-      (None, rest, left_out) }
+  maybe_part {R = R} {f = f} k d part = record {
+    law = λ p. maybe_law R f d (part.law p) k;
+    can = λ rest.
+        (None, rest, left_out);
+  }
 
   pub listed_part : {P A : Type 0} {R : A → List Tok → List Tok → Type 0} {f : Reader A} (d : ℕ) → Part P R f 1 d d →
       Part P (AreListed R) (listed_at f) 0 d d
-  listed_part {R = R} {f = f} d part = record { law = λ p. listed_law R f d (part.law p); can = λ rest.
-      ([], rest, none_listed) }
+  listed_part {R = R} {f = f} d part = record {
+    law = λ p. listed_law R f d (part.law p);
+    can = λ rest.
+        ([], rest, none_listed);
+  }
 
   pub after_each_part : {P A : Type 0} {R : A → List Tok → List Tok → Type 0} {f : Reader A} (s : Sign) (d : ℕ) →
       after_sign d s ≡ d → (IsOpening (mark s) → ⊥) → Part P R f 1 d d →
       Part P (AreMany (IsAfter s R)) (after_each s f) 0 d d
-  after_each_part {R = R} {f = f} s d flat shut part = record { law = λ p. after_each_law R f d (part.law p) s flat
-      shut; can = λ rest. ([], rest, no_more) }
+  after_each_part {R = R} {f = f} s d flat shut part = record {
+    law = λ p. after_each_law R f d (part.law p) s flat
+        shut;
+    can = λ rest. ([], rest, no_more);
+  }
 
   -- ---- one part or another, by the next token
 
@@ -266,6 +314,6 @@ module _ (limit : ℕ) where
   -- what is behind some parts, chosen so
   pub either : {P X B : Type 0} {R : X → B → List Tok → List Tok → Type 0} {f g : X →
       Reader B} {m d e : ℕ} (k : Lexeme) → Rest P R f m d e → Rest P R g m d e → Rest P R (λ x. choose k (f x) (g x)) m
-          d e
+      d e
   either {R = R} {f = f} {g = g} {m = m} {d = d} {e = e} k a b = record
       { law = λ p x. choose_law (R x) k (f x) (g x) m d e (a.law p x) (b.law p x); can = b.can }

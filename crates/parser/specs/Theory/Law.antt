@@ -244,8 +244,12 @@ module _ (limit : ℕ) where
           (sym s.parts) (SameNext-at s.before s.token s.after other))) (s.again other));
       shallow = ShallowFrom-append d f.taken s.before f.shallow (subst (λ n. ShallowFrom n s.before) (sym f.level)
           s.shallow);
-      begun = λ rest'. let p = s.begun rest' in (p.0, p.1, subst (λ (l : List Tok). RH p.0 l rest')
-          (sym (append_assoc f.taken s.before p.1)) (p.2 (f.taken ++ (s.before ++ p.1)) (f.is (s.before ++ p.1))));
+      begun = λ rest'. let p = s.begun rest' in (
+        p.0,
+        p.1,
+        subst (λ (l : List Tok). RH p.0 l rest')
+            (sym (append_assoc f.taken s.before p.1)) (p.2 (f.taken ++ (s.before ++ p.1)) (f.is (s.before ++ p.1))),
+      );
     }
     joined x rest (Err (TooDeep n)) f s = record {
       before = f.taken ++ s.before;
@@ -258,9 +262,13 @@ module _ (limit : ℕ) where
       deep = nesting-append d f.taken s.before ∙ ap (λ n. nesting n s.before) f.level ∙ s.deep;
       shallow = ShallowFrom-append d f.taken s.before f.shallow (subst (λ n. ShallowFrom n s.before) (sym f.level)
           s.shallow);
-      expected = λ rest'. let p = s.expected rest' in (p.0, p.1, subst (λ (l : List Tok). RH p.0 l rest')
-          (sym (append_assoc f.taken s.before (s.token ∷ p.1))) (p.2 (f.taken ++ (s.before ++ s.token ∷ p.1))
-          (f.is (s.before ++ s.token ∷ p.1))));
+      expected = λ rest'. let p = s.expected rest' in (
+        p.0,
+        p.1,
+        subst (λ (l : List Tok). RH p.0 l rest')
+            (sym (append_assoc f.taken s.before (s.token ∷ p.1))) (p.2 (f.taken ++ (s.before ++ s.token ∷ p.1))
+            (f.is (s.before ++ s.token ∷ p.1))),
+      );
     }
     joined x rest (Err NoMemory) f s = s
 
@@ -271,13 +279,31 @@ module _ (limit : ℕ) where
         LawAt (Then RF RH x) (SG x) m e g rest (k x rest)) → LawAt RH SH least d g ts (r >>= λ x. k x.0 x.1)
     then_at (Ok x) k f sample s = joined x.0 x.1 (k x.0 x.1) f (s x.0 x.1 f)
     then_at (Err (Unexpected zero)) k f sample s = f
-    then_at (Err (Unexpected (suc n))) k f sample s = record { before = f.before; token = f.token; after = f.after;
-        parts = f.parts; place = f.place; again = λ other. stop (f.before ++ f.token ∷ other) _ (f.again other); shallow
-        = f.shallow; begun = λ rest. let m = sample rest in let p = f.begun m.0 in let q = m.1 p.0 in
-        (q.0, p.1, q.1 (f.before ++ p.1) p.2) }
-    then_at (Err (TooDeep n)) k f sample s = record { before = f.before; token = f.token; after = f.after; parts =
-        f.parts; place = f.place; opens = f.opens; deep = f.deep; shallow = f.shallow; expected = λ rest. let m = sample
-        rest in let p = f.expected m.0 in let q = m.1 p.0 in (q.0, p.1, q.1 (f.before ++ f.token ∷ p.1) p.2) }
+    then_at (Err (Unexpected (suc n))) k f sample s = record {
+      before = f.before;
+      token = f.token;
+      after = f.after;
+      parts = f.parts;
+      place = f.place;
+      again = λ other. stop (f.before ++ f.token ∷ other) _ (f.again other);
+      shallow
+          = f.shallow;
+      begun = λ rest. let m = sample rest in let p = f.begun m.0 in let q = m.1 p.0 in
+          (q.0, p.1, q.1 (f.before ++ p.1) p.2);
+    }
+    then_at (Err (TooDeep n)) k f sample s = record {
+      before = f.before;
+      token = f.token;
+      after = f.after;
+      parts =
+          f.parts;
+      place = f.place;
+      opens = f.opens;
+      deep = f.deep;
+      shallow = f.shallow;
+      expected = λ rest. let m = sample
+          rest in let p = f.expected m.0 in let q = m.1 p.0 in (q.0, p.1, q.1 (f.before ++ f.token ∷ p.1) p.2);
+    }
     then_at (Err NoMemory) k f sample s = f
 
   -- ---- readers
@@ -292,24 +318,41 @@ module _ (limit : ℕ) where
       → ((x : A) → Law (Then RF RH x) (g x) m e h) → Law RH (λ ts. f ts >>= λ x. g x.0 x.1) least d h
   then_law RF RH f g least m d e h lf sample lg ts =
       then_at RF RH (Says f) (λ x. Says (g x)) (Says (λ ts. f ts >>= λ x. g x.0 x.1))
-          (λ ts rest x q p s. ap (λ (r : Result (_ × List Tok) Stop). r >>= λ x. g x.0 x.1) p ∙ s)
-          (λ ts e p. ap (λ (r : Result (_ × List Tok) Stop). r >>= λ x. g x.0 x.1) p) least m d e h ts (f ts) g (lf ts)
-          sample (λ x rest took. lg x rest)
+      (λ ts rest x q p s. ap (λ (r : Result (_ × List Tok) Stop). r >>= λ x. g x.0 x.1) p ∙ s)
+      (λ ts e p. ap (λ (r : Result (_ × List Tok) Stop). r >>= λ x. g x.0 x.1) p) least m d e h ts (f ts) g (lf ts)
+      sample (λ x rest took. lg x rest)
 
   -- the last symbol of a production
   pub last_law : {A B : Type 0} (RF : A → List Tok → List Tok → Type 0) (RH : B → List Tok → List Tok →
       Type 0) (f : Reader A) (make : A → B) (least d e : ℕ) → Law RF f least d e
       → ((x : A) (rest : List Tok) → Then RF RH x (make x) rest rest) → Law RH (λ ts. f ts >>= λ x. Ok (make x.0, x.1))
-          least d e
+      least d e
   last_law RF RH f make least d e lf is = then_law RF RH f (λ x ts. Ok (make x, ts)) least 0 d e e lf
-      (λ rest. (rest, λ x. (make x, is x rest))) (λ x ts. record { taken = []; parts = refl; some = omega arith; no_end
-      = tt; level = refl; shallow = tt; is = λ other. is x other; again = λ other same. refl })
+      (λ rest. (rest, λ x. (make x, is x rest))) (λ x ts. record {
+        taken = [];
+        parts = refl;
+        some = omega arith;
+        no_end
+            = tt;
+        level = refl;
+        shallow = tt;
+        is = λ other. is x other;
+        again = λ other same. refl;
+      })
 
   -- the end of a production
   pub give_law : {A : Type 0} (R : A → List Tok → List Tok → Type 0) (x : A) (d : ℕ) → ((ts : List Tok) → R x ts ts) →
       Law R (λ ts. Ok (x, ts)) 0 d d
-  give_law R x d h ts = record { taken = []; parts = refl; some = omega arith; no_end = tt; level = refl; shallow = tt;
-      is = h; again = λ other same. refl }
+  give_law R x d h ts = record {
+    taken = [];
+    parts = refl;
+    some = omega arith;
+    no_end = tt;
+    level = refl;
+    shallow = tt;
+    is = h;
+    again = λ other same. refl;
+  }
 
   -- ---- the first token
 
@@ -339,27 +382,72 @@ module _ (limit : ℕ) where
       again = λ other same. glue (s.taken ++ other) (Ok (x.0, other)) (s.again other same);
     }
     prefixed ts no_end low (Err (Unexpected zero)) s = (no_end, s)
-    prefixed ts no_end low (Err (Unexpected (suc m))) s = record { before = t ∷ s.before; token = s.token; after =
-        s.after; parts = ap (λ (l : List Tok). t ∷ l) s.parts; place = s.place; again = λ other. glue
-        (s.before ++ s.token ∷ other) _ (s.again other); shallow = (low, s.shallow); begun = s.begun }
-    prefixed ts no_end low (Err (TooDeep m)) s = record { before = t ∷ s.before; token = s.token; after = s.after; parts
-        = ap (λ (l : List Tok). t ∷ l) s.parts; place = s.place; opens = s.opens; deep = s.deep; shallow =
-        (low, s.shallow); expected = s.expected }
+    prefixed ts no_end low (Err (Unexpected (suc m))) s = record {
+      before = t ∷ s.before;
+      token = s.token;
+      after =
+          s.after;
+      parts = ap (λ (l : List Tok). t ∷ l) s.parts;
+      place = s.place;
+      again = λ other. glue
+          (s.before ++ s.token ∷ other) _ (s.again other);
+      shallow = (low, s.shallow);
+      begun = s.begun;
+    }
+    prefixed ts no_end low (Err (TooDeep m)) s = record {
+      before = t ∷ s.before;
+      token = s.token;
+      after = s.after;
+      parts
+          = ap (λ (l : List Tok). t ∷ l) s.parts;
+      place = s.place;
+      opens = s.opens;
+      deep = s.deep;
+      shallow =
+          (low, s.shallow);
+      expected = s.expected;
+    }
     prefixed ts no_end low (Err NoMemory) s = s
 
   -- a weaker relation
   pub implies : {A : Type 0} (R R' : A → List Tok → List Tok → Type 0) (S : List Tok → Result (A × List Tok) Stop →
       Type 0) (n d e : ℕ) (ts : List Tok) → ((x : A) (us rest : List Tok) → R x us rest →
       R' x us rest) → (r : Result (A × List Tok) Stop) → LawAt R S n d e ts r → LawAt R' S n d e ts r
-  implies R R' S n d e ts h (Ok x) s = record { taken = s.taken; parts = s.parts; some = s.some; no_end = s.no_end;
-      level = s.level; shallow = s.shallow; is = λ other. h x.0 (s.taken ++ other) other (s.is other); again = s.again }
+  implies R R' S n d e ts h (Ok x) s = record {
+    taken = s.taken;
+    parts = s.parts;
+    some = s.some;
+    no_end = s.no_end;
+    level = s.level;
+    shallow = s.shallow;
+    is = λ other. h x.0 (s.taken ++ other) other (s.is other);
+    again = s.again;
+  }
   implies R R' S n d e ts h (Err (Unexpected zero)) s = s
-  implies R R' S n d e ts h (Err (Unexpected (suc m))) s = record { before = s.before; token = s.token; after = s.after;
-      parts = s.parts; place = s.place; again = s.again; shallow = s.shallow; begun = λ rest. let p = s.begun rest in
-      (p.0, p.1, h p.0 (s.before ++ p.1) rest p.2) }
-  implies R R' S n d e ts h (Err (TooDeep m)) s = record { before = s.before; token = s.token; after = s.after; parts =
-      s.parts; place = s.place; opens = s.opens; deep = s.deep; shallow = s.shallow; expected = λ rest. let p =
-      s.expected rest in (p.0, p.1, h p.0 (s.before ++ s.token ∷ p.1) rest p.2) }
+  implies R R' S n d e ts h (Err (Unexpected (suc m))) s = record {
+    before = s.before;
+    token = s.token;
+    after = s.after;
+    parts = s.parts;
+    place = s.place;
+    again = s.again;
+    shallow = s.shallow;
+    begun = λ rest. let p = s.begun rest in
+        (p.0, p.1, h p.0 (s.before ++ p.1) rest p.2);
+  }
+  implies R R' S n d e ts h (Err (TooDeep m)) s = record {
+    before = s.before;
+    token = s.token;
+    after = s.after;
+    parts =
+        s.parts;
+    place = s.place;
+    opens = s.opens;
+    deep = s.deep;
+    shallow = s.shallow;
+    expected = λ rest. let p =
+        s.expected rest in (p.0, p.1, h p.0 (s.before ++ s.token ∷ p.1) rest p.2);
+  }
   implies R R' S n d e ts h (Err NoMemory) s = s
 
   -- the same fact of another way of saying it
@@ -367,27 +455,71 @@ module _ (limit : ℕ) where
       (n d e : ℕ) (ts : List Tok) (same_says : (us : List Tok) (q : Result (A × List Tok) Stop) → SameNext ts us → S' us
       q → S us q) where
     pub said : (r : Result (A × List Tok) Stop) → LawAt R S' n d e ts r → LawAt R S n d e ts r
-    said (Ok x) s = record { taken = s.taken; parts = s.parts; some = s.some; no_end = s.no_end; level = s.level;
-        shallow = s.shallow; is = s.is; again = λ other same. same_says (s.taken ++ other) (Ok (x.0, other))
-        (subst (λ (l : List Tok). SameNext l (s.taken ++ other)) (sym s.parts) (SameNext-append s.taken x.1 other same))
-        (s.again other same) }
+    said (Ok x) s = record {
+      taken = s.taken;
+      parts = s.parts;
+      some = s.some;
+      no_end = s.no_end;
+      level = s.level;
+      shallow = s.shallow;
+      is = s.is;
+      again = λ other same. same_says (s.taken ++ other) (Ok (x.0, other))
+          (subst (λ (l : List Tok). SameNext l (s.taken ++ other)) (sym s.parts) (SameNext-append s.taken x.1 other same))
+          (s.again other same);
+    }
     said (Err (Unexpected zero)) s = s
-    said (Err (Unexpected (suc m))) s = record { before = s.before; token = s.token; after = s.after; parts = s.parts;
-        place = s.place; again = λ other. same_says (s.before ++ s.token ∷ other) _
-        (subst (λ (l : List Tok). SameNext l (s.before ++ s.token ∷ other)) (sym s.parts)
-        (SameNext-at s.before s.token s.after other)) (s.again other); shallow = s.shallow; begun = s.begun }
-    said (Err (TooDeep m)) s = record { before = s.before; token = s.token; after = s.after; parts = s.parts; place =
-        s.place; opens = s.opens; deep = s.deep; shallow = s.shallow; expected = s.expected }
+    said (Err (Unexpected (suc m))) s = record {
+      before = s.before;
+      token = s.token;
+      after = s.after;
+      parts = s.parts;
+      place = s.place;
+      again = λ other. same_says (s.before ++ s.token ∷ other) _
+          (subst (λ (l : List Tok). SameNext l (s.before ++ s.token ∷ other)) (sym s.parts)
+          (SameNext-at s.before s.token s.after other)) (s.again other);
+      shallow = s.shallow;
+      begun = s.begun;
+    }
+    said (Err (TooDeep m)) s = record {
+      before = s.before;
+      token = s.token;
+      after = s.after;
+      parts = s.parts;
+      place =
+          s.place;
+      opens = s.opens;
+      deep = s.deep;
+      shallow = s.shallow;
+      expected = s.expected;
+    }
     said (Err NoMemory) s = s
 
   module _ {A : Type 0} (R : A → List Tok → List Tok → Type 0) (f : Lexeme → Span → Reader A) (d e : ℕ)
       (example : (rest : List Tok) → (x : A) × (other : List Tok) × R x other rest) where
     headed : (t : Tok) (ts : List Tok) → Head R d e t.kind t.span (f t.kind t.span) →
         LawAt R (Says (first_at f)) 1 d e (t ∷ ts) (f t.kind t.span ts)
-    headed t ts (refuses h) = rw (h ts) (record { before = []; token = t; after = ts; parts = refl; place = refl; again
-        = λ other. h other; shallow = tt; begun = example })
-    headed t ts (deepens opens deep sample h) = rw (h ts) (record { before = []; token = t; after = ts; parts = refl;
-        place = refl; opens = opens; deep = deep; shallow = tt; expected = sample })
+    headed t ts (refuses h) = rw (h ts) (record {
+      before = [];
+      token = t;
+      after = ts;
+      parts = refl;
+      place = refl;
+      again
+          = λ other. h other;
+      shallow = tt;
+      begun = example;
+    })
+    headed t ts (deepens opens deep sample h) = rw (h ts) (record {
+      before = [];
+      token = t;
+      after = ts;
+      parts = refl;
+      place = refl;
+      opens = opens;
+      deep = deep;
+      shallow = tt;
+      expected = sample;
+    })
     headed t ts (takes n no_end low law) = prefixed R (Says (f t.kind t.span)) (Says (first_at f)) n d e t (λ us q h. h)
         ts no_end low (f t.kind t.span ts) (law ts)
 
@@ -403,8 +535,17 @@ module _ (limit : ℕ) where
   sign_head s m d at true e low =
       let same = same_sign-true m s e in
       subst (λ (x : Sign). Head (IsTok (mark s)) d (after_sign d s) (mark x) at (λ ts. Ok (at, ts))) (sym same)
-          (takes 0 (λ e. cc) low (λ ts. record { taken = []; parts = refl; some = omega arith; no_end = tt; level =
-          refl; shallow = tt; is = λ other. is_tok; again = λ other same. refl }))
+      (takes 0 (λ e. cc) low (λ ts. record {
+        taken = [];
+        parts = refl;
+        some = omega arith;
+        no_end = tt;
+        level =
+            refl;
+        shallow = tt;
+        is = λ other. is_tok;
+        again = λ other same. refl;
+      }))
 
   sign_from_head : (s : Sign) (d : ℕ) → (IsOpening (mark s) → d < limit) → (k : Lexeme) (at : Span) →
       Head (IsTok (mark s)) d (after_sign d s) k at (sign_from s k at)
@@ -426,8 +567,16 @@ module _ (limit : ℕ) where
   word_head w v d at true e =
       let same = same_keyword-true v w e in
       subst (λ (x : Keyword). Head (IsTok (word w)) d d (word x) at (λ ts. Ok (at, ts))) (sym same)
-          (takes 0 (λ e. cc) (λ o. absurd o) (λ ts. record { taken = []; parts = refl; some = omega arith; no_end = tt;
-          level = refl; shallow = tt; is = λ other. is_tok; again = λ other same. refl }))
+      (takes 0 (λ e. cc) (λ o. absurd o) (λ ts. record {
+        taken = [];
+        parts = refl;
+        some = omega arith;
+        no_end = tt;
+        level = refl;
+        shallow = tt;
+        is = λ other. is_tok;
+        again = λ other same. refl;
+      }))
 
   word_from_head : (w : Keyword) (d : ℕ) (k : Lexeme) (at : Span) → Head (IsTok (word w)) d d k at (word_from w k at)
   word_from_head w d (word v) at = word_head w v d at (same_keyword v w) refl
@@ -441,26 +590,47 @@ module _ (limit : ℕ) where
   word_law w d = first_law (IsTok (word w)) (word_from w) d d (tok_example (word w)) (word_from_head w d)
 
   name_head : (d : ℕ) (k : Lexeme) (at : Span) → Head IsName d d k at (name_from k at)
-  name_head d (name x) at = takes 0 (λ e. cc) (λ o. absurd o) (λ ts. record
-      { taken = []; parts = refl; some = omega arith; no_end = tt; level = refl; shallow = tt; is = λ other. is_name;
-      again = λ other same. refl })
+  name_head d (name x) at = takes 0 (λ e. cc) (λ o. absurd o) (λ ts. record {
+    taken = [];
+    parts = refl;
+    some = omega arith;
+    no_end = tt;
+    level = refl;
+    shallow = tt;
+    is = λ other. is_name;
+    again = λ other same. refl;
+  })
   name_head d _ at = refuses (λ ts. refl)
 
   pub name_law : (d : ℕ) → Law IsName name_at 1 d d
   unfolding name_at
-  name_law d = first_law IsName name_from d d (λ rest. (record { text = []; span = no_place }, tok (name []) no_place ∷
-      rest, is_name)) (name_head d)
+  name_law d = first_law IsName name_from d d (λ rest. (
+    record { text = []; span = no_place },
+    tok (name []) no_place ∷
+        rest,
+    is_name,
+  )) (name_head d)
 
   int_head : (d : ℕ) (k : Lexeme) (at : Span) → Head IsInt d d k at (int_from k at)
-  int_head d (int n) at = takes 0 (λ e. cc) (λ o. absurd o) (λ ts. record
-      { taken = []; parts = refl; some = omega arith; no_end = tt; level = refl; shallow = tt; is = λ other. is_int_tok;
-      again = λ other same. refl })
+  int_head d (int n) at = takes 0 (λ e. cc) (λ o. absurd o) (λ ts. record {
+    taken = [];
+    parts = refl;
+    some = omega arith;
+    no_end = tt;
+    level = refl;
+    shallow = tt;
+    is = λ other. is_int_tok;
+    again = λ other same. refl;
+  })
   int_head d _ at = refuses (λ ts. refl)
 
   pub int_law : (d : ℕ) → Law IsInt int_at 1 d d
   unfolding int_at
-  int_law d = first_law IsInt int_from d d (λ rest. (record { value = 0; span = no_place }, tok (int 0) no_place ∷ rest,
-      is_int_tok)) (int_head d)
+  int_law d = first_law IsInt int_from d d (λ rest. (
+    record { value = 0; span = no_place },
+    tok (int 0) no_place ∷ rest,
+    is_int_tok,
+  )) (int_head d)
 
   -- an opening sign, and what follows it with one sign less to open
   open_head : (s m : Sign) (room d : ℕ) (at : Span) (b : Bool) → same_sign m s ≡ b → d < limit →
@@ -469,8 +639,17 @@ module _ (limit : ℕ) where
   open_head s m room d at true e low =
       let same = same_sign-true m s e in
       subst (λ (x : Sign). Head (IsTok (mark s)) d (after_sign d s) (mark x) at (λ ts. Ok (at, ts))) (sym same)
-          (takes 0 (λ e. cc) (λ o. low) (λ ts. record { taken = []; parts = refl; some = omega arith; no_end = tt; level
-          = refl; shallow = tt; is = λ other. is_tok; again = λ other same. refl }))
+      (takes 0 (λ e. cc) (λ o. low) (λ ts. record {
+        taken = [];
+        parts = refl;
+        some = omega arith;
+        no_end = tt;
+        level
+            = refl;
+        shallow = tt;
+        is = λ other. is_tok;
+        again = λ other same. refl;
+      }))
 
   open_from_head : (s : Sign) (room d : ℕ) → d < limit → (k : Lexeme) (at : Span) →
       Head (IsTok (mark s)) d (after_sign d s) k at (open_from s (suc room) k at)
@@ -484,8 +663,12 @@ module _ (limit : ℕ) where
       Head (IsTok (mark s)) d e (mark m) at (λ ts. cond b (opened zero at ts) (refused ts))
   no_room_head s m d e at false opens full eq = refuses (λ ts. refl)
   no_room_head s m d e at true opens full eq = deepens (subst (λ (x : Sign). IsOpening (mark x))
-      (sym (same_sign-true m s eq)) opens) full (λ rest. (at, rest, subst
-      (λ (x : Sign). IsTok (mark s) at (tok (mark x) at ∷ rest) rest) (sym (same_sign-true m s eq)) is_tok))
+      (sym (same_sign-true m s eq)) opens) full (λ rest. (
+        at,
+        rest,
+        subst
+            (λ (x : Sign). IsTok (mark s) at (tok (mark x) at ∷ rest) rest) (sym (same_sign-true m s eq)) is_tok,
+      ))
       (λ ts. refl)
 
   no_room_from : (s : Sign) (d e : ℕ) → IsOpening (mark s) → d ≡ limit → (k : Lexeme) (at : Span) →
@@ -507,17 +690,17 @@ module _ (limit : ℕ) where
       Reader B) (m d h : ℕ) → d + room ≡ limit → IsOpening (mark s)
       → ((rest : List Tok) → (mid : List Tok) × ((x : Span) → (y : B) × Then (IsTok (mark s)) RH x y mid rest))
       → ((r : ℕ) → room ≡ suc r → (x : Span) → Law (Then (IsTok (mark s)) RH x) (g x) m (after_sign d s) h) → Law RH
-          (λ ts. open_at s room ts >>= λ x. g x.0 x.1) 1 d h
+      (λ ts. open_at s room ts >>= λ x. g x.0 x.1) 1 d h
   unfolding open_at
   open_then_law RH s zero g m d h sum opens sample lg ts =
       then_at (IsTok (mark s)) RH (Says (open_at s zero)) (λ x. Says (g x))
-          (Says (λ ts. open_at s zero ts >>= λ x. g x.0 x.1)) (λ ts rest x q p s. ap
-          (λ (r : Result (_ × List Tok) Stop). r >>= λ x. g x.0 x.1) p ∙ s)
-          (λ ts e p. ap (λ (r : Result (_ × List Tok) Stop). r >>= λ x. g x.0 x.1) p) 1 m d d h ts (open_at s zero ts) g
-          (first_law (IsTok (mark s)) (open_from s zero) d d (tok_example (mark s))
-          (no_room_from s d d opens (omega arith)) ts) sample (λ x rest took. absurd
-          (no_took s d d d ts x rest opens (omega arith) took refl))
+      (Says (λ ts. open_at s zero ts >>= λ x. g x.0 x.1)) (λ ts rest x q p s. ap
+      (λ (r : Result (_ × List Tok) Stop). r >>= λ x. g x.0 x.1) p ∙ s)
+      (λ ts e p. ap (λ (r : Result (_ × List Tok) Stop). r >>= λ x. g x.0 x.1) p) 1 m d d h ts (open_at s zero ts) g
+      (first_law (IsTok (mark s)) (open_from s zero) d d (tok_example (mark s))
+      (no_room_from s d d opens (omega arith)) ts) sample (λ x rest took. absurd
+      (no_took s d d d ts x rest opens (omega arith) took refl))
   open_then_law RH s (suc r) g m d h sum opens sample lg ts =
       then_law (IsTok (mark s)) RH (open_at s (suc r)) g 1 m d (after_sign d s) h
-          (first_law (IsTok (mark s)) (open_from s (suc r)) d (after_sign d s) (tok_example (mark s))
-          (open_from_head s r d (omega arith))) sample (lg r refl) ts
+      (first_law (IsTok (mark s)) (open_from s (suc r)) d (after_sign d s) (tok_example (mark s))
+      (open_from_head s r d (omega arith))) sample (lg r refl) ts

@@ -18,13 +18,13 @@ module _ (limit : ℕ) where
 
   took_shorter : {A : Type 0} (R : A → List Tok → List Tok → Type 0) (S : List Tok → Result (A × List Tok) Stop →
       Type 0) (d e : ℕ) (ts : List Tok) (r : Result (A × List Tok) Stop) → LawAt limit R S 1 d e ts r → OnValue r
-          (λ x. length x.1 < length ts)
+      (λ x. length x.1 < length ts)
   took_shorter R S d e ts (Ok x) t = omega (arith, ap length t.parts, length-append t.taken x.1, t.some)
   took_shorter R S d e ts (Err e') t = tt
 
   left_less : {A : Type 0} (R : A → List Tok → List Tok → Type 0) (S : List Tok → Result (A × List Tok) Stop →
       Type 0) (d e : ℕ) (ts : List Tok) (x : A) (rest : List Tok) → Took limit R S 1 d e ts x rest → length rest <
-          length ts
+      length ts
   left_less R S d e ts x rest t = omega (arith, ap length t.parts, length-append t.taken rest, t.some)
 
   pub law_shortens : {A : Type 0} (R : A → List Tok → List Tok → Type 0) (f : Reader A) (d e : ℕ) →
@@ -33,14 +33,40 @@ module _ (limit : ℕ) where
 
   pub weaken_at : {A : Type 0} (R : A → List Tok → List Tok → Type 0) (S : List Tok → Result (A × List Tok) Stop →
       Type 0) (d e : ℕ) (ts : List Tok) (r : Result (A × List Tok) Stop) → LawAt limit R S 1 d e ts r → LawAt limit R S
-          0 d e ts r
-  weaken_at R S d e ts (Ok x) t = record { taken = t.taken; parts = t.parts; some = omega arith; no_end = t.no_end;
-      level = t.level; shallow = t.shallow; is = t.is; again = t.again }
+      0 d e ts r
+  weaken_at R S d e ts (Ok x) t = record {
+    taken = t.taken;
+    parts = t.parts;
+    some = omega arith;
+    no_end = t.no_end;
+    level = t.level;
+    shallow = t.shallow;
+    is = t.is;
+    again = t.again;
+  }
   weaken_at R S d e ts (Err (Unexpected zero)) t = t
-  weaken_at R S d e ts (Err (Unexpected (suc n))) t = record { before = t.before; token = t.token; after = t.after;
-      parts = t.parts; place = t.place; again = t.again; shallow = t.shallow; begun = t.begun }
-  weaken_at R S d e ts (Err (TooDeep n)) t = record { before = t.before; token = t.token; after = t.after; parts =
-      t.parts; place = t.place; opens = t.opens; deep = t.deep; shallow = t.shallow; expected = t.expected }
+  weaken_at R S d e ts (Err (Unexpected (suc n))) t = record {
+    before = t.before;
+    token = t.token;
+    after = t.after;
+    parts = t.parts;
+    place = t.place;
+    again = t.again;
+    shallow = t.shallow;
+    begun = t.begun;
+  }
+  weaken_at R S d e ts (Err (TooDeep n)) t = record {
+    before = t.before;
+    token = t.token;
+    after = t.after;
+    parts =
+        t.parts;
+    place = t.place;
+    opens = t.opens;
+    deep = t.deep;
+    shallow = t.shallow;
+    expected = t.expected;
+  }
   weaken_at R S d e ts (Err NoMemory) t = t
 
   -- ---- repetition
@@ -55,7 +81,7 @@ module _ (limit : ℕ) where
 
   next_shorter : {A : Type 0} (R : A → List Tok → List Tok →
       Type 0) (next : Next A) (d : ℕ) (ts : List Tok) (o : Option (Result (A × List Tok) Stop)) → NextAt R next d ts o →
-          IfSome o (λ r. OnValue r (λ x. length x.1 < length ts))
+      IfSome o (λ r. OnValue r (λ x. length x.1 < length ts))
   next_shorter R next d ts None h = tt
   next_shorter R next d ts (Some r) h = took_shorter R (SaysNext next) d d ts r h
 
@@ -79,23 +105,43 @@ module _ (limit : ℕ) where
         LawAt limit (Then R RL x) (Says (more x)) 0 d d ts (more x ts)
     more_law x ts ih =
         then_at limit RL (Then R RL x) (Says many) (λ l ts q. Ok (cons x l, ts) ≡ q) (Says (more x))
-            (λ ts rest l q p s. ap (λ (r : Result (L × List Tok) Stop). r >>= λ l. Ok (cons x l.0, l.1)) p ∙ s)
-            (λ ts e p. ap (λ (r : Result (L × List Tok) Stop). r >>= λ l. Ok (cons x l.0, l.1)) p) 0 0 d d d ts
-            (many ts) (λ l ts. Ok (cons x l, ts)) ih (λ rest. (rest, λ l.
-            (cons x l, λ ts1 is1 ts2 is2. cons_is x l ts2 ts1 rest is2 is1)))
-        (λ l rest took. record { taken = []; parts = refl; some = omega arith; no_end = tt; level = refl; shallow = tt;
-            is = λ other ts1 is1 ts2 is2. cons_is x l ts2 ts1 other is2 is1; again = λ other same. refl })
+        (λ ts rest l q p s. ap (λ (r : Result (L × List Tok) Stop). r >>= λ l. Ok (cons x l.0, l.1)) p ∙ s)
+        (λ ts e p. ap (λ (r : Result (L × List Tok) Stop). r >>= λ l. Ok (cons x l.0, l.1)) p) 0 0 d d d ts
+        (many ts) (λ l ts. Ok (cons x l, ts)) ih (λ rest. (
+          rest,
+          λ l.
+              (cons x l, λ ts1 is1 ts2 is2. cons_is x l ts2 ts1 rest is2 is1),
+        ))
+        (λ l rest took. record {
+          taken = [];
+          parts = refl;
+          some = omega arith;
+          no_end = tt;
+          level = refl;
+          shallow = tt;
+          is = λ other ts1 is1 ts2 is2. cons_is x l ts2 ts1 other is2 is1;
+          again = λ other same. refl;
+        })
 
     turn_law : (ts : List Tok) (o : Option (Result (A × List Tok) Stop)) → next ts ≡ o → NextAt R next d ts o →
         ((rest : List Tok) → length rest < length ts → LawAt limit RL (Says many) 0 d d rest (many rest)) →
         LawAt limit RL (Says many) 0 d d ts (turn nil cons many o ts)
-    turn_law ts None e h ih = record { taken = []; parts = refl; some = omega arith; no_end = tt; level = refl; shallow
-        = tt; is = nil_is; again = λ other same. by_turn other ∙ ap (λ o. turn nil cons many o other) (h other same) }
+    turn_law ts None e h ih = record {
+      taken = [];
+      parts = refl;
+      some = omega arith;
+      no_end = tt;
+      level = refl;
+      shallow
+          = tt;
+      is = nil_is;
+      again = λ other same. by_turn other ∙ ap (λ o. turn nil cons many o other) (h other same);
+    }
     turn_law ts (Some r) e h ih = weaken_at RL (Says many) d d ts (turn nil cons many (Some r) ts)
         (then_at limit R RL (SaysNext next) (λ x. Says (more x)) (Says many)
-            (λ ts rest x q p s. by_turn ts ∙ ap (λ o. turn nil cons many o ts) p ∙ s)
-            (λ ts e p. by_turn ts ∙ ap (λ o. turn nil cons many o ts) p) 1 0 d d d ts r more h
-            (λ rest. (rest, λ x. (cons x nil, λ us is. cons_is x nil us rest rest is (nil_is rest))))
+        (λ ts rest x q p s. by_turn ts ∙ ap (λ o. turn nil cons many o ts) p ∙ s)
+        (λ ts e p. by_turn ts ∙ ap (λ o. turn nil cons many o ts) p) 1 0 d d d ts r more h
+        (λ rest. (rest, λ x. (cons x nil, λ us is. cons_is x nil us rest rest is (nil_is rest))))
         (λ x rest took. more_law x rest (ih rest (left_less R (SaysNext next) d d ts x rest took))))
 
     many_law_in : (n : ℕ) (ts : List Tok) → length ts < n → LawAt limit RL (Says many) 0 d d ts (many ts)

@@ -31,7 +31,7 @@ pub fewer : {A : Type 0} (f : Reader A) → Shortens f → (ts rest : List Token
     f (seen ts) ≡ Ok (x, seen rest) → length rest < length ts
 fewer f shorter ts rest x read =
     let less = subst (λ (r : Result (_ × List Tok) Stop). OnValue r (λ x. length x.1 < length (seen ts))) read
-        (shorter (seen ts)) in
+    (shorter (seen ts)) in
     omega (arith, less, length-map ts seen_token, length-map rest seen_token)
 
 module _ {X A L : Type 0} (nil : L) (cons : A → L → L) (view : X → A) (next : Next A) (shorter : NextShortens next)

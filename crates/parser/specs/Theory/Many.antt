@@ -20,8 +20,8 @@ module _ {A L : Type 0} (nil : L) (cons : A → L → L) where
   turn_same f g None ts h same = refl
   turn_same f g (Some r) ts h same =
       then_same r (λ x. f x.1 >>= λ l. Ok (cons x.0 l.0, l.1)) (λ x. g x.1 >>= λ l. Ok (cons x.0 l.0, l.1))
-          (λ x. length x.1 < length ts) h (λ x less. ap (λ (r : Result (L × List Tok) Stop). r >>= λ l. Ok
-          (cons x.0 l.0, l.1)) (same x.1 less))
+      (λ x. length x.1 < length ts) h (λ x less. ap (λ (r : Result (L × List Tok) Stop). r >>= λ l. Ok
+      (cons x.0 l.0, l.1)) (same x.1 less))
 
   turned : (f : Reader L) → Bounds f → (ts : List Tok) (o : Option (Result (A × List Tok) Stop)) →
       IfSome o (λ r. OnValue r (λ x. length x.1 < length ts)) →
@@ -29,7 +29,7 @@ module _ {A L : Type 0} (nil : L) (cons : A → L → L) where
   turned f bound ts None h = omega arith
   turned f bound ts (Some r) h =
       on_then r _ (λ x. length x.1 < length ts) _ h (λ x less. on_then (f x.1) _ (λ l. length l.1 ≤ length x.1) _
-          (bound x.1) (λ l le. omega arith))
+      (bound x.1) (λ l le. omega arith))
 
   module _ (next : Next A) (shorter : NextShortens next) where
     enough : (n m : ℕ) (ts : List Tok) → length ts < n → length ts < m →
@@ -38,13 +38,13 @@ module _ {A L : Type 0} (nil : L) (cons : A → L → L) where
     enough (suc n) zero ts h g = absurd (omega arith)
     enough (suc n) (suc m) ts h g =
         turn_same (many_in nil cons next n) (many_in nil cons next m) (next ts) ts (shorter ts)
-            (λ rest less. enough n m rest (omega arith) (omega arith))
+        (λ rest less. enough n m rest (omega arith) (omega arith))
 
     pub many_at-turn : (ts : List Tok) → many_at nil cons next ts ≡ turn nil cons (many_at nil cons next) (next ts) ts
     unfolding many_at
     many_at-turn ts =
         turn_same (many_in nil cons next (length ts)) (many_at nil cons next) (next ts) ts (shorter ts)
-            (λ rest less. enough (length ts) (suc (length rest)) rest less (omega arith))
+        (λ rest less. enough (length ts) (suc (length rest)) rest less (omega arith))
 
     turn_bounds : (n : ℕ) (ts : List Tok) → OnValue (many_in nil cons next n ts) (λ x. length x.1 ≤ length ts)
     turn_bounds zero ts = omega arith
@@ -71,26 +71,26 @@ module _ {A L : Type 0} (nil : L) (cons : A → L → L) (next : Next A) (shorte
       → with_front front (many_at nil cons next ts) ≡ total → with_front more_front (many_at nil cons next rest) ≡ total
   goes_on front more_front ts rest x total found same so_far =
       let one : many_at nil cons next ts ≡ (many_at nil cons next rest >>= λ l. Ok (cons x l.0, l.1)) = many_at-turn nil
-          cons next shorter ts ∙ ap (λ o. turn nil cons (many_at nil cons next) o ts) found in
+      cons next shorter ts ∙ ap (λ o. turn nil cons (many_at nil cons next) o ts) found in
       sym (ap (with_front front) one ∙ regroup cons front more_front x (many_at nil cons next rest) same) ∙ so_far
 
   pub ends : (front : L → L) (ts : List Tok) (total : Result (L × List Tok) Stop) → next ts ≡ None →
       with_front front (many_at nil cons next ts) ≡ total → total ≡ Ok (front nil, ts)
   ends front ts total found so_far =
       let one : many_at nil cons next ts ≡ Ok (nil, ts) = many_at-turn nil cons next shorter ts ∙ ap
-          (λ o. turn nil cons (many_at nil cons next) o ts) found in
+      (λ o. turn nil cons (many_at nil cons next) o ts) found in
       sym so_far ∙ ap (with_front front) one
 
   failed : (e : Stop) (front : L → L) (ts : List Tok) (total : Result (L × List Tok) Stop) → next ts ≡ Some (Err e) →
       with_front front (many_at nil cons next ts) ≡ total → total ≡ Err e
   failed e front ts total found so_far =
       let one : many_at nil cons next ts ≡ Err e = many_at-turn nil cons next shorter ts ∙ ap
-          (λ o. turn nil cons (many_at nil cons next) o ts) found in
+      (λ o. turn nil cons (many_at nil cons next) o ts) found in
       sym so_far ∙ ap (with_front front) one
 
   pub stops : (e : Stop) (front : L →
       L) (ts : List Tok) (r : Result (A × List Tok) Stop) (total : Result (L × List Tok) Stop) → next ts ≡ Some r →
-          Fails e r → with_front front (many_at nil cons next ts) ≡ total → Fails e total
+      Fails e r → with_front front (many_at nil cons next ts) ≡ total → Fails e total
   stops NoMemory front ts r total found fails so_far = tt
   stops (Unexpected n) front ts r total found fails so_far = failed (Unexpected n) front ts total
       (found ∙ ap Some fails) so_far

@@ -34,7 +34,7 @@ after_is (both is_tok (both r done)) = after r
 
 index_is : {y : Number} {ts rest : List Tok} →
     Both (IsTok (mark OpenBracket)) (λ b. Both IsInt (λ n. Both (IsTok (mark CloseBracket)) (λ c. Done n))) y ts rest →
-        IsIndex y ts rest
+    IsIndex y ts rest
 index_is (both is_tok (both is_int_tok (both is_tok done))) = is_index
 
 member_const_is : {x : Ident} {y : Const} {ts rest : List Tok} →
@@ -47,8 +47,8 @@ ref_type_is (both is_name done) = is_ref_type
 
 protection_is : {y : Protection} {ts rest : List Tok} →
     Both (IsTok (word keyword.ProtectedBy)) (λ w. Both (IsTok (mark OpenParen))
-        (λ b. Both IsName (λ x. Both (AreMany (IsAfter Dot IsName)) (λ more. Both (IsTok (mark CloseParen))
-        (λ c. Done (record { first = x; rest = more })))))) y ts rest → IsProtection y ts rest
+    (λ b. Both IsName (λ x. Both (AreMany (IsAfter Dot IsName)) (λ more. Both (IsTok (mark CloseParen))
+    (λ c. Done (record { first = x; rest = more })))))) y ts rest → IsProtection y ts rest
 protection_is (both is_tok (both is_tok (both is_name (both more (both is_tok done))))) = is_protection more
 
 param_is : {y : Param} {ts rest : List Tok} →
@@ -63,7 +63,7 @@ pub data IsParams (ps : List Param) : List Tok → List Tok → Type 0 where
 
 params_is : {y : List Param} {ts rest : List Tok} →
     Both (IsTok (mark OpenParen)) (λ b. Both (AreListed IsParam) (λ ps. Both (IsTok (mark CloseParen)) (λ c. Done ps)))
-        y ts rest → IsParams y ts rest
+    y ts rest → IsParams y ts rest
 params_is (both is_tok (both ps (both is_tok done))) = is_params ps
 
 -- one part alone
@@ -99,12 +99,21 @@ module _ (limit : ℕ) where
 
   pub type_law : (d : ℕ) → Law limit IsType type_at 1 d d
   unfolding type_at
-  type_law d = first_law limit IsType type_from d d (λ rest. (int_type, tok (word keyword.Int) nowhere ∷ rest,
-      is_int_type)) (type_head d)
+  type_law d = first_law limit IsType type_from d d (λ rest. (
+    int_type,
+    tok (word keyword.Int) nowhere ∷ rest,
+    is_int_type,
+  )) (type_head d)
 
   pub type_part : {P : Type 0} (d : ℕ) → Part limit P IsType type_at 1 d d
-  type_part d = record { law = λ p. type_law d; can = λ rest. (int_type, tok (word keyword.Int) nowhere ∷ rest,
-      is_int_type) }
+  type_part d = record {
+    law = λ p. type_law d;
+    can = λ rest. (
+      int_type,
+      tok (word keyword.Int) nowhere ∷ rest,
+      is_int_type,
+    );
+  }
 
   -- a part behind a sign
   pub after_part : {P A : Type 0} {R : A → List Tok → List Tok → Type 0} {f : Reader A} (s : Sign) (d : ℕ) →
@@ -132,8 +141,15 @@ module _ (limit : ℕ) where
   param_law d = param_law_at d
 
   param_part : {P : Type 0} (d : ℕ) → Part limit P IsParam param_at 1 d d
-  param_part d = record { law = λ p. param_law d; can = λ rest. (record { name = no_name; value_type = int_type }, tok
-      (word keyword.Int) nowhere ∷ name_tok no_name ∷ rest, is_param is_int_type) }
+  param_part d = record {
+    law = λ p. param_law d;
+    can = λ rest. (
+      record { name = no_name; value_type = int_type },
+      tok
+          (word keyword.Int) nowhere ∷ name_tok no_name ∷ rest,
+      is_param is_int_type,
+    );
+  }
 
   module _ (room d : ℕ) (sum : d + room ≡ limit) where
     index_law : Law limit IsIndex (index_at room) 1 d d
@@ -143,16 +159,23 @@ module _ (limit : ℕ) where
         (ends_with limit (λ x. x.0.1))))) (λ y ts rest r. index_is r)
 
     pub index_part : {P : Type 0} → Part limit P IsIndex (index_at room) 1 d d
-    index_part = record { law = λ p. index_law; can = λ rest. (no_count, tok (mark OpenBracket) nowhere ∷ zero_tok ∷ tok
-        (mark CloseBracket) nowhere ∷ rest, is_index) }
+    index_part = record {
+      law = λ p. index_law;
+      can = λ rest. (
+        no_count,
+        tok (mark OpenBracket) nowhere ∷ zero_tok ∷ tok
+            (mark CloseBracket) nowhere ∷ rest,
+        is_index,
+      );
+    }
 
     negative_head : (m : Sign) (at : Span) (b : Bool) → same_sign m Minus ≡ b →
         Head limit IsConst d d (mark m) at (λ ts. cond b (negative_from at ts) (refused ts))
     negative_head m at true e =
         subst (λ (s : Sign). Head limit IsConst d d (mark s) at (negative_from at)) (sym (same_sign-true m Minus e))
         (takes 1 (λ e. cc) (λ o. absurd o) (production limit (at_rest IsConst (tok (mark Minus) at))
-            (then_part limit (int_part limit d) (ends_with limit (λ x. negative at x.1)))
-            (λ y ts rest r. negative_is r)))
+        (then_part limit (int_part limit d) (ends_with limit (λ x. negative at x.1)))
+        (λ y ts rest r. negative_is r)))
     negative_head m at false e = refuses (λ ts. refl)
 
     const_head : (k : Lexeme) (at : Span) → Head limit IsConst d d k at (const_from room k at)
@@ -182,17 +205,21 @@ module _ (limit : ℕ) where
     protection_law =
         production limit IsProtection
         (then_part limit (word_part limit keyword.ProtectedBy d) (then_open limit OpenParen room sum tt
-            (then_part limit (name_part limit (suc d)) (then_part limit
-            (after_each_part limit Dot (suc d) refl (λ o. o) (name_part limit (suc d)))
-            (then_part limit (sign_part limit CloseParen (suc d) (λ o. o))
-            (ends_with limit (λ x. record { first = x.0.0.1; rest = x.0.1 })))))))
+        (then_part limit (name_part limit (suc d)) (then_part limit
+        (after_each_part limit Dot (suc d) refl (λ o. o) (name_part limit (suc d)))
+        (then_part limit (sign_part limit CloseParen (suc d) (λ o. o))
+        (ends_with limit (λ x. record { first = x.0.0.1; rest = x.0.1 })))))))
         (λ y ts rest r. protection_is r)
 
     protection_part : {P : Type 0} → Part limit P IsProtection (protection_at room) 1 d d
     protection_part = record {
       law = λ p. protection_law;
-      can = λ rest. (record { first = no_name; rest = [] }, tok (word keyword.ProtectedBy) nowhere ∷ tok
-          (mark OpenParen) nowhere ∷ name_tok no_name ∷ tok (mark CloseParen) nowhere ∷ rest, is_protection no_more);
+      can = λ rest. (
+        record { first = no_name; rest = [] },
+        tok (word keyword.ProtectedBy) nowhere ∷ tok
+            (mark OpenParen) nowhere ∷ name_tok no_name ∷ tok (mark CloseParen) nowhere ∷ rest,
+        is_protection no_more,
+      );
     }
 
     pub maybe_protection_part : {P : Type 0} → Part limit P (IsOptional IsProtection) (maybe_protection room) 0 d d
@@ -203,9 +230,16 @@ module _ (limit : ℕ) where
     params_law =
         production limit IsParams
         (then_open limit OpenParen room sum tt (then_part limit (listed_part limit (suc d) (param_part (suc d)))
-            (then_part limit (sign_part limit CloseParen (suc d) (λ o. o)) (ends_with limit (λ x. x.0.1)))))
+        (then_part limit (sign_part limit CloseParen (suc d) (λ o. o)) (ends_with limit (λ x. x.0.1)))))
         (λ y ts rest r. params_is r)
 
     pub params_part : {P : Type 0} → Part limit P IsParams (params_at room) 1 d d
-    params_part = record { law = λ p. params_law; can = λ rest. ([], tok (mark OpenParen) nowhere ∷ tok
-        (mark CloseParen) nowhere ∷ rest, is_params none_listed) }
+    params_part = record {
+      law = λ p. params_law;
+      can = λ rest. (
+        [],
+        tok (mark OpenParen) nowhere ∷ tok
+            (mark CloseParen) nowhere ∷ rest,
+        is_params none_listed,
+      );
+    }

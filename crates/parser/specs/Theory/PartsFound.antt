@@ -46,7 +46,7 @@ const_found room x ts mid is_null_const follow = found refl
 const_found room _ ts mid (is_member_const {x = x} {n = n} {begin = begin} {close = close}) follow =
     let us = tok (mark OpenBracket) begin ∷ int_tok n ∷ tok (mark CloseBracket) close ∷ mid in
     finds_then (index_at room us) (λ n. Ok (member_const x n.0, n.1)) (n, mid) (member_const x n, mid)
-        (index_found room n us mid is_index tt) (found refl)
+    (index_found room n us mid is_index tt) (found refl)
 
 -- ---- a part behind a sign
 
@@ -69,8 +69,8 @@ close_no_dot (both is_tok r) = refl
 
 protection_back : {y : Protection} {ts rest : List Tok} → IsProtection y ts rest →
     Both (IsTok (word keyword.ProtectedBy)) (λ w. Both (IsTok (mark OpenParen))
-        (λ b. Both IsName (λ x. Both (AreMany (IsAfter Dot IsName)) (λ more. Both (IsTok (mark CloseParen))
-        (λ c. Done (record { first = x; rest = more })))))) y ts rest
+    (λ b. Both IsName (λ x. Both (AreMany (IsAfter Dot IsName)) (λ more. Both (IsTok (mark CloseParen))
+    (λ c. Done (record { first = x; rest = more })))))) y ts rest
 protection_back (is_protection h) = both is_tok (both is_tok (both is_name (both h (both is_tok done))))
 
 protection_found : (room : ℕ) → FindsPart Anything IsProtection (protection_at room)
@@ -78,9 +78,9 @@ unfolding protection_at
 protection_found room =
     production_found IsProtection
     (and_found (word_found keyword.ProtectedBy) (open_then OpenParen room
-        (λ r e. and_found name_found (then_found {F = NoSign Dot} (each_found IsName name_at name_found Dot
-        next_name_shortens) (λ x a y ts rest r f. close_no_dot r) (and_found (sign_found CloseParen)
-        (ends_found (λ x. record { first = x.0.0.1; rest = x.0.1 })))))))
+    (λ r e. and_found name_found (then_found {F = NoSign Dot} (each_found IsName name_at name_found Dot
+    next_name_shortens) (λ x a y ts rest r f. close_no_dot r) (and_found (sign_found CloseParen)
+    (ends_found (λ x. record { first = x.0.0.1; rest = x.0.1 })))))))
     (λ y ts rest h. protection_back h)
 
 protection_begins : (y : Protection) (ts rest : List Tok) → IsProtection y ts rest →
@@ -119,7 +119,7 @@ const_begins y ts rest is_member_const = refl
 
 params_back : {y : List Param} {ts rest : List Tok} → IsParams y ts rest →
     Both (IsTok (mark OpenParen)) (λ b. Both (AreListed IsParam) (λ ps. Both (IsTok (mark CloseParen)) (λ c. Done ps)))
-        y ts rest
+    y ts rest
 params_back (is_params h) = both is_tok (both h (both is_tok done))
 
 pub params_found : (room : ℕ) → FindsPart Anything IsParams (params_at room)
@@ -127,6 +127,6 @@ unfolding params_at
 params_found room =
     production_found IsParams
     (open_then OpenParen room (λ r e. then_found {F = Closes} (listed_found IsParam param_at param_found
-        next_param_shortens param_begins) (λ x a y ts rest r f. close_closes r)
-        (and_found (sign_found CloseParen) (ends_found (λ x. x.0.1)))))
+    next_param_shortens param_begins) (λ x a y ts rest r f. close_closes r)
+    (and_found (sign_found CloseParen) (ends_found (λ x. x.0.1)))))
     (λ y ts rest h. params_back h)

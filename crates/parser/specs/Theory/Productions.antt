@@ -59,7 +59,7 @@ place_is (both p done) = is_place p
 
 element_is : {x : Ident} {y : Place} {ts rest : List Tok} →
     Both (IsTok (mark OpenBracket)) (λ b. Both (IsExpr ANY) (λ e. Both (IsTok (mark CloseBracket))
-        (λ c. Done (element x e)))) y ts rest → IsPlace y (name_tok x ∷ ts) rest
+    (λ c. Done (element x e)))) y ts rest → IsPlace y (name_tok x ∷ ts) rest
 element_is (both is_tok (both e (both is_tok done))) = is_element e
 
 -- one field or more, each behind a dot
@@ -70,7 +70,7 @@ pub data IsFields : List Ident → List Tok → List Tok → Type 0 where
 
 fields_is : {y : List Ident} {ts rest : List Tok} →
     Both (IsTok (mark Dot)) (λ d. Both IsName (λ first. Both (AreMany (IsAfter Dot IsName))
-        (λ more. Done (first ∷ more)))) y ts rest → IsFields y ts rest
+    (λ more. Done (first ∷ more)))) y ts rest → IsFields y ts rest
 fields_is (both is_tok (both is_name (both more done))) = is_fields more
 
 path_is : {x : Ident} {y : Place} {ts rest : List Tok} → Both IsFields (λ fs. Done (path x fs)) y ts rest →
@@ -140,9 +140,9 @@ link_is : (k : Level) (o : Operator × Expr) (l : Links) (ts mid rest : List Tok
     IsLinks k l mid rest → IsLinks k (link o.0 o.1 l) ts rest
 link_is k o l ts mid rest a b =
     subst (λ (us : List Tok). IsLinks k (link o.0 o.1 l) us rest) (sym a.first)
-        (subst (λ (j : Level). IsLinks j (link o.0 o.1 l) (tok (mark (sign_of o.0)) a.at ∷ a.operand) rest) a.level
-        (is_link (subst (λ (j : Level). IsExpr (below j) o.1 a.operand mid) (sym a.level) a.is)
-        (subst (λ (j : Level). IsLinks j l mid rest) (sym a.level) b)))
+    (subst (λ (j : Level). IsLinks j (link o.0 o.1 l) (tok (mark (sign_of o.0)) a.at ∷ a.operand) rest) a.level
+    (is_link (subst (λ (j : Level). IsExpr (below j) o.1 a.operand mid) (sym a.level) a.is)
+    (subst (λ (j : Level). IsLinks j l mid rest) (sym a.level) b)))
 
 module _ (limit : ℕ) where
   module _ (operand : Reader Expr) (k : Level) (d : ℕ) (law : Law limit (IsExpr (below k)) operand 1 d d) where
@@ -159,13 +159,19 @@ module _ (limit : ℕ) where
         let stays : open_after d t.kind ≡ d = ap (open_after d) h.0 ∙ op_level op d in
         let inner : Law limit (at_rest (IsLink k) t) (linked op) 1 d d =
         last_law limit (IsExpr (below k)) (at_rest (IsLink k) t) operand (λ x. (op, x)) 1 d d law
-            (λ x rest ts1 is1. record { at = t.span; operand = ts1; level = h.1; first = ap
-            (λ (j : Lexeme). tok j t.span ∷ ts1) h.0; is = is1 }) in
+        (λ x rest ts1 is1. record {
+          at = t.span;
+          operand = ts1;
+          level = h.1;
+          first = ap
+              (λ (j : Lexeme). tok j t.span ∷ ts1) h.0;
+          is = is1;
+        }) in
         prefixed limit (IsLink k) (Says (linked op)) (SaysNext (next_link operand k)) 1 d d t
-            (λ us q s. ap (λ o. link_from operand (before_rest o us)) e ∙ ap Some s) ts
-            (λ bad. op_is_no_end op (sym h.0 ∙ bad)) (λ o. absurd (op_no_opening op (subst IsOpening h.0 o)))
-            (linked op ts) (subst (λ n. LawAt limit (at_rest (IsLink k) t) (Says (linked op)) 1 n d ts (linked op ts))
-            (sym stays) (inner ts))
+        (λ us q s. ap (λ o. link_from operand (before_rest o us)) e ∙ ap Some s) ts
+        (λ bad. op_is_no_end op (sym h.0 ∙ bad)) (λ o. absurd (op_no_opening op (subst IsOpening h.0 o)))
+        (linked op ts) (subst (λ n. LawAt limit (at_rest (IsLink k) t) (Says (linked op)) 1 n d ts (linked op ts))
+        (sym stays) (inner ts))
       where
         op_is_no_end : (op : Operator) → mark (sign_of op) ≡ end → ⊥
         op_is_no_end op e = cc
@@ -183,10 +189,16 @@ module _ (limit : ℕ) where
     unfolding chain_at
     chain_law =
         then_law limit (IsExpr (below k)) (IsExpr (rank k)) operand (λ x ts. links_at operand k ts >>= λ l. Ok
-            (chained k x l.0, l.1)) 1 0 d d d law (λ rest. (rest, λ x. (chained k x no_links, λ ts first. chained_is k x
-            no_links ts rest rest first are_no_links))) (λ x. last_law limit (IsLinks k)
-            (Then (IsExpr (below k)) (IsExpr (rank k)) x) (links_at operand k) (chained k x) 0 d d links_law
-            (λ l rest ts1 ls ts2 first. chained_is k x l ts2 ts1 rest first ls))
+        (chained k x l.0, l.1)) 1 0 d d d law (λ rest. (
+          rest,
+          λ x. (
+            chained k x no_links,
+            λ ts first. chained_is k x
+                no_links ts rest rest first are_no_links,
+          ),
+        )) (λ x. last_law limit (IsLinks k)
+        (Then (IsExpr (below k)) (IsExpr (rank k)) x) (links_at operand k) (chained k x) 0 d d links_law
+        (λ l rest ts1 ls ts2 first. chained_is k x l ts2 ts1 rest first ls))
 
   -- ---- operators before an operand
 
@@ -213,7 +225,7 @@ module _ (limit : ℕ) where
     found_prefix : (t : Tok) (ts : List Tok) (o : Option Prefix) → prefix_of t.kind ≡ o →
         IfSome o (λ op. t.kind ≡ mark (prefix_sign op)) →
         LawAt limit (IsExpr UNARY) (Says (unary_with prim)) 1 d d (t ∷ ts)
-            (unary_from prim (prefix_from o t.span ts) (t ∷ ts))
+        (unary_from prim (prefix_from o t.span ts) (t ∷ ts))
     unfolding unary_with prefix_at
     found_prefix t ts None e h = said limit (IsExpr UNARY) (Says prim) (Says (unary_with prim)) 1 d d (t ∷ ts)
         (λ us q same s. ap (λ (vs : List Tok). unary_with prim vs) same.1 ∙ ap
@@ -225,13 +237,13 @@ module _ (limit : ℕ) where
         let same : t ≡ tok (mark (prefix_sign op)) t.span = ap (λ (k : Lexeme). tok k t.span) h in
         let inner : Law limit (at_rest (IsExpr UNARY) t) (prefixed_by op t.span) 1 d d =
         last_law limit (IsExpr PRIM) (at_rest (IsExpr UNARY) t) prim (prefix op t.span) 1 d d law
-            (λ x rest ts1 is. subst (λ (u : Tok). IsExpr UNARY (prefix op t.span x) (u ∷ ts1) rest) (sym same)
-            (is_prefix (omega arith) is)) in
+        (λ x rest ts1 is. subst (λ (u : Tok). IsExpr UNARY (prefix op t.span x) (u ∷ ts1) rest) (sym same)
+        (is_prefix (omega arith) is)) in
         prefixed limit (IsExpr UNARY) (Says (prefixed_by op t.span)) (Says (unary_with prim)) 1 d d t
-            (λ us q s. ap (λ o. unary_from prim (prefix_from o t.span us) (t ∷ us)) e ∙ s) ts
-            (λ bad. prefix_is_no_end op (sym h ∙ bad)) (λ o. absurd (prefix_no_opening op (subst IsOpening h o)))
-            (prefixed_by op t.span ts) (subst (λ n. LawAt limit (at_rest (IsExpr UNARY) t)
-            (Says (prefixed_by op t.span)) 1 n d ts (prefixed_by op t.span ts)) (sym stays) (inner ts))
+        (λ us q s. ap (λ o. unary_from prim (prefix_from o t.span us) (t ∷ us)) e ∙ s) ts
+        (λ bad. prefix_is_no_end op (sym h ∙ bad)) (λ o. absurd (prefix_no_opening op (subst IsOpening h o)))
+        (prefixed_by op t.span ts) (subst (λ n. LawAt limit (at_rest (IsExpr UNARY) t)
+        (Says (prefixed_by op t.span)) 1 n d ts (prefixed_by op t.span ts)) (sym stays) (inner ts))
 
     unary_nothing : LawAt limit (IsExpr UNARY) (Says (unary_with prim)) 1 d d [] (prim [])
     unfolding unary_with prefix_at
@@ -289,29 +301,46 @@ module _ (limit : ℕ) where
         IfSome o (λ c. t.kind ≡ mark (comparison_sign c)) →
         LawAt limit IsRight (Says right_at) 0 d d (t ∷ ts) (compared_from sum x (before_rest o ts) (t ∷ ts))
     unfolding comparison_at
-    found_comparison t ts None e h = record { taken = []; parts = refl; some = omega arith; no_end = tt; level = refl;
-        shallow = tt; is = λ other us left. raise (omega arith) left; again = λ other same. ap right_at same.1 ∙ ap
-        (λ o. compared_from sum x (before_rest o same.0) (t ∷ same.0)) e ∙ ap (λ (us : List Tok). Ok (x, us))
-        (sym same.1) }
+    found_comparison t ts None e h = record {
+      taken = [];
+      parts = refl;
+      some = omega arith;
+      no_end = tt;
+      level = refl;
+      shallow = tt;
+      is = λ other us left. raise (omega arith) left;
+      again = λ other same. ap right_at same.1 ∙ ap
+          (λ o. compared_from sum x (before_rest o same.0) (t ∷ same.0)) e ∙ ap (λ (us : List Tok). Ok (x, us))
+          (sym same.1);
+    }
     found_comparison t ts (Some c) e h =
         let stays : open_after d t.kind ≡ d = ap (open_after d) h ∙ comparison_level c d in
         let same : t ≡ tok (mark (comparison_sign c)) t.span = ap (λ (k : Lexeme). tok k t.span) h in
         let inner : Law limit (at_rest IsRight t) (compared_by c) 1 d d =
         last_law limit (IsExpr SUM) (at_rest IsRight t) sum (compare x c) 1 d d law
-            (λ y rest ts1 is us left. is_compare (omega arith) (subst (λ (u : Tok). IsExpr SUM x us (u ∷ ts1)) same
-            left) is) in
+        (λ y rest ts1 is us left. is_compare (omega arith) (subst (λ (u : Tok). IsExpr SUM x us (u ∷ ts1)) same
+        left) is) in
         weaken_at limit IsRight (Says right_at) d d (t ∷ ts) (compared_by c ts)
-            (prefixed limit IsRight (Says (compared_by c)) (Says right_at) 1 d d t
-            (λ us q s. ap (λ o. compared_from sum x (before_rest o us) (t ∷ us)) e ∙ s) ts
-            (λ bad. comparison_is_no_end c (sym h ∙ bad)) (λ o. absurd (comparison_no_opening c (subst IsOpening h o)))
-            (compared_by c ts) (subst (λ n. LawAt limit (at_rest IsRight t) (Says (compared_by c)) 1 n d ts
-            (compared_by c ts)) (sym stays) (inner ts)))
+        (prefixed limit IsRight (Says (compared_by c)) (Says right_at) 1 d d t
+        (λ us q s. ap (λ o. compared_from sum x (before_rest o us) (t ∷ us)) e ∙ s) ts
+        (λ bad. comparison_is_no_end c (sym h ∙ bad)) (λ o. absurd (comparison_no_opening c (subst IsOpening h o)))
+        (compared_by c ts) (subst (λ n. LawAt limit (at_rest IsRight t) (Says (compared_by c)) 1 n d ts
+        (compared_by c ts)) (sym stays) (inner ts)))
 
     right_law : Law limit IsRight right_at 0 d d
     unfolding comparison_at
-    right_law [] = record { taken = []; parts = refl; some = omega arith; no_end = tt; level = refl; shallow = tt; is =
-        λ other us left. raise (omega arith) left; again = λ other same. ap right_at same ∙ ap
-        (λ (us : List Tok). Ok (x, us)) (sym same) }
+    right_law [] = record {
+      taken = [];
+      parts = refl;
+      some = omega arith;
+      no_end = tt;
+      level = refl;
+      shallow = tt;
+      is =
+          λ other us left. raise (omega arith) left;
+      again = λ other same. ap right_at same ∙ ap
+          (λ (us : List Tok). Ok (x, us)) (sym same);
+    }
     right_law (t ∷ ts) = found_comparison t ts (comparison_of t.kind) refl (comparison_meant t.kind)
 
   pub compared_law : (sum : Reader Expr) (d : ℕ) → Law limit (IsExpr SUM) sum 1 d d →
@@ -319,7 +348,7 @@ module _ (limit : ℕ) where
   unfolding compared_with
   compared_law sum d law =
       then_law limit (IsExpr SUM) (IsExpr COMPARED) sum (λ x ts. compared_from sum x (comparison_at ts) ts) 1 0 d d d
-          law (λ rest. (rest, λ x. (x, λ ts left. raise (omega arith) left))) (λ x. right_law sum d law x)
+      law (λ rest. (rest, λ x. (x, λ ts left. raise (omega arith) left))) (λ x. right_law sum d law x)
 
   -- ---- places
 
@@ -332,13 +361,20 @@ module _ (limit : ℕ) where
   fields_law d =
       production limit IsFields
       (then_part limit (sign_part limit Dot d (λ o. o)) (then_part limit (name_part limit d)
-          (then_part limit (after_each_part limit Dot d refl (λ o. o) (name_part limit d))
-          (ends_with limit (λ x. x.0.1 ∷ x.1)))))
+      (then_part limit (after_each_part limit Dot d refl (λ o. o) (name_part limit d))
+      (ends_with limit (λ x. x.0.1 ∷ x.1)))))
       (λ y ts rest r. fields_is r)
 
   fields_part : {P : Type 0} (d : ℕ) → Part limit P IsFields fields_at 1 d d
-  fields_part d = record { law = λ p. fields_law d; can = λ rest. (no_ident ∷ [], tok (mark Dot) nowhere ∷ name_tok
-      no_ident ∷ rest, is_fields no_more) }
+  fields_part d = record {
+    law = λ p. fields_law d;
+    can = λ rest. (
+      no_ident ∷ [],
+      tok (mark Dot) nowhere ∷ name_tok
+          no_ident ∷ rest,
+      is_fields no_more,
+    );
+  }
 
   module _ (room d : ℕ) (sum : d + room ≡ limit) (inner : Reader Expr) (law : 0 < room → Law limit (IsExpr ANY) inner 1
       (suc d) (suc d)) where
@@ -348,8 +384,8 @@ module _ (limit : ℕ) where
       element_law =
           production limit (at_rest IsPlace (name_tok x))
           (then_open limit OpenBracket room sum tt (then_part limit (any_part inner (suc d) law)
-              (then_part limit (sign_part limit CloseBracket (suc d) (λ o. o))
-              (ends_with limit (λ y. element x y.0.1)))))
+          (then_part limit (sign_part limit CloseBracket (suc d) (λ o. o))
+          (ends_with limit (λ y. element x y.0.1)))))
           (λ y ts rest r. element_is r)
 
       path_law : Law limit (at_rest IsPlace (name_tok x)) (path_at x) 1 d d
@@ -362,10 +398,10 @@ module _ (limit : ℕ) where
       pub place_law : Law limit (at_rest IsPlace (name_tok x)) (place_at room inner x) 0 d d
       place_law =
           choose_law limit (at_rest IsPlace (name_tok x)) (mark OpenBracket) (element_at room inner x)
-              (choose (mark Dot) (path_at x) (alone_at x)) 0 d d (weaken_law limit (at_rest IsPlace (name_tok x))
-              (element_at room inner x) d d element_law)
+          (choose (mark Dot) (path_at x) (alone_at x)) 0 d d (weaken_law limit (at_rest IsPlace (name_tok x))
+          (element_at room inner x) d d element_law)
           (choose_law limit (at_rest IsPlace (name_tok x)) (mark Dot) (path_at x) (alone_at x) 0 d d
-              (weaken_law limit (at_rest IsPlace (name_tok x)) (path_at x) d d path_law) alone_law)
+          (weaken_law limit (at_rest IsPlace (name_tok x)) (path_at x) d d path_law) alone_law)
 
       pub place_part : {P : Type 0} → Part limit P (at_rest IsPlace (name_tok x)) (place_at room inner x) 0 d d
       place_part = record { law = λ p. place_law; can = λ rest. (lone x, rest, is_lone) }
@@ -377,7 +413,7 @@ module _ (limit : ℕ) where
     parens_law law at =
         production limit (at_rest (IsExpr PRIM) (tok (mark OpenParen) at))
         (then_part limit (any_part inner (suc d) (λ p. law)) (then_part limit
-            (sign_part limit CloseParen (suc d) (λ o. o)) (ends_with limit (λ x. paren at x.0.1))))
+        (sign_part limit CloseParen (suc d) (λ o. o)) (ends_with limit (λ x. paren at x.0.1))))
         (λ y ts rest r. parens_is r)
 
   parens_head : (room d : ℕ) → d + room ≡ limit → (inner : Reader Expr) →
@@ -461,12 +497,19 @@ module _ (limit room d : ℕ) (sum : d + room ≡ limit) where
   ended_law =
       production limit IsEnded
       (then_part limit (any_part limit (expr_at room) d (λ p. expr_law limit room d sum))
-          (then_part limit (sign_part limit Semicolon d (λ o. o)) (ends_with limit (λ x. x.0.1))))
+      (then_part limit (sign_part limit Semicolon d (λ o. o)) (ends_with limit (λ x. x.0.1))))
       (λ y ts rest r. ended_is r)
 
   pub ended_part : {P : Type 0} → Part limit P IsEnded (ended_at room) 1 d d
-  ended_part = record { law = λ p. ended_law; can = λ rest. (zero_expr, tok (lexeme.int 0) nowhere ∷ tok
-      (mark Semicolon) nowhere ∷ rest, ended is_int) }
+  ended_part = record {
+    law = λ p. ended_law;
+    can = λ rest. (
+      zero_expr,
+      tok (lexeme.int 0) nowhere ∷ tok
+          (mark Semicolon) nowhere ∷ rest,
+      ended is_int,
+    );
+  }
 
 -- an expression in parentheses
 pub data IsCondition (e : Expr) : List Tok → List Tok → Type 0 where
@@ -475,7 +518,7 @@ pub data IsCondition (e : Expr) : List Tok → List Tok → Type 0 where
 
 condition_is : {y : Expr} {ts rest : List Tok} →
     Both (IsTok (mark OpenParen)) (λ b. Both (IsExpr ANY) (λ e. Both (IsTok (mark CloseParen)) (λ c. Done e))) y ts rest
-        → IsCondition y ts rest
+    → IsCondition y ts rest
 condition_is (both is_tok (both e (both is_tok done))) = is_condition e
 
 module _ (limit room d : ℕ) (sum : d + room ≡ limit) where
@@ -484,10 +527,17 @@ module _ (limit room d : ℕ) (sum : d + room ≡ limit) where
   condition_law =
       production limit IsCondition
       (then_open limit OpenParen room sum tt (then_part limit (any_part limit (inside_at room) (suc d)
-          (inside_law limit room d sum)) (then_part limit (sign_part limit CloseParen (suc d) (λ o. o))
-          (ends_with limit (λ x. x.0.1)))))
+      (inside_law limit room d sum)) (then_part limit (sign_part limit CloseParen (suc d) (λ o. o))
+      (ends_with limit (λ x. x.0.1)))))
       (λ y ts rest r. condition_is r)
 
   pub condition_part : {P : Type 0} → Part limit P IsCondition (condition_at room) 1 d d
-  condition_part = record { law = λ p. condition_law; can = λ rest. (zero_expr, tok (mark OpenParen) nowhere ∷ zero_tok
-      ∷ tok (mark CloseParen) nowhere ∷ rest, is_condition is_int) }
+  condition_part = record {
+    law = λ p. condition_law;
+    can = λ rest. (
+      zero_expr,
+      tok (mark OpenParen) nowhere ∷ zero_tok
+          ∷ tok (mark CloseParen) nowhere ∷ rest,
+      is_condition is_int,
+    );
+  }

@@ -55,7 +55,7 @@ pub each_less : {A : Type 0} (s : Sign) (f : Reader A) → Shortens f → (ts af
     skip_at s (seen ts) ≡ Some (seen after) → f (seen after) ≡ Ok (x, seen rest) → length rest < length ts
 each_less s f shorter ts after rest x found read =
     let less = subst (λ (o : Option (List Tok)). IfSome o (λ us. length us < length (seen ts))) found
-        (skip_found s (seen ts)) in
+    (skip_found s (seen ts)) in
     let more = subst (λ (r : Result (_ × List Tok) Stop). OnValue r (λ x. length x.1 < length (seen after))) read
-        (shorter (seen after)) in
+    (shorter (seen after)) in
     omega (arith, less, more, length-map ts seen_token, length-map rest seen_token)

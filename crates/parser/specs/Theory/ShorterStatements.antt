@@ -35,7 +35,7 @@ pub one_turn_less : (k : Level) (room : ℕ) (ts after rest : List Token) (op : 
     length rest < length ts
 one_turn_less k room ts after rest op x found read =
     let less = subst (λ (o : Option (Operator × List Tok)). IfSome o (λ f. length f.1 < length (seen ts))) found
-        (op_shortens k (seen ts)) in
+    (op_shortens k (seen ts)) in
     let more = subst (λ (r : Result (Expr × List Tok) Stop). OnValue r (λ x. length x.1 < length (seen after))) read
-        (operand_shortens k room (seen after)) in
+    (operand_shortens k room (seen after)) in
     omega (arith, less, more, length-map ts seen_token, length-map rest seen_token)

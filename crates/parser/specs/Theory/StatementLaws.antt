@@ -36,27 +36,27 @@ pub data IsTyped (start : Span) : TypedName → List Tok → List Tok → Type 0
   is_typed : {x : Ident} {t : ValueType} {colon equals : Span} {ts rest : List Tok}
       → IsType t ts (tok (mark Equals) equals ∷ rest)
       → IsTyped start (record { start = start; name = x; value_type = t }) (name_tok x ∷ tok (mark Colon) colon ∷ ts)
-          rest
+      rest
 
 typed_is : {start : Span} {y : TypedName} {ts rest : List Tok} →
     Both IsName (λ x. Both (IsTok (mark Colon)) (λ c. Both IsType (λ t. Both (IsTok (mark Equals))
-        (λ q. Done (record { start = start; name = x; value_type = t }))))) y ts rest → IsTyped start y ts rest
+    (λ q. Done (record { start = start; name = x; value_type = t }))))) y ts rest → IsTyped start y ts rest
 typed_is (both is_name (both is_tok (both t (both is_tok done)))) = is_typed t
 
 helper_call_is : {y : HelperCall} {ts rest : List Tok} →
     Both IsName (λ x. Both (IsTok (mark OpenParen)) (λ b. Both (AreListed (IsExpr ANY))
-        (λ es. Both (IsTok (mark CloseParen)) (λ c. Done (record { helper = x; arguments = es }))))) y ts rest →
-        IsHelperCall y ts rest
+    (λ es. Both (IsTok (mark CloseParen)) (λ c. Done (record { helper = x; arguments = es }))))) y ts rest →
+    IsHelperCall y ts rest
 helper_call_is (both is_name (both is_tok (both es (both is_tok done)))) = is_helper_call es
 
 owner_is : {y : Owner} {ts rest : List Tok} →
     Both (IsTok (word keyword.Where)) (λ w. Both IsName (λ f. Both (IsTok (mark DoubleEquals))
-        (λ q. Both IsName (λ x. Done (record { field = f; local = x }))))) y ts rest → IsOwner y ts rest
+    (λ q. Both IsName (λ x. Done (record { field = f; local = x }))))) y ts rest → IsOwner y ts rest
 owner_is (both is_tok (both is_name (both is_tok (both is_name done)))) = is_owner
 
 assign_is : {x : Ident} {y : Stmt} {ts rest : List Tok} →
     Both (at_rest IsPlace (name_tok x)) (λ p. Both (IsTok (mark Equals)) (λ q. Both IsEnded (λ e. Done (assign p e)))) y
-        ts rest → IsStmt y (name_tok x ∷ ts) rest
+    ts rest → IsStmt y (name_tok x ∷ ts) rest
 assign_is (both p (both is_tok (both (ended e) done))) = is_assign p e
 
 -- statements in braces, with where the closing one stands
@@ -65,7 +65,7 @@ IsBracedPair b = IsBraced b.0 b.1
 
 braced_is : {y : Stmts × Span} {ts rest : List Tok} →
     Both (IsTok (mark OpenBrace)) (λ b. Both IsStmts (λ ss. Both (IsTok (mark CloseBrace)) (λ c. Done (ss, c)))) y ts
-        rest → IsBracedPair y ts rest
+    rest → IsBracedPair y ts rest
 braced_is (both is_tok (both ss (both is_tok done))) = is_braced ss
 
 else_is : {y : Otherwise} {ts rest : List Tok} →
@@ -108,7 +108,7 @@ data IsLetRest (t : TypedName) : Stmt → List Tok → List Tok → Type 0 where
       IsLetEnd (local_with t e) s mid rest → IsLetRest t s ts rest
   rest_called : {c : HelperCall} {start semicolon : Span} {ts rest : List Tok}
       → IsHelperCall c ts (tok (mark Semicolon) semicolon ∷ rest) → IsLetRest t (let_call (called_with t c))
-          (tok (word keyword.Call) start ∷ ts) rest
+      (tok (word keyword.Call) start ∷ ts) rest
 
 valued_is : {t : TypedName} {y : Stmt} {ts rest : List Tok} →
     Both (IsExpr ANY) (λ e. IsLetEnd (local_with t e)) y ts rest → IsLetRest t y ts rest
@@ -116,7 +116,7 @@ valued_is (both e f) = rest_valued e f
 
 called_is : {t : TypedName} {y : Stmt} {ts rest : List Tok} →
     Both (IsTok (word keyword.Call)) (λ w. Both IsHelperCall (λ c. Both (IsTok (mark Semicolon))
-        (λ s. Done (let_call (called_with t c))))) y ts rest → IsLetRest t y ts rest
+    (λ s. Done (let_call (called_with t c))))) y ts rest → IsLetRest t y ts rest
 called_is (both is_tok (both c (both is_tok done))) = rest_called c
 
 let_is : {start : Span} {y : Stmt} {ts rest : List Tok} → Both (IsTyped start) (λ t. IsLetRest t) y ts rest →
@@ -149,15 +149,19 @@ module _ (limit : ℕ) where
   owner_law d =
       production limit IsOwner
       (then_part limit (word_part limit keyword.Where d) (then_part limit (name_part limit d)
-          (then_part limit (sign_part limit DoubleEquals d (λ o. o)) (then_part limit (name_part limit d)
-          (ends_with limit (λ x. record { field = x.0.0.1; local = x.1 }))))))
+      (then_part limit (sign_part limit DoubleEquals d (λ o. o)) (then_part limit (name_part limit d)
+      (ends_with limit (λ x. record { field = x.0.0.1; local = x.1 }))))))
       (λ y ts rest r. owner_is r)
 
   owner_part : {P : Type 0} (d : ℕ) → Part limit P IsOwner owner_at 1 d d
   owner_part d = record {
     law = λ p. owner_law d;
-    can = λ rest. (record { field = no_name; local = no_name }, tok (word keyword.Where) nowhere ∷ name_tok no_name ∷
-        tok (mark DoubleEquals) nowhere ∷ name_tok no_name ∷ rest, is_owner);
+    can = λ rest. (
+      record { field = no_name; local = no_name },
+      tok (word keyword.Where) nowhere ∷ name_tok no_name ∷
+          tok (mark DoubleEquals) nowhere ∷ name_tok no_name ∷ rest,
+      is_owner,
+    );
   }
 
   typed_law : (d : ℕ) (start : Span) → Law limit (IsTyped start) (typed_at start) 1 d d
@@ -165,15 +169,19 @@ module _ (limit : ℕ) where
   typed_law d start =
       production limit (IsTyped start)
       (then_part limit (name_part limit d) (then_part limit (sign_part limit Colon d (λ o. o))
-          (then_part limit (type_part limit d) (then_part limit (sign_part limit Equals d (λ o. o))
-          (ends_with limit (λ x. record { start = start; name = x.0.0.0.1; value_type = x.0.1 }))))))
+      (then_part limit (type_part limit d) (then_part limit (sign_part limit Equals d (λ o. o))
+      (ends_with limit (λ x. record { start = start; name = x.0.0.0.1; value_type = x.0.1 }))))))
       (λ y ts rest r. typed_is r)
 
   typed_part : {P : Type 0} (d : ℕ) (start : Span) → Part limit P (IsTyped start) (typed_at start) 1 d d
   typed_part d start = record {
     law = λ p. typed_law d start;
-    can = λ rest. (record { start = start; name = no_name; value_type = int_type }, name_tok no_name ∷ tok (mark Colon)
-        nowhere ∷ tok (word keyword.Int) nowhere ∷ tok (mark Equals) nowhere ∷ rest, is_typed is_int_type);
+    can = λ rest. (
+      record { start = start; name = no_name; value_type = int_type },
+      name_tok no_name ∷ tok (mark Colon)
+          nowhere ∷ tok (word keyword.Int) nowhere ∷ tok (mark Equals) nowhere ∷ rest,
+      is_typed is_int_type,
+    );
   }
 
   plain_rest : {P X : Type 0} (d : ℕ) (make : X → Local) →
@@ -199,16 +207,20 @@ module _ (limit : ℕ) where
     helper_call_law =
         production limit IsHelperCall
         (then_part limit (name_part limit d) (then_open limit OpenParen room sum tt
-            (then_part limit (listed_part limit (suc d) (any_part limit (inside_at room) (suc d)
-            (inside_law limit room d sum))) (then_part limit (sign_part limit CloseParen (suc d) (λ o. o))
+        (then_part limit (listed_part limit (suc d) (any_part limit (inside_at room) (suc d)
+        (inside_law limit room d sum))) (then_part limit (sign_part limit CloseParen (suc d) (λ o. o))
         (ends_with limit (λ x. record { helper = x.0.0.0.1; arguments = x.0.1 }))))))
         (λ y ts rest r. helper_call_is r)
 
     helper_call_part : {P : Type 0} → Part limit P IsHelperCall (helper_call_at room) 1 d d
     helper_call_part = record {
       law = λ p. helper_call_law;
-      can = λ rest. (record { helper = no_name; arguments = [] }, name_tok no_name ∷ tok (mark OpenParen) nowhere ∷ tok
-          (mark CloseParen) nowhere ∷ rest, is_helper_call none_listed);
+      can = λ rest. (
+        record { helper = no_name; arguments = [] },
+        name_tok no_name ∷ tok (mark OpenParen) nowhere ∷ tok
+            (mark CloseParen) nowhere ∷ rest,
+        is_helper_call none_listed,
+      );
     }
 
     valued_rest : {P : Type 0} →
@@ -216,11 +228,14 @@ module _ (limit : ℕ) where
     valued_rest = record {
       law = λ p x.
           production limit (IsLetRest x.1) (then_part limit (any_part limit (expr_at room) d
-              (λ p. expr_law limit room d sum)) (either limit (word keyword.Where)
-              (owned_rest d (λ (y : Unit {0} × Expr). local_with x.1 y.1))
-              (plain_rest d (λ (y : Unit {0} × Expr). local_with x.1 y.1)))) (λ y ts rest r. valued_is r);
-      can = λ rest. (zero_tok ∷ tok (mark Semicolon) nowhere ∷ rest, λ x.
-          (let_local (local_with x.1 zero_expr), rest_valued is_int ends_plain));
+          (λ p. expr_law limit room d sum)) (either limit (word keyword.Where)
+          (owned_rest d (λ (y : Unit {0} × Expr). local_with x.1 y.1))
+          (plain_rest d (λ (y : Unit {0} × Expr). local_with x.1 y.1)))) (λ y ts rest r. valued_is r);
+      can = λ rest. (
+        zero_tok ∷ tok (mark Semicolon) nowhere ∷ rest,
+        λ x.
+            (let_local (local_with x.1 zero_expr), rest_valued is_int ends_plain),
+      );
     }
 
     called_rest : {P : Type 0} →
@@ -228,10 +243,13 @@ module _ (limit : ℕ) where
     called_rest = record {
       law = λ p x.
           production limit (IsLetRest x.1) (then_part limit (word_part limit keyword.Call d)
-              (then_part limit helper_call_part (then_part limit (sign_part limit Semicolon d (λ o. o))
-              (ends_with limit (λ y. let_call (called_with x.1 y.0.1)))))) (λ y ts rest r. called_is r);
-      can = λ rest. (zero_tok ∷ tok (mark Semicolon) nowhere ∷ rest, λ x.
-          (let_local (local_with x.1 zero_expr), rest_valued is_int ends_plain));
+          (then_part limit helper_call_part (then_part limit (sign_part limit Semicolon d (λ o. o))
+          (ends_with limit (λ y. let_call (called_with x.1 y.0.1)))))) (λ y ts rest r. called_is r);
+      can = λ rest. (
+        zero_tok ∷ tok (mark Semicolon) nowhere ∷ rest,
+        λ x.
+            (let_local (local_with x.1 zero_expr), rest_valued is_int ends_plain),
+      );
     }
 
     let_law : (start : Span) → Law limit (at_rest IsStmt (tok (word keyword.Let) start)) (let_at room start) 1 d d
@@ -258,8 +276,8 @@ module _ (limit : ℕ) where
     assign_law x =
         production limit (at_rest IsStmt (name_tok x))
         (then_part limit (place_part limit room d sum (inside_at room) (inside_law limit room d sum) x)
-            (then_part limit (sign_part limit Equals d (λ o. o)) (then_part limit (ended_part limit room d sum)
-            (ends_with limit (λ y. assign y.0.0.1 y.1)))))
+        (then_part limit (sign_part limit Equals d (λ o. o)) (then_part limit (ended_part limit room d sum)
+        (ends_with limit (λ y. assign y.0.0.1 y.1)))))
         (λ y ts rest r. assign_is r)
 
     module _ (body : Reader Stmts) (law : 0 < room → Law limit IsStmts body 0 (suc d) (suc d)) where
@@ -271,12 +289,19 @@ module _ (limit : ℕ) where
       braced_law =
           production limit IsBracedPair
           (then_open limit OpenBrace room sum tt (then_part limit body_part
-              (then_part limit (sign_part limit CloseBrace (suc d) (λ o. o)) (ends_with limit (λ x. (x.0.1, x.1))))))
+          (then_part limit (sign_part limit CloseBrace (suc d) (λ o. o)) (ends_with limit (λ x. (x.0.1, x.1))))))
           (λ y ts rest r. braced_is r)
 
       braced_part : {P : Type 0} → Part limit P IsBracedPair (braced_with room body) 1 d d
-      braced_part = record { law = λ p. braced_law; can = λ rest. ((no_stmts, nowhere), tok (mark OpenBrace) nowhere ∷
-          tok (mark CloseBrace) nowhere ∷ rest, is_braced are_no_stmts) }
+      braced_part = record {
+        law = λ p. braced_law;
+        can = λ rest. (
+          (no_stmts, nowhere),
+          tok (mark OpenBrace) nowhere ∷
+              tok (mark CloseBrace) nowhere ∷ rest,
+          is_braced are_no_stmts,
+        );
+      }
 
       some_else_law : Law limit IsElse (some_else room body) 1 d d
       some_else_law = production limit IsElse (then_part limit (word_part limit keyword.Else d)
@@ -295,7 +320,7 @@ module _ (limit : ℕ) where
       if_law start =
           production limit (at_rest IsStmt (tok (word keyword.If) start))
           (then_part limit (condition_part limit room d sum) (then_part limit braced_part
-              (then_part limit else_part (ends_with limit (λ x. if_then start x.0.0.1 x.0.1.0 x.0.1.1 x.1)))))
+          (then_part limit else_part (ends_with limit (λ x. if_then start x.0.0.1 x.0.1.0 x.0.1.1 x.1)))))
           (λ y ts rest r. if_is r)
 
       while_law : (start : Span) →
@@ -304,7 +329,7 @@ module _ (limit : ℕ) where
       while_law start =
           production limit (at_rest IsStmt (tok (word keyword.While) start))
           (then_part limit (condition_part limit room d sum) (then_part limit braced_part
-              (ends_with limit (λ x. while start x.0.1 x.1.0 x.1.1))))
+          (ends_with limit (λ x. while start x.0.1 x.1.0 x.1.1))))
           (λ y ts rest r. while_is r)
 
       stmt_head : (k : Lexeme) (at : Span) → Head limit IsStmt d d k at (stmt_from room body k at)
@@ -326,9 +351,11 @@ module _ (limit : ℕ) where
 
       stmt_with_law : Law limit IsStmt (stmt_with room body) 1 d d
       unfolding stmt_with
-      stmt_with_law = first_law limit IsStmt (stmt_from room body) d d (λ rest.
-          (print nowhere zero_expr, tok (word keyword.Print) nowhere ∷ zero_tok ∷ tok (mark Semicolon) nowhere ∷ rest,
-          print_is (ended is_int))) stmt_head
+      stmt_with_law = first_law limit IsStmt (stmt_from room body) d d (λ rest. (
+        print nowhere zero_expr,
+        tok (word keyword.Print) nowhere ∷ zero_tok ∷ tok (mark Semicolon) nowhere ∷ rest,
+        print_is (ended is_int),
+      )) stmt_head
 
   stmts_law : (f : Reader Stmt) (d : ℕ) → Law limit IsStmt f 1 d d → Law limit IsStmts (stmts_with f) 0 d d
   unfolding stmts_with

@@ -37,7 +37,7 @@ use Rattle.parser.specs.Theory.PartsFound.{type_found}
 
 typed_back : {start : Span} {y : TypedName} {ts rest : List Tok} → IsTyped start y ts rest →
     Both IsName (λ x. Both (IsTok (mark Colon)) (λ c. Both IsType (λ t. Both (IsTok (mark Equals))
-        (λ q. Done (record { start = start; name = x; value_type = t }))))) y ts rest
+    (λ q. Done (record { start = start; name = x; value_type = t }))))) y ts rest
 typed_back (is_typed t) = both is_name (both is_tok (both t (both is_tok done)))
 
 typed_found : (start : Span) → FindsPart Anything (IsTyped start) (typed_at start)
@@ -45,8 +45,11 @@ unfolding typed_at
 typed_found start =
     production_found (IsTyped start)
     (and_found name_found (and_found (sign_found Colon) (and_found type_found
-        (and_found (sign_found Equals) (ends_found (λ x. record { start = start; name = x.0.0.0.1; value_type = x.0.1
-        }))))))
+    (and_found (sign_found Equals) (ends_found (λ x. record {
+      start = start;
+      name = x.0.0.0.1;
+      value_type = x.0.1;
+    }))))))
     (λ y ts rest h. typed_back h)
 
 call_closes : {A : Type 0} {R : Span → A → List Tok → List Tok → Type 0} {y : A} {ts rest : List Tok} →
@@ -56,7 +59,7 @@ call_closes (both {x = at} {mid = ts} is_tok r) = (record { closing = refl; no_c
 
 helper_call_back : {y : HelperCall} {ts rest : List Tok} → IsHelperCall y ts rest →
     Both IsName (λ x. Both (IsTok (mark OpenParen)) (λ b. Both (AreListed (IsExpr ANY))
-        (λ es. Both (IsTok (mark CloseParen)) (λ c. Done (record { helper = x; arguments = es }))))) y ts rest
+    (λ es. Both (IsTok (mark CloseParen)) (λ c. Done (record { helper = x; arguments = es }))))) y ts rest
 helper_call_back (is_helper_call es) = both is_name (both is_tok (both es (both is_tok done)))
 
 helper_call_found : (room : ℕ) → FindsPart Anything IsHelperCall (helper_call_at room)
@@ -64,8 +67,8 @@ unfolding helper_call_at
 helper_call_found room =
     production_found IsHelperCall
     (and_found name_found (open_then OpenParen room (λ r e. then_found {F = ClosesAll} (arguments_found room r e)
-        (λ x a y ts rest q f. call_closes q) (and_found (sign_found CloseParen)
-        (ends_found (λ x. record { helper = x.0.0.0.1; arguments = x.0.1 }))))))
+    (λ x a y ts rest q f. call_closes q) (and_found (sign_found CloseParen)
+    (ends_found (λ x. record { helper = x.0.0.0.1; arguments = x.0.1 }))))))
     (λ y ts rest h. helper_call_back h)
 
 assign_found : (room : ℕ) (x : Ident) (p : Place) (e : Expr) (equals : Span) (ts us rest : List Tok) →
@@ -74,9 +77,9 @@ assign_found : (room : ℕ) (x : Ident) (p : Place) (e : Expr) (equals : Span) (
 unfolding assign_at sign_at
 assign_found room x p e equals ts us rest h i =
     finds_then (place_at room (inside_at room) x ts) (λ p. sign_at Equals p.1 >>= λ q. ended_at room q.1 >>= λ e. Ok
-        (assign p.0 e.0, e.1)) (p, tok (mark Equals) equals ∷ us) (assign p e, rest) h
-        (finds_then (ended_at room us) (λ e. Ok (assign p e.0, e.1)) (e, rest) (assign p e, rest)
-        (ended_found room e us rest i tt) (found refl))
+    (assign p.0 e.0, e.1)) (p, tok (mark Equals) equals ∷ us) (assign p e, rest) h
+    (finds_then (ended_at room us) (λ e. Ok (assign p e.0, e.1)) (e, rest) (assign p e, rest)
+    (ended_found room e us rest i tt) (found refl))
 
 named_found : (room : ℕ) (x : Ident) (s : Stmt) (ts rest : List Tok) → Finds (assign_at room x ts) (s, rest) →
     Finds (stmt_at room (name_tok x ∷ ts)) (s, rest)
@@ -94,13 +97,13 @@ while_found : (room : ℕ) (start before : Span) (e : Expr) (body : Stmts) (clos
     Finds (condition_at room (tok (mark OpenParen) before ∷ ts)) (e, mid) →
     Finds (braced_at room mid) ((body, close), rest) →
     Finds (stmt_at room (tok (word keyword.While) start ∷ tok (mark OpenParen) before ∷ ts))
-        (while start e body close, rest)
+    (while start e body close, rest)
 unfolding stmt_with while_with
 while_found room start before e body close ts mid rest h g =
     finds_then (condition_at room (tok (mark OpenParen) before ∷ ts)) (λ e. braced_at room e.1 >>= λ b. Ok
-        (while start e.0 b.0.0 b.0.1, b.1)) (e, mid) (while start e body close, rest) h
-        (finds_then (braced_at room mid) (λ b. Ok (while start e b.0.0 b.0.1, b.1)) ((body, close), rest)
-        (while start e body close, rest) g (found refl))
+    (while start e.0 b.0.0 b.0.1, b.1)) (e, mid) (while start e body close, rest) h
+    (finds_then (braced_at room mid) (λ b. Ok (while start e b.0.0 b.0.1, b.1)) ((body, close), rest)
+    (while start e body close, rest) g (found refl))
 
 if_found : (room : ℕ) (start before : Span) (e : Expr) (body : Stmts) (close : Span) (other : Otherwise)
     (ts mid next rest : List Tok) → Finds (condition_at room (tok (mark OpenParen) before ∷ ts)) (e, mid) → Finds
@@ -110,12 +113,12 @@ if_found : (room : ℕ) (start before : Span) (e : Expr) (body : Stmts) (close :
 unfolding stmt_with if_with
 if_found room start before e body close other ts mid next rest h g k =
     finds_then (condition_at room (tok (mark OpenParen) before ∷ ts)) (λ e. braced_at room e.1 >>= λ b. else_with room
-        (stmts_in room) b.1 >>= λ o. Ok (if_then start e.0 b.0.0 b.0.1 o.0, o.1)) (e, mid)
-        (if_then start e body close other, rest) h
+    (stmts_in room) b.1 >>= λ o. Ok (if_then start e.0 b.0.0 b.0.1 o.0, o.1)) (e, mid)
+    (if_then start e body close other, rest) h
     (finds_then (braced_at room mid) (λ b. else_with room (stmts_in room) b.1 >>= λ o. Ok
-        (if_then start e b.0.0 b.0.1 o.0, o.1)) ((body, close), next) (if_then start e body close other, rest) g
+    (if_then start e b.0.0 b.0.1 o.0, o.1)) ((body, close), next) (if_then start e body close other, rest) g
     (finds_then (else_with room (stmts_in room) next) (λ o. Ok (if_then start e body close o.0, o.1)) (other, rest)
-        (if_then start e body close other, rest) k (found refl)))
+    (if_then start e body close other, rest) k (found refl)))
 
 else_found_at : (room : ℕ) (at : Span) (ss : Stmts) (close : Span) (ts rest : List Tok) →
     Finds (braced_at room ts) ((ss, close), rest) →
@@ -135,7 +138,7 @@ braces_found (suc room) ss begin close ts rest h = finds_then (stmts_with (stmt_
 
 owner_back : {y : Owner} {ts rest : List Tok} → IsOwner y ts rest →
     Both (IsTok (word keyword.Where)) (λ w. Both IsName (λ f. Both (IsTok (mark DoubleEquals))
-        (λ q. Both IsName (λ x. Done (record { field = f; local = x }))))) y ts rest
+    (λ q. Both IsName (λ x. Done (record { field = f; local = x }))))) y ts rest
 owner_back is_owner = both is_tok (both is_name (both is_tok (both is_name done)))
 
 owner_found : FindsPart Anything IsOwner owner_at
@@ -143,7 +146,7 @@ unfolding owner_at
 owner_found =
     production_found IsOwner
     (and_found (word_found keyword.Where) (and_found name_found (and_found (sign_found DoubleEquals)
-        (and_found name_found (ends_found (λ x. record { field = x.0.0.1; local = x.1 }))))))
+    (and_found name_found (ends_found (λ x. record { field = x.0.0.1; local = x.1 }))))))
     (λ y ts rest h. owner_back h)
 
 owner_stops : {o : Owner} {ts rest : List Tok} → IsOwner o ts rest → NoOps ANY ts
@@ -168,10 +171,10 @@ valued_found : (room : ℕ) (t : TypedName) (e : Expr) (s : Stmt) (ts us mid res
 unfolding stmt_with let_at
 valued_found room t e s ts us mid rest h i stops f =
     finds_then (typed_at t.start ts) (λ t. choose (word keyword.Call) (called_at room t.0) (valued_at room t.0) t.1)
-        (t, us) (s, rest) (typed_found t.start t ts us h tt)
+    (t, us) (s, rest) (typed_found t.start t ts us h tt)
     (choose_right (word keyword.Call) (called_at room t) (valued_at room t) us (s, rest) (expr_starts i).1
     (finds_then (expr_at room us) (λ e. choose (word keyword.Where) (owned_at (local_with t e.0))
-        (plain_at (local_with t e.0)) e.1) (e, mid) (s, rest) (any_found i room stops) f))
+    (plain_at (local_with t e.0)) e.1) (e, mid) (s, rest) (any_found i room stops) f))
 
 let_found : (room : ℕ) (l : Local) (semicolon : Span) (ts rest : List Tok) →
     IsLocal l ts (tok (mark Semicolon) semicolon ∷ rest) →
@@ -180,8 +183,8 @@ unfolding sign_at
 let_found room l semicolon _ rest (is_local {mid = mid} t e) =
     let us = tok (mark Semicolon) semicolon ∷ rest in
     valued_found room (typed_local l) l.value (let_local l) _ mid us rest (is_typed t) e
-        (no_ops_semicolon semicolon rest) (choose_right (word keyword.Where) (owned_at l) (plain_at l) us
-        (let_local l, rest) refl (found refl))
+    (no_ops_semicolon semicolon rest) (choose_right (word keyword.Where) (owned_at l) (plain_at l) us
+    (let_local l, rest) refl (found refl))
 
 owned_found : (l : Local) (o : Owner) (semicolon : Span) (ts rest : List Tok) →
     IsOwner o ts (tok (mark Semicolon) semicolon ∷ rest) → Finds (owned_at l ts) (let_owned l o, rest)
@@ -195,8 +198,8 @@ let_owned_found : (room : ℕ) (l : Local) (o : Owner) (semicolon : Span) (ts mi
     Finds (stmt_at room (tok (word keyword.Let) l.start ∷ ts)) (let_owned l o, rest)
 let_owned_found room l o semicolon _ mid rest (is_local {mid = us} t e) g =
     valued_found room (typed_local l) l.value (let_owned l o) _ us mid rest (is_typed t) e (owner_stops g)
-        (choose_left (word keyword.Where) (owned_at l) (plain_at l) mid (let_owned l o, rest) (owner_begins g)
-        (owned_found l o semicolon mid rest g))
+    (choose_left (word keyword.Where) (owned_at l) (plain_at l) mid (let_owned l o, rest) (owner_begins g)
+    (owned_found l o semicolon mid rest g))
 
 let_call_found : (room : ℕ) (l : CalledLocal) (start semicolon : Span) (ts mid rest : List Tok) →
     IsTyped l.start (typed_called l) ts (tok (word keyword.Call) start ∷ mid) →
@@ -207,11 +210,11 @@ let_call_found room l start semicolon ts mid rest h g =
     let t = typed_called l in
     let us = tok (word keyword.Call) start ∷ mid in
     finds_then (typed_at l.start ts) (λ t. choose (word keyword.Call) (called_at room t.0) (valued_at room t.0) t.1)
-        (t, us) (let_call l, rest) (typed_found l.start t ts us h tt)
+    (t, us) (let_call l, rest) (typed_found l.start t ts us h tt)
     (choose_left (word keyword.Call) (called_at room t) (valued_at room t) us (let_call l, rest) refl
     (finds_then (helper_call_at room mid) (λ c. sign_at Semicolon c.1 >>= λ s. Ok (let_call (called_with t c.0), s.1))
-        (l.call, tok (mark Semicolon) semicolon ∷ rest) (let_call l, rest) (helper_call_found room l.call mid _ g tt)
-        (found refl)))
+    (l.call, tok (mark Semicolon) semicolon ∷ rest) (let_call l, rest) (helper_call_found room l.call mid _ g tt)
+    (found refl)))
 
 var_found : (room : ℕ) (l : Local) (semicolon : Span) (ts rest : List Tok) →
     IsLocal l ts (tok (mark Semicolon) semicolon ∷ rest) →
@@ -220,9 +223,9 @@ unfolding stmt_with var_at
 var_found room l semicolon ts rest (is_local {mid = mid} t e) =
     let n = typed_local l in
     finds_then (typed_at l.start ts) (λ t. ended_at room t.1 >>= λ e. Ok (var_local (local_with t.0 e.0), e.1)) (n, mid)
-        (var_local l, rest) (typed_found l.start n ts mid (is_typed t) tt)
+    (var_local l, rest) (typed_found l.start n ts mid (is_typed t) tt)
     (finds_then (ended_at room mid) (λ e. Ok (var_local (local_with n e.0), e.1)) (l.value, rest) (var_local l, rest)
-        (ended_found room l.value mid rest (ended e) tt) (found refl))
+    (ended_found room l.value mid rest (ended e) tt) (found refl))
 
 call_stmt_found : (room : ℕ) (start : Span) (c : HelperCall) (semicolon : Span) (ts rest : List Tok) →
     IsHelperCall c ts (tok (mark Semicolon) semicolon ∷ rest) →
@@ -230,8 +233,8 @@ call_stmt_found : (room : ℕ) (start : Span) (c : HelperCall) (semicolon : Span
 unfolding stmt_with call_stmt_at sign_at
 call_stmt_found room start c semicolon ts rest h =
     finds_then (helper_call_at room ts) (λ c. sign_at Semicolon c.1 >>= λ s. Ok (Stmt.call start c.0, s.1))
-        (c, tok (mark Semicolon) semicolon ∷ rest) (Stmt.call start c, rest) (helper_call_found room c ts _ h tt)
-        (found refl)
+    (c, tok (mark Semicolon) semicolon ∷ rest) (Stmt.call start c, rest) (helper_call_found room c ts _ h tt)
+    (found refl)
 
 print_found : (room : ℕ) (start : Span) (e : Expr) (ts rest : List Tok) → IsEnded e ts rest →
     Finds (stmt_at room (tok (word keyword.Print) start ∷ ts)) (print start e, rest)
