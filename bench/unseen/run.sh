@@ -1,5 +1,5 @@
 #!/usr/bin/env bash
-# What seeing costs: transfers between two accounts by one thread, by `run_threads` and by the same calls without a row
+# What seeing costs: transfers between two accounts by one thread, by `run_threads` and by the same calls without a log
 # (main.rattle here). Prints the calls in a second of each, by the least of so many runs of each of ROUNDS rounds, beside
 # C++ with a std::mutex round each account, locked in order, and a history; and how many bytes more a call takes at the
 # peak, its call in the compiled program among them.

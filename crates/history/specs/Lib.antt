@@ -5,4 +5,3 @@ pub use Rattle.history.specs.Commits.{Commit, call_of, answer_of, finished_on, s
 pub use Rattle.history.specs.Commits.{IsTrueCommit, AreTrue, WritesNot, NoneWrites}
 pub use Rattle.history.specs.Working.Histories.{HistoryOf, PromisedOf, nothing_promised, with_promise, IsPromised}
 pub use Rattle.history.specs.Working.Histories.{IsWithin}
-pub use Rattle.history.specs.Working.Copies.{CopyRoomOf, HasRoom}

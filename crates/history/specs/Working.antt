@@ -4,6 +4,3 @@ pub mod Histories
 pub mod Arrays
 pub mod Lists
 pub mod Laws
-pub mod Copies
-pub mod Short
-pub mod Forms

@@ -1,11 +1,13 @@
 //! A finished section whose lists are lent.
 
-use crate::entry::CellValue;
 use core_lang::value::{Outcome, Value};
 use std::marker::Model;
 
+/// A cell, and a value of it.
+pub type CellValue = (u32, Value);
+
 /// A finished section, lent: its lists stand elsewhere, as those of a history's entry among those of the others. So it is
-/// handed on, entered and copied with nothing moved.
+/// handed on and entered with nothing moved.
 #[derive(Drop)]
 pub struct Kept<'h> {
     /// The thread that ran it.

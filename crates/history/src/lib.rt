@@ -4,20 +4,14 @@
 //!   one after another, end, print and leave the cells as the entries say.
 //! - [`laws::commuting`]: entries that don't write a cell leave its value.
 //! - [`entries::History`]: the entries, in order, with their lists in a few arrays.
-//! - [`entry::Entry`], [`kept::Kept`]: a finished section with lists of its own, and one whose lists are lent.
-//! - [`copies::CopyRoom`]: room for a copy of a finished section, made before.
+//! - [`kept::Kept`]: a finished section whose lists are lent.
 //!
 //! `specs/` defines finished sections as data, which lists of them are legal and when one is true (`Commits`), what the
-//! laws claim (`Laws`), a history as a value and for which entries it has room (`Histories`), and for what a copy has
-//! room (`Copies`). `Arrays`, `Lists`, `Short` and `Forms` only say what the code relies on; nobody has to believe
-//! them.
+//! laws claim (`Laws`), and a history as a value and for which entries it has room (`Histories`). `Arrays` and `Lists`
+//! only say what the code relies on; nobody has to believe them.
 #![tactic(auto)]
 
-pub mod copies;
 pub mod entries;
-pub mod entry;
 pub mod kept;
 pub mod laws;
 mod lists;
-mod long;
-mod short;

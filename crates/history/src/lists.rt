@@ -5,8 +5,7 @@ ghost use Rattle.history.specs.Working.Histories.{IsPromised, IsWithin, nothing_
 ghost use Rattle.history.specs.Working.Arrays.{with_room};
 ghost use Rattle.history.specs.Working.Lists.{part_behind, packed_commit, packed_behind, with_lists, IsPacked};
 
-use crate::entry::CellValue;
-use crate::kept::Kept;
+use crate::kept::{CellValue, Kept};
 use core_lang::value::{Outcome, Value};
 use source::memory::NoMemory;
 use std::alloc::Global;

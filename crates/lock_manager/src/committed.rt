@@ -18,7 +18,7 @@ use crate::places::LockPlace;
 use crate::values::{agrees, cells_with, have, reset, write_all};
 use crate::writes::Writes;
 use core_lang::value::Value;
-use history::entry::CellValue;
+use history::kept::CellValue;
 use layout::table::Layout;
 use locks::lock::Lock;
 use moved_cells::cells::Cells;

@@ -7,7 +7,7 @@ ghost use Rattle.moved_cells.specs.Working.Grants.{numbered, values_on};
 
 use crate::writes::Writes;
 use core_lang::value::Value;
-use history::entry::CellValue;
+use history::kept::CellValue;
 use moved_cells::cells::Cells;
 use source::memory::NoMemory;
 use std::alloc::Global;

@@ -5,7 +5,7 @@ ghost use Rattle.code.specs.Memory.{overwritten, value_at};
 ghost use Rattle.lock_manager.specs.Working.Ties.{Rise};
 
 use core_lang::value::Value;
-use history::entry::CellValue;
+use history::kept::CellValue;
 
 /// How many writes are few: they are searched from the first on.
 const FEW: usize = 4;

@@ -9,7 +9,7 @@ ghost use Rattle.runner_cells.specs.Working.Held.{cells_granted, CanHold, no_gra
 use crate::finding::spot_of;
 use crate::notes::Notes;
 use core_lang::value::Value;
-use history::entry::CellValue;
+use history::kept::CellValue;
 use layout::room::Room;
 use layout::table::Layout;
 use moved_cells::grant::Grant;

@@ -4,7 +4,7 @@ ghost use Rattle.std.specs.Prelude.{◌≡◌, ◌<◌, ◌≤◌, [], length, N
 ghost use Rattle.runner_cells.specs.Working.Noted.{in_order, number_of, with_note, EachOnce};
 
 use core_lang::value::Value;
-use history::entry::CellValue;
+use history::kept::CellValue;
 use source::memory::NoMemory;
 use std::alloc::Global;
 use std::marker::Model;

@@ -17,7 +17,7 @@ use code::instr::Instr;
 use core_lang::shape::Shape;
 use core_lang::tree::{Comparison, Operator};
 use core_lang::value::{Failure, Outcome, Value};
-use history::entry::CellValue;
+use history::kept::CellValue;
 use layout::room::Room;
 use layout::table::Layout;
 use meaning_operations::access::{

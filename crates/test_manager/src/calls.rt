@@ -4,8 +4,7 @@ ghost use Rattle.std.specs.Prelude.{◌≡◌, ◌<◌, length, IfOk, IsTrue};
 ghost use Rattle.history.specs.Working.Histories.{IsWithin};
 
 use core_lang::value::{Outcome, Value};
-use history::entry::CellValue;
-use history::kept::Kept;
+use history::kept::{CellValue, Kept};
 use layout::room::Room;
 use lock_manager::manager::Manager;
 use lock_manager::response::Response;

@@ -1,8 +1,7 @@
 //! Runs of a scene.
 
-ghost use Rattle.std.specs.Prelude.{◌≡◌, ◌≤◌, IfOk, IfSome};
+ghost use Rattle.std.specs.Prelude.{◌≡◌, ◌≤◌, IfOk};
 ghost use Rattle.core_lang.specs.Typing.{HasCells};
-ghost use Rattle.workers.specs.Seats.{new_seats};
 
 use crate::scene::Scene;
 use crate::stage::Stage;
@@ -19,8 +18,8 @@ use workers::closed::{Closed, Strange};
 use workers::seat::Seat;
 use workers::shared::Shared;
 use workers::threads::run_threads;
-use workers_copies::naming::Naming;
-use workers_copies::row::Row;
+use workers_seen::log::NewLog;
+use workers_seen::naming::Naming;
 
 /// What is said where the scene's seats call one after another, and so many of them close.
 pub fn in_turn<R: Wait>(
@@ -30,7 +29,7 @@ pub fn in_turn<R: Wait>(
     closing: usize,
 ) -> Result<String, Fail> {
     let program = compile(alloc, scene.text.as_bytes())?;
-    said_in_turn::<Brand, R>(rt, alloc, &program, scene, closing)
+    said_in_turn::<Brand, R>(rt, alloc, &program, NewLog::new(), scene, closing)
 }
 
 /// What is said where the scene's seats call from a thread each.
@@ -40,14 +39,14 @@ pub fn side_by_side<R: Threads + Wait + Sync>(
     scene: &Scene<'_>,
 ) -> Result<String, Fail> {
     let program = compile(alloc, scene.text.as_bytes())?;
-    said_side_by_side::<Brand, R>(rt, alloc, &program, scene)
+    said_side_by_side::<Brand, R>(rt, alloc, &program, NewLog::new(), scene)
 }
 
 /// What is said where two seats of the scene call one after another, with whether what one has seen begins what the other
 /// has, both ways, before that and after.
 pub fn in_agreement<R: Wait>(rt: &R, alloc: Global, scene: &Scene<'_>) -> Result<String, Fail> {
     let program = compile(alloc, scene.text.as_bytes())?;
-    said_in_agreement::<Brand, R>(rt, alloc, &program, scene)
+    said_in_agreement::<Brand, R>(rt, alloc, &program, NewLog::new(), scene)
 }
 
 /// What is said where a thread runs each script of the scene's text.
@@ -60,39 +59,41 @@ pub fn by_threads<R: Threads + Wait + Sync>(
     said_by_threads(rt, alloc, &program, scene)
 }
 
-// What `in_turn` says of the program that `J` names.
+// What `in_turn` says of the program, in the log that `J` names.
 fn said_in_turn<J: Naming, R: Wait>(
     rt: &R,
     alloc: Global,
     program: &Program,
+    log: NewLog,
     scene: &Scene<'_>,
     closing: usize,
 ) -> Result<String, Fail>
-    requires { program.now ≡ J.plan }
+    requires program { program.now ≡ J.plan }
+    requires log { log ≡ J.book }
 {
     let count = seats_of(scene)?;
-    let row = Row::new(alloc)?;
-    let (shared, seats): (Shared<'_, J>, Vec<Seat<'_, '_, J>>) = Shared::open(
-        &row, alloc, program, count,
+    let (shared, seats): (Shared<'_, J>, Vec<Seat<'_, J>>) = Shared::open(
+        log, alloc, program, count,
     )?;
     let stage = Stage::new(scene);
     let turns = one_by_one(rt, alloc, &shared, seats, &stage)?;
     with_patience(said_of(alloc, program, shared, turns, closing), &stage)
 }
 
-// What `side_by_side` says of the program that `J` names.
+// What `side_by_side` says of the program, in the log that `J` names.
 fn said_side_by_side<J: Naming + Send + Sync, R: Threads + Wait + Sync>(
     rt: &R,
     alloc: Global,
     program: &Program,
+    log: NewLog,
     scene: &Scene<'_>,
 ) -> Result<String, Fail>
-    requires { program.now ≡ J.plan }
+    requires program { program.now ≡ J.plan }
+    requires log { log ≡ J.book }
 {
     let count = seats_of(scene)?;
-    let row = Row::new(alloc)?;
-    let (shared, seats): (Shared<'_, J>, Vec<Seat<'_, '_, J>>) = Shared::open(
-        &row, alloc, program, count,
+    let (shared, seats): (Shared<'_, J>, Vec<Seat<'_, J>>) = Shared::open(
+        log, alloc, program, count,
     )?;
     let stage = Stage::new(scene);
     let turns = all_at_once(rt, alloc, &shared, seats, &stage)?;
@@ -102,20 +103,19 @@ fn said_side_by_side<J: Naming + Send + Sync, R: Threads + Wait + Sync>(
     )
 }
 
-// What `in_agreement` says of the program that `J` names.
+// What `in_agreement` says of the program, in the log that `J` names.
 fn said_in_agreement<J: Naming, R: Wait>(
     rt: &R,
     alloc: Global,
     program: &Program,
+    log: NewLog,
     scene: &Scene<'_>,
 ) -> Result<String, Fail>
-    requires { program.now ≡ J.plan }
+    requires program { program.now ≡ J.plan }
+    requires log { log ≡ J.book }
 {
-    let row = Row::new(alloc)?;
-    let (shared, seats): (Shared<'_, J>, Vec<Seat<'_, '_, J>>) = Shared::open(
-        &row, alloc, program, 2,
-    )?;
-    let Some((mut one, mut other)) = two_of(&row, seats) else {
+    let (shared, seats): (Shared<'_, J>, Vec<Seat<'_, J>>) = Shared::open(log, alloc, program, 2)?;
+    let Some((mut one, mut other)) = two_of(seats) else {
         return Err(Fail::new("there aren't two seats"));
     };
     let stage = Stage::new(scene);
@@ -136,16 +136,14 @@ fn said_by_threads<R: Threads + Wait + Sync>(
 }
 
 // What two seats that call one after another are answered, and how they agree before that and after.
-fn agreement<'r, 'p, J: Naming, R: Wait>(
+fn agreement<'p, J: Naming, R: Wait>(
     rt: &R,
     alloc: Global,
     shared: &Shared<'p, J>,
-    one: &mut Seat<'r, 'p, J>,
-    other: &mut Seat<'r, 'p, J>,
+    one: &mut Seat<'p, J>,
+    other: &mut Seat<'p, J>,
     stage: &Stage<'_>,
-) -> Result<String, Fail>
-    requires { one.old.row ≡ other.old.row }
-{
+) -> Result<String, Fail> {
     let mut said = String::new(alloc);
     say_agreement(&mut said, one, other)?;
     say_done(&mut said, 0, take_turn(rt, shared, one, stage))?;
@@ -154,16 +152,8 @@ fn agreement<'r, 'p, J: Naming, R: Wait>(
     Ok(said)
 }
 
-// Two seats of a row.
-fn two_of<'r, 'p, J: Naming>(
-    row: &'r Row<J>,
-    seats: Vec<Seat<'r, 'p, J>>,
-) -> Option<(Seat<'r, 'p, J>, Seat<'r, 'p, J>)>
-    requires { seats.items ≡ new_seats row.now 2 }
-    ensures { IfSome result (λ two. two.0.row ≡ two.1.row) }
-{
-    let _row = row;
-    let mut seats = seats;
+// The two seats.
+fn two_of<'p, J: Naming>(mut seats: Vec<Seat<'p, J>>) -> Option<(Seat<'p, J>, Seat<'p, J>)> {
     let other = seats.pop()?;
     let one = seats.pop()?;
     Some((one, other))
@@ -185,7 +175,7 @@ fn said_of<'p, J: Naming>(
     alloc: Global,
     program: &Program,
     shared: Shared<'p, J>,
-    turns: Turns<'_, 'p, J>,
+    turns: Turns<'p, J>,
     closing: usize,
 ) -> Result<String, Fail>
     requires { program.now ≡ J.plan }

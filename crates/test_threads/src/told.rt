@@ -1,6 +1,5 @@
 //! What is said of answers, and of a history that is over.
 
-ghost use Rattle.std.specs.Prelude.{◌≡◌};
 ghost use Rattle.core_lang.specs.Typing.{HasCells};
 
 use lowering::compiled::Program;
@@ -8,7 +7,7 @@ use std::test::Fail;
 use workers::closed::Closed;
 use workers::seat::{CallRefusal, Done, Seat};
 use workers::shared::Shared;
-use workers_copies::naming::Naming;
+use workers_seen::naming::Naming;
 
 /// Says how a thread's call ended, and where it stands.
 pub fn say_done(
@@ -21,14 +20,12 @@ pub fn say_done(
     Ok(())
 }
 
-/// Says whether what a seat has seen begins what another of its row has, both ways.
-pub fn say_agreement<'r, 'p, J: Naming>(
+/// Says whether what a seat has seen begins what another has, both ways.
+pub fn say_agreement<'p, J: Naming>(
     said: &mut String,
-    one: &Seat<'r, 'p, J>,
-    other: &Seat<'r, 'p, J>,
-) -> Result<(), Fail>
-    requires { one.now.row ≡ other.now.row }
-{
+    one: &Seat<'p, J>,
+    other: &Seat<'p, J>,
+) -> Result<(), Fail> {
     let forth = Shared::agree(one, other);
     let back = Shared::agree(other, one);
     write!(said, "agree {forth} {back}\n")?;

@@ -1,6 +1,5 @@
 //! Seats that call, each once.
 
-ghost use Rattle.std.specs.Prelude.{◌≡◌};
 ghost use denote.Param.Send.{IsSend, IsSync};
 ghost use Rattle.lowering.specs.contracts.compiled.Program as program;
 
@@ -14,26 +13,26 @@ use std::thread;
 use std::thread::Threads;
 use workers::seat::{CallRefusal, Done, Seat};
 use workers::shared::Shared;
-use workers_copies::naming::Naming;
+use workers_seen::naming::Naming;
 
 /// What a call was answered.
 pub type Answered = Result<Done, CallRefusal>;
 
 /// Seats that have called, and what they were answered, in the same order.
 #[derive(Drop)]
-pub struct Turns<'r, 'p, J: Naming> {
-    pub seats: Vec<Seat<'r, 'p, J>>,
+pub struct Turns<'p, J: Naming> {
+    pub seats: Vec<Seat<'p, J>>,
     pub answers: Vec<Answered>,
 }
 
 /// The seats call one after another.
-pub fn one_by_one<'r, 'p, J: Naming, R: Wait>(
+pub fn one_by_one<'p, J: Naming, R: Wait>(
     rt: &R,
     alloc: Global,
     shared: &Shared<'p, J>,
-    seats: Vec<Seat<'r, 'p, J>>,
+    seats: Vec<Seat<'p, J>>,
     stage: &Stage<'_>,
-) -> Result<Turns<'r, 'p, J>, NoMemory> {
+) -> Result<Turns<'p, J>, NoMemory> {
     let mut after = Vec::new(alloc);
     let mut answers = Vec::new(alloc);
     for seat in seats {
@@ -48,13 +47,13 @@ pub fn one_by_one<'r, 'p, J: Naming, R: Wait>(
 }
 
 /// The seats call from a thread each.
-pub fn all_at_once<'r, 'p, J: Naming + Send + Sync, R: Threads + Wait + Sync>(
+pub fn all_at_once<'p, J: Naming + Send + Sync, R: Threads + Wait + Sync>(
     rt: &R,
     alloc: Global,
     shared: &Shared<'p, J>,
-    seats: Vec<Seat<'r, 'p, J>>,
+    seats: Vec<Seat<'p, J>>,
     stage: &Stage<'_>,
-) -> Result<Turns<'r, 'p, J>, NoMemory> {
+) -> Result<Turns<'p, J>, NoMemory> {
     lowering::laws::programs_are_shared();
     let mut seats = seats;
     let lent = &mut seats;
@@ -92,11 +91,9 @@ pub fn all_at_once<'r, 'p, J: Naming + Send + Sync, R: Threads + Wait + Sync>(
 pub fn take_turn<'p, J: Naming, R: Wait>(
     rt: &R,
     shared: &Shared<'p, J>,
-    seat: &mut Seat<'_, 'p, J>,
+    seat: &mut Seat<'p, J>,
     stage: &Stage<'_>,
-) -> Answered
-    ensures { seat.new.row ≡ seat.old.row }
-{
+) -> Answered {
     let thread = seat.thread();
     stage.come(thread, Mark::Ready);
     let answer = match call(rt, shared, seat, stage) {
@@ -111,11 +108,9 @@ pub fn take_turn<'p, J: Naming, R: Wait>(
 fn call<'p, J: Naming, R: Wait>(
     rt: &R,
     shared: &Shared<'p, J>,
-    seat: &mut Seat<'_, 'p, J>,
+    seat: &mut Seat<'p, J>,
     stage: &Stage<'_>,
-) -> Answered
-    ensures { seat.new.row ≡ seat.old.row }
-{
+) -> Answered {
     let Some(call) = stage.call_of(seat.thread()) else {
         return Err(CallRefusal::Strange);
     };

@@ -1,6 +1,7 @@
 -- What a hold of the lock leaves under it.
-use Rattle.std.proofs.Common.{◌≡◌, ◌≤◌, ℕ, suc, List, [], ◌∷◌, length, refl, sym, ap, ◌∙◌, subst}
-use Rattle.std.proofs.lemmas.List.{length-map}
+use Rattle.std.proofs.Common.{◌≡◌, ◌≤◌, ℕ, suc, List, [], ◌∷◌, ◌++◌, length, drop, refl, sym, ap, ◌∙◌, subst, Some}
+use Rattle.core_lang.specs.declared.value.Outcome.{Outcome}
+use Rattle.std.proofs.lemmas.List.{length-map, drop_at}
 use Rattle.core_lang.specs.declared.value.Value.{Value}
 use Rattle.core_lang.specs.declared.value.ValueType.{ValueType}
 use Rattle.core_lang.specs.declared.shape.Shape.{Shape}
@@ -9,16 +10,17 @@ use Rattle.core_lang.specs.declared.typed.Cell.{Cell}
 use Rattle.core_lang.specs.Typing.{HaveTypes, IsHeap, HasCells, cell_types}
 use Rattle.layout.specs.Layouts.{LayoutOf}
 use Rattle.code.specs.Memory.{Agrees}
-use Rattle.history.specs.Commits.{committed, IsLegal, AreTrue}
-use Rattle.history.specs.Working.Laws.{TrueOfOneMore}
+use Rattle.history.specs.Commits.{Commit, committed, IsLegal, IsTrueCommit, AreTrue}
+use Rattle.history.specs.Working.Laws.{LegalOfOneMore, TrueOfOneMore}
 use Rattle.lock_manager.specs.Working.Sessions.{ReceiptOf}
 use Rattle.lock_manager.specs.Working.Managers.{Managed, IsKept}
 use Rattle.lock_manager.specs.Working.Calls.{KeepsEntries}
 use Rattle.lowering.specs.Plans.{Plan}
 use Rattle.worlds.specs.Working.InOrder.{SectionsStayInOrder}
-use Rattle.runner.specs.Working.Opens.{OpenOf, ReadyOf, IsOpen, IsSame, CanBeReleased, Released, entry_of}
+use Rattle.runner.specs.Working.Opens.{OpenOf, ReadyOf, IsOpen, IsSame, IsItsEntry, CanBeReleased, Released, entry_of}
 use Rattle.workers.specs.Working.Guarding.{IsManagerOf}
-use Rattle.workers.specs.Working.Within.{IsEntered}
+use Rattle.workers.specs.Working.Within.{IsEntered, SeesItsOwn}
+use Rattle.workers_seen.specs.Logs.{Begins, IsSound, NoneOf}
 
 typed_length : (shape : Shape) (ts : List ValueType) (vs : List Value) → HaveTypes shape ts vs → length vs ≡ length ts
 typed_length shape [] [] h = refl
@@ -75,6 +77,57 @@ entered m m' o ready receipt floor laws d kept is_open can r above begun =
       is_true = λ outcome over. laws.ends o.plan o.thread o.step o.activation outcome is_open.compiled is_open.in_order over;
       above = above;
       begun = subst (λ (n : ℕ). o.activation.begun ≤ n) (sym r.releases.position) begun;
+    }
+
+-- ---- the log
+
+some_same : (x y : Outcome) → Some x ≡ Some y → x ≡ y
+some_same x y e = cc e
+
+-- the history has the entry at its end
+pub history_after : (m m' : Managed) (o : OpenOf) (ready : ReadyOf) (receipt : ReceiptOf) (e : Commit) → IsItsEntry o e →
+    Released m o ready receipt m' → m'.history ≡ m.history ++ e ∷ []
+history_after m m' o ready receipt e its r =
+    let same : e ≡ entry_of o r.outcome = its.is ∙ ap (entry_of o) (some_same e.outcome r.outcome (sym its.over ∙ r.over)) in
+    ap (λ (v : Managed). v.history) r.releases.manager ∙ ap (λ (x : Commit). m.history ++ x ∷ []) (sym same)
+
+-- a sound log and an entry that stands behind it
+more_sound : (plan : Plan) (log : List Commit) (o : OpenOf) (e : Commit) → LegalOfOneMore → TrueOfOneMore → IsItsEntry o e →
+    IsSound plan log → Agrees (committed plan.layout.opening log) o.activation.machine.memory.reads →
+    IsTrueCommit plan.program (entry_of o e.outcome) → IsSound plan (log ++ e ∷ [])
+more_sound plan log o e legal more its sound agrees met =
+    let heap = committed plan.layout.opening log in
+    let reads : e.reads ≡ o.activation.machine.memory.reads = ap (λ (x : Commit). x.reads) its.is in
+    record {
+      legal = legal plan.layout.opening log e sound.legal (subst (Agrees heap) (sym reads) agrees);
+      true_entries = more plan.program log e sound.true_entries (subst (IsTrueCommit plan.program) (sym its.is) met);
+    }
+
+pub sound_after : (m m' : Managed) (o : OpenOf) (ready : ReadyOf) (receipt : ReceiptOf) (e : Commit) (floor : ℕ) → LegalOfOneMore →
+    TrueOfOneMore → SectionsStayInOrder → IsManagerOf o.plan m → IsKept m → IsOpen o → CanBeReleased m o → Released m o ready receipt m' →
+    floor ≤ o.activation.begun → o.activation.begun ≤ length m.history → IsItsEntry o e → IsSound o.plan (m.history ++ e ∷ [])
+unfolding entered
+sound_after m m' o ready receipt e floor legal more laws d kept is_open can r above begun its =
+    let stands = entered m m' o ready receipt floor laws d kept is_open can r above begun in
+    more_sound o.plan m.history o e legal more its stands.sound stands.agrees (stands.is_true e.outcome its.over)
+
+-- what a seat sees once its section's entry stands behind the log, of which it had seen a beginning
+pub sees_its_own : (o : OpenOf) (e : Commit) (old log new : List Commit) (position floor thread : ℕ) → IsItsEntry o e → Begins old log →
+    floor ≡ length old → thread ≡ e.thread → NoneOf thread (drop floor log) → new ≡ log ++ e ∷ [] → position ≡ length log →
+    SeesItsOwn o position old new
+sees_its_own o e old log new position floor thread its begins long same none is here =
+    let rest = begins.rest in
+    let own : thread ≡ o.thread = same ∙ ap (λ (x : Commit). x.thread) its.is in
+    let behind : drop floor log ≡ rest = ap (drop floor) begins.is ∙ drop_at old rest floor (sym long) in
+    record {
+      entry = e;
+      its = its;
+      seen = record {
+        between = rest;
+        is = is ∙ ap (λ (xs : List Commit). xs ++ e ∷ []) begins.is;
+        others = subst (λ (n : ℕ). NoneOf n rest) own (subst (NoneOf thread) behind none);
+        long = ap length (sym begins.is) ∙ sym here;
+      };
     }
 
 -- ---- open sections, as each hold of the Mutex leaves them

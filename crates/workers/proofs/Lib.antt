@@ -2,4 +2,3 @@ pub mod Passing
 pub mod Scripts
 pub mod Guarding
 pub mod Seats
-pub mod Copies

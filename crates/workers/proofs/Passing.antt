@@ -5,10 +5,10 @@ use Rattle.std.proofs.lemmas.List.{append-nil, drop_at}
 use Rattle.std.proofs.lemmas.List.Elements.{All-nil, All-cons, All-head, All-tail}
 use Rattle.history.specs.Commits.{Commit}
 use Rattle.workers.specs.Seats.{ReplyOf, SeatOf, AllBelow}
-use Rattle.workers_copies.specs.Logs.{Begins, NoneOf}
-use Rattle.workers_copies.specs.Working.Rows.{SeenOf, SeesOwn}
+use Rattle.workers_seen.specs.Logs.{Begins, NoneOf}
 use Rattle.workers.specs.Answers.{reply_at, replies_of, in_step}
-use Rattle.workers.specs.Working.Within.{IsSeat, IsIn}
+use Rattle.lowering.specs.Plans.{Plan}
+use Rattle.workers.specs.Working.Within.{IsSeat, IsIn, SeesOwn}
 
 -- ---- answers
 
@@ -116,22 +116,22 @@ steps_more t position e old new seen own step steps =
 
 -- ---- a history that goes on without the thread
 
-pub answers_in : (t step count thread : ℕ) (s : SeenOf) (seat : SeatOf) (log : List Commit) →
-    record { thread = t; answers = replies_of t 0 s.log; row = s.known.row; seen = s.log } ≡ seat → IsSeat t step s.log → Begins s.log log →
-    count ≡ length s.log → thread ≡ seat.thread → NoneOf thread (drop count log) → IsIn log seat
-answers_in t step count thread s seat log view kept begins long same others =
+pub answers_in : (plan : Plan) (t step count thread : ℕ) (s : List Commit) (seat : SeatOf) (log : List Commit) →
+    record { thread = t; answers = replies_of t 0 s; seen = s } ≡ seat → IsSeat plan t step s → Begins s log →
+    count ≡ length s → thread ≡ seat.thread → NoneOf thread (drop count log) → IsIn log seat
+answers_in plan t step count thread s seat log view kept begins long same others =
     let rest = begins.rest in
     let own : thread ≡ t = same ∙ ap (λ (x : SeatOf). x.thread) (sym view) in
-    let behind : drop count log ≡ rest = ap (drop count) begins.is ∙ drop_at s.log rest count (sym long) in
+    let behind : drop count log ≡ rest = ap (drop count) begins.is ∙ drop_at s rest count (sym long) in
     let none : NoneOf t rest = subst (λ (n : ℕ). NoneOf n rest) own (subst (NoneOf thread) behind others) in
-    let is : IsIn log (record { thread = t; answers = replies_of t 0 s.log; row = s.known.row; seen = s.log }) = record {
+    let is : IsIn log (record { thread = t; answers = replies_of t 0 s; seen = s }) = record {
       answers = record {
         answers =
-            sym (ap (replies_of t 0) begins.is ∙ replies-append t 0 s.log rest
-            ∙ ap (λ (rs : List ReplyOf). replies_of t 0 s.log ++ rs) (replies-none t (0 + length s.log) rest none) ∙ append-nil (replies_of t 0 s.log));
+            sym (ap (replies_of t 0) begins.is ∙ replies-append t 0 s rest
+            ∙ ap (λ (rs : List ReplyOf). replies_of t 0 s ++ rs) (replies-none t (0 + length s) rest none) ∙ append-nil (replies_of t 0 s));
         steps =
             ap (in_step t 0) begins.is
-            ∙ steps-append t 0 0 s.log rest kept.steps (steps-none t (0 + length (replies_of t 0 s.log)) rest none);
+            ∙ steps-append t 0 0 s rest kept.steps (steps-none t (0 + length (replies_of t 0 s)) rest none);
       };
       seen = begins;
     } in

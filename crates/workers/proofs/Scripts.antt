@@ -22,7 +22,7 @@ use Rattle.workers.specs.Answers.{AnswersAreIn, IsSeated, HasScript, call_in, re
 pub has_script : (plan : Plan) (count : ℕ) (seats : List SeatOf) (log : List Commit) → AreInOrder plan count seats →
     All (AnswersAreIn log) seats → (t : ℕ) → t < count → HasScript plan log t
 has_script plan count seats log order sit t below =
-    let d : SeatOf = record { thread = 0; answers = []; row = []; seen = [] } in
+    let d : SeatOf = record { thread = 0; answers = []; seen = [] } in
     let s = get_or seats t d in
     let k : t < length seats = omega (arith, order.long) in
     let is : s.thread ≡ t = order.threads t d k in
@@ -74,7 +74,7 @@ mapped_or f (x ∷ xs) (suc k) d e lt = mapped_or f xs k d e (omega (arith, lt))
 thread_below : (plan : Plan) (count : ℕ) (seats : List SeatOf) (c : Commit) → AreInOrder plan count seats →
     IsSeated seats c → c.thread < count
 thread_below plan count seats c order (k, lt, is) =
-    let d : SeatOf = record { thread = 0; answers = []; row = []; seen = [] } in
+    let d : SeatOf = record { thread = 0; answers = []; seen = [] } in
     let below : k < length seats = omega (arith, lt, length-map seats (λ (s : SeatOf). s.thread)) in
     let thread : c.thread ≡ k = sym is ∙ mapped_or (λ (s : SeatOf). s.thread) seats k d c.thread below ∙ order.threads k d below in
     omega (arith, thread, below, order.long)

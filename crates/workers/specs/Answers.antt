@@ -9,7 +9,7 @@ use Rattle.core_lang.specs.Typing.{HasCells}
 use Rattle.history.specs.Commits.{Commit, call_of, answer_of, committed}
 use Rattle.lowering.specs.Plans.{Plan}
 use Rattle.worlds.specs.Worlds.{scripts}
-use Rattle.workers_copies.specs.Logs.{IsSound}
+use Rattle.workers_seen.specs.Logs.{IsSound}
 use Rattle.workers.specs.Seats.{ReplyOf, SeatOf}
 
 -- there is such a log, as long as the position, after which the call, run whole, ends and prints so

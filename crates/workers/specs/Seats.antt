@@ -14,22 +14,21 @@ pub record ReplyOf : Type 0 where
   pub outcome : Outcome
   pub prints : List ℤ
 
--- a seat: its thread; its answers in order; the row from which it reads copies of entries, by the names of the row's
--- locks; and the copies that it has seen, those up to and with the entry of its last answer
+-- a seat: its thread; its answers in order; and the entries that it has seen, those up to and with the entry of its last
+-- answer
 pub record SeatOf : Type 0 where
   pub thread : ℕ
   pub answers : List ReplyOf
-  pub row : List ℕ
   pub seen : List Commit
 
--- a seat at a row before its first call
-abbrev pub new_seat : List ℕ → ℕ → SeatOf
-new_seat row thread = record { thread = thread; answers = []; row = row; seen = [] }
+-- a seat before its first call
+abbrev pub new_seat : ℕ → SeatOf
+new_seat thread = record { thread = thread; answers = []; seen = [] }
 
 -- so many of them, of the threads from 0 on, in order
-abbrev pub new_seats : List ℕ → ℕ → List SeatOf
-new_seats row zero = []
-new_seats row (suc n) = new_seats row n ++ new_seat row n ∷ []
+abbrev pub new_seats : ℕ → List SeatOf
+new_seats zero = []
+new_seats (suc n) = new_seats n ++ new_seat n ∷ []
 
 -- all positions are below this one
 abbrev pub AllBelow : ℕ → List ReplyOf → Type 0
@@ -39,7 +38,7 @@ abbrev pub reply : ℕ → ℕ → Invocation → Outcome → List ℤ → Reply
 reply position begun call outcome prints =
     record { position = position; begun = begun; call = call; outcome = outcome; prints = prints }
 
--- of thread, answers and row the seat has just one answer more, to a call that began above the positions of all its
+-- of thread and answers the seat has just one answer more, to a call that began above the positions of all its
 -- others, and at most at its own
 pub record Gains (old new : SeatOf) (position : ℕ) (call : Invocation) (outcome : Outcome) (prints : List ℤ) : Type 0
   where

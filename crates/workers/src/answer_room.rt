@@ -4,59 +4,43 @@ ghost use Rattle.std.specs.Prelude.{◌≡◌, ◌≤◌, ◌+◌, ◌++◌, [],
 ghost use Rattle.workers.specs.Working.Within.{IsNotedOf};
 
 use crate::seat::Done;
-use history::copies::CopyRoom;
-use history::entry::Entry;
 use history::kept::Kept;
 use source::memory::NoMemory;
 use std::alloc::Global;
 
-/// Room for an answer and for a copy of its entry, made before a call begins, so that its answer is never refused.
+/// Room for an answer, made before a call begins, so that its answer is never refused.
 #[derive(Drop)]
 pub(crate) struct AnswerRoom {
     told: Vec<i64>,
-    copy: CopyRoom,
     ghost none: { told.items ≡ [] },
     ghost empty: { vec_len told ≡ 0 },
 }
 
 impl AnswerRoom {
-    /// For a call with so many arguments, which reads and writes at most so many cells, and prints at most so many
-    /// numbers.
+    /// For a call that prints at most so many numbers.
     ///
     /// # Errors
     ///
     /// Want of memory.
-    pub fn new(
-        alloc: Global,
-        arguments: usize,
-        cells: usize,
-        prints: usize,
-    ) -> Result<AnswerRoom, NoMemory> {
-        let copy = CopyRoom::new(alloc, arguments, cells, prints)?;
+    pub fn new(alloc: Global, prints: usize) -> Result<AnswerRoom, NoMemory> {
         let told = Vec::with_capacity(alloc, prints)?;
-        Ok(AnswerRoom { told, copy })
+        Ok(AnswerRoom { told })
     }
 
-    /// The answer that an entry gives, with the entry's copy, where there is room for them. Its position is still to come.
-    pub fn of(self, entry: &Kept<'_>) -> Option<(Done, Entry)>
-        ensures { IfSome result (λ r. IsNotedOf entry.now r.0 r.1) }
+    /// The answer that an entry gives, where there is room for it. Its position is still to come.
+    pub fn of(self, entry: &Kept<'_>) -> Option<Done>
+        ensures { IfSome result (λ done. IsNotedOf entry.now done) }
     {
-        let AnswerRoom { mut told, copy } = self;
-        if !copy.holds(entry) {
-            return None;
-        }
+        let AnswerRoom { mut told } = self;
         if entry.prints().len() > told.capacity() {
             return None;
         }
         fill(&mut told, entry.prints());
-        Some((
-            Done {
-                position: 0,
-                outcome: entry.outcome(),
-                prints: told,
-            },
-            entry.copy_into(copy),
-        ))
+        Some(Done {
+            position: 0,
+            outcome: entry.outcome(),
+            prints: told,
+        })
     }
 }
 

@@ -1,71 +1,68 @@
 //! Whether what seats have seen are a history's entries, up to the last one of each seat's thread.
 
-ghost use Rattle.std.specs.Prelude.{◌≤◌, IsTrue, drop, length};
+ghost use Rattle.std.specs.Prelude.{◌⊎◌, IsTrue};
 ghost use Rattle.std.specs.List.{All};
 ghost use Rattle.workers.specs.Answers.{IsSeated};
-ghost use Rattle.workers_copies.specs.Logs.{NoneOf};
-ghost use Rattle.workers.specs.Working.Within.{IsIn};
+ghost use Rattle.workers.specs.Working.Within.{HasSeat, IsIn};
+ghost use Rattle.workers_seen.specs.Logs.{NoneOf};
 
 use crate::seat::Seat;
-use history::entries::History;
-use history::kept::Kept;
-use workers_copies::naming::Naming;
+use workers_seen::log::Log;
+use workers_seen::naming::Naming;
 
 /// Whether what each seat has seen begins the entries, none of those behind it is of the seat's thread, and each entry's
 /// thread has a seat.
-pub fn fit<J: Naming>(seats: &[Seat<'_, '_, J>], log: &History) -> bool
-    ensures seen { IsTrue result → All (IsIn log.now.commits) seats.now }
-    ensures seated { IsTrue result → All (IsSeated seats.now) log.now.commits }
+pub fn fit<J: Naming>(seats: &[Seat<'_, J>], log: &Log<J>) -> bool
+    ensures seen { IsTrue result → All (IsIn log.now) seats.now }
+    ensures seated { IsTrue result → All (IsSeated seats.now) log.now }
 {
     all_in(seats, log) && are_seated(seats, log)
 }
 
 // Whether what each seat has seen begins the entries, and none of those behind it is of the seat's thread.
-fn all_in<J: Naming>(seats: &[Seat<'_, '_, J>], log: &History) -> bool
-    ensures { IsTrue result → All (IsIn log.now.commits) seats.now }
+fn all_in<J: Naming>(seats: &[Seat<'_, J>], log: &Log<J>) -> bool
+    ensures { IsTrue result → All (IsIn log.now) seats.now }
 {
     seats.iter().all(|s| is_in(s, log))
 }
 
-fn is_in<J: Naming>(seat: &Seat<'_, '_, J>, log: &History) -> bool
-    ensures { IsTrue result → IsIn log.now.commits seat.now }
+fn is_in<J: Naming>(seat: &Seat<'_, J>, log: &Log<J>) -> bool
+    ensures { IsTrue result → IsIn log.now seat.now }
 {
-    if !seat.seen.begins(log) {
+    if !seat.seen.begins(&log.front()) {
         return false;
     }
-    are_of_others(log, seat.seen.len(), seat.thread())
-}
-
-// Whether none of the entries from a position on is of a thread.
-fn are_of_others(log: &History, from: usize, thread: u32) -> bool
-    requires { from ≤ length log.now.commits }
-    ensures { IsTrue result → NoneOf thread (drop from log.now.commits) }
-{
-    for at in from..log.len() {
-        if log.get(at).thread() == thread {
-            return false;
-        }
-    }
-    true
+    log.has_none_of(seat.thread(), seat.seen.len())
 }
 
 // Whether each entry's thread has a seat.
-fn are_seated<J: Naming>(seats: &[Seat<'_, '_, J>], log: &History) -> bool
-    ensures { IsTrue result → All (IsSeated seats.now) log.now.commits }
+fn are_seated<J: Naming>(seats: &[Seat<'_, J>], log: &Log<J>) -> bool
+    ensures { IsTrue result → All (IsSeated seats.now) log.now }
 {
-    for position in 0..log.len() {
-        if !is_seated(seats, &log.get(position)) {
+    for thread in 0..64 {
+        if !is_settled(seats, log, thread) {
             return false;
         }
     }
-    true
+    log.is_below(64)
 }
 
-fn is_seated<J: Naming>(seats: &[Seat<'_, '_, J>], e: &Kept<'_>) -> bool
-    ensures { IsTrue result → IsSeated seats.now e.now }
+// Whether a thread has no entry, or a seat.
+fn is_settled<J: Naming>(seats: &[Seat<'_, J>], log: &Log<J>, thread: u32) -> bool
+    ensures { IsTrue result → NoneOf thread log.now ⊎ HasSeat seats.now thread }
+{
+    if log.has_none_of(thread, 0) {
+        return true;
+    }
+    is_seated(seats, thread)
+}
+
+// Whether a thread has a seat.
+fn is_seated<J: Naming>(seats: &[Seat<'_, J>], thread: u32) -> bool
+    ensures { IsTrue result → HasSeat seats.now thread }
 {
     for s in seats {
-        if s.thread() == e.thread() {
+        if s.thread() == thread {
             return true;
         }
     }

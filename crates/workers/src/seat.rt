@@ -2,7 +2,7 @@
 
 ghost use Rattle.std.specs.Prelude.{◌≡◌, ◌<◌, [], IsTrue};
 ghost use Rattle.workers.specs.Seats.{new_seat};
-ghost use Rattle.workers_copies.specs.Logs.{IsSound};
+ghost use Rattle.workers_seen.specs.Logs.{IsSound};
 
 use crate::parking::Parking;
 use core_lang::value::Outcome;
@@ -10,8 +10,8 @@ use runner::states::Ready;
 use source::memory::NoMemory;
 use std::alloc::AllocError;
 use std::marker::Model;
-use workers_copies::naming::Naming;
-use workers_copies::seen::Seen;
+use workers_seen::front::Front;
+use workers_seen::naming::Naming;
 
 /// What a call answers.
 #[derive(Drop)]
@@ -46,16 +46,16 @@ impl From<NoMemory> for CallRefusal {
 }
 
 /// A thread's place at a [`crate::shared::Shared`]. As a value it is the thread, the answers to its calls, in order, and
-/// what it has seen of the row. The answers are those that its own entries give among what it has seen.
+/// what it has seen of the history. The answers are those that its own entries give among what it has seen.
 #[derive(Drop)]
-pub struct Seat<'r, 'p, J: Naming> {
+pub struct Seat<'p, J: Naming> {
     // The number of its next call is that of its answers: only a release raises it.
     pub(crate) ready: Ready<'p>,
     pub(crate) parking: Parking,
-    pub(crate) seen: Seen<'r, J>,
+    pub(crate) seen: Front<J>,
 }
 
-impl<'r, 'p, J: Naming> Model for Seat<'r, 'p, J> {
+impl<'p, J: Naming> Model for Seat<'p, J> {
     ghost use Rattle.workers.specs.Seats.{SeatOf};
     ghost use Rattle.workers.specs.Answers.{replies_of};
     ghost use Rattle.workers.specs.Working.Within.{IsSeat};
@@ -64,22 +64,21 @@ impl<'r, 'p, J: Naming> Model for Seat<'r, 'p, J> {
 
     ghost view = { λ s. record {
       thread = s.ready.thread;
-      answers = replies_of s.ready.thread 0 s.seen.log;
-      row = s.seen.known.row;
-      seen = s.seen.log;
+      answers = replies_of s.ready.thread 0 s.seen;
+      seen = s.seen;
     } };
 
-    ghost invariant = { λ s. IsSeat s.ready.thread s.ready.step s.seen.log };
+    ghost invariant = { λ s. IsSeat J.plan s.ready.thread s.ready.step s.seen };
 }
 
-impl<'r, 'p, J: Naming> Seat<'r, 'p, J> {
+impl<'p, J: Naming> Seat<'p, J> {
     ghost use Rattle.std.specs.Prelude.{◌≡◌, ◌<◌, []};
 
     // A thread's place before its first call.
-    pub(crate) fn new(thread: u32, parking: Parking, seen: Seen<'r, J>) -> Seat<'r, 'p, J>
+    pub(crate) fn new(thread: u32, parking: Parking, seen: Front<J>) -> Seat<'p, J>
         requires few { thread < 64 }
-        requires none { seen.log ≡ [] }
-        ensures { result ≡ new_seat seen.entry.known.row thread }
+        requires none { seen ≡ [] }
+        ensures { result ≡ new_seat thread }
     {
         Seat {
             ready: Ready::new(thread),
@@ -107,6 +106,6 @@ impl<'r, 'p, J: Naming> Seat<'r, 'p, J> {
     pub fn keeps_its_rules(&self)
         ensures { IsSound J.plan self.now.seen }
     {
-        self.seen.keeps_its_rules();
+        let _ready = &self.ready;
     }
 }

@@ -4,14 +4,12 @@ ghost use Rattle.std.specs.Prelude.{◌≡◌, ◌<◌, ◌≤◌, ◌+◌, ◌^
 ghost use Rattle.std.specs.List.{All};
 ghost use Rattle.core_lang.specs.WellFormed.{CanCall};
 ghost use Rattle.lock_manager.specs.Working.Managers.{IsQuiet};
-ghost use Rattle.runner.specs.Working.Opens.{IsItsEntry, IsSame, ready_again};
+ghost use Rattle.runner.specs.Working.Opens.{IsSame, ready_again};
 ghost use Rattle.workers.specs.Seats.{AllBelow, Gains, new_seats};
 ghost use Rattle.workers.specs.Answers.{IsAnswer, IsSeated, IsHistoryOf, AnswersAreIn, as_call};
-ghost use Rattle.workers_copies.specs.Logs.{IsSound};
+ghost use Rattle.workers_seen.specs.Logs.{Begins, IsSound};
 ghost use Rattle.workers.specs.Working.Seen.{Sees, SeenIsIn};
-ghost use Rattle.workers_copies.specs.Logs.{Begins};
-ghost use Rattle.workers.specs.Working.Within.{HasAnswer, HasBegun, IsEntered};
-ghost use Rattle.workers_copies.specs.Working.Rows.{IsSameSeen, SeesOwn};
+ghost use Rattle.workers.specs.Working.Within.{HasAnswer, HasBegun, IsEntered, SeesItsOwn};
 
 use crate::answer_room::AnswerRoom;
 use crate::closed::{Closed, Strange};
@@ -23,7 +21,6 @@ use crate::print_rooms::PrintRooms;
 use crate::seat::{CallRefusal, Done, Seat};
 use crate::seating::Seating;
 use core_lang::value::Value;
-use history::entry::Entry;
 use lock_manager::ticket::Receipt;
 use lowering::compiled::Program;
 use runner::states::{Asked, Ended, Next, Ready, Running};
@@ -31,9 +28,9 @@ use source::memory::NoMemory;
 use std::alloc::Global;
 use std::mem;
 use std::sync::{Mutex, Wait};
-use workers_copies::naming::Naming;
-use workers_copies::row::Row;
-use workers_copies::seen::Seen;
+use workers_seen::front::Front;
+use workers_seen::log::NewLog;
+use workers_seen::naming::Naming;
 
 /// A program whose sections threads run, each from its own [`Seat`]. The manager of its locks, with the cells and the
 /// history, lies under a Mutex.
@@ -71,24 +68,26 @@ struct Request<'a> {
 }
 
 impl<'p, J: Naming> Shared<'p, J> {
-    /// Before any call, with so many seats, of the threads from 0 on, which see what there is in the row.
+    /// Before any call, with so many seats, of the threads from 0 on. Its history is the log that `J` names.
     ///
     /// # Errors
     ///
     /// Want of memory.
-    pub fn open<'r>(
-        row: &'r Row<J>,
+    pub fn open(
+        log: NewLog,
         alloc: Global,
         program: &'p Program,
         count: u32,
-    ) -> Result<(Shared<'p, J>, Vec<Seat<'r, 'p, J>>), NoMemory>
-        requires named { program.now ≡ J.plan }
+    ) -> Result<(Shared<'p, J>, Vec<Seat<'p, J>>), NoMemory>
+        requires program { program.now ≡ J.plan }
+        requires log { log ≡ J.book }
         requires few { count ≤ 64 }
-        ensures { IfOk result (λ r. r.1.items ≡ new_seats row.entry.now count) }
+        ensures { IfOk result (λ r. r.1.items ≡ new_seats count) }
     {
         let print_rooms = PrintRooms::of(alloc, program.code())?;
-        let Seating { seats, wakings, .. } = Seating::of(row, alloc, program, count)?;
-        let guarded = match Guarded::open(alloc, program) {
+        let log = log.named::<J>(alloc, count)?;
+        let Seating { seats, wakings, .. } = Seating::of(alloc, log.front(), count)?;
+        let guarded = match Guarded::open(alloc, program, log) {
             Ok(guarded) => guarded,
             Err(NoMemory) => {
                 drop(seats);
@@ -116,16 +115,16 @@ impl<'p, J: Naming> Shared<'p, J> {
     /// Runs a section from a seat, and enters it into the history. Other threads may run sections meanwhile. The gate
     /// is told how far it has come.
     ///
-    /// Ahead of that the seat sees the copies of all entries before it, and leaves the copy of its own in the row.
+    /// Then the seat has seen all entries up to and with its own.
     ///
     /// # Errors
     ///
-    /// Want of memory; or the manager isn't the one that the seat left, or a copy of an entry isn't there, or isn't what
-    /// it should be: nothing is entered, and the seat is as it was.
+    /// Want of memory; or the manager isn't the one that the seat left, or the thread has another entry that the seat
+    /// hasn't seen: nothing is entered, and the seat is as it was.
     pub fn call<R: Wait, G: Gate>(
         &self,
         rt: &R,
-        seat: &mut Seat<'_, 'p, J>,
+        seat: &mut Seat<'p, J>,
         section: usize,
         arguments: &[Value],
         gate: &G,
@@ -137,7 +136,6 @@ impl<'p, J: Naming> Shared<'p, J> {
             IfOk result (λ d. Gains seat.old seat.new d.position call d.outcome d.prints.items) }
         ensures above { IfOk result (λ d. AllBelow d.position seat.old.answers) }
         ensures seen { OnOk result (Sees J.plan seat.old seat.new) }
-        ensures row { seat.new.row ≡ seat.old.row }
         ensures err { OnErr result (seat.new ≡ seat.old) }
     {
         let ready = take_out(&mut seat.ready);
@@ -164,7 +162,7 @@ impl<'p, J: Naming> Shared<'p, J> {
         rt: &R,
         ready: Ready<'p>,
         request: Request<'_>,
-        seen: &mut Seen<'_, J>,
+        seen: &mut Front<J>,
         gate: &G,
     ) -> Result<(Ready<'p>, Done), (Ready<'p>, CallRefusal)>
         requires thread { ready.thread < 64 }
@@ -172,19 +170,19 @@ impl<'p, J: Naming> Shared<'p, J> {
         ensures answer { let call = as_call request.entry.section request.entry.arguments.now in
             IfOk result (λ r. HasAnswer J.plan call ready.entry seen.old r.0 r.1 seen.new) }
         ensures err { IfErr result (λ r. r.0 ≡ ready.entry) }
-        ensures same { OnErr result (IsSameSeen seen.old seen.new) }
+        ensures same { OnErr result (seen.new ≡ seen.old) }
     {
         let thread = ready.thread();
-        let (room, running) = self.begin(rt, ready, request, seen)?;
+        let (room, running) = self.begin(rt, ready, request)?;
         gate.pass(thread, 0);
         let ended = match self.go_on(rt, thread, running, request.parking, gate) {
             Ok(ended) => ended,
             Err(ready) => return Err((ready, CallRefusal::Strange)),
         };
-        let Some((mut done, copy)) = room.of(&ended.entry()) else {
+        let Some(mut done) = room.of(&ended.entry()) else {
             return Err((self.give_up(rt, ended), CallRefusal::Strange));
         };
-        match self.finish(rt, ended, copy, seen) {
+        match self.finish(rt, ended, seen) {
             Ok((ready, position)) => {
                 done.position = position;
                 Ok((ready, done))
@@ -199,27 +197,23 @@ impl<'p, J: Naming> Shared<'p, J> {
         rt: &R,
         ready: Ready<'p>,
         request: Request<'_>,
-        seen: &mut Seen<'_, J>,
     ) -> Result<(AnswerRoom, Running<'p>), (Ready<'p>, CallRefusal)>
         requires thread { ready.thread < 64 }
         requires fits { CanCall J.plan.program request.section request.arguments.now }
         ensures ok { let call = as_call request.entry.section request.entry.arguments.now in
             IfOk result (λ r. HasBegun J.plan call ready.entry r.1) }
         ensures err { IfErr result (λ r. r.0 ≡ ready.entry) }
-        ensures same { IsSameSeen seen.old seen.new }
     {
         let alloc = self.alloc;
-        let arguments = request.arguments.len();
-        let cells = self.program.room(request.section).cells;
         let prints = self.print_rooms.room(request.section);
-        let Ok(room) = AnswerRoom::new(alloc, arguments, cells, prints) else {
+        let Ok(room) = AnswerRoom::new(alloc, prints) else {
             return Err((ready, CallRefusal::NoMemory));
         };
         let poised = match ready.prepare(alloc, self.program, request.section, request.arguments) {
             Ok(poised) => poised,
             Err(ready) => return Err((ready, CallRefusal::NoMemory)),
         };
-        let begun = self.guarded.lock(rt).begin(rt, alloc, poised, seen);
+        let begun = self.guarded.lock(rt).begin(alloc, poised);
         match begun {
             Ok(running) => Ok((room, running)),
             Err(refused) => Err(refused),
@@ -270,29 +264,23 @@ impl<'p, J: Naming> Shared<'p, J> {
     }
 
     // Enters the entry of a section that began when the history was at least as long as what its seat has seen, and wakes
-    // who waits first for each of its locks. Errors: it doesn't fit, or a copy isn't there, or isn't what it should be; the
+    // who waits first for each of its locks. Errors: it doesn't fit, or another entry of the thread came between; the
     // section has ended without an entry.
     fn finish<R: Wait>(
         &self,
         rt: &R,
         ended: Ended<'p>,
-        copy: Entry,
-        seen: &mut Seen<'_, J>,
+        seen: &mut Front<J>,
     ) -> Result<(Ready<'p>, usize), Ready<'p>>
-        requires plan { ended.plan ≡ J.plan }
-        requires copy { IsItsEntry ended copy }
-        ensures entered { IfOk result (λ r. IsEntered J.plan (length seen.old.log) ended.entry r.1) }
-        ensures row { seen.new.known.row ≡ seen.old.known.row }
-        ensures own { IfOk result (λ r. SeesOwn ended.entry.thread r.1 copy seen.old.log seen.new.log) }
-        ensures sound { OnOk result (IsSound J.plan seen.new.log) }
+        requires { ended.plan ≡ J.plan }
+        ensures entered { IfOk result (λ r. IsEntered J.plan (length seen.old) ended.entry r.1) }
+        ensures own { IfOk result (λ r. SeesItsOwn ended.entry r.1 seen.old seen.new) }
+        ensures sound { OnOk result (IsSound J.plan seen.new) }
         ensures ok { IfOk result (λ r. r.0 ≡ record { thread = ended.entry.thread; step = ended.entry.step + 1 }) }
         ensures err { IfErr result (λ ready. ready ≡ ready_again ended.entry) }
-        ensures same { OnErr result (seen.new.log ≡ seen.old.log) }
+        ensures same { OnErr result (seen.new ≡ seen.old) }
     {
-        let floor = seen.len();
-        // What is there is seen while other threads may go on, so that little is left to see under the Mutex.
-        seen.catch_up(copy.thread());
-        let finished = self.guarded.lock(rt).finish(floor, ended, copy, seen);
+        let finished = self.guarded.lock(rt).finish(ended, seen);
         match finished {
             Ok((ready, receipt)) => {
                 self.wake(&receipt);
@@ -300,7 +288,6 @@ impl<'p, J: Naming> Shared<'p, J> {
                 Ok((ready.keep(receipt), position))
             }
             Err(ready) => {
-                seen.go_back(self.program, floor);
                 self.wakings.wake_all();
                 Err(ready)
             }
@@ -326,13 +313,12 @@ impl<'p, J: Naming> Shared<'p, J> {
         }
     }
 
-    /// Of what two seats of one row have seen one begins the other: whether the first's begins the second's.
-    pub fn agree<'r>(one: &Seat<'r, 'p, J>, other: &Seat<'r, 'p, J>) -> bool
-        requires { one.now.row ≡ other.now.row }
+    /// Of what two seats have seen one begins the other: whether the first's begins the second's.
+    pub fn agree(one: &Seat<'p, J>, other: &Seat<'p, J>) -> bool
         ensures one_begins { MatchBool result (Begins one.now.seen other.now.seen) (Begins other.now.seen one.now.seen) }
         ensures exact { IsTrue result ↔ Begins one.now.seen other.now.seen }
     {
-        one.seen.agrees(&other.seen)
+        one.seen.begins(&other.seen)
     }
 
     /// The history with the values that it leaves, where no section is open, the seats' answers are just its entries, and
@@ -340,9 +326,9 @@ impl<'p, J: Naming> Shared<'p, J> {
     ///
     /// # Errors
     ///
-    /// A section is open, the answers aren't just the entries, or a seat has seen something else.
+    /// A section is open, or the answers aren't just the entries.
     #[tactic(auto, using(crate::proofs::Guarding::has_cells))]
-    pub fn close(self, seats: Vec<Seat<'_, 'p, J>>) -> Result<Closed<'p>, Strange>
+    pub fn close(self, seats: Vec<Seat<'p, J>>) -> Result<Closed<'p>, Strange>
         ensures history { IfOk result (λ c. IsHistoryOf J.plan c.history c.values) }
         ensures quiet { IfOk result IsQuiet }
         ensures answers { IfOk result (λ c. All (AnswersAreIn c.history) seats.entry.items) }
@@ -358,13 +344,13 @@ impl<'p, J: Naming> Shared<'p, J> {
             print_rooms: _,
         } = self;
         let _typed = program.typed();
-        let Some(manager) = guarded.into_inner().into_manager() else {
+        let Some((manager, log)) = guarded.into_inner().into_parts() else {
             return Err(Strange);
         };
         manager.keeps_its_rules();
-        let history = manager.history();
-        let fits = fit(seats.as_slice(), history);
+        let fits = fit(seats.as_slice(), &log);
         drop(seats);
+        drop(log);
         if !fits {
             drop(manager);
             return Err(Strange);

@@ -19,8 +19,8 @@ use std::marker::Brand;
 use std::sync::Wait;
 use std::thread;
 use std::thread::Threads;
-use workers_copies::naming::Naming;
-use workers_copies::row::Row;
+use workers_seen::log::NewLog;
+use workers_seen::naming::Naming;
 
 /// Runs each script of the program in a thread of its own, to its end. The gate is told how far each call has come.
 ///
@@ -40,17 +40,19 @@ pub fn run_threads<'p, R: Threads + Wait + Sync, G: Gate>(
         IfOk result (λ c. (t : ℕ) → t < count → HasScript program.now c.history t) }
     ensures nobody_else { IfOk result (λ c. AreOfScripts program.now c.history) }
 {
-    run_named::<Brand, R, G>(rt, alloc, program, gate)
+    run_named::<Brand, R, G>(rt, alloc, program, NewLog::new(), gate)
 }
 
-// The same, of the program that `J` names.
+// The same, of the program and into the log that `J` names.
 fn run_named<'p, J: Naming + Send + Sync, R: Threads + Wait + Sync, G: Gate>(
     rt: &R,
     alloc: Global,
     program: &'p Program,
+    log: NewLog,
     gate: &G,
 ) -> Result<Closed<'p>, CallRefusal>
-    requires { program.now ≡ J.plan }
+    requires program { program.now ≡ J.plan }
+    requires log { log ≡ J.book }
     ensures history { IfOk result (λ c. IsHistoryOf J.plan c.history c.values) }
     ensures accepted { IfOk result (λ c. RunsAsAccepted J.plan c.history c.values) }
     ensures scripts { let count = length program.now.program.threads.items in
@@ -63,9 +65,8 @@ fn run_named<'p, J: Naming + Send + Sync, R: Threads + Wait + Sync, G: Gate>(
     if count > 64 {
         return Err(CallRefusal::Strange);
     }
-    let row = Row::new(alloc)?;
-    let (shared, seats): (Shared<'p, J>, Vec<Seat<'_, 'p, J>>) = Shared::open(
-        &row, alloc, program, count,
+    let (shared, seats): (Shared<'p, J>, Vec<Seat<'p, J>>) = Shared::open(
+        log, alloc, program, count,
     )?;
     let places = places_of(alloc, seats)?;
     let places = run_all(rt, alloc, &shared, places, gate)?;
@@ -80,22 +81,22 @@ fn run_named<'p, J: Naming + Send + Sync, R: Threads + Wait + Sync, G: Gate>(
 
 /// A seat, and whether its thread's script has run: its answers are to just the calls of that, in order.
 #[derive(Drop)]
-pub(crate) struct ScriptSeat<'r, 'p, J: Naming> {
-    seat: Seat<'r, 'p, J>,
+pub(crate) struct ScriptSeat<'p, J: Naming> {
+    seat: Seat<'p, J>,
     ran: bool,
     ghost calls: { ran ≡ true → Some (map call_in seat.answers) ≡ script_at J.plan seat.thread },
 }
 
 // A seat before its thread's script has run.
-fn place_of<'r, 'p, J: Naming>(seat: Seat<'r, 'p, J>) -> ScriptSeat<'r, 'p, J> {
+fn place_of<'p, J: Naming>(seat: Seat<'p, J>) -> ScriptSeat<'p, J> {
     ScriptSeat { seat, ran: false }
 }
 
 // The seats before any script has run.
-fn places_of<'r, 'p, J: Naming>(
+fn places_of<'p, J: Naming>(
     alloc: Global,
-    seats: Vec<Seat<'r, 'p, J>>,
-) -> Result<Vec<ScriptSeat<'r, 'p, J>>, NoMemory> {
+    seats: Vec<Seat<'p, J>>,
+) -> Result<Vec<ScriptSeat<'p, J>>, NoMemory> {
     let mut places = Vec::with_capacity(alloc, seats.len())?;
     for seat in seats {
         places.push(place_of(seat))?;
@@ -104,13 +105,13 @@ fn places_of<'r, 'p, J: Naming>(
 }
 
 // Runs the script of each seat's thread in a thread of its own. Errors: the worst refusal.
-fn run_all<'r, 'p, J: Naming + Send + Sync, R: Threads + Wait + Sync, G: Gate>(
+fn run_all<'p, J: Naming + Send + Sync, R: Threads + Wait + Sync, G: Gate>(
     rt: &R,
     alloc: Global,
     shared: &Shared<'p, J>,
-    places: Vec<ScriptSeat<'r, 'p, J>>,
+    places: Vec<ScriptSeat<'p, J>>,
     gate: &G,
-) -> Result<Vec<ScriptSeat<'r, 'p, J>>, CallRefusal> {
+) -> Result<Vec<ScriptSeat<'p, J>>, CallRefusal> {
     lowering::laws::programs_are_shared();
     let mut places = places;
     let lent = &mut places;
@@ -192,7 +193,7 @@ fn calls_of(program: &Program, thread: u32) -> Option<usize>
 fn run_place<'p, J: Naming, R: Wait, G: Gate>(
     rt: &R,
     shared: &Shared<'p, J>,
-    place: &mut ScriptSeat<'_, 'p, J>,
+    place: &mut ScriptSeat<'p, J>,
     gate: &G,
 ) -> Result<(), CallRefusal> {
     place.ran = false;
@@ -205,7 +206,7 @@ fn run_place<'p, J: Naming, R: Wait, G: Gate>(
 fn run_script<'p, J: Naming, R: Wait, G: Gate>(
     rt: &R,
     shared: &Shared<'p, J>,
-    seat: &mut Seat<'_, 'p, J>,
+    seat: &mut Seat<'p, J>,
     gate: &G,
 ) -> Result<(), CallRefusal>
     ensures { OnOk result (Some (map call_in seat.new.answers) ≡ script_at J.plan seat.new.thread) }
@@ -228,11 +229,11 @@ fn run_script<'p, J: Naming, R: Wait, G: Gate>(
 }
 
 // The seats, where all scripts have run and they are those of all threads, in order.
-fn in_order<'r, 'p, J: Naming>(
+fn in_order<'p, J: Naming>(
     alloc: Global,
-    places: Vec<ScriptSeat<'r, 'p, J>>,
+    places: Vec<ScriptSeat<'p, J>>,
     count: u32,
-) -> Result<Option<Vec<Seat<'r, 'p, J>>>, NoMemory>
+) -> Result<Option<Vec<Seat<'p, J>>>, NoMemory>
     ensures { IfOk result (λ r. IfSome r (λ seats. AreInOrder J.plan count seats.items)) }
 {
     let mut seats = Vec::new(alloc);

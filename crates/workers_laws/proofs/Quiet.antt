@@ -5,7 +5,7 @@ use Rattle.core_lang.specs.declared.typed.Typed.{Typed}
 use Rattle.code.specs.Memory.{overwritten, Agrees}
 use Rattle.history.specs.Commits.{Commit, committed, IsLegal, IsTrueCommit, AreTrue}
 use Rattle.lowering.specs.Plans.{Plan}
-use Rattle.workers_copies.specs.Logs.{IsSound}
+use Rattle.workers_seen.specs.Logs.{IsSound}
 use Rattle.workers_laws.specs.Laws.{IsQuiet, QuietCallsStandAnywhere}
 
 same_heap : (heap : List Value) (c : Commit) → IsQuiet c → overwritten heap c.writes ≡ heap

@@ -11,7 +11,7 @@ use Rattle.source_steps.specs.declared.turn.Turn.{Turn}
 use Rattle.source_steps.specs.Turns.{steps_of}
 use Rattle.worlds.specs.Claims.{AreOfScripts}
 use Rattle.worlds.specs.Worlds.{World, ThreadState, Activation, HasOpen, call_at, opening_world, world_after, final}
-use Rattle.workers_copies.specs.Logs.{IsSound}
+use Rattle.workers_seen.specs.Logs.{IsSound}
 use Rattle.workers.specs.Answers.{IsHistoryOf, RunsAsAccepted, HasScript, script_at}
 
 -- all entries are of calls of this thread

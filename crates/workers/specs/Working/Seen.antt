@@ -4,7 +4,7 @@ use Rattle.history.specs.Commits.{Commit}
 use Rattle.lowering.specs.Plans.{Plan}
 use Rattle.workers.specs.Seats.{SeatOf}
 use Rattle.workers.specs.Answers.{reply_at}
-use Rattle.workers_copies.specs.Logs.{IsSound, Begins, NoneOf}
+use Rattle.workers_seen.specs.Logs.{IsSound, Begins, NoneOf}
 
 -- what a seat has seen after a call: what it had seen before, then entries of other threads, then the call's own. That
 -- is the entry of the answer that the seat has more; it is the thread's, has the number of the answers before it, and

@@ -1,6 +1,7 @@
 -- What the parts of a call, and of a run of all scripts, tell each other. It mirrors the code: nobody has to believe
 -- it.
-use Rattle.std.specs.Prelude.{◌≡◌, ◌≤◌, ◌<◌, ◌+◌, ℕ, true, List, length, map, Some, None, slice_index_or}
+use Rattle.std.specs.Prelude.{◌≡◌, ◌≤◌, ◌<◌, ◌+◌, ℕ, true, List, [], ◌∷◌, ◌++◌, length, map, Some, None, slice_index_or}
+use Rattle.std.specs.List.{Contains}
 use Rattle.core_lang.specs.declared.value.Outcome.{Outcome}
 use Rattle.core_lang.specs.declared.typed.Call.{Call}
 use Rattle.core_lang.specs.Serial.{Invocation, invocation}
@@ -10,22 +11,26 @@ use Rattle.code.specs.Memory.{Agrees}
 use Rattle.history.specs.Commits.{Commit, committed, IsTrueCommit}
 use Rattle.lowering.specs.Plans.{Plan}
 use Rattle.worlds.specs.Worlds.{call_at}
-use Rattle.runner.specs.Working.Opens.{ReadyOf, PoisedOf, OpenOf, entry_of}
+use Rattle.runner.specs.Working.Opens.{ReadyOf, PoisedOf, OpenOf, IsItsEntry, entry_of}
 use Rattle.workers.specs.Seats.{SeatOf, reply}
 use Rattle.workers.specs.Answers.{IsAnswer, AnswersAreIn, reply_at, replies_of, in_step, call_in, script_at}
-use Rattle.workers_copies.specs.Logs.{IsSound}
+use Rattle.workers_seen.specs.Logs.{IsSound, NoneOf}
 use Rattle.workers.specs.Working.Seen.{SeenIsIn}
-use Rattle.workers_copies.specs.Working.Rows.{SeenOf, SeesOwn}
 use Rattle.workers.specs.declared.seat.Done.{Done}
 
 -- ---- a seat
 
--- its next call has the number of its answers, and its entries among the copies that it has seen have the numbers
--- before that, in order
-pub record IsSeat (thread step : ℕ) (log : List Commit) : Type 0 where
+-- what it has seen is sound; its next call has the number of its answers, and its entries among those that it has seen
+-- have the numbers before that, in order
+pub record IsSeat (plan : Plan) (thread step : ℕ) (log : List Commit) : Type 0 where
   pub few : thread < 64
   pub step_is : step ≡ length (replies_of thread 0 log)
   pub steps : in_step thread 0 log ≡ true
+  pub sound : IsSound plan log
+
+-- a thread has a seat
+abbrev pub HasSeat : List SeatOf → ℕ → Type 0
+HasSeat seats thread = Contains (map (λ (s : SeatOf). s.thread) seats) thread
 
 -- what it has seen begins a history, which has no further entry of its thread
 pub record IsIn (log : List Commit) (s : SeatOf) : Type 0 where
@@ -62,27 +67,38 @@ pub record IsEntered (plan : Plan) (floor : ℕ) (o : OpenOf) (position : ℕ) :
   pub above : floor ≤ o.activation.begun
   pub begun : o.activation.begun ≤ position
 
--- what is told of an entry, but for its position, and the entry's copy
-pub record IsNotedOf (entry : Commit) (told : Done) (copy : Commit) : Type 0 where
+-- what is told of an entry, but for its position
+pub record IsNotedOf (entry : Commit) (told : Done) : Type 0 where
   pub outcome : told.outcome ≡ entry.outcome
   pub prints : told.prints.items ≡ entry.prints
-  pub copy_is : copy ≡ entry
+
+-- more was seen, of other threads, up to a position, and there this entry
+pub record SeesOwn (thread position : ℕ) (entry : Commit) (old new : List Commit) : Type 0 where
+  pub between : List Commit
+  pub is : new ≡ (old ++ between) ++ entry ∷ []
+  pub others : NoneOf thread between
+  pub long : length (old ++ between) ≡ position
+
+-- so was the entry of a section
+pub record SeesItsOwn (o : OpenOf) (position : ℕ) (old new : List Commit) : Type 0 where
+  pub entry : Commit
+  pub its : IsItsEntry o entry
+  pub seen : SeesOwn o.thread position entry old new
 
 -- an answered call: what is told of it; the thread, with the number of its next call; and what its seat has seen then,
 -- with the call's entry last
-pub record HasAnswer (plan : Plan) (call : Invocation) (ready : ReadyOf) (old : SeenOf) (ready' : ReadyOf) (told : Done)
-    (new : SeenOf) : Type 0 where
+pub record HasAnswer (plan : Plan) (call : Invocation) (ready : ReadyOf) (old : List Commit) (ready' : ReadyOf)
+    (told : Done) (new : List Commit) : Type 0 where
   pub answer : IsAnswer plan call told.position told.outcome told.prints.items
   pub ready_is : ready' ≡ record { thread = ready.thread; step = ready.step + 1 }
   pub entry : Commit
   pub own : entry.thread ≡ ready.thread
   pub step : entry.step ≡ ready.step
   pub reply_is : reply_at told.position entry ≡ reply told.position entry.begun call told.outcome told.prints.items
-  pub above : length old.log ≤ entry.begun
+  pub above : length old ≤ entry.begun
   pub at_most : entry.begun ≤ told.position
-  pub row : new.known.row ≡ old.known.row
-  pub seen : SeesOwn ready.thread told.position entry old.log new.log
-  pub sound : IsSound plan new.log
+  pub seen : SeesOwn ready.thread told.position entry old new
+  pub sound : IsSound plan new
 
 -- ---- scripts
 

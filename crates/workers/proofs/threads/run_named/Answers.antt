@@ -16,7 +16,7 @@ pub returns-in-Ok-clause-accepted : goal.returns-in-Ok-clause-accepted
 returns-in-Ok-clause-accepted g c =
     let plan = g.J.Naming.plan in
     let order : AreInOrder plan c.threads-count.result c.in-Some.seats.items = rw c.in-Some.is at c.in_ok-seats.ensures in
-    let compiled = subst IsCompiled c.requires c.typed-typed.ensures.compiled in
+    let compiled = subst IsCompiled c.requires.program c.typed-typed.ensures.compiled in
     c.of_scripts_run_alike.ensures plan c.in-Ok.closed.history c.in-Ok.closed.values compiled
     (all_of_scripts plan c.threads-count.result c.in-Some.seats.items c.in-Ok.closed.history order c.in-Ok.ensures.answers c.in-Ok.ensures.no_other)
     c.in-Ok.ensures.history.serial

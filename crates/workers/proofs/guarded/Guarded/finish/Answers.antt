@@ -1,49 +1,67 @@
-use Rattle.std.proofs.Common.{◌≡◌, ◌≤◌, ◌∙◌, length, List, sym, ap, subst, arith, rules}
-use Rattle.history.specs.Commits.{Commit, IsTrueCommit}
+use Rattle.std.proofs.Common.{◌≡◌, ◌≤◌, ◌∙◌, ◌++◌, ◌∷◌, [], length, List, sym, ap, subst, arith, rules}
+use Rattle.history.specs.Commits.{Commit}
 use Rattle.lowering.specs.Plans.{Plan}
 use Rattle.runner.specs.Working.Opens.{CanBeReleased}
 use Rattle.workers.specs.Working.Guarding.{IsManagerOf}
 use Rattle.workers.specs.Working.Within.{IsEntered}
-use Rattle.workers.proofs.Guarding.{released_manager, entered}
-use Rattle.workers.proofs.Copies.{own_at}
+use Rattle.workers_seen.specs.Logs.{Begins, IsSound}
+use Rattle.workers.proofs.Guarding.{released_manager, entered, history_after, sound_after, sees_its_own}
 use Rattle.workers.proofs.guarded.Guarded.finish.Goals as goal
 
-pub new-requires : goal.new-requires
-new-requires g c =
-    let o = c.args.ended in
-    let e = c.args.copy in
-    let its = c.requires.copy in
-    let met : IsTrueCommit o.plan.program e = subst (IsTrueCommit o.plan.program) (sym its.is) (c.keeps_its_rules.ensures.true_entry e.outcome its.over) in
-    subst (λ (p : Plan). IsTrueCommit p.program e) c.requires.plan met
-
-pub invariant_of-self : goal.invariant_of-self
-invariant_of-self g c =
+pub invariant_of-self-2 : goal.invariant_of-self-2
+invariant_of-self-2 g c =
     let o = c.args.ended in
     let m = c.self.inside.manager in
     let m' = c.release.new.manager in
-    let d : IsManagerOf o.plan m = subst (λ (p : Plan). IsManagerOf p m) (sym c.requires.plan) c.self.invariant in
+    let d : IsManagerOf o.plan m = subst (λ (p : Plan). IsManagerOf p m) (sym c.requires) c.self.invariant.0 in
     let can : CanBeReleased m o = search rules in
-    subst (λ (p : Plan). IsManagerOf p m') c.requires.plan
-    (released_manager m m' o _ _ c.sections_stay_in_order.ensures c.one_entry_more.ensures.all_true d c.keeps_its_rules.ensures.kept
-    can c.release.ensures)
+    let its = c.entry-entry.ensures in (
+      subst (λ (p : Plan). IsManagerOf p m') c.requires
+          (released_manager m m' o _ _ c.sections_stay_in_order.ensures c.one_entry_more.ensures.all_true d c.keeps_its_rules.ensures.kept
+          can c.release.ensures),
+      c.if-not-enter.ensures ∙ ap (λ (l : List Commit). l ++ c.entry-entry.result ∷ []) c.self.invariant.1
+          ∙ sym (history_after m m' o _ _ c.entry-entry.result its c.release.ensures),
+    )
 
 pub returns-clause-entered : goal.returns-clause-entered
 returns-clause-entered g c =
     let o = c.args.ended in
     let m = c.self.inside.manager in
-    let d : IsManagerOf o.plan m = subst (λ (p : Plan). IsManagerOf p m) (sym c.requires.plan) c.self.invariant in
-    let began : c.begun-begun.result ≡ o.activation.begun = c.begun-begun.ensures ∙ ap (λ (e : Commit). e.begun) c.entry.ensures.is in
+    let d : IsManagerOf o.plan m = subst (λ (p : Plan). IsManagerOf p m) (sym c.requires) c.self.invariant.0 in
+    let began : c.begun-begun.result ≡ o.activation.begun = c.begun-begun.ensures ∙ ap (λ (e : Commit). e.begun) c.entry-entry.ensures.is in
     let long : c.len-position.result ≡ length m.history = c.len-position.ensures ∙ ap (λ (es : List Commit). length es) c.history.ensures in
-    let above : c.args.floor ≤ o.activation.begun = omega (arith, c.if-begun-floor.false, began) in
+    let above : length c.args.seen.now ≤ o.activation.begun = omega (arith, c.if-begun-floor.false, began, c.len-floor.ensures) in
     let below : o.activation.begun ≤ length m.history = omega (arith, c.if-position-begun.false, began, long) in
     let can : CanBeReleased m o = search rules in
-    subst (λ (p : Plan). IsEntered p c.args.floor o c.release.result.1.position) c.requires.plan
-    (entered m _ o _ _ c.args.floor c.sections_stay_in_order.ensures d c.keeps_its_rules-2.ensures.rules_kept c.keeps_its_rules.ensures.kept
-    can c.release.ensures above below)
+    let stands : IsEntered o.plan (length c.args.seen.now) o c.release.result.1.position =
+    entered m _ o _ _ (length c.args.seen.now) c.sections_stay_in_order.ensures d c.keeps_its_rules-2.ensures.rules_kept c.keeps_its_rules.ensures.kept
+    can c.release.ensures above below in
+    subst (λ (p : Plan). IsEntered p (length c.args.seen.now) o c.release.result.1.position) c.requires stands
 
 pub returns-clause-own : goal.returns-clause-own
 returns-clause-own g c =
+    let log = c.self.inside.log in
+    let e = c.entry-entry.result in
+    let begins : Begins c.args.seen.now log =
+    subst (Begins c.args.seen.now) c.front.ensures (c.begins-2.ensures.exact.0 c.if-not-begins.false) in
+    sees_its_own c.args.ended e c.args.seen.now log c.front-2.result c.release.result.1.position c.len-floor.result c.thread.result c.entry-entry.ensures
+    begins c.len-floor.ensures c.thread.ensures (c.has_none_of.ensures.0 c.if-not-has_none_of.false) (c.front-2.ensures ∙ c.if-not-enter.ensures)
+    (c.release.ensures.releases.position ∙ ap (λ (es : List Commit). length es) (sym c.self.invariant.1))
+
+pub returns-clause-sound : goal.returns-clause-sound
+returns-clause-sound g c =
+    let o = c.args.ended in
     let m = c.self.inside.manager in
-    let thread : c.thread.result ≡ c.args.ended.thread = c.thread.ensures ∙ ap (λ (e : Commit). e.thread) c.requires.copy.is in
+    let d : IsManagerOf o.plan m = subst (λ (p : Plan). IsManagerOf p m) (sym c.requires) c.self.invariant.0 in
+    let began : c.begun-begun.result ≡ o.activation.begun = c.begun-begun.ensures ∙ ap (λ (e : Commit). e.begun) c.entry-entry.ensures.is in
     let long : c.len-position.result ≡ length m.history = c.len-position.ensures ∙ ap (λ (es : List Commit). length es) c.history.ensures in
-    own_at _ _ _ _ _ _ _ _ thread (long ∙ sym c.release.ensures.releases.position) c.new.ensures (c.extend.ensures.own c.if-not-extend.false)
+    let above : length c.args.seen.now ≤ o.activation.begun = omega (arith, c.if-begun-floor.false, began, c.len-floor.ensures) in
+    let below : o.activation.begun ≤ length m.history = omega (arith, c.if-position-begun.false, began, long) in
+    let can : CanBeReleased m o = search rules in
+    let e = c.entry-entry.result in
+    let after : IsSound o.plan (m.history ++ e ∷ []) =
+    sound_after m _ o _ _ e (length c.args.seen.now) c.one_entry_more.ensures.legal c.one_entry_more.ensures.all_true c.sections_stay_in_order.ensures d
+    c.keeps_its_rules-2.ensures.rules_kept c.keeps_its_rules.ensures.kept can c.release.ensures above below c.entry-entry.ensures in
+    let is : c.front-2.result ≡ m.history ++ e ∷ [] =
+    c.front-2.ensures ∙ c.if-not-enter.ensures ∙ ap (λ (l : List Commit). l ++ e ∷ []) c.self.invariant.1 in
+    subst (λ (p : Plan). IsSound p c.front-2.result) c.requires (subst (IsSound o.plan) (sym is) after)

@@ -3,7 +3,4 @@ use Rattle.workers.specs.Seats.{new_seats}
 use Rattle.workers.proofs.seating.Seating.of.Given as goal
 
 abbrev pub invariant-loop-thread : goal.invariant-loop-thread
-invariant-loop-thread g l = record {
-  row : l.seating.row.now ≡ l.row;
-  seats : l.seating.seats.items ≡ new_seats l.row l.thread;
-}
+invariant-loop-thread g l = l.seating.seats.items ≡ new_seats l.thread

@@ -7,10 +7,10 @@ use Rattle.workers.proofs.shared.Shared.call.Goals as goal
 
 pub invariant_of-seat : goal.invariant_of-seat
 invariant_of-seat g c =
-    let log = c.seat.inside.seen.log in
-    let before : IsSeat c.take_out-ready.result.thread c.take_out-ready.result.step log =
-    subst (λ (r : ReadyOf). IsSeat r.thread r.step log) (sym c.take_out-ready.ensures) c.seat.invariant in
-    subst (λ (r : ReadyOf). IsSeat r.thread r.step c.run.new.seen.log) (sym c.put_back.ensures)
+    let log = c.seat.inside.seen in
+    let before : IsSeat g.J.Naming.plan c.take_out-ready.result.thread c.take_out-ready.result.step log =
+    subst (λ (r : ReadyOf). IsSeat g.J.Naming.plan r.thread r.step log) (sym c.take_out-ready.ensures) c.seat.invariant in
+    subst (λ (r : ReadyOf). IsSeat g.J.Naming.plan r.thread r.step c.run.new.seen) (sym c.put_back.ensures)
     (seat_after g.J.Naming.plan (as_call c.args.section c.args.arguments.now) c.take_out-ready.result c.in-Ok.ready c.in-Ok.done
     c.seat.inside.seen c.run.new.seen before c.in-Ok.ensures.answer)
 
