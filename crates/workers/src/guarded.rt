@@ -131,11 +131,7 @@ impl<'p, J: Naming> Guarded<'p, J> {
         let position = self.manager.history().len();
         let entry = ended.entry();
         let begun = entry.begun();
-        if begun < floor
-            || position < begun
-            || position == usize::MAX
-            || !ended.fits(&self.manager)
-        {
+        if begun < floor || position < begun || !ended.fits(&self.manager) {
             return Err(self.give_up(ended));
         }
         if !seen.begins(&self.log.front())
