@@ -1,6 +1,6 @@
 -- An instruction on held cells, beside the same instruction on a heap; and whole runs.
-use Rattle.std.proofs.Common.{◌≡◌, ℕ, zero, suc, ◌+◌, ◌<◌, List, [], ◌∷◌, length, Option, Some, None, Bool, true}
-use Rattle.std.proofs.Common.{false, Result, Ok, Err, inl, inr, refl, sym, ap, ◌∙◌, subst, arith}
+use Rattle.std.proofs.Common.{◌≡◌, ℕ, zero, suc, ◌+◌, ◌<◌, List, [], ◌∷◌, length, Option, Some, None, Bool, true, false}
+use Rattle.std.proofs.Common.{Result, Ok, Err, inl, inr, refl, sym, ap, ◌∙◌, subst, arith}
 use Rattle.std.specs.Prelude.{slice_get, slice_set, not, ⊤}
 use Rattle.std.proofs.lemmas.Bool.Decides.{eqb_tells}
 use Rattle.std.proofs.lemmas.Option.{none-some, same_Some, slice_get_within, slice_get-get_or}
@@ -11,21 +11,21 @@ use Rattle.core_lang.specs.declared.shape.Shape.{Shape}
 use Rattle.core_lang.specs.Arithmetic.{on_values, negated, compared}
 use Rattle.core_lang.specs.Cells.{with, found, element_cell, member_of, field_cell, final_value, owned, not_null}
 use Rattle.code.specs.declared.instr.Instr.{Instr}
-use Rattle.code.specs.declared.instr.Instr.TheVariants.{PushNumber, PushNull, GetLocal, PutLocal, LoadGlobal}
-use Rattle.code.specs.declared.instr.Instr.TheVariants.{PutGlobal, LoadElement, Bound, PutElement, GetMember}
-use Rattle.code.specs.declared.instr.Instr.TheVariants.{LoadFinal, LoadField, NonNull, PutField, Where, NegateTop}
-use Rattle.code.specs.declared.instr.Instr.TheVariants.{NotTop, Operate, Test, Jump, JumpBack, JumpIfFalse}
-use Rattle.code.specs.declared.instr.Instr.TheVariants.{JumpIfTrue, PrintTop, Acquire, Return, End}
+use Rattle.code.specs.declared.instr.Instr.TheVariants.{PushNumber, PushNull, GetLocal, PutLocal, LoadGlobal, PutGlobal}
+use Rattle.code.specs.declared.instr.Instr.TheVariants.{LoadElement, Bound, PutElement, GetMember, LoadFinal, LoadField}
+use Rattle.code.specs.declared.instr.Instr.TheVariants.{NonNull, PutField, Where, NegateTop, NotTop, Operate, Test}
+use Rattle.code.specs.declared.instr.Instr.TheVariants.{Jump, JumpBack, JumpIfFalse, JumpIfTrue, PrintTop, Acquire}
+use Rattle.code.specs.declared.instr.Instr.TheVariants.{Return, End}
 use Rattle.code.specs.Machine.{Machine, Effect, Moves, Asks, Finishes, Undefined, Standing, At, Halted, Stuck, passed}
-use Rattle.code.specs.Machine.{advances, jumps_if, or_trap, on_top, on_two, if_there, is_true, negation, printed}
-use Rattle.code.specs.Machine.{loads, stores, act, proceed, exec}
-use Rattle.code.specs.Memory.{HeldCells, value_at, with_value, with_changed, beside, load_from, written_where}
-use Rattle.code.specs.Memory.{store_to, noted, read_if_held, load_held, write_if_held, store_held, overwritten}
-use Rattle.code.specs.Memory.{Agrees, IsCovered, IsConsistent, IsPartOf, Keeps}
+use Rattle.code.specs.Machine.{advances, jumps_if, or_trap, on_top, on_two, if_there, is_true, negation, printed, loads}
+use Rattle.code.specs.Machine.{stores, act, proceed, exec}
+use Rattle.code.specs.Memory.{HeldCells, value_at, with_value, with_changed, beside, load_from, written_where, store_to}
+use Rattle.code.specs.Memory.{noted, read_if_held, load_held, write_if_held, store_held, overwritten, Agrees, IsCovered}
+use Rattle.code.specs.Memory.{IsConsistent, IsPartOf, Keeps}
 use Rattle.code.specs.Working.Laws.{on_heap}
-use Rattle.code.proofs.Values.{set_same, set_other, changed_same, changed_other, changed_cells, changed_covered}
-use Rattle.code.proofs.Values.{length-overwritten, written_cell, unwritten_cell, overwritten_with, agrees_noted}
-use Rattle.code.proofs.Values.{noted_agrees, set_here, set_there}
+use Rattle.code.specs.Theory.Values.{set_same, set_other, changed_same, changed_other, changed_cells, changed_covered}
+use Rattle.code.specs.Theory.Values.{length-overwritten, written_cell, unwritten_cell, overwritten_with, agrees_noted}
+use Rattle.code.specs.Theory.Values.{noted_agrees, set_here, set_there}
 
 -- ---- what a read and a write keep
 

@@ -1,5 +1,4 @@
 pub mod Over
-pub mod Values
 pub mod Alike
 pub mod AlikeLaws
 pub mod points

@@ -1,8 +1,8 @@
 -- Pieces of code, one behind another.
 use mir.Val.{to_z, of_z}
 use mir.Syntax.{w64}
-use Rattle.std.proofs.Common.{◌≡◌, ◌∙◌, ℕ, zero, suc, ◌+◌, ◌-◌, ◌<◌, ◌≤◌, List, [], ◌∷◌, ◌++◌, length, drop, get_or}
-use Rattle.std.proofs.Common.{add-one, append_assoc, append-nil, length-append, refl, sym, ap, arith}
+use Rattle.std.proofs.Common.{◌≡◌, ◌∙◌, ℕ, ◌+◌, ◌-◌, ◌<◌, ◌≤◌, List, [], ◌∷◌, ◌++◌, length, drop, get_or, add-one}
+use Rattle.std.proofs.Common.{append_assoc, append-nil, length-append, refl, sym, ap, arith}
 use Rattle.std.specs.Prelude.{slice_set, ℤ}
 use Rattle.std.proofs.Math.Seq.{drop-cons}
 use Rattle.core_lang.specs.declared.tree.Comparison.{Comparison}

@@ -1,20 +1,20 @@
 -- Programs that stand for one resolved program have the same accesses, lock paths and faults of these, wherever they lie in memory.
-use Rattle.std.proofs.Common.{◌≡◌, ℕ, zero, suc, List, [], ◌∷◌, ◌++◌, length, Option, Some, None, if◌then◌else◌, refl}
-use Rattle.std.proofs.Common.{sym, ap, subst, ◌∙◌, arith}
+use Rattle.std.proofs.Common.{◌≡◌, ℕ, List, [], ◌∷◌, ◌++◌, length, Option, Some, None, if◌then◌else◌, refl, sym, ap}
+use Rattle.std.proofs.Common.{subst, ◌∙◌}
 use Rattle.std.specs.Prelude.{map, option_map, slice_get, ◌==◌}
 use Rattle.std.specs.List.{Contains, filter_map, flat_map, cons_option}
 use Rattle.source.specs.declared.fault.Code.{Code}
 use Rattle.core_lang.specs.declared.tree.FieldStep.{FieldStep}
 use Rattle.core_lang.specs.declared.tree.Expr as e
-use Rattle.core_lang.specs.declared.tree.Expr.{Number, Null, Place, Global, Element', Member', Negate', Owned'}
-use Rattle.core_lang.specs.declared.tree.Expr.{Chain', Row_of-Operation, end_of-Operation, more_of-Operation}
+use Rattle.core_lang.specs.declared.tree.Expr.{Number, Null, Place, Global, Element', Member', Negate', Owned', Chain'}
+use Rattle.core_lang.specs.declared.tree.Expr.{Row_of-Operation, end_of-Operation, more_of-Operation}
 use Rattle.core_lang.specs.declared.tree.Condition as c
 use Rattle.core_lang.specs.declared.tree.Condition.{Compare, Not', And', Or', Row_of-Condition, end_of-Condition}
 use Rattle.core_lang.specs.declared.tree.Condition.{more_of-Condition}
 use Rattle.core_lang.specs.declared.tree.Stmt as s
 use Rattle.core_lang.specs.declared.tree.Action as a
-use Rattle.core_lang.specs.declared.tree.Action.{Bind, SetLocal, SetGlobal, SetElement, SetField, Call as CallOf}
-use Rattle.core_lang.specs.declared.tree.Action.{Print, If', IfElse', While', Row_of-Stmt, end_of-Stmt, more_of-Stmt}
+use Rattle.core_lang.specs.declared.tree.Action.{Bind, SetLocal, SetGlobal, SetElement, SetField, Call as CallOf, Print}
+use Rattle.core_lang.specs.declared.tree.Action.{If', IfElse', While', Row_of-Stmt, end_of-Stmt, more_of-Stmt}
 use Rattle.core_lang.specs.declared.tree.Return as the_return
 use Rattle.core_lang.specs.declared.tree.Section as the_section
 use Rattle.core_lang.specs.declared.typed.Owner.{Owner}
@@ -27,16 +27,15 @@ use Rattle.core_lang.specs.declared.typed.Field as the_field
 use Rattle.core_lang.specs.declared.typed.Struct as the_struct
 use Rattle.core_lang.specs.declared.typed.Typed.{Typed}
 use Rattle.core_lang.specs.Typing.{lookup}
-use Rattle.resolution.specs.Core.{Expr, number, null, place, global, element, member, negate, owned, chain}
-use Rattle.resolution.specs.Core.{Operations, no_operations, operation, Condition, compare, negation, all_of, any_of}
-use Rattle.resolution.specs.Core.{Conditions, no_conditions, condition, Action, bind, set_local, set_global}
-use Rattle.resolution.specs.Core.{set_element, set_field, call, print, if_true, if_else, while_true, Stmts, no_stmts}
-use Rattle.resolution.specs.Core.{stmt, Return, Local, Section, LockClass, global_lock, lock_field, Protection, Field}
-use Rattle.resolution.specs.Core.{Struct, GlobalVariable, Array, Program}
-use Rattle.resolution.specs.CoreViews.{core_expr, core_operations_row, core_condition, core_conditions_row}
-use Rattle.resolution.specs.CoreViews.{core_action, core_stmts_row, core_stmts, core_return, core_local, core_section}
-use Rattle.resolution.specs.CoreViews.{core_class, core_protection, core_field, core_struct, core_global, core_array}
-use Rattle.resolution.specs.CoreViews.{core_of}
+use Rattle.resolution.specs.Core.{Expr, number, null, place, global, element, member, negate, owned, chain, Operations}
+use Rattle.resolution.specs.Core.{no_operations, operation, Condition, compare, negation, all_of, any_of, Conditions}
+use Rattle.resolution.specs.Core.{no_conditions, condition, Action, bind, set_local, set_global, set_element, set_field}
+use Rattle.resolution.specs.Core.{call, print, if_true, if_else, while_true, Stmts, no_stmts, stmt, Return, Local}
+use Rattle.resolution.specs.Core.{Section, LockClass, global_lock, lock_field, Protection, Field, Struct}
+use Rattle.resolution.specs.Core.{GlobalVariable, Array, Program}
+use Rattle.resolution.specs.CoreViews.{core_expr, core_operations_row, core_condition, core_conditions_row, core_action}
+use Rattle.resolution.specs.CoreViews.{core_stmts_row, core_stmts, core_return, core_local, core_section, core_class}
+use Rattle.resolution.specs.CoreViews.{core_protection, core_field, core_struct, core_global, core_array, core_of}
 use Rattle.flow.specs.Points.{Point, statement, result, inner_points, points_in, points_of_all, point_of_return, points}
 use Rattle.locks.specs.declared.path.Root.TheVariants as root
 use Rattle.locks.specs.Accesses.{Access, Target, global as at_global, element as at_element, field as at_field, along}
@@ -47,9 +46,9 @@ use Rattle.locks.specs.LockPaths.{StablePath, OwnerPath, is_fixed, all_final, st
 use Rattle.locks.specs.LockPaths.{owned_path, Binding, binding_at, bindings, or_behind, replaced, all_replaced}
 use Rattle.locks.specs.LockPaths.{normal_form, extended, normal_base, LockPath, global_path, under, class_if_global}
 use Rattle.locks.specs.LockPaths.{target_path, lock_path, paths_of, each_once}
-use Rattle.locks.specs.Faults.{HasSection, IsFault, Named, where_at, IsUnstable, IsUnstableOwner, IsOverLimit}
-use Rattle.locks.specs.Faults.{unstable, unstable_owner, one_too_many, unstable_base, unstable_owner_base, over_limit}
-use Rattle.core_lang.specs.Theory.Items.{get_mapped}
+use Rattle.locks.specs.Faults.{HasSection, IsFault, Named, where_at, IsUnstable, IsUnstableOwner, IsOverLimit, unstable}
+use Rattle.locks.specs.Faults.{unstable_owner, one_too_many, unstable_base, unstable_owner_base, over_limit}
+use Rattle.core_lang.specs.Theory.Items.{get_mapped, in_map, from_map, map_some}
 
 -- ---- lists and lookups seen by a view
 
@@ -73,12 +72,6 @@ viewed : {A B C : Type 0} (f : B → C) (o : Option A) (g : A → Option B) →
     option_map f (lookup o g) ≡ lookup o (λ x. option_map f (g x))
 viewed f (Some x) g = refl
 viewed f None g = refl
-
--- what a view has, is the view of something
-pub viewed_as : {A B : Type 0} (f : A → B) (o : Option A) (y : B) → option_map f o ≡ Some y →
-    (x : A) × (o ≡ Some x) × (f x ≡ y)
-viewed_as f (Some x) y is = (x, refl, cc)
-viewed_as f None y is = cc
 
 -- ---- the accesses of what is resolved
 
@@ -471,19 +464,6 @@ where_alike (statement start (IfElse' v _ block _ otherwise)) = refl
 where_alike (statement start (While' v _ body)) = refl
 where_alike (result r) = refl
 
--- what a list contains, its view does too, and the other way round
-in_view : {A B : Type 0} (f : A → B) (xs : List A) (x : A) → Contains xs x → Contains (map f xs) (f x)
-in_view f [] x c = absurd (omega (arith, c.1))
-in_view f (y ∷ xs) x (zero, lt, e) = (0, omega arith, ap f e)
-in_view f (y ∷ xs) x (suc k, lt, e) = let r = in_view f xs x (k, omega (arith, lt), e) in (suc r.0, omega (arith, r.1), r.2)
-
-from_view : {A B : Type 0} (f : A → B) (xs : List A) (b : B) → Contains (map f xs) b →
-    (x : A) × Contains xs x × (f x ≡ b)
-from_view f [] b c = absurd (omega (arith, c.1))
-from_view f (y ∷ xs) b (zero, lt, e) = (y, (0, omega arith, refl), e)
-from_view f (y ∷ xs) b (suc k, lt, e) =
-    let r = from_view f xs b (k, omega (arith, lt), e) in (r.0, (suc r.1.0, omega (arith, r.1.1), r.1.2), r.2)
-
 module _ (program other : Typed) (same : core_of program ≡ core_of other) where
   -- a section of the one is one of the other, wherever that lies
   pub section_at : (k : ℕ) (x : the_section.Section) → slice_get program.sections.items k ≡ Some x
@@ -491,7 +471,7 @@ module _ (program other : Typed) (same : core_of program ≡ core_of other) wher
   section_at k x at =
       let seen : slice_get (map core_section other.sections.items) k ≡ Some (core_section x) =
       ap (λ (p : Program). slice_get p.sections k) (sym same) ∙ get_mapped core_section program.sections.items k ∙ ap (option_map core_section) at in
-      let found = viewed_as core_section (slice_get other.sections.items k) (core_section x) (sym (get_mapped core_section other.sections.items k) ∙ seen) in
+      let found = map_some core_section (slice_get other.sections.items k) (core_section x) (sym (get_mapped core_section other.sections.items k) ∙ seen) in
       (found.0, found.1, sym found.2)
 
   section_alike : (x : the_section.Section) → HasSection program x →
@@ -528,8 +508,8 @@ module _ (program other : Typed) (same : core_of program ≡ core_of other) wher
       let found = section_alike x has in
       let y = found.0 in
       let seen : Contains (map spot (points y)) (spot point) =
-      subst (λ list. Contains list (spot point)) (points_alike x ∙ ap spots found.2 ∙ sym (points_alike y)) (in_view spot (points x) point among) in
-      let there = from_view spot (points y) (spot point) seen in
+      subst (λ list. Contains list (spot point)) (points_alike x ∙ ap spots found.2 ∙ sym (points_alike y)) (in_map spot (points x) point among) in
+      let there = from_map spot (points y) (spot point) seen in
       let stable_too : stable y named.local [] ≡ stable x named.local [] =
       stable_alike y named.local [] ∙ ap (λ (z : Section). stable_of z.locals named.local []) (sym found.2) ∙ sym (stable_alike x named.local []) in
       unstable_owner found.1 there.1 (where_alike there.0 ∙ ap where_of there.2 ∙ sym (where_alike point) ∙ at) (stable_too ∙ none)

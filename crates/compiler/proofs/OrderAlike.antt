@@ -5,8 +5,8 @@ use Rattle.std.specs.List.{Contains}
 use Rattle.source.specs.declared.fault.Fault.{Fault}
 use Rattle.core_lang.specs.declared.tree.Stmt as s
 use Rattle.core_lang.specs.declared.tree.Action as a
-use Rattle.core_lang.specs.declared.tree.Action.{Bind, SetLocal, SetGlobal, SetElement, SetField, Call as CallOf}
-use Rattle.core_lang.specs.declared.tree.Action.{Print, If', IfElse', While', Row_of-Stmt, end_of-Stmt, more_of-Stmt}
+use Rattle.core_lang.specs.declared.tree.Action.{Bind, SetLocal, SetGlobal, SetElement, SetField, Call as CallOf, Print}
+use Rattle.core_lang.specs.declared.tree.Action.{If', IfElse', While', Row_of-Stmt, end_of-Stmt, more_of-Stmt}
 use Rattle.core_lang.specs.declared.tree.Return as the_return
 use Rattle.core_lang.specs.declared.tree.Section as the_section
 use Rattle.core_lang.specs.declared.typed.LockClass as the_class
@@ -29,9 +29,9 @@ use Rattle.locks.specs.Texts.{or_nothing, lock_name, struct_name, class_text, cl
 use Rattle.lockorder.specs.Ranks.{LeadTo, IsCycle}
 use Rattle.lockorder.specs.Edges.{UsesClass, BindsClass, Makes, Edge}
 use Rattle.lockorder.specs.Faults.{arrows, cycle_text, second, StartsAt, IsFault, cycle}
-use Rattle.compiler.proofs.Alike.{looked_at, viewed_as, Spot, at_statement, at_return, spot, spots, points_alike}
-use Rattle.compiler.proofs.Alike.{accesses_of_spot, accesses_at_alike, section_at, paths_same}
-use Rattle.core_lang.specs.Theory.Items.{get_mapped}
+use Rattle.compiler.proofs.Alike.{looked_at, Spot, at_statement, at_return, spot, spots, points_alike, accesses_of_spot}
+use Rattle.compiler.proofs.Alike.{accesses_at_alike, section_at, paths_same}
+use Rattle.core_lang.specs.Theory.Items.{get_mapped, map_some}
 
 -- ---- skeletons of what is resolved
 
@@ -178,7 +178,7 @@ module _ (program other : Typed) (same : core_of program ≡ core_of other) wher
     point_at : (p : ℕ) (point : Point) → slice_get (points x) p ≡ Some point
         → (found : Point) × (slice_get (points y) p ≡ Some found) × (spot found ≡ spot point)
     point_at p point at =
-        viewed_as spot (slice_get (points y) p) (spot point)
+        map_some spot (slice_get (points y) p) (spot point)
         (sym (get_mapped spot (points y) p) ∙ ap (λ list. slice_get list p) (sym spots_same) ∙ get_mapped spot (points x) p ∙ ap (option_map spot) at)
 
     used_same : (p q : Point) → spot q ≡ spot p → paths_of program x (accesses_at p) ≡ paths_of other y (accesses_at q)

@@ -14,10 +14,9 @@ use Rattle.core_lang.specs.declared.tree.Condition.{Compare, Not', And', Or', Ro
 use Rattle.core_lang.specs.declared.tree.Condition.{more_of-Condition}
 use Rattle.core_lang.specs.declared.tree.Stmt as the_stmt
 use Rattle.core_lang.specs.declared.tree.Action as the_action
-use Rattle.core_lang.specs.declared.tree.Action.{Bind, SetLocal, SetGlobal, SetElement, SetField, Call as CallOf}
-use Rattle.core_lang.specs.declared.tree.Action.{Print, If', IfElse', While', If, IfElse, While, Row_of-Stmt}
-use Rattle.core_lang.specs.declared.tree.Action.{end_of-Stmt, more_of-Stmt, items-the_row-Stmt}
-use Rattle.core_lang.specs.declared.tree.Action.{items_hidden-the_row-Stmt-0}
+use Rattle.core_lang.specs.declared.tree.Action.{Bind, SetLocal, SetGlobal, SetElement, SetField, Call as CallOf, Print}
+use Rattle.core_lang.specs.declared.tree.Action.{If', IfElse', While', If, IfElse, While, Row_of-Stmt, end_of-Stmt}
+use Rattle.core_lang.specs.declared.tree.Action.{more_of-Stmt, items-the_row-Stmt, items_hidden-the_row-Stmt-0}
 use Rattle.core_lang.specs.declared.tree.Return as the_return
 use Rattle.core_lang.specs.declared.tree.Section as the_section
 use Rattle.core_lang.specs.Theory.Lists.{block_of, else_of}
@@ -34,9 +33,7 @@ use Rattle.resolution.specs.Core.{set_element, set_field, call, print, if_true, 
 use Rattle.resolution.specs.Core.{stmt, Return, Section}
 use Rattle.resolution.specs.CoreViews.{core_path, core_expr, core_operations_row, core_condition, core_conditions_row}
 use Rattle.resolution.specs.CoreViews.{core_action, core_stmts_row, core_stmts, core_return, core_section}
-use Rattle.core_lang.specs.Theory.Items.{not_in_none}
-
--- ---- lists
+use Rattle.core_lang.specs.Theory.Items.{not_in_none, map_at}
 
 -- ---- locals by their new numbers
 
@@ -476,12 +473,6 @@ body_follows Body bodies follow h first body r fresh (b, w, ends, own, f) =
       sym f ∙ ap (λ (z : At). z.fresh) all.at,
     )
 
-get_viewed : {X Y : Type 0} (f : X → Y) (xs : List X) (k : ℕ) (v : X) → slice_get xs k ≡ Some v →
-    slice_get (map f xs) k ≡ Some (f v)
-get_viewed f [] k v is = absurd cc
-get_viewed f (y ∷ xs) zero v is = let same : y ≡ v = cc in ap (λ z. Some (f z)) same
-get_viewed f (y ∷ xs) (suc k) v is = get_viewed f xs k v is
-
 helpers_follow : (shape : Shape) (depth : ℕ) →
     BodiesFollow (HelpersWritten shape depth) (helpers_written (map core_section shape.helpers.items) depth)
 helpers_follow shape zero helper count first body r fresh w = absurd w
@@ -489,7 +480,7 @@ helpers_follow shape (suc depth) helper count first body r fresh (h, is, e, w) =
     let bodies = helpers_written (map core_section shape.helpers.items) depth in
     let inner = body_follows (HelpersWritten shape depth) bodies (helpers_follow shape depth) h first body r fresh w in
     let found : helpers_written (map core_section shape.helpers.items) (suc depth) helper first ≡ body_written bodies (core_section h) first =
-    ap (λ o. body_if o (λ z. body_written bodies z first)) (get_viewed core_section shape.helpers.items helper h is)
+    ap (λ o. body_if o (λ z. body_written bodies z first)) (map_at core_section shape.helpers.items helper h is)
     in (
       inner.0 ∙ ap (λ (z : BodyOut). z.stmts) (sym found),
       inner.1 ∙ ap (λ (z : BodyOut). z.result) (sym found),

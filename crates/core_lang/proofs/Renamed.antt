@@ -1,6 +1,5 @@
 -- Renamed expressions and conditions have the values of their own.
-use Rattle.std.proofs.Common.{◌≡◌, ℕ, ◌+◌, List, [], ◌∷◌, length, Some, None, Option, Result, Ok, Err, Bool, refl}
-use Rattle.std.proofs.Common.{sym, ap, ◌∙◌, zero, suc}
+use Rattle.std.proofs.Common.{◌≡◌, ℕ, ◌+◌, List, [], ◌∷◌, Some, None, Option, Result, Ok, Err, Bool, refl, sym, ap, ◌∙◌}
 use Rattle.std.specs.Prelude.{slice_get, not, map, option_map}
 use Rattle.std.specs.List.{Contains}
 use Rattle.core_lang.specs.declared.value.Value.{Value}

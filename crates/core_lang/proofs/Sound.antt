@@ -1,7 +1,6 @@
 -- A well-typed section never goes astray, and leaves each value of its type.
-use Rattle.std.proofs.Common.{◌≡◌, ℕ, zero, suc, ◌+◌, ◌<◌, ◌^◌, List, [], ◌∷◌, ◌++◌, length, map, take, drop, Option}
-use Rattle.std.proofs.Common.{Some, None, Result, Ok, Err, Bool, true, false, ℤ, pos, negsuc, refl, sym, ap, ◌∙◌}
-use Rattle.std.proofs.Common.{subst, arith}
+use Rattle.std.proofs.Common.{◌≡◌, ℕ, zero, suc, ◌+◌, ◌<◌, ◌^◌, List, [], ◌∷◌, ◌++◌, length, take, Option, Some, None}
+use Rattle.std.proofs.Common.{Result, Ok, Err, Bool, true, false, ℤ, pos, negsuc, refl, sym, ap, ◌∙◌, subst, arith}
 use Rattle.std.proofs.lemmas.Bool.Decides.{nat_tests}
 use Rattle.std.proofs.lemmas.Option.{slice_get_within}
 use Rattle.std.specs.Prelude.{slice_get, slice_set, nat_lt, int_div, int_rem, ◌+ℤ◌, ◌-ℤ◌, ◌*ℤ◌, neg_ℤ, if◌then◌else◌, ⊤}
@@ -32,33 +31,33 @@ use Rattle.core_lang.specs.declared.tree.Stmt.{Stmt}
 use Rattle.core_lang.specs.declared.tree.Action.{Action, Bind, SetLocal, SetGlobal, SetElement, SetField, Call, Print}
 use Rattle.core_lang.specs.declared.tree.Action.{If', IfElse', While', Row_of-Stmt, end_of-Stmt, more_of-Stmt}
 use Rattle.core_lang.specs.declared.tree.Return.{Return}
-use Rattle.core_lang.specs.declared.tree.Local.{Local}
 use Rattle.core_lang.specs.declared.typed.Cell.{Cell}
 use Rattle.core_lang.specs.declared.typed.Owner.{Owner}
 use Rattle.core_lang.specs.declared.typed.Owner.TheVariants as owner
 use Rattle.core_lang.specs.declared.typed.Typed.{Typed}
 use Rattle.core_lang.specs.Arithmetic.{fits, is_zero, number_of, arithmetic, on_values, negated, compared}
-use Rattle.core_lang.specs.Cells.{with, found, at_index, element_cell, reference_to, member_of, field_cell}
-use Rattle.core_lang.specs.Cells.{final_value, if_named, owned, not_null, read}
+use Rattle.core_lang.specs.Cells.{with, found, at_index, element_cell, reference_to, member_of, field_cell, final_value}
+use Rattle.core_lang.specs.Cells.{if_named, owned, not_null, read}
 use Rattle.core_lang.specs.Meaning.{State, Flow, GoesOn, Traps, Beyond, Astray, Helpers, Run, Over, Beyond_turns}
 use Rattle.core_lang.specs.Meaning.{Gone_astray, along, place_of, joined, value_of, chained, values_of, and_then}
 use Rattle.core_lang.specs.Meaning.{or_else, truth_of, all_true, any_true, given, after, choose, printed, written}
 use Rattle.core_lang.specs.Meaning.{stored, turns, received, back, effect_by, effects_by, sequence_by, run_from}
 use Rattle.core_lang.specs.Meaning.{if_there, helped, deepest}
-use Rattle.core_lang.specs.Whole.{opening, default_of, default_local, returned, ending, concluded}
+use Rattle.core_lang.specs.Whole.{opening, returned, ending, concluded}
 use Rattle.core_lang.specs.declared.value.Outcome.{Outcome}
 use Rattle.core_lang.specs.declared.value.Outcome.TheVariants as out
 use Rattle.core_lang.specs.declared.tree.Section.{Section}
 use Rattle.core_lang.specs.Typing.{IsHeap, CanEnd, AreOf, Takes, IsWellTypedSection, lookup, struct_of, HasType}
-use Rattle.core_lang.specs.Typing.{HaveTypes, local_types, cell_types, final_target, field_type, if_global}
-use Rattle.core_lang.specs.Typing.{global_type, array_type, pool_struct, LeadsTo, IsPathTo, IsOf, AreIntegers}
-use Rattle.core_lang.specs.Typing.{CanCompare, IsTest, AreTests, GivesLocal, IsWellTyped, AreWellTyped, AllWellTyped}
-use Rattle.core_lang.specs.Typing.{IsResult}
+use Rattle.core_lang.specs.Typing.{HaveTypes, local_types, cell_types, final_target, field_type, if_global, global_type}
+use Rattle.core_lang.specs.Typing.{array_type, pool_struct, LeadsTo, IsPathTo, IsOf, AreIntegers, CanCompare, IsTest}
+use Rattle.core_lang.specs.Typing.{AreTests, GivesLocal, IsWellTyped, AreWellTyped, AllWellTyped, IsResult}
 use Rattle.core_lang.specs.Helpers.{CallsOnly, AllCallOnly, EachCallsOnly, IsAtMostDeep}
 use Rattle.core_lang.specs.WellFormed.{IsChecked, IsCell, IsLaidOut, IsWithinLimits}
 use Rattle.core_lang.specs.Working.Soundness.{Gives, IsTypedState, LeadsToTyped, ValuesHaveTheirTypes, TestsDecide}
 use Rattle.core_lang.specs.Working.Soundness.{EffectsStayTyped}
 use Rattle.core_lang.specs.Laws.{StaysTyped, NeverGoAstray}
+use Rattle.core_lang.specs.Theory.Openings.{opening_has}
+use Rattle.core_lang.specs.Theory.Items.{map_at, lookup_some}
 
 gives_with : {A B : Type 0} (P : A → Type 0) (Q : B → Type 0) (r : Result A Failure) (f : A → Result B Failure) →
     Gives P r → ((a : A) → P a → Gives Q (f a)) → Gives Q (with r f)
@@ -70,12 +69,6 @@ gives_if : {A : Type 0} (P : A → Type 0) (b : Bool) (r q : Result A Failure) �
     Gives P (if b then r else q)
 gives_if P true r q h k = h
 gives_if P false r q h k = k
-
--- what a number names, and what follows from it
-lookup_some : {A B : Type 0} (r : Option A) (go : A → Option B) (b : B) → lookup r go ≡ Some b →
-    (a : A) × (r ≡ Some a) × (go a ≡ Some b)
-lookup_some (Some a) go b e = (a, refl, e)
-lookup_some None go b e = cc
 
 -- ---- lists of values
 
@@ -94,12 +87,6 @@ types_set shape [] (x ∷ vs) i t v h e w = absurd h
 types_set shape (t1 ∷ ts) [] i t v h e w = absurd h
 types_set shape (t1 ∷ ts) (x ∷ vs) zero t v h e w = let same : t ≡ t1 = cc in (subst (λ t. HasType shape t v) same w, h.1)
 types_set shape (t1 ∷ ts) (x ∷ vs) (suc i) t v h e w = (h.0, types_set shape ts vs i t v h.1 e w)
-
-mapped_there : {A B : Type 0} (f : A → B) (xs : List A) (i : ℕ) (x : A) → slice_get xs i ≡ Some x →
-    slice_get (map f xs) i ≡ Some (f x)
-mapped_there f [] i x e = cc
-mapped_there f (y ∷ ys) zero x e = let same : y ≡ x = cc in ap (λ z. Some (f z)) same
-mapped_there f (y ∷ ys) (suc i) x e = mapped_there f ys i x e
 
 -- ---- operators
 
@@ -213,7 +200,7 @@ module _ (program : Typed) (types : List ValueType) (laid : IsLaidOut program) (
   IsCellOf t cell = slice_get (cell_types program) cell ≡ Some t
 
   cell_type : (place : ℕ) (owner : Owner) (t : ValueType) → IsCell program place owner t → IsCellOf t place
-  cell_type place owner t is = mapped_there (λ (cell : Cell). cell.value_type) program.cells.items place is.cell is.here ∙ ap Some is.typed
+  cell_type place owner t is = map_at (λ (cell : Cell). cell.value_type) program.cells.items place is.cell is.here ∙ ap Some is.typed
 
   global_owner : (o : Owner) (s t : ValueType) → if_global o s ≡ Some t → s ≡ t
   global_owner (owner.Global g) s t e = cc
@@ -223,7 +210,7 @@ module _ (program : Typed) (types : List ValueType) (laid : IsLaidOut program) (
   global_cell : (cell : ℕ) (t : ValueType) → global_type program cell ≡ Some t → IsCellOf t cell
   global_cell cell t e =
       let x = lookup_some (slice_get program.cells.items cell) (λ (c : Cell). if_global c.owner c.value_type) t e in
-      mapped_there (λ (c : Cell). c.value_type) program.cells.items cell x.0 x.1 ∙ ap Some (global_owner x.0.owner x.0.value_type t x.2)
+      map_at (λ (c : Cell). c.value_type) program.cells.items cell x.0 x.1 ∙ ap Some (global_owner x.0.owner x.0.value_type t x.2)
 
   abbrev IsTyped : State → Type 0
   IsTyped = IsTypedState program types
@@ -577,23 +564,6 @@ module _ (program : Typed) (types : List ValueType) (laid : IsLaidOut program) (
   each_calls_there P all (x ∷ xs) is = (calls_there P all x.action is.0, each_calls_there P all xs is.1)
 
 -- ---- the opening state
-
-default_has : (shape : Shape) (t : ValueType) → HasType shape t (default_of t)
-default_has shape Integer = tt
-default_has shape (Reference s) = tt
-
-defaults_have : (shape : Shape) (locals : List Local) → HaveTypes shape (local_types locals) (map default_local locals)
-defaults_have shape [] = tt
-defaults_have shape (l ∷ ls) = (default_has shape l.value_type, defaults_have shape ls)
-
-opening_has : (shape : Shape) (k : ℕ) (locals : List Local) (arguments : List Value) →
-    HaveTypes shape (local_types (take k locals)) arguments →
-    HaveTypes shape (local_types locals) (arguments ++ map default_local (drop (length arguments) locals))
-opening_has shape k locals [] h = defaults_have shape locals
-opening_has shape zero [] (v ∷ vs) h = absurd h
-opening_has shape zero (l ∷ ls) (v ∷ vs) h = absurd h
-opening_has shape (suc k) [] (v ∷ vs) h = absurd h
-opening_has shape (suc k) (l ∷ ls) (v ∷ vs) h = (h.0, opening_has shape k ls vs h.1)
 
 module _ (program : Typed) (well : IsChecked program) (n : ℕ) where
   body_sound : (section : Section) (call : Helpers) (P : ℕ → Type 0) → HelpersSound program P call →

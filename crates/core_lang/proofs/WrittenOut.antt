@@ -1,7 +1,6 @@
 -- A section with its helpers written out means what it meant.
-use Rattle.std.proofs.Common.{◌≡◌, ℕ, zero, suc, ◌+◌, ◌<◌, ◌≤◌, ℤ, List, [], ◌∷◌, ◌++◌, length, map, drop, Option}
-use Rattle.std.proofs.Common.{Some, None, Result, Ok, Err, Bool, true, false, refl, sym, ap, ◌∙◌, subst, arith, inl}
-use Rattle.std.proofs.Common.{inr}
+use Rattle.std.proofs.Common.{◌≡◌, ℕ, zero, suc, ◌+◌, ◌<◌, ◌≤◌, ℤ, List, [], ◌∷◌, ◌++◌, length, map, drop, Option, Some}
+use Rattle.std.proofs.Common.{None, Result, Ok, Err, Bool, true, false, refl, sym, ap, ◌∙◌, subst, arith, inl, inr}
 use Rattle.std.specs.Prelude.{slice_get, slice_set, nat_lt, if◌then◌else◌, ⊤}
 use Rattle.std.specs.List.{Contains}
 use Rattle.std.proofs.lemmas.Option.{none-some}
@@ -23,20 +22,20 @@ use Rattle.core_lang.specs.declared.tree.Return.{Return}
 use Rattle.core_lang.specs.declared.tree.Local.{Local}
 use Rattle.core_lang.specs.declared.tree.Section.{Section}
 use Rattle.core_lang.specs.Cells.{with, found, element_cell, field_cell, not_null, read}
-use Rattle.core_lang.specs.Meaning.{State, Flow, GoesOn, Traps, Beyond, Astray, Helpers, Run, Over, place_of}
-use Rattle.core_lang.specs.Meaning.{value_of, values_of, truth_of, given, after, choose, printed, written, stored}
-use Rattle.core_lang.specs.Meaning.{turns, over, returned, ending, concluded, default_local, opening, back, effect_by}
-use Rattle.core_lang.specs.Meaning.{effects_by, sequence_by, run_from, if_there, helped, deepest, effect_of, sequence}
-use Rattle.core_lang.specs.Theory.Lists.{effect_of-If, effect_of-IfElse, effect_of-While}
+use Rattle.core_lang.specs.Meaning.{State, Flow, GoesOn, Traps, Beyond, Astray, Helpers, Run, Over, place_of, value_of}
+use Rattle.core_lang.specs.Meaning.{values_of, truth_of, given, after, choose, printed, written, stored, turns, over}
+use Rattle.core_lang.specs.Meaning.{returned, ending, concluded, default_local, opening, back, effect_by, effects_by}
+use Rattle.core_lang.specs.Meaning.{sequence_by, run_from, if_there, helped, deepest, effect_of, sequence}
+use Rattle.core_lang.specs.Theory.Lists.{effect_of-If, effect_of-IfElse, effect_of-While, after-same}
 use Rattle.core_lang.specs.Whole.{run_of}
-use Rattle.core_lang.specs.Expansion.{Pair, pair, At, Renames, RenamesTest, RenamesResult, HasSamePlaces}
-use Rattle.core_lang.specs.Expansion.{behind_bound, behind_block, parameters_at, entered, one, Arguments, Bound}
-use Rattle.core_lang.specs.Expansion.{Bodies, Writes, WritesRow, WritesAll, WritesBody, HelpersWritten, IsWrittenOut}
+use Rattle.core_lang.specs.Expansion.{Pair, pair, At, Renames, RenamesTest, RenamesResult, HasSamePlaces, behind_bound}
+use Rattle.core_lang.specs.Expansion.{behind_block, parameters_at, entered, one, Arguments, Bound, Bodies, Writes}
+use Rattle.core_lang.specs.Expansion.{WritesRow, WritesAll, WritesBody, HelpersWritten, IsWrittenOut}
 use Rattle.core_lang.proofs.Renamed.{Agree, value_same, truth_same, place_same, element_same, cell_same}
-use Rattle.core_lang.proofs.WrittenScopes.{get_set_same, get_set_other, length_set, there, Ordered, first_below}
-use Rattle.core_lang.proofs.WrittenScopes.{all_below, raised, set_agree, new_agree, bound_agree, BodiesGrow}
-use Rattle.core_lang.proofs.WrittenScopes.{writes_grow, row_grows, all_grow, helpers_grow}
-use Rattle.core_lang.specs.Theory.Items.{not_in_none, in_cases}
+use Rattle.core_lang.proofs.WrittenScopes.{get_set_same, get_set_other, length_set, Ordered, first_below, all_below}
+use Rattle.core_lang.proofs.WrittenScopes.{raised, set_agree, new_agree, bound_agree, BodiesGrow, writes_grow}
+use Rattle.core_lang.proofs.WrittenScopes.{row_grows, all_grow, helpers_grow}
+use Rattle.core_lang.specs.Theory.Items.{not_in_none, in_cases, get_some}
 
 -- ---- flows
 
@@ -52,17 +51,11 @@ after_after (Traps t s) f g = refl
 after_after Beyond f g = refl
 after_after Astray f g = refl
 
-after_with : (flow : Flow) (f g : State → Flow) → ((s : State) → f s ≡ g s) → after flow f ≡ after flow g
-after_with (GoesOn s) f g h = h s
-after_with (Traps t s) f g h = refl
-after_with Beyond f g h = refl
-after_with Astray f g h = refl
-
 sequence_append : (xs ys : List Stmt) (shape : Shape) (n : ℕ) (s : State) →
     sequence (xs ++ ys) shape n s ≡ after (sequence xs shape n s) (sequence ys shape n)
 sequence_append [] ys shape n s = refl
 sequence_append (x ∷ xs) ys shape n s =
-    after_with (effect_of x.action shape n s) (sequence (xs ++ ys) shape n) (λ t. after (sequence xs shape n t) (sequence ys shape n)) (λ t. sequence_append xs ys shape n t)
+    after-same (effect_of x.action shape n s) (sequence (xs ++ ys) shape n) (λ t. after (sequence xs shape n t) (sequence ys shape n)) (λ t. sequence_append xs ys shape n t)
     ∙ sym (after_after (effect_of x.action shape n s) (sequence xs shape n) (sequence ys shape n))
 
 stored_there : (k : ℕ) (v old : Value) (s : State) → slice_get s.locals k ≡ Some old →
@@ -214,8 +207,8 @@ module _ (shape shape' : Shape) (same : HasSamePlaces shape shape') (n : ℕ) (c
   bound_linked a v s s' o lt lt' l =
       let at : a.own < length s.locals = let c = l.own_count in omega (arith, c, lt) in
       let at' : a.fresh < length s'.locals = let c = l.count in omega (arith, c, lt') in
-      let x = there s.locals a.own at in
-      let x' = there s'.locals a.fresh at' in
+      let x = get_some s.locals a.own at in
+      let x' = get_some s'.locals a.fresh at' in
       let low = first_below first a.own a.fresh a.scope o in
       both (pair a.own a.fresh ∷ a.scope) (stored a.own v s) (GoesOn (record s { locals = slice_set s.locals a.own v }))
       (stored a.fresh v s') (GoesOn (record s' { locals = slice_set s'.locals a.fresh v })) (stored_there a.own v x.0 s x.1) (stored_there a.fresh v x'.0 s' x'.1)
@@ -269,7 +262,7 @@ module _ (shape shape' : Shape) (same : HasSamePlaces shape shape') (n : ℕ) (c
       (after (given q s' (λ v. stored fresh v s')) (sequence rest shape' n))
   argument_on (Ok v) scope own es fresh rest s s' o lt l ih =
       let at : fresh < length s'.locals = let c = l.count in omega (arith, c, lt) in
-      let old = there s'.locals fresh at in
+      let old = get_some s'.locals fresh at in
       let low = first_below first own fresh scope o in
       let next : State = record s' { locals = slice_set s'.locals fresh v } in
       let linked : Linked scope s next =
@@ -309,7 +302,7 @@ module _ (shape shape' : Shape) (same : HasSamePlaces shape shape') (n : ℕ) (c
   result_on (Ok v) a b None r fresh last s u w o le le' l =
       let lt : fresh < many' = let e = ap (λ (z : At). z.fresh) w.1 in omega (arith, e, le') in
       let at : fresh < length u.locals = let c = l.count in omega (arith, c, lt) in
-      let old = there u.locals fresh at in
+      let old = get_some u.locals fresh at in
       let low = first_below first a.own fresh a.scope o in
       subst (λ (z : At). LinkedFlow z.scope (GoesOn (returns_to s u)) (stored fresh v u)) (sym w.1)
       (subst (LinkedFlow a.scope (GoesOn (returns_to s u))) (sym (stored_there fresh v old.0 u old.1))
@@ -429,7 +422,7 @@ module _ (shape shape' : Shape) (same : HasSamePlaces shape shape') (n : ℕ) (c
         let more = bodies k (length es.items) a.fresh body r fresh inside in
         let together : sequence ys shape' n s' ≡ after (sequence lets shape' n s') (λ t. after (sequence body shape' n t) (sequence last shape' n)) =
         ap (λ zs. sequence zs shape' n s') e ∙ sequence_append lets (body ++ last) shape' n s'
-        ∙ after_with (sequence lets shape' n s') (sequence (body ++ last) shape' n) (λ t. after (sequence body shape' n t) (sequence last shape' n))
+        ∙ after-same (sequence lets shape' n s') (sequence (body ++ last) shape' n) (λ t. after (sequence body shape' n t) (sequence last shape' n))
         (λ t. sequence_append body last shape' n t) in
         subst (LinkedFlow b.scope (effect_by call (Call k es result) shape n s)) (sym together)
         (call_on (values_of es.items shape s.locals s.heap) (sequence lets shape' n s') k (length es.items) a b result r fresh body last s s'

@@ -35,11 +35,6 @@ length_set [] k v = refl
 length_set (x ∷ xs) zero v = refl
 length_set (x ∷ xs) (suc k) v = ap suc (length_set xs k v)
 
-pub there : (xs : List Value) (k : ℕ) → k < length xs → (v : Value) × (slice_get xs k ≡ Some v)
-there [] k lt = absurd (omega (arith, lt))
-there (x ∷ xs) zero lt = (x, refl)
-there (x ∷ xs) (suc k) lt = there xs k (omega (arith, lt))
-
 same_or_not : (a b : ℕ) → (a ≡ b) ⊎ (a ≡ b → ⊥)
 same_or_not zero zero = inl refl
 same_or_not zero (suc b) = inr (λ e. omega (arith, e))

@@ -2,3 +2,4 @@
 pub mod Items
 pub mod Checked
 pub mod Lists
+pub mod Openings

@@ -1,15 +1,15 @@
 -- The listed faults are the faults of the graph.
-use Rattle.std.proofs.Common.{◌≡◌, ℕ, zero, suc, ◌+◌, ◌<◌, ◌≤◌, Bool, true, false, not, List, [], ◌∷◌, ◌++◌, ◌⊎◌, inl}
-use Rattle.std.proofs.Common.{inr, refl, sym, ◌∙◌, subst, append_assoc, arith}
+use Rattle.std.proofs.Common.{◌≡◌, ℕ, zero, suc, ◌+◌, ◌<◌, ◌≤◌, Bool, true, false, not, List, [], ◌∷◌, ◌++◌, inl, inr}
+use Rattle.std.proofs.Common.{refl, sym, ◌∙◌, subst, append_assoc, arith}
 use Rattle.std.specs.Prelude.{nat_lt, nat_le, ◌==◌, slice_get, Some}
 use Rattle.std.specs.List.{flat_map, sum_by}
-use Rattle.std.proofs.lemmas.Bool.{and_parts, and_from, or_cases, or_left, or_right, eq-eqb, eqb-true, lt-ltb}
-use Rattle.std.proofs.lemmas.Bool.{ltb-true, le-leb, leb-true, not-true, not_from_false}
+use Rattle.std.proofs.lemmas.Bool.{and_parts, and_from, or_cases, or_left, or_right, eq-eqb, eqb-true, lt-ltb, ltb-true}
+use Rattle.std.proofs.lemmas.Bool.{le-leb, leb-true, not-true, not_from_false}
 use Rattle.std.proofs.lemmas.List.Sums.{sum_by_push, sum_by-cons}
 use Rattle.source.specs.declared.fault.Code.{Code}
 use Rattle.source.specs.declared.fault.Code.TheVariants.{LimitExceeded, RecursiveHelper}
 use Rattle.source.specs.declared.mistake.Mistake.{Mistake}
-use Rattle.source.specs.Theory.Leasts.{IsAmong}
+use Rattle.source.specs.Theory.Leasts.{IsAmong, among_left, among_right, among_either}
 use Rattle.core_lang_calls.specs.declared.graph.CallSite.{CallSite}
 use Rattle.core_lang_calls.specs.Graphs.{Body, Graph}
 use Rattle.core_lang_calls.specs.Recursion.{LeadsTo}
@@ -19,9 +19,9 @@ use Rattle.core_lang_calls.specs.Working.Tables.{reaches}
 use Rattle.core_lang_calls.specs.Faults.{DEPTH_LIMIT, LOCAL_LIMIT, POINT_LIMIT, IsRecursive, recursive_call}
 use Rattle.core_lang_calls.specs.Faults.{IsOverLimit, too_deep, too_many_locals, too_many_points, IsGraphFault}
 use Rattle.core_lang_calls.specs.Faults.{recursive, over_limit}
-use Rattle.core_lang_calls.specs.Working.FaultLists.{told_if, leads_back, recursion_faults, is_too_deep}
-use Rattle.core_lang_calls.specs.Working.FaultLists.{helper_faults, helpers_faults, first_too_many, call_faults}
-use Rattle.core_lang_calls.specs.Working.FaultLists.{section_faults, graph_faults}
+use Rattle.core_lang_calls.specs.Working.FaultLists.{told_if, leads_back, recursion_faults, is_too_deep, helper_faults}
+use Rattle.core_lang_calls.specs.Working.FaultLists.{helpers_faults, first_too_many, call_faults, section_faults}
+use Rattle.core_lang_calls.specs.Working.FaultLists.{graph_faults}
 use Rattle.core_lang_calls.proofs.Closing.{reaches_all, all_reaches}
 
 -- ---- what is in lists
@@ -37,27 +37,13 @@ is_told : (b : Bool) (code : Code) (start : ℕ) → b ≡ true →
 is_told true code start e = inl refl
 is_told false code start e = absurd cc
 
-in_left : (f : Mistake) (a b : List Mistake) → IsAmong f a → IsAmong f (a ++ b)
-in_left f [] b h = absurd h
-in_left f (g ∷ a) b (inl e) = inl e
-in_left f (g ∷ a) b (inr h) = inr (in_left f a b h)
-
-in_right : (f : Mistake) (a b : List Mistake) → IsAmong f b → IsAmong f (a ++ b)
-in_right f [] b h = h
-in_right f (g ∷ a) b h = inr (in_right f a b h)
-
-in_either : (f : Mistake) (a b : List Mistake) → IsAmong f (a ++ b) → IsAmong f a ⊎ IsAmong f b
-in_either f [] b h = inr h
-in_either f (g ∷ a) b (inl e) = inl (inl e)
-in_either f (g ∷ a) b (inr h) = elim (in_either f a b h) [ inl x ↦ inl (inr x) | inr y ↦ inr y ]
-
 abbrev InOne : {X : Type 0} → (X → List Mistake) → List X → Mistake → Type 0
 InOne {X} faults xs f = (k : ℕ) × ((x : X) × (slice_get xs k ≡ Some x) × IsAmong f (faults x))
 
 in_one : {X : Type 0} (faults : X → List Mistake) (xs : List X) (f : Mistake) → IsAmong f (flat_map faults xs) →
     InOne faults xs f
 in_one faults [] f h = absurd h
-in_one faults (x ∷ xs) f h = elim (in_either f (faults x) (flat_map faults xs) h) [
+in_one faults (x ∷ xs) f h = elim (among_either f (faults x) (flat_map faults xs) h) [
   | inl here ↦ (0, (x, refl, here))
   | inr later ↦ let r = in_one faults xs f later in (suc r.0, r.1)
 ]
@@ -65,8 +51,8 @@ in_one faults (x ∷ xs) f h = elim (in_either f (faults x) (flat_map faults xs)
 in_all : {X : Type 0} (faults : X → List Mistake) (xs : List X) (f : Mistake) (k : ℕ) (x : X) →
     slice_get xs k ≡ Some x → IsAmong f (faults x) → IsAmong f (flat_map faults xs)
 in_all faults [] f k x is h = absurd cc
-in_all faults (y ∷ xs) f zero x is h = let same : y ≡ x = cc in in_left f (faults y) (flat_map faults xs) (subst (λ z. IsAmong f (faults z)) (sym same) h)
-in_all faults (y ∷ xs) f (suc k) x is h = in_right f (faults y) (flat_map faults xs) (in_all faults xs f k x is h)
+in_all faults (y ∷ xs) f zero x is h = let same : y ≡ x = cc in among_left f (faults y) (flat_map faults xs) (subst (λ z. IsAmong f (faults z)) (sym same) h)
+in_all faults (y ∷ xs) f (suc k) x is h = among_right f (faults y) (flat_map faults xs) (in_all faults xs f k x is h)
 
 -- ---- helpers
 
@@ -90,7 +76,7 @@ module _ (graph : Graph) where
   helper_true : (k : ℕ) (b : Body) (f : Mistake) → slice_get graph.helpers k ≡ Some b →
       IsAmong f (helper_faults graph.helpers k b) → Holds f
   helper_true k b f is h =
-      elim (in_either f (told_if (is_too_deep graph.helpers k) LimitExceeded b.start) (flat_map (recursion_faults graph.helpers k) b.calls) h) [
+      elim (among_either f (told_if (is_too_deep graph.helpers k) LimitExceeded b.start) (flat_map (recursion_faults graph.helpers k) b.calls) h) [
         | inl deep ↦
             let t = told (is_too_deep graph.helpers k) LimitExceeded b.start f deep in
             let p : (nat_lt DEPTH_LIMIT (depth graph.helpers k) ≡ true) × (not (is_endless graph.helpers k) ≡ true) = and_parts (nat_lt DEPTH_LIMIT (depth graph.helpers k)) (not (is_endless graph.helpers k)) t.0 in
@@ -105,7 +91,7 @@ module _ (graph : Graph) where
   helpers_one : (f : Mistake) (n : ℕ) (bs : List Body) → IsAmong f (helpers_faults graph.helpers n bs) →
       (k : ℕ) × ((b : Body) × (slice_get bs k ≡ Some b) × IsAmong f (helper_faults graph.helpers (n + k) b))
   helpers_one f n [] h = absurd h
-  helpers_one f n (b ∷ bs) h = elim (in_either f (helper_faults graph.helpers n b) (helpers_faults graph.helpers (n + 1) bs) h) [
+  helpers_one f n (b ∷ bs) h = elim (among_either f (helper_faults graph.helpers n b) (helpers_faults graph.helpers (n + 1) bs) h) [
     | inl here ↦ (0, (b, refl, subst (λ (k : ℕ). IsAmong f (helper_faults graph.helpers k b)) (let e : n ≡ n + 0 = omega arith in e) here))
     | inr later ↦
         let r = helpers_one f (n + 1) bs later in
@@ -119,10 +105,10 @@ module _ (graph : Graph) where
   helpers_all f n [] k b is h = absurd cc
   helpers_all f n (x ∷ bs) zero b is h =
       let same : x ≡ b = cc in
-      in_left f (helper_faults graph.helpers n x) (helpers_faults graph.helpers (n + 1) bs)
+      among_left f (helper_faults graph.helpers n x) (helpers_faults graph.helpers (n + 1) bs)
       (subst (λ (y : Body). IsAmong f (helper_faults graph.helpers n y)) (sym same) (subst (λ (m : ℕ). IsAmong f (helper_faults graph.helpers m b)) (let e : n + 0 ≡ n = omega arith in e) h))
   helpers_all f n (x ∷ bs) (suc k) b is h =
-      in_right f (helper_faults graph.helpers n x) (helpers_faults graph.helpers (n + 1) bs)
+      among_right f (helper_faults graph.helpers n x) (helpers_faults graph.helpers (n + 1) bs)
       (helpers_all f (n + 1) bs k b is (subst (λ (m : ℕ). IsAmong f (helper_faults graph.helpers m b)) (let e : n + suc k ≡ n + 1 + k = omega arith in e) h))
 
   -- ---- sections
@@ -149,8 +135,8 @@ module _ (graph : Graph) where
       let one : List Mistake = told_if (first_too_many LOCAL_LIMIT locals L) LimitExceeded c.start in
       let two : List Mistake = told_if (first_too_many POINT_LIMIT points P) LimitExceeded c.start in
       let rest : List Mistake = call_faults graph.helpers (locals + L) (points + P) cs in
-      elim (in_either f (one ++ two) rest h) [
-        | inl here ↦ elim (in_either f one two here) [
+      elim (among_either f (one ++ two) rest h) [
+        | inl here ↦ elim (among_either f one two here) [
           | inl x ↦
               let t = told (first_too_many LOCAL_LIMIT locals L) LimitExceeded c.start f x in
               let p = first_parts LOCAL_LIMIT locals L t.0 in
@@ -176,7 +162,7 @@ module _ (graph : Graph) where
       let P : ℕ = brought_points graph.helpers c in
       let l_is : locals + 0 ≡ locals = omega arith in
       let p_is : points + 0 ≡ points = omega arith in
-      in_left f (told_if (first_too_many LOCAL_LIMIT locals L) LimitExceeded c.start ++ told_if (first_too_many POINT_LIMIT points P) LimitExceeded c.start)
+      among_left f (told_if (first_too_many LOCAL_LIMIT locals L) LimitExceeded c.start ++ told_if (first_too_many POINT_LIMIT points P) LimitExceeded c.start)
       (call_faults graph.helpers (locals + L) (points + P) behind)
       (subst (λ (n : ℕ). IsAmong f (told_if (first_too_many LOCAL_LIMIT locals L) LimitExceeded c.start ++ told_if (first_too_many POINT_LIMIT n P) LimitExceeded c.start)) p_is
       (subst (λ (n : ℕ). IsAmong f (told_if (first_too_many LOCAL_LIMIT n L) LimitExceeded c.start ++ told_if (first_too_many POINT_LIMIT (points + 0) P) LimitExceeded c.start)) l_is h))
@@ -189,7 +175,7 @@ module _ (graph : Graph) where
       let e = sum_by-cons (brought_locals graph.helpers) x before in omega (arith, e) in
       let p_is : points + sum_by (brought_points graph.helpers) (x ∷ before) ≡ points + P + sum_by (brought_points graph.helpers) before =
       let e = sum_by-cons (brought_points graph.helpers) x before in omega (arith, e) in
-      in_right f (told_if (first_too_many LOCAL_LIMIT locals L) LimitExceeded x.start ++ told_if (first_too_many POINT_LIMIT points P) LimitExceeded x.start)
+      among_right f (told_if (first_too_many LOCAL_LIMIT locals L) LimitExceeded x.start ++ told_if (first_too_many POINT_LIMIT points P) LimitExceeded x.start)
       (call_faults graph.helpers (locals + L) (points + P) (before ++ c ∷ behind))
       (calls_all f before behind c (locals + L) (points + P)
       (subst (λ (n : ℕ). IsAmong f (told_if (first_too_many LOCAL_LIMIT (locals + L + sum_by (brought_locals graph.helpers) before) C) LimitExceeded c.start ++ told_if (first_too_many POINT_LIMIT n D) LimitExceeded c.start)) p_is
@@ -202,7 +188,7 @@ module _ (graph : Graph) where
   -- ---- the whole
 
   pub listed_true : (f : Mistake) → IsAmong f (graph_faults graph) → Holds f
-  listed_true f h = elim (in_either f (helpers_faults graph.helpers 0 graph.helpers) (flat_map (section_faults graph.helpers) graph.sections) h) [
+  listed_true f h = elim (among_either f (helpers_faults graph.helpers 0 graph.helpers) (flat_map (section_faults graph.helpers) graph.sections) h) [
     | inl x ↦
         let r = helpers_one f 0 graph.helpers x in
         let k : ℕ = r.0 in
@@ -213,13 +199,13 @@ module _ (graph : Graph) where
   in_helpers : (f : Mistake) (k : ℕ) (b : Body) → slice_get graph.helpers k ≡ Some b →
       IsAmong f (helper_faults graph.helpers k b) → IsAmong f (graph_faults graph)
   in_helpers f k b is h =
-      in_left f (helpers_faults graph.helpers 0 graph.helpers) (flat_map (section_faults graph.helpers) graph.sections)
+      among_left f (helpers_faults graph.helpers 0 graph.helpers) (flat_map (section_faults graph.helpers) graph.sections)
       (helpers_all f 0 graph.helpers k b is (subst (λ (m : ℕ). IsAmong f (helper_faults graph.helpers m b)) (let e : k ≡ 0 + k = omega arith in e) h))
 
   in_sections : (f : Mistake) (s : ℕ) (b : Body) → slice_get graph.sections s ≡ Some b →
       IsAmong f (section_faults graph.helpers b) → IsAmong f (graph_faults graph)
   in_sections f s b is h =
-      in_right f (helpers_faults graph.helpers 0 graph.helpers) (flat_map (section_faults graph.helpers) graph.sections)
+      among_right f (helpers_faults graph.helpers 0 graph.helpers) (flat_map (section_faults graph.helpers) graph.sections)
       (in_all (section_faults graph.helpers) graph.sections f s b is h)
 
   listed_call : (f : Mistake) (s : ℕ) (b : Body) (before behind : List CallSite) (c : CallSite) →
@@ -233,21 +219,21 @@ module _ (graph : Graph) where
   over_listed : (p : ℕ) → IsOverLimit graph p →
       IsAmong (record { code = LimitExceeded; start = p }) (graph_faults graph)
   over_listed p (too_deep k {body = b} is ends deep) =
-      in_helpers _ k b is (in_left _ (told_if (is_too_deep graph.helpers k) LimitExceeded b.start) (flat_map (recursion_faults graph.helpers k) b.calls)
+      in_helpers _ k b is (among_left _ (told_if (is_too_deep graph.helpers k) LimitExceeded b.start) (flat_map (recursion_faults graph.helpers k) b.calls)
       (is_told (is_too_deep graph.helpers k) LimitExceeded b.start
       (and_from (nat_lt DEPTH_LIMIT (depth graph.helpers k)) (not (is_endless graph.helpers k)) (lt-ltb DEPTH_LIMIT (depth graph.helpers k) deep) (not_from_false (is_endless graph.helpers k) ends))))
   over_listed p (too_many_locals s before behind c {section = b} is all le lt) =
-      listed_call _ s b before behind c is all (in_left _ _ _ (is_told _ LimitExceeded c.start (first_from LOCAL_LIMIT _ (brought_locals graph.helpers c) le lt)))
+      listed_call _ s b before behind c is all (among_left _ _ _ (is_told _ LimitExceeded c.start (first_from LOCAL_LIMIT _ (brought_locals graph.helpers c) le lt)))
   over_listed p (too_many_points s before behind c {section = b} is all le lt) =
       let sum : ℕ = sum_by (brought_points graph.helpers) before in
       let le' : 0 + sum ≤ POINT_LIMIT = omega (arith, le) in
       let lt' : POINT_LIMIT < 0 + sum + brought_points graph.helpers c = omega (arith, lt) in
-      listed_call _ s b before behind c is all (in_right _ _ _ (is_told _ LimitExceeded c.start (first_from POINT_LIMIT (0 + sum) (brought_points graph.helpers c) le' lt')))
+      listed_call _ s b before behind c is all (among_right _ _ _ (is_told _ LimitExceeded c.start (first_from POINT_LIMIT (0 + sum) (brought_points graph.helpers c) le' lt')))
 
   recursive_listed : (p : ℕ) → IsRecursive graph p →
       IsAmong (record { code = RecursiveHelper; start = p }) (graph_faults graph)
   recursive_listed p (recursive_call f k {body = b} {c = c} is at leads) =
-      in_helpers _ f b is (in_right _ (told_if (is_too_deep graph.helpers f) LimitExceeded b.start) (flat_map (recursion_faults graph.helpers f) b.calls)
+      in_helpers _ f b is (among_right _ (told_if (is_too_deep graph.helpers f) LimitExceeded b.start) (flat_map (recursion_faults graph.helpers f) b.calls)
       (in_all (recursion_faults graph.helpers f) b.calls _ k c at (is_told (leads_back graph.helpers f c) RecursiveHelper c.start (forth f c leads))))
 
   pub true_listed : (code : Code) (p : ℕ) → IsGraphFault graph code p →

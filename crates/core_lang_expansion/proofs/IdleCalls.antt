@@ -1,8 +1,8 @@
 -- Calls of helpers that do nothing are written out as nothing.
-use Rattle.std.proofs.Common.{◌≡◌, ◌⊎◌, inl, inr, ℕ, zero, suc, ◌+◌, ◌≤◌, ◌==◌, ◌&&◌, Bool, true, false, not, List}
-use Rattle.std.proofs.Common.{[], ◌∷◌, ◌++◌, length, map, take, Option, Some, None, refl, sym, ap, ◌∙◌, subst, arith}
+use Rattle.std.proofs.Common.{◌≡◌, ◌⊎◌, inl, inr, ℕ, zero, suc, ◌+◌, ◌≤◌, ◌==◌, ◌&&◌, Bool, true, false, not, List, []}
+use Rattle.std.proofs.Common.{◌∷◌, ◌++◌, length, map, take, Option, Some, None, refl, sym, ap, ◌∙◌, subst, arith}
 use Rattle.std.specs.Prelude.{◌<◌, slice_get, slice_set, slice_index_or, is_some}
-use Rattle.std.proofs.lemmas.Bool.{eqb-true}
+use Rattle.std.proofs.lemmas.Bool.{eqb-true, and_parts}
 use Rattle.std.proofs.lemmas.List.{append-nil}
 use Rattle.core_lang.specs.declared.tree.Action.{Action, Bind, SetLocal, SetGlobal, SetElement, SetField, Call, Print}
 use Rattle.core_lang.specs.declared.tree.Action.{If', IfElse', While'}
@@ -24,10 +24,6 @@ use Rattle.core_lang_expansion.specs.Working.IdleHelpers.{is_idle, AreIdle}
 
 -- ---- what the tests say
 
-both : (a b : Bool) → (a && b) ≡ true → (a ≡ true) × (b ≡ true)
-both true b e = (refl, e)
-both false b e = absurd cc
-
 empty : {A : Type 0} → (xs : List A) → (length xs == 0) ≡ true → xs ≡ []
 empty [] e = refl
 empty (x ∷ xs) e = let z : length (x ∷ xs) ≡ 0 = eqb-true (length (x ∷ xs)) 0 e in absurd (omega (arith, z))
@@ -46,10 +42,10 @@ record IsIdleBody (idle : ℕ → Bool) (helper : Section) : Type 0 where
 
 facts : (idle : ℕ → Bool) (h : Section) → is_idle_body idle h ≡ true → IsIdleBody idle h
 facts idle h e =
-    let a = both _ (are_idle_calls idle h.body.items) e in
-    let b = both _ (not (is_some h.result)) a.0 in
-    let c = both _ (not (is_some h.result_type)) b.0 in
-    let d = both (h.parameters == 0) (length h.locals.items == 0) c.0 in record {
+    let a = and_parts _ (are_idle_calls idle h.body.items) e in
+    let b = and_parts _ (not (is_some h.result)) a.0 in
+    let c = and_parts _ (not (is_some h.result_type)) b.0 in
+    let d = and_parts (h.parameters == 0) (length h.locals.items == 0) c.0 in record {
       parameters = eqb-true h.parameters 0 d.0;
       locals = empty h.locals.items d.1;
       result_type = none_of h.result_type c.1;
@@ -65,7 +61,7 @@ there None test e = absurd cc
 -- ---- calls that go less deep
 
 and_map : (a b c d : Bool) → (a ≡ true → c ≡ true) → (b ≡ true → d ≡ true) → (a && b) ≡ true → (c && d) ≡ true
-and_map a b c d f g e = let h = both a b e in ap (λ x. x && d) (f h.0) ∙ g h.1
+and_map a b c d f g e = let h = and_parts a b e in ap (λ x. x && d) (f h.0) ∙ g h.1
 
 call_map : (P Q : ℕ → Bool) → ((g : ℕ) → P g ≡ true → Q g ≡ true) → (x : Action) → is_idle_call P x ≡ true →
     is_idle_call Q x ≡ true
@@ -91,7 +87,7 @@ calls_map P Q f (x ∷ xs) h =
 body_map : (P Q : ℕ → Bool) → ((g : ℕ) → P g ≡ true → Q g ≡ true) → (h : Section) → is_idle_body P h ≡ true →
     is_idle_body Q h ≡ true
 body_map P Q f h e =
-    let a = both _ (are_idle_calls P h.body.items) e in
+    let a = and_parts _ (are_idle_calls P h.body.items) e in
     ap (λ b. b && are_idle_calls Q h.body.items) a.0 ∙ calls_map P Q f h.body.items a.1
 
 section_map : (o : Option Section) (P Q : Section → Bool) → ((h : Section) → P h ≡ true → Q h ≡ true) →
@@ -116,7 +112,7 @@ all_write : (P : ℕ → Bool) (Body : Bodies) →
     (xs : List Stmt) (a : At) → are_idle_calls P xs ≡ true → WritesAll Body xs a [] a
 all_write P Body one [] a h = (refl, refl)
 all_write P Body one (x ∷ xs) a h =
-    let e = both (is_idle_call P x.action) (are_idle_calls P xs) h in
+    let e = and_parts (is_idle_call P x.action) (are_idle_calls P xs) h in
     ([], [], a, one x.action x.start a e.0, all_write P Body one xs a e.1, refl)
 
 body_writes : (P : ℕ → Bool) (Body : Bodies) →
@@ -135,9 +131,9 @@ body_writes P Body one h first is =
 pub call_writes : (shape : Shape) (depth : ℕ) (x : Action) (start : ℕ) (a : At) →
     is_idle_call (is_idle shape.helpers.items depth) x ≡ true →
     Writes (HelpersWritten shape depth) x start a [] a
-call_writes shape zero (Call helper arguments None) start a idle = absurd (let e = (both (length arguments.items == 0) false idle).1 in cc)
+call_writes shape zero (Call helper arguments None) start a idle = absurd (let e = (and_parts (length arguments.items == 0) false idle).1 in cc)
 call_writes shape (suc d) (Call helper arguments None) start a idle =
-    let parts = both (length arguments.items == 0) (is_idle shape.helpers.items (suc d) helper) idle in
+    let parts = and_parts (length arguments.items == 0) (is_idle shape.helpers.items (suc d) helper) idle in
     let none = empty arguments.items parts.0 in
     let (h, found, test) = there (slice_get shape.helpers.items helper) (is_idle_body (is_idle shape.helpers.items d)) parts.1 in
     let is = facts (is_idle shape.helpers.items d) h test in
@@ -171,7 +167,7 @@ all_bring : (P : ℕ → Bool) (brings : ℕ → Brought) (own : List Local) →
     (xs : List Stmt) → are_idle_calls P xs ≡ true → locals_in_all brings own xs ≡ []
 all_bring P brings own one [] h = refl
 all_bring P brings own one (x ∷ xs) h =
-    let e = both (is_idle_call P x.action) (are_idle_calls P xs) h in
+    let e = and_parts (is_idle_call P x.action) (are_idle_calls P xs) h in
     ap (λ vs. vs ++ locals_in_all brings own xs) (one x.action e.0) ∙ all_bring P brings own one xs e.1
 
 -- what a helper brings
@@ -190,10 +186,10 @@ all_locals b = b.locals ++ hidden_local b.result_type
 pub call_brings : (shape : Shape) (depth : ℕ) (own : List Local) (x : Action) →
     is_idle_call (is_idle shape.helpers.items depth) x ≡ true →
     locals_by (brought depth shape) own x ≡ []
-call_brings shape zero own (Call helper arguments None) idle = absurd (let e = (both (length arguments.items == 0) false idle).1 in cc)
+call_brings shape zero own (Call helper arguments None) idle = absurd (let e = (and_parts (length arguments.items == 0) false idle).1 in cc)
 call_brings shape (suc d) own (Call helper arguments None) idle =
     let P = is_idle shape.helpers.items d in
-    let parts = both (length arguments.items == 0) (is_idle shape.helpers.items (suc d) helper) idle in
+    let parts = and_parts (length arguments.items == 0) (is_idle shape.helpers.items (suc d) helper) idle in
     let (h, found, test) = there (slice_get shape.helpers.items helper) (is_idle_body P) parts.1 in
     let is = facts P h test in
     let parameters : map parameter_data (take h.parameters h.locals.items) ≡ [] = ap (λ n. map parameter_data (take n h.locals.items)) is.parameters in
@@ -220,7 +216,7 @@ calls_with : (P : ℕ → Bool) (xs : List Stmt) (x : Stmt) → are_idle_calls P
     is_idle_call P x.action ≡ true → are_idle_calls P (xs ++ x ∷ []) ≡ true
 calls_with P [] x e f = ap (λ b. b && true) f
 calls_with P (v ∷ xs) x e f =
-    let parts = both (is_idle_call P v.action) (are_idle_calls P xs) e in
+    let parts = and_parts (is_idle_call P v.action) (are_idle_calls P xs) e in
     ap (λ b. b && are_idle_calls P (xs ++ x ∷ [])) parts.0 ∙ calls_with P xs x parts.1 f
 
 pub one_more_call : (P : ℕ → Bool) (xs : List Stmt) (k : ℕ) (x : Stmt) → k < length xs → x ≡ slice_index_or xs k x →

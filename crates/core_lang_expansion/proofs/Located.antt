@@ -1,6 +1,6 @@
 -- Where the locals of what is written out lie in the list of all, and what stands for what.
-use Rattle.std.proofs.Common.{◌≡◌, ℕ, zero, suc, ◌+◌, ◌<◌, ◌≤◌, List, [], ◌∷◌, ◌++◌, length, map, take, Some, ◌⊎◌}
-use Rattle.std.proofs.Common.{inl, inr, refl, sym, ap, ◌∙◌, subst, arith}
+use Rattle.std.proofs.Common.{◌≡◌, ℕ, zero, suc, ◌+◌, ◌<◌, ◌≤◌, List, [], ◌∷◌, ◌++◌, length, map, take, Some, ◌⊎◌, inl}
+use Rattle.std.proofs.Common.{inr, refl, sym, ap, ◌∙◌, subst, arith}
 use Rattle.std.specs.Prelude.{slice_get, option_map, ◌≢◌, ⊤}
 use Rattle.std.specs.List.{Contains}
 use Rattle.core_lang.specs.declared.value.ValueType.{ValueType}
@@ -9,7 +9,7 @@ use Rattle.core_lang.specs.declared.tree.Local.{Local}
 use Rattle.core_lang.specs.Typing.{local_types}
 use Rattle.core_lang.specs.Expansion.{Pair, pair, parameters_at}
 use Rattle.core_lang.specs.WrittenLocals.{LocalData, parameter_data}
-use Rattle.core_lang.specs.Theory.Items.{get_mapped, in_cases, in_first, in_rest, not_in_none}
+use Rattle.core_lang.specs.Theory.Items.{get_mapped, in_cases, in_first, in_rest, not_in_none, still_at}
 
 -- ---- lists
 
@@ -24,12 +24,6 @@ in_either (x ∷ xs) ys y c =
       ]
     ]
 
-pub mapped_there : {A B : Type 0} (f : A → B) (xs : List A) (k : ℕ) (b : B) → slice_get (map f xs) k ≡ Some b →
-    (a : A) × (slice_get xs k ≡ Some a) × (f a ≡ b)
-mapped_there f [] k b is = absurd cc
-mapped_there f (x ∷ xs) zero b is = let same : f x ≡ b = cc in (x, refl, same)
-mapped_there f (x ∷ xs) (suc k) b is = mapped_there f xs k b is
-
 pub get_past : {X : Type 0} (front ys : List X) (i : ℕ) → slice_get (front ++ ys) (length front + i) ≡ slice_get ys i
 get_past [] ys i = let e : 0 + i ≡ i = omega arith in ap (slice_get ys) e
 get_past (x ∷ front) ys i = let e : length (x ∷ front) + i ≡ suc (length front + i) = omega arith in ap (slice_get (x ∷ (front ++ ys))) e ∙ get_past front ys i
@@ -38,12 +32,6 @@ get_past (x ∷ front) ys i = let e : length (x ∷ front) + i ≡ suc (length f
 pub get_behind : {X : Type 0} (front rest : List X) (x : X) (k : ℕ) → length front ≡ k →
     slice_get (front ++ x ∷ rest) k ≡ Some x
 get_behind front rest x k e = let at : k ≡ length front + 0 = omega (arith, e) in ap (slice_get (front ++ x ∷ rest)) at ∙ get_past front (x ∷ rest) 0
-
-pub get_within : {X : Type 0} (xs ys : List X) (i : ℕ) (x : X) → slice_get xs i ≡ Some x →
-    slice_get (xs ++ ys) i ≡ Some x
-get_within [] ys i x is = absurd cc
-get_within (y ∷ xs) ys zero x is = is
-get_within (y ∷ xs) ys (suc i) x is = get_within xs ys i x is
 
 pub get_taken : {X : Type 0} (xs : List X) (n k : ℕ) → k < n → slice_get (take n xs) k ≡ slice_get xs k
 get_taken xs zero k lt = absurd (omega (arith, lt))
@@ -119,4 +107,4 @@ pub parameter_there : (f : Local →
     all ≡ front ++ (map f (take p own) ++ rest) → slice_get all (length front + i) ≡ Some (f l)
 parameter_there f own all front rest p i l lt is e =
     let mine : slice_get (map f (take p own)) i ≡ Some (f l) = get_mapped f (take p own) i ∙ ap (option_map f) (get_taken own p i lt ∙ is) in
-    ap (λ (xs : List LocalData). slice_get xs (length front + i)) e ∙ get_past front (map f (take p own) ++ rest) i ∙ get_within (map f (take p own)) rest i (f l) mine
+    ap (λ (xs : List LocalData). slice_get xs (length front + i)) e ∙ get_past front (map f (take p own) ++ rest) i ∙ still_at (map f (take p own)) rest i (f l) mine

@@ -23,16 +23,16 @@ use Rattle.core_lang.specs.Theory.Lists.{block_of, else_of}
 use Rattle.core_lang.specs.Scopes.{assigned_by, assigned_in, assigned_in_all}
 use Rattle.core_lang.specs.Typing.{local_types, IsOf, AreOf, IsTest, Takes, IsWellTyped, AreWellTyped, AllWellTyped}
 use Rattle.core_lang.specs.Typing.{IsResult}
-use Rattle.core_lang.specs.Expansion.{Pair, pair, At, behind_bound, behind_block, one, Arguments, Bound, Bodies}
-use Rattle.core_lang.specs.Expansion.{Writes, WritesRow, WritesAll, IsExpansion}
+use Rattle.core_lang.specs.Expansion.{Pair, pair, At, behind_bound, behind_block, one, Arguments, Bound, Bodies, Writes}
+use Rattle.core_lang.specs.Expansion.{WritesRow, WritesAll, IsExpansion}
 use Rattle.core_lang.specs.WrittenLocals.{LocalData, local_data, parameter_data, own_local, hidden_local, Brought}
 use Rattle.core_lang.specs.WrittenLocals.{locals_by, locals_in, locals_in_all}
 use Rattle.core_lang_expansion.specs.Data.{IsSameBesides}
 use Rattle.core_lang_expansion.proofs.Places.{field_same, global_same, array_same}
-use Rattle.core_lang_expansion.proofs.Located.{in_either, mapped_there, get_behind, types_of, StandsFor, IsVar}
-use Rattle.core_lang_expansion.proofs.Located.{NoParameters, none_of_both, type_there, stands_more}
+use Rattle.core_lang_expansion.proofs.Located.{in_either, get_behind, types_of, StandsFor, IsVar, NoParameters}
+use Rattle.core_lang_expansion.proofs.Located.{none_of_both, type_there, stands_more}
 use Rattle.core_lang_expansion.proofs.TypedExprs.{path_typed, typed, test_typed}
-use Rattle.core_lang.specs.Theory.Items.{not_in_none, in_first, in_cases, get_mapped}
+use Rattle.core_lang.specs.Theory.Items.{not_in_none, in_first, in_cases, get_mapped, same_value, map_back}
 
 -- ---- lists
 
@@ -92,10 +92,6 @@ module _ (program : Typed) (types : List ValueType) where
         items_typed row.0 row.1 (subst (AllWellTyped program types) (sym (items_hidden-the_row-Stmt-0 block)) h),
         items_typed row'.0 row'.1 (subst (AllWellTyped program types) (sym (items_hidden-the_row-Stmt-0 otherwise)) k),
       )
-
-pub some_same : {A : Type 0} (o : Option A) (a b : A) → o ≡ Some a → o ≡ Some b → a ≡ b
-some_same None a b e f = absurd cc
-some_same (Some x) a b e f = let p : x ≡ a = cc in let q : x ≡ b = cc in sym p ∙ q
 
 -- what is bound last depends on the scope and on the next own number alone
 bound_from : (result : Option ℕ) (r : Option Return) (a b : At) (fresh : ℕ) (last : List Stmt) →
@@ -244,7 +240,7 @@ module _ (program program' : Typed) (all : List LocalData) where
           slice_get (local_types own) k ≡ Some t → IsOf program' (types_of all) e' t → k ≡ a.own → ys ≡ one start (Bind a.fresh e') → b ≡ behind_bound a →
           all ≡ front ++ (own_local (slice_get own k) ++ rest) → Keeps own ys a b (own_local (slice_get own k))
       binds start k e' t a b ys front rest ready has h same w f is =
-          let found = mapped_there (λ (z : Local). z.value_type) own k t has in
+          let found = map_back (λ (z : Local). z.value_type) own k t has in
           let l = found.0 in
           let d : LocalData = local_data l in
           let mine : own_local (slice_get own k) ≡ d ∷ [] = ap own_local found.1 in
@@ -338,7 +334,7 @@ module _ (program program' : Typed) (all : List LocalData) where
           let whole : all ≡ front ++ (mine ++ (after ++ rest)) = is ∙ ap (λ (z : List LocalData). front ++ z) (append_assoc mine after rest) in
           let kept = bodies k (length es) a.fresh body r fresh front (after ++ rest) inside ready.count whole in
           let s = kept.section in
-          let same_one : s ≡ h = some_same (slice_get program.shape.helpers.items k) s h kept.found found in
+          let same_one : s ≡ h = same_value (slice_get program.shape.helpers.items k) s h kept.found found in
           let lets_are = subst (λ (z : Section). AreOf program (local_types own) es (local_types (take z.parameters z.locals.items))) (sym same_one) are in
           let taken : List LocalData = map parameter_data (take s.parameters s.locals.items) in
           let at_lets : all ≡ front ++ (taken ++ (kept.inner ++ (after ++ rest))) =

@@ -1,6 +1,6 @@
 -- An accepted program whose helpers are written out is well formed.
-use Rattle.std.proofs.Common.{◌≡◌, ℕ, zero, suc, ◌+◌, ◌<◌, ◌≤◌, List, [], ◌∷◌, ◌++◌, length, map, take, Some, refl}
-use Rattle.std.proofs.Common.{sym, ap, ◌∙◌, subst, arith, append_assoc, length-append}
+use Rattle.std.proofs.Common.{◌≡◌, ℕ, zero, suc, ◌+◌, ◌<◌, ◌≤◌, List, [], ◌∷◌, ◌++◌, length, map, take, Some, refl, sym}
+use Rattle.std.proofs.Common.{ap, ◌∙◌, subst, arith, append_assoc, length-append}
 use Rattle.std.specs.Prelude.{slice_get, option_map, ◌≢◌}
 use Rattle.std.specs.List.{AllZip}
 use Rattle.std.proofs.lemmas.List.{append-nil, length-map}
@@ -12,7 +12,7 @@ use Rattle.core_lang.specs.declared.typed.Call.{Call}
 use Rattle.core_lang.specs.declared.typed.Thread.{Thread}
 use Rattle.core_lang.specs.declared.typed.Typed.{Typed}
 use Rattle.core_lang.specs.Meaning.{deepest}
-use Rattle.core_lang.specs.Scopes.{bound_in_all, numbers_from, IsWellScoped}
+use Rattle.core_lang.specs.Scopes.{IsWellScoped}
 use Rattle.core_lang.specs.Typing.{local_types, HaveTypes, IsResult, AllWellTyped, IsWellTypedSection}
 use Rattle.core_lang.specs.Expansion.{entered, HelpersWritten, IsWrittenOut, IsExpansion}
 use Rattle.core_lang.specs.WrittenLocals.{LocalData, local_data, parameter_data, locals_in_all, Brought, brought_by}
@@ -26,19 +26,12 @@ use Rattle.core_lang_expansion.proofs.Places.{laid_out, protected, opens_typed, 
 use Rattle.core_lang_expansion.proofs.Located.{get_past, types_of, NoParameters, none_of_both, none_there}
 use Rattle.core_lang_expansion.proofs.Located.{no_parameters, parameters_stand, parameter_there}
 use Rattle.core_lang_expansion.proofs.TypedExprs.{result_typed}
-use Rattle.core_lang_expansion.proofs.TypedStatements.{some_same, BodiesKeep, Ready, all_keep}
+use Rattle.core_lang_expansion.proofs.TypedStatements.{BodiesKeep, Ready, all_keep}
 use Rattle.core_lang_expansion.proofs.ScopedStatements.{written_out_scoped}
-use Rattle.core_lang.specs.Theory.Items.{numbers_many, get_mapped, get_some}
+use Rattle.core_lang.specs.Theory.Items.{get_mapped, get_some, same_value}
+use Rattle.core_lang.specs.Theory.Openings.{enough_locals}
 
 -- ---- lists
-
--- a section has at least as many locals as parameters
-enough_locals : (section : Section) → IsWellScoped section → section.parameters ≤ length section.locals.items
-enough_locals section scoped =
-    let before = numbers_many 0 section.parameters in
-    let whole = numbers_many 0 (length section.locals.items) in
-    let same = ap (λ (l : List ℕ). length l) scoped.bound in
-    omega (arith, before, whole, same, length-append (numbers_from 0 section.parameters) (bound_in_all section.body.items))
 
 taken_many : {X : Type 0} (xs : List X) (n : ℕ) → n ≤ length xs → length (take n xs) ≡ n
 taken_many xs zero le = refl
@@ -77,7 +70,7 @@ parameter_kind section k l all here lt le scoped e is =
     let first = get_some own k (omega (arith, lt, le)) in
     let at : 0 + k ≡ k = omega arith in
     let there = parameter_there local_data own all [] here section.parameters k first.0 lt first.1 e in
-    let same = some_same (slice_get all k) (local_data l) (local_data first.0) is (ap (slice_get all) (sym at) ∙ there) in
+    let same = same_value (slice_get all k) (local_data l) (local_data first.0) is (ap (slice_get all) (sym at) ∙ there) in
     ap (λ (z : LocalData). z.kind) same ∙ (scoped.kinds k first.0 first.1).0 lt
 
 -- and a further local is none
@@ -196,7 +189,7 @@ module _ (program program' : Typed) (checked : IsChecked program) (expands : IsE
           );
           assigned = λ k l c is.
               let var = keeps.fits.assigned k c in
-              let e = some_same (slice_get all k) (local_data l) var.0 (there k l is) var.1 in
+              let e = same_value (slice_get all k) (local_data l) var.0 (there k l is) var.1 in
               ap (λ (z : LocalData). z.kind) e ∙ var.2;
           body = in_scope.0;
           result = in_scope.1;
@@ -212,7 +205,7 @@ module _ (program program' : Typed) (checked : IsChecked program) (expands : IsE
       let found = expands.there number section is in
       let section' = found.0 in
       let local_back = zip_back (AreWrittenLocals program.shape) program.sections.items program'.sections.items named number section' found.1 in
-      let one = some_same (slice_get program.sections.items number) local_back.0 section local_back.1 is in
+      let one = same_value (slice_get program.sections.items number) local_back.0 section local_back.1 is in
       let locals_are = subst (λ (z : Section). AreWrittenLocals program.shape z section') one local_back.2 in
       let p = section.parameters in
       let own = section.locals.items in
@@ -248,7 +241,7 @@ module _ (program program' : Typed) (checked : IsChecked program) (expands : IsE
       let found = expands.back k section' is in
       let section = found.0 in
       let local_back = zip_back (AreWrittenLocals program.shape) program.sections.items program'.sections.items named k section' is in
-      let one = some_same (slice_get program.sections.items k) local_back.0 section local_back.1 found.1 in
+      let one = same_value (slice_get program.sections.items k) local_back.0 section local_back.1 found.1 in
       let locals_are = subst (λ (z : Section). AreWrittenLocals program.shape z section') one local_back.2 in
       section_well section section' (checked.sections k section found.1) (checked.scopes k section found.1) found.2 locals_are
 

@@ -38,12 +38,9 @@ use Rattle.core_lang.specs.Expansion.{Pair, pair, RenamesPath, Renames, RenamesE
 use Rattle.core_lang.specs.Expansion.{RenamesResult, At, behind_bound, behind_block, parameters_at, entered, one}
 use Rattle.core_lang.specs.Expansion.{Bodies, Writes, WritesRow, WritesAll, HelpersWritten, IsWrittenOut}
 use Rattle.core_lang_laws.specs.Laws.{AProgramWithoutHelpersIsItsOwnExpansion}
-use Rattle.core_lang.specs.Theory.Items.{in_first}
+use Rattle.core_lang.specs.Theory.Items.{in_first, in_rest}
 
 -- ---- each local stands for itself
-
-in_rest : {X : Type 0} (x y : X) (xs : List X) → Contains xs y → Contains (x ∷ xs) y
-in_rest x y xs (k, lt, is) = (suc k, omega (arith, lt), is)
 
 abbrev Itself : List Pair → List ℕ → Type 0
 Itself pairs scope = (k : ℕ) → Contains scope k → Contains pairs (pair k k)

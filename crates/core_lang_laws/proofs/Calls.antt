@@ -13,8 +13,9 @@ use Rattle.core_lang.specs.declared.tree.Stmt.{Stmt}
 use Rattle.core_lang.specs.declared.tree.Return.{Return}
 use Rattle.core_lang.specs.declared.tree.Section.{Section}
 use Rattle.core_lang.specs.Cells.{with, found}
-use Rattle.core_lang.specs.Meaning.{State, Flow, GoesOn, Traps, Beyond, Astray, along, value_of, given, after}
-use Rattle.core_lang.specs.Meaning.{returned, concluded, opening, back, sequence_by, run_from, if_there, helped}
+use Rattle.core_lang.specs.Meaning.{State, Flow, GoesOn, Traps, Beyond, Astray, along, value_of, given, after, returned}
+use Rattle.core_lang.specs.Meaning.{concluded, opening, back, sequence_by, run_from, if_there, helped}
+use Rattle.core_lang.specs.Theory.Items.{get_some}
 use Rattle.core_lang_laws.specs.Laws.{ACallDoesWhatTheHelperDoes, ACallGivesWhatTheHelperGives}
 
 -- behind a call that binds nothing
@@ -50,11 +51,6 @@ get_set [] k v lt = absurd (omega (arith, lt))
 get_set (x ∷ xs) zero v lt = refl
 get_set (x ∷ xs) (suc k) v lt = get_set xs k v (omega (arith, lt))
 
-get_there : (xs : List Value) (k : ℕ) → k < length xs → (v : Value) × (slice_get xs k ≡ Some v)
-get_there [] k lt = absurd (omega (arith, lt))
-get_there (x ∷ xs) zero lt = (x, refl)
-get_there (x ∷ xs) (suc k) lt = get_there xs k (omega (arith, lt))
-
 module _ (shape : Shape) (place k : ℕ) (path : Path) (s : State) (here : path.local ≡ k) (none : path.fields.items ≡ []) (lt : k < length s.locals) where
   abbrev result : Option Return
   result = Some (record { start = place; value = Place path })
@@ -71,7 +67,7 @@ module _ (shape : Shape) (place k : ℕ) (path : Path) (s : State) (here : path.
   behind_value : (r : Result Value Failure) (t : State) →
       concluded result shape (after (back (returned r t) (Some k) s) (λ u. GoesOn u)) ≡ returned r t
   behind_value (Ok v) t =
-      let there = get_there s.locals k lt in
+      let there = get_some s.locals k lt in
       ap (λ (o : Option Value). concluded result shape (after (given (found o) (record { locals = s.locals; heap = t.heap; prints = t.prints })
       (λ _. GoesOn (state_with t v))) (λ u. GoesOn u))) there.1
       ∙ ap (λ (r : Result Value Failure). returned r (state_with t v)) (reads t v)

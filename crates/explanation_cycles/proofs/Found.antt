@@ -1,15 +1,15 @@
 -- A path that a point uses, or whose root it binds, is among those of the section.
-use Rattle.std.proofs.Common.{◌≡◌, ◌∙◌, ◌<◌, ◌≤◌, ℕ, Bool, true, false, List, length, Option, Some, None, refl, sym}
-use Rattle.std.proofs.Common.{ap, subst, map, get_or, arith, eqb-true, eq-eqb}
+use Rattle.std.proofs.Common.{◌≡◌, ◌∙◌, ◌<◌, ◌≤◌, ℕ, true, List, length, Option, Some, None, refl, sym, ap, subst, map}
+use Rattle.std.proofs.Common.{get_or, arith, eqb-true, eq-eqb}
 use Rattle.std.specs.Prelude.{◌==◌, slice_get}
 use Rattle.std.specs.Option.{option_map}
-use Rattle.std.specs.List.{Contains}
 use Rattle.std.specs.Bool.{Decides}
 use Rattle.std.proofs.lemmas.List.{length-map}
-use Rattle.std.proofs.lemmas.Option.{none-some, same_Some, slice_get_within, slice_get_read, slice_get-map}
-use Rattle.std.proofs.lemmas.Option.{slice_get-get_or, get_or_from_slice_get}
+use Rattle.std.proofs.lemmas.Option.{same_Some, slice_get_within, slice_get_read, slice_get-map, slice_get-get_or}
+use Rattle.std.proofs.lemmas.Option.{get_or_from_slice_get}
 use Rattle.core_lang.specs.declared.tree.Section.{Section}
 use Rattle.core_lang.specs.declared.typed.Typed.{Typed}
+use Rattle.core_lang.specs.Theory.Items.{map_some}
 use Rattle.flow.specs.declared.points.PointRef.{PointRef}
 use Rattle.flow.specs.Working.PointList.{point_at}
 use Rattle.flow.specs.Points.{Point, points, bound_at}
@@ -23,12 +23,7 @@ use Rattle.locks.specs.Sets.{has}
 use Rattle.lockorder.specs.Edges.{UsesClass, BindsClass}
 use Rattle.lockpaths.specs.declared.table.SectionPaths.{SectionPaths}
 use Rattle.lockpaths.specs.Paths.{AreSectionPaths}
-use Rattle.explanation_cycles.specs.Working.Tellers.{HasClass, BeginsAt, IsUsedPath, IsBoundPath, begins}
-
-map_some : {A B : Type 0} (f : A → B) (o : Option A) (y : B) → option_map f o ≡ Some y →
-    (x : A) × (o ≡ Some x) × (f x ≡ y)
-map_some f None y e = absurd (none-some y e)
-map_some f (Some x) y e = (x, refl, same_Some (f x) y e)
+use Rattle.explanation_cycles.specs.Working.Tellers.{HasClass, BeginsAt, IsBoundPath, begins}
 
 begins_bound : (root : Root) (o : Option ℕ) → begins root o ≡ true → (k : ℕ) × (root ≡ AtLocal k) × (o ≡ Some k)
 begins_bound GlobalLock o e = absurd cc

@@ -1,10 +1,10 @@
 -- Along annotations: what the code finds is the first member that is no final reference, or that a final reference is too many.
-use Rattle.std.proofs.Common.{◌≡◌, ◌∙◌, ◌+◌, ◌≤◌, ℕ, Bool, true, false, List, [], ◌∷◌, ◌++◌, length, Option, Some}
-use Rattle.std.proofs.Common.{None, refl, sym, ap, ap₂, subst, eq-eqb, length-append}
+use Rattle.std.proofs.Common.{◌≡◌, ◌∙◌, ◌+◌, ◌≤◌, ℕ, Bool, true, false, List, [], ◌∷◌, ◌++◌, length, Option, Some, None}
+use Rattle.std.proofs.Common.{refl, sym, ap, ap₂, subst, eq-eqb, length-append}
 use Rattle.std.specs.List.{cons_option, filter_map}
 use Rattle.std.specs.Option.{option_or}
 use Rattle.std.specs.Prelude.{◌==◌, ◌&&◌, nat_le, if◌then◌else◌, slice_get}
-use Rattle.std.proofs.lemmas.Bool.{eqb-true, leb-true, le-leb}
+use Rattle.std.proofs.lemmas.Bool.{eqb-true, leb-true, le-leb, and_parts, and_from}
 use Rattle.std.proofs.lemmas.Option.{same_Some}
 use Rattle.resolution.specs.Annotations.{AnnotationCursor, at_struct, cursor_at, through_member}
 use Rattle.resolution.specs.Constants.{members_in}
@@ -13,8 +13,8 @@ use Rattle.resolution.specs.Faults.{Reaches, stays, goes_on, walks}
 use Rattle.resolution.specs.Limits.{FINAL_LIMIT}
 use Rattle.resolution.specs.Scopes.{the_decl, the_member}
 use Rattle.resolution.specs.Where.{Has, annotates}
-use Rattle.syntax.specs.Trees.{Ident, Field, Final, Protection, Struct, Member, lock_member, final_member}
-use Rattle.syntax.specs.Trees.{field_member, Decl, lock, struct, global, array, pool, init, atomic, helper, thread}
+use Rattle.syntax.specs.Trees.{Ident, Field, Final, Protection, Struct, Member, lock_member, final_member, field_member}
+use Rattle.syntax.specs.Trees.{Decl, lock, struct, global, array, pool, init, atomic, helper, thread}
 use Rattle.explanation_faults.specs.FirstBy.{first_by}
 use Rattle.explanation_faults.specs.LimitsPassed.{AreFinalsPassed, finals_passed}
 use Rattle.explanation_faults.specs.Working.PassedFound.{beyond, met_along, met_at, met_by, met_for, met_of}
@@ -71,14 +71,6 @@ module _ (decls : List Decl) (at : ℕ) where
 or_some : {A : Type 0} (o p : Option A) (x : A) → p ≡ Some x → (y : A) × (option_or o p ≡ Some y)
 or_some (Some w) p x is = (w, refl)
 or_some None p x is = (x, is)
-
-both_true : (a b : Bool) → a && b ≡ true → (a ≡ true) × (b ≡ true)
-both_true true b e = (refl, e)
-both_true false b e = absurd cc
-
-both_so : (a b : Bool) → a ≡ true → b ≡ true → a && b ≡ true
-both_so true b e f = f
-both_so false b e f = absurd cc
 
 longer_at : (through : List ℕ) (n : ℕ) (o : Option (ℕ × Decl)) (next : AnnotationCursor) →
     at_struct through n o ≡ Some next →
@@ -183,7 +175,7 @@ module _ (decls : List Decl) (at : ℕ) (m : Member) where
       option_or (if b then Some (final_member f) else None) (comes first (length st.through + 1) (members_in (the_decl decls f.target.text)) z zs) ≡ Some m →
       Onward first st y z zs → FarFrom first st y (z ∷ zs)
   from_final first st y z zs i f true is here e on =
-      let both = both_true (nat_le FINAL_LIMIT (length st.through)) (first.span.start == at) is in
+      let both = and_parts (nat_le FINAL_LIMIT (length st.through)) (first.span.start == at) is in
       record {
         to = st;
         name = y;
@@ -251,7 +243,7 @@ module _ (decls : List Decl) where
   along_far first own st a y z names zs i f stays here far =
       let at = first.span.start in
       let n = length st.through in
-      let both = both_so (nat_le FINAL_LIMIT n) (at == at) (le-leb FINAL_LIMIT n far) (eq-eqb at at refl) in
+      let both = and_from (nat_le FINAL_LIMIT n) (at == at) (le-leb FINAL_LIMIT n far) (eq-eqb at at refl) in
       let is : beyond at first n (the_member st.members y.text) ≡ Some (final_member f) =
       ap (beyond at first n) here ∙ ap (λ (b : Bool). if b then Some (final_member f) else None) both in
       (final_member f, ap (λ o. option_or o (met_along (FinalTooMany at) decls first (n + 1) (next_members decls (the_member st.members y.text)) z zs)) is)

@@ -1,10 +1,10 @@
 -- The first thing that a list gives.
-use Rattle.std.proofs.Common.{◌≡◌, ◌∙◌, ◌+◌, ◌<◌, ℕ, List, [], ◌∷◌, ◌++◌, length, map, drop, get_or, Option, Some}
-use Rattle.std.proofs.Common.{None, refl, sym, ap}
+use Rattle.std.proofs.Common.{◌≡◌, ◌∙◌, ◌+◌, ◌<◌, ℕ, List, [], ◌∷◌, ◌++◌, length, map, drop, get_or, Option, Some, None}
+use Rattle.std.proofs.Common.{refl, sym, ap}
 use Rattle.std.specs.List.{cons_option, filter_map}
 use Rattle.std.specs.Prelude.{slice_get}
+use Rattle.core_lang.specs.Theory.Items.{next_of}
 use Rattle.resolution.specs.Where.{Has, first, further}
-use Rattle.types_symbols.specs.Theory.Steps.{drop-here}
 use Rattle.explanation_faults.specs.FirstBy.{first_by, IsFirst}
 
 module _ {A B : Type 0} (f : A → Option B) where
@@ -80,7 +80,7 @@ module _ {A B : Type 0} (f : A → Option B) where
   module _ {X : Type 0} (view : X → A) (xs : List X) (i : ℕ) (x : X) (whole : Option B) (lt : i < length xs) (is : x ≡ get_or xs i x)
       (before : first_by f (map view (drop i xs)) ≡ whole) where
     here : first_by f (map view (x ∷ drop (i + 1) xs)) ≡ whole
-    here = ap (λ (l : List X). first_by f (map view l)) (sym (drop-here xs i x lt is)) ∙ before
+    here = ap (λ (l : List X). first_by f (map view l)) (sym (next_of xs i x lt is)) ∙ before
 
     -- a turn of a loop: the element gives something, or nothing
     pub first_here : (y : B) → f (view x) ≡ Some y → Some y ≡ whole

@@ -1,20 +1,22 @@
 -- Of an `init` that gives what another one gives the first is found.
 use Rattle.std.proofs.Common.{◌≡◌, ◌∙◌, ℕ, Bool, true, false, List, [], ◌∷◌, length, take, Option, Some, None, refl}
-use Rattle.std.proofs.Common.{sym, ap, subst, eq-eqb, eqb-true}
-use Rattle.std.specs.Prelude.{slice_get, ◌==◌, ◌&&◌, ◌||◌, nat_lt, if◌then◌else◌}
+use Rattle.std.proofs.Common.{sym, ap, subst, eq-eqb}
+use Rattle.std.specs.Prelude.{slice_get, ◌&&◌, ◌||◌, nat_lt, if◌then◌else◌}
 use Rattle.std.specs.Str.{bytes_eq}
 use Rattle.std.proofs.lemmas.Option.{same_Some}
 use Rattle.std.proofs.lemmas.Slice.Eq.{bytes_eq-Decides}
+use Rattle.std.proofs.lemmas.Bool.{and_from, or_right}
 use Rattle.syntax.specs.Trees.{Init, Decl, lock, struct, global, array, pool, init, atomic, helper, thread, Member}
 use Rattle.syntax.specs.Trees.{lock_member, final_member, field_member, Pool}
 use Rattle.resolution.specs.declared.init_target.InitTarget.{InitTarget}
-use Rattle.resolution.specs.Constants.{init_target_at, init_target_in, init_target_to, init_target_of}
-use Rattle.resolution.specs.Constants.{same_init_target, is_init_target, gives, members_of}
+use Rattle.resolution.specs.Constants.{init_target_at, init_target_in, init_target_to, init_target_of, is_init_target}
+use Rattle.resolution.specs.Constants.{gives, members_of}
 use Rattle.resolution.specs.Scopes.{◌>>=◌, bears, member_bears, member_name, named, place_of, the_decl, the_member}
+use Rattle.resolution.specs.Theory.Facts.{same_is}
 use Rattle.explanation_faults.specs.FaultNotes.{IsGivenAgain, given_again}
 use Rattle.explanation_faults.specs.Inits.{same_target, gives_same, IsFirstGiver, IsGivenFirst}
-use Rattle.explanation_faults.proofs.Places.{some_pass, found_passes, passing, passing_at, or_right, named_passes}
-use Rattle.explanation_faults.proofs.Places.{at_front, take_front}
+use Rattle.explanation_faults.proofs.Places.{some_pass, found_passes, passing, passing_at, named_passes, at_front}
+use Rattle.explanation_faults.proofs.Places.{take_front}
 
 -- ---- what is named
 
@@ -124,10 +126,6 @@ module _ (decls : List Decl) (i : Init) (g : InitTarget) where
 
 -- ---- two that give the same name the same
 
-both : (a b : Bool) → a ≡ true → b ≡ true → a && b ≡ true
-both true b e f = f
-both false b e f = absurd cc
-
 texts_alike : (q r text : List ℕ) → bytes_eq q text ≡ true → bytes_eq r text ≡ true → bytes_eq q r ≡ true
 texts_alike q r text e f =
     (bytes_eq-Decides q r).1 ((bytes_eq-Decides q text).0 e ∙ sym ((bytes_eq-Decides r text).0 f))
@@ -146,8 +144,8 @@ alike decls i j g s t =
     let x = named_at member_bears s.members i.field.text g.member s.member s.field_named in
     let y = named_at member_bears t.members j.field.text g.member t.member t.field_named in
     let one : s.member ≡ t.member = same_Some s.member t.member (sym x.here ∙ ap (λ (l : List Member). slice_get l g.member) lists ∙ y.here) in
-    both _ _
-    (both _ _ (texts_alike i.pool.text j.pool.text s.p.name.text a.bears (rw pools b.bears)) (eq-eqb i.index.value j.index.value (s.index ∙ sym t.index)))
+    and_from _ _
+    (and_from _ _ (texts_alike i.pool.text j.pool.text s.p.name.text a.bears (rw pools b.bears)) (eq-eqb i.index.value j.index.value (s.index ∙ sym t.index)))
     (texts_alike i.field.text j.field.text (member_name s.member).text x.bears (rw one y.bears))
 
 -- ---- what gives the same
@@ -160,21 +158,12 @@ and_right : (a b : Bool) → a && b ≡ true → b ≡ true
 and_right true b e = e
 and_right false b e = absurd cc
 
-same_targets : (h g : InitTarget) → same_init_target h g ≡ true → h ≡ g
-same_targets h g e =
-    let front = and_left ((h.pool == g.pool) && (h.index == g.index)) (h.member == g.member) e in
-    let pools : h.pool ≡ g.pool = eqb-true h.pool g.pool (and_left (h.pool == g.pool) (h.index == g.index) front) in
-    let indexes : h.index ≡ g.index = eqb-true h.index g.index (and_right (h.pool == g.pool) (h.index == g.index) front) in
-    let members : h.member ≡ g.member = eqb-true h.member g.member (and_right ((h.pool == g.pool) && (h.index == g.index)) (h.member == g.member) e) in
-    let make : ℕ → ℕ → ℕ → InitTarget = λ p i m. record { pool = p; index = i; member = m } in
-    ap (λ n. make n h.index h.member) pools ∙ ap (λ n. make g.pool n h.member) indexes ∙ ap (λ n. make g.pool g.index n) members
-
 module _ (decls : List Decl) (j : Init) (g : InitTarget) (gives_g : init_target_of decls j ≡ Some g) where
   of_target : (i : Init) (o : Option InitTarget) → init_target_of decls i ≡ o → is_init_target o g ≡ true →
       same_target j i ≡ true
   of_target i None at e = absurd cc
   of_target i (Some h) at e =
-      let same = same_targets h g e in
+      let same = same_is h g e in
       alike decls j i g (target_of decls j g gives_g) (target_of decls i g (at ∙ ap (λ (t : InitTarget). Some t) same))
 
   gives_alike : (d : Decl) → gives decls d g ≡ true → gives_same j d ≡ true

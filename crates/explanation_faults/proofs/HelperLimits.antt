@@ -2,12 +2,12 @@
 use Rattle.std.proofs.Common.{◌≡◌, ◌∙◌, ℕ, ◌+◌, ◌<◌, ◌≤◌, List, length, take, Option, Some, None, true, false, Bool}
 use Rattle.std.proofs.Common.{refl, sym, ap, subst, arith, lt-ltb, ⊎_elim}
 use Rattle.std.specs.Prelude.{◌&&◌, min, nat_le, nat_lt}
-use Rattle.std.proofs.lemmas.Bool.{cases_lt, le-leb, le-ltb, leb-true, ltb-false, ltb-true}
+use Rattle.std.proofs.lemmas.Bool.{cases_lt, le-leb, le-ltb, leb-true, ltb-false, ltb-true, and_from}
 use Rattle.std.proofs.lemmas.List.{length-map, take-map, take_all}
 use Rattle.core_lang_calls.specs.Depths.{depth, depth_within, is_endless}
 use Rattle.core_lang_calls.specs.Working.FaultLists.{graph_faults}
-use Rattle.core_lang_calls.specs.Faults.{DEPTH_LIMIT, IsGraphFault, over_limit, IsOverLimit, too_deep}
-use Rattle.core_lang_calls.specs.Faults.{too_many_locals, too_many_points}
+use Rattle.core_lang_calls.specs.Faults.{DEPTH_LIMIT, IsGraphFault, over_limit, IsOverLimit, too_deep, too_many_locals}
+use Rattle.core_lang_calls.specs.Faults.{too_many_points}
 use Rattle.core_lang_calls.specs.Graphs.{Body, Graph, bodies_of, body_of}
 use Rattle.core_lang_calls.specs.Working.Tables.{IsExtents, extent_at}
 use Rattle.core_lang_calls.specs.declared.extents.Extent.{Extent}
@@ -39,10 +39,6 @@ deep_there graph at (too_many_points s before behind c is parts few many) of_dep
 
 -- ---- depths, by their table
 
-both_so : (a b : Bool) → a ≡ true → b ≡ true → a && b ≡ true
-both_so true b first second = second
-both_so false b first second = absurd cc
-
 left_so : (a b : Bool) → a && b ≡ true → a ≡ true
 left_so true b both = refl
 left_so false b both = absurd cc
@@ -70,7 +66,7 @@ module _ (helpers : List Body) (table : List Extent) (n k size : ℕ) (is : IsEx
 
   pub deep_so : DEPTH_LIMIT < real → real ≤ length helpers → is_deep found size ≡ true
   deep_so more less =
-      both_so (nat_lt DEPTH_LIMIT found) (nat_le found size) (lt-ltb DEPTH_LIMIT found (omega (arith, found_is, more)))
+      and_from (nat_lt DEPTH_LIMIT found) (nat_le found size) (lt-ltb DEPTH_LIMIT found (omega (arith, found_is, more)))
       (le-leb found size (omega (arith, found_is, less)))
 
   pub ends_if : real ≤ length helpers → is_endless helpers k ≡ false

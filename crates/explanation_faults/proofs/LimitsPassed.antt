@@ -1,7 +1,7 @@
 -- The limit that is found is passed, and one is found where one is passed.
-use Rattle.std.proofs.Common.{◌≡◌, ◌∙◌, ℕ, ◌≤◌, zero, suc, Bool, true, false, List, [], ◌∷◌, ◌++◌, length, map}
-use Rattle.std.proofs.Common.{Option, Some, None, refl, sym, ap, subst, arith, eq-eqb}
-use Rattle.std.proofs.lemmas.Bool.{eqb-true}
+use Rattle.std.proofs.Common.{◌≡◌, ◌∙◌, ℕ, ◌≤◌, zero, suc, Bool, true, false, List, [], ◌∷◌, ◌++◌, length, map, Option}
+use Rattle.std.proofs.Common.{Some, None, refl, sym, ap, subst, arith, eq-eqb}
+use Rattle.std.proofs.lemmas.Bool.{eqb-true, or_left, or_right}
 use Rattle.std.specs.List.{filter_map, flat_map}
 use Rattle.std.specs.Option.{option_or}
 use Rattle.std.specs.Prelude.{◌==◌, ◌||◌, codes}
@@ -58,18 +58,10 @@ past_if at zero names some = some_past at names some
 past_if at (suc limit) [] some = absurd cc
 past_if at (suc limit) (x ∷ xs) some = past_more x (past_if at limit xs some)
 
-or_so : (a b : Bool) → a ≡ true → a || b ≡ true
-or_so true b e = refl
-or_so false b e = absurd cc
-
-or_later : (a b : Bool) → b ≡ true → a || b ≡ true
-or_later true b e = refl
-or_later false b e = e
-
 some_there : (at : ℕ) (before : List Ident) (x : Ident) (after : List Ident) → x.span.start ≡ at →
     some_starts at (before ++ x ∷ after) ≡ true
-some_there at [] x after starts = or_so (x.span.start == at) (some_starts at after) (eq-eqb x.span.start at starts)
-some_there at (y ∷ before) x after starts = or_later (y.span.start == at) (some_starts at (before ++ x ∷ after)) (some_there at before x after starts)
+some_there at [] x after starts = or_left (x.span.start == at) (some_starts at after) (eq-eqb x.span.start at starts)
+some_there at (y ∷ before) x after starts = or_right (y.span.start == at) (some_starts at (before ++ x ∷ after)) (some_there at before x after starts)
 
 past_there : (at limit : ℕ) (before : List Ident) (x : Ident) (after : List Ident) → limit ≤ length before →
     x.span.start ≡ at →

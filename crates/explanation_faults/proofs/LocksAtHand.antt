@@ -1,22 +1,19 @@
 -- The lock that is found is at hand, and one is found where one is.
-use Rattle.std.proofs.Common.{◌≡◌, ◌∙◌, ℕ, Bool, true, false, List, [], ◌∷◌, Option, Some, None, refl, sym, ap}
-use Rattle.std.proofs.Common.{eq-eqb, eqb-true}
+use Rattle.std.proofs.Common.{◌≡◌, ◌∙◌, ℕ, Bool, true, false, List, [], ◌∷◌, Option, Some, None, refl, sym, ap, eq-eqb}
+use Rattle.std.proofs.Common.{eqb-true}
 use Rattle.std.specs.Option.{option_or}
 use Rattle.std.specs.Prelude.{◌||◌, if◌then◌else◌}
+use Rattle.std.proofs.lemmas.Bool.{or_left, or_right}
 use Rattle.resolution.specs.Where.{Has, first, further}
-use Rattle.syntax.specs.Trees.{Ident, Protection, Field, Member, lock_member, final_member, field_member, Struct}
-use Rattle.syntax.specs.Trees.{Decl, lock, struct, global, array, pool, init, atomic, helper, thread}
+use Rattle.syntax.specs.Trees.{Ident, Protection, Field, Member, lock_member, final_member, field_member, Struct, Decl}
+use Rattle.syntax.specs.Trees.{lock, struct, global, array, pool, init, atomic, helper, thread}
+use Rattle.core_lang.specs.Theory.Items.{if_some}
 use Rattle.explanation_faults.specs.FirstBy.{IsFirst}
 use Rattle.explanation_faults.specs.LocksAtHand.{IsNearest, inside, outside, IsAtHand, for_global, for_array, for_field}
 use Rattle.explanation_faults.specs.Working.LocksFound.{field_lacks_lock, global_lock, lacks_lock, lock_at_hand}
 use Rattle.explanation_faults.specs.Working.LocksFound.{lock_for, lock_in, own_lock, some_lacks_lock}
 use Rattle.explanation_faults.specs.LimitsPassed.{own_lock_in}
 use Rattle.explanation_faults.proofs.FirstBy.{some_first, first_from, is_first, has_first}
-use Rattle.explanation_faults.proofs.Places.{or_right}
-
-or_left : (a b : Bool) → a ≡ true → a || b ≡ true
-or_left true b e = refl
-or_left false b e = absurd cc
 
 some_bare : (at : ℕ) (ms : List Member) (m : Member) → Has ms m → field_lacks_lock at m ≡ true →
     some_lacks_lock at ms ≡ true
@@ -76,10 +73,6 @@ lacks_there : (at : ℕ) (ms : List Member) → some_lacks_lock at ms ≡ true �
 lacks_there at [] some = absurd cc
 lacks_there at (m ∷ ms) some = lacks_here at m ms (field_lacks_lock at m) refl some (lacks_there at ms)
 
-if_found : {A : Type 0} (b : Bool) (o : Option A) (x : A) → (if b then o else None) ≡ Some x → (b ≡ true) × (o ≡ Some x)
-if_found true o x is = (refl, is)
-if_found false o x is = absurd cc
-
 module _ (decls : List Decl) where
   global_first : (x : Ident) → global_lock decls ≡ Some x → IsFirst lock decls x
   global_first x is = is_first lock_in lock lock_only (λ y. refl) decls x is
@@ -94,15 +87,15 @@ module _ (decls : List Decl) where
 
   found_for : (at : ℕ) (d : Decl) (x : Ident) → Has decls d → lock_for decls at d ≡ Some x → IsAtHand decls at x
   found_for at (struct s) x has is =
-      let found = if_found (some_lacks_lock at s.members) _ x is in
+      let found = if_some (some_lacks_lock at s.members) _ x is in
       let l = lacks_there at s.members found.0 in
       for_field has l.has l.none l.starts (nearest s x (own_lock s.members) refl found.1)
   found_for at (global v) x has is =
-      let found = if_found (lacks_lock at v.name v.protection) _ x is in
+      let found = if_some (lacks_lock at v.name v.protection) _ x is in
       let l = lacks at v.name v.protection found.0 in
       for_global has l.0 l.1 (global_first x found.1)
   found_for at (array a) x has is =
-      let found = if_found (lacks_lock at a.name a.protection) _ x is in
+      let found = if_some (lacks_lock at a.name a.protection) _ x is in
       let l = lacks at a.name a.protection found.0 in
       for_array has l.0 l.1 (global_first x found.1)
   found_for at (lock y) x has is = absurd cc

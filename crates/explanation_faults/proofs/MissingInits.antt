@@ -19,8 +19,9 @@ use Rattle.types_symbols.specs.Working.Views.{struct_in}
 use Rattle.source.specs.declared.span.Span.{Span}
 use Rattle.resolution.specs.Where.{Has}
 use Rattle.syntax.specs.Trees.{Const, int_const, negative, null_const, member_const, Final, Member, lock_member}
-use Rattle.syntax.specs.Trees.{final_member, field_member, Pool, Struct, Decl, lock, struct, global, array, pool}
-use Rattle.syntax.specs.Trees.{init, atomic, helper, thread}
+use Rattle.syntax.specs.Trees.{final_member, field_member, Pool, Struct, Decl, lock, struct, global, array, pool, init}
+use Rattle.syntax.specs.Trees.{atomic, helper, thread}
+use Rattle.core_lang.specs.Theory.Items.{if_some}
 use Rattle.explanation_faults.specs.MissingInits.{IsNullGiven, value_given}
 use Rattle.explanation_faults.specs.Working.NullsFound.{final_in, is_null_at, null_given, null_given_in}
 use Rattle.explanation_faults.specs.Working.Values.{EachGiven, FoundGapOf, FoundMissing, IsWhole, due_final}
@@ -123,10 +124,6 @@ no_gap decls at whole none (given_null {i = i} {m = m} {f = f} {at = s} has fiel
 
 -- ---- what is given null
 
-if_given : {A : Type 0} (b : Bool) (o : Option A) (x : A) → (if b then o else None) ≡ Some x → (b ≡ true) × (o ≡ Some x)
-if_given true o x is = (refl, is)
-if_given false o x is = absurd cc
-
 null_there : (at : ℕ) (c : Const) → is_null_at at c ≡ true → (s : Span) × (c ≡ null_const s) × (s.start ≡ at)
 null_there at (null_const s) is = (s, refl, eqb-true s.start at is)
 null_there at (int_const n) is = absurd cc
@@ -142,7 +139,7 @@ final_there None f is = absurd cc
 given_by : (decls : List Decl) (at : ℕ) (d : Decl) (f : Final) → Has decls d → null_given_in decls at d ≡ Some f →
     IsNullGiven decls at f
 given_by decls at (init i) f has is =
-    let gives = if_given (is_null_at at i.value) (final_in (initialised decls i)) f is in
+    let gives = if_some (is_null_at at i.value) (final_in (initialised decls i)) f is in
     let null = null_there at i.value gives.0 in
     let target = final_there (initialised decls i) f gives.1 in
     record { giver = i; listed = has; span = null.0; value = null.1; starts = null.2; member = target.0; target = target.1 }

@@ -38,21 +38,11 @@ pub take_front : {A : Type 0} (before behind : List A) → take (length before) 
 take_front [] behind = refl
 take_front (y ∷ before) behind = ap (λ l. y ∷ l) (take_front before behind)
 
-pub get_front : {A : Type 0} (before behind : List A) (k : ℕ) (x : A) → slice_get before k ≡ Some x →
-    slice_get (before ++ behind) k ≡ Some x
-get_front [] behind k x e = absurd cc
-get_front (y ∷ before) behind zero x e = e
-get_front (y ∷ before) behind (suc k) x e = get_front before behind k x e
-
 -- ---- whether some passes
 
 abbrev pub some_pass : {A : Type 0} → (A → Bool) → List A → Bool
 some_pass p [] = false
 some_pass p (x ∷ xs) = p x || some_pass p xs
-
-pub or_right : (a b : Bool) → b ≡ true → a || b ≡ true
-or_right true b e = refl
-or_right false b e = e
 
 pub or_cases : (a b : Bool) (n : ℕ) (o : Option ℕ) (k : ℕ) → (if a then Some n else o) ≡ Some k →
     (o ≡ Some k → b ≡ true) → a || b ≡ true

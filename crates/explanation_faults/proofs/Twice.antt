@@ -1,17 +1,17 @@
 -- Of a name that is declared twice the first is found.
-use Rattle.std.proofs.Common.{◌≡◌, ◌∙◌, ℕ, Bool, true, List, [], ◌∷◌, ◌++◌, length, map, Option, Some, None, refl}
-use Rattle.std.proofs.Common.{sym, ap}
+use Rattle.std.proofs.Common.{◌≡◌, ◌∙◌, ℕ, Bool, true, List, [], ◌∷◌, ◌++◌, length, map, Option, Some, None, refl, sym}
+use Rattle.std.proofs.Common.{ap}
 use Rattle.std.specs.Prelude.{◌||◌}
 use Rattle.std.proofs.lemmas.List.{map-append}
 use Rattle.syntax.specs.Trees.{Ident, Decl, struct, Member}
+use Rattle.core_lang.specs.Theory.Items.{still_at}
 use Rattle.resolution.specs.Faults.{IsDeclaredTwice, two_decls, two_members, two_locals, top_level}
 use Rattle.resolution.specs.Scopes as scopes
-use Rattle.resolution.specs.Scopes.{◌>>=◌, Scope, bears, declared, is_called, local_bears, member_bears, member_name}
-use Rattle.resolution.specs.Scopes.{named, place_of, the_decl, the_local}
-use Rattle.explanation_faults.specs.NameSpaces.{with_name, top_names, inner_names, ident_bears, Repeats, Bears}
-use Rattle.explanation_faults.specs.NameSpaces.{inside, outside, IsDeclaredAs, at_the_top, in_one}
+use Rattle.resolution.specs.Scopes.{bears, declared, is_called, local_bears, member_bears, member_name, named}
+use Rattle.explanation_faults.specs.NameSpaces.{with_name, top_names, inner_names, ident_bears, Repeats, Bears, inside}
+use Rattle.explanation_faults.specs.NameSpaces.{outside, IsDeclaredAs, at_the_top, in_one}
 use Rattle.explanation_faults.proofs.Places.{some_pass, found_passes, passing, passing_at, named_passes, at_front}
-use Rattle.explanation_faults.proofs.Places.{take_front, get_front}
+use Rattle.explanation_faults.proofs.Places.{take_front}
 use Rattle.explanation_faults.proofs.Scopes as locals
 use Rattle.explanation_faults.proofs.Scopes.{texts, bound_local}
 
@@ -33,7 +33,7 @@ repeats names before behind x parts some =
         starts = refl;
         first = p.offset;
         found = rw (parts, take_front before (x ∷ behind)) (passing_at (same_as x.text) before p);
-        is_first = rw parts (get_front before (x ∷ behind) p.offset p.element p.is);
+        is_first = rw parts (still_at before (x ∷ behind) p.offset p.element p.is);
       },
     )
 

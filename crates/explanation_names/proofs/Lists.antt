@@ -1,6 +1,6 @@
 -- What is in lists that stand one after another.
 use Rattle.std.proofs.Common.{◌≡◌, List, [], ◌∷◌, ◌++◌, ◌⊎◌, inl, inr, Bool, true, false, Option, Some, None}
-use Rattle.std.proofs.Common.{if◌then◌else◌, Result, Ok, Err, OnOk, take, length, map, refl, ap}
+use Rattle.std.proofs.Common.{if◌then◌else◌, take, length, map, refl, ap}
 use Rattle.std.specs.List.{cons_option, filter_map, flat_map}
 use Rattle.resolution.specs.Where.{Has, first, further}
 
@@ -66,10 +66,6 @@ module _ {A B : Type 0} (f : A → Option B) {y : B} where
 pub front : {A : Type 0} (xs ys : List A) → take (length xs) (xs ++ ys) ≡ xs
 front [] ys = refl
 front (x ∷ xs) ys = ap (λ l. x ∷ l) (front xs ys)
-
-pub on_ok_by : {A E : Type 0} {P Q : Type 0} (r : Result A E) → (P → Q) → OnOk r P → OnOk r Q
-on_ok_by (Ok x) f p = f p
-on_ok_by (Err e) f p = tt
 
 -- in what stands one after another for each of a list, and in what a function makes of each
 module _ {A B : Type 0} {y : B} where

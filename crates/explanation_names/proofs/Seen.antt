@@ -8,14 +8,13 @@ use Rattle.syntax.specs.declared.tree.Expr as the_expr
 use Rattle.syntax.specs.declared.tree.Link as the_link
 use Rattle.syntax.specs.declared.tree.Level.{Level}
 use Rattle.syntax.specs.declared.tree.Stmt as the_stmt
-use Rattle.syntax.specs.declared.tree.Stmt.{While, If}
+use Rattle.syntax.specs.declared.tree.Stmt.{If}
 use Rattle.syntax.specs.declared.tree.If as the_if
 use Rattle.syntax.specs.declared.tree.If.{out-If}
-use Rattle.syntax.specs.declared.tree.While as the_while
 use Rattle.syntax.specs.declared.tree.Item as the_item
 use Rattle.syntax.specs.declared.tree.Item.{Repeat}
 use Rattle.source.specs.declared.token.Number.{Number}
-use Rattle.syntax.specs.Theory.Rows.{while_of, stmt_of-While, if_of-out, joined_of-Chain, item_of_Repeat}
+use Rattle.syntax.specs.Theory.Rows.{if_of-out, joined_of-Chain, item_of_Repeat}
 use Rattle.syntax.specs.Trees.{chain, if_then}
 use Rattle.syntax.specs.Views.{expr_of, item_of, items_of, joined_of, links_of, stmt_of, if_of, stmts_of, else_of}
 use Rattle.explanation_names.specs.declared.search.LocalInScope as the_local
@@ -28,10 +27,6 @@ use Rattle.explanation_names.proofs.Lists.{front}
 pub chain_seen : (e : the_joined.Joined) (k : Level) (first : the_expr.Expr) (links : Vec the_link.Link Global) (ls : List the_link.Link) → e ≡ Chain k first links → ls ≡ links.items →
     chain k (expr_of first) (links_of ls) ≡ joined_of e
 chain_seen e k first links ls is here = sym (ap joined_of is ∙ joined_of-Chain k first links ∙ ap (λ l. chain k (expr_of first) (links_of l)) (sym here))
-
-pub while_seen : (s : the_stmt.Stmt) (b : Box the_while.While Global) (x : the_while.While) → s ≡ While b →
-    x ≡ b.value → while_of x ≡ stmt_of s
-while_seen s b x is here = ap while_of here ∙ sym (ap stmt_of is ∙ stmt_of-While b)
 
 pub if_seen : (s : the_stmt.Stmt) (b : Box the_if.If Global) (x : the_if.If) → s ≡ If b → x ≡ b.value →
     if_then (out-If x).start (expr_of (out-If x).condition) (stmts_of (out-If x).block.stmts.items) (out-If x).block.close (else_of (out-If x).otherwise) ≡ stmt_of s

@@ -4,37 +4,36 @@ use Rattle.std.specs.List.{flat_map}
 use Rattle.core_lang.specs.declared.value.ValueType.TheVariants.{Integer}
 use Rattle.resolution.specs.declared.wanted.Want.{Want}
 use Rattle.resolution.specs.declared.wanted.Want.TheVariants.{Anything, Value}
-use Rattle.resolution.specs.Where.{Has, first, further, Within, itself, in_parentheses, in_prefix, in_first}
-use Rattle.resolution.specs.Where.{in_operand, in_index, HasLink, this_link, later_link, HasCall, in_thread, InItems}
-use Rattle.resolution.specs.Where.{this_call, in_repeat, later_call, HasLock, of_variable, of_elements, operand_want}
-use Rattle.resolution.specs.Where.{prefix_want, side_want}
+use Rattle.resolution.specs.Where.{Has, first, further, Within, itself, in_parentheses, in_prefix, in_first, in_operand}
+use Rattle.resolution.specs.Where.{in_index, HasLink, this_link, later_link, HasCall, in_thread, InItems, this_call}
+use Rattle.resolution.specs.Where.{in_repeat, later_call, HasLock, of_variable, of_elements, operand_want, prefix_want}
+use Rattle.resolution.specs.Where.{side_want}
 use Rattle.resolution.specs.Where as where_
 use Rattle.syntax.specs.declared.tree.Operator.{Operator}
-use Rattle.syntax.specs.Trees.{Ident, ValueType, int_type, ref_type, Const, int_const, negative, null_const}
-use Rattle.syntax.specs.Trees.{member_const, Expr, int, null, place, paren, prefix, chain, compare, Place, lone}
-use Rattle.syntax.specs.Trees.{element, path, Links, no_links, link, HelperCall, Stmt, let_local, let_owned, let_call}
-use Rattle.syntax.specs.Trees.{var_local, assign, if_then, while, print, return_value, Stmts, no_stmts, stmt}
-use Rattle.syntax.specs.Trees.{Otherwise, no_else, else_do, Protection, Member, lock_member, final_member}
-use Rattle.syntax.specs.Trees.{field_member, Struct, Variable, Array, Init, Section, Call, Item, call, repeat, Items}
-use Rattle.syntax.specs.Trees.{no_items, item, Decl, lock, struct, global, array, pool, init, atomic, helper, thread}
+use Rattle.syntax.specs.Trees.{ValueType, int_type, ref_type, Const, int_const, negative, null_const, member_const}
+use Rattle.syntax.specs.Trees.{Expr, int, null, place, paren, prefix, chain, compare, Place, lone, element, path, Links}
+use Rattle.syntax.specs.Trees.{no_links, link, HelperCall, Stmt, let_local, let_owned, let_call, var_local, assign}
+use Rattle.syntax.specs.Trees.{if_then, while, print, return_value, Stmts, no_stmts, stmt, no_else, else_do, Protection}
+use Rattle.syntax.specs.Trees.{Member, lock_member, final_member, field_member, Struct, Variable, Init, Section, Call}
+use Rattle.syntax.specs.Trees.{Item, call, repeat, Items, no_items, item, Decl, lock, struct, global, array, pool, init}
+use Rattle.syntax.specs.Trees.{atomic, helper, thread}
 use Rattle.syntax.specs.Trees as tree
 use Rattle.explanation_names.specs.declared.sought.Sought.TheVariants as kind
 use Rattle.explanation_names.specs.Locals.{LocalInScope, declared_by, param_in_scope, Stands, here, later, in_then}
 use Rattle.explanation_names.specs.Locals.{in_else, in_while, HasBody, of_section, of_helper, HasStmt, in_body}
-use Rattle.explanation_names.specs.Sought.{Use, of_kind, by_dots, by_init, by_owner, Uses, a_value, an_element}
-use Rattle.explanation_names.specs.Sought.{a_base, a_way, an_owner, an_owner_local, a_struct, a_helper, a_section}
-use Rattle.explanation_names.specs.Sought.{a_pool, a_pool_given, a_field_given, a_lock, a_guard, a_guard_way, HasExpr}
-use Rattle.explanation_names.specs.Sought.{of_let, of_owned, of_var, of_assign, of_index, of_if, of_while, of_print}
-use Rattle.explanation_names.specs.Sought.{of_return, of_argument, HasHelperCall, by_let, by_itself, HasPlace}
-use Rattle.explanation_names.specs.Sought.{is_read, is_written, HasType, of_global, of_array, of_pool, of_final}
-use Rattle.explanation_names.specs.Sought.{of_field, of_parameter, of_result, of_local, HasConst, opening, initial}
-use Rattle.explanation_names.specs.Sought.{argument, Guards, guards}
+use Rattle.explanation_names.specs.Sought.{Use, of_kind, by_dots, by_init, by_owner, Uses, a_value, an_element, a_base}
+use Rattle.explanation_names.specs.Sought.{a_way, an_owner, an_owner_local, a_struct, a_helper, a_section, a_pool}
+use Rattle.explanation_names.specs.Sought.{a_pool_given, a_field_given, a_lock, a_guard, a_guard_way, HasExpr, of_let}
+use Rattle.explanation_names.specs.Sought.{of_owned, of_var, of_assign, of_index, of_if, of_while, of_print, of_return}
+use Rattle.explanation_names.specs.Sought.{of_argument, HasHelperCall, by_let, by_itself, HasPlace, is_read, is_written}
+use Rattle.explanation_names.specs.Sought.{HasType, of_global, of_array, of_pool, of_final, of_field, of_parameter}
+use Rattle.explanation_names.specs.Sought.{of_result, of_local, HasConst, opening, initial, argument, Guards, guards}
 use Rattle.explanation_names.specs.Working.UsesFound.{uses_in, uses_at, uses_behind, uses_of_type, uses_of_call}
 use Rattle.explanation_names.specs.Working.UsesFound.{uses_of_local, uses_by, uses_in_blocks, uses_in_else}
 use Rattle.explanation_names.specs.Working.UsesFound.{uses_in_stmts, uses_of_body, uses_of_const, uses_of_value}
-use Rattle.explanation_names.specs.Working.UsesFound.{uses_of_result, uses_of_section_call, uses_of_item}
-use Rattle.explanation_names.specs.Working.UsesFound.{uses_of_items, uses_of_annotation, uses_of_guard}
-use Rattle.explanation_names.specs.Working.UsesFound.{uses_of_member, uses_of_param, uses_of_section, uses_of_decl}
+use Rattle.explanation_names.specs.Working.UsesFound.{uses_of_result, uses_of_section_call, uses_of_item, uses_of_items}
+use Rattle.explanation_names.specs.Working.UsesFound.{uses_of_annotation, uses_of_guard, uses_of_member, uses_of_param}
+use Rattle.explanation_names.specs.Working.UsesFound.{uses_of_section, uses_of_decl}
 use Rattle.explanation_names.proofs.Lists as l
 
 -- ---- in expressions

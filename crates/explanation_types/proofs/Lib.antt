@@ -3,7 +3,6 @@ pub mod ExpressionLaws
 pub mod StatementLaws
 pub mod KindLaws
 pub mod NoteSteps
-pub mod PlaceLaws
 pub mod BlockLaws
 pub mod ConstantLaws
 pub mod DeclLaws

@@ -1,7 +1,7 @@
 -- Notes, pushed one after another.
-use Rattle.std.proofs.Common.{◌≡◌, Global, Vec, ℕ, ◌+◌, ◌<◌, List, ◌∷◌, ◌++◌, length, drop, get_or, sym, ap, ◌∙◌}
-use Rattle.std.proofs.Common.{subst, append_assoc}
-use Rattle.types_symbols.specs.Theory.Steps.{drop-here, step}
+use Rattle.std.proofs.Common.{◌≡◌, Global, Vec, ℕ, ◌+◌, ◌<◌, List, ◌∷◌, ◌++◌, length, drop, get_or, sym, ap, ◌∙◌, subst}
+use Rattle.std.proofs.Common.{append_assoc}
+use Rattle.types_symbols.specs.Theory.Steps.{step}
 use Rattle.syntax.specs.declared.tree.Expr as the_expr
 use Rattle.syntax.specs.declared.tree.Joined as the_joined
 use Rattle.syntax.specs.declared.tree.Joined.{Chain}
@@ -10,6 +10,7 @@ use Rattle.syntax.specs.declared.tree.Level.{Level}
 use Rattle.syntax.specs.Trees.{chain}
 use Rattle.syntax.specs.Views.{expr_of, joined_of, links_of}
 use Rattle.syntax.specs.Theory.Rows.{joined_of-Chain}
+use Rattle.core_lang.specs.Theory.Items.{next_of}
 
 -- two, one after the other
 pub two : {A : Type 0} (xs ys zs a b : List A) → ys ≡ xs ++ a → zs ≡ ys ++ b → zs ≡ xs ++ (a ++ b)
@@ -35,5 +36,5 @@ pub turn_two : {A B C : Type 0} (go : List A → List B →
 turn_two go xs ys i x y now new own whole lt same x_is y_is made one before =
     let rest = go (drop (i + 1) xs) (drop (i + 1) ys) in
     ap (λ l. l ++ rest) made ∙ append_assoc now own rest
-    ∙ ap (λ l. now ++ l) (one ∙ ap (λ l. go l (y ∷ drop (i + 1) ys)) (sym (drop-here xs i x lt x_is)) ∙ ap (go (drop i xs)) (sym (drop-here ys i y (subst (λ n. i < n) same lt) y_is)))
+    ∙ ap (λ l. now ++ l) (one ∙ ap (λ l. go l (y ∷ drop (i + 1) ys)) (sym (next_of xs i x lt x_is)) ∙ ap (go (drop i xs)) (sym (next_of ys i y (subst (λ n. i < n) same lt) y_is)))
     ∙ before

@@ -17,11 +17,12 @@ use Rattle.resolution.specs.Statements.{after, after_all}
 use Rattle.resolution.specs.Constants.{want_of}
 use Rattle.resolution.specs.Working.Laws.{WantedAreAsked}
 use Rattle.resolution.specs.Where.{Has, first, further, Among, here, later, in_then, in_else, in_while, IsArgument}
-use Rattle.resolution.specs.Where.{for_parameter, for_nothing, Asks, of_let, of_owned, of_let_call, of_var, of_assign, of_unassignable}
-use Rattle.resolution.specs.Where.{of_index, of_if, of_while, of_print, of_return, of_call_alone, Within}
+use Rattle.resolution.specs.Where.{for_parameter, for_nothing, Asks, of_let, of_owned, of_let_call, of_var, of_assign}
+use Rattle.resolution.specs.Where.{of_unassignable, of_index, of_if, of_while, of_print, of_return, of_call_alone}
+use Rattle.resolution.specs.Where.{Within}
 use Rattle.explanation_types.specs.Working.Searches as search
-use Rattle.explanation_types.specs.Working.Searches.{in_place, of_expr, of_arguments, of_each, of_passed, of_call}
-use Rattle.explanation_types.specs.Working.Searches.{in_blocks, of_stmts, in_decl, in_decls}
+use Rattle.explanation_types.specs.Working.Searches.{in_place, of_expr, of_arguments, of_each, of_passed, in_blocks}
+use Rattle.explanation_types.specs.Working.Searches.{of_stmts}
 use Rattle.explanation_types.proofs.Lists as l
 use Rattle.explanation_types.proofs.ExpressionLaws.{each_within, from_within}
 

@@ -85,7 +85,7 @@ pub fn element_spot(checker: &Checker, element: &Element) -> Result<Spot, AllocE
 }
 
 /// What stands at the end of a walk: nothing can be assigned to a final reference.
-#[tactic(auto, using(crate::proofs::PlaceLaws::last_push, crate::proofs::PlaceLaws::last_final))]
+#[tactic(auto, using(resolution::specs::Theory::Blocks::last_push, resolution::specs::Theory::Blocks::last_final))]
 fn spot_reached(walk: Walk) -> Spot
     ensures { result ≡ spot_reached (walk_of walk) }
 {

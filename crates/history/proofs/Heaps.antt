@@ -1,23 +1,13 @@
 -- Heaps that are overwritten.
-use Rattle.std.proofs.Common.{◌≡◌, ◌≢◌, ℕ, zero, suc, List, [], ◌∷◌, ◌++◌, length, map, slice_get, set, refl, ap, ◌∙◌}
-use Rattle.std.proofs.Math.ListN.{length-set}
+use Rattle.std.proofs.Common.{◌≡◌, ℕ, List, [], ◌∷◌, ◌++◌, length, map, slice_get, refl, ap, ◌∙◌}
 use Rattle.core_lang.specs.declared.value.Value.{Value}
 use Rattle.core_lang.specs.declared.typed.Typed.{Typed}
 use Rattle.core_lang.specs.Serial.{Serial}
+use Rattle.core_lang.specs.Theory.Items.{set_other}
 use Rattle.code.specs.Memory.{overwritten, Agrees}
+use Rattle.code.specs.Theory.Values.{length-overwritten}
 use Rattle.history.specs.Commits.{Commit, call_of, answer_of, finished_on, committed, IsLegal, IsTrueCommit, AreTrue}
 use Rattle.history.specs.Commits.{WritesNot, NoneWrites}
-
-slice_get-set_other : {X : Type 0} (xs : List X) (i j : ℕ) (y : X) → i ≢ j → slice_get (set xs i y) j ≡ slice_get xs j
-slice_get-set_other [] i j y ne = refl
-slice_get-set_other (x ∷ xs) zero zero y ne = absurd (ne refl)
-slice_get-set_other (x ∷ xs) zero (suc j) y ne = refl
-slice_get-set_other (x ∷ xs) (suc i) zero y ne = refl
-slice_get-set_other (x ∷ xs) (suc i) (suc j) y ne = slice_get-set_other xs i j y (λ e. ne (ap suc e))
-
-pub length-overwritten : (h : List Value) (ws : List (ℕ × Value)) → length (overwritten h ws) ≡ length h
-length-overwritten h [] = refl
-length-overwritten h (w ∷ ws) = length-set (overwritten h ws) w.0 w.1 ∙ length-overwritten h ws
 
 pub length-committed : (h : List Value) (cs : List Commit) → length (committed h cs) ≡ length h
 length-committed h [] = refl
@@ -26,7 +16,7 @@ length-committed h (c ∷ cs) = length-committed (overwritten h c.writes) cs ∙
 pub overwritten_spares : (h : List Value) (ws : List (ℕ × Value)) (cell : ℕ) → WritesNot cell ws →
     slice_get (overwritten h ws) cell ≡ slice_get h cell
 overwritten_spares h [] cell s = refl
-overwritten_spares h (w ∷ ws) cell s = slice_get-set_other (overwritten h ws) w.0 cell w.1 s.0 ∙ overwritten_spares h ws cell s.1
+overwritten_spares h (w ∷ ws) cell s = set_other (overwritten h ws) w.0 cell w.1 s.0 ∙ overwritten_spares h ws cell s.1
 
 pub committed-append : (h : List Value) (cs more : List Commit) →
     committed h (cs ++ more) ≡ committed (committed h cs) more

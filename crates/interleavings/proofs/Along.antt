@@ -1,6 +1,6 @@
 -- Many instructions of one thread are as many steps of it.
-use Rattle.std.proofs.Common.{◌≡◌, ℕ, zero, suc, ◌+◌, ◌-◌, ◌<◌, ◌≤◌, List, [], ◌∷◌, ◌++◌, length, replicate, set}
-use Rattle.std.proofs.Common.{Some, refl, sym, ap, ◌∙◌, subst, arith}
+use Rattle.std.proofs.Common.{◌≡◌, ℕ, zero, suc, ◌+◌, ◌-◌, ◌<◌, ◌≤◌, List, [], ◌∷◌, ◌++◌, length, replicate, set, Some}
+use Rattle.std.proofs.Common.{refl, sym, ap, ◌∙◌, subst, arith}
 use Rattle.std.specs.Prelude.{slice_get}
 use Rattle.std.proofs.lemmas.List.{set-set}
 use Rattle.std.proofs.lemmas.Option.{slice_get_within}
@@ -23,8 +23,9 @@ use Rattle.interleavings.specs.Working.States.{state_of, world_of, IsTied}
 use Rattle.interleavings.specs.Working.Steps.{Moved}
 use Rattle.interleavings.specs.Threads.{ThreadsOf, threads_of, with_steps}
 use Rattle.interleavings.proofs.Turning.{Done, done}
-use Rattle.interleavings.proofs.Many.{steps_more, replicate_push, one_step_more}
+use Rattle.interleavings.proofs.Many.{replicate_push, one_step_more}
 use Rattle.core_lang.specs.Theory.Items.{set_same, set_itself}
+use Rattle.worlds.specs.Theory.Steps.{steps_more}
 
 -- a state that is named for a section that runs is that it runs
 named_running : (n : Next) → IsNamed n → IsRunning (open_of n) → state.Running (open_of n) ≡ state_of n

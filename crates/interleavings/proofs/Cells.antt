@@ -23,11 +23,12 @@ use Rattle.worlds.specs.Worlds.{World, with_taken, taken}
 use Rattle.worlds.specs.Working.States.{IsSound, HoldsLockOf}
 use Rattle.interleavings.specs.declared.state.State.{State}
 use Rattle.interleavings.specs.Working.States.{thread_of, session_at, cells_seen}
-use Rattle.interleavings.proofs.Lists.{lookup_at, same_everywhere}
-use Rattle.interleavings.proofs.Numbers.{number_found, cell_among, has_lock}
+use Rattle.interleavings.proofs.Lists.{same_everywhere}
 use Rattle.locks.specs.Theory.Order.{contains_among, among_contains}
 use Rattle.interleavings.proofs.Holding.{open_holds, holds_open}
-use Rattle.core_lang.specs.Theory.Items.{at_contained, get_some, map_at}
+use Rattle.core_lang.specs.Theory.Items.{at_contained, get_some, map_at, lookup_at}
+use Rattle.layout.specs.Theory.Numbers.{cell_among, has_lock}
+use Rattle.lock_manager.specs.Theory.Numbers.{number_found}
 
 -- ---- cell by cell
 

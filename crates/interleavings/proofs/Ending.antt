@@ -1,6 +1,6 @@
 -- When the section of a thread may be released.
-use Rattle.std.proofs.Common.{◌≡◌, ℕ, zero, suc, ◌<◌, ◌≤◌, List, [], ◌∷◌, ◌++◌, length, Option, Some, None, Bool}
-use Rattle.std.proofs.Common.{true, false, inl, inr, refl, sym, ap, ◌∙◌, subst, arith}
+use Rattle.std.proofs.Common.{◌≡◌, ℕ, zero, suc, ◌<◌, ◌≤◌, List, [], ◌∷◌, ◌++◌, length, Option, Some, None, Bool, true}
+use Rattle.std.proofs.Common.{false, inl, inr, refl, sym, ap, ◌∙◌, subst, arith}
 use Rattle.std.specs.Prelude.{slice_get}
 use Rattle.std.specs.Option.{option_map_or}
 use Rattle.std.specs.List.{All, Contains}
@@ -26,21 +26,14 @@ use Rattle.runner.specs.Working.Opens.{OpenOf, CanGiveBack, ticket_of}
 use Rattle.worlds.specs.Waiting.{first_if}
 use Rattle.worlds.specs.Worlds.{Activation, call_at, scripts, script_of}
 use Rattle.worlds.specs.Working.States.{IsWell, IsFit}
-use Rattle.interleavings.proofs.Numbers.{distinct_first, distinct_rest, has_lock}
 use Rattle.locks.specs.Theory.Order.{among_contains}
 use Rattle.interleavings.proofs.Cells.{first_is, first_is_not}
 use Rattle.core_lang.specs.Theory.Items.{contains_at, at_contained, some_same, all_contained, all_from, map_at}
 use Rattle.core_lang.specs.Theory.Items.{map_back, in_cases, in_rest}
+use Rattle.layout.specs.Theory.Numbers.{distinct_rest, distinct_first, has_lock}
+use Rattle.code.specs.Theory.Values.{value_left}
 
 -- ---- values of cells
-
-value_more : (xs ys : List (ℕ × Value)) (c : ℕ) (v : Value) → value_at xs c ≡ Some v → value_at (xs ++ ys) c ≡ Some v
-value_more [] ys c v h = absurd (none-some v h)
-value_more (x ∷ xs) ys c v h = elim (eqb_tells x.0 c) [
-  | inl e ↦ first_is x.0 c (Some x.1) (value_at (xs ++ ys) c) e.1 ∙ sym (first_is x.0 c (Some x.1) (value_at xs c) e.1) ∙ h
-  | inr e ↦ first_is_not x.0 c (Some x.1) (value_at (xs ++ ys) c) e.1
-      ∙ value_more xs ys c v (sym (first_is_not x.0 c (Some x.1) (value_at xs c) e.1) ∙ h)
-]
 
 value_behind : (xs ys : List (ℕ × Value)) (c : ℕ) → ((v : Value) → value_at xs c ≡ Some v → ⊥) →
     value_at (xs ++ ys) c ≡ value_at ys c
@@ -79,7 +72,7 @@ granted_value : (cell_locks : List Lock) (gs : List GrantOf) (g : GrantOf) (cell
     slice_get cell_locks cell ≡ Some g.lock → value_at (cells_in cell_locks g) cell ≡ Some v → value_at (cells_granted cell_locks gs) cell ≡ Some v
 granted_value cell_locks [] g cell v d c at h = absurd (omega (arith, c.1))
 granted_value cell_locks (x ∷ gs) g cell v d c at h = elim (in_cases x g gs c) [
-  | inl same ↦ value_more (cells_in cell_locks x) (cells_granted cell_locks gs) cell v (ap (λ (y : GrantOf). value_at (cells_in cell_locks y) cell) same ∙ h)
+  | inl same ↦ value_left (cells_in cell_locks x) (cells_granted cell_locks gs) cell v (ap (λ (y : GrantOf). value_at (cells_in cell_locks y) cell) same ∙ h)
   | inr rest ↦ (
       let others : Contains (locks_of gs) g.lock =
       (let i = at_contained gs g rest in contains_at (locks_of gs) i.0 g.lock (map_at (λ (y : GrantOf). y.lock) gs i.0 g i.1)) in

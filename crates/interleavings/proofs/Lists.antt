@@ -1,22 +1,14 @@
 -- Lists, place by place.
-use Rattle.std.proofs.Common.{◌≡◌, ℕ, suc, List, [], ◌∷◌, Option, Some, refl, sym, ap, arith}
+use Rattle.std.proofs.Common.{◌≡◌, ℕ, suc, List, [], ◌∷◌, refl, sym, arith}
 use Rattle.std.specs.Prelude.{slice_get}
 use Rattle.std.specs.List.{Contains}
 use Rattle.std.proofs.lemmas.Option.{none-some}
-use Rattle.core_lang.specs.Typing.{lookup}
 use Rattle.core_lang.specs.Theory.Items.{some_same}
-
-pub lookup_at : {A B : Type 0} (r : Option A) (a : A) (go : A → Option B) → r ≡ Some a → lookup r go ≡ go a
-lookup_at r a go e = ap (λ x. lookup x go) e
 
 -- ---- what stands where
 
 pub first : {X : Type 0} (y : X) (ys : List X) (x : X) → y ≡ x → Contains (y ∷ ys) x
 first y ys x e = (0, omega arith, e)
-
--- ---- mapped
-
--- ---- writes
 
 -- ---- the same everywhere
 

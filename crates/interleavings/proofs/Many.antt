@@ -3,18 +3,13 @@ use Rattle.std.proofs.Common.{◌≡◌, ℕ, zero, suc, ◌+◌, ◌<◌, ◌-�
 use Rattle.std.proofs.Common.{replicate, Some, refl, sym, ap, ◌∙◌, arith, append_assoc}
 use Rattle.std.proofs.lemmas.List.{take_more}
 use Rattle.std.specs.Prelude.{slice_get, Result, Ok, Err, OnErr}
-use Rattle.lowering.specs.Plans.{Plan}
 use Rattle.worlds.specs.declared.event.Event.{Event}
 use Rattle.worlds.specs.declared.event.Event.TheVariants.{Began}
 use Rattle.worlds.specs.Worlds.{World, happens, world_after}
 use Rattle.source_steps.specs.declared.turn.Turn.{Turn}
 use Rattle.interleavings.specs.Threads.{ThreadsOf, threads_of, with_steps, StopsAtBegin}
 use Rattle.source_steps.specs.Turns.{steps_of}
-
-pub steps_more : (plan : Plan) (w : World) (xs ys : List ℕ) →
-    world_after plan w (xs ++ ys) ≡ world_after plan (world_after plan w xs) ys
-steps_more plan w [] ys = refl
-steps_more plan w (t ∷ xs) ys = steps_more plan (happens plan w t).1 xs ys
+use Rattle.worlds.specs.Theory.Steps.{steps_more}
 
 pub replicate_push : (n t : ℕ) → replicate (suc n) t ≡ replicate n t ++ t ∷ []
 replicate_push zero t = refl

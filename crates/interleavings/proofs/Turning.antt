@@ -42,11 +42,11 @@ use Rattle.interleavings.specs.Working.Steps.{Begun, Moved, Got, Refused, Over, 
 use Rattle.interleavings.specs.Working.Steps.{AskingSteps, EndedSteps, Steps, Refuses, Stepped, CanStep, status_at}
 use Rattle.interleavings.specs.Statuses.{calling, wanting, asking, section_status, thread_status, status_of}
 use Rattle.interleavings.specs.Threads.{ThreadsOf, threads_of}
-use Rattle.interleavings.proofs.Numbers.{distinct_none, distinct_push}
 use Rattle.interleavings.proofs.Holding.{holder_is}
 use Rattle.interleavings.proofs.Cells.{same_cells, taken_from}
 use Rattle.interleavings.proofs.Ending.{can_end, step_within, no_ask}
 use Rattle.core_lang.specs.Theory.Items.{set_same, some_same, map_at, set_other, set_itself}
+use Rattle.layout.specs.Theory.Numbers.{distinct_none, distinct_push}
 
 -- ---- what a step gives, piece by piece
 

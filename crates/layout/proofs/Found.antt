@@ -23,8 +23,7 @@ use Rattle.locks.specs.Locks.{led_to, global_lock, lock_of, protection_of, walke
 use Rattle.layout.specs.declared.places.CellPlace.{CellPlace}
 use Rattle.layout.specs.Layouts.{lock_fields, object_struct}
 use Rattle.layout.specs.Working.Numbers.{locks_in, openings_in}
-use Rattle.layout.proofs.Lists.{map_at}
-use Rattle.core_lang.specs.Theory.Items.{lookup_none, lookup_at, read_at}
+use Rattle.core_lang.specs.Theory.Items.{lookup_none, lookup_at, read_at, map_at}
 
 -- ---- numbers below a bound that goes by several names
 

@@ -1,9 +1,8 @@
 -- The list of all locks has each lock of the program, and nothing else.
-use Rattle.std.proofs.Common.{◌≡◌, ℕ, zero, suc, ◌+◌, ◌<◌, List, [], ◌∷◌, ◌++◌, length, get_or, take, map, Option}
-use Rattle.std.proofs.Common.{Some, None, inl, inr, refl, sym, ap, ◌∙◌, subst, arith, add-one, append_assoc}
+use Rattle.std.proofs.Common.{◌≡◌, ℕ, zero, suc, ◌+◌, ◌<◌, List, [], ◌∷◌, ◌++◌, length, get_or, take, map, Option, Some}
+use Rattle.std.proofs.Common.{None, inl, inr, refl, sym, ap, ◌∙◌, subst, arith, add-one, append_assoc}
 use Rattle.std.specs.Prelude.{◌↔◌, slice_get}
 use Rattle.std.specs.List.{Contains}
-use Rattle.std.specs.Option.{option_map}
 use Rattle.std.proofs.lemmas.Bool.{cases_lt}
 use Rattle.std.proofs.lemmas.Option.{none-some, slice_get_within, slice_get-map}
 use Rattle.std.proofs.lemmas.List.Elements.{Contains-append_left, Contains-append_right, Contains-append_cases}
@@ -21,10 +20,11 @@ use Rattle.layout.specs.declared.places.ClassPlace.TheVariants as place
 use Rattle.layout.specs.Layouts.{if_global_lock, global_locks, lock_fields, object_struct, locks_of_object}
 use Rattle.layout.specs.Layouts.{object_locks, all_locks}
 use Rattle.layout.specs.Working.Numbers.{KnowFields, AreFields, class_place, locks_at}
-use Rattle.layout.proofs.Lists.{still_at, last_at, map_at, take_one_more}
+use Rattle.layout.proofs.Lists.{take_one_more}
 use Rattle.std.proofs.lemmas.List.{map_push}
 use Rattle.layout.proofs.Locked.{object_there}
-use Rattle.core_lang.specs.Theory.Items.{lookup_some, contains_at, at_contained, map_some, lookup_at, read_at}
+use Rattle.core_lang.specs.Theory.Items.{lookup_some, contains_at, at_contained, map_some, lookup_at, read_at, still_at}
+use Rattle.core_lang.specs.Theory.Items.{last_at, map_at}
 
 not_in_none : (x : Lock) → Contains [] x → ⊥
 not_in_none x c = omega (arith, c.1)

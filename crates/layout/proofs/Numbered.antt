@@ -9,9 +9,8 @@ use Rattle.layout.specs.declared.places.ClassPlace.{ClassPlace}
 use Rattle.layout.specs.declared.places.ClassPlace.TheVariants as place
 use Rattle.layout.specs.Layouts.{AreDistinct}
 use Rattle.layout.specs.Working.Numbers.{number_at, number_of, AreNumbered}
-use Rattle.layout.proofs.Lists.{still_at}
 use Rattle.core_lang.specs.Theory.Items.{lookup_some, contains_at, at_contained, both_false, lookup_at, read_at}
-use Rattle.core_lang.specs.Theory.Items.{pushed_at}
+use Rattle.core_lang.specs.Theory.Items.{pushed_at, still_at}
 
 -- ---- what is found of a lock
 

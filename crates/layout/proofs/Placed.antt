@@ -1,7 +1,7 @@
 -- Cells placed behind those that their locks have.
-use Rattle.std.proofs.Common.{replicate, ◌≡◌, ◌≢◌, ℕ, zero, suc, ◌+◌, ◌<◌, ◌≤◌, Bool, true, false, if◌then◌else◌}
-use Rattle.std.proofs.Common.{◌==◌, List, [], ◌∷◌, ◌++◌, length, get_or, set, IsTrue, Some, inl, inr, refl, sym, ap}
-use Rattle.std.proofs.Common.{◌∙◌, subst, arith, add-zero, length-append}
+use Rattle.std.proofs.Common.{replicate, ◌≡◌, ◌≢◌, ℕ, zero, suc, ◌+◌, ◌<◌, ◌≤◌, Bool, true, false, if◌then◌else◌, ◌==◌}
+use Rattle.std.proofs.Common.{List, [], ◌∷◌, ◌++◌, length, get_or, set, IsTrue, Some, inl, inr, refl, sym, ap, ◌∙◌}
+use Rattle.std.proofs.Common.{subst, arith, length-append}
 use Rattle.std.specs.Prelude.{slice_get}
 use Rattle.std.specs.List.{Contains}
 use Rattle.std.proofs.lemmas.Bool.{cases_Bool, both_ways, eqb-true, eq-eqb}
@@ -16,9 +16,10 @@ use Rattle.layout.specs.Layouts.{LayoutOf, AreDistinct}
 use Rattle.layout.specs.Working.Numbers.{openings_in, locks_in, IsPlaced, ArePlaced}
 use Rattle.layout.specs.Working.Growth.{with_cell}
 use Rattle.core_lang.specs.declared.value.Value.{Value}
-use Rattle.layout.proofs.Lists.{still_at, last_at, map_at}
 use Rattle.locks.specs.Theory.Order.{same_itself, same_is}
-use Rattle.core_lang.specs.Theory.Items.{contains_at, read_at, pushed_at, set_same, still_other}
+use Rattle.core_lang.specs.Theory.Items.{contains_at, read_at, pushed_at, set_same, still_other, still_at, last_at}
+use Rattle.core_lang.specs.Theory.Items.{map_at}
+use Rattle.layout.specs.Theory.Numbers.{cells_push_from, own_cell, other_cell}
 
 -- ---- the same lock
 
@@ -32,39 +33,10 @@ is_same_lock locks n other lock b at is = (
 
 -- ---- one cell more
 
-in_front : (b : Bool) (k : ℕ) (a c d : List ℕ) → a ≡ c ++ d → (if b then k ∷ a else a) ≡ (if b then k ∷ c else c) ++ d
-in_front true k a c d e = ap (λ xs. k ∷ xs) e
-in_front false k a c d e = e
-
-one_cell_from : (k : ℕ) (ls : List Lock) (l lock : Lock) →
-    cells_from k (ls ++ l ∷ []) lock ≡ cells_from k ls lock ++ (if same_lock l lock then (k + length ls) ∷ [] else [])
-one_cell_from k [] l lock = ap (λ (n : ℕ). if same_lock l lock then n ∷ [] else []) (sym (add-zero k))
-one_cell_from k (x ∷ xs) l lock =
-    let more = one_cell_from (k + 1) xs l lock in
-    let sum : (k + 1) + length xs ≡ k + length (x ∷ xs) = omega arith in
-    in_front (same_lock x lock) k (cells_from (k + 1) (xs ++ l ∷ []) lock) (cells_from (k + 1) xs lock) (if same_lock l lock then (k + length (x ∷ xs)) ∷ [] else [])
-    (more ∙ ap (λ (n : ℕ). cells_from (k + 1) xs lock ++ (if same_lock l lock then n ∷ [] else [])) sum)
-
-own_cell : (ls : List Lock) (lock : Lock) → cells_of (ls ++ lock ∷ []) lock ≡ cells_of ls lock ++ length ls ∷ []
-own_cell ls lock =
-    one_cell_from 0 ls lock lock ∙ ap (λ (b : Bool). cells_of ls lock ++ (if b then (0 + length ls) ∷ [] else [])) (same_itself lock)
-    ∙ ap (λ (n : ℕ). cells_of ls lock ++ n ∷ []) (let e : 0 + length ls ≡ length ls = omega arith in e)
-
-other_cell : (ls : List Lock) (l lock : Lock) → (l ≡ lock → ⊥) → cells_of (ls ++ l ∷ []) lock ≡ cells_of ls lock
-other_cell ls l lock ne =
-    elim (cases_Bool (same_lock l lock)) [
-      | inl same ↦ absurd (ne (same_is l lock same))
-      | inr other ↦ one_cell_from 0 ls l lock ∙ ap (λ (b : Bool). cells_of ls lock ++ (if b then (0 + length ls) ∷ [] else [])) other ∙ append_none (cells_of ls lock)
-    ]
-  where
-    append_none : (xs : List ℕ) → xs ++ [] ≡ xs
-    append_none [] = refl
-    append_none (x ∷ xs) = ap (λ ys. x ∷ ys) (append_none xs)
-
 still_cell : (ls : List Lock) (l lock : Lock) (offset cell : ℕ) → slice_get (cells_of ls lock) offset ≡ Some cell →
     slice_get (cells_of (ls ++ l ∷ []) lock) offset ≡ Some cell
 still_cell ls l lock offset cell e =
-    subst (λ (xs : List ℕ). slice_get xs offset ≡ Some cell) (sym (one_cell_from 0 ls l lock))
+    subst (λ (xs : List ℕ). slice_get xs offset ≡ Some cell) (sym (cells_push_from 0 ls l lock))
     (still_at (cells_of ls lock) (if same_lock l lock then (0 + length ls) ∷ [] else []) offset cell e)
 
 either : (b : Bool) (k : ℕ) (xs : List ℕ) (n : ℕ) → length xs ≤ n → length (if b then k ∷ xs else xs) ≤ suc n

@@ -9,8 +9,8 @@ use Rattle.std.proofs.lemmas.Slice.Eq.{bytes_eq-Decides}
 use Rattle.std.proofs.lemmas.Map.Text.{is_eq-slice_cmp}
 use Rattle.std.proofs.lemmas.Str.{IsUtf8-from_ascii}
 use Rattle.std.proofs.lemmas.Str.Ascii.{IsAscii-nil, IsAscii-cons}
+use Rattle.std.proofs.lemmas.Bool.{and_parts}
 use Rattle.source.specs.Texts.{is_name_byte}
-use Rattle.lexer.proofs.Gaps.{and_parts}
 
 name_byte_low : (b : ℕ) → is_name_byte b ≡ true → b < 128
 name_byte_low b h = grind (arith, nat_tests)

@@ -1,19 +1,19 @@
 -- One token after another.
-use Rattle.std.proofs.Common.{take, drop, ◌≡◌, ℕ, ◌+◌, ◌-◌, ◌^◌, ◌<◌, ◌≤◌, Bool, true, false, cond, List, [], ◌∷◌}
-use Rattle.std.proofs.Common.{◌++◌, length, Ok, Err, refl, sym, ap, ◌∙◌, subst, arith, append_assoc, length-append}
+use Rattle.std.proofs.Common.{take, drop, ◌≡◌, ℕ, ◌+◌, ◌-◌, ◌^◌, ◌<◌, ◌≤◌, Bool, true, false, cond, List, [], ◌∷◌, ◌++◌}
+use Rattle.std.proofs.Common.{length, Ok, Err, refl, sym, ap, ◌∙◌, subst, arith, append_assoc, length-append}
 use Rattle.std.specs.Prelude.{◌==◌, ◌&&◌, not, slice_range, IsTrue}
 use Rattle.std.specs.List.{list_all}
-use Rattle.std.proofs.lemmas.Bool.{eqb-true}
+use Rattle.std.proofs.lemmas.Bool.{eqb-true, and_parts}
 use Rattle.std.proofs.lemmas.List.{take_at, drop_at}
 use Rattle.source.specs.declared.fault.Code.{Code}
 use Rattle.source.specs.declared.fault.Code.TheVariants.{BadCharacter, NumberTooLarge, LimitExceeded}
 use Rattle.source.specs.Tokens.{Lexeme, name, int, word, mark, end, Tok}
 use Rattle.source.specs.Texts.{is_white, is_in_line, IsLineEnd, IsGap, no_gap, white, comment, BeginsComment, IsUnit}
-use Rattle.source.specs.Texts.{IsLongest, IsWithin, is_name, is_number, is_word, is_mark, IsNext, place, tok_at}
-use Rattle.source.specs.Texts.{end_at, AreTokens, at_end, token, HasTokens, DoRise, AreSlices, Leads, here, past}
+use Rattle.source.specs.Texts.{IsLongest, IsWithin, is_name, is_number, is_word, is_mark, IsNext, place, tok_at, end_at}
+use Rattle.source.specs.Texts.{AreTokens, at_end, token, HasTokens, DoRise, AreSlices, Leads, here, past}
 use Rattle.source.specs.Texts.{IsBadCharacter, IsOver, IsFaultFrom, bad_character, too_large, too_long}
 use Rattle.lexer.specs.Working.Reading.{after_line, is_slash, skip, CanStand, unit_at}
-use Rattle.lexer.proofs.Gaps.{and_parts, skip_comment, slash_is, Stands, skip_is}
+use Rattle.lexer.proofs.Gaps.{skip_comment, slash_is, Stands, skip_is}
 use Rattle.lexer.proofs.Units.{unit_begins, same_kind, same_unit, Over, Reads, over_code, Stuck, no_unit, over_unit}
 use Rattle.lexer.proofs.Units.{UnitAt, unit_law}
 

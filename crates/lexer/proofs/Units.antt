@@ -1,11 +1,12 @@
 -- Single tokens: what reading one answers is the longest unit at its place, and no other is.
-use Rattle.std.proofs.Common.{◌≡◌, ℕ, Bool, true, false, cond, List, [], ◌∷◌, ◌++◌, length, Option, Some, None}
-use Rattle.std.proofs.Common.{Result, Ok, Err, refl, sym, ap, ◌∙◌, subst, arith, append_assoc}
+use Rattle.std.proofs.Common.{◌≡◌, ℕ, Bool, true, false, cond, List, [], ◌∷◌, ◌++◌, length, Option, Some, None, Result}
+use Rattle.std.proofs.Common.{Ok, Err, refl, sym, ap, ◌∙◌, subst, arith, append_assoc}
 use Rattle.std.specs.Prelude.{not, nat_le}
 use Rattle.std.specs.List.{list_all}
 use Rattle.std.proofs.lemmas.Bool.Decides.{nat_tests}
 use Rattle.std.proofs.lemmas.List.{append-nil}
 use Rattle.std.proofs.lemmas.List.Folds.{list_all-append}
+use Rattle.std.proofs.lemmas.Bool.{and_parts}
 use Rattle.source.specs.declared.fault.Code.{Code}
 use Rattle.source.specs.declared.fault.Code.TheVariants.{BadCharacter, NumberTooLarge, UnexpectedToken, LimitExceeded}
 use Rattle.source.specs.declared.token.Keyword.{Keyword}
@@ -15,7 +16,6 @@ use Rattle.source.specs.Texts.{is_letter, is_digit, is_name_byte, is_white, keyw
 use Rattle.source.specs.Texts.{is_name, is_number, is_word, is_mark, IsLongest, IsWithin, NUMBER_LIMIT, NAME_LIMIT}
 use Rattle.lexer.specs.Working.Reading.{run_of, after_run, keyword_of, single_of, double_of, within, word_or_name}
 use Rattle.lexer.specs.Working.Reading.{word_at, number_at, sign_or, single_at, sign_at, unit_at}
-use Rattle.lexer.proofs.Gaps.{and_parts}
 use Rattle.lexer.proofs.Runs.{run_parts, run_all, run_stops, run_head}
 use Rattle.lexer.proofs.Texts.{keyword_found, keyword_is, is_word_text, keyword_letters, sign_in, sign_again}
 use Rattle.lexer.proofs.Texts.{is_sign_text, sign_bytes, single_is, double_is}

@@ -17,7 +17,7 @@ use Rattle.lock_manager.specs.Working.Committed.{CommittedOf, members_of, lock_v
 use Rattle.lock_manager.specs.Working.Managers.{number_from, put_number, put_for, given_back}
 use Rattle.core_lang.specs.Typing.{lookup}
 use Rattle.lock_manager.proofs.Lists.{first}
-use Rattle.lock_manager.proofs.Numbers.{number_at}
+use Rattle.lock_manager.specs.Theory.Numbers.{number_at}
 use Rattle.locks.specs.Theory.Order.{lock_cases}
 use Rattle.core_lang.specs.Theory.Items.{set_same, contains_at, lookup_some, set_other, some_same, in_cases, in_rest}
 

@@ -1,9 +1,8 @@
 -- Values of cells.
 use Rattle.std.proofs.Common.{◌≡◌, ◌≢◌, ℕ, zero, suc, ◌+◌, ◌-◌, ◌<◌, ◌≤◌, List, [], ◌∷◌, ◌++◌, length, take, get_or}
 use Rattle.std.proofs.Common.{Option, Some, None, ◌⊎◌, refl, sym, ap, ◌∙◌, subst, arith, inl, inr, drop, set}
-use Rattle.std.specs.Prelude.{slice_get, nat_eq, if◌then◌else◌}
+use Rattle.std.specs.Prelude.{slice_get}
 use Rattle.std.specs.List.{All, Contains}
-use Rattle.std.proofs.Math.ListN.{length-set}
 use Rattle.std.proofs.lemmas.Bool.Decides.{eqb_tells}
 use Rattle.std.proofs.lemmas.Bool.{cases_eq}
 use Rattle.std.proofs.lemmas.List.{take_all, take_more, at_drop_all}
@@ -13,6 +12,8 @@ use Rattle.code.specs.Memory.{value_at, overwritten, Agrees}
 use Rattle.moved_cells.specs.Working.Grants.{numbered, values_on, if_there}
 use Rattle.lock_manager.specs.Working.Ties.{Rise}
 use Rattle.std.proofs.Math.Seq.{drop-cons}
+use Rattle.core_lang.specs.Theory.Items.{get_some}
+use Rattle.code.specs.Theory.Values.{first_is, first_is_not}
 
 -- ---- what was read
 
@@ -62,12 +63,6 @@ have_more heap cs vs k c v e lt a at =
 
 -- ---- what is written
 
-first_is : (a k : ℕ) (v : Value) (rest : Option Value) → a ≡ k → (if nat_eq a k then Some v else rest) ≡ Some v
-first_is a k v rest e = elim (eqb_tells a k) [ inl h ↦ ap (λ b. if b then Some v else rest) h.0 | inr h ↦ absurd (h.1 e) ]
-
-first_is_not : (a k : ℕ) (v : Value) (rest : Option Value) → a ≢ k → (if nat_eq a k then Some v else rest) ≡ rest
-first_is_not a k v rest ne = elim (eqb_tells a k) [ inl h ↦ absurd (ne h.1) | inr h ↦ ap (λ b. if b then Some v else rest) h.0 ]
-
 -- no write of the cell before
 none_before_suc : (ws : List (ℕ × Value)) (k cell : ℕ) (d : ℕ × Value) → k < length ws →
     value_at (take k ws) cell ≡ None → (get_or ws k d).0 ≢ cell →
@@ -97,10 +92,6 @@ first_found (w ∷ ws) (suc k) cell d lt e same = elim (eqb_tells w.0 cell) [
   | inr h ↦ first_is_not w.0 cell w.1 (value_at ws cell) h.1
       ∙ first_found ws k cell d (omega (arith, lt)) (sym (first_is_not w.0 cell w.1 (value_at (take k ws) cell) h.1) ∙ e) same
 ]
-
-pub length-overwritten : (heap : List Value) (ws : List (ℕ × Value)) → length (overwritten heap ws) ≡ length heap
-length-overwritten heap [] = refl
-length-overwritten heap (w ∷ ws) = length-set (overwritten heap ws) w.0 w.1 ∙ length-overwritten heap ws
 
 -- ---- writes in order
 
@@ -201,16 +192,11 @@ one_value_more heap cs k d e vs more lt within so_far next =
     next ∙ ap (λ (xs : List Value). xs ++ get_or heap (get_or cs k d) e ∷ []) so_far
     ∙ sym (values_on-more heap cs k d (get_or heap (get_or cs k d) e) lt (slice_get-get_or heap (get_or cs k d) e within))
 
-item_there : (heap : List Value) (c : ℕ) → c < length heap → (v : Value) × (slice_get heap c ≡ Some v)
-item_there [] c lt = absurd (omega (arith, lt))
-item_there (v ∷ heap) zero lt = (v, refl)
-item_there (v ∷ heap) (suc c) lt = item_there heap c (omega (arith, lt))
-
 pub length-values_on : (heap : List Value) (cs : List ℕ) → All (λ (c : ℕ). c < length heap) cs →
     length (values_on heap cs) ≡ length cs
 length-values_on heap [] all = refl
 length-values_on heap (c ∷ cs) all =
-    let v = item_there heap c (all 0 c (omega arith)) in
+    let v = get_some heap c (all 0 c (omega arith)) in
     ap (λ o. length (if_there o (values_on heap cs))) v.1 ∙ ap suc (length-values_on heap cs (λ k d lt. all (suc k) d (omega (arith, lt))))
 
 -- values that a heap has at these cells are those on it
@@ -240,7 +226,7 @@ pub value_among : (heap : List Value) (cs : List ℕ) (cell : ℕ) → All (λ (
     value_at (numbered cs (values_on heap cs)) cell ≡ slice_get heap cell
 value_among heap [] cell all k = absurd (omega (arith, k.1))
 value_among heap (c ∷ cs) cell all k =
-    let v = item_there heap c (all 0 c (omega arith)) in
+    let v = get_some heap c (all 0 c (omega arith)) in
     let rest : All (λ (c : ℕ). c < length heap) cs = λ j d lt. all (suc j) d (omega (arith, lt)) in
     ap (λ o. value_at (numbered (c ∷ cs) (if_there o (values_on heap cs))) cell) v.1 ∙ elim (eqb_tells c cell) [
       | inl h ↦ first_is c cell v.0 (value_at (numbered cs (values_on heap cs)) cell) h.1 ∙ sym v.1 ∙ ap (slice_get heap) h.1

@@ -24,8 +24,6 @@ use Rattle.lock_manager.specs.Working.Managers.{Managed, IsKept, Holds, Asks, pl
 use Rattle.lock_manager.specs.Working.Managers.{given_back, as_committed, ComesAfter, threads}
 use Rattle.lock_manager.specs.Working.Calls.{Knows, CanAsk, IsOwnWrite, Fits, AreItsGrants, with_session, after_grant}
 use Rattle.lock_manager.specs.Working.Calls.{after_refusal, after_release, after_give_up}
-use Rattle.lock_manager.proofs.Lists.{mapped, unmapped}
-use Rattle.lock_manager.proofs.Numbers.{cell_is_of, distinct_none, distinct_push}
 use Rattle.locks.specs.Theory.Order.{lock_cases}
 use Rattle.lock_manager.proofs.Heaps.{values_agree, values_same}
 use Rattle.lock_manager.proofs.Queued.{still_waits, waited}
@@ -33,7 +31,8 @@ use Rattle.lock_manager.proofs.Slots.{slot_within, holds_cases, holds_other, hol
 use Rattle.lock_manager.proofs.Slots.{asks_same, asks_back, as_it_asked, asked_session, session_same, once_set}
 use Rattle.lock_manager.proofs.Slots.{closed_asks_nothing}
 use Rattle.lock_manager.proofs.GivenBack.{put_same, put_other, length-put, length-given_back, back_cases, back_kept}
-use Rattle.core_lang.specs.Theory.Items.{all_contained, some_same, push_cases}
+use Rattle.core_lang.specs.Theory.Items.{all_contained, some_same, push_cases, in_map, from_map}
+use Rattle.layout.specs.Theory.Numbers.{distinct_none, distinct_push, cell_is_of}
 
 never_free : {P : Type 0} (values : List Value) (t : ℕ) → Some (Free values) ≡ Some (Taken t) → P
 never_free values t e = absurd (let q : Free values ≡ Taken t = some_same (Free values) (Taken t) e in cc)
@@ -320,7 +319,7 @@ keep_release m ticket grants entry k known f spare one legal =
     keep_left m ticket.thread ticket.session grants values m.waiters (m.history ++ entry ∷ []) k
     (record {
       known = known;
-      all = λ lock c. (let g = unmapped (λ (x : GrantOf). x.lock) grants lock (all_contained (Contains (locks_of grants)) ticket.session.held lock f.own.all c) in (g.0, g.1, g.2));
+      all = λ lock c. (let g = from_map (λ (x : GrantOf). x.lock) grants lock (all_contained (Contains (locks_of grants)) ticket.session.held lock f.own.all c) in (g.0, g.1, g.2));
       only = λ g c. all_contained (λ (x : GrantOf). Contains ticket.session.held x.lock) grants g f.own.only c;
       own = λ g c. values_agree values (cells_of locks g.lock) g.values (all_contained (IsWhole locks) grants g f.own.whole c)
           (all_contained (λ (x : GrantOf). Agrees values (cells_in locks x)) grants g f.now c);
@@ -343,9 +342,9 @@ keep_give_up m t grants k its =
     keep_left m t its.session back m.values (leaving t m.waiters) m.history k
     (record {
       known = its.is;
-      all = λ lock c. (as_committed m lock, mapped (as_committed m) (locks_of grants) lock (all_contained (Contains (locks_of grants)) its.session.held lock its.own.all c), refl);
-      only = λ g c. only_held g (unmapped (as_committed m) (locks_of grants) g c);
-      own = λ g c. (let r = unmapped (as_committed m) (locks_of grants) g c in
+      all = λ lock c. (as_committed m lock, in_map (as_committed m) (locks_of grants) lock (all_contained (Contains (locks_of grants)) its.session.held lock its.own.all c), refl);
+      only = λ g c. only_held g (from_map (as_committed m) (locks_of grants) g c);
+      own = λ g c. (let r = from_map (as_committed m) (locks_of grants) g c in
           subst (λ (x : GrantOf). x.values ≡ values_on m.values (cells_of m.layout.cell_locks x.lock)) r.2 refl);
       others = λ lock ne. refl;
       waits = λ w c ne. still_waits t m.waiters w c ne;
@@ -356,5 +355,5 @@ keep_give_up m t grants k its =
     only_held : (g : GrantOf) → (lock : Lock) × Contains (locks_of grants) lock × (as_committed m lock ≡ g) →
         Contains its.session.held g.lock
     only_held g r =
-        let x = unmapped (λ (y : GrantOf). y.lock) grants r.0 r.1 in
+        let x = from_map (λ (y : GrantOf). y.lock) grants r.0 r.1 in
         subst (Contains its.session.held) (x.2 ∙ ap (λ (y : GrantOf). y.lock) r.2) (all_contained (λ (y : GrantOf). Contains its.session.held y.lock) grants x.0 its.own.only x.1)

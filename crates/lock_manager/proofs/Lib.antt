@@ -1,5 +1,4 @@
 pub mod Lists
-pub mod Numbers
 pub mod Heaps
 pub mod Queued
 pub mod Members

@@ -6,8 +6,8 @@ use Rattle.std.specs.List.{All, Contains}
 use Rattle.std.proofs.lemmas.List.{take_all, take_more, map_push}
 use Rattle.std.proofs.lemmas.List.Elements.{All-more, Contains-append_left, Contains-push}
 use Rattle.std.proofs.lemmas.Option.{slice_get_within, slice_get-get_or, get_or_from_slice_get}
-use Rattle.core_lang.specs.Theory.Items.{at_contained, contains_at, map_at, map_back, some_same, all_contained}
-use Rattle.core_lang.specs.Theory.Items.{all_from, push_cases, read_at, both_false}
+use Rattle.core_lang.specs.Theory.Items.{contains_at, map_at, some_same, all_contained, all_from, push_cases, read_at}
+use Rattle.core_lang.specs.Theory.Items.{both_false}
 
 -- ---- tests of all
 
@@ -60,16 +60,6 @@ all_last P xs x all = all_contained P (xs ++ x ∷ []) x all (Contains-push xs x
 
 pub first : {X : Type 0} (y : X) (ys : List X) (x : X) → y ≡ x → Contains (y ∷ ys) x
 first y ys x e = (0, omega arith, e)
-
-pub mapped : {A B : Type 0} (f : A → B) (xs : List A) (x : A) → Contains xs x → Contains (map f xs) (f x)
-mapped f xs x c = let at = at_contained xs x c in contains_at (map f xs) at.0 (f x) (map_at f xs at.0 x at.1)
-
-pub unmapped : {A B : Type 0} (f : A → B) (xs : List A) (y : B) → Contains (map f xs) y →
-    (x : A) × Contains xs x × (f x ≡ y)
-unmapped f xs y c =
-    let at = at_contained (map f xs) y c in
-    let r = map_back f xs at.0 y at.1 in
-    (r.0, contains_at xs at.0 r.0 r.1, r.2)
 
 pub one_place : {X : Type 0} (xs : List X) (i : ℕ) (x y : X) → slice_get xs i ≡ Some x → slice_get xs i ≡ Some y → x ≡ y
 one_place xs i x y a b = some_same x y (sym a ∙ b)

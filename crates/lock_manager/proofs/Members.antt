@@ -2,15 +2,15 @@
 use Rattle.std.proofs.Common.{◌≡◌, ◌≢◌, ℕ, zero, suc, ◌+◌, ◌<◌, ◌≤◌, List, [], ◌∷◌, ◌++◌, length, take, get_or, map}
 use Rattle.std.proofs.Common.{set, replicate, Some, Vec, Global, refl, sym, ap, ◌∙◌, subst, arith}
 use Rattle.std.specs.Prelude.{slice_get}
-use Rattle.std.specs.List.{All, Contains}
+use Rattle.std.specs.List.{All}
 use Rattle.std.proofs.lemmas.List.{length-map, take_more, take_all}
 use Rattle.std.proofs.lemmas.Option.{none-some, slice_get_within, slice_get-get_or, get_or_from_slice_get}
 use Rattle.locks.specs.declared.lock.Lock.{Lock}
 use Rattle.layout.specs.LockCells.{cells_of}
 use Rattle.layout.specs.Layouts.{LayoutOf, AreDistinct}
 use Rattle.lock_manager.specs.Working.Committed.{rows, members_of}
-use Rattle.lock_manager.proofs.Numbers.{own_cell, other_cell, distinct_rest, cell_is_of, cell_is_among}
 use Rattle.core_lang.specs.Theory.Items.{contains_at, some_same, map_at, map_back}
+use Rattle.layout.specs.Theory.Numbers.{distinct_rest, own_cell, other_cell, cell_is_of}
 
 -- ---- what a row is
 
@@ -112,10 +112,3 @@ pub as_many : (vectors : List (Vec ℕ Global)) (cell_locks locks : List Lock) �
     rows vectors ≡ map (λ (x : Lock). cells_of cell_locks x) locks → length vectors ≡ length locks
 as_many vectors cell_locks locks are =
     sym (length-map vectors (λ (v : Vec ℕ Global). v.items)) ∙ ap length are ∙ length-map locks (λ (x : Lock). cells_of cell_locks x)
-
--- a cell is among those of its lock
-pub cell_among : (cell_locks : List Lock) (lock : Lock) (cell : ℕ) → slice_get cell_locks cell ≡ Some lock →
-    Contains (cells_of cell_locks lock) cell
-cell_among cell_locks lock cell at =
-    let sum : 0 + cell ≡ cell = omega arith in
-    subst (Contains (cells_of cell_locks lock)) sum (cell_is_among 0 cell_locks lock cell at)

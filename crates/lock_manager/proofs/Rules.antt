@@ -27,13 +27,14 @@ use Rattle.lock_manager.specs.Working.Managers.{session_in, holder_of, taker, ce
 use Rattle.lock_manager.specs.Working.Managers.{ComesAfter, asker_of, askers_of, opened, threads}
 use Rattle.lock_manager.specs.Working.Calls.{AreOf, IsOwnWrite, Knows}
 use Rattle.lock_manager.specs.Working.Ties.{sum_over, one_if_open, cells_if_open}
-use Rattle.lock_manager.proofs.Numbers.{number_at}
+use Rattle.lock_manager.specs.Theory.Numbers.{number_at}
 use Rattle.lock_manager.proofs.Heaps.{value_among}
-use Rattle.lock_manager.proofs.Members.{cells_within, within_same, cell_among}
+use Rattle.lock_manager.proofs.Members.{cells_within, within_same}
 use Rattle.lock_manager.proofs.Slots.{slot_within}
 use Rattle.lock_manager.proofs.GivenBack.{place_listed, place_at, numbered_place}
 use Rattle.lock_manager.proofs.Sound.{Sound}
 use Rattle.core_lang.specs.Theory.Items.{all_contained, all_from, map_at, map_back, some_same}
+use Rattle.layout.specs.Theory.Numbers.{cell_among}
 
 -- ---- locks
 

@@ -1,4 +1,5 @@
 pub mod Working
+pub mod Theory
 pub use Rattle.lock_manager.specs.Working.Sessions.{SessionOf, TicketOf, ReceiptOf, fresh, with_lock, with_ask}
 pub use Rattle.lock_manager.specs.Working.Queues.{waiting_in, leaving, joining}
 pub use Rattle.lock_manager.specs.Working.Managers.{Managed, place_of, waiting_for, session_of, holder_of, cell_of}

@@ -1,10 +1,9 @@
 -- What the sets of a section's points say of the edges that the section makes.
-use Rattle.std.proofs.Common.{◌≡◌, ℕ, ◌<◌, List, length, get_or, Option, Some, None, ◌⊎◌, inl, inr, refl, sym, ap}
-use Rattle.std.proofs.Common.{◌∙◌, subst, arith}
+use Rattle.std.proofs.Common.{◌≡◌, ℕ, ◌<◌, List, length, get_or, Some, ◌⊎◌, inl, inr, refl, sym, ap, ◌∙◌, subst, arith}
 use Rattle.std.specs.Prelude.{slice_get}
 use Rattle.std.specs.Option.{option_map}
 use Rattle.std.specs.List.{All, Contains}
-use Rattle.std.proofs.lemmas.Option.{none-some, same_Some, slice_get_within, slice_get-map, slice_get-get_or}
+use Rattle.std.proofs.lemmas.Option.{same_Some, slice_get_within, slice_get-map, slice_get-get_or}
 use Rattle.std.proofs.lemmas.List.Elements.{All-contains_itself, All-weaker}
 use Rattle.core_lang.specs.declared.tree.Section.{Section}
 use Rattle.core_lang.specs.declared.typed.Typed.{Typed}
@@ -24,16 +23,11 @@ use Rattle.lockorder.specs.Working.Sections.{set_at, no_paths, IsOfClass, HasCla
 use Rattle.lockorder.specs.Working.Sections.{MakesAt}
 use Rattle.lockorder.specs.Working.Tellings.{AreBetween, AreEdges}
 use Rattle.lockorder.proofs.InSection.{set_within}
-use Rattle.core_lang.specs.Theory.Items.{contains_at, at_contained}
+use Rattle.core_lang.specs.Theory.Items.{contains_at, at_contained, map_some}
 
 -- the section of this number makes the edge
 abbrev pub MakesIn : Typed → ℕ → ℕ → ℕ → Type 0
 MakesIn program k c d = (used bound : ℕ) × Makes program k used bound c d
-
-map_some : {A B : Type 0} (f : A → B) (o : Option A) (y : B) → option_map f o ≡ Some y →
-    (x : A) × (o ≡ Some x) × (f x ≡ y)
-map_some f None y e = absurd (none-some y e)
-map_some f (Some x) y e = (x, refl, same_Some (f x) y e)
 
 module _ (program : Typed) (well : IsWellFormed program) (listed : UsedAreListed) (classes : PathsHaveClasses)
     (k : ℕ) (section : Section) (here : slice_get program.sections.items k ≡ Some section) (x : Points) (are : ArePoints program section x) where

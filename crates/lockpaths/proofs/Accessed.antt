@@ -1,8 +1,8 @@
 -- What is gathered behind accesses: their lock paths, each once, and the least of their faults; behind a fault of the limit only the
 -- latter.
-use Rattle.std.proofs.Common.{◌≡◌, ℕ, zero, suc, ◌+◌, ◌≤◌, ◌<◌, Bool, true, false, List, [], ◌∷◌, ◌++◌, length, map}
-use Rattle.std.proofs.Common.{Option, Some, None, ◌⊎◌, inl, inr, refl, sym, ap, ◌∙◌, subst, arith, append-nil}
-use Rattle.std.proofs.Common.{append_assoc, length-append}
+use Rattle.std.proofs.Common.{◌≡◌, ℕ, ◌+◌, ◌≤◌, ◌<◌, Bool, true, false, List, [], ◌∷◌, ◌++◌, length, map, Option, Some}
+use Rattle.std.proofs.Common.{None, ◌⊎◌, inl, inr, refl, sym, ap, ◌∙◌, subst, arith, append-nil, append_assoc}
+use Rattle.std.proofs.Common.{length-append}
 use Rattle.std.specs.Prelude.{slice_get, nat_lt, ◌==◌, if◌then◌else◌}
 use Rattle.std.specs.List.{cons_option, flat_map}
 use Rattle.std.proofs.lemmas.Bool.{ltb-true, ltb-false, le-ltb, eq-eqb, ne_eqb}
@@ -14,29 +14,21 @@ use Rattle.source.specs.Mistakes.{lesser, least_of, goes_before}
 use Rattle.source.specs.Theory.Leasts.{least_append}
 use Rattle.core_lang.specs.declared.tree.Section.{Section}
 use Rattle.core_lang.specs.declared.typed.Typed.{Typed}
+use Rattle.core_lang.specs.Theory.Items.{still_at, last_at}
 use Rattle.flow.specs.Points.{Point, points}
 use Rattle.locks.specs.Accesses.{Access, accesses_at}
 use Rattle.locks.specs.Faults.{Named, where_at}
 use Rattle.locks.specs.LockPaths.{StablePath, LockPath, stable, each_once, lock_path, paths_of}
 use Rattle.locks.specs.Working.Laws.{SamePathDecides}
 use Rattle.lockpaths_forms.specs.Working.Forms.{replacements_at}
-use Rattle.lockpaths.specs.Working.Gathering.{Gathered, is_in, place_from, with_new, with_path, with_known, blamed}
-use Rattle.lockpaths.specs.Working.Gathering.{met, ended, gathered, gathered_at, with_access, blamed_unless}
-use Rattle.lockpaths.specs.Working.Gathering.{with_where, with_owner, with_owners}
+use Rattle.lockpaths.specs.Working.Gathering.{Gathered, is_in, place_from, with_new, with_path, with_known, blamed, met}
+use Rattle.lockpaths.specs.Working.Gathering.{ended, gathered, gathered_at, with_access, blamed_unless, with_where}
+use Rattle.lockpaths.specs.Working.Gathering.{with_owner, with_owners}
 use Rattle.lockpaths.specs.Working.Faulted.{fault_of, faults_behind, fault_unless, where_fault, owner_fault}
 use Rattle.lockpaths.proofs.Once.{place_in, place_none, once_in, once_new, once_known}
 use Rattle.lockpaths.proofs.Formed.{path_is_right}
 
 -- ---- lists
-
-get_more : {A : Type 0} (xs ys : List A) (i : ℕ) (x : A) → slice_get xs i ≡ Some x → slice_get (xs ++ ys) i ≡ Some x
-get_more [] ys i x e = absurd cc
-get_more (z ∷ xs) ys zero x e = e
-get_more (z ∷ xs) ys (suc i) x e = get_more xs ys i x e
-
-get_last : {A : Type 0} (xs : List A) (x : A) → slice_get (xs ++ x ∷ []) (length xs) ≡ Some x
-get_last [] x = refl
-get_last (y ∷ xs) x = get_last xs x
 
 map_more : (xs ys : List LockPath) (ns : List ℕ) (ps : List LockPath) → map (slice_get xs) ns ≡ map Some ps →
     map (slice_get (xs ++ ys)) ns ≡ map Some ps
@@ -46,7 +38,7 @@ map_more xs ys (n ∷ ns) [] e = absurd cc
 map_more xs ys (n ∷ ns) (p ∷ ps) e =
     let first : slice_get xs n ≡ Some p = cc in
     let rest : map (slice_get xs) ns ≡ map Some ps = cc in
-    let here = get_more xs ys n p first in
+    let here = still_at xs ys n p first in
     let there = map_more xs ys ns ps rest in
     ap (λ o. o ∷ map (slice_get (xs ++ ys)) ns) here ∙ ap (λ os. Some p ∷ os) there
 
@@ -155,7 +147,7 @@ module _ (decides : SamePathDecides) (ps : List LockPath) (ends : List ℕ) (g :
           numbers =
               map-append (slice_get (g.paths ++ path ∷ [])) g.numbers (length g.paths ∷ [])
               ∙ ap (λ l. l ++ slice_get (g.paths ++ path ∷ []) (length g.paths) ∷ []) (map_more g.paths (path ∷ []) g.numbers ps w.numbers)
-              ∙ ap (λ o. map Some ps ++ o ∷ []) (get_last g.paths path)
+              ∙ ap (λ o. map Some ps ++ o ∷ []) (last_at g.paths path)
               ∙ sym (map-append Some ps (path ∷ []));
           ends_are = w.ends_are;
         });

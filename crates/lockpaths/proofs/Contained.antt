@@ -1,5 +1,5 @@
 -- What lists contain.
-use Rattle.std.proofs.Common.{◌≡◌, zero, suc, List, [], ◌∷◌, ◌++◌, ◌⊎◌, inl, inr, refl, ap, arith}
+use Rattle.std.proofs.Common.{◌≡◌, List, [], ◌∷◌, ◌++◌, inl, inr, ap}
 use Rattle.std.specs.List.{Contains}
 use Rattle.core_lang.specs.Theory.Items.{in_cases, in_first, in_rest, not_in_none}
 

@@ -1,6 +1,6 @@
 -- The faults that are noted are those of the program.
 use Rattle.std.proofs.Common.{◌≡◌, ℕ, zero, suc, Bool, true, false, List, [], ◌∷◌, ◌++◌, length, map, Option, Some}
-use Rattle.std.proofs.Common.{None, ◌⊎◌, inl, inr, refl, sym, ap, ◌∙◌, subst, append-nil, append_assoc, arith}
+use Rattle.std.proofs.Common.{None, inl, inr, refl, sym, ap, ◌∙◌, subst, append-nil, append_assoc}
 use Rattle.std.specs.Prelude.{slice_get, ◌==◌, if◌then◌else◌}
 use Rattle.std.specs.List.{Contains, cons_option, flat_map}
 use Rattle.std.proofs.lemmas.Bool.{eqb-true, eq-eqb, both_ways, false_from_ne_true}
@@ -9,7 +9,8 @@ use Rattle.source.specs.declared.fault.Code.{Code}
 use Rattle.source.specs.declared.fault.Code.TheVariants.{UnstableBase, LimitExceeded}
 use Rattle.source.specs.declared.mistake.Mistake.{Mistake}
 use Rattle.source.specs.Mistakes.{lesser, least_of, goes_before}
-use Rattle.source.specs.Theory.Leasts.{IsAmong, least_in, least_none, none_before}
+use Rattle.source.specs.Theory.Leasts.{IsAmong, least_in, least_none, none_before, among_left, among_right}
+use Rattle.source.specs.Theory.Leasts.{among_either}
 use Rattle.core_lang.specs.declared.tree.Section.{Section}
 use Rattle.core_lang.specs.declared.typed.Typed.{Typed}
 use Rattle.locks.specs.Accesses.{Access, accesses}
@@ -20,34 +21,20 @@ use Rattle.locks.specs.Faults.{IsOverLimit, one_too_many, IsFault, unstable_base
 use Rattle.locks.specs.Faults.{HasNoFault}
 use Rattle.locks.specs.Working.Laws.{SamePathDecides}
 use Rattle.lockpaths.specs.Working.Gathering.{is_in}
-use Rattle.lockpaths.specs.Working.Faulted.{fault_of, faults_behind, fault_unless, where_fault, owner_fault}
-use Rattle.lockpaths.specs.Working.Faulted.{faults_in, faults_of}
+use Rattle.lockpaths.specs.Working.Faulted.{fault_of, faults_behind, fault_unless, where_fault, owner_fault, faults_in}
+use Rattle.lockpaths.specs.Working.Faulted.{faults_of}
 use Rattle.lockpaths.proofs.Contained.{in_middle, around}
 use Rattle.lockpaths.proofs.Once.{is_in_contains, contains_is_in}
 use Rattle.lockpaths.proofs.Accessed.{lesser_is}
-use Rattle.core_lang.specs.Theory.Items.{not_in_none, in_rest, in_cases}
+use Rattle.core_lang.specs.Theory.Items.{not_in_none, in_cases, contains_at}
 
 -- ---- lists of faults
-
-among_cases : (f : Mistake) (xs ys : List Mistake) → IsAmong f (xs ++ ys) → IsAmong f xs ⊎ IsAmong f ys
-among_cases f [] ys i = inr i
-among_cases f (x ∷ xs) ys (inl e) = inl (inl e)
-among_cases f (x ∷ xs) ys (inr i) = elim (among_cases f xs ys i) [ inl l ↦ inl (inr l) | inr r ↦ inr r ]
-
-among_left : (f : Mistake) (xs ys : List Mistake) → IsAmong f xs → IsAmong f (xs ++ ys)
-among_left f [] ys i = absurd i
-among_left f (x ∷ xs) ys (inl e) = inl e
-among_left f (x ∷ xs) ys (inr i) = inr (among_left f xs ys i)
-
-among_right : (f : Mistake) (xs ys : List Mistake) → IsAmong f ys → IsAmong f (xs ++ ys)
-among_right f [] ys i = i
-among_right f (x ∷ xs) ys i = inr (among_right f xs ys i)
 
 from_each : {A : Type 0} (f : Mistake) (h : A → List Mistake) (xs : List A) → IsAmong f (flat_map h xs) →
     (k : ℕ) × (x : A) × (slice_get xs k ≡ Some x) × IsAmong f (h x)
 from_each f h [] i = absurd i
 from_each f h (x ∷ xs) i =
-    elim (among_cases f (h x) (flat_map h xs) i) [
+    elim (among_either f (h x) (flat_map h xs) i) [
       | inl l ↦ (0, x, refl, l)
       | inr r ↦ let d = from_each f h xs r in (suc d.0, d.1, d.2, d.3)
     ]
@@ -58,12 +45,6 @@ to_each f h [] k x e i = absurd (none-some x e)
 to_each {A = A} f h (y ∷ xs) zero x e i =
     let same : y ≡ x = cc in among_left f (h y) (flat_map h xs) (subst (λ (z : A). IsAmong f (h z)) (sym same) i)
 to_each f h (y ∷ xs) (suc k) x e i = among_right f (h y) (flat_map h xs) (to_each f h xs k x e i)
-
--- what is read at a place is contained, and the other way round
-read_in : {A : Type 0} (xs : List A) (k : ℕ) (x : A) → slice_get xs k ≡ Some x → Contains xs x
-read_in [] k x e = absurd (none-some x e)
-read_in (y ∷ xs) zero x e = let same : y ≡ x = cc in (0, omega arith, same)
-read_in (y ∷ xs) (suc k) x e = in_rest y x xs (read_in xs k x e)
 
 to_contained : {A : Type 0} (f : Mistake) (h : A → List Mistake) (xs : List A) (x : A) → Contains xs x →
     IsAmong f (h x) → IsAmong f (flat_map h xs)
@@ -93,7 +74,7 @@ module _ (program : Typed) (section : Section) where
       × IsAmong f (fault_of (paths_of program section front) a.start (lock_path program section a))
   from_behind f before [] i = absurd i
   from_behind f before (a ∷ rest) i =
-      elim (among_cases f (fault_of (paths_of program section before) a.start (lock_path program section a)) (faults_behind program section (before ++ a ∷ []) rest) i) [
+      elim (among_either f (fault_of (paths_of program section before) a.start (lock_path program section a)) (faults_behind program section (before ++ a ∷ []) rest) i) [
         | inl l ↦ (before, a, rest, refl, l)
         | inr r ↦
             let d = from_behind f (before ++ a ∷ []) rest r in
@@ -189,13 +170,13 @@ module _ (decides : SamePathDecides) (program : Typed) where
   in_section : (f : Mistake) (section : Section) → HasSection program section →
       IsAmong f (faults_in program section) → IsFault program f.code f.start
   in_section f section has i =
-      elim (among_cases f (faults_behind program section [] (accesses section)) (flat_map (owner_fault section) (points section)) i) [
+      elim (among_either f (faults_behind program section [] (accesses section)) (flat_map (owner_fault section) (points section)) i) [
         | inl l ↦
             let r = from_behind program section f [] (accesses section) l in
             access_fault f section r.0 r.2 r.1 (lock_path program section r.1) has r.3 refl r.4
         | inr o ↦
             let d = from_each f (owner_fault section) (points section) o in
-            where_true f section d.1 (where_at d.1) has (read_in (points section) d.0 d.1 d.2) refl d.3
+            where_true f section d.1 (where_at d.1) has (contains_at (points section) d.0 d.1 d.2) refl d.3
       ]
 
   pub faults_true : (f : Mistake) → IsAmong f (faults_of program) → IsFault program f.code f.start

@@ -1,7 +1,6 @@
 -- What is read at places of lists, and the lock paths that it gives.
-use Rattle.std.proofs.Common.{◌≡◌, ◌∙◌, ◌⊎◌, inl, inr, ℕ, suc, ◌+◌, ◌<◌, ◌≤◌, ◌||◌, Bool, true, false, List, [], ◌∷◌}
-use Rattle.std.proofs.Common.{◌++◌, length, map, drop, get_or, Option, Some, None, add-one, refl, sym, ap, subst}
-use Rattle.std.proofs.Common.{arith}
+use Rattle.std.proofs.Common.{◌≡◌, ◌∙◌, ◌⊎◌, inl, inr, ℕ, ◌+◌, ◌<◌, ◌≤◌, ◌||◌, Bool, true, false, List, [], ◌∷◌, ◌++◌}
+use Rattle.std.proofs.Common.{length, map, drop, get_or, Option, Some, None, add-one, refl, sym, ap, subst, arith}
 use Rattle.std.proofs.Math.Seq.{drop-cons}
 use Rattle.std.proofs.Math.Bool.{or_assoc}
 use Rattle.std.specs.Prelude.{slice_get, if◌then◌else◌, nat_lt, ◌==◌}
@@ -30,8 +29,8 @@ use Rattle.core_lang.specs.declared.tree.Section.{Section}
 use Rattle.flow.specs.Points.{Point, points}
 use Rattle.lockpaths_forms.specs.Working.Forms.{Replacement, replacements_at}
 use Rattle.lockpaths.specs.Working.Told.{Told}
-use Rattle.lockpaths.specs.Working.Gathering.{gathered_at, gathered_in, Gathered, nothing_yet, place_from}
-use Rattle.lockpaths.specs.Working.Gathering.{with_owners, with_path, with_new}
+use Rattle.lockpaths.specs.Working.Gathering.{gathered_at, gathered_in, Gathered, nothing_yet, place_from, with_owners}
+use Rattle.lockpaths.specs.Working.Gathering.{with_path, with_new}
 use Rattle.lockpaths.specs.Working.Numbers.{is_number}
 use Rattle.core_lang.specs.Theory.Items.{lookup_at, lookup_none, next_of}
 

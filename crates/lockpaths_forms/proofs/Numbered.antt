@@ -1,10 +1,10 @@
 -- Paths that are numbered by the steps that lead to them.
-use Rattle.std.proofs.Common.{◌≡◌, ◌⊎◌, inl, inr, ℕ, zero, suc, ◌+◌, ◌<◌, ◌≤◌, Bool, true, false, true≢false, List}
-use Rattle.std.proofs.Common.{[], ◌∷◌, ◌++◌, length, get_or, Some, None, refl, sym, ap, subst, ◌∙◌, append_assoc}
+use Rattle.std.proofs.Common.{◌≡◌, ◌⊎◌, inl, inr, ℕ, zero, suc, ◌+◌, ◌<◌, ◌≤◌, Bool, true, false, true≢false, List, []}
+use Rattle.std.proofs.Common.{◌∷◌, ◌++◌, length, get_or, Some, None, refl, sym, ap, subst, ◌∙◌, append_assoc}
 use Rattle.std.proofs.Common.{append-nil, length-append, arith}
 use Rattle.std.specs.Prelude.{fold, slice_get, if◌then◌else◌, ◌==◌, ◌&&◌}
 use Rattle.std.specs.List.{list_any, IsDistinct}
-use Rattle.std.proofs.lemmas.Bool.{eq-eqb}
+use Rattle.std.proofs.lemmas.Bool.{eq-eqb, and_parts}
 use Rattle.std.proofs.lemmas.Bool.Decides.{nat_tests}
 use Rattle.std.proofs.lemmas.List.{get_or_append_left, get_or_push, same_from_push}
 use Rattle.std.proofs.lemmas.List.Sums.{fold_push}
@@ -175,16 +175,12 @@ numbers_self : (xs : List ℕ) → same_numbers xs xs ≡ true
 numbers_self [] = refl
 numbers_self (x ∷ xs) = ap (λ (b : Bool). b && same_numbers xs xs) (eq-eqb x x refl) ∙ numbers_self xs
 
-pub both : (a b : Bool) → (a && b) ≡ true → (a ≡ true) × (b ≡ true)
-both true b h = (refl, h)
-both false b h = absurd (true≢false (sym h))
-
 pub numbers_one : (xs ys : List ℕ) → same_numbers xs ys ≡ true → xs ≡ ys
 numbers_one [] [] h = refl
 numbers_one [] (y ∷ ys) h = absurd (true≢false (sym h))
 numbers_one (x ∷ xs) [] h = absurd (true≢false (sym h))
 numbers_one (x ∷ xs) (y ∷ ys) h =
-    let parts = both (x == y) (same_numbers xs ys) h in
+    let parts = and_parts (x == y) (same_numbers xs ys) h in
     let one : x ≡ y = grind (arith, nat_tests, parts.0) in
     ap (λ (z : ℕ). z ∷ xs) one ∙ ap (λ (zs : List ℕ). y ∷ zs) (numbers_one xs ys parts.1)
 
@@ -193,7 +189,7 @@ stable_self p = ap (λ (b : Bool). b && same_numbers p.finals p.finals) (eq-eqb 
 
 stable_one : (p q : StablePath) → same_stable p q ≡ true → p ≡ q
 stable_one p q h =
-    let parts = both (p.root == q.root) (same_numbers p.finals q.finals) h in
+    let parts = and_parts (p.root == q.root) (same_numbers p.finals q.finals) h in
     let one : p.root ≡ q.root = grind (arith, nat_tests, parts.0) in
     ap (λ (r : ℕ). record { root = r; finals = p.finals }) one ∙ ap (λ (fs : List ℕ). record { root = q.root; finals = fs }) (numbers_one p.finals q.finals parts.1)
 

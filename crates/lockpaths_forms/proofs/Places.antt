@@ -3,16 +3,6 @@ use Rattle.std.proofs.Common.{◌≡◌, ◌⊎◌, inl, inr, ℕ, zero, suc, Li
 use Rattle.std.specs.Prelude.{slice_get}
 use Rattle.std.proofs.lemmas.Option.{none-some, same_Some}
 
-pub stands_left : {A : Type 0} (xs ys : List A) (k : ℕ) (x : A) → slice_get xs k ≡ Some x →
-    slice_get (xs ++ ys) k ≡ Some x
-stands_left [] ys k x h = absurd (none-some x h)
-stands_left (y ∷ xs) ys zero x h = h
-stands_left (y ∷ xs) ys (suc k) x h = stands_left xs ys k x h
-
-pub stands_last : {A : Type 0} (xs : List A) (y : A) → slice_get (xs ++ y ∷ []) (length xs) ≡ Some y
-stands_last [] y = refl
-stands_last (x ∷ xs) y = stands_last xs y
-
 pub stood_or_last : {A : Type 0} (xs : List A) (y : A) (k : ℕ) (x : A) → slice_get (xs ++ y ∷ []) k ≡ Some x →
     (slice_get xs k ≡ Some x) ⊎ ((k ≡ length xs) × (x ≡ y))
 stood_or_last [] y zero x h = inr (refl, sym (same_Some y x h))

@@ -9,6 +9,7 @@ use Rattle.std.proofs.lemmas.Bool.Decides.{nat_tests}
 use Rattle.std.proofs.lemmas.List.{get_or_append_left, get_or_push, map_push, take_all, take-append-le, length_push}
 use Rattle.std.proofs.lemmas.Option.{none-some, same_Some, slice_get-map, slice_get-get_or, slice_get_within}
 use Rattle.std.proofs.lemmas.Option.{get_or_from_slice_get}
+use Rattle.core_lang.specs.Theory.Items.{still_at, last_at}
 use Rattle.locks.specs.LockPaths.{StablePath, or_behind, owned_path, past_final}
 use Rattle.lockpaths_forms.specs.declared.form.Form.{Form}
 use Rattle.lockpaths_forms.specs.declared.form.Owner.{Owner}
@@ -22,7 +23,7 @@ use Rattle.lockpaths_forms.specs.Working.Nodes.{local_path, longer, nowhere, ont
 use Rattle.lockpaths_forms.specs.Working.States.{Known, known, nothing_bound, reads, IsState, IsBefore, begins}
 use Rattle.lockpaths_forms.specs.Working.States.{IsBranch, IsReadAs, IsOfLocal, AreForms, IsKept, IsReached, or_local}
 use Rattle.lockpaths_forms.specs.Working.States.{IsBranchOf, IsStateOf, IsBoundIn}
-use Rattle.lockpaths_forms.proofs.Places.{stands_left, stands_last, stood_or_last}
+use Rattle.lockpaths_forms.proofs.Places.{stood_or_last}
 use Rattle.lockpaths_forms.proofs.Replaced.{behind_last}
 use Rattle.lockpaths_forms.proofs.Numbered.{onto_nothing, onto_longer}
 
@@ -41,7 +42,7 @@ module _ (old new : Known) (kept : IsKept old new) where
   is_kept (Where k) is = (is.0, ap (λ (ts : List (Option Branch)). slice_get ts k) kept.branches ∙ is.1)
 
   node_kept : (path : StablePath) (node : ℕ) → IsNodeOf old.paths path node → IsNodeOf new.paths path node
-  node_kept path node is = ap (λ (ps : List StablePath). slice_get ps node) kept.paths.1 ∙ stands_left old.paths kept.paths.0 node path is
+  node_kept path node is = ap (λ (ps : List StablePath). slice_get ps node) kept.paths.1 ∙ still_at old.paths kept.paths.0 node path is
 
   branch_kept : (k : ℕ) (t : Branch) → IsState old (Where k) → IsBranch old k t → IsBranch new k t
   branch_kept k t there branch = record {
@@ -128,7 +129,7 @@ module _ (f : Known) (even : length f.branches ≡ length f.table) (r : Replacem
 
   is_more : (s : State) → IsState f s → IsState with_one s
   is_more (Node n) is = is
-  is_more (Where k) is = (is.0, stands_left f.branches (o ∷ []) k (Some is.0) is.1)
+  is_more (Where k) is = (is.0, still_at f.branches (o ∷ []) k (Some is.0) is.1)
 
   branch_more : (k : ℕ) (t : Branch) → IsState f (Where k) → IsBranch f k t → IsBranch with_one k t
   branch_more k t there branch = record {
@@ -202,7 +203,7 @@ module _ (f : Known) (even : length f.branches ≡ length f.table) (local : ℕ)
   new_state : (k : ℕ) → k ≡ length f.table → IsReadAs g (Where k) (local_path local)
   new_state k at =
       let even' : length f.branches ≡ k = even ∙ sym at in record {
-        is = (t, ap (slice_get (f.branches ++ Some t ∷ [])) (sym even') ∙ stands_last f.branches (Some t));
+        is = (t, ap (slice_get (f.branches ++ Some t ∷ [])) (sym even') ∙ last_at f.branches (Some t));
         same = reads_last f even r (Some t) k at;
       }
 

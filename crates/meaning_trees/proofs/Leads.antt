@@ -1,6 +1,6 @@
 -- Where a statement leads, by what its parts gave.
 use Rattle.std.proofs.Common.{◌≡◌, ◌∙◌, ℕ, zero, suc, ◌+◌, ◌<◌, ◌≤◌, Bool, List, ◌∷◌, Result, Ok, Err, Vec, Global}
-use Rattle.std.proofs.Common.{length, get_or, drop, drop-cons, refl, sym, ap, subst}
+use Rattle.std.proofs.Common.{length, get_or, drop, drop-cons, sym, ap, subst}
 use Rattle.std.specs.Prelude.{slice_set, IsErrAnd}
 use Rattle.std.proofs.Math.Numerals.{add-one}
 use Rattle.std.proofs.lemmas.List.{drop_all}
@@ -16,8 +16,8 @@ use Rattle.core_lang.specs.declared.tree.Stmt.{Stmt}
 use Rattle.core_lang.specs.declared.tree.Action.{Action, SetGlobal, SetElement, SetField, Print, If, IfElse}
 use Rattle.core_lang.specs.Cells.{with, found, element_cell, field_cell, not_null}
 use Rattle.meaning_trees.proofs.Rows.{effect_if, effect_if_else}
-use Rattle.core_lang.specs.Meaning.{State, Flow, GoesOn, Beyond, Astray, Helpers, given, choose, after, turns}
-use Rattle.core_lang.specs.Meaning.{value_of, place_of, truth_of, effect_by, sequence_by, stored, written, printed}
+use Rattle.core_lang.specs.Meaning.{State, Flow, GoesOn, Beyond, Astray, Helpers, given, choose, after, turns, value_of}
+use Rattle.core_lang.specs.Meaning.{place_of, truth_of, effect_by, sequence_by, stored, written, printed}
 use Rattle.meaning_trees.specs.declared.execution.Halt.{Halt}
 use Rattle.meaning_trees.specs.declared.execution.Halt.TheVariants as halt
 use Rattle.meaning_trees.specs.Working.Halts.{halt_of, Follows}

@@ -5,6 +5,7 @@ use Rattle.std.specs.Prelude.{slice_get, nat_eq, if◌then◌else◌, ⊤}
 use Rattle.std.proofs.lemmas.Bool.Decides.{eqb_tells}
 use Rattle.std.proofs.lemmas.Option.{none-some}
 use Rattle.core_lang.specs.declared.value.Value.{Value}
+use Rattle.core_lang.specs.Theory.Items.{get_some}
 use Rattle.locks.specs.declared.lock.Lock.{Lock}
 use Rattle.code.specs.Memory.{value_at, with_changed, Agrees}
 use Rattle.layout.specs.LockCells.{cells_from}
@@ -72,15 +73,10 @@ changed_at n (c ∷ cs) (w ∷ vs) cell (suc offset) v r e at =
 
 -- ---- values on a heap
 
-item_there : (heap : List Value) (c : ℕ) → c < length heap → (v : Value) × (slice_get heap c ≡ Some v)
-item_there [] c lt = absurd (omega (arith, lt))
-item_there (v ∷ heap) zero lt = (v, refl)
-item_there (v ∷ heap) (suc c) lt = item_there heap c (omega (arith, lt))
-
 one_more_whole : (b : Bool) (k : ℕ) (cs : List ℕ) (heap : List Value) → k < length heap →
     length (values_on heap cs) ≡ length cs →
     length (values_on heap (if b then k ∷ cs else cs)) ≡ length (if b then k ∷ cs else cs)
-one_more_whole true k cs heap lt e = let v = item_there heap k lt in ap (λ o. length (if_there o (values_on heap cs))) v.1 ∙ ap suc e
+one_more_whole true k cs heap lt e = let v = get_some heap k lt in ap (λ o. length (if_there o (values_on heap cs))) v.1 ∙ ap suc e
 one_more_whole false k cs heap lt e = e
 
 pub values_whole : (k : ℕ) (locks : List Lock) (lock : Lock) (heap : List Value) → k + length locks ≤ length heap →
@@ -93,7 +89,7 @@ one_more_agrees : (b : Bool) (k : ℕ) (cs : List ℕ) (heap : List Value) → k
     Agrees heap (numbered cs (values_on heap cs)) →
     Agrees heap (numbered (if b then k ∷ cs else cs) (values_on heap (if b then k ∷ cs else cs)))
 one_more_agrees true k cs heap lt a =
-    let v = item_there heap k lt in
+    let v = get_some heap k lt in
     subst (λ (o : Option Value). Agrees heap (numbered (k ∷ cs) (if_there o (values_on heap cs)))) (sym v.1) (v.1, a)
 one_more_agrees false k cs heap lt a = a
 

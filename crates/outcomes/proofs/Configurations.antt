@@ -1,9 +1,8 @@
 -- Where the orders' calls lead.
 use Rattle.std.proofs.Common.{◌≡◌, ◌∙◌, ◌≢◌, ℕ, ◌+◌, ◌-◌, ◌*◌, ◌<◌, ◌≤◌, zero, suc, Bool, true, false, cond, List, []}
-use Rattle.std.proofs.Common.{◌∷◌, ◌++◌, length, map, get_or, Option, Some, None, sum_by, nat_eq, ap, sym, subst}
-use Rattle.std.proofs.Common.{refl, arith, ◌⊎◌, inl, inr, length-append}
+use Rattle.std.proofs.Common.{◌∷◌, ◌++◌, length, map, get_or, Option, Some, sum_by, nat_eq, ap, sym, subst, refl, arith}
+use Rattle.std.proofs.Common.{◌⊎◌, inl, inr, length-append}
 use Rattle.std.specs.List.{All, AllPairs, Contains}
-use Rattle.std.proofs.lemmas.Bool.{cases_eq}
 use Rattle.std.proofs.lemmas.Bool.Decides.{Decides-eqb}
 use Rattle.std.proofs.lemmas.List.{length-map, get_or_default}
 use Rattle.std.proofs.lemmas.List.Elements.{All-append, Contains-append_left, Contains-append_right}
@@ -20,13 +19,14 @@ use Rattle.outcomes.specs.declared.search.Search.{Search}
 use Rattle.outcomes.specs.declared.search.Work.{Work}
 use Rattle.outcomes.specs.Working.Steps.{GoesOn, made_from_all}
 use Rattle.outcomes.specs.Orders.{none_done, orders_of, calls_in}
-use Rattle.outcomes.specs.Ends.{done_after, end_in, Configuration, LeadsTo, AreAllConfigurations, HasConfigurations}
+use Rattle.outcomes.specs.Ends.{done_after, end_in, Configuration, AreAllConfigurations, HasConfigurations}
 use Rattle.outcomes.specs.Working.States.{Reached, at, nowhere}
 use Rattle.outcomes.specs.Working.Searching.{Leads, Summand, order_at, IsGood, AreGood, weight, total}
 use Rattle.outcomes.proofs.Leading.{leads_serially, leads_made}
-use Rattle.outcomes.proofs.Full.{sums, fits, fits_made, made_few, made_in_order, leads_done}
+use Rattle.outcomes.proofs.Full.{fits, made_few, made_in_order, leads_done}
 use Rattle.outcomes.proofs.Whole.{counted, unsettled_end, ends_as, no_end, settled_heap, some_term, passed, both_true}
 use Rattle.outcomes.proofs.Whole.{same_cells, cells_are, cells_same}
+use Rattle.outcomes.specs.Theory.Done.{sums}
 
 -- ---- a layer has all configurations of its depth
 

@@ -1,12 +1,10 @@
 -- Orders that are drawn.
 use Rattle.std.proofs.Common.{◌≡◌, ◌∙◌, ℕ, ◌+◌, ◌-◌, ◌<◌, ◌≤◌, zero, suc, List, [], ◌∷◌, ◌++◌, length, map, drop}
-use Rattle.std.proofs.Common.{get_or, slice_get, slice_set, Option, Some, None, ◌⊎◌, inl, inr, sum_by, ap, sym, subst}
-use Rattle.std.proofs.Common.{refl, arith, length-append}
+use Rattle.std.proofs.Common.{get_or, slice_get, Some, inl, inr, ap, sym, subst, refl, arith, length-append}
 use Rattle.std.proofs.lemmas.List.Sums.{sum_by_push, sum_by-set}
 use Rattle.std.proofs.Math.ListN.{get_or-append}
 use Rattle.core_lang.specs.declared.value.Value.{Value}
 use Rattle.core_lang.specs.declared.typed.Thread.{Thread}
-use Rattle.core_lang.specs.declared.typed.Typed.{Typed}
 use Rattle.core_lang.specs.Laws.{OverIsWhole}
 use Rattle.core_lang.specs.Serial.{Invocation, opening_heap, run_call}
 use Rattle.core_lang.specs.Typing.{HasCells, IsHeap}
@@ -19,12 +17,13 @@ use Rattle.outcomes.specs.Orders.{next_call, one_more, none_done, orders}
 use Rattle.outcomes.specs.Ends.{Told, AreDrawnEnds}
 use Rattle.outcomes.specs.Working.States.{Reached, at, nowhere, with_more, orders_to}
 use Rattle.outcomes.specs.Working.Trails.{IsBegun, IsLonger}
-use Rattle.outcomes.specs.Working.Searching.{Leads, order_at, IsGood, AreGood, IsFound, as_told}
+use Rattle.outcomes.specs.Working.Searching.{Leads, IsGood, AreGood, IsFound, as_told}
 use Rattle.outcomes.specs.Working.Drawing.{IsWalk, HasCallLeft, calls_of_thread, Notes, IsNewEnd, AreEndsOf}
 use Rattle.outcomes.specs.Working.Steps.{IsOver, IsBeyond}
 use Rattle.outcomes.proofs.Leading.{leads_further, all_longer, good_found, push_good}
-use Rattle.outcomes.proofs.Full.{Within, sums, lengths, sums-lengths, length-lengths, fits, call_left}
+use Rattle.outcomes.proofs.Full.{Within, fits, call_left}
 use Rattle.outcomes.proofs.Whole.{all_end, ends_apart, sum_told}
+use Rattle.outcomes.specs.Theory.Done.{sums-lengths, length-lengths, sums, lengths}
 
 -- ---- the thread of a call
 
@@ -36,13 +35,11 @@ walk_fits search walk is =
     fits search.program.now search.turns (opening_heap search.program.now) walk.order.items walk.done.items walk.heap is.leads
 
 sums_from : (xs : List ℕ) (k : ℕ) → k < length xs → sums (drop k xs) ≡ get_or xs k 0 + sums (drop (suc k) xs)
-unfolding sums
 sums_from [] k within = absurd (omega arith)
 sums_from (x ∷ xs) zero within = refl
 sums_from (x ∷ xs) (suc k) within = sums_from xs k (omega arith)
 
 some_within : (xs : List ℕ) (k : ℕ) → 0 < sums (drop k xs) → k < length xs
-unfolding sums
 some_within [] zero more = absurd (omega arith)
 some_within [] (suc k) more = absurd (omega arith)
 some_within (x ∷ xs) zero more = omega arith
@@ -56,7 +53,6 @@ calls_of_one (x ∷ ts) zero t is = let same : x ≡ t = cc in ap (λ (y : Threa
 calls_of_one (x ∷ ts) (suc k) t is = calls_of_one ts k t is
 
 pub calls_at : (ts : List Thread) (k : ℕ) → calls_of_thread ts k ≡ get_or (lengths ts) k 0
-unfolding lengths
 calls_at [] k = refl
 calls_at (t ∷ ts) zero = refl
 calls_at (t ∷ ts) (suc k) = calls_at ts k

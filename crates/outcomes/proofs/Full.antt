@@ -1,5 +1,5 @@
 -- Where all calls are done.
-use Rattle.std.proofs.Common.{◌≡◌, ◌∙◌, ℕ, ◌+◌, ◌<◌, ◌≤◌, zero, suc, List, [], ◌∷◌, ◌++◌, length, replicate, get_or}
+use Rattle.std.proofs.Common.{◌≡◌, ◌∙◌, ℕ, ◌+◌, ◌<◌, ◌≤◌, zero, suc, List, [], ◌∷◌, ◌++◌, length, get_or}
 use Rattle.std.proofs.Common.{get_or-set_same, get_or-set_other, slice_get, slice_set, Option, Some, None, ap, sym}
 use Rattle.std.proofs.Common.{subst, refl, arith, ◌⊎◌, inl, inr}
 use Rattle.std.specs.Prelude.{option_map, option_to_list}
@@ -17,45 +17,16 @@ use Rattle.std.proofs.Math.ListN.{length-set}
 use Rattle.outcomes.specs.Orders.{next_call, one_more, none_done, orders_of, calls_of, calls_in}
 use Rattle.outcomes.specs.Ends.{done_after}
 use Rattle.outcomes.specs.Working.Searching.{Leads}
-use Rattle.outcomes.proofs.Leading.{next_within, among_begun, leads_made}
-
-unfoldable pub sums : List ℕ → ℕ
-sums [] = 0
-sums (x ∷ xs) = x + sums xs
-
--- how many calls each thread has
-unfoldable pub lengths : List Thread → List ℕ
-lengths [] = []
-lengths (t ∷ ts) = length t.calls.items ∷ lengths ts
-
-pub sums-lengths : (ts : List Thread) → sums (lengths ts) ≡ calls_together ts
-unfolding sums lengths
-sums-lengths [] = refl
-sums-lengths (t ∷ ts) = ap (λ n. length t.calls.items + n) (sums-lengths ts)
-
-pub length-lengths : (ts : List Thread) → length (lengths ts) ≡ length ts
-unfolding lengths
-length-lengths [] = refl
-length-lengths (t ∷ ts) = ap (λ n. suc n) (length-lengths ts)
-
--- one more of one of them
-sums_set : (xs : List ℕ) (k : ℕ) → k < length xs → sums (slice_set xs k (get_or xs k 0 + 1)) ≡ suc (sums xs)
-unfolding sums
-sums_set [] k within = absurd (omega arith)
-sums_set (x ∷ xs) zero within = omega arith
-sums_set (x ∷ xs) (suc k) within = ap (λ n. x + n) (sums_set xs k (omega arith)) ∙ omega arith
-
-sums_zero : (n : ℕ) → sums (replicate n 0) ≡ 0
-unfolding sums
-sums_zero zero = refl
-sums_zero (suc n) = ap (λ k. 0 + k) (sums_zero n)
+use Rattle.outcomes.proofs.Leading.{next_within, leads_made}
+use Rattle.outcomes.specs.Theory.Done.{sums-lengths, length-lengths, sums_set, sums_zero, zero_at, sums, lengths}
+use Rattle.outcomes.specs.Theory.Done.{among_begun}
 
 -- none is more than the other at its place
 unfoldable pub Within : List ℕ → List ℕ → Type 0
 Within xs ys = (k : ℕ) → get_or xs k 0 ≤ get_or ys k 0
 
 sums_within : (xs ys : List ℕ) → length xs ≡ length ys → Within xs ys → sums xs ≤ sums ys
-unfolding sums Within
+unfolding Within
 sums_within [] [] long few = omega arith
 sums_within [] (y ∷ ys) long few = cc
 sums_within (x ∷ xs) [] long few = cc
@@ -64,7 +35,7 @@ sums_within (x ∷ xs) (y ∷ ys) long few =
 
 -- with the same sum they are the same
 same_sums : (xs ys : List ℕ) → length xs ≡ length ys → Within xs ys → sums xs ≡ sums ys → xs ≡ ys
-unfolding sums Within
+unfolding Within
 same_sums [] [] long few sum = refl
 same_sums [] (y ∷ ys) long few sum = cc
 same_sums (x ∷ xs) [] long few sum = cc
@@ -85,7 +56,6 @@ call_within (c ∷ calls) (suc k) call is = let rest = call_within calls k call 
 some_call : (ts : List Thread) (done : List ℕ) (k : ℕ) (call : Invocation) →
     lookup (slice_get ts k) (λ (thread : Thread). option_map invocation (slice_get thread.calls.items (get_or done k 0))) ≡ Some call →
     get_or done k 0 < get_or (lengths ts) k 0
-unfolding lengths
 some_call [] done k call is = cc
 some_call (t ∷ ts) done zero call is = call_within t.calls.items (get_or done 0 0) call is
 some_call (t ∷ ts) [] (suc k) call is = some_call ts [] k call is
@@ -152,11 +122,6 @@ made_fully program done (t ∷ order) made long few =
     let more : sums (one_more done t) ≡ suc (sums done) = sums_set done t inside in
     (rest.0, rest.1, omega (arith, rest.2, more))
 
-zero_at : (n k : ℕ) → (let zeros : List ℕ = replicate n 0 in get_or zeros k 0 ≡ 0)
-zero_at zero k = refl
-zero_at (suc n) zero = refl
-zero_at (suc n) (suc k) = zero_at n k
-
 -- of each thread as many calls are done as an order has of it, and never more than there are
 pub fits_made : (program : Typed) (order : List ℕ) → length (calls_in program order) ≡ length order →
     (length (done_after (none_done program) order) ≡ length program.threads.items) × Within (done_after (none_done program) order) (lengths program.threads.items)
@@ -210,7 +175,7 @@ less_or_same x y few = elim (cases_eq x y) [ inl same ↦ inr same | inr apart �
 -- where some calls are left, some thread has one
 some_left : (xs ys : List ℕ) → length xs ≡ length ys → Within xs ys → sums xs < sums ys →
     (k : ℕ) × (k < length xs) × (get_or xs k 0 < get_or ys k 0)
-unfolding sums Within
+unfolding Within
 some_left [] [] long few less = absurd (omega arith)
 some_left [] (y ∷ ys) long few less = cc
 some_left (x ∷ xs) [] long few less = cc
@@ -228,7 +193,6 @@ call_there (c ∷ calls) (suc k) within = call_there calls k (omega arith)
 
 pub call_left : (ts : List Thread) (done : List ℕ) (k : ℕ) → get_or done k 0 < get_or (lengths ts) k 0 →
     (call : Invocation) × (lookup (slice_get ts k) (λ (thread : Thread). option_map invocation (slice_get thread.calls.items (get_or done k 0))) ≡ Some call)
-unfolding lengths
 call_left [] done k less = absurd (omega arith)
 call_left (t ∷ ts) done zero less = call_there t.calls.items (get_or done 0 0) less
 call_left (t ∷ ts) [] (suc k) less = call_left ts [] k less

@@ -1,11 +1,9 @@
 -- Calls lead from state to state.
-use Rattle.std.proofs.Common.{◌≡◌, ◌∙◌, ℕ, ◌+◌, ◌<◌, zero, suc, List, [], ◌∷◌, ◌++◌, length, map, get_or, slice_get}
-use Rattle.std.proofs.Common.{Option, Some, None, ◌⊎◌, inl, inr, ap, sym, subst, refl, arith, length-append}
-use Rattle.std.proofs.Common.{append_assoc, slice_set, get_or-set_same, get_or-set_other}
+use Rattle.std.proofs.Common.{◌≡◌, ◌∙◌, ℕ, ◌+◌, ◌<◌, suc, List, [], ◌∷◌, ◌++◌, length, get_or, slice_get, Option, Some}
+use Rattle.std.proofs.Common.{None, ◌⊎◌, inl, inr, ap, sym, subst, refl, arith, length-append, append_assoc, slice_set}
+use Rattle.std.proofs.Common.{get_or-set_same, get_or-set_other}
 use Rattle.std.specs.List.{Contains}
-use Rattle.std.proofs.lemmas.List.Elements.{Contains-append_left, Contains-append_right}
-use Rattle.std.proofs.lemmas.List.{length-map}
-use Rattle.std.proofs.Math.ListN.{get_or-append, get_or-map, length-set}
+use Rattle.std.proofs.Math.ListN.{get_or-append, length-set}
 use Rattle.std.proofs.Math.Seq.{get_or-append_seam}
 use Rattle.std.proofs.lemmas.Option.{slice_get_within}
 use Rattle.std.proofs.lemmas.Bool.{cases_eq}
@@ -15,10 +13,11 @@ use Rattle.core_lang.specs.Serial.{Invocation, Ended, Serial, end_of, opening_he
 use Rattle.core_lang.specs.Typing.{lookup, IsHeap, HasCells}
 use Rattle.core_lang.specs.Laws.{OverIsWhole}
 use Rattle.core_lang.specs.Whole.{Finished, Over}
-use Rattle.outcomes.specs.Orders.{next_call, one_more, none_done, orders_of, begun_with, begun_by, calls_of}
+use Rattle.outcomes.specs.Orders.{next_call, one_more, none_done, orders_of, calls_of}
 use Rattle.outcomes.specs.Working.States.{Reached, NoneIsAlike, at, nowhere, with_more}
 use Rattle.outcomes.specs.Working.Trails.{longer, IsLonger}
 use Rattle.outcomes.specs.Working.Searching.{Leads, order_at, IsGood, AreGood, IsFound, IsAdded}
+use Rattle.outcomes.specs.Theory.Done.{among_begun}
 
 -- one call more
 pub leads_further : (program : Typed) (n : ℕ) (done : List ℕ) (heap : List Value) (order done' : List ℕ) (heap' : List Value) (t : ℕ) (call : Invocation) (finished : Finished) →
@@ -62,28 +61,6 @@ pub next_within : (program : Typed) (done : List ℕ) (t : ℕ) (call : Invocati
 next_within program done t call next =
     let there = some_of_lookup (slice_get program.threads.items t) _ call next in
     slice_get_within program.threads.items t there.0 there.1
-
-among_behind : (t : ℕ) (orders : List (List ℕ)) (order : List ℕ) → Contains orders order →
-    Contains (map (λ (o : List ℕ). t ∷ o) orders) (t ∷ order)
-among_behind t orders order there =
-    (there.0, (let within = there.1 in rw length-map within), get_or-map (λ (o : List ℕ). t ∷ o) orders there.0 order ∙ ap (λ (o : List ℕ). t ∷ o) there.2)
-
-below_other : (t c : ℕ) → t < suc c → (t ≡ c → ⊥) → t < c
-below_other t c within other = omega arith
-
-pub among_begun : (program : Typed) (following : List ℕ →
-    List (List ℕ)) (done : List ℕ) (count t : ℕ) (call : Invocation) (order : List ℕ) → t < count →
-    next_call program done t ≡ Some call → Contains (following (one_more done t)) order → Contains (begun_by program following done count) (t ∷ order)
-among_begun program following done zero t call order within next there = absurd (omega arith)
-among_begun program following done (suc c) t call order within next there =
-    elim (cases_eq t c) [
-      | inl same ↦ Contains-append_right (begun_by program following done c) _ (t ∷ order)
-          (subst (λ (x : ℕ). Contains (begun_with (next_call program done x) x (following (one_more done x))) (t ∷ order)) same
-          (subst (λ (o : Option Invocation). Contains (begun_with o t (following (one_more done t))) (t ∷ order)) (sym next)
-          (among_behind t (following (one_more done t)) order there)))
-      | inr other ↦ Contains-append_left (begun_by program following done c) _ (t ∷ order)
-          (among_begun program following done c t call order (below_other t c within other) next there)
-    ]
 
 -- calls that lead on are made in one of the orders
 pub leads_in_order : (program : Typed) (n : ℕ) (done : List ℕ) (heap : List Value) (order done' : List ℕ) (heap' : List Value) →

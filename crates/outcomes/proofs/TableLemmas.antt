@@ -1,7 +1,7 @@
 -- How states are found.
-use Rattle.std.proofs.Common.{◌≡◌, ◌∙◌, ℕ, ◌+◌, ◌<◌, ◌≤◌, zero, suc, List, [], ◌∷◌, ◌++◌, length, map, get_or}
-use Rattle.std.proofs.Common.{slice_get, slice_set, Option, Some, None, cond, nat_eq, inl, inr, ap, sym, subst, refl}
-use Rattle.std.proofs.Common.{arith, eq-eqb, ne_eqb, length-append}
+use Rattle.std.proofs.Common.{◌≡◌, ◌∙◌, ℕ, ◌+◌, ◌<◌, ◌≤◌, suc, List, [], ◌∷◌, ◌++◌, length, map, get_or, slice_get}
+use Rattle.std.proofs.Common.{slice_set, Option, Some, None, cond, nat_eq, inl, inr, ap, sym, subst, refl, arith}
+use Rattle.std.proofs.Common.{eq-eqb, ne_eqb, length-append}
 use Rattle.std.proofs.lemmas.Bool.{cases_eq}
 use Rattle.std.proofs.lemmas.List.{map-append, map-set, get_or-map, length-map}
 use Rattle.std.proofs.lemmas.List.Sums.{sum_by_push, sum_by-set}
@@ -15,8 +15,8 @@ use Rattle.outcomes.specs.declared.layer.Entry.{Entry}
 use Rattle.outcomes.specs.Working.Hashes.{hash}
 use Rattle.outcomes.specs.Working.States.{Reached, IsAlike, entry_state, orders_to, at, nowhere, NoneIsAlike}
 use Rattle.outcomes.specs.Working.Tables.{hash_of, HasHash, IsLast, IsTable, HasAlike, IsLeft, left_count}
-use Rattle.outcomes.proofs.Lists.{pushed_at, still_at, last_at, set_at, replaced_at}
-use Rattle.core_lang.specs.Theory.Items.{get_some}
+use Rattle.outcomes.proofs.Lists.{set_at, replaced_at}
+use Rattle.core_lang.specs.Theory.Items.{get_some, still_at, last_at, pushed_at}
 
 -- entries with the same hashes in the same places
 abbrev HaveSame : List Entry → List Entry → ℕ → Type 0

@@ -1,11 +1,11 @@
 -- Orders that share their beginnings.
-use Rattle.std.proofs.Common.{◌≡◌, ◌∙◌, ℕ, ◌+◌, ◌-◌, ◌<◌, ◌≤◌, zero, suc, List, [], ◌∷◌, ◌++◌, length, reverse}
-use Rattle.std.proofs.Common.{get_or, slice_get, Some, inl, inr, ap, sym, refl, arith, append_assoc, length-append}
+use Rattle.std.proofs.Common.{◌≡◌, ◌∙◌, ℕ, ◌+◌, ◌-◌, ◌<◌, ◌≤◌, zero, suc, List, [], ◌∷◌, ◌++◌, length, reverse, get_or}
+use Rattle.std.proofs.Common.{slice_get, Some, inl, inr, ap, sym, refl, arith, append_assoc, length-append}
 use Rattle.std.proofs.lemmas.List.{reverse-append}
 use Rattle.std.proofs.Math.ListN.{get_or-append}
 use Rattle.std.proofs.Math.Seq.{get_or-append_seam}
+use Rattle.core_lang.specs.Theory.Items.{pushed_at}
 use Rattle.outcomes.specs.declared.trail.Step.{Step}
-use Rattle.outcomes.proofs.Lists.{pushed_at}
 use Rattle.outcomes.specs.Working.Trails.{longer, grown, orders_of, AreBackward}
 
 -- one step more

@@ -4,7 +4,6 @@ use Rattle.std.proofs.Common.{◌++◌, length, map, get_or, Option, Some, None,
 use Rattle.std.proofs.Common.{arith, ◌⊎◌, inl, inr, append-nil}
 use Rattle.std.specs.Ordering.{int_eq}
 use Rattle.std.proofs.lemmas.Bool.Decides.{Decides-int_eq, Decides-eqb}
-use Rattle.std.specs.Bool.{Decides}
 use Rattle.std.specs.List.{All, AllPairs, Any, Contains, count_by}
 use Rattle.std.proofs.lemmas.List.{get_or-map, length-map, length-replicate}
 use Rattle.std.proofs.lemmas.List.Sums.{sum_by-cons, get_or-le-sum_by}
@@ -16,10 +15,10 @@ use Rattle.core_lang.specs.Serial.{Invocation, Ended, Serial, opening_heap, seri
 use Rattle.core_lang.specs.WellFormed.{IsChecked, calls_together}
 use Rattle.outcomes.specs.declared.search.Search.{Search}
 use Rattle.outcomes.specs.declared.search.Work.{Work}
-use Rattle.outcomes.specs.Orders.{next_call, one_more, none_done, orders, orders_of, calls_of, calls_in}
+use Rattle.outcomes.specs.Orders.{next_call, none_done, orders, orders_of, calls_in}
 use Rattle.outcomes.specs.Ends.{EndsIn, heap_if_settled, heap_left, end_in, Told, told_count, AreAllEnds, StopsAfter}
 use Rattle.outcomes.specs.Working.States.{Reached, at, nowhere}
-use Rattle.outcomes.specs.Working.Searching.{Leads, order_at, IsGood, AreGood, weight, total, as_told, Summand}
+use Rattle.outcomes.specs.Working.Searching.{order_at, IsGood, AreGood, weight, total, as_told, Summand}
 use Rattle.outcomes.specs.Working.Steps.{GoesOn, made_from_all, opening_state, IsBeyond, HasTooMany, one}
 use Rattle.outcomes.proofs.Leading.{leads_in_order, leads_serially, leads_made}
 use Rattle.outcomes.proofs.Full.{full, leads_done}

@@ -1,6 +1,7 @@
 pub mod Orders
 pub mod Ends
 pub mod Working
+pub mod Theory
 -- what the public clauses cite
 pub use Rattle.outcomes.specs.Orders.{next_call, orders, calls_in}
 pub use Rattle.outcomes.specs.Ends.{EndsIn, Told, told_of, AreAllEnds, AreDrawnEnds, Configuration, LeadsTo}

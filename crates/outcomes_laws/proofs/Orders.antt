@@ -1,23 +1,23 @@
 -- The threads of a history that has each thread's script are an order of all calls.
 use Rattle.std.proofs.Common.{◌≡◌, ◌∙◌, ℕ, ◌+◌, ◌<◌, ◌≤◌, ◌==◌, zero, suc, List, [], ◌∷◌, ◌++◌, length, map, drop}
-use Rattle.std.proofs.Common.{get_or, get_or-set_same, get_or-set_other, slice_get, slice_set, Option, Some, None, ap}
-use Rattle.std.proofs.Common.{sym, subst, refl, arith, inl, inr, if◌then◌else◌}
+use Rattle.std.proofs.Common.{get_or, get_or-set_same, get_or-set_other, slice_get, Option, Some, ap, sym, subst, refl}
+use Rattle.std.proofs.Common.{arith, inl, inr}
 use Rattle.std.specs.Option.{option_map, option_to_list}
 use Rattle.std.specs.List.{Contains}
 use Rattle.std.proofs.lemmas.Bool.{cases_eq, cond-true, cond-false, eq-eqb, ne_eqb}
 use Rattle.std.proofs.lemmas.List.{length-map}
-use Rattle.std.proofs.lemmas.List.Elements.{Contains-append_left, Contains-append_right}
-use Rattle.std.proofs.Math.ListN.{get_or-map, length-set}
+use Rattle.std.proofs.Math.ListN.{length-set}
 use Rattle.core_lang.specs.declared.typed.Call.{Call}
 use Rattle.core_lang.specs.declared.typed.Thread.{Thread}
 use Rattle.core_lang.specs.declared.typed.Typed.{Typed}
 use Rattle.core_lang.specs.Serial.{Invocation, Scheduled, invocation}
 use Rattle.core_lang.specs.Typing.{lookup}
 use Rattle.history.specs.Commits.{Commit, call_of, script_call}
-use Rattle.outcomes.specs.Orders.{next_call, one_more, orders_of, begun_with, begun_by, calls_of}
+use Rattle.outcomes.specs.Orders.{next_call, one_more, orders_of, calls_of}
 use Rattle.worlds.specs.Claims.{calls_by, numbered}
+use Rattle.outcomes.specs.Theory.Done.{length-lengths, sums_set, sums, lengths, among_begun}
 use Rattle.outcomes_laws.specs.Laws.{order_of}
-use Rattle.outcomes_laws.proofs.Counts.{sums, lengths, length-lengths, sums_set, same_at, length_at}
+use Rattle.outcomes_laws.proofs.Counts.{same_at, length_at}
 
 -- ---- lists
 
@@ -175,28 +175,6 @@ goes_on program done c cs follows =
     }
 
 -- ---- among all orders
-
-among_behind : (t : ℕ) (orders : List (List ℕ)) (order : List ℕ) → Contains orders order →
-    Contains (map (λ (o : List ℕ). t ∷ o) orders) (t ∷ order)
-among_behind t orders order there =
-    (there.0, (let within = there.1 in rw length-map within), get_or-map (λ (o : List ℕ). t ∷ o) orders there.0 order ∙ ap (λ (o : List ℕ). t ∷ o) there.2)
-
-below_other : (t c : ℕ) → t < suc c → (t ≡ c → ⊥) → t < c
-below_other t c within other = omega arith
-
-among_begun : (program : Typed) (following : List ℕ →
-    List (List ℕ)) (done : List ℕ) (count t : ℕ) (call : Invocation) (order : List ℕ) → t < count →
-    next_call program done t ≡ Some call → Contains (following (one_more done t)) order → Contains (begun_by program following done count) (t ∷ order)
-among_begun program following done zero t call order within next there = absurd (omega arith)
-among_begun program following done (suc c) t call order within next there =
-    elim (cases_eq t c) [
-      | inl same ↦ Contains-append_right (begun_by program following done c) _ (t ∷ order)
-          (subst (λ (x : ℕ). Contains (begun_with (next_call program done x) x (following (one_more done x))) (t ∷ order)) same
-          (subst (λ (o : Option Invocation). Contains (begun_with o t (following (one_more done t))) (t ∷ order)) (sym next)
-          (among_behind t (following (one_more done t)) order there)))
-      | inr other ↦ Contains-append_left (begun_by program following done c) _ (t ∷ order)
-          (among_begun program following done c t call order (below_other t c within other) next there)
-    ]
 
 -- the threads of the history are an order of its length, of the history's calls; and there are as many as are left
 pub record IsWhole (program : Typed) (done : List ℕ) (h : List Commit) : Type 0 where

@@ -1,38 +1,27 @@
 -- A run in which all calls end has an end that is told.
-use Rattle.std.proofs.Common.{◌≡◌, ◌∙◌, ℕ, ◌+◌, ◌<◌, ◌≤◌, zero, suc, List, [], ◌∷◌, length, map, take, drop}
-use Rattle.std.proofs.Common.{replicate, get_or, slice_get, Option, Some, None, ap, sym, subst, refl, arith}
+use Rattle.std.proofs.Common.{◌≡◌, ◌∙◌, ℕ, ◌+◌, ◌<◌, ◌≤◌, zero, suc, List, [], ◌∷◌, length, map, take, drop, replicate}
+use Rattle.std.proofs.Common.{get_or, slice_get, Option, Some, None, ap, sym, subst, refl, arith}
 use Rattle.std.specs.Option.{option_map_or}
 use Rattle.std.specs.List.{Contains}
 use Rattle.std.proofs.lemmas.List.{length-map, length-replicate}
+use Rattle.std.proofs.lemmas.Option.{slice_get_within}
 use Rattle.core_lang.specs.declared.value.Value.{Value}
 use Rattle.core_lang.specs.declared.typed.Call.{Call}
 use Rattle.core_lang.specs.declared.typed.Thread.{Thread}
-use Rattle.core_lang.specs.declared.typed.Typed.{Typed}
-use Rattle.core_lang.specs.Serial.{Invocation, Scheduled, SerialFromOpening, invocation}
+use Rattle.core_lang.specs.Serial.{Invocation, SerialFromOpening, invocation}
 use Rattle.core_lang.specs.WellFormed.{calls_together}
 use Rattle.core_lang_expansion.specs.Data.{CallData, ThreadData, call_data, thread_data}
-use Rattle.history.specs.Commits.{Commit, call_of, answer_of}
+use Rattle.history.specs.Commits.{answer_of}
 use Rattle.locks.specs.declared.lock.Lock.{Lock}
 use Rattle.locks.specs.Locks.{lock_of_cell}
 use Rattle.lowering.specs.Plans.{Plan, IsCompiled}
-use Rattle.outcomes.specs.Ends.{Told, AreAllEnds}
-use Rattle.outcomes.specs.Orders.{orders, orders_of, none_done, calls_in}
+use Rattle.outcomes.specs.Orders.{orders, orders_of, none_done}
 use Rattle.worlds.specs.Claims.{calls_by, numbered, FollowsScripts, Headline, EveryRunHasIt, HeldCellsAre, FreeCellsAre}
-use Rattle.worlds.specs.Worlds.{World, ThreadState, script_of, scripts, call_at, final}
-use Rattle.outcomes_laws.specs.Laws.{AllHaveEnded, HoldsHeap, order_of, IsAmongTold, EveryEndIsTold}
-use Rattle.outcomes_laws.proofs.Counts.{sums, lengths, sums-lengths, sums_zero, zero_at}
-use Rattle.outcomes_laws.proofs.Orders.{Follows, IsWhole, all_of, whole}
-use Rattle.core_lang.specs.Theory.Items.{get_some}
-
-within_of : {A : Type 0} (xs : List A) (k : ℕ) (x : A) → slice_get xs k ≡ Some x → k < length xs
-within_of [] k x there = cc
-within_of (y ∷ xs) zero x there = omega arith
-within_of (y ∷ xs) (suc k) x there = let w = within_of xs k x there in omega arith
-
-none_at : {A : Type 0} (xs : List A) (k : ℕ) → slice_get xs k ≡ None → length xs ≤ k
-none_at [] k none = omega arith
-none_at (x ∷ xs) zero none = cc
-none_at (x ∷ xs) (suc k) none = let w = none_at xs k none in omega arith
+use Rattle.worlds.specs.Worlds.{World, script_of, scripts, final}
+use Rattle.outcomes_laws.specs.Laws.{AllHaveEnded, HoldsHeap, order_of, EveryEndIsTold}
+use Rattle.outcomes_laws.proofs.Orders.{Follows, all_of, whole}
+use Rattle.core_lang.specs.Theory.Items.{get_some, none_at}
+use Rattle.outcomes.specs.Theory.Done.{sums-lengths, sums_zero, zero_at, sums, lengths}
 
 take_all : {A : Type 0} (k : ℕ) (xs : List A) → length xs ≤ k → take k xs ≡ xs
 take_all zero [] few = refl
@@ -81,7 +70,7 @@ whole_script : (plan : Plan) (w : World) (accepted : List Thread) → map script
     (t : ℕ) (x : Thread) → slice_get accepted t ≡ Some x → calls_by t w.history ≡ numbered t 0 (script_of x)
 whole_script plan w accepted same follows ended t x there =
     let script : slice_get (scripts plan) t ≡ Some (script_of x) = ap (λ (ss : List (List Invocation)). slice_get ss t) (sym same) ∙ script_at accepted t x there in
-    let within : t < length w.threads = (let s = within_of (scripts plan) t (script_of x) script in let l = follows.all_threads in omega (arith, s, l)) in
+    let within : t < length w.threads = (let s = slice_get_within (scripts plan) t (script_of x) script in let l = follows.all_threads in omega (arith, s, l)) in
     let state = get_some w.threads t within in
     let none : slice_get (script_of x) state.0.step ≡ None =
     ap (λ (o : Option (List Invocation)). option_map_or (λ (calls : List Invocation). slice_get calls state.0.step) o None) (sym script)

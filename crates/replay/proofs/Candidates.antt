@@ -1,6 +1,6 @@
 -- Which call a line can be of.
-use Rattle.std.proofs.Common.{◌≡◌, ◌∙◌, ◌<◌, ◌≤◌, ◌^◌, ℕ, zero, suc, true, false, List, [], ◌∷◌, ◌++◌, length}
-use Rattle.std.proofs.Common.{slice_get, Option, Some, None, arith, sym, ap, refl, subst}
+use Rattle.std.proofs.Common.{◌≡◌, ◌∙◌, ◌<◌, ◌^◌, ℕ, true, false, List, ◌++◌, length, slice_get, Some, None, arith, sym}
+use Rattle.std.proofs.Common.{ap, refl, subst}
 use Rattle.std.specs.Prelude.{option_map, drop}
 use Rattle.std.specs.Option.{option_map_or}
 use Rattle.std.proofs.lemmas.Bool.{le-leb, leb-true, and_from, and_parts}
@@ -16,6 +16,7 @@ use Rattle.core_lang.specs.WellFormed.{IsChecked, CanCall}
 use Rattle.source_histories.specs.declared.format.Format.{Format}
 use Rattle.source_histories.specs.declared.format.Format.TheVariants.{One, Two}
 use Rattle.source_histories.specs.Pieces.{begins}
+use Rattle.core_lang.specs.Theory.Items.{none_at, map_some}
 use Rattle.report.specs.declared.record.Called.{Called}
 use Rattle.report.specs.Entry.{scheduled_called}
 use Rattle.report.specs.History.{call_head}
@@ -36,16 +37,6 @@ record Agrees (format : Format) (program : Typed) (at : Progress) (text : List �
   here : call_in program call.thread call.step ≡ Some found
   is : scheduled_at call.thread call.step found ≡ call
   begins : begins_at format (least_at at.seats.items call.thread) at.position (shown format begun) ≡ true
-
-get_none : {A : Type 0} (xs : List A) (k : ℕ) → slice_get xs k ≡ None → length xs ≤ k
-get_none [] k none = omega arith
-get_none (x ∷ xs) zero none = absurd (cc)
-get_none (x ∷ xs) (suc k) none = let h = get_none xs k none in omega (arith, h)
-
-mapped : {A B : Type 0} (f : A → B) (o : Option A) (y : B) → option_map f o ≡ Some y →
-    (x : A) × (o ≡ Some x) × (f x ≡ y)
-mapped f None y is = absurd (cc)
-mapped f (Some x) y is = (x, refl, cc)
 
 short_begin : (format : Format) (order : List ℕ) (t begun : ℕ) → MayBegin format order t begun →
     length order < 2 ^ 63 → IsShort format begun
@@ -79,7 +70,7 @@ agrees format program at text reader call begun end well small is next =
     let short = short_begin format reader.order call.thread begun next.begins (omega (arith, position, small)) in
     let few = bounds.0 in
     let one = bounds.1 in
-    let found = mapped (scheduled_at call.thread (calls_by call.thread reader.order)) (call_in program call.thread (calls_by call.thread reader.order)) call
+    let found = map_some (scheduled_at call.thread (calls_by call.thread reader.order)) (call_in program call.thread (calls_by call.thread reader.order)) call
     (sym (next_call_in program reader.order call.thread) ∙ next.scripted) in
     let step : calls_by call.thread reader.order ≡ call.step = ap (λ (s : Scheduled). s.step) found.2 in
     record {
@@ -113,7 +104,7 @@ module _ (format : Format) (program : Typed) (at : Progress) (text : List ℕ) (
   no_seat all told is none reader call begun end at_reader next =
       let a = agrees format program at text reader call begun end well small at_reader next in
       let same = (same_thread told is call begun a).0 in
-      let past = get_none at.seats.items told.thread none in
+      let past = none_at at.seats.items told.thread none in
       let gone : slice_get program.threads.items call.thread ≡ None = slice_get_past program.threads.items call.thread (omega (arith, all, past, same)) in
       let here : lookup None (λ (thread : Thread). slice_get thread.calls.items call.step) ≡ Some a.found =
       ap (λ found. lookup found (λ (thread : Thread). slice_get thread.calls.items call.step)) (sym gone) ∙ a.here in

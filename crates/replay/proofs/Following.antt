@@ -7,10 +7,11 @@ use Rattle.std.proofs.lemmas.List.Elements.{filter-append}
 use Rattle.std.proofs.lemmas.List.Sums.{sum_by-append}
 use Rattle.core_lang.specs.declared.typed.Typed.{Typed}
 use Rattle.source_histories.specs.declared.format.Format.{Format}
+use Rattle.core_lang.specs.Theory.Items.{behind_at}
 use Rattle.report.specs.Entry.{Entry, scheduled_in}
 use Rattle.replay.specs.Readers.{AllCalled, MayBegin, next_call, script_of, calls_by}
 use Rattle.replay.specs.Working.Histories.{order_of, of_thread, FollowScripts, BeginAsTheyMay}
-use Rattle.replay.proofs.Seating.{get_last, calls_by_one, calls_by_other}
+use Rattle.replay.proofs.Seating.{calls_by_one, calls_by_other}
 
 -- ---- lists
 
@@ -139,7 +140,7 @@ module _ (format : Format) (program : Typed) where
       next : next_call program (order_of done) e.thread ≡ Some (scheduled_in e)
       next = ap (λ xs. slice_get xs (calls_by e.thread (order_of done))) script
           ∙ ap (slice_get (map scheduled_in (of_thread e.thread done) ++ scheduled_in e ∷ map scheduled_in (of_thread e.thread es))) (sym place)
-          ∙ get_last (map scheduled_in (of_thread e.thread done)) (scheduled_in e) (map scheduled_in (of_thread e.thread es))
+          ∙ behind_at (map scheduled_in (of_thread e.thread done)) (scheduled_in e) (map scheduled_in (of_thread e.thread es))
 
   -- calls of the scripts that begin as they may follow one another
   pub scripts_follow : (es : List Entry) → FollowScripts program es → BeginAsTheyMay format es → Follow [] es

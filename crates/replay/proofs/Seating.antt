@@ -1,11 +1,12 @@
 -- Seats, as calls come.
 use Rattle.std.proofs.Common.{◌≡◌, ◌∙◌, ◌<◌, ◌≤◌, ℕ, ◌+◌, zero, suc, List, [], ◌∷◌, ◌++◌, length, slice_get, Some}
-use Rattle.std.proofs.Common.{arith, sym, ap, refl, subst, inl, inr, ◌⊎◌}
+use Rattle.std.proofs.Common.{arith, sym, ap, refl, subst, inl, inr}
 use Rattle.std.specs.Prelude.{◌↔◌, slice_set, replicate}
 use Rattle.std.proofs.lemmas.Bool.{cases_eq, eq-eqb, ne_eqb}
 use Rattle.std.proofs.lemmas.List.{length_push}
 use Rattle.std.proofs.lemmas.List.Sums.{sum_by-append}
 use Rattle.std.proofs.lemmas.Option.{slice_get_within}
+use Rattle.core_lang.specs.Theory.Items.{still_at, behind_at, pushed_at}
 use Rattle.replay.specs.declared.progress.Seat.{Seat}
 use Rattle.replay.specs.Readers.{calls_by, IsAfter}
 use Rattle.replay.specs.Working.Reading.{called_at, least_at, AreSeats}
@@ -24,23 +25,6 @@ set_other (x ∷ xs) zero zero v apart = absurd (apart refl)
 set_other (x ∷ xs) zero (suc j) v apart = refl
 set_other (x ∷ xs) (suc i) zero v apart = refl
 set_other (x ∷ xs) (suc i) (suc j) v apart = set_other xs i j v (λ e. apart (ap suc e))
-
-pub get_left : {A : Type 0} (xs ys : List A) (k : ℕ) (x : A) → slice_get xs k ≡ Some x → slice_get (xs ++ ys) k ≡ Some x
-get_left [] ys k x is = absurd (cc)
-get_left (y ∷ xs) ys zero x is = is
-get_left (y ∷ xs) ys (suc k) x is = get_left xs ys k x is
-
-pub get_last : {A : Type 0} (xs : List A) (y : A) (ys : List A) → slice_get (xs ++ y ∷ ys) (length xs) ≡ Some y
-get_last [] y ys = refl
-get_last (x ∷ xs) y ys = get_last xs y ys
-
--- an element of a list with one more
-pub get_pushed : {A : Type 0} (xs : List A) (y : A) (k : ℕ) (x : A) → slice_get (xs ++ y ∷ []) k ≡ Some x →
-    (slice_get xs k ≡ Some x) ⊎ ((k ≡ length xs) × (y ≡ x))
-get_pushed [] y zero x is = inr (refl, cc)
-get_pushed [] y (suc k) x is = absurd (cc)
-get_pushed (z ∷ xs) y zero x is = inl is
-get_pushed (z ∷ xs) y (suc k) x is = elim (get_pushed xs y k x is) [ inl h ↦ inl h | inr h ↦ inr (ap suc h.0, h.1) ]
 
 -- ---- counting
 
@@ -62,7 +46,7 @@ calls_by_other t u order apart =
 
 after_own : (t : ℕ) (order : List ℕ) (begun : ℕ) → IsAfter (order ++ t ∷ []) t begun ↔ (length order + 1 ≤ begun)
 after_own t order begun = (
-  λ after. let h = after (length order) (get_last order t []) in omega (arith, h),
+  λ after. let h = after (length order) (behind_at order t []) in omega (arith, h),
   λ most k is.
       let h = slice_get_within (order ++ t ∷ []) k t is in
       let long = length_push order t in
@@ -72,8 +56,8 @@ after_own t order begun = (
 after_other : (t u : ℕ) (order : List ℕ) (begun : ℕ) → (u ≡ t → ⊥) →
     IsAfter (order ++ u ∷ []) t begun ↔ IsAfter order t begun
 after_other t u order begun apart = (
-  λ after k is. after k (get_left order (u ∷ []) k t is),
-  λ after k is. elim (get_pushed order u k t is) [ inl h ↦ after k h | inr h ↦ absurd (apart h.1) ],
+  λ after k is. after k (still_at order (u ∷ []) k t is),
+  λ after k is. elim (pushed_at order u k t is) [ inl h ↦ after k h | inr h ↦ absurd (apart h.1) ],
 )
 
 -- ---- seats

@@ -9,14 +9,10 @@ use Rattle.interleavings.specs.Threads.{ThreadsOf, threads_of, with_steps, at_op
 use Rattle.report_simulation.specs.Simulation.{simulation_of}
 use Rattle.source_steps.specs.declared.turn.Turn.{Turn}
 use Rattle.source_steps.specs.Turns.{steps_of}
+use Rattle.worlds.specs.Theory.Steps.{steps_more}
 use Rattle.report_trace.specs.declared.teller.Teller.{Teller}
 use Rattle.report_trace.specs.Working.Tellers.{IsTellerOf, Tells}
 use Rattle.report_trace.specs.Trace.{step_text, steps_text, trace_text}
-
-world_more : (plan : Plan) (w : World) (xs ys : List ℕ) →
-    world_after plan w (xs ++ ys) ≡ world_after plan (world_after plan w xs) ys
-world_more plan w [] ys = refl
-world_more plan w (t ∷ xs) ys = world_more plan (happens plan w t).1 xs ys
 
 lines_more : (text : List ℕ) (plan : Plan) (moves : Bool) (w : World) (xs ys : List ℕ) →
     steps_text text plan moves w (xs ++ ys)
@@ -39,7 +35,7 @@ module _ {Z : Type 0} (x : Teller) where
       let here : b.world ≡ world_after x.program.now a.world ts =
       ap (λ (w : ThreadsOf). w.world) first.world ∙ ap (λ (r : Plan). world_after r a.world ts) plan in
       record {
-        world = last.world ∙ ap (λ (w : ThreadsOf). with_steps w us) first.world ∙ ap (threads_of a.plan) (sym (world_more a.plan a.world ts us));
+        world = last.world ∙ ap (λ (w : ThreadsOf). with_steps w us) first.world ∙ ap (threads_of a.plan) (sym (steps_more a.plan a.world ts us));
         lines = last.lines ∙ ap (λ l. l ++ text b.world us) first.lines ∙ append_assoc (string_bytes o) (text a.world ts) (text b.world us)
             ∙ ap (λ w. string_bytes o ++ (text a.world ts ++ text w us)) here
             ∙ ap (λ l. string_bytes o ++ l) (sym (lines_more x.text.now x.program.now x.moves a.world ts us));

@@ -5,10 +5,10 @@ use Rattle.std.specs.Prelude.{slice_get}
 use Rattle.std.specs.Option.{option_map_or}
 use Rattle.std.proofs.lemmas.Option.{same_Some}
 use Rattle.core_lang.specs.declared.tree.Section.{Section}
+use Rattle.core_lang.specs.Theory.Items.{pushed_at}
 use Rattle.code.specs.Listing.{text_at, instr_text}
 use Rattle.code.specs.Lowering.{section_code, lists_at}
 use Rattle.lowering.specs.Plans.{Plan}
-use Rattle.lowering.proofs.Pushes.{push_cases}
 use Rattle.report_trace.specs.declared.places.SectionPlaces.{SectionPlaces}
 use Rattle.report_trace.specs.Working.Told.{ArePlacesOf, table_text, place_told}
 use Rattle.report_trace.specs.Trace.{text_in, instruction_text}
@@ -19,7 +19,7 @@ pub each_more : {A B : Type 0} (P : ℕ → A → B → Type 0) (xs : List A) (y
     ((j : ℕ) (a : A) (b : B) → slice_get xs j ≡ Some a → slice_get ys j ≡ Some b → P j a b) →
     (j : ℕ) (a : A) (b : B) → slice_get xs j ≡ Some a → slice_get (ys ++ y ∷ []) j ≡ Some b → P j a b
 each_more P xs ys x y at here before j a b one two =
-    elim (push_cases ys y j b two) [
+    elim (pushed_at ys y j b two) [
       | inl old ↦ before j a b one old
       | inr new ↦
           let same : x ≡ a = same_Some x a (sym at ∙ ap (slice_get xs) (sym new.0) ∙ one) in

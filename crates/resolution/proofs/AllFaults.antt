@@ -18,9 +18,9 @@ use Rattle.syntax.specs.declared.tree.Level.TheVariants.{Term, Sum, Conjunction,
 use Rattle.syntax.specs.declared.tree.Comparison as written
 use Rattle.syntax.specs.declared.tree.Comparison.TheVariants as sign
 use Rattle.syntax.specs.Trees.{Ident, ref_type, Const, int_const, negative, member_const, Place, lone, element, path}
-use Rattle.syntax.specs.Trees.{ValueType, Expr, int, place, chain, compare, let_owned, let_call, assign}
-use Rattle.syntax.specs.Trees.{Member, lock_member, final_member, field_member, Struct, Pool, Call}
-use Rattle.syntax.specs.Trees.{Decl, lock, struct, global, array, pool, init, atomic, helper, thread}
+use Rattle.syntax.specs.Trees.{ValueType, Expr, int, place, chain, compare, let_owned, let_call, assign, Member}
+use Rattle.syntax.specs.Trees.{lock_member, final_member, field_member, Struct, Pool, Call, Decl, lock, struct, global}
+use Rattle.syntax.specs.Trees.{array, pool, init, atomic, helper, thread}
 use Rattle.core_lang.specs.declared.value.ValueType as core_type
 use Rattle.core_lang.specs.declared.value.ValueType.TheVariants.{Integer, Reference}
 use Rattle.source.specs.declared.mistake.Mistake.{Mistake}
@@ -28,70 +28,60 @@ use Rattle.resolution.specs.declared.wanted.Sort.TheVariants as sort
 use Rattle.resolution.specs.declared.wanted.Want.{Want}
 use Rattle.resolution.specs.Limits.{STRUCT_LIMIT, MEMBER_LIMIT, FINAL_LIMIT, CLASS_LIMIT, OBJECT_LIMIT, CELL_LIMIT}
 use Rattle.resolution.specs.Limits.{SECTION_LIMIT, THREAD_LIMIT, CALL_LIMIT}
-use Rattle.resolution.specs.Scopes.{Scope, Local, outside, Meaning, a_local, a_decl, nothing, meaning, place_of}
-use Rattle.resolution.specs.Scopes.{count, declared, the_decl, alike, has_body, member_name, member_bears}
-use Rattle.resolution.specs.Scopes.{the_member, the_local, has_type, member_has_type, type_of, result_of}
-use Rattle.resolution.specs.Scopes.{struct_named, entered}
+use Rattle.resolution.specs.Scopes.{Scope, Local, outside, Meaning, a_local, a_decl, nothing, meaning, place_of, count}
+use Rattle.resolution.specs.Scopes.{declared, the_decl, alike, has_body, member_name, member_bears, the_member}
+use Rattle.resolution.specs.Scopes.{the_local, has_type, member_has_type, type_of, result_of, struct_named, entered}
 use Rattle.resolution.specs.Numbers.{is_lock, total, classes_of, objects_of, cells_of, calls_of}
 use Rattle.resolution.specs.Expressions.{ResolvedExpr, value, truth, fits, fits_type, fits_sort, alike_sorts}
 use Rattle.resolution.specs.Working.TypedExpressions.{typed}
-use Rattle.resolution.specs.Expressions.{operator_of, Walk, reached, at_lock, lost}
-use Rattle.resolution.specs.Expressions.{walk_from}
+use Rattle.resolution.specs.Expressions.{operator_of, Walk, reached, at_lock, lost, walk_from}
 use Rattle.resolution.specs.declared.owner_field.OwnerField.{OwnerField}
 use Rattle.resolution.specs.Working.TypedOwners.{owner_field}
 use Rattle.resolution.specs.Constants.{pool_members, initialised, member_want, given}
 use Rattle.resolution.specs.Statements.{ahead_of}
-use Rattle.resolution.specs.Where.{Has, first, further, HasStmt, HasExpr, Binds}
-use Rattle.resolution.specs.Where.{HasCall, HasConst}
+use Rattle.resolution.specs.Where.{Has, first, further, HasStmt, HasExpr, Binds, HasCall, HasConst}
 use Rattle.resolution.proofs.ConstantRules.{sort_is}
 use Rattle.resolution.proofs.ExpressionRules.{typed_is}
 use Rattle.resolution.proofs.OwnerRules.{final_is, has_no_last}
 use Rattle.resolution.specs.Faults as fault
-use Rattle.resolution.specs.Faults.{start_of, const_start, IsTooLarge, IsDeclaredTwice, Reaches, stays, goes_on}
-use Rattle.resolution.specs.Faults.{Walks, walks, NamesGlobal, IsLockDecl, IsLockMember, IsFinalMember, IsUnknown}
-use Rattle.resolution.specs.Faults.{AreUnlike, IsNoValue, HasNoElements, IsNoReference}
+use Rattle.resolution.specs.Faults.{start_of, const_start, IsTooLarge, IsDeclaredTwice, IsLockDecl, IsLockMember}
+use Rattle.resolution.specs.Faults.{IsFinalMember, IsUnknown, AreUnlike, IsNoValue, HasNoElements, IsNoReference}
 use Rattle.resolution.specs.Expressions.{IsEquality, IsOfNumbers}
 use Rattle.resolution.specs.Faults.{IsNoStruct, IsSection, IsPool, IsWrongType, IsWrongCount, IsNotAssignable}
-use Rattle.resolution.specs.Faults.{IsUnprotected, EndsAtNoLock, PassesNonFinal, limit_of, IsOverLimit}
-use Rattle.resolution.specs.Faults.{IsFinalMissing, IsOutOfRange, IsLockAsValue, IsFault, too_large, declared_twice}
-use Rattle.resolution.specs.Faults.{unknown, wrong_type, miscounted, not_assignable, without_lock, ends_at_no_lock}
-use Rattle.resolution.specs.Faults.{passes_non_final, over_limit, final_missing, out_of_range, lock_as_value}
-use Rattle.resolution.specs.Faults.{of_calls}
+use Rattle.resolution.specs.Faults.{IsUnprotected, EndsAtNoLock, PassesNonFinal, limit_of, IsOverLimit, IsFinalMissing}
+use Rattle.resolution.specs.Faults.{IsOutOfRange, IsLockAsValue, IsFault, too_large, declared_twice, unknown}
+use Rattle.resolution.specs.Faults.{wrong_type, miscounted, not_assignable, without_lock, ends_at_no_lock}
+use Rattle.resolution.specs.Faults.{passes_non_final, over_limit, final_missing, out_of_range, lock_as_value, of_calls}
 use Rattle.resolution.specs.Working.FaultLists as list
-use Rattle.resolution.specs.Working.FaultLists.{one, one_if, unfit, unfit_member, no_struct, type_faults}
-use Rattle.resolution.specs.Working.FaultLists.{number_faults, index_faults, own_faults, sort_misfit, const_faults}
-use Rattle.resolution.specs.Working.FaultLists.{argument_faults, no_elements, no_member, no_field, step_faults}
-use Rattle.resolution.specs.Working.FaultLists.{end_faults, walk_faults, path_faults, misfit, unlike, side_faults}
-use Rattle.resolution.specs.Working.FaultLists.{operator_faults, expr_faults, place_faults, wanted_faults, taken}
-use Rattle.resolution.specs.Working.FaultLists.{local_faults, no_target, no_array, final_faults, target_faults}
-use Rattle.resolution.specs.Working.FaultLists.{no_final_in, owner_field_faults, other_type, owner_faults}
-use Rattle.resolution.specs.Working.FaultLists.{global_lock_faults, lock_faults, passed_faults, last_faults, passed}
-use Rattle.resolution.specs.Working.FaultLists.{along_faults, annotation_faults, protection_faults, opening_faults}
-use Rattle.resolution.specs.Working.FaultLists.{some_lacks, is_at, is_due, lacks, missing_faults, field_faults}
-use Rattle.resolution.specs.Working.FaultLists.{named_faults, null_faults, init_faults, call_faults, again, twice}
+use Rattle.resolution.specs.Working.FaultLists.{one, one_if, unfit, unfit_member, no_struct, type_faults, number_faults}
+use Rattle.resolution.specs.Working.FaultLists.{index_faults, own_faults, sort_misfit, const_faults, argument_faults}
+use Rattle.resolution.specs.Working.FaultLists.{no_elements, no_field, step_faults, end_faults, path_faults, misfit}
+use Rattle.resolution.specs.Working.FaultLists.{unlike, side_faults, operator_faults, expr_faults, taken, local_faults}
+use Rattle.resolution.specs.Working.FaultLists.{no_target, no_array, final_faults, target_faults, owner_field_faults}
+use Rattle.resolution.specs.Working.FaultLists.{other_type, global_lock_faults, lock_faults, passed_faults, last_faults}
+use Rattle.resolution.specs.Working.FaultLists.{protection_faults, some_lacks, is_at, is_due, lacks, missing_faults}
+use Rattle.resolution.specs.Working.FaultLists.{field_faults, named_faults, null_faults, call_faults, again, twice}
 use Rattle.resolution.specs.Working.FaultLists.{twice_faults, member_twice_faults, struct_faults, first_too_many}
 use Rattle.resolution.specs.Working.FaultLists.{lock_count, member_counts, count_faults, total_faults, given_before}
 use Rattle.resolution.specs.Working.FaultLists.{init_target_again, repeated, repeated_faults, each_faults}
 use Rattle.resolution.specs.Working.FaultLists.{declaration_faults}
-use Rattle.source.specs.Theory.Leasts.{IsAmong}
+use Rattle.source.specs.Theory.Leasts.{IsAmong, among_left, among_right}
 use Rattle.core_lang_calls.specs.Faults.{IsGraphFault}
 use Rattle.resolution.specs.CallGraphs.{tree_graph}
 use Rattle.resolution.specs.declared.body_limits.BodyLimits.{BodyLimits}
 use Rattle.resolution.proofs.TrueStatements.{entered_limits}
 use Rattle.resolution.proofs.Members.{at, at_if}
-use Rattle.resolution.proofs.Members as m
 use Rattle.resolution.proofs.Named.{member_is}
-use Rattle.resolution.proofs.Parts.{chain_link, of_place_at, of_decl, of_stmt, of_owner, helper_call_decls}
-use Rattle.resolution.proofs.Parts.{stmt_decls, of_wanted, expr_decls, of_expr, own, of_param, of_local, local_decls}
+use Rattle.resolution.proofs.Parts.{chain_link, of_place_at, of_decl, of_stmt, of_owner, helper_call_decls, stmt_decls}
+use Rattle.resolution.proofs.Parts.{of_wanted, expr_decls, of_expr, own, of_param, of_local, local_decls}
 use Rattle.resolution.proofs.Parts.{in_members_field, of_type, of_call, of_const}
 use Rattle.resolution.proofs.HelperFaults.{listed, unfit_in, misfit_is, other_count, of_helper_name, of_result}
 use Rattle.resolution.proofs.HelperFaults.{no_helper_is, no_result_is, counted_is}
 use Rattle.resolution.proofs.Tests.{lt_true, le_true, both_true}
 use Rattle.std.proofs.lemmas.List.{append-nil}
-use Rattle.resolution.proofs.AllPaths.{of_place, of_indexed, of_path, unknown_place, in_path}
-use Rattle.resolution.proofs.AllPaths.{in_path_end, unknown_field}
-use Rattle.resolution.proofs.AllPaths.{of_passed, of_last, unknown_passed, of_global_lock}
-use Rattle.resolution.proofs.AllPaths.{of_init_index, of_init_field, of_member, of_owner_name}
+use Rattle.resolution.proofs.AllPaths.{of_place, of_indexed, of_path, unknown_place, in_path, in_path_end}
+use Rattle.resolution.proofs.AllPaths.{unknown_field, of_passed, of_last, unknown_passed, of_global_lock, of_init_index}
+use Rattle.resolution.proofs.AllPaths.{of_init_field, of_member, of_owner_name}
 
 unfit_member_in : (decls : List Decl) (c : Code) (p : ℕ) (x : Member) → member_has_type decls x ≡ true →
     unfit_member decls c p x ≡ one c p
@@ -101,32 +91,32 @@ unfit_member_in decls c p x e = ap (λ (b : Bool). one_if b c p) e
 
 large : (decls : List Decl) (p : ℕ) → IsTooLarge decls p → listed decls NumberTooLarge p
 large decls p (fault.expression {sc = sc} {w = w} {n = n} h over) = of_expr decls sc w (int n) h _ (at_if (nat_lt NUMBER_LIMIT n.value) NumberTooLarge n.span.start (lt_true NUMBER_LIMIT n.value over))
-large decls p (fault.constant {w = w} {n = n} h over) = of_const decls w (int_const n) h _ (m.in_left _ (number_faults n) _ (at_if (nat_lt NUMBER_LIMIT n.value) NumberTooLarge n.span.start (lt_true NUMBER_LIMIT n.value over)))
-large decls p (fault.negative_constant {w = w} sign {n = n} h over) = of_const decls w (negative sign n) h _ (m.in_left _ (number_faults n) _ (at_if (nat_lt NUMBER_LIMIT n.value) NumberTooLarge n.span.start (lt_true NUMBER_LIMIT n.value over)))
+large decls p (fault.constant {w = w} {n = n} h over) = of_const decls w (int_const n) h _ (among_left _ (number_faults n) _ (at_if (nat_lt NUMBER_LIMIT n.value) NumberTooLarge n.span.start (lt_true NUMBER_LIMIT n.value over)))
+large decls p (fault.negative_constant {w = w} sign {n = n} h over) = of_const decls w (negative sign n) h _ (among_left _ (number_faults n) _ (at_if (nat_lt NUMBER_LIMIT n.value) NumberTooLarge n.span.start (lt_true NUMBER_LIMIT n.value over)))
 
 -- ---- E05
 
 in_twice : (ahead before rest : List Decl) (d : Decl) (f : Mistake) →
     IsAmong f (twice (ahead ++ before) (declared d)) → IsAmong f (twice_faults ahead (before ++ d ∷ rest))
-in_twice ahead [] rest d f i = m.in_left f (twice ahead (declared d)) (twice_faults (ahead ++ d ∷ []) rest) (subst (λ (ds : List Decl). IsAmong f (twice ds (declared d))) (append-nil ahead) i)
+in_twice ahead [] rest d f i = among_left f (twice ahead (declared d)) (twice_faults (ahead ++ d ∷ []) rest) (subst (λ (ds : List Decl). IsAmong f (twice ds (declared d))) (append-nil ahead) i)
 in_twice ahead (b ∷ before) rest d f i =
-    m.in_right f (twice ahead (declared b)) _ (in_twice (ahead ++ b ∷ []) before rest d f (subst (λ (ds : List Decl). IsAmong f (twice ds (declared d))) (sym (append_assoc ahead (b ∷ []) before)) i))
+    among_right f (twice ahead (declared b)) _ (in_twice (ahead ++ b ∷ []) before rest d f (subst (λ (ds : List Decl). IsAmong f (twice ds (declared d))) (sym (append_assoc ahead (b ∷ []) before)) i))
 
 pub in_member_twice : (ahead before rest : List Member) (x : Member) (f : Mistake) →
     IsAmong f (again (member_name x).span.start (place_of member_bears (ahead ++ before) (member_name x).text)) →
     IsAmong f (member_twice_faults ahead (before ++ x ∷ rest))
 in_member_twice ahead [] rest x f i =
-    m.in_left f (again (member_name x).span.start (place_of member_bears ahead (member_name x).text)) (member_twice_faults (ahead ++ x ∷ []) rest)
+    among_left f (again (member_name x).span.start (place_of member_bears ahead (member_name x).text)) (member_twice_faults (ahead ++ x ∷ []) rest)
     (subst (λ (ms : List Member). IsAmong f (again (member_name x).span.start (place_of member_bears ms (member_name x).text))) (append-nil ahead) i)
 in_member_twice ahead (b ∷ before) rest x f i =
-    m.in_right f (again (member_name b).span.start (place_of member_bears ahead (member_name b).text)) _
+    among_right f (again (member_name b).span.start (place_of member_bears ahead (member_name b).text)) _
     (in_member_twice (ahead ++ b ∷ []) before rest x f (subst (λ (ms : List Member). IsAmong f (again (member_name x).span.start (place_of member_bears ms (member_name x).text))) (sym (append_assoc ahead (b ∷ []) before)) i))
 
 pub in_structs : (ds : List Decl) (s : Struct) → Has ds (struct s) → (f : Mistake) →
     IsAmong f (member_twice_faults [] s.members) → IsAmong f (struct_faults ds)
 in_structs [] s h f i = elim h [ ]
-in_structs (struct s ∷ ds) r first f i = m.in_left f (member_twice_faults [] s.members) (struct_faults ds) i
-in_structs (struct s ∷ ds) r (further h) f i = m.in_right f (member_twice_faults [] s.members) _ (in_structs ds r h f i)
+in_structs (struct s ∷ ds) r first f i = among_left f (member_twice_faults [] s.members) (struct_faults ds) i
+in_structs (struct s ∷ ds) r (further h) f i = among_right f (member_twice_faults [] s.members) _ (in_structs ds r h f i)
 in_structs (lock x ∷ ds) r (further h) f i = in_structs ds r h f i
 in_structs (global v ∷ ds) r (further h) f i = in_structs ds r h f i
 in_structs (array a ∷ ds) r (further h) f i = in_structs ds r h f i
@@ -138,29 +128,29 @@ in_structs (thread t ∷ ds) r (further h) f i = in_structs ds r h f i
 
 of_twice : (decls : List Decl) (f : Mistake) → IsAmong f (twice_faults [] decls) → IsAmong f (declaration_faults decls)
 of_twice decls f i =
-    m.in_left f (twice_faults [] decls ++ struct_faults decls ++ total_faults decls [] decls ++ repeated_faults decls [] decls) (each_faults decls 0 decls)
-    (m.in_left f (twice_faults [] decls ++ struct_faults decls ++ total_faults decls [] decls) (repeated_faults decls [] decls)
-    (m.in_left f (twice_faults [] decls ++ struct_faults decls) (total_faults decls [] decls) (m.in_left f (twice_faults [] decls) (struct_faults decls) i)))
+    among_left f (twice_faults [] decls ++ struct_faults decls ++ total_faults decls [] decls ++ repeated_faults decls [] decls) (each_faults decls 0 decls)
+    (among_left f (twice_faults [] decls ++ struct_faults decls ++ total_faults decls [] decls) (repeated_faults decls [] decls)
+    (among_left f (twice_faults [] decls ++ struct_faults decls) (total_faults decls [] decls) (among_left f (twice_faults [] decls) (struct_faults decls) i)))
 
 pub of_structs : (decls : List Decl) (f : Mistake) → IsAmong f (struct_faults decls) →
     IsAmong f (declaration_faults decls)
 of_structs decls f i =
-    m.in_left f (twice_faults [] decls ++ struct_faults decls ++ total_faults decls [] decls ++ repeated_faults decls [] decls) (each_faults decls 0 decls)
-    (m.in_left f (twice_faults [] decls ++ struct_faults decls ++ total_faults decls [] decls) (repeated_faults decls [] decls)
-    (m.in_left f (twice_faults [] decls ++ struct_faults decls) (total_faults decls [] decls) (m.in_right f (twice_faults [] decls) _ i)))
+    among_left f (twice_faults [] decls ++ struct_faults decls ++ total_faults decls [] decls ++ repeated_faults decls [] decls) (each_faults decls 0 decls)
+    (among_left f (twice_faults [] decls ++ struct_faults decls ++ total_faults decls [] decls) (repeated_faults decls [] decls)
+    (among_left f (twice_faults [] decls ++ struct_faults decls) (total_faults decls [] decls) (among_right f (twice_faults [] decls) _ i)))
 
 pub of_totals : (decls : List Decl) (f : Mistake) → IsAmong f (total_faults decls [] decls) →
     IsAmong f (declaration_faults decls)
 of_totals decls f i =
-    m.in_left f (twice_faults [] decls ++ struct_faults decls ++ total_faults decls [] decls ++ repeated_faults decls [] decls) (each_faults decls 0 decls)
-    (m.in_left f (twice_faults [] decls ++ struct_faults decls ++ total_faults decls [] decls) (repeated_faults decls [] decls)
-    (m.in_right f (twice_faults [] decls ++ struct_faults decls) _ i))
+    among_left f (twice_faults [] decls ++ struct_faults decls ++ total_faults decls [] decls ++ repeated_faults decls [] decls) (each_faults decls 0 decls)
+    (among_left f (twice_faults [] decls ++ struct_faults decls ++ total_faults decls [] decls) (repeated_faults decls [] decls)
+    (among_right f (twice_faults [] decls ++ struct_faults decls) _ i))
 
 of_repeated : (decls : List Decl) (f : Mistake) → IsAmong f (repeated_faults decls [] decls) →
     IsAmong f (declaration_faults decls)
 of_repeated decls f i =
-    m.in_left f (twice_faults [] decls ++ struct_faults decls ++ total_faults decls [] decls ++ repeated_faults decls [] decls) (each_faults decls 0 decls)
-    (m.in_right f (twice_faults [] decls ++ struct_faults decls ++ total_faults decls [] decls) _ i)
+    among_left f (twice_faults [] decls ++ struct_faults decls ++ total_faults decls [] decls ++ repeated_faults decls [] decls) (each_faults decls 0 decls)
+    (among_right f (twice_faults [] decls ++ struct_faults decls ++ total_faults decls [] decls) _ i)
 
 taken_some : (p : ℕ) (l : Option (ℕ × Local)) (d : ℕ × Decl) → taken p l (Some d) ≡ one DeclaredTwice p
 taken_some p None d = refl
@@ -169,7 +159,7 @@ taken_some p (Some l) d = refl
 twice_at : (decls : List Decl) (sc : Scope) (x : Ident) → Binds decls sc x →
     taken x.span.start (the_local sc.locals x.text) (the_decl sc.decls x.text) ≡ one DeclaredTwice x.span.start →
     listed decls DeclaredTwice x.span.start
-twice_at decls sc x h is = of_local decls sc x h _ (m.in_left _ (taken x.span.start (the_local sc.locals x.text) (the_decl sc.decls x.text)) _ (at DeclaredTwice x.span.start _ is))
+twice_at decls sc x h is = of_local decls sc x h _ (among_left _ (taken x.span.start (the_local sc.locals x.text) (the_decl sc.decls x.text)) _ (at DeclaredTwice x.span.start _ is))
 
 twice_in : (decls : List Decl) (p : ℕ) → IsDeclaredTwice decls p → listed decls DeclaredTwice p
 twice_in decls p (fault.two_decls before behind d {x = x} parts is e) =
@@ -185,7 +175,7 @@ twice_in decls p (fault.top_level {sc = sc} {x = x} {f = f} h is) =
 const_own : (decls : List Decl) (w : Want) (x : Ident) (n : Number) → HasConst decls w (member_const x n) →
     (f : Mistake) → IsAmong f (index_faults decls x.span.start (the_decl decls x.text) n) →
     IsAmong f (declaration_faults decls)
-const_own decls w x n h f i = of_const decls w (member_const x n) h f (m.in_left f (own_faults decls (member_const x n)) _ i)
+const_own decls w x n h f i = of_const decls w (member_const x n) h f (among_left f (own_faults decls (member_const x n)) _ i)
 
 call_at : (decls : List Decl) (c : Call) (k : Code) → HasCall decls c →
     call_faults decls c.section.span.start (the_decl decls c.section.text) c.arguments ≡ one k c.section.span.start →
@@ -228,7 +218,7 @@ of_sides : (decls : List Decl) (sc : Scope) (w : Want) (a b : Expr) (c : written
     HasExpr decls sc w (compare a c b) → IsEquality c → (p : ℕ) →
     unlike (start_of a) (start_of b) (typed sc a) (typed sc b) ≡ one WrongType p → listed decls WrongType p
 of_sides decls sc w a b c h so p e =
-    of_expr decls sc w (compare a c b) h _ (m.in_right _ (((expr_faults sc a ++ misfit _ (start_of a) (typed sc a)) ++ expr_faults sc b) ++ misfit _ (start_of b) (typed sc b)) _
+    of_expr decls sc w (compare a c b) h _ (among_right _ (((expr_faults sc a ++ misfit _ (start_of a) (typed sc a)) ++ expr_faults sc b) ++ misfit _ (start_of b) (typed sc b)) _
     (at WrongType p _ (sides_are c (start_of a) (start_of b) (typed sc a) (typed sc b) so ∙ e)))
 
 no_value_is : (decls : List Decl) (p k : ℕ) (d : Decl) → IsNoValue d → has_type decls (a_decl k d) ≡ true →
@@ -314,10 +304,10 @@ has_same decls ds x same e = ap (λ (cs : List Decl). has_type cs x) same ∙ e
 
 wrong_in : (decls : List Decl) (p : ℕ) → IsWrongType decls p → listed decls WrongType p
 wrong_in decls p (fault.unwanted {sc = sc} {w = w} {e = e} {s = s} h is no_fit) =
-    of_wanted decls sc w e h _ (m.in_right _ (expr_faults sc e) _ (at WrongType (start_of e) _ (ap (misfit w (start_of e)) (typed_is is) ∙ misfit_is (start_of e) (fits w s) no_fit)))
+    of_wanted decls sc w e h _ (among_right _ (expr_faults sc e) _ (at WrongType (start_of e) _ (ap (misfit w (start_of e)) (typed_is is) ∙ misfit_is (start_of e) (fits w s) no_fit)))
 wrong_in decls p (fault.unwanted_constant {w = w} {c = c} {s = s} h is no_fit) =
     of_const decls w c h _
-    (m.in_right _ (own_faults decls c) _
+    (among_right _ (own_faults decls c) _
     (at WrongType (const_start c) _ (ap (sort_misfit w (const_start c)) (sort_is is)
     ∙ misfit_is (const_start c) (fits_sort w s) no_fit)))
 wrong_in decls p (fault.unlike_sides {sc = sc} {w = w} {a = a} {b = b} {c = c} {s = s} {t = t} h so x y un) =
@@ -347,7 +337,7 @@ wrong_in decls p (fault.no_pool_initialised {j = x} {i = k} {d = d} h is not_so 
 wrong_in decls p (fault.not_final {ms = ms} {f = y} {g = g} h e t) =
     of_member decls ms y h _ (λ ds same. at WrongType y.span.start _ (ap (list.no_final ds y.span.start) e ∙ unfit_member_in ds WrongType y.span.start (field_member g) (ap (λ (cs : List Decl). member_has_type cs (field_member g)) same ∙ t)))
 wrong_in decls p (fault.number_owned {sc = sc} {l = l} {o = o} h is) =
-    of_owner decls sc l o h _ (m.in_left _ (owner_field_faults sc.decls (type_of sc l.value_type) o.field) _ (at WrongType o.field.span.start _ (ap (λ (t : Option core_type.ValueType). owner_field_faults sc.decls t o.field) is)))
+    of_owner decls sc l o h _ (among_left _ (owner_field_faults sc.decls (type_of sc l.value_type) o.field) _ (at WrongType o.field.span.start _ (ap (λ (t : Option core_type.ValueType). owner_field_faults sc.decls t o.field) is)))
 wrong_in decls p (fault.owner_no_local {sc = sc} {l = l} {o = o} {i = n} {d = d} h is t) =
     of_owner_name decls sc l o h WrongType
     (ap (list.no_owner sc.decls o.local.span.start (owner_field sc.decls (type_of sc l.value_type) o.field)) is ∙ unfit_in sc.decls WrongType o.local.span.start (a_decl n d) (has_same decls sc.decls (a_decl n d) (stmt_decls decls sc (let_owned l o) h) t))
@@ -360,7 +350,7 @@ wrong_in decls p (fault.other_owner {sc = sc} {l = l} {o = o} {f = g} {b = b} {t
     ∙ ap (other_type o.local.span.start (Some g)) has_it
     ∙ misfit_is o.local.span.start (fits_type g.value_type (sort.Of u)) no_fit)
 wrong_in decls p (fault.misplaced_operator {sc = sc} {w = w} {level = level} {e = a} {f = g} {links = links} {o = o} h of l e) =
-    of_expr decls sc w (chain level a links) h _ (chain_link sc level a links o g l _ (m.in_left _ (operator_faults level (start_of g) o ++ expr_faults sc g) _ (m.in_left _ (operator_faults level (start_of g) o) _ (at WrongType (start_of g) _ (operators_are level (start_of g) o of e)))))
+    of_expr decls sc w (chain level a links) h _ (chain_link sc level a links o g l _ (among_left _ (operator_faults level (start_of g) o ++ expr_faults sc g) _ (among_left _ (operator_faults level (start_of g) o) _ (at WrongType (start_of g) _ (operators_are level (start_of g) o of e)))))
 
 -- ---- E08, E09, E10
 
@@ -373,7 +363,7 @@ counted decls p (fault.wrong_helper_count {sc = sc} {c = c} {i = k} {s = s} h is
 of_target : (decls : List Decl) (sc : Scope) (q : Place) (e : Expr) (c : Code) (p : ℕ) →
     HasStmt decls sc (assign q e) →
     (sc.decls ≡ decls → IsAmong (record { code = c; start = p }) (target_faults sc q)) → listed decls c p
-of_target decls sc q e c p h i = of_stmt decls sc (assign q e) h _ (m.in_left _ (target_faults sc q) _ (i (stmt_decls decls sc (assign q e) h)))
+of_target decls sc q e c p h i = of_stmt decls sc (assign q e) h _ (among_left _ (target_faults sc q) _ (i (stmt_decls decls sc (assign q e) h)))
 
 no_target_is : (decls : List Decl) (p k : ℕ) (d : Decl) → IsNoValue d → has_type decls (a_decl k d) ≡ true →
     no_target decls p (a_decl k d) ≡ one NotAssignable p
@@ -394,19 +384,19 @@ fixed_in decls p (fault.to_fixed {sc = sc} {x = x} {e = e} {i = n} {l = l} h is 
 fixed_in decls p (fault.to_decl {sc = sc} {x = x} {e = e} {i = n} {d = d} h is not_so t) =
     of_target decls sc (lone x) e NotAssignable x.span.start h (λ same. at NotAssignable x.span.start _ (ap (no_target sc.decls x.span.start) is ∙ no_target_is sc.decls x.span.start n d not_so (has_same decls sc.decls (a_decl n d) same t)))
 fixed_in decls p (fault.to_member {sc = sc} {x = x} {j = j} {e = e} {i = n} {p = q} h is t) =
-    of_target decls sc (element x j) e NotAssignable x.span.start h (λ same. m.in_left _ (no_elements sc.decls x.span.start (meaning sc x.text) ++ no_array sc.decls x.span.start (meaning sc x.text)) _ (m.in_right _ (no_elements sc.decls x.span.start (meaning sc x.text)) _
+    of_target decls sc (element x j) e NotAssignable x.span.start h (λ same. among_left _ (no_elements sc.decls x.span.start (meaning sc x.text) ++ no_array sc.decls x.span.start (meaning sc x.text)) _ (among_right _ (no_elements sc.decls x.span.start (meaning sc x.text)) _
     (at NotAssignable x.span.start _ (ap (no_array sc.decls x.span.start) is ∙ unfit_in sc.decls NotAssignable x.span.start (a_decl n (pool q)) (has_same decls sc.decls (a_decl n (pool q)) same t)))))
 fixed_in decls p (fault.to_final {sc = sc} {x = x} {fs = fs} {e = e} steps t h to none) =
-    of_target decls sc (path x fs) e NotAssignable x.span.start h (λ same. m.in_right _ (path_faults sc.decls x.span.start (meaning sc x.text) fs) _
+    of_target decls sc (path x fs) e NotAssignable x.span.start h (λ same. among_right _ (path_faults sc.decls x.span.start (meaning sc x.text) fs) _
     (at NotAssignable x.span.start _ (ap (λ (cs : List Decl). final_faults x.span.start (walk_from cs (meaning sc x.text) fs)) same ∙ ap (final_faults x.span.start) to ∙ ap (λ (o : Option _). one_if (not (is_some o)) NotAssignable x.span.start) (has_no_last steps none))))
 
 bare_in : (decls : List Decl) (p : ℕ) → IsUnprotected decls p → listed decls NeitherFinalNorProtected p
 bare_in decls p (fault.bare_global {v = v} h e) =
-    of_decl decls (global v) h _ (λ n here. m.in_left _ (type_faults (outside decls) v.value_type ++ lock_faults decls v.name.span.start v.protection) _ (m.in_right _ (type_faults (outside decls) v.value_type) _ (at NeitherFinalNorProtected v.name.span.start _ (ap (lock_faults decls v.name.span.start) e))))
+    of_decl decls (global v) h _ (λ n here. among_left _ (type_faults (outside decls) v.value_type ++ lock_faults decls v.name.span.start v.protection) _ (among_right _ (type_faults (outside decls) v.value_type) _ (at NeitherFinalNorProtected v.name.span.start _ (ap (lock_faults decls v.name.span.start) e))))
 bare_in decls p (fault.bare_array {a = a} h e) =
-    of_decl decls (array a) h _ (λ n here. m.in_right _ (type_faults (outside decls) a.value_type) _ (at NeitherFinalNorProtected a.name.span.start _ (ap (lock_faults decls a.name.span.start) e)))
+    of_decl decls (array a) h _ (λ n here. among_right _ (type_faults (outside decls) a.value_type) _ (at NeitherFinalNorProtected a.name.span.start _ (ap (lock_faults decls a.name.span.start) e)))
 bare_in decls p (fault.bare_field {s = s} {f = g} h b e) =
-    of_decl decls (struct s) h _ (λ n here. in_members_field decls n s.members s.members g b _ (m.in_right _ (type_faults (outside decls) g.value_type) _ (at NeitherFinalNorProtected g.name.span.start _ (ap (protection_faults decls n s.members g.name.span.start) e))))
+    of_decl decls (struct s) h _ (λ n here. in_members_field decls n s.members s.members g b _ (among_right _ (type_faults (outside decls) g.value_type) _ (at NeitherFinalNorProtected g.name.span.start _ (ap (protection_faults decls n s.members g.name.span.start) e))))
 
 -- ---- E11, E12
 
@@ -450,9 +440,9 @@ passes_in decls p (fault.passes {p = q} {st = st} {y = y} {z = z} {zs = zs} {i =
 
 in_totals : (decls ahead before rest : List Decl) (d : Decl) (f : Mistake) →
     IsAmong f (count_faults decls (ahead ++ before) d) → IsAmong f (total_faults decls ahead (before ++ d ∷ rest))
-in_totals decls ahead [] rest d f i = m.in_left f (count_faults decls ahead d) (total_faults decls (ahead ++ d ∷ []) rest) (subst (λ (ds : List Decl). IsAmong f (count_faults decls ds d)) (append-nil ahead) i)
+in_totals decls ahead [] rest d f i = among_left f (count_faults decls ahead d) (total_faults decls (ahead ++ d ∷ []) rest) (subst (λ (ds : List Decl). IsAmong f (count_faults decls ds d)) (append-nil ahead) i)
 in_totals decls ahead (b ∷ before) rest d f i =
-    m.in_right f (count_faults decls ahead b) _ (in_totals decls (ahead ++ b ∷ []) before rest d f (subst (λ (ds : List Decl). IsAmong f (count_faults decls ds d)) (sym (append_assoc ahead (b ∷ []) before)) i))
+    among_right f (count_faults decls ahead b) _ (in_totals decls (ahead ++ b ∷ []) before rest d f (subst (λ (ds : List Decl). IsAmong f (count_faults decls ds d)) (sym (append_assoc ahead (b ∷ []) before)) i))
 
 pub of_counts : (decls before behind : List Decl) (d : Decl) → decls ≡ before ++ d ∷ behind → (f : Mistake) →
     IsAmong f (count_faults decls before d) → IsAmong f (declaration_faults decls)
@@ -480,11 +470,11 @@ many_in : (decls before : List Decl) (d : Decl) (x : Ident) (n : ℕ) → declar
     n ≤ count (alike d) before →
     IsAmong (record { code = LimitExceeded; start = x.span.start }) (count_faults decls before d)
 many_in decls before (struct s) x n is l le =
-    same_start s.name x LimitExceeded 0 _ is (m.in_left _ (one_if (nat_le STRUCT_LIMIT (count (alike (struct s)) before)) LimitExceeded s.name.span.start) _ (at_if (nat_le STRUCT_LIMIT (count (alike (struct s)) before)) LimitExceeded s.name.span.start (let e : STRUCT_LIMIT ≡ n = cc in le_true STRUCT_LIMIT (count (alike (struct s)) before) (subst (λ (k : ℕ). k ≤ count (alike (struct s)) before) (sym e) le))))
+    same_start s.name x LimitExceeded 0 _ is (among_left _ (one_if (nat_le STRUCT_LIMIT (count (alike (struct s)) before)) LimitExceeded s.name.span.start) _ (at_if (nat_le STRUCT_LIMIT (count (alike (struct s)) before)) LimitExceeded s.name.span.start (let e : STRUCT_LIMIT ≡ n = cc in le_true STRUCT_LIMIT (count (alike (struct s)) before) (subst (λ (k : ℕ). k ≤ count (alike (struct s)) before) (sym e) le))))
 many_in decls before (atomic s) x n is l le = cc
 many_in decls before (helper s) x n is l le = cc
 many_in decls before (thread t) x n is l le =
-    same_start t.name x LimitExceeded 0 _ is (m.in_left _ (one_if (nat_le THREAD_LIMIT (count (alike (thread t)) before)) LimitExceeded t.name.span.start) _ (at_if (nat_le THREAD_LIMIT (count (alike (thread t)) before)) LimitExceeded t.name.span.start (let e : THREAD_LIMIT ≡ n = cc in le_true THREAD_LIMIT (count (alike (thread t)) before) (subst (λ (k : ℕ). k ≤ count (alike (thread t)) before) (sym e) le))))
+    same_start t.name x LimitExceeded 0 _ is (among_left _ (one_if (nat_le THREAD_LIMIT (count (alike (thread t)) before)) LimitExceeded t.name.span.start) _ (at_if (nat_le THREAD_LIMIT (count (alike (thread t)) before)) LimitExceeded t.name.span.start (let e : THREAD_LIMIT ≡ n = cc in le_true THREAD_LIMIT (count (alike (thread t)) before) (subst (λ (k : ℕ). k ≤ count (alike (thread t)) before) (sym e) le))))
 many_in decls before (lock y) x n is l le = cc
 many_in decls before (global v) x n is l le = cc
 many_in decls before (array a) x n is l le = cc
@@ -508,7 +498,7 @@ objects_in : (decls before : List Decl) (d : Decl) (x : Ident) → declared d �
     total objects_of before ≤ OBJECT_LIMIT → OBJECT_LIMIT < total objects_of before + objects_of d →
     IsAmong (record { code = LimitExceeded; start = x.span.start }) (count_faults decls before d)
 objects_in decls before (pool q) x is a b =
-    same_start q.name x LimitExceeded 0 _ is (m.in_left _ (one_if (first_too_many OBJECT_LIMIT (total objects_of before) (objects_of (pool q))) LimitExceeded q.name.span.start) _ (at_if (first_too_many OBJECT_LIMIT (total objects_of before) (objects_of (pool q))) LimitExceeded q.name.span.start (passes_true OBJECT_LIMIT (total objects_of before) (objects_of (pool q)) a b)))
+    same_start q.name x LimitExceeded 0 _ is (among_left _ (one_if (first_too_many OBJECT_LIMIT (total objects_of before) (objects_of (pool q))) LimitExceeded q.name.span.start) _ (at_if (first_too_many OBJECT_LIMIT (total objects_of before) (objects_of (pool q))) LimitExceeded q.name.span.start (passes_true OBJECT_LIMIT (total objects_of before) (objects_of (pool q)) a b)))
 objects_in decls before (struct s) x is a b = absurd (omega (arith, a, b))
 objects_in decls before (atomic s) x is a b = absurd (omega (arith, a, b))
 objects_in decls before (helper s) x is a b = absurd (omega (arith, a, b))
@@ -526,7 +516,7 @@ cells_in decls before (global v) x is a b =
 cells_in decls before (array y) x is a b =
     same_start y.name x LimitExceeded 0 _ is (at_if (first_too_many CELL_LIMIT (total (cells_of decls) before) (cells_of decls (array y))) LimitExceeded y.name.span.start (passes_true CELL_LIMIT (total (cells_of decls) before) (cells_of decls (array y)) a b))
 cells_in decls before (pool q) x is a b =
-    same_start q.name x LimitExceeded 0 _ is (m.in_right _ (one_if (first_too_many OBJECT_LIMIT (total objects_of before) (objects_of (pool q))) LimitExceeded q.name.span.start) _ (at_if (first_too_many CELL_LIMIT (total (cells_of decls) before) (cells_of decls (pool q))) LimitExceeded q.name.span.start (passes_true CELL_LIMIT (total (cells_of decls) before) (cells_of decls (pool q)) a b)))
+    same_start q.name x LimitExceeded 0 _ is (among_right _ (one_if (first_too_many OBJECT_LIMIT (total objects_of before) (objects_of (pool q))) LimitExceeded q.name.span.start) _ (at_if (first_too_many CELL_LIMIT (total (cells_of decls) before) (cells_of decls (pool q))) LimitExceeded q.name.span.start (passes_true CELL_LIMIT (total (cells_of decls) before) (cells_of decls (pool q)) a b)))
 cells_in decls before (struct s) x is a b = absurd (omega (arith, a, b))
 cells_in decls before (atomic s) x is a b = absurd (omega (arith, a, b))
 cells_in decls before (helper s) x is a b = absurd (omega (arith, a, b))
@@ -538,7 +528,7 @@ calls_in : (decls before : List Decl) (d : Decl) (x : Ident) → declared d ≡ 
     total calls_of before ≤ CALL_LIMIT → CALL_LIMIT < total calls_of before + calls_of d →
     IsAmong (record { code = LimitExceeded; start = x.span.start }) (count_faults decls before d)
 calls_in decls before (thread t) x is a b =
-    same_start t.name x LimitExceeded 0 _ is (m.in_right _ (one_if (nat_le THREAD_LIMIT (count (alike (thread t)) before)) LimitExceeded t.name.span.start) _ (at_if (first_too_many CALL_LIMIT (total calls_of before) (calls_of (thread t))) LimitExceeded t.name.span.start (passes_true CALL_LIMIT (total calls_of before) (calls_of (thread t)) a b)))
+    same_start t.name x LimitExceeded 0 _ is (among_right _ (one_if (nat_le THREAD_LIMIT (count (alike (thread t)) before)) LimitExceeded t.name.span.start) _ (at_if (first_too_many CALL_LIMIT (total calls_of before) (calls_of (thread t))) LimitExceeded t.name.span.start (passes_true CALL_LIMIT (total calls_of before) (calls_of (thread t)) a b)))
 calls_in decls before (struct s) x is a b = absurd (omega (arith, a, b))
 calls_in decls before (atomic s) x is a b = absurd (omega (arith, a, b))
 calls_in decls before (helper s) x is a b = absurd (omega (arith, a, b))
@@ -556,10 +546,10 @@ in_member_counts : (classes n : ℕ) (ahead rest : List Member) (x : Member) (f 
     IsAmong f (member_own (classes + count is_lock ahead) (n + length ahead) x) →
     IsAmong f (member_counts classes n (ahead ++ x ∷ rest))
 in_member_counts classes n [] rest x f i =
-    m.in_left f (member_own classes n x) (member_counts (classes + lock_count (is_lock x)) (n + 1) rest)
+    among_left f (member_own classes n x) (member_counts (classes + lock_count (is_lock x)) (n + 1) rest)
     (subst (λ (k : ℕ). IsAmong f (member_own k n x)) (let z : classes + 0 ≡ classes = omega arith in z) (subst (λ (k : ℕ). IsAmong f (member_own (classes + 0) k x)) (let z : n + 0 ≡ n = omega arith in z) i))
 in_member_counts classes n (b ∷ ahead) rest x f i =
-    m.in_right f (member_own classes n b) _ (in_member_counts (classes + lock_count (is_lock b)) (n + 1) ahead rest x f
+    among_right f (member_own classes n b) _ (in_member_counts (classes + lock_count (is_lock b)) (n + 1) ahead rest x f
     (subst (λ (k : ℕ). IsAmong f (member_own k (n + 1 + length ahead) x)) (locks_ahead b) (subst (λ (k : ℕ). IsAmong f (member_own (classes + count is_lock (b ∷ ahead)) k x)) (let z : n + suc (length ahead) ≡ n + 1 + length ahead = omega arith in z) i)))
   where
     locks_ahead : (y : Member) →
@@ -572,7 +562,7 @@ of_member_counts : (decls before behind : List Decl) (s : Struct) (ahead rest : 
     decls ≡ before ++ struct s ∷ behind → s.members ≡ ahead ++ x ∷ rest → (f : Mistake) →
     IsAmong f (member_own (total classes_of before + count is_lock ahead) (length ahead) x) → IsAmong f (declaration_faults decls)
 of_member_counts decls before behind s ahead rest x parts inner f i =
-    of_counts decls before behind (struct s) parts f (m.in_right f (one_if (nat_le STRUCT_LIMIT (count (alike (struct s)) before)) LimitExceeded s.name.span.start) _
+    of_counts decls before behind (struct s) parts f (among_right f (one_if (nat_le STRUCT_LIMIT (count (alike (struct s)) before)) LimitExceeded s.name.span.start) _
     (subst (λ (ms : List Member). IsAmong f (member_counts (total classes_of before) 0 ms)) (sym inner) (in_member_counts (total classes_of before) 0 ahead rest x f
     (subst (λ (k : ℕ). IsAmong f (member_own (total classes_of before + count is_lock ahead) k x)) (let z : length ahead ≡ 0 + length ahead = omega arith in z) i))))
 
@@ -581,10 +571,10 @@ over_in decls p (fault.too_many before behind d {x = x} n parts is l le) = of_co
 over_in decls p (fault.too_many_sections before behind d {x = x} parts has is le) = of_counts decls before behind d parts _ (sections_in decls before d x has is le)
 over_in decls p (fault.too_many_members {s = s} ahead rest x h inner le) =
     let r = has_parts decls (struct s) h in
-    of_member_counts decls r.0 r.1 s ahead rest x r.2 inner _ (m.in_left _ (one_if (nat_le MEMBER_LIMIT (length ahead)) LimitExceeded (member_name x).span.start) _ (at_if (nat_le MEMBER_LIMIT (length ahead)) LimitExceeded (member_name x).span.start (le_true MEMBER_LIMIT (length ahead) le)))
+    of_member_counts decls r.0 r.1 s ahead rest x r.2 inner _ (among_left _ (one_if (nat_le MEMBER_LIMIT (length ahead)) LimitExceeded (member_name x).span.start) _ (at_if (nat_le MEMBER_LIMIT (length ahead)) LimitExceeded (member_name x).span.start (le_true MEMBER_LIMIT (length ahead) le)))
 over_in decls p (fault.too_many_locks before behind x parts le) = of_counts decls before behind (lock x) parts _ (at_if (nat_le CLASS_LIMIT (total classes_of before)) LimitExceeded x.span.start (le_true CLASS_LIMIT (total classes_of before) le))
 over_in decls p (fault.too_many_lock_fields before behind s ahead rest x parts inner le) =
-    of_member_counts decls before behind s ahead rest (lock_member x) parts inner _ (m.in_right _ (one_if (nat_le MEMBER_LIMIT (length ahead)) LimitExceeded x.span.start) _
+    of_member_counts decls before behind s ahead rest (lock_member x) parts inner _ (among_right _ (one_if (nat_le MEMBER_LIMIT (length ahead)) LimitExceeded x.span.start) _
     (at_if (nat_le CLASS_LIMIT (total classes_of before + count is_lock ahead)) LimitExceeded x.span.start (le_true CLASS_LIMIT (total classes_of before + count is_lock ahead) le)))
 over_in decls p (fault.too_many_objects before behind d {x = x} parts is a b) = of_counts decls before behind d parts _ (objects_in decls before d x is a b)
 over_in decls p (fault.too_many_cells before behind d {x = x} parts is a b) = of_counts decls before behind d parts _ (cells_in decls before d x is a b)
@@ -592,10 +582,10 @@ over_in decls p (fault.too_many_calls before behind d {x = x} parts is a b) = of
 over_in decls p (fault.too_many_parameters {limits = limits} {x = x} q before behind h parts le) =
     let sc = entered (ahead_of decls limits x) before in
     let few = subst (λ (l : BodyLimits). l.parameters ≤ length before) (sym (entered_limits (ahead_of decls limits x) before)) le in
-    of_param decls limits x before behind q h parts _ (m.in_left _ (local_faults sc q.name ++ one_if (nat_le sc.limits.parameters (length before)) LimitExceeded q.name.span.start) _
-    (m.in_right _ (local_faults sc q.name) _ (at_if (nat_le sc.limits.parameters (length before)) LimitExceeded q.name.span.start (le_true sc.limits.parameters (length before) few))))
+    of_param decls limits x before behind q h parts _ (among_left _ (local_faults sc q.name ++ one_if (nat_le sc.limits.parameters (length before)) LimitExceeded q.name.span.start) _
+    (among_right _ (local_faults sc q.name) _ (at_if (nat_le sc.limits.parameters (length before)) LimitExceeded q.name.span.start (le_true sc.limits.parameters (length before) few))))
 over_in decls p (fault.too_many_locals {sc = sc} {x = x} h le) =
-    of_local decls sc x h _ (m.in_right _ (taken x.span.start (the_local sc.locals x.text) (the_decl sc.decls x.text)) _ (at_if (nat_le sc.limits.locals (length sc.locals)) LimitExceeded x.span.start (le_true sc.limits.locals (length sc.locals) le)))
+    of_local decls sc x h _ (among_right _ (taken x.span.start (the_local sc.locals x.text) (the_decl sc.decls x.text)) _ (at_if (nat_le sc.limits.locals (length sc.locals)) LimitExceeded x.span.start (le_true sc.limits.locals (length sc.locals) le)))
 over_in decls p (fault.too_many_finals {p = q} {st = st} {y = y} {z = z} {zs = zs} {i = n} {f = g} h is le) =
     of_passed decls q st y z zs h _ (subst (IsAmong _) (sym (ap (passed_faults decls q.first.span.start y.span.start (length st.through)) is)) (at_if (nat_le FINAL_LIMIT (length st.through)) LimitExceeded q.first.span.start (le_true FINAL_LIMIT (length st.through) le)))
 
@@ -645,7 +635,7 @@ lacks_in decls n len all k (y ∷ ms) (suc j) x here due some =
 pub missing_in : (decls : List Decl) (p : ℕ) → IsFinalMissing decls p → listed decls FinalWithoutOpeningValue p
 missing_in decls p (fault.not_given k {p = q} {ms = ms} name {m = x} {f = g} {s = s} n here is to target less none) =
     let found = member_is ms name x (final_member g) to in
-    of_place_at decls k (pool q) here _ (m.in_right _ (type_faults (outside decls) (ref_type q.target)) _
+    of_place_at decls k (pool q) here _ (among_right _ (type_faults (outside decls) (ref_type q.target)) _
     (subst (λ (o : Option (List Member)). IsAmong (record { code = FinalWithoutOpeningValue; start = q.name.span.start }) (missing_faults decls k q o)) (sym is)
     (at_if (lacks decls k q.length.value ms 0 ms) FinalWithoutOpeningValue q.name.span.start
     (lacks_in decls k q.length.value ms 0 ms x (final_member g) found.0
@@ -656,16 +646,16 @@ missing_in decls p (fault.not_given k {p = q} {ms = ms} name {m = x} {f = g} {s 
     self : (n : ℕ) → (n == n) ≡ true
     self n = grind (arith, nat_tests)
 missing_in decls p (fault.given_null {i = x} {m = n} {f = g} {s = s} {at = here} h is target e) =
-    of_decl decls (init x) h _ (λ k place. m.in_right _ (index_faults decls x.pool.span.start (the_decl decls x.pool.text) x.index ++ named_faults decls x.field.span.start (pool_members decls (the_decl decls x.pool.text)) x.field.text ++ const_faults decls (member_want decls (initialised decls x)) x.value) _
+    of_decl decls (init x) h _ (λ k place. among_right _ (index_faults decls x.pool.span.start (the_decl decls x.pool.text) x.index ++ named_faults decls x.field.span.start (pool_members decls (the_decl decls x.pool.text)) x.field.text ++ const_faults decls (member_want decls (initialised decls x)) x.value) _
     (subst (IsAmong _) (sym (ap (λ (o : Option (ℕ × Member)). null_faults decls o x.value) is ∙ ap (null_faults decls (Some (n, final_member g))) e)) (at_if (is_some (struct_named decls g.target)) FinalWithoutOpeningValue here.start (ap is_some target))))
 
 -- ---- E17, E19
 
 in_repeated : (decls ahead before rest : List Decl) (d : Decl) (f : Mistake) →
     IsAmong f (repeated decls (ahead ++ before) d) → IsAmong f (repeated_faults decls ahead (before ++ d ∷ rest))
-in_repeated decls ahead [] rest d f i = m.in_left f (repeated decls ahead d) (repeated_faults decls (ahead ++ d ∷ []) rest) (subst (λ (ds : List Decl). IsAmong f (repeated decls ds d)) (append-nil ahead) i)
+in_repeated decls ahead [] rest d f i = among_left f (repeated decls ahead d) (repeated_faults decls (ahead ++ d ∷ []) rest) (subst (λ (ds : List Decl). IsAmong f (repeated decls ds d)) (append-nil ahead) i)
 in_repeated decls ahead (b ∷ before) rest d f i =
-    m.in_right f (repeated decls ahead b) _ (in_repeated decls (ahead ++ b ∷ []) before rest d f (subst (λ (ds : List Decl). IsAmong f (repeated decls ds d)) (sym (append_assoc ahead (b ∷ []) before)) i))
+    among_right f (repeated decls ahead b) _ (in_repeated decls (ahead ++ b ∷ []) before rest d f (subst (λ (ds : List Decl). IsAmong f (repeated decls ds d)) (sym (append_assoc ahead (b ∷ []) before)) i))
 
 beyond : (decls : List Decl) (k p : ℕ) (q : Pool) (n : Number) → has_type decls (a_decl k (pool q)) ≡ true →
     q.length.value ≤ n.value →

@@ -1,64 +1,40 @@
 -- What is listed where a place, a path, an annotation, an `init` or an owner has a fault.
-use Rattle.std.proofs.Common.{◌≡◌, ℕ, List, [], ◌∷◌, ◌++◌, length, Option}
-use Rattle.std.proofs.Common.{Some, None, sym, ap, ◌∙◌, subst}
+use Rattle.std.proofs.Common.{◌≡◌, ℕ, List, [], ◌∷◌, ◌++◌, length, Option, Some, None, sym, ap, ◌∙◌, subst}
 use Rattle.source.specs.declared.fault.Code.{Code}
 use Rattle.source.specs.declared.fault.Code.TheVariants.{UnknownName}
 use Rattle.syntax.specs.Trees as tree
-use Rattle.syntax.specs.Trees.{Ident, ref_type, Const, int_const, negative, member_const, Place, lone, element, path}
-use Rattle.syntax.specs.Trees.{ValueType, Expr, int, place, chain, compare, Owner, let_owned, let_call, assign}
-use Rattle.syntax.specs.Trees.{Protection, Member, lock_member, final_member, field_member, Struct, Pool, Init, Call}
-use Rattle.syntax.specs.Trees.{Decl, lock, struct, global, array, pool, init, atomic, helper, thread}
+use Rattle.syntax.specs.Trees.{Ident, Place, lone, element, path, ValueType, Expr, place, Owner, let_owned, assign}
+use Rattle.syntax.specs.Trees.{Protection, Member, Struct, Init, Decl, struct, global, array, pool, init}
 use Rattle.core_lang.specs.declared.value.ValueType as core_type
 use Rattle.core_lang.specs.declared.value.ValueType.TheVariants.{Integer, Reference}
 use Rattle.core_lang.specs.declared.tree.FieldStep.{FieldStep}
 use Rattle.source.specs.declared.mistake.Mistake.{Mistake}
 use Rattle.resolution.specs.declared.wanted.Want.TheVariants.{Value}
-use Rattle.resolution.specs.Scopes.{Scope, outside, Meaning, a_local, a_decl, nothing, meaning}
-use Rattle.resolution.specs.Scopes.{the_decl, the_struct}
+use Rattle.resolution.specs.Scopes.{Scope, outside, Meaning, a_local, a_decl, nothing, meaning, the_decl, the_struct}
 use Rattle.resolution.specs.Scopes.{the_member, type_of}
 use Rattle.resolution.specs.Expressions.{want}
 use Rattle.resolution.specs.Working.TypedExpressions.{typed}
-use Rattle.resolution.specs.Expressions.{Walk, reached, stepped, walked, at_local}
-use Rattle.resolution.specs.Expressions.{walk_from}
+use Rattle.resolution.specs.Expressions.{Walk, reached, stepped, walked, at_local, walk_from}
 use Rattle.resolution.specs.Working.TypedOwners.{owner_field}
 use Rattle.resolution.specs.Statements.{first_name}
 use Rattle.resolution.specs.Working.TypedStatements.{target_of, wanted_by}
 use Rattle.resolution.specs.Constants.{pool_members, initialised, member_want}
 use Rattle.resolution.specs.Annotations.{AnnotationCursor, stepped_on, cursor_at}
-use Rattle.resolution.specs.Where.{Has, HasStmt, HasPlace, is_read, is_written}
-use Rattle.resolution.specs.Where.{NamesOwner, names_owner, of_variable, of_elements, Annotates}
-use Rattle.resolution.specs.Where.{annotates}
+use Rattle.resolution.specs.Where.{Has, HasStmt, HasPlace, is_read, is_written, NamesOwner, names_owner, of_variable}
+use Rattle.resolution.specs.Where.{of_elements, Annotates, annotates}
 use Rattle.resolution.specs.Faults as fault
-use Rattle.resolution.specs.Faults.{start_of, const_start, IsTooLarge, IsDeclaredTwice, Reaches, stays, goes_on}
-use Rattle.resolution.specs.Faults.{Walks, walks, NamesGlobal, IsLockDecl, IsLockMember, IsFinalMember, IsUnknown}
-use Rattle.resolution.specs.Faults.{AreUnlike, IsNoValue, HasNoElements, IsNoReference}
-use Rattle.resolution.specs.Faults.{IsNoStruct, IsSection, IsPool, IsWrongType, IsWrongCount, IsNotAssignable}
-use Rattle.resolution.specs.Faults.{IsUnprotected, EndsAtNoLock, PassesNonFinal, limit_of, IsOverLimit}
-use Rattle.resolution.specs.Faults.{IsFinalMissing, IsOutOfRange, IsLockAsValue, IsFault, too_large, declared_twice}
-use Rattle.resolution.specs.Faults.{unknown, wrong_type, miscounted, not_assignable, without_lock, ends_at_no_lock}
-use Rattle.resolution.specs.Faults.{passes_non_final, over_limit, final_missing, out_of_range, lock_as_value}
-use Rattle.resolution.specs.Faults.{of_calls}
+use Rattle.resolution.specs.Faults.{start_of, Reaches, stays, goes_on, Walks, walks, NamesGlobal}
 use Rattle.resolution.specs.Working.FaultLists as list
-use Rattle.resolution.specs.Working.FaultLists.{one, one_if, unfit, unfit_member, no_struct, type_faults}
-use Rattle.resolution.specs.Working.FaultLists.{number_faults, index_faults, own_faults, sort_misfit, const_faults}
-use Rattle.resolution.specs.Working.FaultLists.{argument_faults, no_elements, no_member, no_field, step_faults}
-use Rattle.resolution.specs.Working.FaultLists.{end_faults, walk_faults, path_faults, misfit, unlike, side_faults}
-use Rattle.resolution.specs.Working.FaultLists.{operator_faults, expr_faults, place_faults, wanted_faults, taken}
-use Rattle.resolution.specs.Working.FaultLists.{local_faults, no_target, no_array, final_faults, target_faults}
-use Rattle.resolution.specs.Working.FaultLists.{no_final_in, owner_field_faults, other_type, owner_faults}
+use Rattle.resolution.specs.Working.FaultLists.{one, type_faults, index_faults, const_faults, no_elements, no_member}
+use Rattle.resolution.specs.Working.FaultLists.{no_field, step_faults, end_faults, walk_faults, path_faults, misfit}
+use Rattle.resolution.specs.Working.FaultLists.{expr_faults, place_faults, wanted_faults, no_target, no_array}
+use Rattle.resolution.specs.Working.FaultLists.{final_faults, target_faults, no_final_in, owner_field_faults}
 use Rattle.resolution.specs.Working.FaultLists.{global_lock_faults, lock_faults, passed_faults, last_faults, passed}
 use Rattle.resolution.specs.Working.FaultLists.{along_faults, annotation_faults, protection_faults, opening_faults}
-use Rattle.resolution.specs.Working.FaultLists.{some_lacks, is_at, is_due, lacks, missing_faults, field_faults}
-use Rattle.resolution.specs.Working.FaultLists.{named_faults, null_faults, init_faults, call_faults, again, twice}
-use Rattle.resolution.specs.Working.FaultLists.{twice_faults, member_twice_faults, struct_faults, first_too_many}
-use Rattle.resolution.specs.Working.FaultLists.{lock_count, member_counts, count_faults, total_faults, given_before}
-use Rattle.resolution.specs.Working.FaultLists.{init_target_again, repeated, repeated_faults, each_faults}
-use Rattle.resolution.specs.Working.FaultLists.{declaration_faults}
-use Rattle.source.specs.Theory.Leasts.{IsAmong}
-use Rattle.resolution.proofs.Members.{at, at_if}
-use Rattle.resolution.proofs.Members as m
-use Rattle.resolution.proofs.Parts.{of_place_at, of_decl, of_stmt, of_owner}
-use Rattle.resolution.proofs.Parts.{stmt_decls, expr_decls, of_expr}
+use Rattle.resolution.specs.Working.FaultLists.{field_faults, named_faults, null_faults, declaration_faults}
+use Rattle.source.specs.Theory.Leasts.{IsAmong, among_left, among_right}
+use Rattle.resolution.proofs.Members.{at}
+use Rattle.resolution.proofs.Parts.{of_place_at, of_decl, of_stmt, of_owner, stmt_decls, expr_decls, of_expr}
 use Rattle.resolution.proofs.Parts.{in_members_field}
 use Rattle.resolution.proofs.HelperFaults.{listed}
 
@@ -69,7 +45,7 @@ pub of_place : (decls : List Decl) (sc : Scope) (p : Place) → HasPlace decls s
     (sc.decls ≡ decls → IsAmong f (place_faults sc p)) → (sc.decls ≡ decls → IsAmong f (target_faults sc p)) →
     IsAmong f (declaration_faults decls)
 of_place decls sc p (is_read {w = w} h) f read written = of_expr decls sc w (place p) h f (read (expr_decls decls sc w (place p) h))
-of_place decls sc p (is_written {e = e} h) f read written = of_stmt decls sc (assign p e) h f (m.in_left f (target_faults sc p) (wanted_faults sc (wanted_by (target_of sc p)) e) (written (stmt_decls decls sc (assign p e) h)))
+of_place decls sc p (is_written {e = e} h) f read written = of_stmt decls sc (assign p e) h f (among_left f (target_faults sc p) (wanted_faults sc (wanted_by (target_of sc p)) e) (written (stmt_decls decls sc (assign p e) h)))
 
 pub of_indexed : (decls : List Decl) (sc : Scope) (x : Ident) (e : Expr) → HasPlace decls sc (element x e) →
     (f : Mistake) → (sc.decls ≡ decls → IsAmong f (no_elements sc.decls x.span.start (meaning sc x.text))) →
@@ -77,14 +53,14 @@ pub of_indexed : (decls : List Decl) (sc : Scope) (x : Ident) (e : Expr) → Has
 of_indexed decls sc x e h f i =
     let a = no_elements sc.decls x.span.start (meaning sc x.text) in
     of_place decls sc (element x e) h f
-    (λ s. m.in_left f (a ++ expr_faults sc e) (misfit (Value Integer) (start_of e) (typed sc e)) (m.in_left f a (expr_faults sc e) (i s)))
-    (λ s. m.in_left f (a ++ no_array sc.decls x.span.start (meaning sc x.text)) (wanted_faults sc (Value Integer) e) (m.in_left f a (no_array sc.decls x.span.start (meaning sc x.text)) (i s)))
+    (λ s. among_left f (a ++ expr_faults sc e) (misfit (Value Integer) (start_of e) (typed sc e)) (among_left f a (expr_faults sc e) (i s)))
+    (λ s. among_left f (a ++ no_array sc.decls x.span.start (meaning sc x.text)) (wanted_faults sc (Value Integer) e) (among_left f a (no_array sc.decls x.span.start (meaning sc x.text)) (i s)))
 
 pub of_path : (decls : List Decl) (sc : Scope) (x : Ident) (fs : List Ident) → HasPlace decls sc (path x fs) →
     (f : Mistake) → (sc.decls ≡ decls → IsAmong f (path_faults sc.decls x.span.start (meaning sc x.text) fs)) →
     IsAmong f (declaration_faults decls)
 of_path decls sc x fs h f i =
-    of_place decls sc (path x fs) h f i (λ s. m.in_left f (path_faults sc.decls x.span.start (meaning sc x.text) fs) (final_faults x.span.start (walk_from sc.decls (meaning sc x.text) fs)) (i s))
+    of_place decls sc (path x fs) h f i (λ s. among_left f (path_faults sc.decls x.span.start (meaning sc x.text) fs) (final_faults x.span.start (walk_from sc.decls (meaning sc x.text) fs)) (i s))
 
 pub unknown_place : (decls : List Decl) (sc : Scope) (p : Place) → HasPlace decls sc p →
     meaning sc (first_name p).text ≡ nothing → listed decls UnknownName (first_name p).span.start
@@ -97,13 +73,13 @@ unknown_place decls sc (path x fs) h is = of_path decls sc x fs h _ (λ s. at Un
 pub in_walk : (decls : List Decl) (p : ℕ) (w : Walk) (before behind : List Ident) (y : Ident) (f : Mistake) →
     IsAmong f (step_faults decls p (walked decls w before) y) →
     IsAmong f (walk_faults decls p w (before ++ y ∷ behind))
-in_walk decls p w [] behind y f i = m.in_left f (step_faults decls p w y) (walk_faults decls p (stepped decls w y) behind) i
-in_walk decls p w (b ∷ before) behind y f i = m.in_right f (step_faults decls p w b) _ (in_walk decls p (stepped decls w b) before behind y f i)
+in_walk decls p w [] behind y f i = among_left f (step_faults decls p w y) (walk_faults decls p (stepped decls w y) behind) i
+in_walk decls p w (b ∷ before) behind y f i = among_right f (step_faults decls p w b) _ (in_walk decls p (stepped decls w b) before behind y f i)
 
 pub in_end : (decls : List Decl) (p : ℕ) (w : Walk) (fs : List Ident) (f : Mistake) →
     IsAmong f (end_faults p (walked decls w fs)) → IsAmong f (walk_faults decls p w fs)
 in_end decls p w [] f i = i
-in_end decls p w (b ∷ fs) f i = m.in_right f (step_faults decls p w b) _ (in_end decls p (stepped decls w b) fs f i)
+in_end decls p w (b ∷ fs) f i = among_right f (step_faults decls p w b) _ (in_end decls p (stepped decls w b) fs f i)
 
 -- a step that is wrong, from a local
 pub in_path : (decls : List Decl) (p : ℕ) (x : Meaning) (fs before behind : List Ident) (y : Ident) (f : Mistake) →
@@ -127,20 +103,20 @@ unknown_field decls ds p x before y steps k s same to is e =
 -- ---- annotations
 
 pub in_along : (decls : List Decl) (p : ℕ) (from : AnnotationCursor) (y : Ident) (ys : List Ident) (st : AnnotationCursor) (x z : Ident) (zs : List Ident) → Reaches decls from y ys st x (z ∷ zs) → (f : Mistake) → IsAmong f (passed decls p (Some st) x) → IsAmong f (along_faults decls p (Some from) y ys)
-in_along decls p from y ys st x z zs stays f i = m.in_left f (passed decls p (Some from) y) (along_faults decls p (stepped_on decls (Some from) y) z zs) i
+in_along decls p from y ys st x z zs stays f i = among_left f (passed decls p (Some from) y) (along_faults decls p (stepped_on decls (Some from) y) z zs) i
 in_along decls p from y (v ∷ vs) st x z zs (goes_on {next = next} e r) f i =
-    m.in_right f (passed decls p (Some from) y) _ (subst (λ (o : Option AnnotationCursor). IsAmong f (along_faults decls p o v vs)) (sym e) (in_along decls p next v vs st x z zs r f i))
+    among_right f (passed decls p (Some from) y) _ (subst (λ (o : Option AnnotationCursor). IsAmong f (along_faults decls p o v vs)) (sym e) (in_along decls p next v vs st x z zs r f i))
 
 pub in_along_end : (decls : List Decl) (p : ℕ) (from : AnnotationCursor) (y : Ident) (ys : List Ident) (st : AnnotationCursor) (x : Ident) → Reaches decls from y ys st x [] → (f : Mistake) → IsAmong f (list.ended decls p (Some st) x) → IsAmong f (along_faults decls p (Some from) y ys)
 in_along_end decls p from y ys st x stays f i = i
 in_along_end decls p from y (v ∷ vs) st x (goes_on {next = next} e r) f i =
-    m.in_right f (passed decls p (Some from) y) _ (subst (λ (o : Option AnnotationCursor). IsAmong f (along_faults decls p o v vs)) (sym e) (in_along_end decls p next v vs st x r f i))
+    among_right f (passed decls p (Some from) y) _ (subst (λ (o : Option AnnotationCursor). IsAmong f (along_faults decls p o v vs)) (sym e) (in_along_end decls p next v vs st x r f i))
 
 pub of_annotation : (decls : List Decl) (n : ℕ) (ms : List Member) (p : Protection) → Annotates decls n ms p →
     (f : Mistake) → IsAmong f (annotation_faults decls (cursor_at n ms) p (the_member ms p.first.text)) →
     IsAmong f (declaration_faults decls)
 of_annotation decls n ms p (annotates {s = s} {f = g} here b e) f i =
-    of_place_at decls n (struct s) here f (in_members_field decls n s.members s.members g b f (m.in_right f (type_faults (outside decls) g.value_type) _ (subst (λ (o : Option Protection). IsAmong f (protection_faults decls n s.members g.name.span.start o)) (sym e) i)))
+    of_place_at decls n (struct s) here f (in_members_field decls n s.members s.members g b f (among_right f (type_faults (outside decls) g.value_type) _ (subst (λ (o : Option Protection). IsAmong f (protection_faults decls n s.members g.name.span.start o)) (sym e) i)))
 
 -- a walk's name that others follow
 pub of_passed : (decls : List Decl) (p : Protection) (st : AnnotationCursor) (x z : Ident) (zs : List Ident) →
@@ -165,10 +141,10 @@ pub of_global_lock : (decls : List Decl) (p : Protection) → NamesGlobal decls 
     IsAmong f (global_lock_faults decls p.first.span.start (the_decl decls p.first.text) p.rest) →
     IsAmong f (declaration_faults decls)
 of_global_lock decls p (fault.of_global (of_variable {v = v} h e)) f i =
-    of_decl decls (global v) h f (λ n here. m.in_left f (type_faults (outside decls) v.value_type ++ lock_faults decls v.name.span.start v.protection) (opening_faults decls (want (type_of (outside decls) v.value_type)) v.value)
-    (m.in_right f (type_faults (outside decls) v.value_type) _ (subst (λ (o : Option Protection). IsAmong f (lock_faults decls v.name.span.start o)) (sym e) i)))
+    of_decl decls (global v) h f (λ n here. among_left f (type_faults (outside decls) v.value_type ++ lock_faults decls v.name.span.start v.protection) (opening_faults decls (want (type_of (outside decls) v.value_type)) v.value)
+    (among_right f (type_faults (outside decls) v.value_type) _ (subst (λ (o : Option Protection). IsAmong f (lock_faults decls v.name.span.start o)) (sym e) i)))
 of_global_lock decls p (fault.of_global (of_elements {a = a} h e)) f i =
-    of_decl decls (array a) h f (λ n here. m.in_right f (type_faults (outside decls) a.value_type) _ (subst (λ (o : Option Protection). IsAmong f (lock_faults decls a.name.span.start o)) (sym e) i))
+    of_decl decls (array a) h f (λ n here. among_right f (type_faults (outside decls) a.value_type) _ (subst (λ (o : Option Protection). IsAmong f (lock_faults decls a.name.span.start o)) (sym e) i))
 of_global_lock decls p (fault.no_member {i = n} {ms = ms} h is) f i =
     of_annotation decls n ms p h f (subst (λ (q : Option (ℕ × Member)). IsAmong f (annotation_faults decls (cursor_at n ms) p q)) (sym is) i)
 
@@ -180,18 +156,18 @@ init_part decls x h f i =
     let a = index_faults decls x.pool.span.start (the_decl decls x.pool.text) x.index in
     let b = named_faults decls x.field.span.start (pool_members decls (the_decl decls x.pool.text)) x.field.text in
     let c = const_faults decls (member_want decls (initialised decls x)) x.value in
-    of_decl decls (init x) h f (λ n here. m.in_left f (a ++ b ++ c) (null_faults decls (initialised decls x) x.value) (m.in_left f (a ++ b) c i))
+    of_decl decls (init x) h f (λ n here. among_left f (a ++ b ++ c) (null_faults decls (initialised decls x) x.value) (among_left f (a ++ b) c i))
 
 pub of_init_index : (decls : List Decl) (x : Init) → Has decls (init x) → (f : Mistake) →
     IsAmong f (index_faults decls x.pool.span.start (the_decl decls x.pool.text) x.index) →
     IsAmong f (declaration_faults decls)
-of_init_index decls x h f i = init_part decls x h f (m.in_left f (index_faults decls x.pool.span.start (the_decl decls x.pool.text) x.index) _ i)
+of_init_index decls x h f i = init_part decls x h f (among_left f (index_faults decls x.pool.span.start (the_decl decls x.pool.text) x.index) _ i)
 
 pub of_init_field : (decls : List Decl) (x : Init) (ms : List Member) → Has decls (init x) →
     pool_members decls (the_decl decls x.pool.text) ≡ Some ms → (f : Mistake) →
     IsAmong f (field_faults x.field.span.start (the_member ms x.field.text)) → IsAmong f (declaration_faults decls)
 of_init_field decls x ms h is f i =
-    init_part decls x h f (m.in_right f (index_faults decls x.pool.span.start (the_decl decls x.pool.text) x.index) _ (subst (λ (o : Option (List Member)). IsAmong f (named_faults decls x.field.span.start o x.field.text)) (sym is) i))
+    init_part decls x h f (among_right f (index_faults decls x.pool.span.start (the_decl decls x.pool.text) x.index) _ (subst (λ (o : Option (List Member)). IsAmong f (named_faults decls x.field.span.start o x.field.text)) (sym is) i))
 
 -- ---- what stands behind `where`
 
@@ -204,11 +180,11 @@ of_member decls ms y (names_owner {sc = sc} {l = l} {o = o} {k = k} {s = s} h is
     let found : the_struct sc.decls k ≡ Some s = ap (λ (ds : List Decl). the_struct ds k) same ∙ here in
     let listed_at : owner_field_faults sc.decls (type_of sc l.value_type) o.field ≡ list.no_final sc.decls o.field.span.start (the_member s.members o.field.text) =
     ap (λ (t : Option core_type.ValueType). owner_field_faults sc.decls t o.field) is ∙ ap (λ (q : Option Struct). no_final_in sc.decls q o.field) found in
-    of_owner decls sc l o h f (m.in_left f (owner_field_faults sc.decls (type_of sc l.value_type) o.field) _ (subst (IsAmong f) (sym listed_at) (i sc.decls same)))
+    of_owner decls sc l o h f (among_left f (owner_field_faults sc.decls (type_of sc l.value_type) o.field) _ (subst (IsAmong f) (sym listed_at) (i sc.decls same)))
 
 -- a local's
 pub of_owner_name : (decls : List Decl) (sc : Scope) (l : tree.Local) (o : Owner) → HasStmt decls sc (let_owned l o) →
     (c : Code) →
     list.no_owner sc.decls o.local.span.start (owner_field sc.decls (type_of sc l.value_type) o.field) (meaning sc o.local.text) ≡ one c o.local.span.start →
     listed decls c o.local.span.start
-of_owner_name decls sc l o h c e = of_owner decls sc l o h _ (m.in_right _ (owner_field_faults sc.decls (type_of sc l.value_type) o.field) _ (at c o.local.span.start _ e))
+of_owner_name decls sc l o h c e = of_owner decls sc l o h _ (among_right _ (owner_field_faults sc.decls (type_of sc l.value_type) o.field) _ (at c o.local.span.start _ e))

@@ -20,13 +20,11 @@ use Rattle.resolution.specs.Working.TypedConstants.{added}
 use Rattle.resolution.specs.Working.TypedStatements.{typed_values, called, call_resolved, type_given, can_take}
 use Rattle.resolution.specs.Where.{Has, HasBody, of_helper, of_parameter, of_result, first, further}
 use Rattle.resolution.specs.Working.FaultLists as list
-use Rattle.resolution.specs.Working.FaultLists.{one, one_if, unfit, wanted_faults, values_faults}
-use Rattle.resolution.specs.Working.FaultLists.{passed_values_faults, helper_call_faults, other_result}
-use Rattle.resolution.specs.Working.FaultLists.{given_back_faults}
+use Rattle.resolution.specs.Working.FaultLists.{one_if, unfit, wanted_faults, values_faults, passed_values_faults}
+use Rattle.resolution.specs.Working.FaultLists.{helper_call_faults, other_result, given_back_faults}
 use Rattle.resolution.proofs.Parts.{same_count}
-use Rattle.resolution.proofs.FaultlessExpressions.{NoneIn, none_left, none_right, not_one, not_if, Clean, Typing}
-use Rattle.resolution.proofs.FaultlessExpressions.{known, Context, IsKnown, meaning_known, decl_typed, unfit_not}
-use Rattle.resolution.proofs.FaultlessExpressions.{fit_if}
+use Rattle.resolution.proofs.FaultlessExpressions.{NoneIn, none_left, none_right, not_one, not_if, Clean, Typing, known}
+use Rattle.resolution.proofs.FaultlessExpressions.{Context, IsKnown, meaning_known, decl_typed, unfit_not, fit_if}
 use Rattle.resolution.proofs.FaultlessResolvedExprs.{value_is}
 
 -- ---- arguments

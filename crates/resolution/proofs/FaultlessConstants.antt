@@ -1,14 +1,13 @@
 -- Constants, annotations, sections and calls for which no fault is listed are resolved.
-use Rattle.std.proofs.Common.{◌≡◌, ℕ, ◌≤◌, List, [], ◌∷◌, ◌++◌, length, Option, Some, None, true, refl}
-use Rattle.std.proofs.Common.{ap, ◌∙◌, subst, arith}
+use Rattle.std.proofs.Common.{◌≡◌, ℕ, ◌≤◌, List, [], ◌∷◌, ◌++◌, length, Option, Some, None, true, refl, ap, ◌∙◌, subst}
+use Rattle.std.proofs.Common.{arith}
 use Rattle.std.specs.Prelude.{pos, neg_ℤ, nat_le, nat_lt, ◌&&◌, is_some, slice_get}
 use Rattle.source.specs.Texts.{NUMBER_LIMIT}
 use Rattle.source.specs.declared.span.Span.{Span}
 use Rattle.source.specs.declared.fault.Code.{Code}
 use Rattle.source.specs.declared.fault.Code.TheVariants.{NumberTooLarge, UnknownName, WrongType}
-use Rattle.source.specs.declared.fault.Code.TheVariants.{NeitherFinalNorProtected}
-use Rattle.source.specs.declared.fault.Code.TheVariants.{ProtectedByNoLock, ProtectedByPassesNonFinal}
-use Rattle.source.specs.declared.fault.Code.TheVariants.{InitOutOfRangeOrRepeated}
+use Rattle.source.specs.declared.fault.Code.TheVariants.{NeitherFinalNorProtected, ProtectedByNoLock}
+use Rattle.source.specs.declared.fault.Code.TheVariants.{ProtectedByPassesNonFinal, InitOutOfRangeOrRepeated}
 use Rattle.source.specs.declared.token.Number.{Number}
 use Rattle.syntax.specs.Trees.{Ident, ref_type, Const, int_const, negative, null_const, member_const, Protection}
 use Rattle.syntax.specs.Trees.{Member, lock_member, final_member, field_member, Struct, Param, Decl, lock, struct}
@@ -22,25 +21,22 @@ use Rattle.resolution.specs.declared.wanted.Want.{Want}
 use Rattle.resolution.specs.declared.wanted.Want.TheVariants as wanted
 use Rattle.resolution.specs.Core as core
 use Rattle.resolution.specs.Scopes as scope
-use Rattle.resolution.specs.Scopes.{◌>>=◌, Scope, outside, a_decl, meaning, declared_as, number_at, the_decl}
-use Rattle.resolution.specs.Scopes.{the_member, has_type, member_has_type, type_of, struct_named, bound, entered}
+use Rattle.resolution.specs.Scopes.{◌>>=◌, outside, a_decl, declared_as, the_decl, the_member, has_type}
+use Rattle.resolution.specs.Scopes.{member_has_type}
 use Rattle.resolution.specs.Expressions.{fits_sort, member_number}
-use Rattle.resolution.specs.Constants.{IsOfSort, number_sort, negative_sort, null_sort, member_sort, object_of}
-use Rattle.resolution.specs.Constants.{Denotes, a_number, a_negative, no_object, an_object, Yields, yields, want_of}
+use Rattle.resolution.specs.Constants.{IsOfSort, number_sort, negative_sort, null_sort, member_sort, object_of, Denotes}
+use Rattle.resolution.specs.Constants.{a_number, a_negative, no_object, an_object, Yields, yields, want_of}
 use Rattle.resolution.specs.Constants.{AreArguments, no_constant, one_constant}
-use Rattle.resolution.specs.Annotations.{class_in, class_of, class_number, AnnotationCursor, at_struct}
-use Rattle.resolution.specs.Annotations.{through_member, stepped_on, ended_at, along, protection_by, cursor_at}
-use Rattle.resolution.specs.Annotations.{protection_of}
+use Rattle.resolution.specs.Annotations.{class_in, class_of, class_number, AnnotationCursor, at_struct, through_member}
+use Rattle.resolution.specs.Annotations.{stepped_on, ended_at, along, protection_by, cursor_at, protection_of}
 use Rattle.resolution.specs.Annotations as annotation
 use Rattle.resolution.specs.Where.{Has, HasType, of_pool, of_final, of_field}
 use Rattle.resolution.specs.Faults.{const_start}
 use Rattle.resolution.specs.Working.FaultLists as list
-use Rattle.resolution.specs.Working.FaultLists.{one, one_if, unfit, unfit_member, type_faults, number_faults}
-use Rattle.resolution.specs.Working.FaultLists.{index_faults, own_faults, sort_misfit, const_faults, argument_faults}
-use Rattle.resolution.specs.Working.FaultLists.{local_faults, stmts_faults, param_faults, result_faults}
-use Rattle.resolution.specs.Working.FaultLists.{global_lock_faults, lock_faults, passed_faults, last_faults, passed}
-use Rattle.resolution.specs.Working.FaultLists.{along_faults, annotation_faults, protection_faults, call_faults}
-use Rattle.resolution.specs.Working.FaultLists.{item_faults, items_faults, decl_faults}
+use Rattle.resolution.specs.Working.FaultLists.{unfit, unfit_member, number_faults, index_faults, own_faults}
+use Rattle.resolution.specs.Working.FaultLists.{sort_misfit, const_faults, argument_faults, global_lock_faults}
+use Rattle.resolution.specs.Working.FaultLists.{lock_faults, passed_faults, last_faults, passed, along_faults}
+use Rattle.resolution.specs.Working.FaultLists.{annotation_faults, protection_faults}
 use Rattle.resolution.proofs.Named.{named_is, member_is}
 use Rattle.resolution.proofs.FaultlessExpressions.{NoneIn, none_left, none_right, not_one, not_if, at_has, decl_has}
 use Rattle.resolution.proofs.FaultlessExpressions.{Clean, known, known_named, decl_typed, unfit_not, fit_if}

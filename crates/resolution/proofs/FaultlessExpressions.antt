@@ -1,6 +1,6 @@
 -- Expressions for which no fault is listed have a type.
-use Rattle.std.proofs.Common.{◌≡◌, ℕ, zero, suc, ◌≤◌, List, [], ◌∷◌, ◌++◌, Option, Some, None, Bool, true, false}
-use Rattle.std.proofs.Common.{refl, sym, ap, ◌∙◌, subst, inl, if◌then◌else◌}
+use Rattle.std.proofs.Common.{◌≡◌, ℕ, zero, suc, ◌≤◌, List, [], ◌∷◌, ◌++◌, Option, Some, None, Bool, true, false, refl}
+use Rattle.std.proofs.Common.{sym, ap, ◌∙◌, subst, inl, if◌then◌else◌}
 use Rattle.std.specs.Prelude.{not, is_some, slice_get}
 use Rattle.source.specs.Texts.{SOURCE_LIMIT}
 use Rattle.source.specs.declared.fault.Code.{Code}
@@ -24,17 +24,14 @@ use Rattle.resolution.specs.Working.TypedExpressions.{value_of, member_value}
 use Rattle.resolution.specs.Expressions.{cell_of}
 use Rattle.resolution.specs.Working.TypedExpressions.{fitting, as_value, as_truth, test_resolved, named_value}
 use Rattle.resolution.specs.Working.TypedExpressions.{element_value, path_value}
-use Rattle.resolution.specs.Expressions.{Walk, reached, at_lock, lost, stepped, walked}
-use Rattle.resolution.specs.Expressions.{at_local, walk_from, over_step, over_member, over, member_number}
+use Rattle.resolution.specs.Expressions.{Walk, reached, at_lock, lost, stepped, walked, at_local, walk_from, over_step}
+use Rattle.resolution.specs.Expressions.{over_member, over, member_number}
 use Rattle.resolution.specs.Where.{Has, first, further, HasType, of_global, of_array, of_pool, of_final, of_field}
 use Rattle.resolution.specs.Working.FaultLists as list
-use Rattle.resolution.specs.Working.FaultLists.{one, one_if, unfit, no_struct, type_faults, number_faults}
-use Rattle.resolution.specs.Working.FaultLists.{no_elements, no_member, no_field, step_faults, end_faults}
-use Rattle.resolution.specs.Working.FaultLists.{walk_faults, path_faults, misfit, unlike, side_faults}
-use Rattle.resolution.specs.Working.FaultLists.{operator_faults, expr_faults, place_faults, link_faults}
-use Rattle.resolution.specs.Working.FaultLists.{wanted_faults, declaration_faults}
-use Rattle.source.specs.Theory.Leasts.{IsAmong}
-use Rattle.resolution.proofs.Members as m
+use Rattle.resolution.specs.Working.FaultLists.{one, one_if, unfit, no_struct, type_faults, no_elements, no_member}
+use Rattle.resolution.specs.Working.FaultLists.{no_field, step_faults, end_faults, walk_faults, path_faults, misfit}
+use Rattle.resolution.specs.Working.FaultLists.{declaration_faults}
+use Rattle.source.specs.Theory.Leasts.{IsAmong, among_left, among_right}
 use Rattle.resolution.proofs.Named.{named_is, member_is}
 use Rattle.resolution.specs.Theory.Facts.{struct_at}
 use Rattle.resolution.proofs.Parts.{of_type}
@@ -45,10 +42,10 @@ abbrev pub NoneIn : List Mistake → Type 0
 NoneIn fs = (f : Mistake) → IsAmong f fs → ⊥
 
 pub none_left : (a b : List Mistake) → NoneIn (a ++ b) → NoneIn a
-none_left a b n f i = n f (m.in_left f a b i)
+none_left a b n f i = n f (among_left f a b i)
 
 pub none_right : (a b : List Mistake) → NoneIn (a ++ b) → NoneIn b
-none_right a b n f i = n f (m.in_right f a b i)
+none_right a b n f i = n f (among_right f a b i)
 
 pub not_one : (c : Code) (p : ℕ) → NoneIn (one c p) → ⊥
 not_one c p n = n (record { code = c; start = p }) (inl refl)

@@ -22,7 +22,6 @@ use Rattle.resolution.specs.Constants.{Yields, members_of, pool_members, initial
 use Rattle.resolution.specs.Constants.{Opens, by_default, by_constant}
 use Rattle.resolution.specs.Where.{Has, of_final, of_field}
 use Rattle.resolution.specs.Faults as fault
-use Rattle.resolution.specs.Faults.{final_missing}
 use Rattle.resolution.specs.Working.FaultLists.{one_if, again, member_twice_faults, member_counts, lock_count}
 use Rattle.resolution.specs.Working.FaultLists.{const_faults, index_faults, named_faults, null_faults, init_faults}
 use Rattle.source.specs.Theory.Leasts.{IsAmong}
@@ -30,8 +29,8 @@ use Rattle.resolution.proofs.Named.{named_is, member_is}
 use Rattle.resolution.proofs.Parts.{of_decl}
 use Rattle.resolution.proofs.AllFaults.{in_member_twice, missing_in}
 use Rattle.resolution.proofs.InitTargets.{Giving, giving, names_it, initialised_is}
-use Rattle.resolution.proofs.FaultlessExpressions.{NoneIn, none_left, none_right, not_one, not_if, at_has, Clean}
-use Rattle.resolution.proofs.FaultlessExpressions.{Found, Typing, known, known_named}
+use Rattle.resolution.proofs.FaultlessExpressions.{NoneIn, none_left, none_right, not_one, not_if, at_has, Clean, Found}
+use Rattle.resolution.proofs.FaultlessExpressions.{Typing, known, known_named}
 use Rattle.resolution.proofs.FaultlessConstants.{const_is, referred_is}
 use Rattle.resolution.proofs.Tests.{le_false}
 

@@ -1,7 +1,8 @@
 -- What stands behind a `where` for which no fault is listed names a final reference and a local of its type, both with numbers.
-use Rattle.std.proofs.Common.{◌≡◌, ℕ, zero, suc, ◌<◌, ◌≤◌, List, [], ◌∷◌, ◌++◌, length, Option, Some, None, Bool}
-use Rattle.std.proofs.Common.{true, false, refl, sym, ap, ◌∙◌, subst, if◌then◌else◌, arith}
+use Rattle.std.proofs.Common.{◌≡◌, ℕ, zero, suc, ◌<◌, ◌≤◌, List, [], ◌∷◌, ◌++◌, length, Option, Some, None, Bool, true}
+use Rattle.std.proofs.Common.{false, refl, sym, ap, ◌∙◌, subst, if◌then◌else◌, arith}
 use Rattle.std.specs.Prelude.{nat_le, is_some, slice_get}
+use Rattle.std.proofs.lemmas.Option.{slice_get_within}
 use Rattle.source.specs.declared.fault.Code.TheVariants.{UnknownName, WrongType, LimitExceeded, LockAsValue}
 use Rattle.syntax.specs.Trees.{Ident, ref_type, Owner, Member, lock_member, final_member, field_member, Struct, Decl}
 use Rattle.syntax.specs.Trees.{lock, struct, global, array, pool, init, atomic, helper, thread}
@@ -16,12 +17,11 @@ use Rattle.resolution.specs.Scopes.{alike, structs_in, the_struct, the_member, t
 use Rattle.resolution.specs.Expressions.{fits_type, member_number}
 use Rattle.resolution.specs.declared.owner_field.OwnerField.{OwnerField}
 use Rattle.resolution.specs.Working.TypedOwners.{final_of, owner_member, owner_field, is_of, owner_local, tested_by}
-use Rattle.resolution.specs.Working.TypedOwners.{owned_value}
-use Rattle.resolution.specs.Working.TypedOwners.{owned_by}
+use Rattle.resolution.specs.Working.TypedOwners.{owned_value, owned_by}
 use Rattle.resolution.specs.Where.{Has, of_final, of_field}
 use Rattle.resolution.specs.Working.FaultLists as list
-use Rattle.resolution.specs.Working.FaultLists.{one, one_if, unfit, unfit_member, taken, local_faults, no_final_in}
-use Rattle.resolution.specs.Working.FaultLists.{owner_field_faults, other_type, owner_faults, count_faults}
+use Rattle.resolution.specs.Working.FaultLists.{one_if, taken, local_faults, no_final_in, owner_field_faults}
+use Rattle.resolution.specs.Working.FaultLists.{other_type, owner_faults, count_faults}
 use Rattle.resolution.proofs.Named.{member_is}
 use Rattle.resolution.proofs.Tests.{le_true, le_false}
 use Rattle.resolution.proofs.AllFaults.{of_counts}
@@ -76,11 +76,6 @@ struct_few decls clean k s e =
 -- a local that may be bound has room
 pub room : (sc : Scope) (x : Ident) → NoneIn (local_faults sc x) → length sc.locals < sc.limits.locals
 room sc x none = le_false sc.limits.locals (length sc.locals) (not_if (nat_le sc.limits.locals (length sc.locals)) LimitExceeded x.span.start (none_right (taken x.span.start (the_local sc.locals x.text) (the_decl sc.decls x.text)) _ none))
-
-got_less : {A : Type 0} (xs : List A) (n : ℕ) (x : A) → slice_get xs n ≡ Some x → n < length xs
-got_less [] n x e = cc
-got_less (y ∷ xs) zero x e = omega arith
-got_less (y ∷ xs) (suc n) x e = let r = got_less xs n x e in omega (arith, r)
 
 -- ---- the final reference
 
@@ -150,7 +145,7 @@ owner_local_is sc c g p (a_local n b) k loc none =
     record {
       number = n;
       is = ap (λ (o : Option core_type.ValueType). if is_of g.value_type o then Some n else None) k.is ∙ ap (λ (x : Bool). if x then Some n else None) fits;
-      less = got_less sc.locals n b loc.0;
+      less = slice_get_within sc.locals n b loc.0;
     }
 owner_local_is sc c g p (a_decl n d) k loc none = absurd (unfit_not sc.decls WrongType p (a_decl n d) (decl_typed sc.decls c.clean n d k) none)
 owner_local_is sc c g p nothing k loc none = absurd (not_one UnknownName p none)

@@ -4,6 +4,7 @@ use Rattle.std.proofs.Common.{Bool, false, if◌then◌else◌, refl, sym, ap, �
 use Rattle.std.proofs.lemmas.List.{length-append}
 use Rattle.std.specs.Prelude.{nat_le, nat_lt, slice_get}
 use Rattle.source.specs.declared.fault.Code.TheVariants.{LimitExceeded}
+use Rattle.source.specs.Theory.Leasts.{among_right}
 use Rattle.syntax.specs.Returns.{ReturnsRight}
 use Rattle.syntax.specs.Trees.{ref_type, Const, Member, lock_member, final_member, field_member, Struct, Variable}
 use Rattle.syntax.specs.Trees.{Array, Pool, Decl, lock, struct, global, array, pool, init, atomic, helper, thread}
@@ -23,21 +24,20 @@ use Rattle.resolution.specs.Expressions.{want}
 use Rattle.resolution.specs.Constants.{members_of, members_in, default_of, Opens, by_default, by_constant}
 use Rattle.resolution.specs.Tables.{nothing_yet, Makes, no_member, lock_field, final_field, field, lock_classes}
 use Rattle.resolution.specs.Tables.{elements, next, OpensWith, with_nothing, past_lock, final_opened, field_opened}
-use Rattle.resolution.specs.Tables.{AddObjects, no_object, one_object_more, Adds, adds_class, adds_struct}
-use Rattle.resolution.specs.Tables.{adds_global, adds_array, adds_pool, adds_nothing, adds_section, adds_helper}
-use Rattle.resolution.specs.Tables.{adds_thread, AddAll, no_declaration, first_and_rest, AreTables}
+use Rattle.resolution.specs.Tables.{AddObjects, no_object, one_object_more, Adds, adds_class, adds_struct, adds_global}
+use Rattle.resolution.specs.Tables.{adds_array, adds_pool, adds_nothing, adds_section, adds_helper, adds_thread, AddAll}
+use Rattle.resolution.specs.Tables.{no_declaration, first_and_rest, AreTables}
 use Rattle.resolution.specs.Where.{Has, first, further, of_section, of_helper, of_pool, of_global, of_array, of_final}
 use Rattle.resolution.specs.Where.{of_field}
 use Rattle.resolution.specs.Working.FaultLists.{one_if, first_too_many, member_twice_faults, member_counts}
 use Rattle.resolution.specs.Working.FaultLists.{count_faults, total_faults, type_faults, lock_faults, opening_faults}
 use Rattle.resolution.specs.Working.FaultLists.{const_faults, protection_faults, members_faults, decl_faults}
-use Rattle.resolution.proofs.Members.{in_right}
 use Rattle.resolution.proofs.Named.{named_is}
 use Rattle.resolution.proofs.AllFaults.{in_structs, of_structs, of_counts, of_totals, has_parts}
 use Rattle.resolution.proofs.Parts.{of_place_at}
 use Rattle.resolution.proofs.TrueStatements.{length_push}
-use Rattle.resolution.proofs.FaultlessExpressions.{NoneIn, none_left, none_right, not_if, at_has, Clean, Typing}
-use Rattle.resolution.proofs.FaultlessExpressions.{known, known_named}
+use Rattle.resolution.proofs.FaultlessExpressions.{NoneIn, none_left, none_right, not_if, at_has, Clean, Typing, known}
+use Rattle.resolution.proofs.FaultlessExpressions.{known_named}
 use Rattle.resolution.proofs.FaultlessConstants.{const_is, class_is, protection_is, named_decl}
 use Rattle.resolution.proofs.FaultlessSections.{section_is, items_are}
 use Rattle.resolution.proofs.FaultlessMembers.{fields_are, members_few, count_few, is_final, is_field, Ready, ready}
@@ -364,7 +364,7 @@ pub struct_few : (decls : List Decl) → Clean decls → (s : Struct) → Has de
     length s.members ≤ MEMBER_LIMIT
 struct_few decls clean s h =
     let r = has_parts decls (struct s) h in
-    let none : NoneIn (member_counts (total classes_of r.0) 0 s.members) = λ f i. clean f (of_counts decls r.0 r.1 (struct s) r.2 f (in_right f (one_if (nat_le STRUCT_LIMIT (count (alike (struct s)) r.0)) LimitExceeded s.name.span.start) _ i)) in
+    let none : NoneIn (member_counts (total classes_of r.0) 0 s.members) = λ f i. clean f (of_counts decls r.0 r.1 (struct s) r.2 f (among_right f (one_if (nat_le STRUCT_LIMIT (count (alike (struct s)) r.0)) LimitExceeded s.name.span.start) _ i)) in
     let le = members_few (total classes_of r.0) 0 s.members none (let z : 0 ≤ MEMBER_LIMIT = omega arith in z) in
     omega (arith, le)
 

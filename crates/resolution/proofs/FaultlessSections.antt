@@ -1,14 +1,14 @@
 -- Sections and threads for which no fault is listed are resolved.
-use Rattle.std.proofs.Common.{◌≡◌, ℕ, suc, ◌+◌, ◌≤◌, List, [], ◌∷◌, ◌++◌, length, Option, Some, None, Bool, true}
-use Rattle.std.proofs.Common.{false, ◌⊎◌, inl, inr, refl, sym, ap, ◌∙◌, subst, if◌then◌else◌, arith}
+use Rattle.std.proofs.Common.{◌≡◌, ℕ, suc, ◌+◌, ◌≤◌, List, [], ◌∷◌, ◌++◌, length, Option, Some, None, Bool, true, false}
+use Rattle.std.proofs.Common.{◌⊎◌, inl, inr, refl, sym, ap, ◌∙◌, subst, if◌then◌else◌, arith}
 use Rattle.std.specs.Prelude.{nat_le, ◌==◌}
 use Rattle.std.proofs.lemmas.Bool.{eqb-true}
 use Rattle.source.specs.declared.fault.Code.TheVariants.{UnknownName, WrongType, WrongArgumentCount, LimitExceeded}
 use Rattle.syntax.specs.Returns.{ReturnsRight, HasReturn, this_returns, returns_inside, later_returns, HasStrayReturn}
-use Rattle.syntax.specs.Returns.{this_early, stray_inside, later_stray, EndsInReturn, IsSectionFault, no_result}
-use Rattle.syntax.specs.Returns.{stray, missing, IsReturnFault, this_section, this_helper, later_section}
-use Rattle.syntax.specs.Trees.{ValueType, Const, Param, Section, Item, call, repeat, Items, no_items, item, Stmts}
-use Rattle.syntax.specs.Trees.{stmt, Decl, lock, struct, global, array, pool, init, atomic, helper, thread}
+use Rattle.syntax.specs.Returns.{this_early, stray_inside, later_stray, EndsInReturn, IsSectionFault, no_result, stray}
+use Rattle.syntax.specs.Returns.{missing, IsReturnFault, this_section, this_helper, later_section}
+use Rattle.syntax.specs.Trees.{ValueType, Const, Param, Section, Item, call, repeat, Items, no_items, item, Stmts, stmt}
+use Rattle.syntax.specs.Trees.{Decl, lock, struct, global, array, pool, init, atomic, helper, thread}
 use Rattle.core_lang.specs.declared.value.Value.{Value}
 use Rattle.core_lang.specs.declared.value.ValueType as core_type
 use Rattle.core_lang.specs.declared.tree.LocalKind.TheVariants as kind
@@ -27,13 +27,13 @@ use Rattle.resolution.specs.Working.TypedStatements.{typed_body, Body}
 use Rattle.resolution.specs.Statements.{after_all}
 use Rattle.resolution.specs.Where.{Has, first, further, HasBody, of_section, of_helper}
 use Rattle.resolution.specs.Working.FaultLists.{one, one_if, unfit, type_faults, argument_faults, local_faults}
-use Rattle.resolution.specs.Working.FaultLists.{stmts_faults, param_faults, result_faults, section_faults}
-use Rattle.resolution.specs.Working.FaultLists.{call_faults, item_faults, items_faults}
-use Rattle.resolution.proofs.TrueStatements.{entered_same}
+use Rattle.resolution.specs.Working.FaultLists.{stmts_faults, param_faults, result_faults, section_faults, call_faults}
+use Rattle.resolution.specs.Working.FaultLists.{item_faults, items_faults}
 use Rattle.resolution.proofs.FaultlessExpressions.{NoneIn, none_left, none_right, not_one, unfit_not, decl_has}
 use Rattle.resolution.proofs.FaultlessExpressions.{decl_typed, Clean, Typing, type_is, AllTyped, Context}
 use Rattle.resolution.proofs.FaultlessStatements.{HasResult, typed_push, all_context, body_is}
 use Rattle.resolution.proofs.FaultlessConstants.{arguments_are}
+use Rattle.resolution.specs.Theory.Blocks.{entered_decls}
 
 -- ---- scopes
 
@@ -128,7 +128,7 @@ returns_or : (decls : List Decl) (limits : BodyLimits) (s : Section) → Returns
     ((at : ℕ) → HasReturn s.body.stmts at → ⊥) ⊎ HasResult (entry decls limits s)
 returns_or decls limits s right h none None is = inl (λ at i. right at (section_right decls limits s h at (no_result is i)))
 returns_or decls limits s right h none (Some t) is =
-    inr (subst (λ (ds : List Decl). Typing ds (entry decls limits s).result) (sym (entered_same (ahead_of decls limits s) s.params)) (subst (λ (o : Option core_type.ValueType). Typing decls o) (sym (entered_result (ahead_of decls limits s) s.params)) (result_typed decls s t is none)))
+    inr (subst (λ (ds : List Decl). Typing ds (entry decls limits s).result) (sym (entered_decls (ahead_of decls limits s) s.params)) (subst (λ (o : Option core_type.ValueType). Typing decls o) (sym (entered_result (ahead_of decls limits s) s.params)) (result_typed decls s t is none)))
 
 stray_right : (decls : List Decl) (limits : BodyLimits) (s : Section) → ReturnsRight decls → HasBody decls limits s →
     (o : Option ValueType) → s.result ≡ o → (at : ℕ) → HasStrayReturn s.body.stmts at → ⊥

@@ -9,8 +9,8 @@ use Rattle.syntax.specs.Trees.{CalledLocal, Stmt, let_local, let_owned, let_call
 use Rattle.syntax.specs.Trees.{print, return_value, call, Stmts, no_stmts, stmt, Otherwise, no_else, else_do, Decl}
 use Rattle.syntax.specs.Trees.{lock, struct, global, array, pool, init, atomic, helper, thread}
 use Rattle.syntax.specs.Returns.{IsReturn, is_return, HasReturn, this_returns, returns_inside, later_returns}
-use Rattle.syntax.specs.Returns.{HasReturnInside, in_then, in_else, in_while, HasStrayReturn, this_early}
-use Rattle.syntax.specs.Returns.{stray_inside, later_stray, EndsInReturn, last_returns, ends_later}
+use Rattle.syntax.specs.Returns.{HasReturnInside, in_then, in_else, in_while, HasStrayReturn, this_early, stray_inside}
+use Rattle.syntax.specs.Returns.{later_stray, EndsInReturn, last_returns, ends_later}
 use Rattle.core_lang.specs.declared.value.ValueType as core_type
 use Rattle.core_lang.specs.declared.value.ValueType.TheVariants.{Integer}
 use Rattle.core_lang.specs.declared.tree.LocalKind.{LocalKind}
@@ -18,8 +18,8 @@ use Rattle.core_lang.specs.declared.tree.LocalKind.TheVariants as kind
 use Rattle.resolution.specs.declared.wanted.Want.TheVariants.{Condition, Value}
 use Rattle.resolution.specs.Core as core
 use Rattle.resolution.specs.Scopes as scope
-use Rattle.resolution.specs.Scopes.{Scope, outside, Meaning, a_local, a_decl, nothing, meaning, helper_meant}
-use Rattle.resolution.specs.Scopes.{number_at, has_type, type_of, bound, hidden, hidden_from, left}
+use Rattle.resolution.specs.Scopes.{Scope, outside, Meaning, a_local, a_decl, nothing, meaning, helper_meant, number_at}
+use Rattle.resolution.specs.Scopes.{has_type, type_of, bound, hidden, hidden_from, left}
 use Rattle.resolution.specs.Expressions.{want, Walk, reached, walk_from, local_path, cell_of}
 use Rattle.resolution.specs.Working.TypedExpressions.{fitting, as_value, typed}
 use Rattle.resolution.specs.Working.TypedStatements.{Target, to_local, to_global, to_element, to_field, Assignee}
@@ -29,8 +29,7 @@ use Rattle.resolution.specs.Working.TypedStatements.{assignee_at, assignee_at_el
 use Rattle.resolution.specs.Working.TypedStatements.{assignee_along, target_of, wanted_by, Part, does, gives, binds}
 use Rattle.resolution.specs.Statements.{first_name}
 use Rattle.resolution.specs.Working.TypedStatements.{set_to, assigns, prints, returns, repeats, chooses_between, Body}
-use Rattle.resolution.specs.Working.TypedStatements.{preceded}
-use Rattle.resolution.specs.Working.TypedStatements.{block_of, call_resolved, acts_if, called_bound}
+use Rattle.resolution.specs.Working.TypedStatements.{preceded, block_of, call_resolved, acts_if, called_bound}
 use Rattle.resolution.specs.Statements.{after, after_else, after_all}
 use Rattle.resolution.specs.Working.TypedStatements.{first_value, typed_stmt, typed_if, typed_body}
 use Rattle.resolution.specs.Working.TypedOwners.{owned_by}
@@ -39,7 +38,6 @@ use Rattle.resolution.specs.Working.FaultLists.{unfit, type_faults, no_elements,
 use Rattle.resolution.specs.Working.FaultLists.{local_faults, no_target, no_array, final_faults, target_faults}
 use Rattle.resolution.specs.Working.FaultLists.{binding_faults, owner_faults, helper_call_faults, given_back_faults}
 use Rattle.resolution.specs.Working.FaultLists.{called_faults, stmt_faults, else_faults, stmts_faults}
-use Rattle.resolution.proofs.TrueStatements.{after_same}
 use Rattle.resolution.proofs.FaultlessExpressions.{NoneIn, none_left, none_right, not_one, not_if, is_there, Clean}
 use Rattle.resolution.proofs.FaultlessExpressions.{Typing, type_is, known, AllTyped, Context, IsKnown, meaning_known}
 use Rattle.resolution.proofs.FaultlessExpressions.{decl_typed, unfit_not, Path, path_is}
@@ -47,6 +45,7 @@ use Rattle.resolution.proofs.FaultlessResolvedExprs.{value_is, test_is}
 use Rattle.resolution.proofs.FaultlessOwners.{room, owned_is}
 use Rattle.resolution.proofs.FaultlessCalls.{call_resolves, given_back_fits}
 use Rattle.resolution.specs.Theory.Facts.{after_result}
+use Rattle.resolution.specs.Theory.Blocks.{after_decls, all_decls}
 
 -- ---- the left side of an assignment
 
@@ -141,10 +140,6 @@ typed_hidden decls zero (x ∷ xs) all (suc n) l e = typed_hidden decls zero xs 
 typed_hidden decls (suc k) (x ∷ xs) all zero l e = let s : x ≡ l = cc in subst (λ (y : scope.Local). Typing decls y.value_type) s (all 0 x refl)
 typed_hidden decls (suc k) (x ∷ xs) all (suc n) l e = typed_hidden decls k xs (λ j y h. all (suc j) y h) n l e
 
-pub all_same : (sc : Scope) (ss : Stmts) → (after_all sc ss).decls ≡ sc.decls
-all_same sc no_stmts = refl
-all_same sc (stmt s rest) = all_same (after sc s) rest ∙ after_same sc s
-
 pub left_context : (sc end : Scope) → Context sc → Context end → end.decls ≡ sc.decls → Context (left sc end)
 left_context sc end c d same = record { clean = c.clean; few = c.few; locals = subst (λ (ds : List Decl). AllTyped ds (hidden_from (length sc.locals) end.locals)) same (typed_hidden end.decls (length sc.locals) end.locals d.locals) }
 
@@ -193,16 +188,16 @@ mutual
       let a = wanted_faults sc Condition e in
       let b = stmts_faults sc body in
       let d = else_faults (left sc (after_all sc body)) other in
-      else_context (left sc (after_all sc body)) (left_context sc (after_all sc body) c (all_context sc c body (none_right a b (none_left (a ++ b) d none))) (all_same sc body)) other (none_right (a ++ b) d none)
+      else_context (left sc (after_all sc body)) (left_context sc (after_all sc body) c (all_context sc c body (none_right a b (none_left (a ++ b) d none))) (all_decls sc body)) other (none_right (a ++ b) d none)
   after_context sc c (while start e body close) none =
-      left_context sc (after_all sc body) c (all_context sc c body (none_right (wanted_faults sc Condition e) (stmts_faults sc body) none)) (all_same sc body)
+      left_context sc (after_all sc body) c (all_context sc c body (none_right (wanted_faults sc Condition e) (stmts_faults sc body) none)) (all_decls sc body)
   after_context sc c (print start e) none = c
   after_context sc c (return_value start e) none = c
   after_context sc c (call start d) none = c
 
   else_context : (sc : Scope) → Context sc → (o : Otherwise) → NoneIn (else_faults sc o) → Context (after_else sc o)
   else_context sc c no_else none = c
-  else_context sc c (else_do body close) none = left_context sc (after_all sc body) c (all_context sc c body none) (all_same sc body)
+  else_context sc c (else_do body close) none = left_context sc (after_all sc body) c (all_context sc c body none) (all_decls sc body)
 
   pub all_context : (sc : Scope) → Context sc → (ss : Stmts) → NoneIn (stmts_faults sc ss) → Context (after_all sc ss)
   all_context sc c no_stmts none = c
@@ -340,7 +335,7 @@ mutual
       let n2 = none_left (a ++ b) d none in
       let t = test_is sc c e (none_left a b n2) in
       let x = block_body sc c body (none_right a b n2) (λ at h. inner at (in_then h)) in
-      let r = if_is (left sc (after_all sc body)) (left_context sc (after_all sc body) c (all_context sc c body (none_right a b n2)) (all_same sc body)) start.start t.0 x.0 other (none_right (a ++ b) d none) (λ at h. inner at (otherwise_inside h)) in
+      let r = if_is (left sc (after_all sc body)) (left_context sc (after_all sc body) c (all_context sc c body (none_right a b n2)) (all_decls sc body)) start.start t.0 x.0 other (none_right (a ++ b) d none) (λ at h. inner at (otherwise_inside h)) in
       inl (
         r.0,
         (λ h. h),
@@ -422,7 +417,7 @@ body_step s rest o sc (inl a) b stray = body_does s rest o (typed_body sc rest) 
 body_step s rest o sc (inr a) b stray = body_gives s rest o sc a.0 a.1 a.2 stray
 
 next_result : (sc : Scope) (s : Stmt) → HasResult sc → HasResult (after sc s)
-next_result sc s t = subst (λ (o : Option core_type.ValueType). Typing (after sc s).decls o) (sym (after_result sc s)) (subst (λ (ds : List Decl). Typing ds sc.result) (sym (after_same sc s)) t)
+next_result sc s t = subst (λ (o : Option core_type.ValueType). Typing (after sc s).decls o) (sym (after_result sc s)) (subst (λ (ds : List Decl). Typing ds sc.result) (sym (after_decls sc s)) t)
 
 -- some statement of them is a `return`
 pub body_is : (sc : Scope) → Context sc → (ss : Stmts) → NoneIn (stmts_faults sc ss) →

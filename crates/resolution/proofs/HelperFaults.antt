@@ -5,8 +5,8 @@ use Rattle.std.specs.Prelude.{not, ◌==◌}
 use Rattle.std.proofs.lemmas.Bool.Decides.{nat_tests}
 use Rattle.source.specs.declared.fault.Code.{Code}
 use Rattle.source.specs.declared.fault.Code.TheVariants.{WrongType, WrongArgumentCount}
-use Rattle.syntax.specs.Trees.{ValueType, HelperCall, CalledLocal, let_call, Section, Decl, lock, struct, global}
-use Rattle.syntax.specs.Trees.{array, pool, init, atomic, helper, thread}
+use Rattle.syntax.specs.Trees.{ValueType, HelperCall, CalledLocal, let_call, Section, Decl, lock, struct, global, array}
+use Rattle.syntax.specs.Trees.{pool, init, atomic, helper, thread}
 use Rattle.core_lang.specs.declared.value.ValueType as core_type
 use Rattle.resolution.specs.declared.wanted.Sort.TheVariants as sort
 use Rattle.resolution.specs.Scopes.{◌>>=◌, Scope, outside, Meaning, a_local, a_decl, nothing, meaning, helper_meant}
@@ -17,9 +17,8 @@ use Rattle.resolution.specs.Faults.{IsNoHelper}
 use Rattle.resolution.specs.Working.FaultLists as list
 use Rattle.resolution.specs.Working.FaultLists.{one, one_if, unfit, passed_values_faults, given_back_faults}
 use Rattle.resolution.specs.Working.FaultLists.{declaration_faults}
-use Rattle.source.specs.Theory.Leasts.{IsAmong}
+use Rattle.source.specs.Theory.Leasts.{IsAmong, among_left}
 use Rattle.resolution.proofs.Members.{at}
-use Rattle.resolution.proofs.Members as m
 use Rattle.resolution.proofs.Parts.{of_helper_call, of_given_back}
 
 abbrev pub listed : List Decl → Code → ℕ → Type 0
@@ -47,7 +46,7 @@ pub of_helper_name : (decls : List Decl) (sc : Scope) (c : HelperCall) → HasHe
     list.no_helper sc.decls c.helper.span.start (length c.arguments) (meaning sc c.helper.text) ≡ one k c.helper.span.start →
     listed decls k c.helper.span.start
 of_helper_name decls sc c h k e =
-    of_helper_call decls sc c h _ (m.in_left _ (list.no_helper sc.decls c.helper.span.start (length c.arguments) (meaning sc c.helper.text)) (passed_values_faults sc (helper_meant (meaning sc c.helper.text)) c.arguments) (at k c.helper.span.start _ e))
+    of_helper_call decls sc c h _ (among_left _ (list.no_helper sc.decls c.helper.span.start (length c.arguments) (meaning sc c.helper.text)) (passed_values_faults sc (helper_meant (meaning sc c.helper.text)) c.arguments) (at k c.helper.span.start _ e))
 
 -- and of what it gives back
 pub of_result : (decls : List Decl) (sc : Scope) (l : CalledLocal) → HasStmt decls sc (let_call l) →

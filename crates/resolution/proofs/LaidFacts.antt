@@ -1,16 +1,15 @@
 -- What a resolved program holds of its declarations.
-use Rattle.std.proofs.Common.{◌≡◌, ℕ, suc, ◌+◌, ◌≤◌, List, [], ◌∷◌, ◌++◌, length, Some, refl, sym, ap, ◌∙◌}
-use Rattle.std.proofs.Common.{subst, arith}
+use Rattle.std.proofs.Common.{◌≡◌, ℕ, suc, ◌+◌, ◌≤◌, List, [], ◌∷◌, ◌++◌, length, Some, refl, sym, ap, ◌∙◌, subst}
+use Rattle.std.proofs.Common.{arith}
 use Rattle.std.specs.Prelude.{slice_get, take, min}
 use Rattle.std.proofs.lemmas.Option.{slice_get_within}
-use Rattle.syntax.specs.Trees.{Ident, Member, final_member, field_member, Final, Field, Struct, Pool}
-use Rattle.syntax.specs.Trees.{Section, Decl, struct, global, array, pool, atomic, helper}
+use Rattle.syntax.specs.Trees.{Ident, Member, final_member, field_member, Final, Field, Struct, Pool, Section, Decl}
+use Rattle.syntax.specs.Trees.{struct, global, array, pool, atomic, helper}
+use Rattle.core_lang.specs.Theory.Items.{behind_at}
 use Rattle.resolution.specs.Core as core
 use Rattle.resolution.specs.Limits.{CELL_LIMIT, MEMBER_LIMIT, section_limits, helper_limits}
-use Rattle.resolution.specs.Scopes.{struct_named, count, alike, number_at, number_in}
-use Rattle.resolution.specs.Scopes.{structs_in, the_struct}
-use Rattle.resolution.specs.Numbers.{total, classes_of, objects_of, cells_of, classes_ahead, cells_ahead}
-use Rattle.resolution.specs.Numbers.{objects_ahead}
+use Rattle.resolution.specs.Scopes.{struct_named, count, alike, number_at, number_in, structs_in, the_struct}
+use Rattle.resolution.specs.Numbers.{total, classes_of, objects_of, cells_of, classes_ahead, cells_ahead, objects_ahead}
 use Rattle.resolution.specs.Expressions.{cell_of, member_number}
 use Rattle.resolution.specs.declared.body_limits.BodyLimits.{BodyLimits}
 use Rattle.resolution.specs.Typing.{TypesSection}
@@ -19,10 +18,9 @@ use Rattle.resolution.proofs.FaultlessExpressions.{struct_has, Clean}
 use Rattle.resolution.proofs.FaultlessMembers.{is_field, is_final, count_few}
 use Rattle.resolution.proofs.FaultlessPrograms.{struct_few}
 use Rattle.resolution.proofs.TypedResolvedExprs.{Sound}
-use Rattle.resolution.proofs.LaidLists.{Rows, rows_append, get_last, get_behind, only, row_left, row_right, no_row}
+use Rattle.resolution.proofs.LaidLists.{Rows, rows_append, get_behind, only, row_left, row_right, no_row}
 use Rattle.resolution.proofs.LaidStages.{fields_in, finals_in, locks_in, field_numbered, final_numbered, global_cell}
-use Rattle.resolution.proofs.LaidStages.{array_row, pool_row, stands}
-use Rattle.resolution.proofs.LaidStages.{plus}
+use Rattle.resolution.proofs.LaidStages.{array_row, pool_row, stands, plus}
 use Rattle.resolution.proofs.LaidWalk.{LockRow, ClassRow, FinalRow, FieldRow, parted, fields_counted, Step, NewRows}
 use Rattle.resolution.proofs.LaidWalk.{added, Landed, lands, each_row, walked_whole}
 
@@ -55,7 +53,7 @@ numbered_row {A = A} table grows {decls = decls} {whole = whole} {i = i} {d = d}
     let k = length (table l.was) in
     let rows = grows l.was (added l.step) ∙ ap (λ (xs : List A). table l.was ++ xs) e in
     subst (λ (j : ℕ). slice_get (table whole) j ≡ Some x) (n ∙ sym (number_landed decls whole i d l))
-    (stands table grows l.step.ends k x (ap (λ (xs : List A). slice_get xs k) rows ∙ get_last (table l.was) x []))
+    (stands table grows l.step.ends k x (ap (λ (xs : List A). slice_get xs k) rows ∙ behind_at (table l.was) x []))
 
 -- ---- a pool, by its declaration
 
@@ -196,7 +194,7 @@ sound_of decls clean whole is = record {
       let small : cells_ahead decls n ≤ CELL_LIMIT = subst (λ (k : ℕ). k ≤ CELL_LIMIT) ahead a.6 in
       let here : slice_get whole.cells (cell_of decls n) ≡ Some c =
       subst (λ (k : ℕ). slice_get whole.cells k ≡ Some c) (ahead ∙ sym (under (cells_ahead decls n) CELL_LIMIT small))
-      (stands (λ z. z.cells) (λ z a. refl) l.step.ends (length p.cells) c (get_last p.cells c [])) in
+      (stands (λ z. z.cells) (λ z a. refl) l.step.ends (length p.cells) c (behind_at p.cells c [])) in
       let same : Some a.1 ≡ Some t = sym a.4 ∙ ty in
       rw here same);
   array = λ n x t at ty.

@@ -1,6 +1,6 @@
 -- Lists that match one another, and lists that grow.
-use Rattle.std.proofs.Common.{◌≡◌, ℕ, zero, suc, ◌+◌, ◌≤◌, List, [], ◌∷◌, ◌++◌, length, Option, Some, None, Bool}
-use Rattle.std.proofs.Common.{true, false, if◌then◌else◌, refl, ap, subst, arith}
+use Rattle.std.proofs.Common.{◌≡◌, ℕ, zero, suc, ◌+◌, ◌≤◌, List, [], ◌∷◌, ◌++◌, length, Option, Some, None, Bool, true}
+use Rattle.std.proofs.Common.{false, if◌then◌else◌, refl, ap, subst, arith}
 use Rattle.std.specs.Prelude.{slice_get, take, ⊤, nat_le}
 use Rattle.resolution.specs.Limits.{up_to}
 use Rattle.resolution.specs.Scopes.{◌>>=◌, count}
@@ -81,10 +81,6 @@ pub get_behind : {A : Type 0} (xs ys : List A) (k : ℕ) (y : A) → slice_get y
     slice_get (xs ++ ys) (length xs + k) ≡ Some y
 get_behind [] ys k y e = subst (λ (j : ℕ). slice_get ys j ≡ Some y) (let z : k ≡ 0 + k = omega arith in z) e
 get_behind (x ∷ xs) ys k y e = subst (λ (j : ℕ). slice_get (x ∷ xs ++ ys) j ≡ Some y) (let z : suc (length xs + k) ≡ suc (length xs) + k = omega arith in z) (get_behind xs ys k y e)
-
-pub get_last : {A : Type 0} (xs : List A) (x : A) (ys : List A) → slice_get (xs ++ x ∷ ys) (length xs) ≡ Some x
-get_last [] x ys = refl
-get_last (y ∷ xs) x ys = get_last xs x ys
 
 -- what a longer list has, is in its first part or behind it
 pub record Behind {A : Type 0} (xs ys : List A) (n : ℕ) (y : A) : Type 0 where

@@ -3,23 +3,23 @@ use Rattle.std.proofs.Common.{◌≡◌, ℕ, zero, suc, ◌+◌, ◌<◌, ◌�
 use Rattle.std.proofs.Common.{refl, sym, ap, ◌∙◌, subst, arith}
 use Rattle.std.specs.Prelude.{slice_get, ⊤, nat_le, ◌&&◌}
 use Rattle.source.specs.declared.fault.Code.TheVariants.{LimitExceeded}
-use Rattle.syntax.specs.Trees.{Ident, Protection, Member, lock_member, final_member, field_member, Final, Field}
-use Rattle.syntax.specs.Trees.{Struct, Decl, lock, struct, global, array}
+use Rattle.source.specs.Theory.Leasts.{among_right}
+use Rattle.syntax.specs.Trees.{Ident, Protection, Member, lock_member, final_member, field_member, Final, Field, Struct}
+use Rattle.syntax.specs.Trees.{Decl, lock, struct, global, array}
+use Rattle.core_lang.specs.Theory.Items.{behind_at}
 use Rattle.resolution.specs.Core as core
 use Rattle.resolution.specs.Limits.{CLASS_LIMIT, MEMBER_LIMIT, STRUCT_LIMIT, FINAL_LIMIT}
 use Rattle.resolution.specs.Scopes.{outside, bears, the_decl, the_member, struct_named, count, alike, number_at}
 use Rattle.resolution.specs.Scopes.{number_in}
 use Rattle.resolution.specs.Numbers.{total, is_lock, classes_of, classes_ahead}
 use Rattle.resolution.specs.Expressions.{member_number}
-use Rattle.resolution.specs.Annotations.{class_number, class_in, class_of, AnnotationCursor, at_struct}
-use Rattle.resolution.specs.Annotations.{through_member, stepped_on, ended_at, along, protection_by, cursor_at}
-use Rattle.resolution.specs.Annotations.{protection_of}
+use Rattle.resolution.specs.Annotations.{class_number, class_in, class_of, AnnotationCursor, at_struct, through_member}
+use Rattle.resolution.specs.Annotations.{stepped_on, ended_at, along, protection_by, cursor_at, protection_of}
 use Rattle.resolution.specs.Where.{Has, first, further}
 use Rattle.resolution.specs.Working.FaultLists as list
-use Rattle.resolution.specs.Working.FaultLists.{one_if, member_counts, count_faults, total_faults, passed_faults}
-use Rattle.resolution.specs.Working.FaultLists.{along_faults, annotation_faults, protection_faults, type_faults}
+use Rattle.resolution.specs.Working.FaultLists.{one_if, member_counts, count_faults, passed_faults, along_faults}
+use Rattle.resolution.specs.Working.FaultLists.{annotation_faults, protection_faults, type_faults}
 use Rattle.resolution.specs.Tables.{AreTables, lock_classes}
-use Rattle.resolution.proofs.Members.{in_right}
 use Rattle.resolution.proofs.Named.{named_is, member_is}
 use Rattle.resolution.specs.Theory.Facts.{struct_at}
 use Rattle.resolution.proofs.Parts.{of_place_at, in_members_field}
@@ -27,7 +27,7 @@ use Rattle.resolution.proofs.AllFaults.{of_totals}
 use Rattle.resolution.proofs.TrueStatements.{length_push}
 use Rattle.resolution.proofs.FaultlessExpressions.{NoneIn, none_left, none_right, not_if, Clean}
 use Rattle.resolution.proofs.Typed.{final_in}
-use Rattle.resolution.proofs.LaidLists.{rows_left, rows_right, get_last, only, bind_got, row_right, no_row}
+use Rattle.resolution.proofs.LaidLists.{rows_left, rows_right, only, bind_got, row_right, no_row}
 use Rattle.resolution.proofs.LaidStages.{stands, fields_in, locks_in, lock_numbered, global_row, array_row}
 use Rattle.resolution.proofs.LaidWalk.{NewRows, LockRow, ClassRow, FieldRow, parted, lands, each_row, few}
 use Rattle.resolution.proofs.LaidWalk.{counted_whole}
@@ -74,7 +74,7 @@ classes_new decls whole before (struct x) p st l c e =
     let a = st.news in
     let k = length p.structs in
     let r = parted decls (length before) x (length p.classes) k 0 0 0 x.members a.0 a.1 in
-    let here = stands (λ z. z.structs) (λ z a. refl) st.ends k a.0 (get_last p.structs a.0 []) in
+    let here = stands (λ z. z.structs) (λ z a. refl) st.ends k a.0 (behind_at p.structs a.0 []) in
     let z = row_right (ClassRow k) (locks_in x.members) (lock_classes k 0 a.0.locks) r.classes l c e in
     let f = rows_left LockRow (length p.classes) (locks_in x.members) a.0.locks r.locks l z.0 z.1 in
     subst (ClassFact whole (length p.classes + l)) (sym z.2) (a.0, here, f.0, f.1, f.2)
@@ -128,7 +128,7 @@ module _ (decls : List Decl) (clean : Clean decls) (whole : core.Program) (is : 
       let l = lands decls clean whole is i (lock x) at in
       let c = core.global_lock x.text in
       let p = l.was in
-      let here = stands (λ z. z.classes) (λ z a. refl) l.step.ends (length p.classes) c (get_last p.classes c []) in
+      let here = stands (λ z. z.classes) (λ z a. refl) l.step.ends (length p.classes) c (behind_at p.classes c []) in
       let n = l.step.counts.classes in
       let t = total_landed decls whole i (lock x) l classes_of in
       class_here i 0 c (subst (λ (k : ℕ). slice_get whole.classes k ≡ Some c)
@@ -283,5 +283,5 @@ module _ (decls : List Decl) (clean : Clean decls) (whole : core.Program) (is : 
       let g = w.0 in
       let a = type_faults (outside decls) g.value_type in
       let none : NoneIn (protection_faults decls i x.members g.name.span.start g.protection) =
-      λ m h. clean m (of_place_at decls i (struct x) r.2.at m (in_members_field decls i x.members x.members g (has_field x.members f g w.1) m (in_right m a _ h))) in
+      λ m h. clean m (of_place_at decls i (struct x) r.2.at m (in_members_field decls i x.members x.members g (has_field x.members f g w.1) m (among_right m a _ h))) in
       protection_ok s i x r.2.at r.2.number g.name.span.start g.protection none z.protection w.2.1

@@ -13,6 +13,7 @@ use Rattle.core_lang.specs.declared.typed.Cell.{Cell}
 use Rattle.core_lang.specs.declared.typed.Owner.{Owner}
 use Rattle.core_lang.specs.declared.typed.Owner.TheVariants as owner
 use Rattle.core_lang.specs.declared.shape.Object.{Object}
+use Rattle.core_lang.specs.Theory.Items.{behind_at}
 use Rattle.resolution.specs.declared.wanted.Sort.{Sort}
 use Rattle.resolution.specs.declared.wanted.Sort.TheVariants as sort
 use Rattle.resolution.specs.declared.wanted.Want.TheVariants as wanted
@@ -22,18 +23,17 @@ use Rattle.resolution.specs.Scopes.{◌>>=◌, bears, the_decl, declared_as, str
 use Rattle.resolution.specs.Scopes.{the_struct}
 use Rattle.resolution.specs.Numbers.{objects_ahead}
 use Rattle.resolution.specs.Expressions.{fits_type}
-use Rattle.resolution.specs.Constants.{IsOfSort, number_sort, negative_sort, null_sort, member_sort, object_of}
-use Rattle.resolution.specs.Constants.{Denotes, a_number, a_negative, no_object, an_object, Yields, yields}
-use Rattle.resolution.specs.Constants.{members_of, members_in, default_of, Opens, by_default, by_constant}
+use Rattle.resolution.specs.Constants.{IsOfSort, number_sort, negative_sort, null_sort, member_sort, object_of, Denotes}
+use Rattle.resolution.specs.Constants.{a_number, a_negative, no_object, an_object, Yields, yields, members_of}
+use Rattle.resolution.specs.Constants.{members_in, default_of, Opens, by_default, by_constant}
 use Rattle.resolution.specs.Tables.{elements, AreTables}
 use Rattle.resolution.proofs.Named.{named_is}
 use Rattle.resolution.specs.Theory.Facts.{struct_at}
 use Rattle.resolution.proofs.FaultlessExpressions.{Clean}
 use Rattle.resolution.proofs.Typed.{field_in}
-use Rattle.resolution.proofs.LaidLists.{grows_more, get_last, get_behind, get_parts, only, row_left, row_right, no_row}
+use Rattle.resolution.proofs.LaidLists.{grows_more, get_behind, get_parts, only, row_left, row_right, no_row}
 use Rattle.resolution.proofs.LaidStages.{fields_in, finals_in, CellOf, FinalOf, Objected, Chain, Begins, begins_on}
-use Rattle.resolution.proofs.LaidStages.{plus, held, next_object, global_row, global_cell, array_row, pool_row}
-use Rattle.resolution.proofs.LaidStages.{stands}
+use Rattle.resolution.proofs.LaidStages.{plus, held, next_object, global_row, global_cell, array_row, pool_row, stands}
 use Rattle.resolution.proofs.LaidWalk.{FieldRow, chain_objects, elements_length, all_objects_few, Step, added}
 use Rattle.resolution.proofs.LaidWalk.{new_objects, NewRows, each_row, counted_whole}
 use Rattle.resolution.proofs.LaidFacts.{struct_of_number, pool_at, at_most}
@@ -93,7 +93,7 @@ object_new decls whole number ms p q w b =
     record {
       object = x;
       here = stands (λ z. z.objects) (λ z a. refl) b (length p.objects) x
-          (ap (λ (z : core.Program). slice_get z.objects (length p.objects)) w.is ∙ get_last p.objects x []);
+          (ap (λ (z : core.Program). slice_get z.objects (length p.objects)) w.is ∙ behind_at p.objects x []);
       pool = refl;
       own = λ k f e.
           (let r = row_left (CellOf decls (length p.objects)) (fields_in ms) w.cells w.own k f e in (
@@ -181,7 +181,7 @@ objects_new decls whole before (pool x) p st k y e =
     record {
       pool = z;
       there = subst (λ (m : ℕ). slice_get whole.pools m ≡ Some z) (sym new.pool ∙ ap (λ (w : Object). w.pool) same)
-          (stands (λ z. z.pools) (λ z a. refl) st.ends (length p.pools) z (get_last p.pools z []));
+          (stands (λ z. z.pools) (λ z a. refl) st.ends (length p.pools) z (behind_at p.pools z []));
       from = omega arith;
       to = omega (arith, less);
       structure = f.structure;
@@ -210,7 +210,7 @@ globals_new decls whole before (global v) p st k x e =
     let n = st.news in
     let c = global_cell p n.1 n.2 in
     only (GlobalFact whole) (length p.globals) (global_row p v n.0)
-    (c, stands (λ z. z.cells) (λ z a. refl) st.ends (length p.cells) c (get_last p.cells c []), refl) k x e
+    (c, stands (λ z. z.cells) (λ z a. refl) st.ends (length p.cells) c (behind_at p.cells c []), refl) k x e
 globals_new decls whole before d p st k x e = no_row k x e
 
 pub globals_of : (decls : List Decl) → Clean decls → (whole : core.Program) → AreTables decls whole →
@@ -231,7 +231,7 @@ element_at a t (suc n) i less =
     let same : n ≡ i = omega (arith, l, less) in
     subst (λ (k : ℕ). slice_get (elements a t (suc n)) k ≡ Some (element a t k)) same
     (subst (λ (k : ℕ). slice_get (elements a t (suc n)) k ≡ Some (element a t n)) len
-    (get_last (elements a t n) (element a t n) []))))
+    (behind_at (elements a t n) (element a t n) []))))
 
 arrays_new : (decls : List Decl) (whole : core.Program) → NewRows decls whole (λ p. p.arrays) (ArrayFact whole)
 arrays_new decls whole before (array x) p st k y e =
@@ -290,7 +290,7 @@ chain_fact decls whole number ms fresh (suc n) p q c b k y from e =
     let z = next_object number m in
     let before = begins_object decls number ms m q whole w b in
     let here = stands (λ z. z.objects) (λ z a. refl) b o z
-    (ap (λ (v : core.Program). slice_get v.objects o) w.is ∙ get_last m.objects z []) in
+    (ap (λ (v : core.Program). slice_get v.objects o) w.is ∙ behind_at m.objects z []) in
     get_parts m.cells w.cells k y (CellFact decls whole k y)
     (ap (λ (v : core.Program). slice_get v.cells k) (sym w.is) ∙ e)
     (chain_fact decls whole number ms fresh n p m c.1 before k y from)
@@ -302,7 +302,7 @@ cells_new : (decls : List Decl) → Clean decls → (whole : core.Program) → A
 cells_new decls clean whole is before (global v) p st k c e =
     let n = st.news in
     let x = global_row p v n.0 in
-    let here = stands (λ z. z.globals) (λ z a. refl) st.ends (length p.globals) x (get_last p.globals x []) in
+    let here = stands (λ z. z.globals) (λ z a. refl) st.ends (length p.globals) x (behind_at p.globals x []) in
     only (CellFact decls whole) (length p.cells) (global_cell p n.1 n.2) ((x, here, refl), (v.value, n.5)) k c e
 cells_new decls clean whole is before (array x) p st k c e =
     let n = st.news in
@@ -314,11 +314,11 @@ cells_new decls clean whole is before (array x) p st k c e =
     let same = one_of (elements a n.1 x.length.value) k (element a n.1 k) c
     (element_at a n.1 x.length.value k less) e in
     subst (CellFact decls whole (length p.cells + k)) same
-    ((y, stands (λ z. z.arrays) (λ z a. refl) st.ends a y (get_last p.arrays y []), less, refl), (None, by_default))
+    ((y, stands (λ z. z.arrays) (λ z a. refl) st.ends a y (behind_at p.arrays y []), less, refl), (None, by_default))
 cells_new decls clean whole is before (pool x) p st k0 c e =
     let a = st.news in
     let z = pool_row p x a.structure in
-    let here = stands (λ z. z.pools) (λ z a. refl) st.ends (length p.pools) z (get_last p.pools z []) in
+    let here = stands (λ z. z.pools) (λ z a. refl) st.ends (length p.pools) z (behind_at p.pools z []) in
     let m = named_members decls x.target a.structure a.members a.named a.are in
     let y = struct_of_number decls clean whole is a.structure m.0 m.1 in
     chain_fact decls whole (length p.pools) a.members

@@ -1,6 +1,5 @@
 -- Resolved programs are laid out as they should be.
-use Rattle.std.proofs.Common.{◌≡◌, ℕ, suc, ◌+◌, ◌<◌, ◌≤◌, List, [], ◌∷◌, length, Option, Some, None, refl, sym, ap}
-use Rattle.std.proofs.Common.{◌∙◌, subst}
+use Rattle.std.proofs.Common.{◌≡◌, ℕ, suc, ◌+◌, ◌<◌, ◌≤◌, List, [], ◌∷◌, length, Some, None, refl, sym, ap, ◌∙◌, subst}
 use Rattle.std.specs.Prelude.{slice_get, take, map}
 use Rattle.std.proofs.lemmas.Option.{slice_get_within}
 use Rattle.syntax.specs.Trees.{Decl, atomic, helper, Section, Param}
@@ -18,8 +17,7 @@ use Rattle.core_lang.specs.declared.typed.Field as the_field
 use Rattle.core_lang.specs.declared.typed.FinalField as the_final
 use Rattle.core_lang.specs.declared.typed.Typed.{Typed}
 use Rattle.core_lang.specs.Serial.{opening_heap}
-use Rattle.core_lang.specs.Typing.{lookup, struct_of, HasType, HaveTypes, IsHeap, local_types, final_target}
-use Rattle.core_lang.specs.Typing.{field_type}
+use Rattle.core_lang.specs.Typing.{lookup, struct_of, HasType, HaveTypes, IsHeap, local_types, final_target, field_type}
 use Rattle.core_lang.specs.declared.typed.LockClass as the_class
 use Rattle.core_lang.specs.declared.typed.LockClass.TheVariants as class
 use Rattle.core_lang.specs.declared.tree.Local as the_local
@@ -28,6 +26,7 @@ use Rattle.core_lang.specs.declared.typed.Call as the_call
 use Rattle.core_lang.specs.declared.typed.Thread as the_thread
 use Rattle.core_lang.specs.WellFormed.{IsCell, IsCellOf, IsLaidOut, IsProtected, IsGlobalLock, IsGlobalClass}
 use Rattle.core_lang.specs.WellFormed.{FinalsLead, EndsAt, IsClassOf, CanCall}
+use Rattle.core_lang.specs.Theory.Items.{map_at, lookup_some, map_back}
 use Rattle.resolution.specs.Core as core
 use Rattle.resolution.specs.CoreViews.{core_class, core_lock, core_struct, core_final, core_field, core_array}
 use Rattle.resolution.specs.CoreViews.{core_pool, core_global, core_local, core_section, core_call, core_thread}
@@ -38,7 +37,7 @@ use Rattle.resolution.specs.Working.TypedSections.{typed_section}
 use Rattle.resolution.specs.Where.{Has}
 use Rattle.resolution.specs.Resolved.{Resolves}
 use Rattle.resolution.proofs.FaultlessExpressions.{Clean, at_has}
-use Rattle.resolution.proofs.Typed.{map_got, get_map, final_in, field_in, final_target_is, field_type_is}
+use Rattle.resolution.proofs.Typed.{final_in, field_in, final_target_is, field_type_is}
 use Rattle.resolution.proofs.TypedResolvedExprs.{Sound}
 use Rattle.resolution.proofs.TypedCalls.{HasHelpers}
 use Rattle.resolution.proofs.StatementRules.{section_is}
@@ -51,40 +50,36 @@ use Rattle.resolution.proofs.LaidLocks.{arrays_have, lock_fields_have, fields_ha
 use Rattle.resolution.proofs.LaidScripts.{Argument, threads_of, sectioned, parameter_local, section_at, has_helpers}
 use Rattle.resolution.proofs.LaidScripts.{argument_holds}
 use Rattle.resolution.proofs.LaidObjects.{one_of, ObjectAt, objects_of_program, pools_of, globals_of, arrays_of}
-use Rattle.resolution.proofs.LaidObjects.{struct_in, struct_of_object, OwnerFact, cells_of_program, Holds, opened_holds, referred_holds}
+use Rattle.resolution.proofs.LaidObjects.{struct_in, struct_of_object, OwnerFact, cells_of_program, Holds, opened_holds}
+use Rattle.resolution.proofs.LaidObjects.{referred_holds}
 
 -- ---- what the views say
-
-lookup_got : {A B : Type 0} (o : Option A) (f : A → Option B) (y : B) → lookup o f ≡ Some y →
-    (x : A) × (o ≡ Some x) × (f x ≡ Some y)
-lookup_got (Some x) f y e = (x, refl, e)
-lookup_got None f y e = cc
 
 module _ (program : Typed) where
   pub struct_is : (o s : ℕ) → struct_in (core_of program) o ≡ Some s → struct_of program.shape o ≡ Some s
   struct_is o s e =
       let a = bind_got (slice_get program.shape.objects.items o) (λ x. slice_get (core_of program).pools x.pool >>= λ y. Some y.structure) s e in
       let b = bind_got (slice_get (core_of program).pools a.0.pool) (λ y. Some y.structure) s a.2 in
-      let c = map_got core_pool program.shape.pools.items a.0.pool b.0 b.1 in
+      let c = map_back core_pool program.shape.pools.items a.0.pool b.0 b.1 in
       rw (a.1, c.1) (ap (λ (z : core.Pool). Some z.structure) c.2 ∙ b.2)
 
   pub struct_back : (o s : ℕ) → struct_of program.shape o ≡ Some s → struct_in (core_of program) o ≡ Some s
   struct_back o s e =
-      let a = lookup_got (slice_get program.shape.objects.items o) (λ (x : Object). lookup (slice_get program.shape.pools.items x.pool) (λ (p : the_pool.Pool). Some p.structure)) s e in
-      let b = lookup_got (slice_get program.shape.pools.items a.0.pool) (λ (p : the_pool.Pool). Some p.structure) s a.2 in
-      rw (a.1, get_map core_pool program.shape.pools.items a.0.pool b.0 b.1) b.2
+      let a = lookup_some (slice_get program.shape.objects.items o) (λ (x : Object). lookup (slice_get program.shape.pools.items x.pool) (λ (p : the_pool.Pool). Some p.structure)) s e in
+      let b = lookup_some (slice_get program.shape.pools.items a.0.pool) (λ (p : the_pool.Pool). Some p.structure) s a.2 in
+      rw (a.1, map_at core_pool program.shape.pools.items a.0.pool b.0 b.1) b.2
 
   pub field_back : (s f : ℕ) (t : ValueType) → field_type program s f ≡ Some t → field_in (core_of program) s f ≡ Some t
   field_back s f t e =
-      let a = lookup_got (slice_get program.structs.items s) (λ (x : the_struct_of.Struct). lookup (slice_get x.fields.items f) (λ (y : the_field.Field). Some y.value_type)) t e in
-      let b = lookup_got (slice_get a.0.fields.items f) (λ (y : the_field.Field). Some y.value_type) t a.2 in
-      rw (get_map core_struct program.structs.items s a.0 a.1, get_map core_field a.0.fields.items f b.0 b.1) b.2
+      let a = lookup_some (slice_get program.structs.items s) (λ (x : the_struct_of.Struct). lookup (slice_get x.fields.items f) (λ (y : the_field.Field). Some y.value_type)) t e in
+      let b = lookup_some (slice_get a.0.fields.items f) (λ (y : the_field.Field). Some y.value_type) t a.2 in
+      rw (map_at core_struct program.structs.items s a.0 a.1, map_at core_field a.0.fields.items f b.0 b.1) b.2
 
   pub final_back : (s f k : ℕ) → final_target program s f ≡ Some k → final_in (core_of program) s f ≡ Some k
   final_back s f k e =
-      let a = lookup_got (slice_get program.structs.items s) (λ (x : the_struct_of.Struct). lookup (slice_get x.finals.items f) (λ (y : the_final.FinalField). Some y.target)) k e in
-      let b = lookup_got (slice_get a.0.finals.items f) (λ (y : the_final.FinalField). Some y.target) k a.2 in
-      rw (get_map core_struct program.structs.items s a.0 a.1, get_map core_final a.0.finals.items f b.0 b.1) b.2
+      let a = lookup_some (slice_get program.structs.items s) (λ (x : the_struct_of.Struct). lookup (slice_get x.finals.items f) (λ (y : the_final.FinalField). Some y.target)) k e in
+      let b = lookup_some (slice_get a.0.finals.items f) (λ (y : the_final.FinalField). Some y.target) k a.2 in
+      rw (map_at core_struct program.structs.items s a.0 a.1, map_at core_final a.0.finals.items f b.0 b.1) b.2
 
   pub holds_is : (t : ValueType) (v : Value) → Holds (core_of program) t v → HasType program.shape t v
   holds_is Integer (Int n) h = tt
@@ -95,10 +90,10 @@ module _ (program : Typed) where
 
   owner_is : (place : ℕ) (w : Owner) → OwnerFact (core_of program) place w → IsCellOf program place w
   owner_is place (owner.Global g) h =
-      let r = map_got core_global program.globals.items g h.0 h.1 in
+      let r = map_back core_global program.globals.items g h.0 h.1 in
       (r.0, r.1, h.2 ∙ ap (λ (z : core.GlobalVariable). z.cell) (sym r.2))
   owner_is place (owner.Element n i) h =
-      let r = map_got core_array program.shape.arrays.items n h.0 h.1 in
+      let r = map_back core_array program.shape.arrays.items n h.0 h.1 in
       (r.0, r.1, subst (λ (z : core.Array). i < z.length) (sym r.2) h.2, h.3 ∙ ap (λ (z : core.Array). z.first + i) (sym r.2))
   owner_is place (owner.Field o f) h =
       (h.0, h.1, h.2, (h.3.0, h.3.1, struct_is o h.3.0 h.3.2, field_type_is program h.3.0 f h.3.1 h.3.3))
@@ -123,7 +118,7 @@ module _ (program : Typed) where
       ap (λ (z : ℕ). class.Field z b) x ∙ ap (class.Field k) y
 
   global_class_is : (n : ℕ) → GlobalClass (core_of program) n → IsGlobalClass program n
-  global_class_is n h = let r = map_got core_class program.classes.items n (core.global_lock h.0) h.1 in (r.0, r.1, a_global_lock r.0 h.0 r.2)
+  global_class_is n h = let r = map_back core_class program.classes.items n (core.global_lock h.0) h.1 in (r.0, r.1, a_global_lock r.0 h.0 r.2)
 
   lead_is : (from : ℕ) (fs : List ℕ) (to : ℕ) → LeadIn (core_of program) from fs to → FinalsLead program from fs to
   lead_is from [] to h = h
@@ -137,8 +132,8 @@ module _ (program : Typed) where
   class_is : (n : ℕ) (c : the_class.LockClass) → ClassFact (core_of program) n (core_class c) → IsClassOf program n c
   class_is n (class.Global name) h = tt
   class_is n (class.Field k l) h =
-      let r = map_got core_struct program.structs.items k h.0 h.1 in
-      let f = map_got core_lock r.0.locks.items l h.2 (ap (λ (z : core.Struct). slice_get z.locks l) r.2 ∙ h.3) in
+      let r = map_back core_struct program.structs.items k h.0 h.1 in
+      let f = map_back core_lock r.0.locks.items l h.2 (ap (λ (z : core.Struct). slice_get z.locks l) r.2 ∙ h.3) in
       (r.0, r.1, (f.0, f.1, ap (λ (z : core.LockField). z.class) f.2 ∙ h.4))
 
 -- ---- the whole
@@ -221,22 +216,22 @@ module _ (decls : List Decl) (clean : Clean decls) (program : Typed) (is : Resol
   pub laid_out : IsLaidOut program
   laid_out = record {
     global = λ g x e.
-        (let f = globals_of decls clean (core_of program) is g (core_global x) (get_map core_global program.globals.items g x e) in
+        (let f = globals_of decls clean (core_of program) is g (core_global x) (map_at core_global program.globals.items g x e) in
         (f.0.value_type, record { cell = f.0; here = f.1; owned = f.2; typed = refl }));
     array = λ n x e i less.
-        (let f = arrays_of decls clean (core_of program) is n (core_array x) (get_map core_array program.shape.arrays.items n x e) i less in
+        (let f = arrays_of decls clean (core_of program) is n (core_array x) (map_at core_array program.shape.arrays.items n x e) i less in
         record { cell = f.0; here = f.1; owned = f.2; typed = f.3 });
     pool = λ n x e i less.
-        (let f = (pools_of decls clean (core_of program) is n (core_pool x) (get_map core_pool program.shape.pools.items n x e)).objects i less in
+        (let f = (pools_of decls clean (core_of program) is n (core_pool x) (map_at core_pool program.shape.pools.items n x e)).objects i less in
         (f.object, f.here, f.pool));
     structure = λ n x e.
-        (let f = pools_of decls clean (core_of program) is n (core_pool x) (get_map core_pool program.shape.pools.items n x e) in
+        (let f = pools_of decls clean (core_of program) is n (core_pool x) (map_at core_pool program.shape.pools.items n x e) in
         let r = struct_of_number decls clean (core_of program) is x.structure f.structure f.is in
-        let y = map_got core_struct program.structs.items x.structure r.0 r.1 in
+        let y = map_back core_struct program.structs.items x.structure r.0 r.1 in
         slice_get_within program.structs.items x.structure y.0 y.1);
     object = λ o x e.
         (let f = objects_of_program decls clean (core_of program) is o x e in
-        let y = map_got core_pool program.shape.pools.items x.pool f.pool f.there in
+        let y = map_back core_pool program.shape.pools.items x.pool f.pool f.there in
         (y.0, y.1, subst (λ (z : core.Pool). z.first ≤ o) (sym y.2) f.from, subst (λ (z : core.Pool). o < z.first + z.length) (sym y.2) f.to));
     field = λ o x e s f t h g. field_cell_is o x s f t (kind o x s e h) (field_back program s f t g);
     final = λ o x e s f target h g. final_is o x s f target (kind o x s e h) (final_back program s f target g);
@@ -245,17 +240,17 @@ module _ (decls : List Decl) (clean : Clean decls) (program : Typed) (is : Resol
 
   pub protected : IsProtected program
   protected = record {
-    global = λ g x e. global_class_is program x.class (globals_have decls clean (core_of program) is g (core_global x) (get_map core_global program.globals.items g x e));
-    array = λ n x e. global_class_is program x.class (arrays_have decls clean (core_of program) is n (core_array x) (get_map core_array program.shape.arrays.items n x e));
+    global = λ g x e. global_class_is program x.class (globals_have decls clean (core_of program) is g (core_global x) (map_at core_global program.globals.items g x e));
+    array = λ n x e. global_class_is program x.class (arrays_have decls clean (core_of program) is n (core_array x) (map_at core_array program.shape.arrays.items n x e));
     field = λ s f x field e h.
-        (let p = fields_have decls clean (core_of program) is s f (core_struct x) (core_field field) (get_map core_struct program.structs.items s x e) (get_map core_field x.fields.items f field h) in
-        let r = map_got core_class program.classes.items field.protection.class p.0 p.1 in
+        (let p = fields_have decls clean (core_of program) is s f (core_struct x) (core_field field) (map_at core_struct program.structs.items s x e) (map_at core_field x.fields.items f field h) in
+        let r = map_back core_class program.classes.items field.protection.class p.0 p.1 in
         (r.0, r.1, ends_is program s field.protection.through.items r.0 (subst (EndsIn (core_of program) s field.protection.through.items) (sym r.2) p.2)));
     lock_field = λ s l x lock e h.
-        (let p = lock_fields_have decls clean (core_of program) is s l (core_struct x) (core_lock lock) (get_map core_struct program.structs.items s x e) (get_map core_lock x.locks.items l lock h) in
-        let r = map_got core_class program.classes.items lock.class (core.lock_field s l) p in
+        (let p = lock_fields_have decls clean (core_of program) is s l (core_struct x) (core_lock lock) (map_at core_struct program.structs.items s x e) (map_at core_lock x.locks.items l lock h) in
+        let r = map_back core_class program.classes.items lock.class (core.lock_field s l) p in
         r.1 ∙ ap (λ (c : the_class.LockClass). Some c) (a_lock_field program r.0 s l r.2));
-    class_field = λ number c e. class_is program number c (classes_of_program decls clean (core_of program) is number (core_class c) (get_map core_class program.classes.items number c e));
+    class_field = λ number c e. class_is program number c (classes_of_program decls clean (core_of program) is number (core_class c) (map_at core_class program.classes.items number c e));
   }
 
   -- arguments are of the types of the first locals
@@ -279,9 +274,9 @@ module _ (decls : List Decl) (clean : Clean decls) (program : Typed) (is : Resol
       CanCall program call.section call.arguments.items
   unfolding CanCall
   scripts t k thread call e h =
-      let f = threads_of decls clean (core_of program) is t (core_thread thread) (get_map core_thread program.threads.items t thread e) k (core_call call) (get_map core_call thread.calls.items k call h) in
+      let f = threads_of decls clean (core_of program) is t (core_thread thread) (map_at core_thread program.threads.items t thread e) k (core_call call) (map_at core_call thread.calls.items k call h) in
       let x = section_at decls clean (core_of program) is f.place f.section f.at in
-      let g = map_got core_section program.sections.items (number_at decls f.place (atomic f.section)) x.0 x.1 in
+      let g = map_back core_section program.sections.items (number_at decls f.place (atomic f.section)) x.0 x.1 in
       let count : length f.section.params ≡ g.0.parameters = sym (sectioned decls section_limits f.section x.0 x.2).parameters ∙ ap (λ (z : core.Section). z.parameters) (sym g.2) in (
         g.0,
         ap (slice_get program.sections.items) (sym f.number) ∙ g.1,
@@ -289,6 +284,6 @@ module _ (decls : List Decl) (clean : Clean decls) (program : Typed) (is : Resol
             (arguments_fit 0 f.section.params g.0.locals.items call.arguments.items f.fit
             (λ n p at.
             (let y = parameter_local decls section_limits f.section x.0 x.2 n p at in
-            let l = map_got core_local g.0.locals.items n y.0 (ap (λ (z : core.Section). slice_get z.locals n) g.2 ∙ y.1) in
+            let l = map_back core_local g.0.locals.items n y.0 (ap (λ (z : core.Section). slice_get z.locals n) g.2 ∙ y.1) in
             (l.0, l.1, y.2 ∙ ap (λ (z : core.Local). Some z.value_type) (sym l.2))))),
       )

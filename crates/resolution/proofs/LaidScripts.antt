@@ -6,6 +6,7 @@ use Rattle.syntax.specs.Trees.{ValueType, Const, Param, Section, Items, Decl, at
 use Rattle.core_lang.specs.declared.value.Value.{Value}
 use Rattle.core_lang.specs.declared.value.ValueType as core_type
 use Rattle.core_lang.specs.declared.tree.LocalKind.TheVariants as kind
+use Rattle.core_lang.specs.Theory.Items.{map_at}
 use Rattle.resolution.specs.declared.body_limits.BodyLimits.{BodyLimits}
 use Rattle.resolution.specs.Core as core
 use Rattle.resolution.specs.Limits.{section_limits, helper_limits}
@@ -18,7 +19,7 @@ use Rattle.resolution.specs.Typing.{TypesLocals, TypesResult, no_result, one_res
 use Rattle.resolution.specs.Tables.{AreTables, AreCalls, no_call, one_call, repeated, copies}
 use Rattle.resolution.proofs.Named.{named_is}
 use Rattle.resolution.proofs.FaultlessExpressions.{Clean}
-use Rattle.resolution.proofs.Typed.{types_of, get_map}
+use Rattle.resolution.proofs.Typed.{types_of}
 use Rattle.resolution.proofs.TypedCalls.{TypesAre, HasHelpers}
 use Rattle.resolution.proofs.TypedStatements.{all_front, locals_got}
 use Rattle.resolution.proofs.LaidLists.{Rows, only, no_row}
@@ -145,7 +146,7 @@ parameter_local decls limits s x e n p at =
     let l = parameter_of decls p in
     let here : slice_get (entry decls limits s).locals n ≡ Some l =
     ap (λ (ls : List scope.Local). slice_get ls n) (entered_locals (ahead_of decls limits s) s.params)
-    ∙ get_map (parameter_of decls) s.params n p at in
+    ∙ map_at (parameter_of decls) s.params n p at in
     let g = locals_got (sectioned decls limits s x e).locals n l
     (all_front (entry decls limits s) s.body.stmts n l here) in
     (g.0, g.1, g.3)

@@ -7,6 +7,7 @@ use Rattle.syntax.specs.Trees.{Ident, Member, lock_member, field_member, Final, 
 use Rattle.syntax.specs.Trees.{Decl, lock, struct, array, pool, atomic, helper}
 use Rattle.core_lang.specs.declared.value.ValueType as core_type
 use Rattle.core_lang.specs.declared.typed.Owner.TheVariants as owner
+use Rattle.core_lang.specs.Theory.Items.{behind_at}
 use Rattle.resolution.specs.Core as core
 use Rattle.resolution.specs.Limits.{OBJECT_LIMIT}
 use Rattle.resolution.specs.Scopes.{outside, bears, the_decl, type_of, struct_named, count, alike}
@@ -22,8 +23,7 @@ use Rattle.resolution.proofs.TrueStatements.{length_push}
 use Rattle.resolution.proofs.FaultlessExpressions.{NoneIn, none_left, none_right, at_has, Clean}
 use Rattle.resolution.proofs.FaultlessMembers.{is_field, fields_are}
 use Rattle.resolution.proofs.FaultlessPrograms.{total_push, objects_fit, struct_once}
-use Rattle.resolution.proofs.LaidLists.{Rows, rows_length, get_last, get_pushed, take_front, as_one, count_push}
-use Rattle.resolution.proofs.LaidLists.{get_parts}
+use Rattle.resolution.proofs.LaidLists.{Rows, rows_length, get_pushed, take_front, as_one, count_push, get_parts}
 use Rattle.resolution.proofs.LaidStages.{fields_in, finals_in, locks_in, Chain, adds, Begins, begins_same, begins_on}
 use Rattle.resolution.proofs.LaidStages.{News, fresh, next_object, plus}
 
@@ -297,7 +297,7 @@ walk decls clean whole K step before (d ∷ ds) p parts n k h =
     let f = first_of decls before p d ds whole h in
     let a = fresh decls (length before) p d f.news in
     let st : Step decls whole before d p = record {
-      at = ap (λ (xs : List Decl). slice_get xs (length before)) parts ∙ get_last before d ds;
+      at = ap (λ (xs : List Decl). slice_get xs (length before)) parts ∙ behind_at before d ds;
       ahead = ap (take (length before)) parts ∙ take_front before (d ∷ ds);
       counts = n;
       news = f.news;

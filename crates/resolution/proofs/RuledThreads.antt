@@ -1,10 +1,10 @@
 -- The calls of threads are built as the rules say, and what they say is built.
-use Rattle.std.proofs.Common.{◌≡◌, ℕ, ◌≤◌, List, [], ◌∷◌, ◌++◌, Option, Some, None, Bool, true, false, refl, ap, ◌∙◌}
-use Rattle.std.proofs.Common.{subst}
+use Rattle.std.proofs.Common.{◌≡◌, ℕ, ◌≤◌, List, [], ◌∷◌, ◌++◌, Option, Some, None, Bool, refl, ap, ◌∙◌, subst}
 use Rattle.std.specs.Prelude.{if◌then◌else◌}
-use Rattle.syntax.specs.Trees.{Call, Item, call, repeat, Items, no_items, item, Decl, lock, struct, global, array}
-use Rattle.syntax.specs.Trees.{pool, init, atomic, helper, thread}
+use Rattle.syntax.specs.Trees.{Call, Item, call, repeat, Items, no_items, item, Decl, lock, struct, global, array, pool}
+use Rattle.syntax.specs.Trees.{init, atomic, helper, thread}
 use Rattle.core_lang.specs.declared.value.Value.{Value}
+use Rattle.core_lang.specs.Theory.Items.{if_some}
 use Rattle.resolution.specs.Core as core
 use Rattle.resolution.specs.Limits.{CALL_LIMIT}
 use Rattle.resolution.specs.Scopes.{◌>>=◌, the_decl, number_at}
@@ -68,14 +68,10 @@ mutual
       let r = joined_got (typed_item decls i) (typed_items decls is) cs e in
       subst (AreCalls decls (item i is)) r.4 (item_ruled decls i r.0 is r.1 r.2 (items_ruled decls is r.1 r.3))
 
-few_got : {A : Type 0} (b : Bool) (o : Option A) (x : A) → (if b then o else None) ≡ Some x → (b ≡ true) × (o ≡ Some x)
-few_got true o x e = (refl, e)
-few_got false o x e = cc
-
 pub calls_ruled : (decls : List Decl) (is : Items) (cs : List core.Call) → typed_calls decls is ≡ Some cs →
     (total calls_of decls ≤ CALL_LIMIT) × AreCalls decls is cs
 calls_ruled decls is cs e =
-    let b = few_got (few_calls decls) (typed_items decls is) cs e in
+    let b = if_some (few_calls decls) (typed_items decls is) cs e in
     (le_of (total calls_of decls) CALL_LIMIT b.0, items_ruled decls is cs b.1)
 
 -- ---- what the rules say, built

@@ -4,6 +4,7 @@ use Rattle.std.proofs.Common.{◌⊎◌, inl, inr, refl, sym, ap, ◌∙◌, sub
 use Rattle.std.specs.Prelude.{slice_get, ⊤}
 use Rattle.std.specs.List.{Contains}
 use Rattle.std.proofs.lemmas.List.Elements.{Contains-append_cases}
+use Rattle.std.proofs.lemmas.Option.{slice_get_within}
 use Rattle.syntax.specs.Trees.{Place, Expr, Links, Owner, Stmt, Stmts, Param, Section, array, HelperCall}
 use Rattle.core_lang.specs.declared.tree.LocalKind.{LocalKind}
 use Rattle.core_lang.specs.declared.tree.LocalKind.TheVariants as kind
@@ -234,15 +235,10 @@ numbers_has a (suc n) (suc k) lt =
     subst (λ (j : ℕ). Contains (numbers_from a (suc n)) j) (let z : a + 1 + k ≡ a + suc k = omega arith in z)
     (there a (a + 1 + k) (numbers_from (a + 1) n) (numbers_has (a + 1) n k (let z : k < n = omega (arith, lt) in z)))
 
-pub get_lt : {A : Type 0} (xs : List A) (n : ℕ) (x : A) → slice_get xs n ≡ Some x → n < length xs
-get_lt [] n x e = cc
-get_lt (y ∷ xs) zero x e = omega arith
-get_lt (y ∷ xs) (suc n) x e = let r = get_lt xs n x e in omega (arith, r)
-
 pub numbers_cover : (ls : List scopes.Local) → Covers ls (numbers_from 0 (length ls))
 numbers_cover ls n l e v =
     subst (λ (j : ℕ). Contains (numbers_from 0 (length ls)) j) (let z : 0 + n ≡ n = omega arith in z)
-    (numbers_has 0 (length ls) n (get_lt ls n l e))
+    (numbers_has 0 (length ls) n (slice_get_within ls n l e))
 
 -- ---- statements
 

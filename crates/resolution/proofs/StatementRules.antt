@@ -5,34 +5,30 @@ use Rattle.source.specs.declared.span.Span.{Span}
 use Rattle.syntax.specs.Trees as tree
 use Rattle.syntax.specs.Trees.{Place, Expr, Owner, HelperCall, CalledLocal, Stmt, let_local, let_owned, let_call}
 use Rattle.syntax.specs.Trees.{var_local, assign, if_then, while, print, return_value, call, Stmts, no_stmts, stmt}
-use Rattle.syntax.specs.Trees.{Otherwise, no_else, else_do, Param, Section, Decl, lock, struct, global, array}
-use Rattle.syntax.specs.Trees.{pool, init}
-use Rattle.syntax.specs.Trees.{atomic, helper, thread}
+use Rattle.syntax.specs.Trees.{no_else, else_do, Param, Section, Decl, helper}
 use Rattle.core_lang.specs.declared.value.ValueType.{ValueType}
 use Rattle.core_lang.specs.declared.value.ValueType.TheVariants.{Integer}
 use Rattle.resolution.specs.declared.body_limits.BodyLimits.{BodyLimits}
 use Rattle.resolution.specs.declared.wanted.Sort.TheVariants.{Of}
 use Rattle.resolution.specs.declared.wanted.Want.TheVariants.{Value}
 use Rattle.resolution.specs.Core as core
-use Rattle.resolution.specs.Scopes.{◌>>=◌, Scope, Local, outside, Meaning, a_decl, meaning}
-use Rattle.resolution.specs.Scopes.{helper_meant, number_at, type_of, result_of, left}
+use Rattle.resolution.specs.Scopes.{◌>>=◌, Scope, Local, outside, Meaning, a_decl, meaning, helper_meant, number_at}
+use Rattle.resolution.specs.Scopes.{type_of, result_of, left}
 use Rattle.resolution.specs.Expressions.{ResolvedExpr, value, truth, want}
 use Rattle.resolution.specs.Constants.{want_of}
 use Rattle.resolution.specs.Working.TypedConstants.{added}
 use Rattle.resolution.specs.Statements.{first_name, after, after_all, entry}
 use Rattle.resolution.specs.Typing.{Types, Gives, TypesOwner, TypesArguments, no_argument, one_argument, TypesCall}
-use Rattle.resolution.specs.Typing.{types_call, TypesStmt, types_let, types_owned, types_let_call}
-use Rattle.resolution.specs.Typing.{types_var, types_assign}
-use Rattle.resolution.specs.Typing.{types_if, types_if_else, types_while, types_print, types_call_alone, TypesBody}
-use Rattle.resolution.specs.Typing.{types_none, types_return, types_next, TypesLocals, no_local, one_local, TypesResult}
-use Rattle.resolution.specs.Typing.{no_result, one_result, TypesSection, types_section}
+use Rattle.resolution.specs.Typing.{types_call, TypesStmt, types_let, types_owned, types_let_call, types_var}
+use Rattle.resolution.specs.Typing.{types_assign, types_if, types_if_else, types_while, types_print, types_call_alone}
+use Rattle.resolution.specs.Typing.{TypesBody, types_none, types_return, types_next, TypesLocals, no_local, one_local}
+use Rattle.resolution.specs.Typing.{TypesResult, no_result, one_result, TypesSection, types_section}
 use Rattle.resolution.specs.Working.TypedExpressions.{fitting, as_value, number_resolved, test_resolved, typed}
 use Rattle.resolution.specs.Working.TypedOwners.{is_of, owned_by}
-use Rattle.resolution.specs.Working.TypedStatements.{Assignee, target_of, wanted_by, typed_values}
-use Rattle.resolution.specs.Working.TypedStatements.{called, call_resolved}
-use Rattle.resolution.specs.Working.TypedStatements.{type_given, can_take, Part, does, gives, acts_if, binds}
-use Rattle.resolution.specs.Working.TypedStatements.{assigns, prints, returns, repeats, chooses, chooses_between, Body}
-use Rattle.resolution.specs.Working.TypedStatements.{given_back, preceded, block_without, block_of, typed_stmt}
+use Rattle.resolution.specs.Working.TypedStatements.{Assignee, target_of, wanted_by, typed_values, called}
+use Rattle.resolution.specs.Working.TypedStatements.{call_resolved, type_given, can_take, Part, does, gives, acts_if}
+use Rattle.resolution.specs.Working.TypedStatements.{binds, assigns, prints, returns, repeats, chooses, chooses_between}
+use Rattle.resolution.specs.Working.TypedStatements.{Body, given_back, preceded, block_without, block_of, typed_stmt}
 use Rattle.resolution.specs.Working.TypedStatements.{typed_body}
 use Rattle.resolution.specs.Working.TypedSections.{core_locals, section_with, section_of, typed_section}
 use Rattle.resolution.proofs.ExpressionRules.{When, when, number_when, test_when, expr_types, typed_is, gives_when}

@@ -1,6 +1,6 @@
 -- The graph of a tree is that of the program which it stands for.
-use Rattle.std.proofs.Common.{◌≡◌, ℕ, zero, suc, ◌+◌, ◌<◌, ◌≤◌, List, [], ◌∷◌, map, take, length, Option, Some, refl}
-use Rattle.std.proofs.Common.{sym, ap, ◌∙◌, subst, length-append, arith}
+use Rattle.std.proofs.Common.{◌≡◌, ℕ, zero, suc, ◌<◌, ◌≤◌, List, [], ◌∷◌, map, take, length, Option, Some, refl, sym}
+use Rattle.std.proofs.Common.{ap, ◌∙◌, subst, length-append, arith}
 use Rattle.std.specs.Prelude.{slice_get, is_some}
 use Rattle.std.proofs.lemmas.List.{length-map}
 use Rattle.std.proofs.lemmas.Option.{slice_get_within}
@@ -10,6 +10,7 @@ use Rattle.core_lang.specs.declared.value.ValueType as core_type
 use Rattle.core_lang.specs.declared.tree.Section as the_section
 use Rattle.core_lang.specs.declared.typed.Typed.{Typed}
 use Rattle.core_lang.specs.Scopes.{numbers_from, bound_in_all, IsWellScoped}
+use Rattle.core_lang.specs.Theory.Items.{map_at, get_some, numbers_many}
 use Rattle.core_lang_calls.specs.Graphs.{Body}
 use Rattle.core_lang_calls.specs.Working.Programs.{IsBodyOf, IsGraphOf}
 use Rattle.resolution.specs.declared.body_limits.BodyLimits.{BodyLimits}
@@ -21,7 +22,6 @@ use Rattle.resolution.specs.Statements.{after_all, ahead_of, entry}
 use Rattle.resolution.specs.Working.TypedSections.{typed_section}
 use Rattle.resolution.specs.CallGraphs.{body_in, helper_bodies, section_bodies, tree_graph}
 use Rattle.resolution.specs.Resolved.{Resolves}
-use Rattle.resolution.proofs.Typed.{get_map}
 use Rattle.resolution.proofs.FaultlessExpressions.{Clean}
 use Rattle.resolution.proofs.LaidProgram.{sections_are, helpers_are}
 use Rattle.resolution.proofs.LaidScripts.{helper_at}
@@ -50,10 +50,6 @@ parts_of : {decls : List Decl} {limits : BodyLimits} {s : Section} {x : core.Sec
     Parts decls limits s x
 parts_of (types_section b r ls) =
     record { locals = ls; body = b; same_parameters = refl; same_result = result_same r }
-
-numbers_many : (first n : ℕ) → length (numbers_from first n) ≡ n
-numbers_many first zero = refl
-numbers_many first (suc n) = let h = numbers_many (first + 1) n in omega (arith, h)
 
 pub body_of_section : (decls : List Decl) (limits : BodyLimits) (s : Section) (x : the_section.Section) →
     typed_section decls limits s ≡ Some (core_section x) →
@@ -169,11 +165,6 @@ take_back (suc n) [] k x e = absurd cc
 take_back (suc n) (y ∷ xs) zero x e = e
 take_back (suc n) (y ∷ xs) (suc k) x e = take_back n xs k x e
 
-get_some : {A : Type 0} (xs : List A) (n : ℕ) → n < length xs → (x : A) × (slice_get xs n ≡ Some x)
-get_some [] n lt = absurd (omega (arith, lt))
-get_some (x ∷ xs) zero lt = (x, refl)
-get_some (x ∷ xs) (suc n) lt = get_some xs n (omega (arith, lt))
-
 -- a list that has an item at each place that another one has is as long
 as_long : {A B : Type 0} (xs : List A) (ys : List B) → ((k : ℕ) (x : A) → slice_get xs k ≡ Some x → k < length ys) →
     length xs ≤ length ys
@@ -194,7 +185,7 @@ module _ (decls : List Decl) (clean : Clean decls) (program : Typed) (is : Resol
       (b : Body) × (slice_get (tree_graph decls).helpers k ≡ Some b) × IsBodyOf h b
   helper_is k h at =
       let r = helpers_are decls clean program is k (core_section h)
-      (get_map core_section program.shape.helpers.items k h at) in
+      (map_at core_section program.shape.helpers.items k h at) in
       let lt : k < length program.shape.helpers.items = slice_get_within program.shape.helpers.items k h at in
       let b : Body = body_in (ahead_of decls helper_limits r.1) r.1 in
       let there : slice_get (helper_bodies decls decls) k ≡ Some b =
@@ -210,7 +201,7 @@ module _ (decls : List Decl) (clean : Clean decls) (program : Typed) (is : Resol
       (b : Body) × (slice_get (tree_graph decls).sections k ≡ Some b) × IsBodyOf x b
   section_is k x at =
       let r = sections_are decls clean program is k (core_section x)
-      (get_map core_section program.sections.items k x at) in
+      (map_at core_section program.sections.items k x at) in
       let b : Body = body_in (ahead_of decls section_limits r.1) r.1 in
       let there : slice_get (section_bodies decls decls) k ≡ Some b =
       subst (λ (n : ℕ). slice_get (section_bodies decls decls) n ≡ Some b) r.3

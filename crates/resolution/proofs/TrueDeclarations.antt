@@ -1,6 +1,6 @@
 -- Each fault that is listed for a declaration by itself is a true one.
-use Rattle.std.proofs.Common.{◌≡◌, ℕ, zero, suc, ◌+◌, ◌<◌, List, [], ◌∷◌, ◌++◌, length, Option, Some, None, Bool}
-use Rattle.std.proofs.Common.{true, false, refl, ap, ◌∙◌, subst, if◌then◌else◌, arith}
+use Rattle.std.proofs.Common.{◌≡◌, ℕ, zero, suc, ◌+◌, ◌<◌, List, [], ◌∷◌, ◌++◌, length, Option, Some, None, Bool, true}
+use Rattle.std.proofs.Common.{false, refl, ap, ◌∙◌, subst, if◌then◌else◌, arith}
 use Rattle.std.specs.Prelude.{nat_le, not, is_some, ◌==◌, ◌&&◌, ◌||◌, slice_get}
 use Rattle.std.proofs.lemmas.Bool.{eqb-true}
 use Rattle.std.proofs.lemmas.Bool.Decides.{nat_tests}
@@ -21,21 +21,19 @@ use Rattle.resolution.specs.Expressions.{want}
 use Rattle.resolution.specs.Constants.{members_of, pool_members, initialised, member_want, given}
 use Rattle.resolution.specs.Annotations.{AnnotationCursor, through_member, stepped_on, cursor_at}
 use Rattle.resolution.specs.Where.{Has, first, further, of_section, of_helper, InItems, this_call, in_repeat}
-use Rattle.resolution.specs.Where.{later_call, HasCall, in_thread, opening, initial, argument, of_variable}
-use Rattle.resolution.specs.Where.{of_elements, Annotates, annotates, of_global, of_array, of_pool, of_final}
-use Rattle.resolution.specs.Where.{of_field}
+use Rattle.resolution.specs.Where.{later_call, HasCall, in_thread, opening, initial, argument, of_variable, of_elements}
+use Rattle.resolution.specs.Where.{Annotates, annotates, of_global, of_array, of_pool, of_final, of_field}
 use Rattle.resolution.specs.Faults as fault
-use Rattle.resolution.specs.Faults.{Reaches, stays, goes_on, Walks, walks, NamesGlobal, IsLockDecl, IsSection}
-use Rattle.resolution.specs.Faults.{unknown, wrong_type, miscounted, without_lock, ends_at_no_lock, passes_non_final}
-use Rattle.resolution.specs.Faults.{over_limit, final_missing, out_of_range, lock_as_value}
+use Rattle.resolution.specs.Faults.{Reaches, stays, goes_on, Walks, walks, NamesGlobal, IsLockDecl, IsSection, unknown}
+use Rattle.resolution.specs.Faults.{wrong_type, miscounted, without_lock, ends_at_no_lock, passes_non_final, over_limit}
+use Rattle.resolution.specs.Faults.{final_missing, out_of_range, lock_as_value}
 use Rattle.resolution.specs.Working.FaultLists as list
-use Rattle.resolution.specs.Working.FaultLists.{one, one_if, unfit, index_faults, const_faults, argument_faults}
-use Rattle.resolution.specs.Working.FaultLists.{type_faults, global_lock_faults, lock_faults, passed_faults}
-use Rattle.resolution.specs.Working.FaultLists.{last_faults, passed, along_faults, annotation_faults}
-use Rattle.resolution.specs.Working.FaultLists.{protection_faults, members_faults, opening_faults, some_lacks, is_at}
-use Rattle.resolution.specs.Working.FaultLists.{is_due, lacks, missing_faults, field_faults, named_faults}
-use Rattle.resolution.specs.Working.FaultLists.{null_faults, init_faults, call_faults, item_faults, items_faults}
-use Rattle.resolution.specs.Working.FaultLists.{decl_faults, each_faults}
+use Rattle.resolution.specs.Working.FaultLists.{one, unfit, index_faults, const_faults, argument_faults, type_faults}
+use Rattle.resolution.specs.Working.FaultLists.{global_lock_faults, lock_faults, passed_faults, last_faults, passed}
+use Rattle.resolution.specs.Working.FaultLists.{along_faults, annotation_faults, protection_faults, members_faults}
+use Rattle.resolution.specs.Working.FaultLists.{opening_faults, some_lacks, is_at, is_due, lacks, missing_faults}
+use Rattle.resolution.specs.Working.FaultLists.{field_faults, named_faults, null_faults, init_faults, call_faults}
+use Rattle.resolution.specs.Working.FaultLists.{item_faults, items_faults, decl_faults, each_faults}
 use Rattle.source.specs.Theory.Leasts.{IsAmong}
 use Rattle.resolution.proofs.Members.{IsTrue_of, both, of_one, of_if}
 use Rattle.resolution.proofs.TrueExpressions.{true_type, true_const, true_arguments, none_is}

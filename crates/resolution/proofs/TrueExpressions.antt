@@ -13,8 +13,8 @@ use Rattle.syntax.specs.declared.tree.Comparison as written
 use Rattle.syntax.specs.declared.tree.Comparison.TheVariants as sign
 use Rattle.syntax.specs.Trees.{Ident, ValueType, int_type, ref_type, Const, int_const, negative, null_const}
 use Rattle.syntax.specs.Trees.{member_const, Place, lone, element, path, Expr, int, null, place, paren, prefix, chain}
-use Rattle.syntax.specs.Trees.{compare, Links, no_links, link, Member, Struct, Param, Decl, lock, struct, global}
-use Rattle.syntax.specs.Trees.{array, pool, init, atomic, helper, thread}
+use Rattle.syntax.specs.Trees.{compare, Links, no_links, link, Member, Struct, Param, Decl, lock, struct, global, array}
+use Rattle.syntax.specs.Trees.{pool, init, atomic, helper, thread}
 use Rattle.core_lang.specs.declared.value.ValueType.TheVariants.{Integer, Reference}
 use Rattle.core_lang.specs.declared.tree.FieldStep.{FieldStep}
 use Rattle.source.specs.declared.mistake.Mistake.{Mistake}
@@ -29,22 +29,22 @@ use Rattle.resolution.specs.Expressions.{Walk, reached, at_lock, lost, stepped, 
 use Rattle.resolution.specs.Statements.{first_name}
 use Rattle.resolution.specs.Constants.{want_of}
 use Rattle.resolution.specs.Working.TypedConstants.{const_sort}
-use Rattle.resolution.specs.Where.{operand_want, prefix_want, side_want, HasLink, this_link, later_link, Within}
-use Rattle.resolution.specs.Where.{itself, in_parentheses, in_prefix, in_first, in_operand, in_left, in_right}
-use Rattle.resolution.specs.Where.{in_index, HasExpr, HasPlace, is_read, HasType, HasConst}
+use Rattle.resolution.specs.Where.{operand_want, prefix_want, side_want, HasLink, this_link, later_link, Within, itself}
+use Rattle.resolution.specs.Where.{in_parentheses, in_prefix, in_first, in_operand, in_left, in_right, in_index}
+use Rattle.resolution.specs.Where.{HasExpr, HasPlace, is_read, HasType, HasConst}
 use Rattle.resolution.proofs.ConstantRules.{sort_ruled}
 use Rattle.resolution.proofs.ExpressionRules.{types_is}
 use Rattle.resolution.specs.Faults as fault
 use Rattle.resolution.specs.Faults.{start_of, const_start, IsNoValue, HasNoElements, IsNoReference, IsNoStruct}
-use Rattle.resolution.specs.Faults.{IsPool, AreUnlike, too_large, unknown, wrong_type}
+use Rattle.resolution.specs.Faults.{too_large, unknown, wrong_type}
 use Rattle.resolution.specs.Expressions.{IsEquality}
 use Rattle.resolution.specs.Faults.{out_of_range, lock_as_value}
 use Rattle.resolution.specs.Working.FaultLists as list
-use Rattle.resolution.specs.Working.FaultLists.{one, one_if, unfit, number_faults, index_faults, own_faults}
-use Rattle.resolution.specs.Working.FaultLists.{sort_misfit, const_faults, argument_faults, no_elements, no_member}
-use Rattle.resolution.specs.Working.FaultLists.{no_field, step_faults, end_faults, walk_faults, path_faults, misfit}
-use Rattle.resolution.specs.Working.FaultLists.{unlike, side_faults, operator_faults, expr_faults, place_faults}
-use Rattle.resolution.specs.Working.FaultLists.{link_faults, wanted_faults, no_struct, type_faults}
+use Rattle.resolution.specs.Working.FaultLists.{one, unfit, index_faults, own_faults, sort_misfit, const_faults}
+use Rattle.resolution.specs.Working.FaultLists.{argument_faults, no_elements, no_member, no_field, step_faults}
+use Rattle.resolution.specs.Working.FaultLists.{end_faults, walk_faults, path_faults, misfit, unlike, side_faults}
+use Rattle.resolution.specs.Working.FaultLists.{operator_faults, expr_faults, place_faults, link_faults, wanted_faults}
+use Rattle.resolution.specs.Working.FaultLists.{no_struct, type_faults}
 use Rattle.source.specs.Theory.Leasts.{IsAmong}
 use Rattle.resolution.proofs.Members.{IsTrue_of, both, of_one, of_if}
 use Rattle.resolution.proofs.Tests.{lt_of, le_of}

@@ -1,6 +1,6 @@
 -- Each fault that is listed for a statement or a section is a true one.
-use Rattle.std.proofs.Common.{◌≡◌, ℕ, suc, ◌+◌, ◌≤◌, List, [], ◌∷◌, ◌++◌, length, Option, Some, None, Bool, true}
-use Rattle.std.proofs.Common.{false, refl, sym, ap, ◌∙◌, subst, if◌then◌else◌, append_assoc, arith}
+use Rattle.std.proofs.Common.{◌≡◌, ℕ, suc, ◌+◌, ◌≤◌, List, [], ◌∷◌, ◌++◌, length, Option, Some, None, Bool, true, false}
+use Rattle.std.proofs.Common.{refl, sym, ap, ◌∙◌, subst, if◌then◌else◌, append_assoc, arith}
 use Rattle.std.specs.Prelude.{nat_le, not, is_some, ◌==◌, slice_get}
 use Rattle.std.proofs.lemmas.Bool.{eqb-true}
 use Rattle.std.proofs.lemmas.Bool.Decides.{nat_tests}
@@ -8,11 +8,11 @@ use Rattle.source.specs.declared.span.Span.{Span}
 use Rattle.source.specs.declared.fault.Code.TheVariants.{DeclaredTwice, UnknownName, WrongType, WrongArgumentCount}
 use Rattle.source.specs.declared.fault.Code.TheVariants.{NotAssignable, LimitExceeded, LockAsValue}
 use Rattle.syntax.specs.Trees as tree
-use Rattle.syntax.specs.Trees.{Ident, ValueType, Place, lone, element, path, Expr, Owner, HelperCall, CalledLocal}
-use Rattle.syntax.specs.Trees.{Stmt, let_local, let_owned, let_call, var_local, assign, if_then, while, print}
-use Rattle.syntax.specs.Trees.{return_value, call, Stmts, no_stmts, stmt, Otherwise, no_else, else_do, Member}
-use Rattle.syntax.specs.Trees.{lock_member, final_member, field_member, Struct, Param, Section, Decl, lock, struct}
-use Rattle.syntax.specs.Trees.{global, array, pool, init, atomic, helper, thread}
+use Rattle.syntax.specs.Trees.{Ident, ValueType, Place, lone, element, path, Expr, Owner, HelperCall, CalledLocal, Stmt}
+use Rattle.syntax.specs.Trees.{let_local, let_owned, let_call, var_local, assign, if_then, while, print, return_value}
+use Rattle.syntax.specs.Trees.{call, Stmts, no_stmts, stmt, Otherwise, no_else, else_do, Member, lock_member}
+use Rattle.syntax.specs.Trees.{final_member, field_member, Struct, Param, Section, Decl, lock, struct, global, array}
+use Rattle.syntax.specs.Trees.{pool, init, atomic, helper, thread}
 use Rattle.core_lang.specs.declared.value.ValueType as core_type
 use Rattle.core_lang.specs.declared.value.ValueType.TheVariants.{Integer, Reference}
 use Rattle.core_lang.specs.declared.tree.LocalKind.TheVariants as kind
@@ -33,28 +33,28 @@ use Rattle.resolution.specs.Constants.{want_of}
 use Rattle.resolution.specs.Statements.{ahead_of, entry}
 use Rattle.resolution.specs.Where as site
 use Rattle.resolution.specs.Where.{Has, first, further, Among, here, later, in_then, in_else, in_while, IsArgument}
-use Rattle.resolution.specs.Where.{for_parameter, for_nothing, Asks, of_let, of_owned, of_let_call, of_var}
-use Rattle.resolution.specs.Where.{of_index, of_while, of_print, of_return, of_call_alone, HasBody, HasStmt, in_body}
-use Rattle.resolution.specs.Where.{HasHelperCall, by_let, by_itself, HasExpr, in_stmt, HasPlace, is_written, Binds}
-use Rattle.resolution.specs.Where.{parameter, a_let, an_owned_let, a_called_let, a_var, HasType, of_parameter}
-use Rattle.resolution.specs.Where.{of_result, of_a_let, of_an_owned_let, of_a_called_let, of_a_var, NamesOwner}
-use Rattle.resolution.specs.Where.{names_owner}
+use Rattle.resolution.specs.Where.{for_parameter, for_nothing, Asks, of_let, of_owned, of_let_call, of_var, of_index}
+use Rattle.resolution.specs.Where.{of_while, of_print, of_return, of_call_alone, HasBody, HasStmt, in_body}
+use Rattle.resolution.specs.Where.{HasHelperCall, by_let, by_itself, in_stmt, is_written, Binds, parameter, a_let}
+use Rattle.resolution.specs.Where.{an_owned_let, a_called_let, a_var, HasType, of_parameter, of_result, of_a_let}
+use Rattle.resolution.specs.Where.{of_an_owned_let, of_a_called_let, of_a_var, NamesOwner, names_owner}
 use Rattle.resolution.specs.Faults as fault
 use Rattle.resolution.specs.Faults.{IsNoValue, IsNoHelper, declared_twice, unknown, wrong_type, miscounted}
 use Rattle.resolution.specs.Faults.{not_assignable, over_limit, lock_as_value}
 use Rattle.resolution.proofs.OwnerRules.{asks_right, ends_with_none, final_types}
 use Rattle.resolution.specs.Working.FaultLists as list
-use Rattle.resolution.specs.Working.FaultLists.{one, one_if, unfit, no_elements, path_faults, wanted_faults}
-use Rattle.resolution.specs.Working.FaultLists.{type_faults, taken, local_faults, no_target, no_array, final_faults}
-use Rattle.resolution.specs.Working.FaultLists.{target_faults, binding_faults, no_final_in, owner_field_faults}
-use Rattle.resolution.specs.Working.FaultLists.{other_type, owner_faults, values_faults, each_value_faults}
-use Rattle.resolution.specs.Working.FaultLists.{passed_values_faults, helper_call_faults, other_result}
-use Rattle.resolution.specs.Working.FaultLists.{given_back_faults, called_faults, stmt_faults, else_faults}
-use Rattle.resolution.specs.Working.FaultLists.{stmts_faults, param_faults, result_faults, section_faults}
+use Rattle.resolution.specs.Working.FaultLists.{one_if, unfit, no_elements, path_faults, wanted_faults, type_faults}
+use Rattle.resolution.specs.Working.FaultLists.{taken, local_faults, no_target, no_array, final_faults, target_faults}
+use Rattle.resolution.specs.Working.FaultLists.{binding_faults, no_final_in, owner_field_faults, other_type}
+use Rattle.resolution.specs.Working.FaultLists.{owner_faults, values_faults, each_value_faults, passed_values_faults}
+use Rattle.resolution.specs.Working.FaultLists.{helper_call_faults, other_result, given_back_faults, called_faults}
+use Rattle.resolution.specs.Working.FaultLists.{stmt_faults, else_faults, stmts_faults, param_faults, result_faults}
+use Rattle.resolution.specs.Working.FaultLists.{section_faults}
 use Rattle.source.specs.Theory.Leasts.{IsAmong}
 use Rattle.resolution.proofs.Members.{IsTrue_of, both, of_one, of_if}
 use Rattle.resolution.proofs.TrueExpressions.{misfit_if, true_type, true_elements, true_path, true_wanted, none_is}
 use Rattle.resolution.proofs.Tests.{le_of}
+use Rattle.resolution.specs.Theory.Blocks.{after_decls, entered_decls}
 
 -- ---- locals
 
@@ -290,18 +290,6 @@ pub else_same : (sc : Scope) (o : Otherwise) → (after_else sc o).decls ≡ sc.
 else_same sc no_else = refl
 else_same sc (else_do body close) = refl
 
-pub after_same : (sc : Scope) (s : Stmt) → (after sc s).decls ≡ sc.decls
-after_same sc (let_local l) = refl
-after_same sc (let_owned l o) = refl
-after_same sc (let_call l) = refl
-after_same sc (var_local l) = refl
-after_same sc (assign p e) = refl
-after_same sc (if_then start e body close other) = else_same (left sc (after_all sc body)) other
-after_same sc (while start e body close) = refl
-after_same sc (print at e) = refl
-after_same sc (return_value at e) = refl
-after_same sc (call at c) = refl
-
 -- what holds of a scope over the program's declarations holds of one over equal ones
 pub moved : (decls : List Decl) (sc : Scope) (f : Mistake) → sc.decls ≡ decls → IsTrue_of sc.decls f → IsTrue_of decls f
 moved decls sc f e h = subst (λ (ds : List Decl). IsTrue_of ds f) e h
@@ -373,13 +361,9 @@ mutual
   true_stmts decls sc (stmt s rest) up same f i =
       both f (stmt_faults sc s) (stmts_faults (after sc s) rest)
       (true_stmt decls sc s (up sc s here) same (λ sc' r a. up sc' r (widened a)) f)
-      (true_stmts decls (after sc s) rest (λ sc' r a. up sc' r (later a)) (after_same sc s ∙ same) f) i
+      (true_stmts decls (after sc s) rest (λ sc' r a. up sc' r (later a)) (after_decls sc s ∙ same) f) i
 
 -- ---- sections and helpers
-
-pub entered_same : (sc : Scope) (ps : List Param) → (entered sc ps).decls ≡ sc.decls
-entered_same sc [] = refl
-entered_same sc (p ∷ ps) = entered_same (bound sc kind.Parameter p.name (type_of (outside sc.decls) p.value_type)) ps
 
 pub entered_limits : (sc : Scope) (ps : List Param) → (entered sc ps).limits ≡ sc.limits
 entered_limits sc [] = refl
@@ -401,7 +385,7 @@ true_params : (decls : List Decl) (limits : BodyLimits) (s : Section) → HasBod
 true_params decls limits s h before [] n len parts up f i = absurd i
 true_params decls limits s h before (p ∷ ps) n len parts up f i =
     let sc : Scope = entered (ahead_of decls limits s) before in
-    let same : sc.decls ≡ decls = entered_same (ahead_of decls limits s) before in
+    let same : sc.decls ≡ decls = entered_decls (ahead_of decls limits s) before in
     let allowed : sc.limits ≡ limits = entered_limits (ahead_of decls limits s) before in
     let a = local_faults sc p.name in
     let b = one_if (nat_le sc.limits.parameters n) LimitExceeded p.name.span.start in
@@ -428,4 +412,4 @@ true_section decls limits s h f i =
     (both f (result_faults decls s.result) (param_faults (ahead_of decls limits s) 0 s.params)
     (true_result decls limits s h s.result refl f)
     (true_params decls limits s h [] s.params 0 refl refl (λ p x. x) f))
-    (true_stmts decls (entry decls limits s) s.body.stmts (λ sc x a. in_body h a) (entered_same (ahead_of decls limits s) s.params) f) i
+    (true_stmts decls (entry decls limits s) s.body.stmts (λ sc x a. in_body h a) (entered_decls (ahead_of decls limits s) s.params) f) i

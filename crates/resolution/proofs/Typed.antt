@@ -9,8 +9,8 @@ use Rattle.core_lang.specs.declared.tree.Comparison.TheVariants.{GreaterOrEqual}
 use Rattle.core_lang.specs.declared.tree.FieldStep.{FieldStep}
 use Rattle.core_lang.specs.declared.tree.FieldStep.TheVariants as step
 use Rattle.core_lang.specs.declared.tree.Expr as e
-use Rattle.core_lang.specs.declared.tree.Expr.{Number, Null, Place, Global, Element', Member', Negate', Owned'}
-use Rattle.core_lang.specs.declared.tree.Expr.{Chain', Row_of-Operation, end_of-Operation, more_of-Operation}
+use Rattle.core_lang.specs.declared.tree.Expr.{Number, Null, Place, Global, Element', Member', Negate', Owned', Chain'}
+use Rattle.core_lang.specs.declared.tree.Expr.{Row_of-Operation, end_of-Operation, more_of-Operation}
 use Rattle.core_lang.specs.declared.tree.Condition as c
 use Rattle.core_lang.specs.declared.tree.Condition.{Compare, Not', And', Or', Row_of-Condition, end_of-Condition}
 use Rattle.core_lang.specs.declared.tree.Condition.{more_of-Condition}
@@ -26,27 +26,12 @@ use Rattle.core_lang.specs.declared.typed.Typed.{Typed}
 use Rattle.core_lang.specs.Typing.{local_types, if_global, global_type, array_type, pool_struct, final_target}
 use Rattle.core_lang.specs.Typing.{field_type, LeadsTo, IsOf, AreIntegers, AreOf, CanCompare, IsTest, AreTests, Takes}
 use Rattle.core_lang.specs.Typing.{IsWellTyped, AreWellTyped, AllWellTyped, IsResult}
+use Rattle.core_lang.specs.Theory.Items.{map_back}
 use Rattle.resolution.specs.Core as core
-use Rattle.resolution.specs.CoreViews.{core_expr, core_operations_row, core_condition, core_conditions_row}
-use Rattle.resolution.specs.CoreViews.{core_action, core_stmts_row, core_stmts, core_return, core_local, core_section}
-use Rattle.resolution.specs.CoreViews.{core_struct, core_final, core_field, core_array, core_pool, core_of}
+use Rattle.resolution.specs.CoreViews.{core_expr, core_operations_row, core_condition, core_conditions_row, core_action}
+use Rattle.resolution.specs.CoreViews.{core_stmts_row, core_stmts, core_return, core_local, core_section, core_struct}
+use Rattle.resolution.specs.CoreViews.{core_final, core_field, core_array, core_pool, core_of}
 use Rattle.resolution.specs.Scopes.{◌>>=◌}
-
--- ---- lists seen by a view
-
--- what the view of a list has, is the view of what the list has
-pub map_got : {A B : Type 0} (f : A → B) (xs : List A) (k : ℕ) (y : B) → slice_get (map f xs) k ≡ Some y →
-    (x : A) × (slice_get xs k ≡ Some x) × (f x ≡ y)
-map_got f [] k y e = cc
-map_got f (x ∷ xs) zero y e = (x, refl, cc)
-map_got f (x ∷ xs) (suc k) y e = map_got f xs k y e
-
--- and what a list has, its view has
-pub get_map : {A B : Type 0} (f : A → B) (xs : List A) (k : ℕ) (x : A) → slice_get xs k ≡ Some x →
-    slice_get (map f xs) k ≡ Some (f x)
-get_map f [] k x e = cc
-get_map f (y ∷ xs) zero x e = let same : y ≡ x = cc in ap (λ z. Some (f z)) same
-get_map f (y ∷ xs) (suc k) x e = get_map f xs k x e
 
 -- ---- the parts of a program, as data
 
@@ -80,7 +65,7 @@ array_type_is program n t h = by_array (slice_get (core_of program).arrays n) re
   where
     by_array : (o : Option core.Array) → slice_get (core_of program).arrays n ≡ o → array_type program n ≡ Some t
     by_array (Some y) is =
-        let r = map_got core_array program.shape.arrays.items n y is in
+        let r = map_back core_array program.shape.arrays.items n y is in
         let u : Some y.element_type ≡ Some t = sym (ap (λ (o : Option core.Array). o >>= λ z. Some z.element_type) is) ∙ h in
         rw r.1 (ap (λ (z : core.Array). Some z.element_type) r.2 ∙ u)
     by_array None is = let v : None ≡ Some t = sym (ap (λ (o : Option core.Array). o >>= λ y. Some y.element_type) is) ∙ h in cc
@@ -90,7 +75,7 @@ pool_struct_is program n k h = by_pool (slice_get (core_of program).pools n) ref
   where
     by_pool : (o : Option core.Pool) → slice_get (core_of program).pools n ≡ o → pool_struct program n ≡ Some k
     by_pool (Some y) is =
-        let r = map_got core_pool program.shape.pools.items n y is in
+        let r = map_back core_pool program.shape.pools.items n y is in
         let u : Some y.structure ≡ Some k = sym (ap (λ (o : Option core.Pool). o >>= λ z. Some z.structure) is) ∙ h in
         rw r.1 (ap (λ (z : core.Pool). Some z.structure) r.2 ∙ u)
     by_pool None is = let v : None ≡ Some k = sym (ap (λ (o : Option core.Pool). o >>= λ y. Some y.structure) is) ∙ h in cc
@@ -98,7 +83,7 @@ pool_struct_is program n k h = by_pool (slice_get (core_of program).pools n) ref
 -- a struct's part
 struct_got : (program : Typed) (s : ℕ) (y : core.Struct) → slice_get (core_of program).structs s ≡ Some y →
     (x : the_struct.Struct) × (slice_get program.structs.items s ≡ Some x) × (core_struct x ≡ y)
-struct_got program s y e = map_got core_struct program.structs.items s y e
+struct_got program s y e = map_back core_struct program.structs.items s y e
 
 pub final_target_is : (program : Typed) (s f k : ℕ) → final_in (core_of program) s f ≡ Some k →
     final_target program s f ≡ Some k
@@ -108,7 +93,7 @@ final_target_is program s f k h = by_struct (slice_get (core_of program).structs
         slice_get (map core_final x.finals.items) f ≡ o → (o >>= λ z. Some z.target) ≡ Some k →
         final_target program s f ≡ Some k
     by_final x at (Some y) is u =
-        let r = map_got core_final x.finals.items f y is in
+        let r = map_back core_final x.finals.items f y is in
         rw (at, r.1) (ap (λ (z : core.FinalField). Some z.target) r.2 ∙ u)
     by_final x at None is u = cc
 
@@ -127,7 +112,7 @@ field_type_is program s f t h = by_struct (slice_get (core_of program).structs s
         slice_get (map core_field x.fields.items) f ≡ o → (o >>= λ z. Some z.value_type) ≡ Some t →
         field_type program s f ≡ Some t
     by_field x at (Some y) is u =
-        let r = map_got core_field x.fields.items f y is in
+        let r = map_back core_field x.fields.items f y is in
         rw (at, r.1) (ap (λ (z : core.Field). Some z.value_type) r.2 ∙ u)
     by_field x at None is u = cc
 
@@ -315,7 +300,7 @@ module _ (program : Typed) (locals : List ValueType) where
     action_is (SetElement n index x) h = (h.0, array_type_is program n h.0 h.1, expr_is index Integer h.2, expr_is x h.0 h.3)
     action_is (SetField base s f x) h = ((h.0.0, h.0.1, leads_is h.0.0 base.fields.items (Reference s) h.0.2), (h.1.0, field_type_is program s f h.1.0 h.1.1, expr_is x h.1.0 h.1.2))
     action_is (Call k xs r) h =
-        let g = map_got core_section program.shape.helpers.items k h.0 h.1 in
+        let g = map_back core_section program.shape.helpers.items k h.0 h.1 in
         let s = g.0 in
         let types = types_taken s.parameters s.locals.items in
         let given = subst (λ (z : core.Section). AreAll (core_of program) locals (map core_expr xs.items) (types_of (take z.parameters z.locals))) (sym g.2) h.2 in (

@@ -11,14 +11,14 @@ use Rattle.core_lang.specs.declared.tree.LocalKind.{LocalKind}
 use Rattle.core_lang.specs.declared.tree.LocalKind.TheVariants as kind
 use Rattle.core_lang.specs.declared.tree.FieldStep.{FieldStep}
 use Rattle.core_lang.specs.declared.tree.FieldStep.TheVariants as step
+use Rattle.core_lang.specs.Theory.Items.{still_at, map_at}
 use Rattle.resolution.specs.declared.body_limits.BodyLimits.{BodyLimits}
 use Rattle.resolution.specs.Core as core
 use Rattle.resolution.specs.Scopes as scope
 use Rattle.resolution.specs.Scopes.{◌>>=◌, Scope, outside, type_of, bound, hidden, hidden_from, left}
 use Rattle.resolution.specs.Statements.{after, after_else, after_all, ahead_of}
-use Rattle.resolution.proofs.TrueStatements.{after_same, entered_same}
 use Rattle.resolution.proofs.FaultlessSections.{entered_result}
-use Rattle.resolution.proofs.Typed.{types_of, field_in, Leads, Is, Taken, Acts, AllAct, Returns, get_map}
+use Rattle.resolution.proofs.Typed.{types_of, field_in, Leads, Is, Taken, Acts, AllAct, Returns}
 use Rattle.resolution.specs.Theory.Facts.{after_result}
 use Rattle.resolution.specs.Typing.{Assigns, assigns_local, assigns_global, assigns_element, assigns_field, TypesStmt}
 use Rattle.resolution.specs.Typing.{types_let, types_owned, types_let_call, types_var, types_assign, types_if}
@@ -31,6 +31,7 @@ use Rattle.resolution.proofs.TypedResolvedExprs.{Sound, Have, local_meant, decl_
 use Rattle.resolution.proofs.TypedResolvedExprs.{value_good, wanted_good}
 use Rattle.resolution.proofs.TypedOwners.{owner_good}
 use Rattle.resolution.proofs.TypedCalls.{HasHelpers, call_good}
+use Rattle.resolution.specs.Theory.Blocks.{after_decls, entered_decls}
 
 -- ---- locals stay
 
@@ -39,14 +40,8 @@ abbrev pub Kept : List scope.Local → List scope.Local → Type 0
 Kept a b = (n : ℕ) (l : scope.Local) → slice_get a n ≡ Some l →
     (k : scope.Local) × (slice_get b n ≡ Some k) × (k.value_type ≡ l.value_type) × (k.kind ≡ l.kind)
 
-pub slice_front : {A : Type 0} (xs ys : List A) (n : ℕ) (x : A) → slice_get xs n ≡ Some x →
-    slice_get (xs ++ ys) n ≡ Some x
-slice_front [] ys n x e = cc
-slice_front (y ∷ xs) ys zero x e = e
-slice_front (y ∷ xs) ys (suc n) x e = slice_front xs ys n x e
-
 pub kept_push : (a : List scope.Local) (x : scope.Local) → Kept a (a ++ x ∷ [])
-kept_push a x n l e = (l, slice_front a (x ∷ []) n l e, refl, refl)
+kept_push a x n l e = (l, still_at a (x ∷ []) n l e, refl, refl)
 
 pub kept_hidden : (k : ℕ) (a : List scope.Local) → Kept a (hidden_from k a)
 kept_hidden k [] n l e = cc
@@ -69,19 +64,19 @@ front_left (x ∷ a) (y ∷ b) f (suc n) l e = front_left a b (λ j k h. f (suc 
 mutual
   pub after_front : (sc : Scope) (s : Stmt) → Front sc.locals (after sc s).locals
   after_front sc (let_local l) n k e =
-      slice_front sc.locals
+      still_at sc.locals
       (record { name = l.name.text; kind = kind.Let; value_type = type_of sc l.value_type; is_visible = true } ∷ []) n
       k e
   after_front sc (let_owned l o) n k e =
-      slice_front sc.locals
+      still_at sc.locals
       (record { name = l.name.text; kind = kind.Let; value_type = type_of sc l.value_type; is_visible = true } ∷ []) n
       k e
   after_front sc (let_call l) n k e =
-      slice_front sc.locals
+      still_at sc.locals
       (record { name = l.name.text; kind = kind.Let; value_type = type_of sc l.value_type; is_visible = true } ∷ []) n
       k e
   after_front sc (var_local l) n k e =
-      slice_front sc.locals
+      still_at sc.locals
       (record { name = l.name.text; kind = kind.Var; value_type = type_of sc l.value_type; is_visible = true } ∷ []) n
       k e
   after_front sc (assign p x) n k e = e
@@ -232,7 +227,7 @@ module _ (decls : List Decl) (p : core.Program) (types : List core_type.ValueTyp
         let a = stmt_good h same
         (have_front (after sc s).locals (after_all (after sc s) rest).locals types (all_front (after sc s) rest) have)
         in
-        let b = body_good k (after_same sc s ∙ same) have in
+        let b = body_good k (after_decls sc s ∙ same) have in
         ((a, b.0), subst (λ (w : Option core_type.ValueType). IfReturn w result) (after_result sc s) b.1)
 
 -- ---- sections
@@ -260,7 +255,7 @@ locals_have : {ls : List scope.Local} {xs : List core.Local} → TypesLocals ls 
 locals_have {xs = xs} k n l t at is =
     let r = locals_got k n l at in
     let same : Some r.0.value_type ≡ Some t = sym r.3 ∙ is in
-    get_map (λ (x : core.Local). x.value_type) xs n r.0 r.1 ∙ same
+    map_at (λ (x : core.Local). x.value_type) xs n r.0 r.1 ∙ same
 
 -- a section whose statements and result are well typed
 pub record SectionOk (p : core.Program) (x : core.Section) : Type 0 where
@@ -278,7 +273,7 @@ module _ (decls : List Decl) (p : core.Program) (sound : Sound decls p) (helpers
 
   section_good : {s : Section} {x : core.Section} → TypesSection decls limits s x → SectionOk p x
   section_good {s = s} (types_section {locals = locals} {r = r} b q ls) =
-      let good = body_good decls p (types_of locals) sound helpers b (entered_same (ahead_of decls limits s) s.params)
+      let good = body_good decls p (types_of locals) sound helpers b (entered_decls (ahead_of decls limits s) s.params)
       (locals_have ls) in
       record {
         body = good.0;

@@ -5,6 +5,7 @@ use Rattle.syntax.specs.Trees.{Section, Decl}
 use Rattle.core_lang.specs.declared.tree.Section as the_section
 use Rattle.core_lang.specs.declared.typed.Typed.{Typed}
 use Rattle.core_lang.specs.WellFormed.{IsChecked, IsWellFormed}
+use Rattle.core_lang.specs.Theory.Items.{map_at}
 use Rattle.resolution.specs.CoreViews.{core_section}
 use Rattle.resolution.specs.Limits.{section_limits, helper_limits}
 use Rattle.resolution.specs.Working.TypedSections.{typed_section}
@@ -13,7 +14,6 @@ use Rattle.core_lang_calls.specs.Working.Laws.{FaultlessKeepLimits, HasNoGraphFa
 use Rattle.resolution.specs.CallGraphs.{tree_graph}
 use Rattle.resolution.specs.Working.Laws.{DeclaresNoHelper}
 use Rattle.resolution.specs.Resolved.{Resolves}
-use Rattle.resolution.proofs.Typed.{get_map}
 use Rattle.resolution.proofs.FaultlessExpressions.{Clean}
 use Rattle.resolution.proofs.LaidProgram.{no_helpers, sound, helped, laid_out, protected, opens, sections_are}
 use Rattle.resolution.proofs.LaidProgram.{helpers_are, scripts}
@@ -26,7 +26,7 @@ section_from : (decls : List Decl) → Clean decls → (program : Typed) → Res
     (k : ℕ) (x : the_section.Section) → slice_get program.sections.items k ≡ Some x →
     (s : Section) × (typed_section decls section_limits s ≡ Some (core_section x))
 section_from decls clean program is k x at =
-    let r = sections_are decls clean program is k (core_section x) (get_map core_section program.sections.items k x at) in
+    let r = sections_are decls clean program is k (core_section x) (map_at core_section program.sections.items k x at) in
     (r.1, r.4)
 
 -- a helper too
@@ -34,7 +34,7 @@ helper_from : (decls : List Decl) → Clean decls → (program : Typed) → Reso
     (k : ℕ) (x : the_section.Section) → slice_get program.shape.helpers.items k ≡ Some x →
     (s : Section) × (typed_section decls helper_limits s ≡ Some (core_section x))
 helper_from decls clean program is k x at =
-    let r = helpers_are decls clean program is k (core_section x) (get_map core_section program.shape.helpers.items k x at) in
+    let r = helpers_are decls clean program is k (core_section x) (map_at core_section program.shape.helpers.items k x at) in
     (r.1, r.4)
 
 keeps_limits : (decls : List Decl) → Clean decls → (program : Typed) → Resolves decls program →

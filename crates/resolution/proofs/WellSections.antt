@@ -3,6 +3,7 @@ use Rattle.std.proofs.Common.{◌≡◌, ◌≢◌, ℕ, zero, suc, ◌+◌, ◌
 use Rattle.std.proofs.Common.{true, refl, sym, ap, ◌∙◌, subst, arith}
 use Rattle.std.specs.Prelude.{slice_get, option_map}
 use Rattle.std.specs.List.{Contains}
+use Rattle.std.proofs.lemmas.Option.{slice_get_within}
 use Rattle.syntax.specs.Trees.{Stmt, let_local, let_owned, let_call, var_local, assign, if_then, while, print}
 use Rattle.syntax.specs.Trees.{return_value, call, Stmts, no_stmts, stmt, Otherwise, no_else, else_do, Param, Section}
 use Rattle.syntax.specs.Trees.{Decl}
@@ -13,6 +14,7 @@ use Rattle.core_lang.specs.declared.tree.Section as the_section
 use Rattle.core_lang.specs.declared.typed.Typed.{Typed}
 use Rattle.core_lang.specs.Typing.{local_types, IsWellTypedSection}
 use Rattle.core_lang.specs.Scopes.{numbers_from, scope_after_all, IsWellScoped}
+use Rattle.core_lang.specs.Theory.Items.{map_at, get_some}
 use Rattle.resolution.specs.declared.body_limits.BodyLimits.{BodyLimits}
 use Rattle.resolution.specs.Core as core
 use Rattle.resolution.specs.CoreViews.{core_expr, core_stmts, core_return, core_local, core_locals as locals_view}
@@ -21,13 +23,13 @@ use Rattle.resolution.specs.Scopes as scopes
 use Rattle.resolution.specs.Scopes.{Scope, outside, type_of, bound, hidden, hidden_from, left, entered}
 use Rattle.resolution.specs.Statements.{after, after_else, after_all, ahead_of, entry}
 use Rattle.resolution.specs.Working.TypedSections.{typed_section}
-use Rattle.resolution.proofs.Typed.{types_of, AllAct, Returns, get_map, body_typed, result_typed}
+use Rattle.resolution.proofs.Typed.{types_of, AllAct, Returns, body_typed, result_typed}
 use Rattle.resolution.proofs.TypedResolvedExprs.{Sound}
 use Rattle.resolution.proofs.TypedCalls.{HasHelpers}
 use Rattle.resolution.proofs.TypedStatements.{all_front, locals_got, section_typed}
 use Rattle.resolution.proofs.Scoped.{Names, StmtsName, behind_all, all_binding, all_assigning, body_scoped, body_behind}
 use Rattle.resolution.proofs.Scoped.{body_binding, body_assigning, result_scoped}
-use Rattle.resolution.proofs.ScopedStatements.{IsVarAt, Become, ReturnDone, numbers_cover, body_done, get_lt}
+use Rattle.resolution.proofs.ScopedStatements.{IsVarAt, Become, ReturnDone, numbers_cover, body_done}
 use Rattle.resolution.specs.Typing.{TypesBody, TypesLocals, no_local, one_local, TypesSection, types_section}
 use Rattle.resolution.proofs.StatementRules.{types_the_section}
 
@@ -164,11 +166,6 @@ entered_length sc (p ∷ ps) =
     let l = push_length sc.locals x in
     omega (arith, r, l)
 
-get_some : {A : Type 0} (xs : List A) (n : ℕ) → n < length xs → (x : A) × (slice_get xs n ≡ Some x)
-get_some [] n lt = absurd (omega (arith, lt))
-get_some (x ∷ xs) zero lt = (x, refl)
-get_some (x ∷ xs) (suc n) lt = get_some xs n (omega (arith, lt))
-
 -- ---- well scoped
 
 pub locals_length : {ls : List scopes.Local} {xs : List core.Local} → TypesLocals ls xs → length xs ≡ length ls
@@ -202,7 +199,7 @@ module _ (decls : List Decl) (limits : BodyLimits) (s : Section) (xs : List core
       (k < length s.params → x.kind ≡ kind.Parameter) × (length s.params ≤ k → x.kind ≢ kind.Parameter)
   kinds_are k x e =
       let len = locals_length are in
-      let lt = get_lt xs k x e in
+      let lt = slice_get_within xs k x e in
       let at = get_some ends k (let z : k < length ends = omega (arith, len, lt) in z) in
       let r = locals_got are k at.0 at.1 in
       let same : Some r.0 ≡ Some x = sym r.1 ∙ e in
@@ -212,7 +209,7 @@ module _ (decls : List Decl) (limits : BodyLimits) (s : Section) (xs : List core
       )
     where
       none_yet : NoneFrom (length s.params) sc.locals
-      none_yet j l g le = let lt = get_lt sc.locals j l g in let q = params in absurd (omega (arith, lt, q, le))
+      none_yet j l g le = let lt = slice_get_within sc.locals j l g in let q = params in absurd (omega (arith, lt, q, le))
 
       first_kind : (k : ℕ) (l : scopes.Local) → slice_get ends k ≡ Some l → k < length s.params →
           l.kind ≡ kind.Parameter
@@ -269,7 +266,7 @@ view_length (l ∷ ls) = ap suc (view_length ls)
 var_at : (ls : List the_local.Local) (k : ℕ) (l : the_local.Local) → IsVarAt (locals_view ls) k →
     slice_get ls k ≡ Some l → l.kind ≡ kind.Var
 var_at ls k l h e =
-    let g = get_map core_local ls k l e in
+    let g = map_at core_local ls k l e in
     let same : Some h.0 ≡ Some (core_local l) = sym h.1 ∙ g in
     let q : h.0 ≡ core_local l = cc in
     sym (ap (λ (y : core.Local). y.kind) q) ∙ h.2
@@ -281,7 +278,7 @@ section_well_scoped decls limits s x e =
     record {
       bound = ap (λ (l : List ℕ). numbers_from 0 x.parameters ++ l) (sym (body_binding x.body.items)) ∙ ok.bound
           ∙ ap (numbers_from 0) (view_length x.locals.items);
-      kinds = λ k l at. ok.kinds k (core_local l) (get_map core_local x.locals.items k l at);
+      kinds = λ k l at. ok.kinds k (core_local l) (map_at core_local x.locals.items k l at);
       assigned = λ k l c at. var_at x.locals.items k l
           (ok.assigned k (subst (λ (q : List ℕ). Contains q k) (sym (body_assigning x.body.items)) c)) at;
       body = body_scoped (numbers_from 0 x.parameters) x.body.items ok.body;

@@ -14,6 +14,7 @@ use Rattle.core_lang.specs.declared.typed.Struct as the_struct
 use Rattle.core_lang.specs.declared.typed.Thread as the_thread
 use Rattle.core_lang.specs.declared.typed.Typed.{Typed}
 use Rattle.core_lang.specs.WellFormed.{calls_together, IsWithinLimits}
+use Rattle.core_lang.specs.Theory.Items.{map_at}
 use Rattle.resolution.specs.declared.body_limits.BodyLimits.{BodyLimits}
 use Rattle.resolution.specs.Core as core
 use Rattle.resolution.specs.CoreViews.{core_class, core_lock, core_final, core_field, core_struct, core_local}
@@ -21,8 +22,7 @@ use Rattle.resolution.specs.CoreViews.{core_section, core_call, core_thread, cor
 use Rattle.resolution.specs.Limits.{STRUCT_LIMIT, MEMBER_LIMIT, CELL_LIMIT, SECTION_LIMIT, THREAD_LIMIT}
 use Rattle.resolution.specs.Limits.{PARAMETER_LIMIT, LOCAL_LIMIT, CALL_LIMIT, section_limits}
 use Rattle.resolution.specs.Scopes as scopes
-use Rattle.resolution.specs.Scopes.{Scope, outside, meaning, helper_meant, type_of, count, alike, has_body, bound}
-use Rattle.resolution.specs.Scopes.{left}
+use Rattle.resolution.specs.Scopes.{Scope, outside, meaning, helper_meant, type_of, count, alike, has_body, bound, left}
 use Rattle.resolution.specs.Numbers.{total, cells_of, calls_in_all, calls_of}
 use Rattle.resolution.specs.Expressions.{want}
 use Rattle.resolution.specs.Statements.{after, after_else, after_all, ahead_of, entry}
@@ -40,7 +40,6 @@ use Rattle.resolution.proofs.FaultlessExpressions.{NoneIn, none_left, none_right
 use Rattle.resolution.proofs.FaultlessOwners.{room}
 use Rattle.resolution.proofs.FaultlessMembers.{parts_at}
 use Rattle.resolution.proofs.FaultlessPrograms.{total_push, cells_fit, calls_few, struct_few}
-use Rattle.resolution.proofs.Typed.{get_map}
 use Rattle.resolution.proofs.ScopedStatements.{hidden_length}
 use Rattle.resolution.proofs.WellSections.{entered_length, locals_length}
 use Rattle.resolution.proofs.LaidLists.{rows_length, take_front, as_one, count_push}
@@ -53,6 +52,7 @@ use Rattle.resolution.proofs.LaidObjects.{few_objects}
 use Rattle.resolution.proofs.LaidScripts.{sectioned}
 use Rattle.resolution.proofs.Tests.{le_false}
 use Rattle.resolution.specs.Theory.Facts.{bodies_counted}
+use Rattle.resolution.specs.Theory.Blocks.{after_limits}
 
 -- ---- cells
 
@@ -275,18 +275,6 @@ else_limits : (sc : Scope) (o : Otherwise) → (after_else sc o).limits ≡ sc.l
 else_limits sc no_else = refl
 else_limits sc (else_do body close) = refl
 
-after_limits : (sc : Scope) (s : Stmt) → (after sc s).limits ≡ sc.limits
-after_limits sc (let_local l) = refl
-after_limits sc (let_owned l o) = refl
-after_limits sc (let_call l) = refl
-after_limits sc (var_local l) = refl
-after_limits sc (assign q e) = refl
-after_limits sc (if_then start e body close other) = else_limits (left sc (after_all sc body)) other
-after_limits sc (while start e body close) = refl
-after_limits sc (print start e) = refl
-after_limits sc (return_value start e) = refl
-after_limits sc (call start c) = refl
-
 -- behind a block there are as many locals as at its end
 left_few : (sc end : Scope) (limit : ℕ) → length end.locals ≤ limit → length (left sc end).locals ≤ limit
 left_few sc end limit le = let l = hidden_length (length sc.locals) end.locals in omega (arith, l, le)
@@ -382,14 +370,14 @@ module _ (decls : List Decl) (clean : Clean decls) (program : Typed) (is : Resol
   struct_within : (s : ℕ) (x : the_struct.Struct) → slice_get program.structs.items s ≡ Some x →
       length x.locks.items + length x.finals.items + length x.fields.items ≤ 32
   struct_within s x at =
-      let few = members_within decls clean (core_of program) is s (core_struct x) (get_map core_struct program.structs.items s x at) in
+      let few = members_within decls clean (core_of program) is s (core_struct x) (map_at core_struct program.structs.items s x at) in
       let a = length-map x.locks.items core_lock in
       let b = length-map x.finals.items core_final in
       let c = length-map x.fields.items core_field in
       omega (arith, few, a, b, c)
 
   section_few : (k : ℕ) (x : the_section.Section) → slice_get program.sections.items k ≡ Some x → FewIn (core_section x)
-  section_few k x at = section_within decls clean (core_of program) is k (core_section x) (get_map core_section program.sections.items k x at)
+  section_few k x at = section_within decls clean (core_of program) is k (core_section x) (map_at core_section program.sections.items k x at)
 
   pub within_limits : IsWithinLimits program
   within_limits =

@@ -1,11 +1,12 @@
-use Rattle.std.specs.Prelude.{◌≡◌, ◌+◌, ◌<◌, ◌≤◌, ℕ, zero, suc, ◌-◌, get_or, Bool, true, false, if◌then◌else◌, List}
-use Rattle.std.specs.Prelude.{[], ◌∷◌, length, drop, map, slice_get, Option, Some, None}
+use Rattle.std.specs.Prelude.{◌≡◌, ◌+◌, ◌<◌, ◌≤◌, ℕ, zero, suc, ◌-◌, get_or, Bool, true, false, if◌then◌else◌, List, []}
+use Rattle.std.specs.Prelude.{◌∷◌, length, drop, map, slice_get, Option, Some, None}
 use Rattle.std.specs.Option.{option_map, option_map_or}
 use Rattle.std.proofs.Common.{refl, sym, ap, ◌∙◌, subst, arith}
 use Rattle.std.proofs.lemmas.Option.{slice_get-map, slice_get_within}
 use Rattle.core_lang.specs.declared.value.Value.{Value}
 use Rattle.core_lang.specs.declared.tree.Section.{Section}
 use Rattle.core_lang.specs.Typing.{lookup}
+use Rattle.core_lang.specs.Theory.Items.{get_some}
 use Rattle.locks.specs.declared.lock.Lock.{Lock}
 use Rattle.locks.specs.declared.path.LockPath as written
 use Rattle.locks.specs.LockPaths.{LockPath, lock_path_of, lock_named}
@@ -18,12 +19,6 @@ use Rattle.worlds.specs.Asking.{insert, insert_new, lock_numbered, to_ask}
 use Rattle.locks.specs.Order.{precedes}
 use Rattle.worlds.specs.Worlds.{section_at}
 use Rattle.runner.specs.Working.Asked.{lock_at, asked_at}
-
--- within a list there is something at a place
-pub there : {X : Type 0} (xs : List X) (i : ℕ) → i < length xs → (x : X) × (slice_get xs i ≡ Some x)
-there [] i lt = absurd (omega arith)
-there (x ∷ xs) zero lt = (x, refl)
-there (x ∷ xs) (suc i) lt = there xs i (omega arith)
 
 -- of two lists of one length, where one has nothing at a place, the other has nothing there
 pub not_there : {X Y : Type 0} (xs : List X) (ys : List Y) (i : ℕ) → length xs ≡ length ys → slice_get xs i ≡ None →
@@ -38,7 +33,7 @@ not_there (x ∷ xs) (y ∷ ys) (suc i) e n = not_there xs ys i (omega arith) n
 pub also_there : {X Y : Type 0} (xs : List X) (ys : List Y) (i : ℕ) (x : X) → length xs ≡ length ys →
     slice_get xs i ≡ Some x →
     (y : Y) × (slice_get ys i ≡ Some y)
-also_there xs ys i x e at = there ys i (omega (arith, slice_get_within xs i x at))
+also_there xs ys i x e at = get_some ys i (omega (arith, slice_get_within xs i x at))
 
 lookup-map : {A B C : Type 0} (f : A → B) (o : Option A) (go : B → Option C) →
     lookup (option_map f o) go ≡ lookup o (λ x. go (f x))

@@ -1,5 +1,5 @@
-use Rattle.std.specs.Prelude.{◌≡◌, ◌≢◌, ◌+◌, ◌<◌, ◌≤◌, ℕ, zero, suc, Bool, true, false, nat_eq, if◌then◌else◌, List}
-use Rattle.std.specs.Prelude.{[], ◌∷◌, ◌++◌, length, drop, get_or, slice_get, Option, Some}
+use Rattle.std.specs.Prelude.{◌≡◌, ◌≢◌, ◌+◌, ◌<◌, ◌≤◌, ℕ, zero, suc, Bool, true, false, nat_eq, if◌then◌else◌, List, []}
+use Rattle.std.specs.Prelude.{◌∷◌, ◌++◌, length, drop, get_or, slice_get, Option, Some}
 use Rattle.std.specs.List.{Contains, sum_by}
 use Rattle.std.proofs.Common.{refl, sym, ap, ◌∙◌, subst, arith, eqb-true, length-append}
 use Rattle.std.proofs.lemmas.List.Elements.{Contains-append_right, Contains-get_or}
@@ -10,6 +10,7 @@ use Rattle.core_lang.specs.declared.value.ValueType.{ValueType}
 use Rattle.core_lang.specs.declared.shape.Shape.{Shape}
 use Rattle.core_lang.specs.declared.typed.Cell.{Cell}
 use Rattle.core_lang.specs.Typing.{HasType, HaveTypes, IsHeap, cell_types}
+use Rattle.core_lang.specs.Theory.Openings.{have_length}
 use Rattle.locks.specs.declared.lock.Lock.{Lock}
 use Rattle.locks.specs.Order.{PrecedesIsStrict}
 use Rattle.layout.specs.LockCells.{cells_of}
@@ -78,13 +79,6 @@ may_ask m o lock rest laws known a =
     }
 
 -- ---- the cells that it is granted
-
-pub have_length : (shape : Shape) (ts : List ValueType) (vs : List Value) → HaveTypes shape ts vs →
-    length vs ≡ length ts
-have_length shape [] [] h = refl
-have_length shape [] (v ∷ vs) h = absurd h
-have_length shape (t ∷ ts) [] h = absurd h
-have_length shape (t ∷ ts) (v ∷ vs) h = ap suc (have_length shape ts vs h.1)
 
 typed_at : (shape : Shape) (ts : List ValueType) (vs : List Value) (i : ℕ) (v : Value) → HaveTypes shape ts vs →
     slice_get vs i ≡ Some v →

@@ -1,5 +1,5 @@
-use Rattle.std.specs.Prelude.{◌≡◌, ◌<◌, ◌≤◌, ℕ, zero, suc, List, [], ◌∷◌, length, take, get_or, slice_get, Option}
-use Rattle.std.specs.Prelude.{Some, vec_capacity}
+use Rattle.std.specs.Prelude.{◌≡◌, ◌<◌, ◌≤◌, ℕ, zero, suc, List, [], ◌∷◌, length, take, get_or, slice_get, Option, Some}
+use Rattle.std.specs.Prelude.{vec_capacity}
 use Rattle.std.proofs.lemmas.List.{length-map}
 use Rattle.std.specs.Option.{option_map_or}
 use Rattle.std.proofs.Common.{refl, sym, ap, ◌∙◌, subst, arith}
@@ -11,6 +11,7 @@ use Rattle.core_lang.specs.Serial.{Invocation}
 use Rattle.core_lang.specs.WellFormed.{CanCall}
 use Rattle.core_lang.specs.Typing.{local_types}
 use Rattle.core_lang.specs.Whole.{opening}
+use Rattle.core_lang.specs.Theory.Openings.{have_length}
 use Rattle.layout.specs.declared.room.Room.{Room}
 use Rattle.lock_manager.specs.Working.Sessions.{SessionOf, TicketOf, fresh}
 use Rattle.lock_manager.specs.Working.Managers.{Managed}
@@ -24,7 +25,6 @@ use Rattle.runner_machine.specs.Working.Machines.{RunOf}
 use Rattle.runner.specs.Working.Opens.{OpenOf, ReadyOf, IsOpen, Began}
 use Rattle.runner.specs.declared.body.Body.{Body}
 use Rattle.runner.specs.Working.Ties.{open_as, begun_as, cells_together, its_call, IsBeginning, IsKeptOpen}
-use Rattle.runner.proofs.Asks.{have_length}
 
 -- a call that fits has its section
 pub called : (program : Typed) (number : ℕ) (arguments : List Value) → CanCall program number arguments →

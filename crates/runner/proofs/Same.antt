@@ -1,22 +1,8 @@
 -- An instruction leaves a section what it is.
 use Rattle.std.proofs.Common.{◌≡◌, ℕ, zero, suc, refl, sym, ◌∙◌, subst}
-use Rattle.code.specs.Machine.{Effect, Moves, Asks, Finishes, Undefined}
-use Rattle.code.specs.Memory.{HeldCells}
-use Rattle.lowering.specs.Plans.{Plan}
-use Rattle.worlds.specs.Worlds.{Activation, instructed, next_effect}
+use Rattle.worlds.specs.Worlds.{next_effect}
+use Rattle.worlds.specs.Theory.Steps.{instructed_call, instructed_begun}
 use Rattle.runner.specs.Working.Opens.{OpenOf, IsSame, moved, moved_by}
-
-call_stays : (plan : Plan) (a : Activation) (e : Effect HeldCells) → (instructed plan a e).call ≡ a.call
-call_stays plan a (Moves m) = refl
-call_stays plan a (Asks point) = refl
-call_stays plan a (Finishes outcome) = refl
-call_stays plan a Undefined = refl
-
-begun_stays : (plan : Plan) (a : Activation) (e : Effect HeldCells) → (instructed plan a e).begun ≡ a.begun
-begun_stays plan a (Moves m) = refl
-begun_stays plan a (Asks point) = refl
-begun_stays plan a (Finishes outcome) = refl
-begun_stays plan a Undefined = refl
 
 same : (o : OpenOf) → IsSame o o
 same o = record { plan = refl; thread = refl; step = refl; room = refl; call = refl; begun = refl }
@@ -37,8 +23,8 @@ moved_same o = record {
   thread = refl;
   step = refl;
   room = refl;
-  call = call_stays o.plan o.activation (next_effect o.plan o.activation);
-  begun = begun_stays o.plan o.activation (next_effect o.plan o.activation);
+  call = instructed_call o.plan o.activation (next_effect o.plan o.activation);
+  begun = instructed_begun o.plan o.activation (next_effect o.plan o.activation);
 }
 
 moved_by_same : (n : ℕ) (o : OpenOf) → IsSame o (moved_by n o)

@@ -1,6 +1,6 @@
 -- Grants, and the cells that they have.
-use Rattle.std.proofs.Common.{◌≡◌, ◌≢◌, ℕ, zero, suc, ◌+◌, ◌<◌, ◌≤◌, List, [], ◌∷◌, ◌++◌, length, take, set, Some}
-use Rattle.std.proofs.Common.{None, inl, inr, refl, sym, ap, ◌∙◌, subst, arith, length-append}
+use Rattle.std.proofs.Common.{◌≡◌, ◌≢◌, ℕ, zero, suc, ◌+◌, ◌<◌, ◌≤◌, List, [], ◌∷◌, ◌++◌, length, take, set, Some, None}
+use Rattle.std.proofs.Common.{inl, inr, refl, sym, ap, ◌∙◌, subst, arith, length-append}
 use Rattle.std.specs.Prelude.{slice_get}
 use Rattle.std.specs.List.{All, Contains}
 use Rattle.std.proofs.lemmas.List.{take_more}
@@ -15,10 +15,10 @@ use Rattle.moved_cells.specs.Working.Grants.{GrantOf, numbered, cells_in, IsWhol
 use Rattle.moved_cells.specs.Working.Laws.{OffsetsFindValues, OffsetsChangeCells}
 use Rattle.runner_cells.specs.Working.Held.{cells_granted}
 use Rattle.runner_cells.specs.Working.Kept.{cells_under, values_count, IsGrantAt, IsSpot, IsElsewhere}
-use Rattle.runner_cells.proofs.Lists.{first, get_left, get_right, past, value_left, value_right, changed_left}
-use Rattle.runner_cells.proofs.Lists.{changed_right}
-use Rattle.runner_cells.proofs.Places.{lock_of_cell, distinct_rest, never_again}
-use Rattle.core_lang.specs.Theory.Items.{in_rest}
+use Rattle.runner_cells.proofs.Lists.{first, get_right, past, changed_left, changed_right}
+use Rattle.core_lang.specs.Theory.Items.{in_rest, still_at}
+use Rattle.layout.specs.Theory.Numbers.{has_lock, distinct_rest, distinct_first}
+use Rattle.code.specs.Theory.Values.{value_left, value_right}
 
 -- ---- grants one after another
 
@@ -146,7 +146,7 @@ other_grant : (cell_locks : List Lock) (g : GrantOf) (cell : ℕ) (lock : Lock) 
     value_at (cells_in cell_locks g) cell ≡ None
 other_grant cell_locks g cell lock is ne =
     outside_numbered (cells_of cell_locks g.lock) g.values cell
-    (λ has. ne (same_Some g.lock lock (sym (lock_of_cell cell_locks g.lock cell has) ∙ is)))
+    (λ has. ne (same_Some g.lock lock (sym (has_lock cell_locks g.lock cell has) ∙ is)))
 
 lock_at : (gs : List GrantOf) (i : ℕ) (g : GrantOf) → slice_get gs i ≡ Some g → Contains (locks_of gs) g.lock
 lock_at [] i g at = absurd (none-some g at)
@@ -156,7 +156,7 @@ lock_at (h ∷ gs) (suc i) g at = in_rest h.lock g.lock (locks_of gs) (lock_at g
 -- the first grant isn't one of the later ones
 first_other : (h : GrantOf) (gs : List GrantOf) (i : ℕ) (g : GrantOf) → AreDistinct (locks_of (h ∷ gs)) →
     slice_get gs i ≡ Some g → h.lock ≢ g.lock
-first_other h gs i g d at e = never_again h.lock (locks_of gs) d (subst (Contains (locks_of gs)) (sym e) (lock_at gs i g at))
+first_other h gs i g d at e = distinct_first h.lock (locks_of gs) d (subst (Contains (locks_of gs)) (sym e) (lock_at gs i g at))
 
 pub elsewhere : (cell_locks : List Lock) (gs : List GrantOf) (cell : ℕ) → IsElsewhere cell_locks gs cell →
     value_at (cells_granted cell_locks gs) cell ≡ None
@@ -164,7 +164,7 @@ elsewhere cell_locks [] cell out = refl
 elsewhere cell_locks (g ∷ gs) cell out =
     value_right (cells_in cell_locks g) (cells_granted cell_locks gs) cell
     (outside_numbered (cells_of cell_locks g.lock) g.values cell
-    (λ has. out.other g.lock (lock_of_cell cell_locks g.lock cell has) (first g.lock (locks_of gs) g.lock refl)))
+    (λ has. out.other g.lock (has_lock cell_locks g.lock cell has) (first g.lock (locks_of gs) g.lock refl)))
     ∙ elsewhere cell_locks gs cell (record { other = λ lock is has. out.other lock is (in_rest g.lock lock (locks_of gs) has) })
 
 module _ (cell_locks : List Lock) (cell offset : ℕ) (g : GrantOf) (slot : IsSlot cell_locks cell g.lock offset) (read : OffsetsFindValues) where
@@ -206,7 +206,7 @@ pub cell_at : (cell_locks : List Lock) (gs : List GrantOf) (i : ℕ) (g : GrantO
 cell_at cell_locks [] i g cell offset whole at is = absurd (none-some g at)
 cell_at cell_locks (h ∷ gs) zero g cell offset whole at is =
     ap (λ (n : ℕ). slice_get (cells_of cell_locks h.lock ++ cells_under cell_locks (locks_of gs)) n) (let e : 0 + offset ≡ offset = omega arith in e)
-    ∙ get_left (cells_of cell_locks h.lock) (cells_under cell_locks (locks_of gs)) offset cell
+    ∙ still_at (cells_of cell_locks h.lock) (cells_under cell_locks (locks_of gs)) offset cell
     (ap (λ (x : GrantOf). slice_get (cells_of cell_locks x.lock) offset) (same_Some h g at) ∙ is)
 cell_at cell_locks (h ∷ gs) (suc i) g cell offset whole at is =
     let all : length h.values ≡ length (cells_of cell_locks h.lock) = All-head (IsWhole cell_locks) h gs whole in

@@ -1,7 +1,7 @@
 -- Lists, and the first value of a cell.
-use Rattle.std.proofs.Common.{◌≡◌, ◌≢◌, ℕ, zero, suc, ◌+◌, true, false, List, [], ◌∷◌, ◌++◌, length, Some, None, inl}
-use Rattle.std.proofs.Common.{inr, refl, sym, ap, ◌∙◌, arith}
-use Rattle.std.specs.Prelude.{slice_get, nat_eq, if◌then◌else◌}
+use Rattle.std.proofs.Common.{◌≡◌, ◌≢◌, ℕ, zero, suc, ◌+◌, List, [], ◌∷◌, ◌++◌, length, Some, None, inl, inr, refl, sym}
+use Rattle.std.proofs.Common.{ap, ◌∙◌, arith}
+use Rattle.std.specs.Prelude.{slice_get, if◌then◌else◌}
 use Rattle.std.specs.List.{Contains}
 use Rattle.std.proofs.lemmas.Bool.Decides.{eqb_tells}
 use Rattle.std.proofs.lemmas.List.Elements.{Contains-append_cases}
@@ -14,11 +14,6 @@ use Rattle.core_lang.specs.Theory.Items.{in_rest}
 
 pub first : {X : Type 0} (y : X) (ys : List X) (x : X) → y ≡ x → Contains (y ∷ ys) x
 first y ys x e = (0, omega arith, e)
-
-pub get_left : {X : Type 0} (xs ys : List X) (i : ℕ) (x : X) → slice_get xs i ≡ Some x → slice_get (xs ++ ys) i ≡ Some x
-get_left [] ys i x e = absurd (none-some x e)
-get_left (z ∷ xs) ys zero x e = e
-get_left (z ∷ xs) ys (suc i) x e = get_left xs ys i x e
 
 pub get_right : {X : Type 0} (xs ys : List X) (i n : ℕ) → i ≡ length xs + n → slice_get (xs ++ ys) i ≡ slice_get ys n
 get_right [] ys i n e = ap (slice_get ys) (let same : i ≡ n = omega (arith, e) in same)
@@ -42,12 +37,6 @@ distinct_append (x ∷ xs) ys d e apart = (
 
 -- ---- the value of a cell
 
-pub same_cell : (a b : ℕ) → nat_eq a b ≡ true → a ≡ b
-same_cell a b e = elim (eqb_tells a b) [ inl h ↦ h.1 | inr h ↦ absurd (let bad : true ≡ false = sym e ∙ h.0 in cc) ]
-
-pub other_cell : (a b : ℕ) → nat_eq a b ≡ false → a ≢ b
-other_cell a b e = elim (eqb_tells a b) [ inl h ↦ absurd (let bad : true ≡ false = sym h.0 ∙ e in cc) | inr h ↦ h.1 ]
-
 pub here : (x : ℕ × Value) (xs : List (ℕ × Value)) (c : ℕ) → x.0 ≡ c → value_at (x ∷ xs) c ≡ Some x.1
 here x xs c e =
     elim (eqb_tells x.0 c) [ inl h ↦ ap (λ b. if b then Some x.1 else value_at xs c) h.0 | inr h ↦ absurd (h.1 e) ]
@@ -55,21 +44,6 @@ here x xs c e =
 pub past : (x : ℕ × Value) (xs : List (ℕ × Value)) (c : ℕ) → x.0 ≢ c → value_at (x ∷ xs) c ≡ value_at xs c
 past x xs c ne =
     elim (eqb_tells x.0 c) [ inl h ↦ absurd (ne h.1) | inr h ↦ ap (λ b. if b then Some x.1 else value_at xs c) h.0 ]
-
-pub value_left : (xs ys : List (ℕ × Value)) (c : ℕ) (v : Value) → value_at xs c ≡ Some v →
-    value_at (xs ++ ys) c ≡ Some v
-value_left [] ys c v e = absurd (none-some v e)
-value_left (x ∷ xs) ys c v e = elim (eqb_tells x.0 c) [
-  | inl h ↦ here x (xs ++ ys) c h.1 ∙ sym (here x xs c h.1) ∙ e
-  | inr h ↦ past x (xs ++ ys) c h.1 ∙ value_left xs ys c v (sym (past x xs c h.1) ∙ e)
-]
-
-pub value_right : (xs ys : List (ℕ × Value)) (c : ℕ) → value_at xs c ≡ None → value_at (xs ++ ys) c ≡ value_at ys c
-value_right [] ys c e = refl
-value_right (x ∷ xs) ys c e = elim (eqb_tells x.0 c) [
-  | inl h ↦ absurd (none-some x.1 (sym e ∙ here x xs c h.1))
-  | inr h ↦ past x (xs ++ ys) c h.1 ∙ value_right xs ys c (sym (past x xs c h.1) ∙ e)
-]
 
 -- ---- a cell's value changed
 

@@ -9,10 +9,11 @@ use Rattle.core_lang.specs.declared.value.Value.{Value}
 use Rattle.code.specs.Memory.{value_at, with_value}
 use Rattle.runner_cells.specs.Working.Noted.{NotesOf, if_of, led_by, number_of, with_note_at, with_note, in_order}
 use Rattle.runner_cells.specs.Working.Noted.{EachOnce, AreNotes}
-use Rattle.runner_cells.proofs.Lists.{first, get_left, get_right, Distinct, here, past, value_right}
+use Rattle.runner_cells.proofs.Lists.{first, get_right, Distinct, here, past}
 use Rattle.runner_cells.proofs.Rising.{set_in_order}
 use Rattle.runner_cells.proofs.Sorted.{at_value, value_somewhere, none_nowhere}
-use Rattle.core_lang.specs.Theory.Items.{contains_at, at_contained, set_same, in_cases, in_rest}
+use Rattle.core_lang.specs.Theory.Items.{contains_at, at_contained, set_same, in_cases, in_rest, still_at}
+use Rattle.code.specs.Theory.Values.{value_right}
 
 -- ---- a list with one item more, or another one
 
@@ -152,7 +153,7 @@ module _ (cells : List ℕ) (n : NotesOf) (are : AreNotes cells n) where
   with_cells more = record {
     marked = λ live k x at. record {
       place = (are.marked live k x at).place;
-      cell_is = get_left cells more (are.marked live k x at).place x.0 (are.marked live k x at).cell_is;
+      cell_is = still_at cells more (are.marked live k x at).place x.0 (are.marked live k x at).cell_is;
       mark_is = (are.marked live k x at).mark_is;
     };
     once = are.once;

@@ -1,39 +1,15 @@
 -- Values of cells in order of the cells' numbers.
-use Rattle.std.proofs.Common.{◌≡◌, ◌≢◌, ℕ, ◌+◌, ◌<◌, ◌≤◌, Bool, true, false, List, [], ◌∷◌, Some, None, inl, inr}
-use Rattle.std.proofs.Common.{refl, sym, ap, ◌∙◌, arith}
+use Rattle.std.proofs.Common.{◌≡◌, ◌≢◌, ℕ, ◌+◌, ◌<◌, ◌≤◌, Bool, true, false, List, [], ◌∷◌, Some, None, inl, inr, refl}
+use Rattle.std.proofs.Common.{sym, ap, ◌∙◌, arith}
 use Rattle.std.specs.Prelude.{nat_eq, nat_lt, if◌then◌else◌}
 use Rattle.std.proofs.lemmas.Bool.{ltb-true, ltb-false, cases_order}
 use Rattle.std.proofs.lemmas.Bool.Decides.{eqb_tells}
 use Rattle.std.proofs.lemmas.Option.{none-some, same_Some}
 use Rattle.core_lang.specs.declared.value.Value.{Value}
 use Rattle.code.specs.Memory.{value_at, with_value}
+use Rattle.code.specs.Theory.Values.{same_cell, other_cell, set_same, set_other}
 use Rattle.runner_cells.specs.Working.Noted.{in_order, EachOnce}
-use Rattle.runner_cells.proofs.Lists.{same_cell, other_cell, here, past}
-
--- ---- with a cell's value set
-
-set_same_by : (lt eq : Bool) (x : ℕ × Value) (xs : List (ℕ × Value)) (c : ℕ) (v : Value) → nat_eq c x.0 ≡ eq →
-    value_at (with_value xs c v) c ≡ Some v →
-    value_at (if lt then (c, v) ∷ x ∷ xs else if eq then (c, v) ∷ xs else x ∷ with_value xs c v) c ≡ Some v
-set_same_by true eq x xs c v e ih = here (c, v) (x ∷ xs) c refl
-set_same_by false true x xs c v e ih = here (c, v) xs c refl
-set_same_by false false x xs c v e ih = past x (with_value xs c v) c (λ q. other_cell c x.0 e (sym q)) ∙ ih
-
-pub set_same : (xs : List (ℕ × Value)) (c : ℕ) (v : Value) → value_at (with_value xs c v) c ≡ Some v
-set_same [] c v = here (c, v) [] c refl
-set_same (x ∷ xs) c v = set_same_by (nat_lt c x.0) (nat_eq c x.0) x xs c v refl (set_same xs c v)
-
-set_other_by : (lt eq : Bool) (x : ℕ × Value) (xs : List (ℕ × Value)) (c k : ℕ) (v : Value) → nat_eq c x.0 ≡ eq →
-    c ≢ k →
-    value_at (with_value xs c v) k ≡ value_at xs k →
-    value_at (if lt then (c, v) ∷ x ∷ xs else if eq then (c, v) ∷ xs else x ∷ with_value xs c v) k ≡ value_at (x ∷ xs) k
-set_other_by true eq x xs c k v e ne ih = past (c, v) (x ∷ xs) k ne
-set_other_by false true x xs c k v e ne ih = past (c, v) xs k ne ∙ sym (past x xs k (λ q. ne (same_cell c x.0 e ∙ q)))
-set_other_by false false x xs c k v e ne ih = ap (λ t. if nat_eq x.0 k then Some x.1 else t) ih
-
-pub set_other : (xs : List (ℕ × Value)) (c k : ℕ) (v : Value) → c ≢ k → value_at (with_value xs c v) k ≡ value_at xs k
-set_other [] c k v ne = past (c, v) [] k ne
-set_other (x ∷ xs) c k v ne = set_other_by (nat_lt c x.0) (nat_eq c x.0) x xs c k v refl ne (set_other xs c k v ne)
+use Rattle.runner_cells.proofs.Lists.{here, past}
 
 -- ---- rising cells
 

@@ -1,6 +1,6 @@
 -- A sorted list of values of cells.
-use Rattle.std.proofs.Common.{◌≡◌, ◌≢◌, ℕ, zero, suc, ◌+◌, ◌≤◌, Bool, true, false, List, [], ◌∷◌, length, Option}
-use Rattle.std.proofs.Common.{Some, None, inl, inr, refl, sym, ap, ◌∙◌, arith}
+use Rattle.std.proofs.Common.{◌≡◌, ◌≢◌, ℕ, zero, suc, ◌+◌, ◌≤◌, Bool, true, false, List, [], ◌∷◌, length, Option, Some}
+use Rattle.std.proofs.Common.{None, inl, inr, refl, sym, ap, ◌∙◌, arith}
 use Rattle.std.specs.Prelude.{slice_get, nat_eq, nat_lt, if◌then◌else◌}
 use Rattle.std.specs.List.{Contains}
 use Rattle.std.specs.List.Sorted.{IsPermutation, IsNonDecreasingBy}
@@ -11,9 +11,10 @@ use Rattle.std.proofs.lemmas.Option.{none-some, same_Some}
 use Rattle.core_lang.specs.declared.value.Value.{Value}
 use Rattle.code.specs.Memory.{value_at, with_value}
 use Rattle.runner_cells.specs.Working.Noted.{in_order, EachOnce}
-use Rattle.runner_cells.proofs.Lists.{same_cell, other_cell, here, past}
+use Rattle.runner_cells.proofs.Lists.{here, past}
 use Rattle.runner_cells.proofs.Rising.{same_rising, in_order_rises, in_order_values}
 use Rattle.core_lang.specs.Theory.Items.{at_contained}
+use Rattle.code.specs.Theory.Values.{same_cell, other_cell}
 
 -- ---- the same values in another order
 

@@ -20,11 +20,12 @@ use Rattle.runner_cells.proofs.Rising.{in_order_values, in_order_twice, in_order
 use Rattle.runner_cells.proofs.Sorted.{length_in_order}
 use Rattle.runner_cells.proofs.Noting.{few, found_value, not_found, noted_so, noted_with, with_cells, one_more}
 use Rattle.runner_cells.proofs.Noting.{same_room}
-use Rattle.runner_cells.proofs.Places.{distinct_under, distinct_push, under_append}
+use Rattle.runner_cells.proofs.Places.{distinct_under, under_append}
 use Rattle.runner_cells.proofs.Granted.{locks_append, count_append, granted_append, append_none, length_locks}
-use Rattle.runner_cells.proofs.Granted.{granted_count, under_count, elsewhere, granted_value, granted_changed}
-use Rattle.runner_cells.proofs.Granted.{cell_at, locks_set, count_set, whole_at}
+use Rattle.runner_cells.proofs.Granted.{granted_count, under_count, elsewhere, granted_value, granted_changed, cell_at}
+use Rattle.runner_cells.proofs.Granted.{locks_set, count_set, whole_at}
 use Rattle.core_lang.specs.Theory.Items.{get_some}
+use Rattle.layout.specs.Theory.Numbers.{distinct_push}
 
 pub item_is : {X : Type 0} (xs : List X) (i : ℕ) (x y : X) → slice_get xs i ≡ Some x → y ≡ get_or xs i y → y ≡ x
 item_is xs i x y at e = e ∙ get_or_from_slice_get xs i x y at

@@ -1,6 +1,6 @@
 -- One line of a history at a time.
 use Rattle.std.proofs.Common.{◌≡◌, ◌∙◌, ◌<◌, ◌≤◌, ◌+◌, ℕ, List, [], ◌∷◌, ◌++◌, ap, sym, refl, inl, inr, arith, Result}
-use Rattle.std.proofs.Common.{Ok, Err, Some, None, Option, append_assoc, length, take, drop}
+use Rattle.std.proofs.Common.{Ok, Err, Some, None, append_assoc, length, take, drop}
 use Rattle.std.proofs.lemmas.Bool.{le-ltb, lt-ltb, cases_lt}
 use Rattle.std.proofs.lemmas.List.{append-nil, length-take-le}
 use Rattle.std.proofs.lemmas.List.Splits.{length-slice_split}
@@ -9,7 +9,6 @@ use Rattle.std.specs.List.{slice_split, position_or_len}
 use Rattle.source_histories.specs.declared.format.Format.{Format}
 use Rattle.source_histories.specs.declared.reading.Reader.{Reader}
 use Rattle.source_histories.specs.declared.reading.Recorded.{Recorded}
-use Rattle.source_histories.specs.declared.refusal.HistoryFault.{HistoryFault}
 use Rattle.source_histories.specs.declared.refusal.HistoryCode.TheVariants.{BadHeader, MissingEnd, LongLine}
 use Rattle.source_histories.specs.declared.refusal.HistoryRefusal.{HistoryRefusal}
 use Rattle.source_histories.specs.declared.refusal.HistoryRefusal.TheVariants.{Fault, NoMemory}

@@ -1,6 +1,6 @@
 -- Tokens one behind the other in a text.
-use Rattle.std.proofs.Common.{◌≡◌, ℕ, ◌+◌, ◌-◌, ◌*◌, ◌/◌, ◌%◌, ◌<◌, ◌≤◌, Bool, true, false, List, [], ◌∷◌, ◌++◌}
-use Rattle.std.proofs.Common.{length, refl, sym, ◌∙◌, subst, arith, length-append}
+use Rattle.std.proofs.Common.{◌≡◌, ℕ, ◌+◌, ◌-◌, ◌*◌, ◌/◌, ◌%◌, ◌<◌, ◌≤◌, Bool, true, false, List, [], ◌∷◌, ◌++◌, length}
+use Rattle.std.proofs.Common.{refl, sym, ◌∙◌, subst, arith, length-append}
 use Rattle.std.specs.Prelude.{◌==◌, ◌&&◌, ◌||◌, not}
 use Rattle.std.specs.List.{list_all}
 use Rattle.std.specs.Fmt.{decimal}
@@ -8,6 +8,7 @@ use Rattle.std.proofs.lemmas.Bool.Decides.{nat_tests}
 use Rattle.std.proofs.lemmas.Fmt.{decimal_by_steps}
 use Rattle.std.proofs.lemmas.List.Folds.{list_all-append}
 use Rattle.std.proofs.lemmas.List.Sums.{fold-append}
+use Rattle.std.proofs.lemmas.Bool.{and_parts}
 use Rattle.source.specs.declared.token.Keyword.{Keyword}
 use Rattle.source.specs.declared.token.Keyword.TheVariants.{Lock, Struct, Final, Ref, Int, Global, ProtectedBy, Pool}
 use Rattle.source.specs.declared.token.Keyword.TheVariants.{Init, Atomic, Let, Var, If, Else, While, Print, Return}
@@ -16,16 +17,11 @@ use Rattle.source.specs.declared.token.Sign.{Sign}
 use Rattle.source.specs.declared.token.Sign.TheVariants.{OpenBrace, CloseBrace, OpenParen, CloseParen, OpenBracket}
 use Rattle.source.specs.declared.token.Sign.TheVariants.{CloseBracket, Semicolon, Comma, Colon, Dot, Equals}
 use Rattle.source.specs.declared.token.Sign.TheVariants.{DoubleEquals, NotEquals, Less, LessEquals, Greater}
-use Rattle.source.specs.declared.token.Sign.TheVariants.{GreaterEquals, Plus, Minus, Star, Slash, Percent, And, Or}
-use Rattle.source.specs.declared.token.Sign.TheVariants.{Not}
+use Rattle.source.specs.declared.token.Sign.TheVariants.{GreaterEquals, Plus, Minus, Star, Slash, Percent, And, Or, Not}
 use Rattle.source.specs.Tokens.{Lexeme, name, int, mark, Tok}
 use Rattle.source.specs.Texts.{is_letter, is_digit, is_name_byte, is_white, keyword_text, sign_text, value_of, IsUnit}
 use Rattle.source.specs.Texts.{is_name, is_number, is_word, is_mark, IsLongest, NUMBER_LIMIT, IsWithin, no_gap, white}
 use Rattle.source.specs.Texts.{BeginsComment, tok_at, AreTokens, at_end, token}
-
-and_both : (a b : Bool) → (a && b) ≡ true → (a ≡ true) × (b ≡ true)
-and_both true b e = (refl, e)
-and_both false b e = absurd cc
 
 -- ---- which bytes stand behind the first one of a unit
 
@@ -105,7 +101,7 @@ digit_name b h = grind (arith, nat_tests)
 all_more : (p q : ℕ → Bool) → ((b : ℕ) → p b ≡ true → q b ≡ true) → (bs : List ℕ) → list_all p bs ≡ true →
     list_all q bs ≡ true
 all_more p q h [] e = refl
-all_more p q h (b ∷ bs) e = let s = and_both (p b) (list_all p bs) e in rw (h b s.0, all_more p q h bs s.1) refl
+all_more p q h (b ∷ bs) e = let s = and_parts (p b) (list_all p bs) e in rw (h b s.0, all_more p q h bs s.1) refl
 
 not_lone : (b : ℕ) → is_name_byte b ≡ true → is_lone b ≡ false
 not_lone b h = grind (arith, nat_tests)
@@ -125,7 +121,7 @@ letter_name b h = rw h refl
 
 test_unit : {bytes : List ℕ} {k : Lexeme} → IsUnit bytes k → unit_test bytes ≡ true
 test_unit (is_name {b} {bs} letter all none) = named_test b bs (letter_name b letter) (all_more is_name_byte is_tail name_tail bs all)
-test_unit (is_number {b} {bs} all) = let s = and_both (is_digit b) (list_all is_digit bs) all in named_test b bs (digit_name b s.0) (all_more is_digit is_tail (λ c h. name_tail c (digit_name c h)) bs s.1)
+test_unit (is_number {b} {bs} all) = let s = and_parts (is_digit b) (list_all is_digit bs) all in named_test b bs (digit_name b s.0) (all_more is_digit is_tail (λ c h. name_tail c (digit_name c h)) bs s.1)
 test_unit (is_word w) = keyword_test w
 test_unit (is_mark s) = sign_test s
 
@@ -145,10 +141,10 @@ not_true false e = refl
 apart_longest : (bytes tail : List ℕ) (k : Lexeme) → IsUnit bytes k → Apart tail → IsLongest bytes tail
 apart_longest [] tail k u h = let t = test_unit u in absurd cc
 apart_longest (b ∷ bs) tail k u h = λ c more other l e v.
-    let t = and_both (list_all is_tail (bs ++ c ∷ more)) (is_joined b (bs ++ c ∷ more)) (test_unit v) in
-    let s = and_both (list_all is_tail bs) (list_all is_tail (c ∷ more)) (sym (list_all-append is_tail bs (c ∷ more)) ∙ t.0) in
-    let first = and_both (is_tail c) (list_all is_tail more) s.1 in
-    let a = and_both (not (is_tail c)) (not (c == 47)) (subst Apart e h) in
+    let t = and_parts (list_all is_tail (bs ++ c ∷ more)) (is_joined b (bs ++ c ∷ more)) (test_unit v) in
+    let s = and_parts (list_all is_tail bs) (list_all is_tail (c ∷ more)) (sym (list_all-append is_tail bs (c ∷ more)) ∙ t.0) in
+    let first = and_parts (is_tail c) (list_all is_tail more) s.1 in
+    let a = and_parts (not (is_tail c)) (not (c == 47)) (subst Apart e h) in
     let p : is_tail c ≡ true = first.0 in
     let q : is_tail c ≡ false = not_true (is_tail c) a.0 in
     absurd cc
@@ -161,8 +157,8 @@ apart_no_comment (b ∷ []) tail k u h c =
     absurd cc
 apart_no_comment (b ∷ d ∷ bs) tail k u h c =
     let e : d ≡ 47 = let q = c.1 in cc in
-    let t = and_both (list_all is_tail (d ∷ bs)) (is_joined b (d ∷ bs)) (test_unit u) in
-    let s = and_both (is_tail d) (list_all is_tail bs) t.0 in
+    let t = and_parts (list_all is_tail (d ∷ bs)) (is_joined b (d ∷ bs)) (test_unit u) in
+    let s = and_parts (is_tail d) (list_all is_tail bs) t.0 in
     let f : is_tail 47 ≡ true = subst (λ x. is_tail x ≡ true) e s.0 in
     absurd cc
 
@@ -174,8 +170,8 @@ put total bytes tail k us u w a h = token (record { gap = no_gap; no_comment = a
 
 lone_longest : (b : ℕ) (tail : List ℕ) → is_lone b ≡ true → IsLongest (b ∷ []) tail
 lone_longest b tail lone = λ c more other l e v.
-    let t = and_both (list_all is_tail (c ∷ more)) (is_joined b (c ∷ more)) (test_unit v) in
-    let j = and_both (not (is_lone b)) (not (b == 33) || (c == 61)) t.1 in
+    let t = and_parts (list_all is_tail (c ∷ more)) (is_joined b (c ∷ more)) (test_unit v) in
+    let j = and_parts (not (is_lone b)) (not (b == 33) || (c == 61)) t.1 in
     let f : is_lone b ≡ false = not_true (is_lone b) j.0 in
     absurd cc
 
@@ -197,7 +193,7 @@ Begins (b ∷ bs) = (b == 61) ≡ false
 not_longest : (tail : List ℕ) → Begins tail → IsLongest (33 ∷ []) tail
 not_longest [] h = absurd h
 not_longest (d ∷ tail) h = λ c more other l e v.
-    let t = and_both (list_all is_tail (c ∷ more)) (c == 61) (test_unit v) in
+    let t = and_parts (list_all is_tail (c ∷ more)) (c == 61) (test_unit v) in
     let q : d ≡ c = cc in
     let p : (c == 61) ≡ false = subst (λ x. (x == 61) ≡ false) q h in
     let r : (c == 61) ≡ true = t.1 in
@@ -217,7 +213,7 @@ pub name_begins : {bytes x : List ℕ} → IsUnit bytes (name x) → Begins byte
 name_begins (is_name {b} {bs} letter all none) = letter_begins b letter
 
 pub number_begins : {bytes : List ℕ} {n : ℕ} → IsUnit bytes (int n) → Begins bytes
-number_begins (is_number {b} {bs} all) = let s = and_both (is_digit b) (list_all is_digit bs) all in digit_begins b s.0
+number_begins (is_number {b} {bs} all) = let s = and_parts (is_digit b) (list_all is_digit bs) all in digit_begins b s.0
 
 pub space : (total b : ℕ) (tail : List ℕ) (us : List Tok) → is_white b ≡ true → AreTokens total tail us →
     AreTokens total (b ∷ tail) us

@@ -1,13 +1,11 @@
-//! Tests of the crates `core_lang`, `layout`, `lock_manager` and `interleavings` over compiled programs, and of `meaning_trees`
-//! over a tree, of what no clause says, against values from outside.
+//! Tests of the crates `core_lang`, `layout`, `lock_manager` and `interleavings` over compiled programs, of what no clause says,
+//! against values from outside.
 //!
 //! They stand here and not in the crates that they test, since a crate with tests is proved twice.
 #![tactic(auto)]
 
 #[cfg(test)]
 mod calls_taken;
-#[cfg(test)]
-mod helper_calls;
 #[cfg(test)]
 mod layouts;
 #[cfg(test)]

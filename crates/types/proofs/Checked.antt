@@ -1,5 +1,5 @@
 -- The passes together.
-use Rattle.std.proofs.Common.{◌≡◌, List, [], ◌∷◌, ◌++◌, Option, Some, None, Bool, true, false, refl, sym, ap, ◌∙◌}
+use Rattle.std.proofs.Common.{◌≡◌, List, [], ◌++◌, Option, Some, None, Bool, true, false, refl, sym, ap, ◌∙◌}
 use Rattle.std.proofs.Common.{if◌then◌else◌}
 use Rattle.std.specs.Prelude.{is_some, not}
 use Rattle.source.specs.declared.mistake.Mistake.{Mistake}
@@ -7,8 +7,8 @@ use Rattle.core_lang.specs.declared.typed.Typed.{Typed}
 use Rattle.resolution.specs.CoreViews.{core_of}
 use Rattle.syntax.specs.Trees.{Decl}
 use Rattle.resolution.specs.Core as core
-use Rattle.source.specs.Mistakes.{goes_before, least_of}
-use Rattle.source.specs.Theory.Leasts.{least_append}
+use Rattle.source.specs.Mistakes.{least_of}
+use Rattle.source.specs.Theory.Leasts.{least_append, some_least}
 use Rattle.resolution.specs.Tables.{nothing_yet}
 use Rattle.resolution.specs.Working.Building.{resolved, resolved_from}
 use Rattle.resolution.specs.Working.FaultLists.{twice_faults, struct_faults, total_faults, repeated_faults, each_faults}
@@ -41,14 +41,10 @@ some_next : (f g : Mistake) (gs : List Mistake) → ((h : Mistake) → least_of 
 some_next f g gs rec true e = rec g e
 some_next f g gs rec false e = rec f e
 
-some_kept : (f : Mistake) (gs : List Mistake) → least_of (Some f) gs ≡ None → ⊥
-some_kept f [] e = cc
-some_kept f (g ∷ gs) e = some_next f g gs (λ h k. some_kept h gs k) (goes_before g f) e
-
 -- where there is no fault, there was none before
 pub was_none : (f : Option Mistake) (gs : List Mistake) → least_of f gs ≡ None → f ≡ None
 was_none None gs e = refl
-was_none (Some f) gs e = absurd (some_kept f gs e)
+was_none (Some f) gs e = absurd (some_least f gs e)
 
 -- where there is no fault, the whole is resolved
 pub whole_built : (ds ps : List Decl) (start v : Option core.Program) → ps ≡ ds → start ≡ Some nothing_yet →

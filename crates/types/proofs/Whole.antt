@@ -15,8 +15,5 @@ pub at_place : (decls : List Decl) (place number : ℕ) (d : rust.Decl) (s : rus
 at_place decls place number d s o there is at found =
     found ∙ ap (the_struct decls) (at ∙ ap (λ x. number_at decls place (decl_of x)) is) ∙ struct_at decls place (struct_of s) (there ∙ ap (λ x. Some (decl_of x)) is)
 
-pub some_is : {A : Type 0} (x y : A) → Some x ≡ Some y → x ≡ y
-some_is x y e = cc
-
 pub none_some : {A : Type 0} (y : A) → None ≡ Some y → ⊥
 none_some y e = cc

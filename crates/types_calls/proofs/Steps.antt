@@ -1,35 +1,24 @@
 -- Statements and parameters one after another, blocks, and statements through their boxes.
-use Rattle.std.proofs.Common.{◌≡◌, Global, ℕ, ◌+◌, ◌<◌, List, ◌++◌, Option, length, drop, get_or, map, refl, sym, ap}
-use Rattle.std.proofs.Common.{◌∙◌, append_assoc, arith}
-use Rattle.std.specs.Prelude.{Box}
+use Rattle.std.proofs.Common.{◌≡◌, ℕ, ◌+◌, ◌<◌, List, ◌++◌, Option, length, drop, get_or, sym, ap, ◌∙◌, append_assoc}
+use Rattle.std.proofs.Common.{arith}
 use Rattle.syntax.specs.declared.tree.Stmt as tree_stmt
-use Rattle.syntax.specs.declared.tree.Stmt.{While, If}
+use Rattle.syntax.specs.declared.tree.Stmt.{If}
 use Rattle.syntax.specs.declared.tree.If as tree_if
 use Rattle.syntax.specs.declared.tree.If.{out-If}
-use Rattle.syntax.specs.declared.tree.While as tree_while
-use Rattle.syntax.specs.declared.tree.Param as tree_param
-use Rattle.syntax.specs.Views.{stmt_of, if_of, stmts_of, else_of, param_of}
-use Rattle.syntax.specs.Theory.Rows.{while_of, stmt_of-While, if_of-out}
-use Rattle.syntax.specs.Trees.{Decl, Stmt, let_local, let_owned, let_call, var_local, assign, if_then, while, print}
-use Rattle.syntax.specs.Trees.{return_value, call, Stmts, no_stmts, stmt, no_else, else_do}
+use Rattle.syntax.specs.Views.{stmt_of, if_of, stmts_of, else_of}
+use Rattle.syntax.specs.Theory.Rows.{if_of-out}
+use Rattle.syntax.specs.Trees.{Decl, Stmt, Stmts}
 use Rattle.core_lang.specs.declared.value.ValueType as core_type
-use Rattle.core_lang.specs.declared.tree.LocalKind.TheVariants.{Parameter}
 use Rattle.core_lang_calls.specs.declared.graph.CallSite.{CallSite}
 use Rattle.resolution.specs.declared.body_limits.BodyLimits.{BodyLimits}
-use Rattle.resolution.specs.Scopes.{Scope, Local, hidden_from, bound, entered, outside, type_of, left}
+use Rattle.resolution.specs.Scopes.{Scope, Local, hidden_from, left}
 use Rattle.resolution.specs.Statements.{after, after_else, after_all}
-use Rattle.resolution.specs.Theory.Facts.{after_result}
 use Rattle.resolution.specs.CallGraphs.{stmt_calls, else_calls, stmts_calls, stmt_points, else_points, stmts_points}
+use Rattle.resolution.specs.Theory.Blocks.{left_is as scope_left}
 use Rattle.types_symbols.specs.{KnownLocals, scope_of}
 use Rattle.types_symbols.specs.Theory.Steps.{step}
 
 -- ---- one after another
-
-pub scope_step : (sc sc' whole : Scope) (items : List tree_stmt.Stmt) (i : ℕ) (item : tree_stmt.Stmt) →
-    i < length items → item ≡ get_or items i item → sc' ≡ after sc (stmt_of item) →
-    after_all sc (stmts_of (drop i items)) ≡ whole → after_all sc' (stmts_of (drop (i + 1) items)) ≡ whole
-scope_step sc sc' whole items i item lt is behind before =
-    step (λ ss. after_all sc (stmts_of ss)) (λ ss. after_all sc' (stmts_of ss)) items i item whole lt is (ap (λ (z : Scope). after_all z (stmts_of (drop (i + 1) items))) behind) before
 
 pub calls_step : (sc sc' : Scope) (old new whole : List CallSite) (items : List tree_stmt.Stmt) (i : ℕ) (item : tree_stmt.Stmt) → i < length items → item ≡ get_or items i item →
     sc' ≡ after sc (stmt_of item) → new ≡ old ++ stmt_calls sc (stmt_of item) →
@@ -47,75 +36,20 @@ pub points_step : (old new whole : ℕ) (items : List tree_stmt.Stmt) (i : ℕ) 
 points_step old new whole items i item lt is more before =
     step (λ ss. old + stmts_points (stmts_of ss)) (λ ss. new + stmts_points (stmts_of ss)) items i item whole lt is (omega (arith, more)) before
 
-pub param_step : (sc sc' whole : Scope) (items : List tree_param.Param) (i : ℕ) (item : tree_param.Param) →
-    i < length items → item ≡ get_or items i item →
-    sc' ≡ bound sc Parameter (param_of item).name (type_of (outside sc.decls) (param_of item).value_type) →
-    entered sc (map param_of (drop i items)) ≡ whole → entered sc' (map param_of (drop (i + 1) items)) ≡ whole
-param_step sc sc' whole items i item lt is behind before =
-    step (λ ps. entered sc (map param_of ps)) (λ ps. entered sc' (map param_of ps)) items i item whole lt is (ap (λ (z : Scope). entered z (map param_of (drop (i + 1) items))) behind) before
-
 -- ---- blocks
-
-after_decls : (sc : Scope) (s : Stmt) → (after sc s).decls ≡ sc.decls
-after_decls sc (let_local l) = refl
-after_decls sc (let_owned l o) = refl
-after_decls sc (let_call l) = refl
-after_decls sc (var_local l) = refl
-after_decls sc (assign p e) = refl
-after_decls sc (if_then start e body close no_else) = refl
-after_decls sc (if_then start e body close (else_do other end)) = refl
-after_decls sc (while start e body close) = refl
-after_decls sc (print start e) = refl
-after_decls sc (return_value start e) = refl
-after_decls sc (call start c) = refl
-
-all_decls : (sc : Scope) (ss : Stmts) → (after_all sc ss).decls ≡ sc.decls
-all_decls sc no_stmts = refl
-all_decls sc (stmt s rest) = all_decls (after sc s) rest ∙ after_decls sc s
-
-all_result : (sc : Scope) (ss : Stmts) → (after_all sc ss).result ≡ sc.result
-all_result sc no_stmts = refl
-all_result sc (stmt s rest) = all_result (after sc s) rest ∙ after_result sc s
-
-after_limits : (sc : Scope) (s : Stmt) → (after sc s).limits ≡ sc.limits
-after_limits sc (let_local l) = refl
-after_limits sc (let_owned l o) = refl
-after_limits sc (let_call l) = refl
-after_limits sc (var_local l) = refl
-after_limits sc (assign p e) = refl
-after_limits sc (if_then start e body close no_else) = refl
-after_limits sc (if_then start e body close (else_do other end)) = refl
-after_limits sc (while start e body close) = refl
-after_limits sc (print start e) = refl
-after_limits sc (return_value start e) = refl
-after_limits sc (call start c) = refl
-
-all_limits : (sc : Scope) (ss : Stmts) → (after_all sc ss).limits ≡ sc.limits
-all_limits sc no_stmts = refl
-all_limits sc (stmt s rest) = all_limits (after sc s) rest ∙ after_limits sc s
 
 -- behind a block, whose locals are hidden
 pub left_is : (decls : List Decl) (old inner new : KnownLocals) (number : ℕ) (ss : Stmts) →
     number ≡ length old.locals → scope_of decls inner ≡ after_all (scope_of decls old) ss →
     new.locals ≡ hidden_from number inner.locals → new.result ≡ inner.result → new.limits ≡ inner.limits → scope_of decls new ≡ left (scope_of decls old) (after_all (scope_of decls old) ss)
 left_is decls old inner new number ss here within made result limits =
-    let sc = scope_of decls old in
-    let end = after_all sc ss in
     let made_is : scope_of decls new ≡ record (scope_of decls inner) { locals = hidden_from number inner.locals } =
     ap (λ (l : List Local). record { decls = decls; locals = l; result = new.result; limits = new.limits }) made
     ∙ ap (λ (r : Option core_type.ValueType). record { decls = decls; locals = hidden_from number inner.locals; result = r; limits = new.limits }) result
     ∙ ap (λ (l : BodyLimits). record { decls = decls; locals = hidden_from number inner.locals; result = inner.result; limits = l }) limits in
-    made_is ∙ ap (λ (z : Scope). record z { locals = hidden_from number z.locals }) within
-    ∙ ap (λ (n : ℕ). record end { locals = hidden_from n end.locals }) here
-    ∙ ap (λ (ds : List Decl). record { decls = ds; locals = hidden_from (length sc.locals) end.locals; result = end.result; limits = end.limits }) (all_decls sc ss)
-    ∙ ap (λ (r : Option core_type.ValueType). record { decls = sc.decls; locals = hidden_from (length sc.locals) end.locals; result = r; limits = end.limits }) (all_result sc ss)
-    ∙ ap (λ (l : BodyLimits). record { decls = sc.decls; locals = hidden_from (length sc.locals) end.locals; result = sc.result; limits = l }) (all_limits sc ss)
+    scope_left (scope_of decls old) (scope_of decls inner) (scope_of decls new) number ss here within made_is
 
 -- ---- through their boxes
-
-pub while_seen : (s : tree_stmt.Stmt) (b : Box tree_while.While Global) (x : tree_while.While) → s ≡ While b →
-    x ≡ b.value → while_of x ≡ stmt_of s
-while_seen s b x is hx = ap while_of hx ∙ sym (ap stmt_of is ∙ stmt_of-While b)
 
 -- a choice by its parts, where the scope behind its block is sc2
 module _ (sc sc2 : Scope) (choice : tree_if.If) (behind : sc2 ≡ left sc (after_all sc (stmts_of (out-If choice).block.stmts.items))) where

@@ -6,10 +6,10 @@ use Rattle.std.proofs.Math.Nat.{add-zero}
 use Rattle.syntax.specs.declared.tree.Member as tree
 use Rattle.syntax.specs.Views.{member_of}
 use Rattle.syntax.specs.Trees.{Decl, Member, lock_member, final_member, field_member}
+use Rattle.core_lang.specs.Theory.Items.{next_of}
 use Rattle.resolution.specs.Core as core
 use Rattle.resolution.specs.Working.Building.{Slot, with_members, StructBuilder, member_added, members_added}
 use Rattle.types_symbols.specs.Working.Counted.{field_if}
-use Rattle.types_symbols.specs.Theory.Steps.{drop-here}
 use Rattle.types_declarations.specs.Working.Slots.{member_with}
 
 parts_none : (decls : List Decl) (slot : Slot) (place fields : ℕ) (ms : List Member) →
@@ -37,7 +37,7 @@ members_none decls k i all (field_member f ∷ ms) = members_none decls k i all 
 
 module _ (decls : List Decl) (items : List tree.Member) (n : ℕ) (item : tree.Member) (lt : n < length items) (is : item ≡ get_or items n item) where
   here : map member_of (drop n items) ≡ member_of item ∷ map member_of (drop (n + 1) items)
-  here = ap (map member_of) (drop-here items n item lt is)
+  here = ap (map member_of) (next_of items n item lt is)
 
   parts_with : (slot : Slot) (place fields : ℕ) (p : Option core.Program) →
       with_members decls slot place fields p (map member_of (drop n items)) ≡ with_members decls slot (place + 1) (fields + field_if true (member_of item)) (member_with decls slot place fields p (member_of item)) (map member_of (drop (n + 1) items))

@@ -13,10 +13,9 @@ use Rattle.syntax.specs.declared.tree.Block as tree_block
 use Rattle.syntax.specs.declared.tree.Local as tree_local
 use Rattle.syntax.specs.declared.tree.Param as tree_param
 use Rattle.syntax.specs.Views.{expr_of, stmt_of, if_of, local_of, stmts_of, else_of, param_of}
-use Rattle.syntax.specs.Trees.{Decl, Stmt, let_local, let_owned, let_call, var_local, assign, if_then, while, print}
-use Rattle.syntax.specs.Trees.{return_value, call, Stmts, no_stmts, stmt, no_else, else_do, Param, Section}
+use Rattle.syntax.specs.Trees.{Decl, Stmt, let_local, var_local, Stmts, no_stmts, stmt, Param, Section}
 use Rattle.core_lang.specs.declared.value.ValueType as core_type
-use Rattle.syntax.specs.Theory.Rows.{while_of, stmt_of-While, if_of-out}
+use Rattle.syntax.specs.Theory.Rows.{while_of, if_of-out}
 use Rattle.core_lang.specs.declared.tree.LocalKind.TheVariants.{Parameter}
 use Rattle.core_lang.specs.declared.tree.Stmt as r
 use Rattle.core_lang.specs.declared.tree.Return as r_return
@@ -27,19 +26,17 @@ use Rattle.resolution.specs.declared.wanted.Want.TheVariants.{Condition}
 use Rattle.types_sections.specs.declared.stmt.Body as the_body
 use Rattle.types_sections.specs.Working.Targets.{Row, row_of, body_of, pushed_to, body_pushed}
 use Rattle.resolution.specs.declared.body_limits.BodyLimits.{BodyLimits}
-use Rattle.resolution.specs.Scopes.{Scope, hidden_from, bound, entered, outside, type_of, result_of, left}
+use Rattle.resolution.specs.Scopes.{Scope, bound, entered, outside, type_of, result_of, left}
 use Rattle.resolution.specs.Working.TypedExpressions.{typed, test_resolved}
 use Rattle.resolution.specs.Working.TypedStatements.{Part, does, gives, Body, given_back, preceded, typed_body}
-use Rattle.resolution.specs.Working.TypedStatements.{typed_stmt}
-use Rattle.resolution.specs.Working.TypedStatements.{typed_if, block_of, repeats, chooses_between}
-use Rattle.resolution.specs.Statements.{after, after_else, after_all}
-use Rattle.resolution.specs.Statements.{ahead_of}
+use Rattle.resolution.specs.Working.TypedStatements.{typed_stmt, typed_if, block_of, repeats, chooses_between}
+use Rattle.resolution.specs.Statements.{after, after_else, after_all, ahead_of}
 use Rattle.resolution.specs.Working.TypedSections.{core_locals, section_of, section_in}
 use Rattle.source.specs.Mistakes.{least_of}
 use Rattle.resolution.specs.Working.FaultLists.{one_if, local_faults, type_faults, param_faults, stmt_faults}
 use Rattle.resolution.specs.Working.FaultLists.{stmts_faults, wanted_faults, else_faults}
 use Rattle.types_symbols.specs.Theory.Steps.{step, noted_one, noted_two, noted_three}
-use Rattle.resolution.specs.Theory.Facts.{after_result}
+use Rattle.resolution.specs.Theory.Blocks.{all_decls, entered_decls}
 
 -- ---- bodies
 
@@ -144,12 +141,6 @@ stmt_fault_step sc sc' items i item f g whole lt is one behind before =
     (ap (λ (z : Scope). least_of g (stmts_faults z (stmts_of rest))) behind ∙ noted_one f g (stmt_faults sc (stmt_of item)) (stmts_faults (after sc (stmt_of item)) (stmts_of rest)) one)
     before
 
-pub stmt_scope_step : (sc sc' whole : Scope) (items : List tree_stmt.Stmt) (i : ℕ) (item : tree_stmt.Stmt) →
-    i < length items → item ≡ get_or items i item → sc' ≡ after sc (stmt_of item) →
-    after_all sc (stmts_of (drop i items)) ≡ whole → after_all sc' (stmts_of (drop (i + 1) items)) ≡ whole
-stmt_scope_step sc sc' whole items i item lt is behind before =
-    step (λ ss. after_all sc (stmts_of ss)) (λ ss. after_all sc' (stmts_of ss)) items i item whole lt is (ap (λ (z : Scope). after_all z (stmts_of (drop (i + 1) items))) behind) before
-
 -- ---- parameters
 
 pub param_fault_step : (sc sc' : Scope) (items : List tree_param.Param) (i : ℕ) (item : tree_param.Param) (f g h k whole : Option Mistake) →
@@ -165,69 +156,7 @@ param_fault_step sc sc' items i item f g h k whole lt is one two three behind be
     ∙ noted_three f g h k (local_faults sc p.name) (one_if (nat_le sc.limits.parameters i) LimitExceeded p.name.span.start) (type_faults (outside sc.decls) p.value_type) (param_faults (bound sc Parameter p.name (type_of (outside sc.decls) p.value_type)) (i + 1) rest) one two three)
     before
 
-pub param_scope_step : (sc sc' whole : Scope) (items : List tree_param.Param) (i : ℕ) (item : tree_param.Param) →
-    i < length items → item ≡ get_or items i item → sc' ≡ bound sc Parameter (param_of item).name (type_of (outside sc.decls) (param_of item).value_type) →
-    entered sc (map param_of (drop i items)) ≡ whole → entered sc' (map param_of (drop (i + 1) items)) ≡ whole
-param_scope_step sc sc' whole items i item lt is behind before =
-    step (λ ps. entered sc (map param_of ps)) (λ ps. entered sc' (map param_of ps)) items i item whole lt is (ap (λ (z : Scope). entered z (map param_of (drop (i + 1) items))) behind) before
-
--- ---- blocks
-
-after_decls : (sc : Scope) (s : Stmt) → (after sc s).decls ≡ sc.decls
-after_decls sc (let_local l) = refl
-after_decls sc (let_owned l o) = refl
-after_decls sc (let_call l) = refl
-after_decls sc (var_local l) = refl
-after_decls sc (assign p e) = refl
-after_decls sc (if_then start e body close no_else) = refl
-after_decls sc (if_then start e body close (else_do other end)) = refl
-after_decls sc (while start e body close) = refl
-after_decls sc (print start e) = refl
-after_decls sc (return_value start e) = refl
-after_decls sc (call start c) = refl
-
-all_decls : (sc : Scope) (ss : Stmts) → (after_all sc ss).decls ≡ sc.decls
-all_decls sc no_stmts = refl
-all_decls sc (stmt s rest) = all_decls (after sc s) rest ∙ after_decls sc s
-
-all_result : (sc : Scope) (ss : Stmts) → (after_all sc ss).result ≡ sc.result
-all_result sc no_stmts = refl
-all_result sc (stmt s rest) = all_result (after sc s) rest ∙ after_result sc s
-
-after_limits : (sc : Scope) (s : Stmt) → (after sc s).limits ≡ sc.limits
-after_limits sc (let_local l) = refl
-after_limits sc (let_owned l o) = refl
-after_limits sc (let_call l) = refl
-after_limits sc (var_local l) = refl
-after_limits sc (assign p e) = refl
-after_limits sc (if_then start e body close no_else) = refl
-after_limits sc (if_then start e body close (else_do other end)) = refl
-after_limits sc (while start e body close) = refl
-after_limits sc (print start e) = refl
-after_limits sc (return_value start e) = refl
-after_limits sc (call start c) = refl
-
-all_limits : (sc : Scope) (ss : Stmts) → (after_all sc ss).limits ≡ sc.limits
-all_limits sc no_stmts = refl
-all_limits sc (stmt s rest) = all_limits (after sc s) rest ∙ after_limits sc s
-
--- behind a block, whose locals are hidden
-pub left_is : (sc inner new : Scope) (number : ℕ) (ss : Stmts) → number ≡ length sc.locals → inner ≡ after_all sc ss →
-    new ≡ record inner { locals = hidden_from number inner.locals } →
-    new ≡ left sc (after_all sc ss)
-left_is sc inner new number ss here within made =
-    let end = after_all sc ss in
-    made ∙ ap (λ (z : Scope). record z { locals = hidden_from number z.locals }) within
-    ∙ ap (λ (n : ℕ). record end { locals = hidden_from n end.locals }) here
-    ∙ ap (λ (ds : List Decl). record { decls = ds; locals = hidden_from (length sc.locals) end.locals; result = end.result; limits = end.limits }) (all_decls sc ss)
-    ∙ ap (λ (r : Option core_type.ValueType). record { decls = sc.decls; locals = hidden_from (length sc.locals) end.locals; result = r; limits = end.limits }) (all_result sc ss)
-    ∙ ap (λ (l : BodyLimits). record { decls = sc.decls; locals = hidden_from (length sc.locals) end.locals; result = sc.result; limits = l }) (all_limits sc ss)
-
 -- ---- a whole section
-
-entered_decls : (sc : Scope) (ps : List Param) → (entered sc ps).decls ≡ sc.decls
-entered_decls sc [] = refl
-entered_decls sc (p ∷ ps) = entered_decls (bound sc Parameter p.name (type_of (outside sc.decls) p.value_type)) ps
 
 module _ (sc : Scope) (s : Section) (inner end : Scope) (locals : Option (List core.Local)) (body : Option Body) where
   pub section_is : inner ≡ entered sc s.params → body ≡ typed_body inner s.body.stmts →
@@ -260,11 +189,6 @@ var_seen s b x is hx = ap (λ (l : tree_local.Local). var_local (local_of l)) hx
 pub if_seen : (s : tree_stmt.Stmt) (b : Box tree_if.If Global) (x : tree_if.If) → s ≡ If b → x ≡ b.value →
     if_of x ≡ stmt_of s
 if_seen s b x is hx = ap if_of hx ∙ sym (ap stmt_of is)
-
--- a loop, read through the box
-pub while_seen : (s : tree_stmt.Stmt) (b : Box tree_while.While Global) (x : tree_while.While) → s ≡ While b →
-    x ≡ b.value → while_of x ≡ stmt_of s
-while_seen s b x is hx = ap while_of hx ∙ sym (ap stmt_of is ∙ stmt_of-While b)
 
 -- a loop by its parts
 module _ (sc : Scope) (loop : tree_while.While) where

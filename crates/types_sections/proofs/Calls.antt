@@ -1,6 +1,6 @@
 -- Arguments of calls of helpers, one after another.
-use Rattle.std.proofs.Common.{◌≡◌, ℕ, suc, ◌+◌, ◌<◌, List, [], ◌∷◌, Option, Some, None, length, drop, get_or, refl}
-use Rattle.std.proofs.Common.{sym, ap, ◌∙◌, append_assoc}
+use Rattle.std.proofs.Common.{◌≡◌, ℕ, suc, ◌+◌, ◌<◌, List, [], ◌∷◌, Option, Some, None, length, drop, get_or, refl, sym}
+use Rattle.std.proofs.Common.{ap, ◌∙◌, append_assoc}
 use Rattle.source.specs.declared.mistake.Mistake.{Mistake}
 use Rattle.syntax.specs.declared.tree.Expr as rust_expr
 use Rattle.syntax.specs.declared.tree.Param as rust_param
@@ -15,9 +15,10 @@ use Rattle.resolution.specs.Working.TypedConstants.{added}
 use Rattle.resolution.specs.Working.TypedStatements.{typed_values}
 use Rattle.resolution.specs.Working.Building.{joined}
 use Rattle.source.specs.Mistakes.{least_of}
+use Rattle.core_lang.specs.Theory.Items.{next_of}
 use Rattle.resolution.specs.Working.FaultLists.{wanted_faults}
 use Rattle.types_expressions.specs.Working.Parts.{pushed}
-use Rattle.types_symbols.specs.Theory.Steps.{drop-here, noted_one}
+use Rattle.types_symbols.specs.Theory.Steps.{noted_one}
 use Rattle.types_sections.specs.Working.Calls.{numbered, values_of, values_blamed, values_passed}
 
 -- one value more
@@ -39,8 +40,8 @@ module _ (sc : Scope) (ps : List rust_param.Param) (es : List rust_expr.Expr) (i
       ap (λ (n : Option (List core.Expr)). joined n rest) made
       ∙ joined_more so_far v rest
       ∙ ap (λ (x : Option core.Expr). joined so_far (added x rest)) (one ∙ ap (λ (y : Want). as_value (fitting y (typed sc (expr_of e)))) wanted)
-      ∙ ap (λ (qs : List rust_param.Param). joined so_far (values_of sc qs (e ∷ drop (i + 1) es))) (sym (drop-here ps i p few is))
-      ∙ ap (λ (xs : List rust_expr.Expr). joined so_far (values_of sc (drop i ps) xs)) (sym (drop-here es i e less here))
+      ∙ ap (λ (qs : List rust_param.Param). joined so_far (values_of sc qs (e ∷ drop (i + 1) es))) (sym (next_of ps i p few is))
+      ∙ ap (λ (xs : List rust_expr.Expr). joined so_far (values_of sc (drop i ps) xs)) (sym (next_of es i e less here))
       ∙ before
 
   pub values_fault_step : (f g whole : Option Mistake) → g ≡ least_of f (wanted_faults sc w (expr_of e)) →
@@ -48,8 +49,8 @@ module _ (sc : Scope) (ps : List rust_param.Param) (es : List rust_expr.Expr) (i
   values_fault_step f g whole one before =
       let rest = values_blamed sc (drop (i + 1) ps) (drop (i + 1) es) in
       noted_one f g (wanted_faults sc (want_of sc.decls (param_of p)) (expr_of e)) rest (one ∙ ap (λ (y : Want). least_of f (wanted_faults sc y (expr_of e))) wanted)
-      ∙ ap (λ (qs : List rust_param.Param). least_of f (values_blamed sc qs (e ∷ drop (i + 1) es))) (sym (drop-here ps i p few is))
-      ∙ ap (λ (xs : List rust_expr.Expr). least_of f (values_blamed sc (drop i ps) xs)) (sym (drop-here es i e less here))
+      ∙ ap (λ (qs : List rust_param.Param). least_of f (values_blamed sc qs (e ∷ drop (i + 1) es))) (sym (next_of ps i p few is))
+      ∙ ap (λ (xs : List rust_expr.Expr). least_of f (values_blamed sc (drop i ps) xs)) (sym (next_of es i e less here))
       ∙ before
 
 -- too many or too few have no values

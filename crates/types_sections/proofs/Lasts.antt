@@ -1,30 +1,13 @@
 -- The last step of a path, and paths on the left.
-use Rattle.std.proofs.Common.{◌≡◌, ℕ, List, [], ◌∷◌, ◌++◌, Option, Some, None, refl, ap, ◌∙◌}
-use Rattle.core_lang.specs.declared.tree.FieldStep.{FieldStep}
-use Rattle.core_lang.specs.declared.tree.FieldStep.TheVariants.{Final, Field}
+use Rattle.std.proofs.Common.{◌≡◌, ℕ, List, ◌++◌, Option, ap, ◌∙◌}
 use Rattle.source.specs.declared.mistake.Mistake.{Mistake}
 use Rattle.source.specs.Mistakes.{least_of}
 use Rattle.syntax.specs.Trees.{Decl, Ident}
-use Rattle.resolution.specs.Scopes.{◌>>=◌, Meaning}
+use Rattle.resolution.specs.Scopes.{Meaning}
 use Rattle.resolution.specs.Expressions.{Walk, walk_from}
 use Rattle.resolution.specs.Working.FaultLists.{final_faults, path_faults}
 use Rattle.types_symbols.specs.Theory.Steps.{noted_one}
-use Rattle.resolution.specs.Working.TypedStatements.{Assignee, Split, assignee_along, behind, last_field}
-
-pub last_push : (ys : List FieldStep) (k n : ℕ) →
-    last_field (ys ++ Field k n ∷ []) ≡ Some (record { base = ys; structure = k; field = n })
-last_push [] k n = refl
-last_push (Field j m ∷ []) k n = refl
-last_push (Final j m ∷ []) k n = refl
-last_push (Field j m ∷ s ∷ ys) k n = ap (λ (o : Option Split). o >>= λ p. Some (behind (Field j m) p)) (last_push (s ∷ ys) k n)
-last_push (Final j m ∷ s ∷ ys) k n = ap (λ (o : Option Split). o >>= λ p. Some (behind (Final j m) p)) (last_push (s ∷ ys) k n)
-
-pub last_final : (ys : List FieldStep) (k n : ℕ) → last_field (ys ++ Final k n ∷ []) ≡ None
-last_final [] k n = refl
-last_final (Field j m ∷ []) k n = refl
-last_final (Final j m ∷ []) k n = refl
-last_final (Field j m ∷ s ∷ ys) k n = ap (λ (o : Option Split). o >>= λ p. Some (behind (Field j m) p)) (last_final (s ∷ ys) k n)
-last_final (Final j m ∷ s ∷ ys) k n = ap (λ (o : Option Split). o >>= λ p. Some (behind (Final j m) p)) (last_final (s ∷ ys) k n)
+use Rattle.resolution.specs.Working.TypedStatements.{Assignee, assignee_along}
 
 -- ---- a path on the left, by what each part is
 

@@ -1,13 +1,12 @@
 -- What a hold of the lock leaves under it.
-use Rattle.std.proofs.Common.{◌≡◌, ◌≤◌, ℕ, suc, List, [], ◌∷◌, ◌++◌, length, drop, refl, sym, ap, ◌∙◌, subst, Some}
+use Rattle.std.proofs.Common.{◌≡◌, ◌≤◌, ℕ, List, [], ◌∷◌, ◌++◌, length, drop, sym, ap, ◌∙◌, subst, Some}
 use Rattle.core_lang.specs.declared.value.Outcome.{Outcome}
 use Rattle.std.proofs.lemmas.List.{length-map, drop_at}
 use Rattle.core_lang.specs.declared.value.Value.{Value}
-use Rattle.core_lang.specs.declared.value.ValueType.{ValueType}
-use Rattle.core_lang.specs.declared.shape.Shape.{Shape}
 use Rattle.core_lang.specs.declared.typed.Typed.{Typed}
 use Rattle.core_lang.specs.declared.typed.Cell.{Cell}
-use Rattle.core_lang.specs.Typing.{HaveTypes, IsHeap, HasCells, cell_types}
+use Rattle.core_lang.specs.Typing.{IsHeap, HasCells, cell_types}
+use Rattle.core_lang.specs.Theory.Openings.{have_length}
 use Rattle.layout.specs.Layouts.{LayoutOf}
 use Rattle.code.specs.Memory.{Agrees}
 use Rattle.history.specs.Commits.{Commit, committed, IsLegal, IsTrueCommit, AreTrue}
@@ -22,15 +21,9 @@ use Rattle.workers.specs.Working.Guarding.{IsManagerOf}
 use Rattle.workers.specs.Working.Within.{IsEntered, SeesItsOwn}
 use Rattle.workers_seen.specs.Logs.{Begins, IsSound, NoneOf}
 
-typed_length : (shape : Shape) (ts : List ValueType) (vs : List Value) → HaveTypes shape ts vs → length vs ≡ length ts
-typed_length shape [] [] h = refl
-typed_length shape [] (v ∷ vs) h = absurd h
-typed_length shape (t ∷ ts) [] h = absurd h
-typed_length shape (t ∷ ts) (v ∷ vs) h = ap suc (typed_length shape ts vs h.1)
-
 pub has_cells : (program : Typed) (heap : List Value) → IsHeap program heap → HasCells program heap
 has_cells program heap h =
-    typed_length program.shape (cell_types program) heap h ∙ length-map program.cells.items (λ (cell : Cell). cell.value_type)
+    have_length program.shape (cell_types program) heap h ∙ length-map program.cells.items (λ (cell : Cell). cell.value_type)
 
 -- nothing is entered
 pub manager_kept : (plan : Plan) (m m' : Managed) → IsManagerOf plan m → KeepsEntries m m' → IsManagerOf plan m'

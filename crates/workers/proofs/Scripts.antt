@@ -1,6 +1,6 @@
 -- Where the seats are those of all threads, the history has their scripts.
-use Rattle.std.proofs.Common.{◌≡◌, ℕ, zero, suc, ◌+◌, ◌<◌, ◌==◌, Bool, true, false, if◌then◌else◌, List, [], ◌∷◌}
-use Rattle.std.proofs.Common.{◌++◌, length, refl, sym, ◌∙◌, ap, subst, map, take, get_or, arith, Some, Option, None}
+use Rattle.std.proofs.Common.{◌≡◌, ℕ, zero, suc, ◌+◌, ◌<◌, ◌==◌, Bool, true, false, if◌then◌else◌, List, [], ◌∷◌, ◌++◌}
+use Rattle.std.proofs.Common.{length, refl, sym, ◌∙◌, ap, subst, map, take, get_or, arith, Some, Option, None}
 use Rattle.std.proofs.Common.{slice_get, option_map}
 use Rattle.std.specs.Prelude.{slice_index_or}
 use Rattle.std.proofs.lemmas.Bool.{cond-true, eq-eqb}
@@ -15,6 +15,7 @@ use Rattle.core_lang.specs.Serial.{Invocation}
 use Rattle.history.specs.Commits.{Commit, call_of}
 use Rattle.worlds.specs.Claims.{AreOfScripts}
 use Rattle.lowering.specs.Plans.{Plan}
+use Rattle.worlds.specs.Theory.Steps.{each_of_scripts}
 use Rattle.workers.specs.Seats.{SeatOf, ReplyOf}
 use Rattle.workers.specs.Working.Within.{AreInOrder, HasCalls}
 use Rattle.workers.specs.Answers.{AnswersAreIn, IsSeated, HasScript, call_in, reply_at, replies_of, in_step, script_at}
@@ -98,17 +99,11 @@ found_reply t position (x ∷ log) (suc p) c is mine = behind (x.thread == t) (r
     behind true h r = (suc r.0, r.1)
     behind false h r = r
 
-each_of_script : (plan : Plan) (cs : List Commit) →
-    ((p : ℕ) (c : Commit) → slice_get cs p ≡ Some c → (k : ℕ) × (call_at plan c.thread k ≡ Some (call_of c))) →
-    AreOfScripts plan cs
-each_of_script plan [] each = tt
-each_of_script plan (c ∷ cs) each = (each 0 c refl, each_of_script plan cs (λ p d is. each (suc p) d is))
-
 pub all_of_scripts : (plan : Plan) (count : ℕ) (seats : List SeatOf) (log : List Commit) →
     AreInOrder plan count seats → All (AnswersAreIn log) seats → All (IsSeated seats) log →
     AreOfScripts plan log
 all_of_scripts plan count seats log order sit seated =
-    each_of_script plan log (λ p c is.
+    each_of_scripts plan log (λ p c is.
     let below = thread_below plan count seats c order (seated_at (IsSeated seats) log p c seated is) in
     let script = has_script plan count seats log order sit c.thread below in
     let found = found_reply c.thread 0 log p c is refl in

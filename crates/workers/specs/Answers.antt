@@ -1,6 +1,6 @@
 -- What an answer of a call says, and what a closed history says of all answers.
-use Rattle.std.specs.Prelude.{◌≡◌, ◌+◌, ◌==◌, ◌&&◌, ℕ, ℤ, Bool, true, List, [], ◌∷◌, length, map, if◌then◌else◌}
-use Rattle.std.specs.Prelude.{Option, Some, slice_get}
+use Rattle.std.specs.Prelude.{◌≡◌, ◌+◌, ◌==◌, ◌&&◌, ℕ, ℤ, Bool, true, List, [], ◌∷◌, length, map, if◌then◌else◌, Option}
+use Rattle.std.specs.Prelude.{Some, slice_get}
 use Rattle.std.specs.List.{Contains}
 use Rattle.core_lang.specs.declared.value.Value.{Value}
 use Rattle.core_lang.specs.declared.value.Outcome.{Outcome}
@@ -49,9 +49,13 @@ pub record AnswersAreIn (log : List Commit) (s : SeatOf) : Type 0 where
   pub answers : s.answers ≡ replies_of s.thread 0 log
   pub steps : in_step s.thread 0 log ≡ true
 
--- the entry's thread is one of the seats'
+-- one of the seats is the thread's
+abbrev pub HasSeat : List SeatOf → ℕ → Type 0
+HasSeat seats thread = Contains (map (λ (s : SeatOf). s.thread) seats) thread
+
+-- one is the entry's thread's
 abbrev pub IsSeated : List SeatOf → Commit → Type 0
-IsSeated seats c = Contains (map (λ (s : SeatOf). s.thread) seats) c.thread
+IsSeated seats c = HasSeat seats c.thread
 
 -- a history of the program: sound; the values are those that it leaves, one of each cell, and those of its calls, run
 -- whole one after another, which end and print as it says

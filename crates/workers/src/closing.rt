@@ -2,8 +2,8 @@
 
 ghost use Rattle.std.specs.Prelude.{◌⊎◌, IsTrue};
 ghost use Rattle.std.specs.List.{All};
-ghost use Rattle.workers.specs.Answers.{IsSeated};
-ghost use Rattle.workers.specs.Working.Within.{HasSeat, IsIn};
+ghost use Rattle.workers.specs.Answers.{HasSeat, IsSeated};
+ghost use Rattle.workers.specs.Working.Within.{IsIn};
 ghost use Rattle.workers_seen.specs.Logs.{NoneOf};
 
 use crate::seat::Seat;

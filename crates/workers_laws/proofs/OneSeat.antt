@@ -1,14 +1,12 @@
 -- Where all entries are one thread's.
-use Rattle.std.proofs.Common.{◌≡◌, ◌∙◌, ◌+◌, ◌==◌, ℕ, List, [], ◌∷◌, map, Option, Some, refl, sym, ap, subst}
+use Rattle.std.proofs.Common.{◌≡◌, ◌∙◌, ◌+◌, ◌==◌, ℕ, List, [], ◌∷◌, map, Some, refl, sym, ap, subst}
 use Rattle.std.proofs.lemmas.Bool.{cond-true, eq-eqb}
-use Rattle.core_lang.specs.declared.value.Value.{Value}
 use Rattle.core_lang.specs.Laws.{HaveAtMostOneSerial}
-use Rattle.core_lang.specs.Serial.{Invocation, Ended, SerialFromOpening, opening_heap}
+use Rattle.core_lang.specs.Serial.{Invocation, SerialFromOpening, opening_heap}
 use Rattle.history.specs.Commits.{Commit, call_of, answer_of}
-use Rattle.lowering.specs.Plans.{Plan}
 use Rattle.workers.specs.Seats.{ReplyOf}
-use Rattle.workers.specs.Answers.{RunsAsAccepted, HasScript, script_at, reply_at, replies_of, call_in}
-use Rattle.workers_laws.specs.Laws.{AreOf, IsSerialRun, OneSeatIsSerial}
+use Rattle.workers.specs.Answers.{reply_at, replies_of, call_in}
+use Rattle.workers_laws.specs.Laws.{AreOf, OneSeatIsSerial}
 
 -- its answers' calls are the entries'
 calls_of_one : (t at : ℕ) (log : List Commit) → AreOf t log → map call_in (replies_of t at log) ≡ map call_of log

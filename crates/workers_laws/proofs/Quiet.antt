@@ -1,11 +1,9 @@
 -- Entries that read and wrote nothing.
-use Rattle.std.proofs.Common.{◌≡◌, ◌∙◌, List, [], ◌∷◌, ◌++◌, refl, sym, ap, subst}
+use Rattle.std.proofs.Common.{◌≡◌, ◌∙◌, List, [], ◌∷◌, ◌++◌, sym, ap, subst}
 use Rattle.core_lang.specs.declared.value.Value.{Value}
 use Rattle.core_lang.specs.declared.typed.Typed.{Typed}
 use Rattle.code.specs.Memory.{overwritten, Agrees}
 use Rattle.history.specs.Commits.{Commit, committed, IsLegal, IsTrueCommit, AreTrue}
-use Rattle.lowering.specs.Plans.{Plan}
-use Rattle.workers_seen.specs.Logs.{IsSound}
 use Rattle.workers_laws.specs.Laws.{IsQuiet, QuietCallsStandAnywhere}
 
 same_heap : (heap : List Value) (c : Commit) → IsQuiet c → overwritten heap c.writes ≡ heap

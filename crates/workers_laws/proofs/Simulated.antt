@@ -16,7 +16,8 @@ use Rattle.source_steps.specs.declared.turn.Turn.{Turn}
 use Rattle.source_steps.specs.Turns.{steps_of}
 use Rattle.worlds.specs.Claims.{AreOfScripts}
 use Rattle.worlds.specs.Worlds.{World, ThreadState, Activation, HasOpen, script_of, scripts, call_at, at_first}
-use Rattle.worlds.specs.Worlds.{happens, opening_world, world_after, final}
+use Rattle.worlds.specs.Worlds.{opening_world, world_after, final}
+use Rattle.worlds.specs.Theory.Steps.{steps_more}
 use Rattle.workers.specs.Seats.{ReplyOf}
 use Rattle.workers.specs.Answers.{IsHistoryOf, HasScript, script_at, reply_at, replies_of, in_step, call_in}
 use Rattle.workers_laws.specs.Laws.{IsAtRest, RunWhole, HasAllScripts, ClosedRunsAreSimulated}
@@ -51,11 +52,6 @@ pushed : {X Y : Type 0} (f : X → Y) (xs : List X) (x : X) (y : Y) (ys : List Y
     map f (xs ++ x ∷ []) ++ ys ≡ map f xs ++ y ∷ ys
 pushed f [] x y ys is = ap (λ z. z ∷ ys) is
 pushed f (z ∷ xs) x y ys is = ap (λ zs. f z ∷ zs) (pushed f xs x y ys is)
-
-steps_more : (plan : Plan) (w : World) (xs ys : List ℕ) →
-    world_after plan w (xs ++ ys) ≡ world_after plan (world_after plan w xs) ys
-steps_more plan w [] ys = refl
-steps_more plan w (t ∷ xs) ys = steps_more plan (happens plan w t).1 xs ys
 
 -- ---- a thread's calls that are still to come
 

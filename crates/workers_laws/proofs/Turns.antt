@@ -1,6 +1,6 @@
 -- A call run whole by steps of its thread alone.
-use Rattle.std.proofs.Common.{◌≡◌, ◌∙◌, ◌<◌, ℕ, zero, suc, ◌+◌, List, [], ◌∷◌, ◌++◌, length, map, replicate, Option}
-use Rattle.std.proofs.Common.{Some, None, slice_get, slice_set, refl, sym, ap, subst, arith, inl, inr}
+use Rattle.std.proofs.Common.{◌≡◌, ◌∙◌, ℕ, zero, suc, ◌+◌, List, [], ◌∷◌, ◌++◌, length, map, replicate, Option, Some}
+use Rattle.std.proofs.Common.{None, slice_get, slice_set, refl, sym, ap, subst, arith, inl, inr}
 use Rattle.std.specs.Option.{option_map_or}
 use Rattle.std.proofs.lemmas.Bool.{cases_eq}
 use Rattle.std.proofs.lemmas.Option.{slice_get_within}
@@ -59,11 +59,6 @@ pub set_same : {X : Type 0} (xs : List X) (i : ℕ) (x y : X) → slice_get xs i
 set_same [] i x y h = absurd cc
 set_same (z ∷ xs) zero x y h = refl
 set_same (z ∷ xs) (suc i) x y h = set_same xs i x y h
-
-pub item_at : {X : Type 0} (xs : List X) (k : ℕ) → k < length xs → (x : X) × (slice_get xs k ≡ Some x)
-item_at [] k within = absurd (omega arith)
-item_at (x ∷ xs) zero within = (x, refl)
-item_at (x ∷ xs) (suc k) within = item_at xs k (omega arith)
 
 -- cells that are all there, with these values
 full : (cells : List (Option Value)) (heap : List Value) → length cells ≡ length heap →

@@ -6,13 +6,15 @@ use Rattle.std.proofs.lemmas.Bool.{eqb-true, eq-eqb, ne_eqb, cases_Bool, cases_e
 use Rattle.std.proofs.lemmas.Bool.{or_left, or_right}
 use Rattle.std.proofs.lemmas.List.{length-set}
 use Rattle.core_lang.specs.declared.value.Value.{Value}
+use Rattle.core_lang.specs.Theory.Items.{set_other}
 use Rattle.locks.specs.declared.lock.Lock.{Lock}
 use Rattle.layout.specs.LockCells.{cells_from, cells_of}
 use Rattle.locks.specs.Locks.{same_lock, among}
 use Rattle.code.specs.Memory.{value_at, overwritten, Agrees}
 use Rattle.worlds.specs.Worlds.{with_taken, taken, without, with_back}
-use Rattle.worlds.proofs.Places.{get_set_other, get_set_same, get_set_is}
+use Rattle.worlds.proofs.Places.{get_set_same, get_set_is}
 use Rattle.locks.specs.Theory.Order.{same_is, same_refl}
+use Rattle.code.specs.Theory.Values.{value_left, value_right}
 
 -- ---- locks
 
@@ -100,23 +102,6 @@ cells_of_only locks lock c h =
 
 -- ---- values of cells
 
-pub value_more : (xs ys : List (ℕ × Value)) (c : ℕ) (v : Value) → value_at xs c ≡ Some v →
-    value_at (xs ++ ys) c ≡ Some v
-value_more [] ys c v h = absurd cc
-value_more (x ∷ xs) ys c v h = elim (cases_Bool (nat_eq x.0 c)) [
-  | inl e ↦ cond-true (nat_eq x.0 c) (Some x.1) (value_at (xs ++ ys) c) e ∙ (sym (cond-true (nat_eq x.0 c) (Some x.1) (value_at xs c) e) ∙ h)
-  | inr e ↦ cond-false (nat_eq x.0 c) (Some x.1) (value_at (xs ++ ys) c) e
-      ∙ value_more xs ys c v (sym (cond-false (nat_eq x.0 c) (Some x.1) (value_at xs c) e) ∙ h)
-]
-
-pub value_behind : (xs ys : List (ℕ × Value)) (c : ℕ) → value_at xs c ≡ None → value_at (xs ++ ys) c ≡ value_at ys c
-value_behind [] ys c h = refl
-value_behind (x ∷ xs) ys c h = elim (cases_Bool (nat_eq x.0 c)) [
-  | inl e ↦ absurd (let bad : Some x.1 ≡ None = sym (cond-true (nat_eq x.0 c) (Some x.1) (value_at xs c) e) ∙ h in cc bad)
-  | inr e ↦ cond-false (nat_eq x.0 c) (Some x.1) (value_at (xs ++ ys) c) e
-      ∙ value_behind xs ys c (sym (cond-false (nat_eq x.0 c) (Some x.1) (value_at xs c) e) ∙ h)
-]
-
 pub some_or_none : {X : Type 0} (x : Option X) → ((v : X) × (x ≡ Some v)) ⊎ (x ≡ None)
 some_or_none None = inr refl
 some_or_none (Some v) = inl (v, refl)
@@ -124,8 +109,8 @@ some_or_none (Some v) = inl (v, refl)
 pub value_cases : (xs ys : List (ℕ × Value)) (c : ℕ) (v : Value) → value_at (xs ++ ys) c ≡ Some v →
     (value_at xs c ≡ Some v) ⊎ (value_at ys c ≡ Some v)
 value_cases xs ys c v h = elim (some_or_none (value_at xs c)) [
-  | inl s ↦ inl (let same : Some s.0 ≡ Some v = sym (value_more xs ys c s.0 s.1) ∙ h in s.1 ∙ same)
-  | inr n ↦ inr (sym (value_behind xs ys c n) ∙ h)
+  | inl s ↦ inl (let same : Some s.0 ≡ Some v = sym (value_left xs ys c s.0 s.1) ∙ h in s.1 ∙ same)
+  | inr n ↦ inr (sym (value_right xs ys c n) ∙ h)
 ]
 
 -- ---- cells that are taken
@@ -183,7 +168,7 @@ pub without_some : (cells : List (Option Value)) (cs : List ℕ) (c : ℕ) (v : 
 without_some cells [] c v h = h
 without_some cells (d ∷ ds) c v h = elim (cases_eq d c) [
   | inl e ↦ absurd (let none : None ≡ Some v = get_set_is (without cells ds) d None (Some v) (ap (slice_get (set (without cells ds) d None)) e ∙ h) in cc none)
-  | inr ne ↦ without_some cells ds c v (sym (get_set_other (without cells ds) d c None ne) ∙ h)
+  | inr ne ↦ without_some cells ds c v (sym (set_other (without cells ds) d c None ne) ∙ h)
 ]
 
 pub without_none : (cells : List (Option Value)) (cs : List ℕ) (c : ℕ) → slice_get cells c ≡ Some None →
@@ -192,7 +177,7 @@ without_none cells [] c h = h
 without_none cells (d ∷ ds) c h = elim (cases_eq d c) [
   | inl e ↦ ap (slice_get (set (without cells ds) d None)) (sym e)
       ∙ get_set_same (without cells ds) d None None (ap (slice_get (without cells ds)) e ∙ without_none cells ds c h)
-  | inr ne ↦ get_set_other (without cells ds) d c None ne ∙ without_none cells ds c h
+  | inr ne ↦ set_other (without cells ds) d c None ne ∙ without_none cells ds c h
 ]
 
 pub without_away : (cells : List (Option Value)) (cs : List ℕ) (c : ℕ) (x : Option Value) → Among cs c →
@@ -203,7 +188,7 @@ without_away cells [] c x a h = absurd a
 without_away cells (d ∷ ds) c x (inr a) h = elim (cases_eq d c) [
   | inl e ↦ ap (slice_get (set (without cells ds) d None)) (sym e)
       ∙ get_set_same (without cells ds) d None None (ap (slice_get (without cells ds)) e ∙ without_away cells ds c x a h)
-  | inr ne ↦ get_set_other (without cells ds) d c None ne ∙ without_away cells ds c x a h
+  | inr ne ↦ set_other (without cells ds) d c None ne ∙ without_away cells ds c x a h
 ]
 without_away cells (d ∷ ds) c x (inl e) h =
     let y = stays cells ds c x h in
@@ -214,7 +199,7 @@ without_away cells (d ∷ ds) c x (inl e) h =
       stays cells (k ∷ ks) c x h = elim (cases_eq k c) [
         | inl q ↦ (let r = stays cells ks c x h in
             (None, ap (slice_get (set (without cells ks) k None)) (sym q) ∙ get_set_same (without cells ks) k r.0 None (ap (slice_get (without cells ks)) q ∙ r.1)))
-        | inr ne ↦ (let r = stays cells ks c x h in (r.0, get_set_other (without cells ks) k c None ne ∙ r.1))
+        | inr ne ↦ (let r = stays cells ks c x h in (r.0, set_other (without cells ks) k c None ne ∙ r.1))
       ]
 
 -- a cell that is away is one of these, or was away before
@@ -225,7 +210,7 @@ unfolding Among
 without_none_cases cells [] c h = inr h
 without_none_cases cells (d ∷ ds) c h = elim (cases_eq d c) [
   | inl e ↦ inl (inl e)
-  | inr ne ↦ elim (without_none_cases cells ds c (sym (get_set_other (without cells ds) d c None ne) ∙ h)) [
+  | inr ne ↦ elim (without_none_cases cells ds c (sym (set_other (without cells ds) d c None ne) ∙ h)) [
     | inl a ↦ inl (inr a)
     | inr q ↦ inr q
   ]
@@ -243,7 +228,7 @@ pub back_other : (cells : List (Option Value)) (xs : List (ℕ × Value)) (c : �
 back_other cells [] c h = refl
 back_other cells (x ∷ xs) c h = elim (cases_eq x.0 c) [
   | inl e ↦ absurd (let bad : Some x.1 ≡ None = sym (cond-true (nat_eq x.0 c) (Some x.1) (value_at xs c) (eq-eqb x.0 c e)) ∙ h in cc bad)
-  | inr ne ↦ get_set_other (with_back cells xs) x.0 c (Some x.1) ne
+  | inr ne ↦ set_other (with_back cells xs) x.0 c (Some x.1) ne
       ∙ back_other cells xs c (sym (cond-false (nat_eq x.0 c) (Some x.1) (value_at xs c) (ne_eqb x.0 c ne)) ∙ h)
 ]
 
@@ -254,7 +239,7 @@ back_some cells [] c v h = inr (refl, h)
 back_some cells (x ∷ xs) c v h = elim (cases_eq x.0 c) [
   | inl e ↦ (let same : Some x.1 ≡ Some v = get_set_is (with_back cells xs) x.0 (Some x.1) (Some v) (ap (slice_get (set (with_back cells xs) x.0 (Some x.1))) e ∙ h) in
       inl (cond-true (nat_eq x.0 c) (Some x.1) (value_at xs c) (eq-eqb x.0 c e) ∙ same))
-  | inr ne ↦ elim (back_some cells xs c v (sym (get_set_other (with_back cells xs) x.0 c (Some x.1) ne) ∙ h)) [
+  | inr ne ↦ elim (back_some cells xs c v (sym (set_other (with_back cells xs) x.0 c (Some x.1) ne) ∙ h)) [
     | inl q ↦ inl (cond-false (nat_eq x.0 c) (Some x.1) (value_at xs c) (ne_eqb x.0 c ne) ∙ q)
     | inr q ↦ inr (cond-false (nat_eq x.0 c) (Some x.1) (value_at xs c) (ne_eqb x.0 c ne) ∙ q.0, q.1)
   ]
@@ -266,7 +251,7 @@ pub back_none : (cells : List (Option Value)) (xs : List (ℕ × Value)) (c : �
 back_none cells [] c h = (refl, h)
 back_none cells (x ∷ xs) c h = elim (cases_eq x.0 c) [
   | inl e ↦ absurd (let bad : Some x.1 ≡ None = get_set_is (with_back cells xs) x.0 (Some x.1) None (ap (slice_get (set (with_back cells xs) x.0 (Some x.1))) e ∙ h) in cc bad)
-  | inr ne ↦ (let r = back_none cells xs c (sym (get_set_other (with_back cells xs) x.0 c (Some x.1) ne) ∙ h) in
+  | inr ne ↦ (let r = back_none cells xs c (sym (set_other (with_back cells xs) x.0 c (Some x.1) ne) ∙ h) in
       (cond-false (nat_eq x.0 c) (Some x.1) (value_at xs c) (ne_eqb x.0 c ne) ∙ r.0, r.1))
 ]
 

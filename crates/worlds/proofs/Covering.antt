@@ -28,8 +28,7 @@ use Rattle.code.specs.Working.Ahead.{CanExecute}
 use Rattle.lowering.specs.Plans.{Plan}
 use Rattle.worlds.specs.Working.Ahead.{HasCome}
 use Rattle.worlds.proofs.Cells.{some_or_none}
-use Rattle.worlds.proofs.InTurn.{in_rest}
-use Rattle.core_lang.specs.Theory.Items.{in_cases}
+use Rattle.core_lang.specs.Theory.Items.{in_cases, in_rest}
 
 -- ---- lists
 

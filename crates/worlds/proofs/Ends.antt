@@ -3,17 +3,17 @@ use Rattle.std.proofs.Common.{◌≡◌, ◌≤◌, ◌<◌, ℕ, zero, suc, ◌
 use Rattle.std.proofs.Common.{None, refl, sym, ap, ◌∙◌, subst, arith, inl, inr}
 use Rattle.std.proofs.lemmas.List.{length_push}
 use Rattle.std.proofs.lemmas.Bool.{cases_eq}
+use Rattle.core_lang.specs.Theory.Items.{still_at, last_at, set_other}
 use Rattle.history.specs.Commits.{Commit}
 use Rattle.lowering.specs.Plans.{Plan}
 use Rattle.worlds.specs.declared.event.Event.{Event}
 use Rattle.worlds.specs.declared.event.Event.TheVariants.{Began, Ended}
-use Rattle.worlds.specs.Worlds.{World, ThreadState, Activation, commit, taken, instructed, next_effect, happens}
-use Rattle.worlds.specs.Worlds.{world_after, events, opening_world, HasOpen}
-use Rattle.code.specs.Machine.{Effect, Moves, Asks, Finishes, Undefined}
-use Rattle.code.specs.Memory.{HeldCells}
+use Rattle.worlds.specs.Worlds.{World, Activation, commit, taken, next_effect, happens, world_after, events}
+use Rattle.worlds.specs.Worlds.{opening_world, HasOpen}
 use Rattle.worlds.specs.Claims.{EndsInOrder, HaveEntries}
-use Rattle.worlds.proofs.Turns.{Active, Turn, idles, starts, gets, waits, over, moves, turn}
-use Rattle.worlds.proofs.Places.{get_set_other, get_set_same, get_more, get_last}
+use Rattle.worlds.proofs.Turns.{Turn, idles, starts, gets, waits, over, moves, turn, same_open}
+use Rattle.worlds.proofs.Places.{get_set_same}
+use Rattle.worlds.specs.Theory.Steps.{instructed_begun}
 
 -- ---- positions rise
 
@@ -32,7 +32,7 @@ turn_end plan w t e after (over {thread} {a} {outcome} at none out) =
     record {
       grows = omega (arith, more);
       ended = λ p h. let same : length w.history ≡ p = cc in (sym same, more ∙ ap (λ n. n + 1) same);
-      kept = λ p c h. get_more w.history (commit t thread.step a outcome ∷ []) p c h;
+      kept = λ p c h. still_at w.history (commit t thread.step a outcome ∷ []) p c h;
     }
 turn_end plan w t e after (moves at none out) = record { grows = omega arith; ended = λ p h. absurd cc; kept = λ p c h. h }
 
@@ -67,28 +67,16 @@ in_order plan steps u b c e p q one two before =
 abbrev OpenSince : World → ℕ → ℕ → Type 0
 OpenSince w t n = (a : Activation) × HasOpen w t a × (a.begun ≡ n)
 
-instructed_begun : (plan : Plan) (a : Activation) (e : Effect HeldCells) → (instructed plan a e).begun ≡ a.begun
-instructed_begun plan a (Moves m) = refl
-instructed_begun plan a (Asks point) = refl
-instructed_begun plan a (Finishes outcome) = refl
-instructed_begun plan a Undefined = refl
-
-same_open : (w : World) (t : ℕ) (thread : ThreadState) (a b : Activation) → Active w t thread a → HasOpen w t b → a ≡ b
-same_open w t thread a b at o =
-    let same : thread ≡ o.0 = (let e : Some thread ≡ Some o.0 = sym at.at ∙ o.1 in cc e) in
-    let e : Some a ≡ Some b = sym at.is ∙ (ap (λ x. x.active) same ∙ o.2) in
-    cc e
-
 -- other threads stay as they are
 pub others_stay : (plan : Plan) (w : World) (u : ℕ) (e : Event) (after : World) → Turn plan w u e after → (t : ℕ) →
     (u ≡ t → ⊥) →
     slice_get after.threads t ≡ slice_get w.threads t
 others_stay plan w u e after idles t ne = refl
-others_stay plan w u e after (starts at is call) t ne = get_set_other w.threads u t _ ne
-others_stay plan w u e after (gets at want free) t ne = get_set_other w.threads u t _ ne
-others_stay plan w u e after (waits at want busy) t ne = get_set_other w.threads u t _ ne
-others_stay plan w u e after (over at none out) t ne = get_set_other w.threads u t _ ne
-others_stay plan w u e after (moves at none out) t ne = get_set_other w.threads u t _ ne
+others_stay plan w u e after (starts at is call) t ne = set_other w.threads u t _ ne
+others_stay plan w u e after (gets at want free) t ne = set_other w.threads u t _ ne
+others_stay plan w u e after (waits at want busy) t ne = set_other w.threads u t _ ne
+others_stay plan w u e after (over at none out) t ne = set_other w.threads u t _ ne
+others_stay plan w u e after (moves at none out) t ne = set_other w.threads u t _ ne
 
 own_stays : (plan : Plan) (w : World) (t : ℕ) (e : Event) (after : World) → Turn plan w t e after → (n : ℕ) →
     OpenSince w t n →
@@ -143,7 +131,7 @@ ended_turn plan w t e after (over {thread} {a} {outcome} at none out) n p o h =
     let place : length w.history ≡ p = cc in
     let c = commit t thread.step a outcome in (
       c,
-      subst (λ (k : ℕ). slice_get (w.history ++ c ∷ []) k ≡ Some c) place (get_last w.history c),
+      subst (λ (k : ℕ). slice_get (w.history ++ c ∷ []) k ≡ Some c) place (last_at w.history c),
       refl,
       ap (λ x. x.begun) (same_open w t thread a o.0 at o.1) ∙ o.2,
     )

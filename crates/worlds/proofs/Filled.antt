@@ -1,36 +1,22 @@
 -- Each call in a history has an argument for each parameter of its section.
-use Rattle.std.proofs.Common.{◌≡◌, ◌<◌, ◌≤◌, ◌==◌, ℕ, zero, suc, ◌+◌, Bool, true, false, if◌then◌else◌, List, [], ◌∷◌}
-use Rattle.std.proofs.Common.{length, map, take, slice_get, Option, Some, None, refl, sym, ap, ◌∙◌, subst, arith}
+use Rattle.std.proofs.Common.{◌≡◌, ◌==◌, ℕ, zero, suc, ◌+◌, Bool, true, false, if◌then◌else◌, List, [], ◌∷◌, length}
+use Rattle.std.proofs.Common.{map, take, slice_get, Option, Some, None, refl, sym, ap, ◌∙◌, subst, arith}
 use Rattle.std.specs.Option.{option_map_or}
 use Rattle.std.proofs.lemmas.Bool.{cond-true, eq-eqb}
-use Rattle.std.proofs.lemmas.List.{length-append}
-use Rattle.core_lang.specs.declared.value.Value.{Value}
-use Rattle.core_lang.specs.declared.value.ValueType.{ValueType}
-use Rattle.core_lang.specs.declared.shape.Shape.{Shape}
-use Rattle.core_lang.specs.declared.tree.Local.{Local}
 use Rattle.core_lang.specs.declared.tree.Section.{Section}
 use Rattle.core_lang.specs.Serial.{Invocation, Scheduled, invocation}
 use Rattle.core_lang.specs.Laws.{CallsFill}
-use Rattle.core_lang.specs.Scopes.{bound_in_all, numbers_from, IsWellScoped}
-use Rattle.core_lang.specs.Typing.{HaveTypes, local_types}
+use Rattle.core_lang.specs.Typing.{local_types}
 use Rattle.core_lang.specs.WellFormed.{CanCall}
 use Rattle.history.specs.Commits.{Commit, call_of, answer_of, script_call}
 use Rattle.lowering.specs.Plans.{Plan, IsCompiled, CompiledRunAlike}
 use Rattle.worlds.specs.Worlds.{World, script_of, scripts, call_at}
 use Rattle.worlds.specs.Claims.{calls_by, numbered, FollowsScripts, AreOfScripts, OfScriptsRunAlike}
-use Rattle.core_lang.specs.Theory.Items.{get_some, numbers_many}
+use Rattle.core_lang.specs.Theory.Items.{get_some, same_value, map_back}
+use Rattle.core_lang.specs.Theory.Openings.{have_length, taken_many, enough_locals}
+use Rattle.worlds.specs.Theory.Steps.{each_of_scripts}
 
 -- ---- lists
-
-some_same : {X : Type 0} (o : Option X) (a b : X) → o ≡ Some a → o ≡ Some b → a ≡ b
-some_same None a b e f = absurd cc
-some_same (Some x) a b e f = let p : x ≡ a = cc in let q : x ≡ b = cc in sym p ∙ q
-
-mapped_there : {X Y : Type 0} (f : X → Y) (xs : List X) (k : ℕ) (y : Y) → slice_get (map f xs) k ≡ Some y →
-    (x : X) × (slice_get xs k ≡ Some x) × (f x ≡ y)
-mapped_there f [] k y is = absurd cc
-mapped_there f (x ∷ xs) zero y is = let same : f x ≡ y = cc in (x, refl, same)
-mapped_there f (x ∷ xs) (suc k) y is = mapped_there f xs k y is
 
 taken_there : {X : Type 0} (n k : ℕ) (xs : List X) (x : X) → slice_get (take n xs) k ≡ Some x → slice_get xs k ≡ Some x
 taken_there zero k xs x is = absurd cc
@@ -63,24 +49,6 @@ among_calls t (d ∷ cs) (suc p) c is mine = behind (d.thread == t) (script_call
 
 -- ---- arguments
 
-typed_many : (shape : Shape) (ts : List ValueType) (vs : List Value) → HaveTypes shape ts vs → length vs ≡ length ts
-typed_many shape [] [] h = refl
-typed_many shape [] (v ∷ vs) h = absurd h
-typed_many shape (t ∷ ts) [] h = absurd h
-typed_many shape (t ∷ ts) (v ∷ vs) h = ap suc (typed_many shape ts vs h.1)
-
-taken_many : (n : ℕ) (locals : List Local) → n ≤ length locals → length (local_types (take n locals)) ≡ n
-taken_many zero locals le = refl
-taken_many (suc n) [] le = absurd (omega (arith, le))
-taken_many (suc n) (l ∷ ls) le = ap suc (taken_many n ls (omega (arith, le)))
-
-enough : (section : Section) → IsWellScoped section → section.parameters ≤ length section.locals.items
-enough section scoped =
-    let before = numbers_many 0 section.parameters in
-    let whole = numbers_many 0 (length section.locals.items) in
-    let same = ap (λ (l : List ℕ). length l) scoped.bound in
-    omega (arith, before, whole, same, length-append (numbers_from 0 section.parameters) (bound_in_all section.body.items))
-
 call_found : (plan : Plan) (t k : ℕ) (call : Invocation) → call_at plan t k ≡ Some call →
     (script : List Invocation) × (slice_get (scripts plan) t ≡ Some script) × (slice_get script k ≡ Some call)
 call_found plan t k call is = in_script (slice_get (scripts plan) t) is refl
@@ -98,9 +66,9 @@ module _ (plan : Plan) (ok : IsCompiled plan) where
   unfolding CanCall
   fills call (mine, is, fit) section there =
       let found = ok.expanded.expansion.there call.section section there in
-      let same = some_same (slice_get plan.program.sections.items call.section) found.0 mine found.1 is in
-      let many = typed_many plan.program.shape (local_types (take mine.parameters mine.locals.items)) call.arguments fit in
-      let le = enough mine (ok.well_formed.scopes call.section mine is) in
+      let same = same_value (slice_get plan.program.sections.items call.section) found.0 mine found.1 is in
+      let many = have_length plan.program.shape (local_types (take mine.parameters mine.locals.items)) call.arguments fit in
+      let le = enough_locals mine (ok.well_formed.scopes call.section mine is) in
       many ∙ taken_many mine.parameters mine.locals.items le ∙ ap (λ (z : Section). z.parameters) (sym same) ∙ found.2.parameters
 
   -- a call of a script fits
@@ -108,8 +76,8 @@ module _ (plan : Plan) (ok : IsCompiled plan) where
       slice_get script k ≡ Some call →
       CanCall plan.program call.section call.arguments
   scripted t k script call is has =
-      let thread = mapped_there script_of plan.program.threads.items t script is in
-      let mine = mapped_there invocation thread.0.calls.items k call (ap (λ (xs : List Invocation). slice_get xs k) thread.2 ∙ has) in
+      let thread = map_back script_of plan.program.threads.items t script is in
+      let mine = map_back invocation thread.0.calls.items k call (ap (λ (xs : List Invocation). slice_get xs k) thread.2 ∙ has) in
       subst (λ (z : Invocation). CanCall plan.program z.section z.arguments) mine.2 (ok.well_formed.scripts t k thread.0 mine.0 thread.1 mine.1)
 
   -- and so does each entry of a script
@@ -118,13 +86,6 @@ module _ (plan : Plan) (ok : IsCompiled plan) where
   scripted_fill (c ∷ cs) of =
       let found = call_found plan c.thread of.0.0 (call_of c) of.0.1 in
       (fills (call_of c) (scripted c.thread of.0.0 found.0 (call_of c) found.1 found.2), scripted_fill cs of.1)
-
--- what a world's history has of a thread are calls of its script
-each_of_scripts : (plan : Plan) (cs : List Commit) →
-    ((p : ℕ) (c : Commit) → slice_get cs p ≡ Some c → (k : ℕ) × (call_at plan c.thread k ≡ Some (call_of c))) →
-    AreOfScripts plan cs
-each_of_scripts plan [] each = tt
-each_of_scripts plan (c ∷ cs) each = (each 0 c refl, each_of_scripts plan cs (λ p d is. each (suc p) d is))
 
 pub history_of_scripts : (plan : Plan) (w : World) → FollowsScripts plan w → AreOfScripts plan w.history
 history_of_scripts plan w follows =

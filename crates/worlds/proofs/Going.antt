@@ -12,6 +12,8 @@ use Rattle.core_lang.specs.Serial.{Invocation}
 use Rattle.core_lang.specs.Whole.{opening}
 use Rattle.core_lang.specs.Typing.{local_types, cell_types, HaveTypes, Fit}
 use Rattle.core_lang.specs.Working.Soundness.{IsTypedState, LeadsToTyped}
+use Rattle.core_lang.specs.Theory.Openings.{opening_has}
+use Rattle.core_lang.specs.Theory.Items.{get_some}
 use Rattle.flow.specs.Skeletons.{Skeleton, Nil, Step, Fork, Loop, skeleton}
 use Rattle.flow.specs.Flow.{head}
 use Rattle.flow.specs.Points.{points, scopes, IsScopeAt}
@@ -40,10 +42,9 @@ use Rattle.worlds.specs.Worlds.{instructed, next_effect}
 use Rattle.worlds.specs.Working.InTurn.{RiseBehind, AskedInTurn}
 use Rattle.worlds.specs.Working.Ahead.{SeesTyped, Any, HasCome, IsAtPoint, IsAsking, IsRunning, CanGoOn, running}
 use Rattle.worlds.specs.Working.Ahead.{asking, over}
-use Rattle.worlds.proofs.Places.{get_within}
 use Rattle.worlds.proofs.Cells.{value_cases}
 use Rattle.worlds.proofs.InTurn.{behind, with_none}
-use Rattle.worlds.proofs.Heaps.{type_at, IsShown, shown, opening_has}
+use Rattle.worlds.proofs.Heaps.{type_at, IsShown, shown}
 use Rattle.worlds.proofs.Covering.{CoverLaws, state_of, leads_typed, can_execute}
 
 pub record GoingLaws : Type 0 where
@@ -80,7 +81,7 @@ has_lists : (plan : Plan) → IsCompiled plan → (k : ℕ) (section : Section) 
 has_lists plan ok k section is =
     let less = slice_get_within plan.program.sections.items k section is in
     let same = ok.placed.long in
-    let x = get_within plan.lists k (omega (arith, less, same)) in
+    let x = get_some plan.lists k (omega (arith, less, same)) in
     record { lists = x.0; is = x.1; at = ap (λ o. unwrap_or o []) x.1 }
 
 module _ (laws : GoingLaws) (plan : Plan) (ok : IsCompiled plan) (k : ℕ) (section : Section) (is : section_at plan k ≡ Some section) where
@@ -123,7 +124,7 @@ module _ (laws : GoingLaws) (plan : Plan) (ok : IsCompiled plan) (k : ℕ) (sect
   scope_at x inside =
       let less = slice_get_within (points section) x.number x.point (laws.spots lists section x inside) in
       let same = laws.scopes section in
-      get_within (scopes section) x.number (omega (arith, less, same))
+      get_some (scopes section) x.number (omega (arith, less, same))
 
   comes_on : (x : Spot) → InSection lists section x →
       (held : List Lock) (m : Machine HeldCells) (h : IsShown plan.program m.memory) →

@@ -3,17 +3,13 @@ use Rattle.std.proofs.Common.{◌≡◌, ◌<◌, ℕ, zero, suc, List, [], ◌�
 use Rattle.std.proofs.Common.{arith, inl, inr}
 use Rattle.std.proofs.lemmas.List.{length-map}
 use Rattle.std.proofs.lemmas.Option.{slice_get_within}
-use Rattle.std.specs.Prelude.{map, take, drop, ◌++◌}
 use Rattle.core_lang.specs.declared.value.Value.{Value}
 use Rattle.core_lang.specs.declared.value.ValueType.{ValueType}
-use Rattle.core_lang.specs.declared.value.ValueType.TheVariants.{Integer, Reference}
 use Rattle.core_lang.specs.declared.shape.Shape.{Shape}
-use Rattle.core_lang.specs.declared.tree.Local.{Local}
 use Rattle.core_lang.specs.declared.typed.Cell.{Cell}
 use Rattle.core_lang.specs.declared.typed.Typed.{Typed}
 use Rattle.core_lang.specs.Serial.{opening_heap}
-use Rattle.core_lang.specs.Whole.{default_of, default_local}
-use Rattle.core_lang.specs.Typing.{HasType, HaveTypes, local_types, cell_types, IsHeap}
+use Rattle.core_lang.specs.Typing.{HasType, HaveTypes, cell_types, IsHeap}
 use Rattle.core_lang.specs.WellFormed.{IsWellFormed}
 use Rattle.code.specs.Memory.{HeldCells, value_at, overwritten}
 use Rattle.code.specs.Working.Seen.{held_value, Shows}
@@ -87,22 +83,3 @@ shown written unwritten size program well memory typed =
           ]);
       shows = shows;
     }
-
--- ---- the opening locals
-
-default_has : (shape : Shape) (t : ValueType) → HasType shape t (default_of t)
-default_has shape Integer = tt
-default_has shape (Reference s) = tt
-
-defaults_have : (shape : Shape) (locals : List Local) → HaveTypes shape (local_types locals) (map default_local locals)
-defaults_have shape [] = tt
-defaults_have shape (l ∷ ls) = (default_has shape l.value_type, defaults_have shape ls)
-
-pub opening_has : (shape : Shape) (k : ℕ) (locals : List Local) (arguments : List Value) →
-    HaveTypes shape (local_types (take k locals)) arguments →
-    HaveTypes shape (local_types locals) (arguments ++ map default_local (drop (length arguments) locals))
-opening_has shape k locals [] h = defaults_have shape locals
-opening_has shape zero [] (v ∷ vs) h = absurd h
-opening_has shape zero (l ∷ ls) (v ∷ vs) h = absurd h
-opening_has shape (suc k) [] (v ∷ vs) h = absurd h
-opening_has shape (suc k) (l ∷ ls) (v ∷ vs) h = (h.0, opening_has shape k ls vs h.1)

@@ -6,6 +6,7 @@ use Rattle.core_lang.specs.declared.value.Value.{Value}
 use Rattle.core_lang.specs.declared.tree.Section.{Section}
 use Rattle.core_lang.specs.Serial.{Invocation}
 use Rattle.core_lang.specs.WellFormed.{CanCall}
+use Rattle.core_lang.specs.Theory.Items.{map_at}
 use Rattle.locks.specs.declared.lock.Lock.{Lock}
 use Rattle.locks.specs.LockPaths.{LockPath, lock_paths, lock_named}
 use Rattle.locks.specs.Working.Laws.{NamedAreLocks, UsedAreListed}
@@ -24,7 +25,7 @@ use Rattle.worlds.proofs.Well.{Laws, well_begun, well_instructed, well_granted, 
 use Rattle.worlds.proofs.Steps.{can_call}
 use Rattle.worlds.proofs.Going.{ordered, instructed_on, has_case, has_room, granted_on, asked_on, begun_on}
 use Rattle.worlds.proofs.Ready.{ReadyLaws, has_cells, ready_instructed, rises_in, heap_overwritten}
-use Rattle.worlds.proofs.Sums.{sum_fits, mapped_at, within_most, named_class}
+use Rattle.worlds.proofs.Sums.{sum_fits, within_most, named_class}
 
 pub record InOrderLaws : Type 0 where
   pub well : Laws
@@ -148,7 +149,7 @@ module _ (laws : InOrderLaws) (plan : Plan) (a : Activation) (ok : IsCompiled pl
           number = x.0;
           has = x.1;
           most = most x.1.0;
-          at = mapped_at most (lock_paths plan.program r.section) x.0 x.1.0 x.1.1;
+          at = map_at most (lock_paths plan.program r.section) x.0 x.1.0 x.1.1;
           less = within_most plan.layout.cell_locks plan.layout.locks lock x.1.0.class (listed_one lock c)
               (named_class x.1.0 plan.program.shape a.machine.locals lock x.1.2);
         })) in

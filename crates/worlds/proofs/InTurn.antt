@@ -1,7 +1,6 @@
 -- What an acquire asks for, one lock after another.
-use Rattle.std.proofs.Common.{◌≡◌, ◌⊎◌, ◌==◌, ◌&&◌, ℕ, zero, suc, Bool, true, false, if◌then◌else◌, nat_lt, List, []}
-use Rattle.std.proofs.Common.{◌∷◌, ◌++◌, Option, Some, None, slice_get, refl, sym, ap, ◌∙◌, subst, arith, inl, inr}
-use Rattle.std.proofs.Common.{true≢false}
+use Rattle.std.proofs.Common.{◌≡◌, ◌⊎◌, ◌==◌, ◌&&◌, ℕ, Bool, true, false, if◌then◌else◌, nat_lt, List, [], ◌∷◌, ◌++◌}
+use Rattle.std.proofs.Common.{Option, Some, None, slice_get, refl, sym, ap, ◌∙◌, subst, arith, inl, inr, true≢false}
 use Rattle.std.proofs.lemmas.Bool.{cases_Bool, cases_lt, eq-eqb, lt-ltb, and_from, or_cases, or_left, or_right}
 use Rattle.std.proofs.lemmas.Bool.{or_parts}
 use Rattle.std.proofs.lemmas.Option.{get_or_from_slice_get, slice_get_within, slice_get-get_or}
@@ -28,7 +27,7 @@ use Rattle.inserter.specs.Working.Laws.{IsOrdered, InRuns, AsksRise}
 use Rattle.worlds.specs.Asking.{insert, insert_new, lock_numbered, to_ask}
 use Rattle.worlds.specs.Working.InTurn.{RiseBehind, AskedInTurn}
 use Rattle.locks.specs.Theory.Order.{by_rank, by_object, same_is, same_refl, contains_among, among_contains}
-use Rattle.core_lang.specs.Theory.Items.{in_cases, in_first}
+use Rattle.core_lang.specs.Theory.Items.{in_cases, in_first, in_rest}
 
 pub record OrderLaws : Type 0 where
   pub classes : PathsHaveClasses
@@ -180,9 +179,6 @@ named_by : (program : Typed) (section : Section) (locals : List Value) (i : ℕ)
     IsNamed program section locals i l
 named_by program section locals i l None e h = absurd cc
 named_by program section locals i l (Some path) e h = record { path = path; is_path = e; named = h }
-
-pub in_rest : {X : Type 0} (x y : X) (xs : List X) → Contains xs y → Contains (x ∷ xs) y
-in_rest x y xs c = (let less = c.1 in (suc c.0, omega (arith, less), c.2))
 
 known_named : OrderLaws → (program : Typed) (section : Section) (ranks : List ℕ) (lists : List (List ℕ)) →
     IsOrdered program section ranks lists →

@@ -7,6 +7,7 @@ use Rattle.std.specs.Option.{option_map_or}
 use Rattle.std.specs.List.{Contains}
 use Rattle.std.specs.Prelude.{slice_index}
 use Rattle.core_lang.specs.declared.value.Outcome.{Outcome}
+use Rattle.core_lang.specs.Theory.Items.{map_back}
 use Rattle.locks.specs.declared.lock.Lock.{Lock}
 use Rattle.locks.specs.Order.{Precedes, PrecedesIsStrict}
 use Rattle.locks.specs.Waiting.{Asker, AsksRise, NoCircle}
@@ -21,7 +22,6 @@ use Rattle.worlds.specs.declared.event.Event.TheVariants.{Idle, Began, Got, Wait
 use Rattle.locks.specs.Theory.Order.{IsBefore, is_before, by_rank, by_object, among_contains}
 use Rattle.worlds.proofs.Places.{get_set_same}
 use Rattle.worlds.proofs.Turns.{Turn, idles, starts, gets, waits, over, moves, turn}
-use Rattle.worlds.proofs.Steps.{got_map}
 
 -- ---- no circle
 
@@ -45,7 +45,7 @@ pub rising_has_no_cycle : NoCircle → RisingHasNoCycle
 rising_has_no_cycle none ranks w rise = none ranks (map asker w.threads) asks_rise where
   asks_rise : AsksRise ranks (map asker w.threads)
   asks_rise t x lock at ask other held =
-      let thread = got_map asker w.threads t x at in
+      let thread = map_back asker w.threads t x at in
       rises_at ranks w rise t thread.0 lock other thread.0.active thread.1 refl
       (ap (λ (y : Asker). y.ask) thread.2 ∙ ask) (subst (λ (y : Asker). Contains y.held other) (sym thread.2) held)
 

@@ -1,6 +1,6 @@
 -- Each open section keeps the rules of locking.
-use Rattle.std.proofs.Common.{◌≡◌, ℕ, zero, suc, ◌+◌, true, List, [], ◌∷◌, ◌++◌, slice_get, slice_set, Some, None}
-use Rattle.std.proofs.Common.{refl, sym, ap, ◌∙◌, subst, arith, inl, inr}
+use Rattle.std.proofs.Common.{◌≡◌, ℕ, zero, suc, ◌+◌, true, List, [], ◌∷◌, slice_get, slice_set, Some, None, refl, sym}
+use Rattle.std.proofs.Common.{ap, ◌∙◌, subst, arith, inl, inr}
 use Rattle.std.proofs.lemmas.Bool.{cases_eq}
 use Rattle.std.specs.List.{Contains}
 use Rattle.locks.specs.declared.lock.Lock.{Lock}
@@ -16,9 +16,10 @@ use Rattle.worlds.specs.Worlds.{opening_world}
 use Rattle.worlds.specs.Waiting.{PendingRises}
 use Rattle.worlds.specs.Claims.{KeepsTheRules}
 use Rattle.worlds.specs.Working.States.{IsSound}
-use Rattle.worlds.proofs.Places.{get_set_is, get_push}
+use Rattle.worlds.proofs.Places.{get_set_is}
 use Rattle.worlds.proofs.Turns.{Turn, idles, starts, gets, waits, over, moves, turn}
 use Rattle.locks.specs.Theory.Order.{contains_among, among_contains}
+use Rattle.layout.specs.Theory.Numbers.{distinct_push}
 use Rattle.worlds.proofs.Ends.{others_stay}
 use Rattle.worlds.proofs.Scripts.{at_first_is}
 
@@ -32,19 +33,6 @@ contains_at : (locks : List Lock) (i : ℕ) (lock : Lock) → slice_get locks i 
 contains_at [] i lock h = absurd cc
 contains_at (l ∷ ls) zero lock h = let e : l ≡ lock = cc in (0, omega arith, e)
 contains_at (l ∷ ls) (suc i) lock h = let c = contains_at ls i lock h in let less = c.1 in (suc c.0, omega (arith, less), c.2)
-
-distinct_push : (locks : List Lock) (next : Lock) → AreDistinct locks → (Contains locks next → ⊥) →
-    AreDistinct (locks ++ next ∷ [])
-distinct_push locks next apart new i j lock at_i at_j = elim (get_push locks next lock i at_i) [
-  | inl old_i ↦ elim (get_push locks next lock j at_j) [
-    | inl old_j ↦ apart i j lock old_i old_j
-    | inr new_j ↦ absurd (new (contains_at locks i next (old_i ∙ ap (λ (l : Lock). Some l) (sym new_j.0))))
-  ]
-  | inr new_i ↦ elim (get_push locks next lock j at_j) [
-    | inl old_j ↦ absurd (new (contains_at locks j next (old_j ∙ ap (λ (l : Lock). Some l) (sym new_i.0))))
-    | inr new_j ↦ sym new_i.1 ∙ new_j.1
-  ]
-]
 
 -- the section that a thread was given
 own_is : (threads : List ThreadState) (w : World) (t k : ℕ) (a b : Activation) →

@@ -1,21 +1,21 @@
 -- The history follows the scripts.
-use Rattle.std.proofs.Common.{◌≡◌, ◌<◌, ◌==◌, ℕ, zero, suc, ◌+◌, Bool, true, false, if◌then◌else◌, List, [], ◌∷◌}
-use Rattle.std.proofs.Common.{◌++◌, length, map, take, set, slice_get, Option, Some, None, refl, sym, ap, ◌∙◌, arith}
-use Rattle.std.proofs.Common.{inl, inr}
+use Rattle.std.proofs.Common.{◌≡◌, ◌<◌, ◌==◌, ℕ, zero, suc, ◌+◌, Bool, true, false, if◌then◌else◌, List, [], ◌∷◌, ◌++◌}
+use Rattle.std.proofs.Common.{length, map, take, set, slice_get, Option, Some, None, refl, sym, ap, ◌∙◌, arith, inl}
+use Rattle.std.proofs.Common.{inr}
 use Rattle.std.proofs.lemmas.List.{length-map, length-set}
 use Rattle.std.proofs.lemmas.Bool.{cases_eq, cond-true, cond-false, eq-eqb, ne_eqb}
 use Rattle.std.proofs.lemmas.Option.{slice_get_within}
 use Rattle.core_lang.specs.Serial.{Invocation, Scheduled}
+use Rattle.core_lang.specs.Theory.Items.{set_other}
 use Rattle.history.specs.Commits.{Commit, script_call}
 use Rattle.lowering.specs.Plans.{Plan}
-use Rattle.code.specs.Machine.{Effect, Moves, Asks, Finishes, Undefined}
-use Rattle.code.specs.Memory.{HeldCells}
 use Rattle.worlds.specs.declared.event.Event.{Event}
-use Rattle.worlds.specs.Worlds.{World, ThreadState, Activation, scripts, call_at, at_first, instructed, next_effect}
-use Rattle.worlds.specs.Worlds.{commit, happens, world_after, opening_world, final}
+use Rattle.worlds.specs.Worlds.{World, ThreadState, Activation, scripts, call_at, at_first, next_effect, commit}
+use Rattle.worlds.specs.Worlds.{happens, world_after, opening_world, final}
 use Rattle.worlds.specs.Claims.{calls_by, numbered, FollowsScripts}
-use Rattle.worlds.proofs.Places.{get_set_other, get_set_is, get_push}
+use Rattle.worlds.proofs.Places.{get_set_is, get_push}
 use Rattle.worlds.proofs.Turns.{Turn, idles, starts, gets, waits, over, moves, turn}
+use Rattle.worlds.specs.Theory.Steps.{instructed_call}
 
 -- ---- lists of calls
 
@@ -71,7 +71,7 @@ same_step plan w t thread a at f call after h ts = record {
         ap (calls_by u) h ∙ (f.calls u thread script (ap (slice_get w.threads) (sym e) ∙ at) there
         ∙ ap (λ (x : ThreadState). take x.step (numbered u 0 script)) same))
     | inr ne ↦ ap (calls_by u) h ∙ f.calls u other script
-        (sym (get_set_other w.threads t u _ ne) ∙ (ap (λ xs. slice_get xs u) (sym ts) ∙ is)) there
+        (sym (set_other w.threads t u _ ne) ∙ (ap (λ xs. slice_get xs u) (sym ts) ∙ is)) there
   ];
   nobody_else = λ p c is. f.nobody_else p c (ap (λ xs. slice_get xs p) (sym h) ∙ is);
   next_call = λ u other b is open_b. elim (cases_eq t u) [
@@ -81,16 +81,10 @@ same_step plan w t thread a at f call after h ts = record {
         let ab : Some a ≡ Some b = ap (λ x. x.active) same ∙ open_b in
         let as_one : a ≡ b = cc ab in
         ap (λ (x : ThreadState). call_at plan u x.step) (sym same) ∙ (ap (λ k. call_at plan k thread.step) (sym e) ∙ (call ∙ ap (λ (x : Activation). Some x.call) as_one)))
-    | inr ne ↦ f.next_call u other b (sym (get_set_other w.threads t u _ ne) ∙ (ap (λ xs. slice_get xs u) (sym ts) ∙ is)) open_b
+    | inr ne ↦ f.next_call u other b (sym (set_other w.threads t u _ ne) ∙ (ap (λ xs. slice_get xs u) (sym ts) ∙ is)) open_b
   ];
   all_threads = ap length ts ∙ (length-set w.threads t _ ∙ f.all_threads);
 }
-
-instructed_call : (plan : Plan) (a : Activation) (e : Effect HeldCells) → (instructed plan a e).call ≡ a.call
-instructed_call plan a (Moves m) = refl
-instructed_call plan a (Asks point) = refl
-instructed_call plan a (Finishes outcome) = refl
-instructed_call plan a Undefined = refl
 
 turn_follows : (plan : Plan) (w : World) (t : ℕ) (e : Event) (after : World) → Turn plan w t e after →
     FollowsScripts plan w → FollowsScripts plan after
@@ -116,7 +110,7 @@ turn_follows plan w t e after (over {thread} {a} {outcome} at none out) f =
             ∙ (ap (λ (k : ℕ). take thread.step (numbered u 0 script) ++ record { thread = u; step = k; call = a.call } ∷ []) (let e : thread.step ≡ 0 + thread.step = omega arith in e)
             ∙ (sym (take_numbered u 0 thread.step script a.call call)
             ∙ ap (λ (x : ThreadState). take x.step (numbered u 0 script)) now)))))
-        | inr ne ↦ calls_push_other u w.history c ne ∙ f.calls u other script (sym (get_set_other w.threads t u _ ne) ∙ is) there
+        | inr ne ↦ calls_push_other u w.history c ne ∙ f.calls u other script (sym (set_other w.threads t u _ ne) ∙ is) there
       ];
       nobody_else = λ p x is. elim (get_push w.history c x p is) [
         | inl h ↦ f.nobody_else p x h
@@ -128,7 +122,7 @@ turn_follows plan w t e after (over {thread} {a} {outcome} at none out) f =
             ap (slice_get (set w.threads t (record { step = thread.step + 1; active = None }))) same ∙ is in
             let now : record { step = thread.step + 1; active = None } ≡ other = get_set_is w.threads t _ other mine in
             absurd (let bad : None ≡ Some b = ap (λ x. x.active) now ∙ open_b in cc bad))
-        | inr ne ↦ f.next_call u other b (sym (get_set_other w.threads t u _ ne) ∙ is) open_b
+        | inr ne ↦ f.next_call u other b (sym (set_other w.threads t u _ ne) ∙ is) open_b
       ];
       all_threads = length-set w.threads t _ ∙ f.all_threads;
     }

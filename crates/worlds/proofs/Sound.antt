@@ -3,6 +3,7 @@ use Rattle.std.proofs.Common.{◌≡◌, ◌⊎◌, ℕ, true, List, length, Opt
 use Rattle.std.proofs.Common.{inr}
 use Rattle.std.proofs.lemmas.Bool.{cases_eq}
 use Rattle.core_lang.specs.declared.value.Value.{Value}
+use Rattle.core_lang.specs.Theory.Items.{set_other}
 use Rattle.locks.specs.declared.lock.Lock.{Lock}
 use Rattle.history.specs.Commits.{Commit, committed, IsLegal, AreTrue}
 use Rattle.lowering.specs.Plans.{Plan}
@@ -10,7 +11,7 @@ use Rattle.locks.specs.Locks.{among}
 use Rattle.worlds.specs.Worlds.{World, ThreadState, Activation, HasOpen}
 use Rattle.worlds.specs.Working.States.{IsWell, IsFit, IsSound}
 use Rattle.worlds.specs.Claims.{HoldsCell}
-use Rattle.worlds.proofs.Places.{get_set_other, get_set_same, get_set_is}
+use Rattle.worlds.proofs.Places.{get_set_same, get_set_is}
 
 -- another thread than t holds the cell
 pub record ElsewhereHeld (w : World) (t cell : ℕ) : Type 0 where
@@ -55,7 +56,7 @@ now_open w t thread cells history u b e o =
 
 pub still_open : (w : World) (t : ℕ) (thread : ThreadState) (cells : List (Option Value)) (history : List Commit) (u : ℕ) (b : Activation) → (t ≡ u → ⊥) →
     HasOpen (changed w t thread cells history) u b → HasOpen w u b
-still_open w t thread cells history u b ne o = (o.0, sym (get_set_other w.threads t u thread ne) ∙ o.1, o.2)
+still_open w t thread cells history u b ne o = (o.0, sym (set_other w.threads t u thread ne) ∙ o.1, o.2)
 
 pub sound_changed : (plan : Plan) (w : World) (t : ℕ) (thread : ThreadState) (cells : List (Option Value)) (history : List Commit) →
     IsSound plan w → Changes plan w t thread cells history → IsSound plan (changed w t thread cells history)
@@ -73,7 +74,7 @@ sound_changed plan w t thread cells history s c = record {
     | inr ne ↦ c.others u b ne (away u b ne o)
   ];
   somewhere = λ cell none. elim (c.somewhere cell none) [
-    | inl h ↦ (h.by, h.section, (h.is_open.0, get_set_other w.threads t h.by thread h.other ∙ h.is_open.1, h.is_open.2), h.holds)
+    | inl h ↦ (h.by, h.section, (h.is_open.0, set_other w.threads t h.by thread h.other ∙ h.is_open.1, h.is_open.2), h.holds)
     | inr h ↦ (t, h.section, (thread, get_set_same w.threads t c.before thread c.at, h.is_open), h.holds)
   ];
   apart = λ u k a b lock oa ob ha hb. elim (cases_eq t u) [

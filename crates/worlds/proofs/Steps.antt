@@ -13,6 +13,7 @@ use Rattle.core_lang.specs.declared.typed.Typed.{Typed}
 use Rattle.core_lang.specs.Serial.{Invocation, invocation}
 use Rattle.core_lang.specs.Typing.{Fit}
 use Rattle.core_lang.specs.WellFormed.{IsWellFormed, CanCall}
+use Rattle.core_lang.specs.Theory.Items.{map_back}
 use Rattle.locks.specs.declared.lock.Lock.{Lock}
 use Rattle.layout.specs.LockCells.{cells_of}
 use Rattle.code.specs.Memory.{value_at, overwritten}
@@ -20,27 +21,20 @@ use Rattle.history.specs.Commits.{committed}
 use Rattle.lowering.specs.Plans.{Plan, IsCompiled}
 use Rattle.worlds.specs.declared.event.Event.{Event}
 use Rattle.locks.specs.Locks.{among}
-use Rattle.worlds.specs.Worlds.{World, ThreadState, Activation, activation, commit, granted, taken, without}
-use Rattle.worlds.specs.Worlds.{with_back, holds, holder_from, holder, instructed, next_effect, script_of, scripts}
-use Rattle.worlds.specs.Worlds.{call_at, section_at, at_first, happens, opening_world, HasOpen}
+use Rattle.worlds.specs.Worlds.{World, ThreadState, Activation, activation, commit, granted, taken, without, with_back}
+use Rattle.worlds.specs.Worlds.{holds, holder_from, holder, instructed, next_effect, script_of, scripts, call_at}
+use Rattle.worlds.specs.Worlds.{section_at, at_first, happens, opening_world, HasOpen}
 use Rattle.worlds.specs.Working.States.{IsWell, IsFit, IsSound}
 use Rattle.worlds.specs.Claims.{HoldsCell}
-use Rattle.worlds.proofs.Turns.{Active, Turn, idles, starts, gets, waits, over, moves, turn}
-use Rattle.worlds.proofs.Cells.{among_more, among_last, among_push, cells_of_has, cells_of_only, taken_only}
-use Rattle.worlds.proofs.Cells.{taken_has, some_or_none, length-without, without_some, without_none}
-use Rattle.worlds.proofs.Cells.{without_none_cases, length-with_back, back_other, back_some, back_none}
-use Rattle.worlds.proofs.Cells.{overwritten_cong, agrees_kept}
+use Rattle.worlds.proofs.Turns.{Active, Turn, idles, starts, gets, waits, over, moves, turn, same_open}
+use Rattle.worlds.proofs.Cells.{among_more, among_last, among_push, cells_of_has, cells_of_only, taken_only, taken_has}
+use Rattle.worlds.proofs.Cells.{some_or_none, length-without, without_some, without_none, without_none_cases}
+use Rattle.worlds.proofs.Cells.{length-with_back, back_other, back_some, back_none, overwritten_cong, agrees_kept}
 use Rattle.worlds.proofs.Sound.{ElsewhereHeld, changed, sound_changed}
 use Rattle.worlds.proofs.Well.{Laws, cells_are, well_instructed, Alike, alike_instructed, well_asked, well_begun}
 use Rattle.worlds.proofs.Well.{unwritten_of, well_granted, fit_granted, true_commit}
 
 -- ---- what a program's script calls
-
-pub got_map : {X Y : Type 0} (f : X → Y) (xs : List X) (i : ℕ) (y : Y) → slice_get (map f xs) i ≡ Some y →
-    (x : X) × (slice_get xs i ≡ Some x) × (f x ≡ y)
-got_map f [] i y h = absurd cc
-got_map f (x ∷ xs) zero y h = (x, refl, cc)
-got_map f (x ∷ xs) (suc i) y h = got_map f xs i y h
 
 pub can_call : (program : Typed) (k : ℕ) (arguments : List Value) → CanCall program k arguments →
     (section : Section) × (slice_get program.sections.items k ≡ Some section) × Fit program section arguments
@@ -53,9 +47,9 @@ pub section_of_call : (plan : Plan) → IsWellFormed plan.program → (t step : 
 section_of_call plan well t step call h = elim (some_or_none (slice_get (scripts plan) t)) [
   | inl s ↦ (let inside : slice_get s.0 step ≡ Some call =
       sym (ap (λ x. option_map_or (λ (calls : List Invocation). slice_get calls step) x None) s.1) ∙ h in
-      let thread = got_map script_of plan.program.threads.items t s.0 s.1 in
+      let thread = map_back script_of plan.program.threads.items t s.0 s.1 in
       let of_thread : slice_get (map invocation thread.0.calls.items) step ≡ Some call = ap (λ xs. slice_get xs step) thread.2 ∙ inside in
-      let called = got_map invocation thread.0.calls.items step call of_thread in
+      let called = map_back invocation thread.0.calls.items step call of_thread in
       let found = can_call plan.program called.0.section called.0.arguments.items (well.scripts t step thread.0 called.0 thread.1 called.1) in (
         found.0,
         ap (λ (x : Invocation). section_at plan x.section) (sym called.2) ∙ found.1,
@@ -83,12 +77,6 @@ nobody n (x ∷ xs) lock e t thread a at is held =
       first false e none (suc t) at go = go t none at
 
 -- ---- words of the proofs
-
-same_open : (w : World) (t : ℕ) (thread : ThreadState) (a b : Activation) → Active w t thread a → HasOpen w t b → a ≡ b
-same_open w t thread a b at o =
-    let same : thread ≡ o.0 = (let e : Some thread ≡ Some o.0 = sym at.at ∙ o.1 in cc e) in
-    let e : Some a ≡ Some b = sym at.is ∙ (ap (λ x. x.active) same ∙ o.2) in
-    cc e
 
 -- of what holds a cell: another thread, or this thread's section
 held_cases : (plan : Plan) (w : World) (t : ℕ) (thread : ThreadState) (a : Activation) → IsSound plan w →
@@ -334,7 +322,7 @@ pub none_open : (ss : List (List Invocation)) (t : ℕ) (thread : ThreadState) (
     slice_get (map at_first ss) t ≡ Some thread →
     thread.active ≡ Some a → ⊥
 none_open ss t thread a at is =
-    let x = got_map at_first ss t thread at in
+    let x = map_back at_first ss t thread at in
     let bad : None ≡ Some a = ap (λ y. y.active) x.2 ∙ is in cc bad
 
 pub opening_sound : (plan : Plan) → IsSound plan (opening_world plan)

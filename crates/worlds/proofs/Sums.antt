@@ -16,8 +16,7 @@ use Rattle.locks.specs.Locks.{global_lock}
 use Rattle.locks.specs.LockPaths.{LockPath, object_at, lock_from, lock_named}
 use Rattle.layout.specs.LockCells.{cells_of}
 use Rattle.lowering.specs.Working.Rooms.{most_among}
-use Rattle.worlds.proofs.Places.{get_set_other}
-use Rattle.core_lang.specs.Theory.Items.{in_first, in_rest, distinct_first}
+use Rattle.core_lang.specs.Theory.Items.{in_first, in_rest, distinct_first, set_other}
 
 -- ---- sums
 
@@ -61,7 +60,7 @@ module _ {X : Type 0} (weight : X → ℕ) (HasNumber : ℕ → X → Type 0) (o
         number = place.number;
         has = place.has;
         most = place.most;
-        at = get_set_other ns first.number place.number 0 other ∙ place.at;
+        at = set_other ns first.number place.number 0 other ∙ place.at;
         less = place.less;
       })) in
       let whole = without_one ns first.number first.most first.at in
@@ -76,12 +75,6 @@ module _ {X : Type 0} (weight : X → ℕ) (HasNumber : ℕ → X → Type 0) (o
       let left = total_is weight xs in
       let right = total_is f ys in
       omega (arith, all, left, right)
-
-pub mapped_at : {X Y : Type 0} (f : X → Y) (xs : List X) (i : ℕ) (x : X) → slice_get xs i ≡ Some x →
-    slice_get (map f xs) i ≡ Some (f x)
-mapped_at f [] i x e = absurd (none-some x e)
-mapped_at f (y ∷ ys) zero x e = let same : y ≡ x = cc e in ap (λ z. Some (f z)) same
-mapped_at f (y ∷ ys) (suc i) x e = mapped_at f ys i x e
 
 -- ---- the most cells of a class
 

@@ -1,18 +1,25 @@
 -- One step of a thread, by its cases.
-use Rattle.std.proofs.Common.{◌≡◌, ℕ, true, List, [], ◌∷◌, length, slice_get, Option, Some, None, refl}
+use Rattle.std.proofs.Common.{◌≡◌, ◌∙◌, ℕ, true, List, [], ◌∷◌, length, slice_get, Option, Some, None, refl, sym, ap}
 use Rattle.core_lang.specs.declared.value.Outcome.{Outcome}
 use Rattle.core_lang.specs.Serial.{Invocation}
 use Rattle.locks.specs.declared.lock.Lock.{Lock}
 use Rattle.lowering.specs.Plans.{Plan}
 use Rattle.worlds.specs.declared.event.Event.{Event}
 use Rattle.worlds.specs.declared.event.Event.TheVariants.{Idle, Began, Got, Waits, Moved, Ended}
-use Rattle.worlds.specs.Worlds.{World, ThreadState, Activation, activation, with_active, holder, asks, ends}
+use Rattle.worlds.specs.Worlds.{World, ThreadState, Activation, HasOpen, activation, with_active, holder, asks, ends}
 use Rattle.worlds.specs.Worlds.{instructed, next_effect, begins, goes_on, steps_with, thread_steps, happens, call_at}
 
 -- the thread has this section open
 pub record Active (w : World) (t : ℕ) (thread : ThreadState) (a : Activation) : Type 0 where
   pub at : slice_get w.threads t ≡ Some thread
   pub is : thread.active ≡ Some a
+
+-- it is the one section that the thread has open
+pub same_open : (w : World) (t : ℕ) (thread : ThreadState) (a b : Activation) → Active w t thread a → HasOpen w t b → a ≡ b
+same_open w t thread a b at o =
+    let same : thread ≡ o.0 = (let e : Some thread ≡ Some o.0 = sym at.at ∙ o.1 in cc e) in
+    let e : Some a ≡ Some b = sym at.is ∙ (ap (λ x. x.active) same ∙ o.2) in
+    cc e
 
 -- a step of a thread gives an event and a world
 pub data Turn (plan : Plan) (w : World) (t : ℕ) : Event → World → Type 0 where

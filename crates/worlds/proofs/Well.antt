@@ -22,6 +22,7 @@ use Rattle.code.specs.Alone.{alone, starting}
 use Rattle.code.specs.Lowering.{section_code, lists_at}
 use Rattle.code.specs.Working.Laws.{KeepsHeld, MovesAlike, AsksAlike, FinishesAlike, KeepsUnwritten, on_heap}
 use Rattle.code.specs.Working.RunLaws.{EndsOnlyAsSection}
+use Rattle.code.specs.Theory.Values.{value_left, value_right}
 use Rattle.history.specs.Working.Laws.{CommittedOfOneMore, LegalOfOneMore, TrueOfOneMore}
 use Rattle.history.specs.Commits.{IsTrueCommit}
 use Rattle.lowering.specs.Plans.{Plan, IsCompiled}
@@ -30,8 +31,8 @@ use Rattle.worlds.specs.Worlds.{instructed, next_effect}
 use Rattle.worlds.specs.Working.States.{standing, IsWell, IsFit}
 use Rattle.worlds.specs.Claims.{HoldsCell}
 use Rattle.worlds.proofs.Alone.{one_more}
-use Rattle.worlds.proofs.Cells.{among_more, among_last, among_push, value_more, value_behind, value_cases}
-use Rattle.worlds.proofs.Cells.{some_or_none, taken_only, without_none, without_away}
+use Rattle.worlds.proofs.Cells.{among_more, among_last, among_push, value_cases, some_or_none, taken_only, without_none}
+use Rattle.worlds.proofs.Cells.{without_away}
 use Rattle.worlds.specs.Worlds.{without}
 
 -- the laws that this stands on
@@ -222,17 +223,17 @@ well_granted plan a lock rest more w only has =
         | inr e ↦ (lock, only cell h.0 e, among_last a.held lock)
       ];
       all = λ cell h. elim (some_or_none (value_at mine cell)) [
-        | inl s ↦ (s.0, value_more mine more cell s.0 s.1)
+        | inl s ↦ (s.0, value_left mine more cell s.0 s.1)
         | inr n ↦ elim (among_push a.held lock h.0 h.2) [
-          | inl e ↦ (let old = w.all cell (h.0, h.1, e) in (old.0, value_more mine more cell old.0 old.1))
+          | inl e ↦ (let old = w.all cell (h.0, h.1, e) in (old.0, value_left mine more cell old.0 old.1))
           | inr e ↦ (let is_mine : slice_get locks cell ≡ Some lock = h.1 ∙ ap (λ (x : Lock). Some x) (sym e) in
               let v = has cell is_mine in
-              (v.0, value_behind mine more cell n ∙ v.1))
+              (v.0, value_right mine more cell n ∙ v.1))
         ]
       ];
       consistent = record {
-        written = λ cell v h. value_more mine more cell v (w.consistent.written cell v h);
-        read = λ cell v none h. value_more mine more cell v (w.consistent.read cell v none h);
+        written = λ cell v h. value_left mine more cell v (w.consistent.written cell v h);
+        read = λ cell v none h. value_left mine more cell v (w.consistent.read cell v none h);
       };
       count = w.count;
       truth = w.truth;

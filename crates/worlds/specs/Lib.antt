@@ -3,6 +3,7 @@ pub mod Worlds
 pub mod Claims
 pub mod Waiting
 pub mod Working
+pub mod Theory
 -- what the public clauses cite
 pub use Rattle.worlds.specs.Worlds.{World, ThreadState, Activation, happens, final, trace}
 pub use Rattle.worlds.specs.Claims.{Headline, EveryRunHasIt, KeepsTheRules, EveryWorldKeepsTheRules, OfScriptsRunAlike}

@@ -1,4 +1,4 @@
-use Rattle.std.proofs.Common.{◌≡◌, ◌∙◌, List, ℕ, [], ◌∷◌, inl, sym, subst, ap, ap₂}
+use Rattle.std.proofs.Common.{◌∙◌, List, ℕ, [], ◌∷◌, inl, sym, subst, ap, ap₂}
 use Rattle.driver.specs.{Tells, cannot_read}
 use Rattle.autolock.specs.Asked.{NamesOneOf}
 use Rattle.autolock.proofs.Naming.{failure_told, first_named, missed_named, one_file, two_files}

@@ -12,7 +12,7 @@ use Rattle.core_lang.specs.declared.shape.Shape.{Shape}
 use Rattle.core_lang.specs.Cells.{with, step_value}
 use Rattle.core_lang.specs.Meaning.{along}
 use Rattle.locks.specs.Accesses.{Access}
-use Rattle.code.proofs.Values.{set_here, set_there}
+use Rattle.code.specs.Theory.Values.{set_here, set_there}
 use Rattle.code.specs.Working.Seen.{Shows, IsSeen, IsAccessible, Covers}
 
 -- ---- values that are seen

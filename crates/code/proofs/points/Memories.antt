@@ -6,7 +6,7 @@ use Rattle.core_lang.specs.declared.value.Value.{Value}
 use Rattle.code.specs.Memory.{HeldCells, value_at, with_value, with_changed, noted, read_if_held, load_held}
 use Rattle.code.specs.Memory.{write_if_held, store_held, beside, load_from, written_where, store_to}
 use Rattle.code.specs.Working.Seen.{IsMemory, held_value}
-use Rattle.code.proofs.Values.{set_here, set_there, changed_same, changed_other}
+use Rattle.code.specs.Theory.Values.{set_here, set_there, changed_same, changed_other}
 
 pub heap_is_memory : IsMemory load_from store_to slice_get
 heap_is_memory = record {

@@ -1,22 +1,21 @@
 -- A section of a well-formed program, run alone on a heap of the program, is never stuck.
-use Rattle.std.proofs.Common.{◌≡◌, ℕ, zero, suc, ◌+◌, ◌<◌, ◌≤◌, List, [], ◌∷◌, ◌++◌, length, drop, Option, Some, None}
-use Rattle.std.proofs.Common.{refl, sym, ap, ◌∙◌, subst, ⊎_elim, arith}
-use Rattle.std.specs.Prelude.{slice_get, map, take}
+use Rattle.std.proofs.Common.{◌≡◌, ℕ, zero, suc, ◌+◌, ◌<◌, ◌≤◌, List, [], ◌∷◌, length, Option, Some, None, refl, sym}
+use Rattle.std.proofs.Common.{ap, ◌∙◌, subst, ⊎_elim, arith}
+use Rattle.std.specs.Prelude.{slice_get}
 use Rattle.std.proofs.lemmas.Option.{none-some, slice_get_cases}
 use Rattle.core_lang.specs.declared.value.Value.{Value}
 use Rattle.core_lang.specs.declared.value.ValueType.{ValueType}
-use Rattle.core_lang.specs.declared.value.ValueType.TheVariants.{Integer, Reference}
 use Rattle.core_lang.specs.declared.value.Outcome.{Outcome}
 use Rattle.core_lang.specs.declared.shape.Shape.{Shape}
-use Rattle.core_lang.specs.declared.tree.Local.{Local}
 use Rattle.core_lang.specs.declared.tree.Section.{Section}
 use Rattle.core_lang.specs.declared.typed.Typed.{Typed}
 use Rattle.core_lang.specs.Meaning.{State}
-use Rattle.core_lang.specs.Whole.{opening, default_of, default_local}
-use Rattle.core_lang.specs.Typing.{HasType, HaveTypes, local_types, cell_types}
+use Rattle.core_lang.specs.Whole.{opening}
+use Rattle.core_lang.specs.Typing.{HaveTypes, local_types, cell_types}
 use Rattle.core_lang.specs.Working.Soundness.{IsTypedState, LeadsToTyped}
 use Rattle.core_lang.specs.WellFormed.{IsWellFormed}
 use Rattle.core_lang.specs.Theory.Checked.{calls_nothing}
+use Rattle.core_lang.specs.Theory.Openings.{opening_has}
 use Rattle.flow.specs.Skeletons.{skeleton}
 use Rattle.flow.specs.Flow.{head}
 use Rattle.flow.specs.Working.Effects.{effect_at}
@@ -63,25 +62,6 @@ there_is xs c lt =
     ⊎_elim (λ (h : (x : Value) × (c < length xs) × (slice_get xs c ≡ Some x) × _). (h.0, h.2))
     (λ (h : (length xs ≤ c) × (slice_get xs c ≡ None)). absurd (omega (arith, lt, h.0)))
     (slice_get_cases xs c).1
-
--- ---- the opening state
-
-default_has : (shape : Shape) (t : ValueType) → HasType shape t (default_of t)
-default_has shape Integer = tt
-default_has shape (Reference s) = tt
-
-defaults_have : (shape : Shape) (locals : List Local) → HaveTypes shape (local_types locals) (map default_local locals)
-defaults_have shape [] = tt
-defaults_have shape (l ∷ ls) = (default_has shape l.value_type, defaults_have shape ls)
-
-opening_has : (shape : Shape) (k : ℕ) (locals : List Local) (arguments : List Value) →
-    HaveTypes shape (local_types (take k locals)) arguments →
-    HaveTypes shape (local_types locals) (arguments ++ map default_local (drop (length arguments) locals))
-opening_has shape k locals [] h = defaults_have shape locals
-opening_has shape zero [] (v ∷ vs) h = absurd h
-opening_has shape zero (l ∷ ls) (v ∷ vs) h = absurd h
-opening_has shape (suc k) [] (v ∷ vs) h = absurd h
-opening_has shape (suc k) (l ∷ ls) (v ∷ vs) h = (h.0, opening_has shape k ls vs h.1)
 
 -- ---- runs
 

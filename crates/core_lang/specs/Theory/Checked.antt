@@ -1,7 +1,7 @@
 -- A program whose helpers are written out is one that may be accepted, and calls nothing. Nobody has to believe this: it is proved
 -- here, for proofs of the crates above.
-use Rattle.std.specs.Prelude.{◌≡◌, ℕ, zero, suc, ◌+◌, ◌≤◌, List, [], ◌∷◌, ◌++◌, length, map, take, slice_get, Option}
-use Rattle.std.specs.Prelude.{Some, None}
+use Rattle.std.specs.Prelude.{◌≡◌, ℕ, zero, suc, ◌≤◌, List, [], ◌∷◌, ◌++◌, length, map, take, slice_get, Option, Some}
+use Rattle.std.specs.Prelude.{None}
 use Rattle.std.proofs.Common.{sym, ap, ◌∙◌, refl, arith, length-append}
 use Rattle.core_lang.specs.declared.tree.Local.{Local}
 use Rattle.core_lang.specs.declared.tree.Stmt.{Stmt}
@@ -15,8 +15,8 @@ use Rattle.core_lang.specs.Scopes.{bound_by, bound_in, bound_in_all, numbers_fro
 use Rattle.core_lang.specs.Helpers.{CallsOnly, AllCallOnly, EachCallsOnly, NoHelper, CallsNothing}
 use Rattle.core_lang.specs.Meaning.{deepest}
 use Rattle.core_lang.specs.WrittenLocals.{LocalData, Brought, local_data, own_local, locals_by, locals_in}
-use Rattle.core_lang.specs.WrittenLocals.{locals_in_all, brought, written_locals}
-use Rattle.core_lang.specs.WrittenPoints.{points_by, points_among, points_among_all, brought_points, helper_points}
+use Rattle.core_lang.specs.WrittenLocals.{locals_in_all, brought}
+use Rattle.core_lang.specs.WrittenPoints.{points_by, points_among, points_among_all, brought_points}
 use Rattle.core_lang.specs.WellFormed.{IsChecked, IsWellFormed}
 use Rattle.core_lang.specs.Theory.Items.{numbers_many}
 

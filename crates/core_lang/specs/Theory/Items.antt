@@ -1,12 +1,12 @@
 -- What lists hold, and at which places. Nobody has to believe these facts: they are proved here, for proofs of this crate and of those
 -- above.
-use Rattle.std.proofs.Common.{◌≡◌, ◌≢◌, ◌⊎◌, ◌∙◌, ◌+◌, ◌<◌, ◌≤◌, ℕ, zero, suc, true, false, IsTrue, List, [], ◌∷◌}
-use Rattle.std.proofs.Common.{◌++◌, length, map, set, drop, drop-cons, get_or, Option, Some, None, slice_get, inl}
-use Rattle.std.proofs.Common.{inr, refl, sym, ap, subst, add-one, arith}
+use Rattle.std.proofs.Common.{◌≡◌, ◌≢◌, ◌⊎◌, ◌∙◌, ◌+◌, ◌<◌, ◌≤◌, ℕ, zero, suc, Bool, true, false, IsTrue, List, [], ◌∷◌}
+use Rattle.std.proofs.Common.{◌++◌, length, map, set, drop, drop-cons, get_or, Option, Some, None, slice_get, inl, inr}
+use Rattle.std.proofs.Common.{refl, sym, ap, subst, add-one, arith, if◌then◌else◌}
 use Rattle.std.specs.Option.{option_map}
 use Rattle.std.specs.List.{All, AllPairs, Contains}
 use Rattle.std.proofs.lemmas.List.Elements.{Contains-append_cases}
-use Rattle.std.proofs.lemmas.Option.{none-some, slice_get_within, get_or_from_slice_get, slice_get-get_or}
+use Rattle.std.proofs.lemmas.Option.{none-some, same_Some, slice_get_within, get_or_from_slice_get, slice_get-get_or}
 use Rattle.core_lang.specs.Typing.{lookup}
 use Rattle.core_lang.specs.Scopes.{numbers_from}
 
@@ -91,6 +91,33 @@ map_back f [] k y e = absurd (none-some y e)
 map_back f (x ∷ xs) zero y e = (x, refl, cc)
 map_back f (x ∷ xs) (suc k) y e = map_back f xs k y e
 
+pub in_map : {A B : Type 0} (f : A → B) (xs : List A) (x : A) → Contains xs x → Contains (map f xs) (f x)
+in_map f xs x c = let at = at_contained xs x c in contains_at (map f xs) at.0 (f x) (map_at f xs at.0 x at.1)
+
+pub from_map : {A B : Type 0} (f : A → B) (xs : List A) (y : B) → Contains (map f xs) y →
+    (x : A) × Contains xs x × (f x ≡ y)
+from_map f xs y c =
+    let at = at_contained (map f xs) y c in
+    let r = map_back f xs at.0 y at.1 in
+    (r.0, contains_at xs at.0 r.0 r.1, r.2)
+
+pub still_at : {X : Type 0} (xs ys : List X) (k : ℕ) (x : X) → slice_get xs k ≡ Some x → slice_get (xs ++ ys) k ≡ Some x
+still_at [] ys k x e = absurd (none-some x e)
+still_at (z ∷ xs) ys zero x e = e
+still_at (z ∷ xs) ys (suc k) x e = still_at xs ys k x e
+
+pub behind_at : {X : Type 0} (xs : List X) (y : X) (ys : List X) → slice_get (xs ++ y ∷ ys) (length xs) ≡ Some y
+behind_at [] y ys = refl
+behind_at (z ∷ xs) y ys = behind_at xs y ys
+
+pub last_at : {X : Type 0} (xs : List X) (y : X) → slice_get (xs ++ y ∷ []) (length xs) ≡ Some y
+last_at xs y = behind_at xs y []
+
+pub none_at : {X : Type 0} (xs : List X) (k : ℕ) → slice_get xs k ≡ None → length xs ≤ k
+none_at [] k e = omega arith
+none_at (x ∷ xs) zero e = absurd (none-some x (sym e))
+none_at (x ∷ xs) (suc k) e = omega (arith, none_at xs k e)
+
 pub pushed_at : {X : Type 0} (xs : List X) (y : X) (k : ℕ) (x : X) → slice_get (xs ++ y ∷ []) k ≡ Some x →
     (slice_get xs k ≡ Some x) ⊎ ((k ≡ length xs) × (y ≡ x))
 pushed_at [] y zero x e = inr (refl, cc)
@@ -127,6 +154,14 @@ pub map_some : {A B : Type 0} (f : A → B) (o : Option A) (b : B) → option_ma
     (a : A) × (o ≡ Some a) × (f a ≡ b)
 map_some f None b e = absurd (none-some b e)
 map_some f (Some a) b e = (a, refl, cc)
+
+pub same_value : {A : Type 0} (o : Option A) (a b : A) → o ≡ Some a → o ≡ Some b → a ≡ b
+same_value o a b e f = same_Some a b (sym e ∙ f)
+
+pub if_some : {A : Type 0} (b : Bool) (o : Option A) (a : A) → (if b then o else None) ≡ Some a →
+    (b ≡ true) × (o ≡ Some a)
+if_some true o a e = (refl, e)
+if_some false o a e = absurd (none-some a e)
 
 pub some_same : {A : Type 0} (a b : A) → Some a ≡ Some b → a ≡ b
 some_same a b e = cc

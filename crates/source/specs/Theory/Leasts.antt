@@ -1,8 +1,7 @@
 -- The fault that is kept of several is one of them, and none of them goes before it. Nobody has to believe these lemmas: they are
 -- checked, and stand here for proofs of the crates above.
 use Rattle.std.proofs.Common.{◌≡◌, ℕ, ◌+◌, ◌*◌, ◌<◌, ◌≤◌, ◌==◌, ◌||◌, ◌&&◌, ◌⊎◌, nat_lt, List, [], ◌∷◌, ◌++◌, Option}
-use Rattle.std.proofs.Common.{Some, None, Bool, true, false, inl, inr, refl, sym, ap, ◌∙◌, subst, if◌then◌else◌}
-use Rattle.std.proofs.Common.{arith}
+use Rattle.std.proofs.Common.{Some, None, Bool, true, false, inl, inr, refl, sym, ap, ◌∙◌, subst, if◌then◌else◌, arith}
 use Rattle.std.proofs.lemmas.Bool.Decides.{nat_tests}
 use Rattle.source.specs.declared.fault.Code.{Code}
 use Rattle.source.specs.declared.fault.Code.TheVariants.{BadCharacter, NumberTooLarge, UnexpectedToken, NestedTooDeep}
@@ -38,12 +37,26 @@ pub least_in : (f : Mistake) (gs : List Mistake) → least_of None gs ≡ Some f
 least_in f [] e = cc
 least_in f (g ∷ gs) e = least_among f g gs e
 
+pub among_left : (f : Mistake) (a b : List Mistake) → IsAmong f a → IsAmong f (a ++ b)
+among_left f [] b i = absurd i
+among_left f (g ∷ a) b (inl e) = inl e
+among_left f (g ∷ a) b (inr i) = inr (among_left f a b i)
+
+pub among_right : (f : Mistake) (a b : List Mistake) → IsAmong f b → IsAmong f (a ++ b)
+among_right f [] b i = i
+among_right f (g ∷ a) b i = inr (among_right f a b i)
+
+pub among_either : (f : Mistake) (a b : List Mistake) → IsAmong f (a ++ b) → IsAmong f a ⊎ IsAmong f b
+among_either f [] b i = inr i
+among_either f (g ∷ a) b (inl e) = inl (inl e)
+among_either f (g ∷ a) b (inr i) = elim (among_either f a b i) [ inl l ↦ inl (inr l) | inr r ↦ inr r ]
+
 lesser_some : (b : Bool) (g h : Mistake) (gs : List Mistake) → ((x : Mistake) → least_of (Some x) gs ≡ None → ⊥) →
     least_of (if b then Some g else Some h) gs ≡ None → ⊥
 lesser_some true g h gs rest e = rest g e
 lesser_some false g h gs rest e = rest h e
 
-some_least : (h : Mistake) (gs : List Mistake) → least_of (Some h) gs ≡ None → ⊥
+pub some_least : (h : Mistake) (gs : List Mistake) → least_of (Some h) gs ≡ None → ⊥
 some_least h [] e = cc
 some_least h (g ∷ gs) e = lesser_some (goes_before g h) g h gs (λ x. some_least x gs) e
 

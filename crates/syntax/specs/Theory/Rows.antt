@@ -60,6 +60,11 @@ stmt_of-While b =
     let row = stmt_row (While b) in
     ap (λ ss. while b.value.start (expr_of b.value.condition) ss b.value.block.close) (stmts_of_row-items row.0 row.1 ∙ ap stmts_of (items_hidden-the_row-Stmt-0 b.value.block.stmts))
 
+-- of a loop in its box
+pub while_seen : (s : the_stmt.Stmt) (b : Box the_while.While Global) (x : the_while.While) → s ≡ While b →
+    x ≡ b.value → while_of x ≡ stmt_of s
+while_seen s b x is same = ap while_of same ∙ sym (ap stmt_of is ∙ stmt_of-While b)
+
 -- of a loop that was put together
 pub stmt_of-made_While : (b : Box the_while.While Global) (start : Span) (condition : the_expr.Expr) (block : the_block.Block)
     → b.value ≡ roll-While (record { start = start; condition = condition; block = block })

@@ -1,20 +1,23 @@
--- One turn of a loop over a list, and of one that keeps the least fault so far; and what a look-up finds. Nobody has to believe
+-- One turn of a loop over a list, of one that keeps the least fault so far, and of one over scopes; and what a look-up finds. Nobody has to believe
 -- these equations: they are proved here, for proofs of this crate and of the crates above.
 use Rattle.std.specs.Prelude.{OnOk}
-use Rattle.std.proofs.Common.{◌≡◌, ℕ, suc, ◌+◌, ◌<◌, List, ◌∷◌, ◌++◌, Option, Some, None, Result, Ok, Err, length}
-use Rattle.std.proofs.Common.{drop, get_or, drop-cons, add-one, sym, ap, ◌∙◌}
+use Rattle.std.proofs.Common.{◌≡◌, ℕ, ◌+◌, ◌<◌, List, ◌∷◌, ◌++◌, Option, Some, None, Result, Ok, Err, length, map, drop}
+use Rattle.std.proofs.Common.{get_or, sym, ap, ◌∙◌}
 use Rattle.source.specs.declared.mistake.Mistake.{Mistake}
 use Rattle.source.specs.Mistakes.{least_of}
 use Rattle.source.specs.Theory.Leasts.{least_append}
-
-pub drop-here : {A : Type 0} (items : List A) (i : ℕ) (item : A) → i < length items → item ≡ get_or items i item →
-    drop i items ≡ item ∷ drop (i + 1) items
-drop-here items i item lt is = drop-cons items i item lt ∙ ap (λ x. x ∷ drop (suc i) items) (sym is) ∙ ap (λ k. item ∷ drop k items) (sym (add-one i))
+use Rattle.syntax.specs.declared.tree.Param as tree_param
+use Rattle.syntax.specs.declared.tree.Stmt as tree_stmt
+use Rattle.syntax.specs.Views.{stmt_of, stmts_of, param_of}
+use Rattle.core_lang.specs.declared.tree.LocalKind.TheVariants.{Parameter}
+use Rattle.core_lang.specs.Theory.Items.{next_of}
+use Rattle.resolution.specs.Scopes.{Scope, bound, entered, outside, type_of}
+use Rattle.resolution.specs.Statements.{after, after_all}
 
 pub step : {A R : Type 0} (go next : List A → R) (items : List A) (i : ℕ) (item : A) (whole : R) → i < length items →
     item ≡ get_or items i item →
     next (drop (i + 1) items) ≡ go (item ∷ drop (i + 1) items) → go (drop i items) ≡ whole → next (drop (i + 1) items) ≡ whole
-step go next items i item whole lt is turn before = turn ∙ ap go (sym (drop-here items i item lt is)) ∙ before
+step go next items i item whole lt is turn before = turn ∙ ap go (sym (next_of items i item lt is)) ∙ before
 
 pub noted_one : (f g : Option Mistake) (a rest : List Mistake) → g ≡ least_of f a →
     least_of g rest ≡ least_of f (a ++ rest)
@@ -27,6 +30,27 @@ noted_two f g h a b rest hg hh = noted_one f h (a ++ b) rest (hh ∙ noted_one f
 pub noted_three : (f g h k : Option Mistake) (a b c rest : List Mistake) → g ≡ least_of f a → h ≡ least_of g b →
     k ≡ least_of h c → least_of k rest ≡ least_of f (a ++ b ++ c ++ rest)
 noted_three f g h k a b c rest hg hh hk = noted_one f k (a ++ b ++ c) rest (hk ∙ noted_two f g h a b c hg hh)
+
+-- ---- scopes, statement by statement and parameter by parameter
+
+pub scope_step : (sc sc' whole : Scope) (items : List tree_stmt.Stmt) (i : ℕ) (item : tree_stmt.Stmt) →
+    i < length items → item ≡ get_or items i item → sc' ≡ after sc (stmt_of item) →
+    after_all sc (stmts_of (drop i items)) ≡ whole → after_all sc' (stmts_of (drop (i + 1) items)) ≡ whole
+scope_step sc sc' whole items i item lt is behind before =
+    step (λ ss. after_all sc (stmts_of ss)) (λ ss. after_all sc' (stmts_of ss)) items i item whole lt is
+    (ap (λ (z : Scope). after_all z (stmts_of (drop (i + 1) items))) behind)
+    before
+
+pub param_step : (sc sc' whole : Scope) (items : List tree_param.Param) (i : ℕ) (item : tree_param.Param) →
+    i < length items → item ≡ get_or items i item →
+    sc' ≡ bound sc Parameter (param_of item).name (type_of (outside sc.decls) (param_of item).value_type) →
+    entered sc (map param_of (drop i items)) ≡ whole → entered sc' (map param_of (drop (i + 1) items)) ≡ whole
+param_step sc sc' whole items i item lt is behind before =
+    step (λ ps. entered sc (map param_of ps)) (λ ps. entered sc' (map param_of ps)) items i item whole lt is
+    (ap (λ (z : Scope). entered z (map param_of (drop (i + 1) items))) behind)
+    before
+
+-- ---- results
 
 pub on_ok_by : {A E : Type 0} {P Q : Type 0} (r : Result A E) → (P → Q) → OnOk r P → OnOk r Q
 on_ok_by (Ok x) f p = f p

@@ -1,7 +1,6 @@
 -- What the parts of a call, and of a run of all scripts, tell each other. It mirrors the code: nobody has to believe
 -- it.
 use Rattle.std.specs.Prelude.{◌≡◌, ◌≤◌, ◌<◌, ◌+◌, ℕ, true, List, [], ◌∷◌, ◌++◌, length, map, Some, None, slice_index_or}
-use Rattle.std.specs.List.{Contains}
 use Rattle.core_lang.specs.declared.value.Outcome.{Outcome}
 use Rattle.core_lang.specs.declared.typed.Call.{Call}
 use Rattle.core_lang.specs.Serial.{Invocation, invocation}
@@ -27,10 +26,6 @@ pub record IsSeat (plan : Plan) (thread step : ℕ) (log : List Commit) : Type 0
   pub step_is : step ≡ length (replies_of thread 0 log)
   pub steps : in_step thread 0 log ≡ true
   pub sound : IsSound plan log
-
--- a thread has a seat
-abbrev pub HasSeat : List SeatOf → ℕ → Type 0
-HasSeat seats thread = Contains (map (λ (s : SeatOf). s.thread) seats) thread
 
 -- what it has seen begins a history, which has no further entry of its thread
 pub record IsIn (log : List Commit) (s : SeatOf) : Type 0 where

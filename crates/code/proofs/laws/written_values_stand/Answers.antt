@@ -1,4 +1,4 @@
-use Rattle.code.proofs.Values.{written_cell, unwritten_cell, length-overwritten}
+use Rattle.code.specs.Theory.Values.{written_cell, unwritten_cell, length-overwritten}
 use Rattle.code.proofs.laws.written_values_stand.Goals as goal
 
 pub returns-clause-written : goal.returns-clause-written

@@ -1,9 +1,9 @@
-use Rattle.std.proofs.Common.{◌∙◌, ◌+◌, ◌++◌, ◌-◌, ◌≡◌, ◌∷◌, [], List, ℕ, suc, take, drop, length, map, get_or, sym}
-use Rattle.std.proofs.Common.{ap, subst, refl, add-one, arith, append_assoc, ◌≤◌}
+use Rattle.std.proofs.Common.{◌∙◌, ◌+◌, ◌++◌, ◌-◌, ◌≡◌, ◌∷◌, [], List, ℕ, take, drop, length, map, get_or, sym, ap}
+use Rattle.std.proofs.Common.{subst, add-one, arith, append_assoc}
 use Rattle.std.proofs.lemmas.List.{append-nil, drop_all, take_all, length-drop}
 use Rattle.std.proofs.lemmas.Option.{slice_get-get_or}
 use Rattle.std.proofs.Math.Seq.{drop-cons}
-use Rattle.explanation.specs.Notes.{Note, note_of}
+use Rattle.explanation.specs.Notes.{note_of}
 use Rattle.lockorder.specs.declared.ranks.Edge.{Edge}
 use Rattle.explanation_cycles.specs.CycleNotes.{class_of_next, TellEdges}
 use Rattle.explanation_cycles.specs.Working.Tellers.{IsMade}

@@ -1,4 +1,4 @@
-use Rattle.std.proofs.Common.{◌≡◌, ◌++◌, List, map, drop}
+use Rattle.std.proofs.Common.{◌++◌, List, map, drop}
 use Rattle.explanation.specs.Notes.{Note, note_of}
 use Rattle.explanation_cycles.specs.CycleNotes.{TellEdges}
 use Rattle.explanation_cycles.proofs.edges.cycle_notes.Given as goal

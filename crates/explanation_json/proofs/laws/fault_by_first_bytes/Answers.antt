@@ -1,5 +1,5 @@
-use Rattle.std.proofs.Common.{◌≡◌, ◌∙◌, ◌<◌, ◌≤◌, ◌+◌, ℕ, suc, List, [], ◌∷◌, Option, None, map, take, drop, length}
-use Rattle.std.proofs.Common.{max, min, refl, sym, ap, ap₂, subst, arith, ⊎_elim}
+use Rattle.std.proofs.Common.{◌≡◌, ◌∙◌, ◌<◌, ◌≤◌, ◌+◌, ℕ, suc, List, [], ◌∷◌, Option, None, map, take, length, min}
+use Rattle.std.proofs.Common.{refl, sym, ap, ap₂, arith, ⊎_elim}
 use Rattle.std.specs.List.{prefix_len}
 use Rattle.std.specs.Prelude.{◌++◌, All, false, codes, string_bytes}
 use Rattle.std.proofs.lemmas.Bool.{cases_lt}

@@ -7,12 +7,12 @@ use Rattle.core_lang.specs.declared.typed.Cell.{Cell}
 use Rattle.core_lang.specs.Serial.{opening_heap}
 use Rattle.locks.specs.declared.lock.Lock.{Lock}
 use Rattle.layout.specs.Layouts.{LayoutOf, AreDistinct}
-use Rattle.layout.proofs.Lists.{map_at, take_one_more, taken_whole}
+use Rattle.layout.proofs.Lists.{take_one_more, taken_whole}
 use Rattle.layout.proofs.Listed.{listed}
 use Rattle.layout.proofs.Found.{below_end}
 use Rattle.layout.proofs.Laid.{AreLocked, one_locked, laid_out}
 use Rattle.layout.proofs.program_layout.lay_out.Goals as goal
-use Rattle.core_lang.specs.Theory.Items.{read_at}
+use Rattle.core_lang.specs.Theory.Items.{read_at, map_at}
 
 pub loop-cell-init : goal.loop-cell-init
 loop-cell-init c =

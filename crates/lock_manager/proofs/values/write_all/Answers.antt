@@ -1,7 +1,8 @@
 use Rattle.std.proofs.Common.{◌-◌, ◌<◌, ap, length, drop, arith}
 use Rattle.core_lang.specs.declared.value.Value.TheVariants.{Int}
 use Rattle.std.specs.Prelude.{pos}
-use Rattle.lock_manager.proofs.Heaps.{length-overwritten, one_more_made, none_made, one_less_left}
+use Rattle.code.specs.Theory.Values.{length-overwritten}
+use Rattle.lock_manager.proofs.Heaps.{one_more_made, none_made, one_less_left}
 use Rattle.lock_manager.proofs.values.write_all.Goals as goal
 
 pub index_mut-requires : goal.index_mut-requires

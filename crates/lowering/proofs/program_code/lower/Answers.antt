@@ -1,10 +1,10 @@
 use Rattle.std.proofs.Common.{◌≡◌, ◌∙◌, ◌<◌, length, Some, inl, inr, refl, sym, ap, subst, arith}
 use Rattle.std.specs.Prelude.{slice_get}
 use Rattle.std.proofs.lemmas.Option.{same_Some, slice_get_read}
+use Rattle.core_lang.specs.Theory.Items.{pushed_at}
 use Rattle.inserter.specs.Placement.{all_lists}
 use Rattle.code.specs.Lowering.{lists_at}
 use Rattle.lowering.specs.Working.Lowered.{IsLowered}
-use Rattle.lowering.proofs.Pushes.{push_cases}
 use Rattle.lowering.proofs.program_code.lower.Goals as goal
 
 pub loop-k-preserved : goal.loop-k-preserved
@@ -16,7 +16,7 @@ loop-k-preserved c =
     record {
       long = omega (arith, c.in_ok-push.ensures.len, c.loop-k.invariant.long, c.loop-k.sections.ok.0, c.push.new.self.ok.0);
       each = λ j section made at e.
-          let split = push_cases c.loop-k.sections.items new j made in
+          let split = pushed_at c.loop-k.sections.items new j made in
           elim (split (subst (λ l. slice_get l j ≡ Some made) c.in_ok-push.ensures.items e)) [
             | inl old ↦ c.loop-k.invariant.each j section made at old
             | inr last ↦

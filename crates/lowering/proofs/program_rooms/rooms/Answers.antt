@@ -6,13 +6,13 @@ use Rattle.std.proofs.lemmas.List.{length-map}
 use Rattle.std.proofs.lemmas.Option.{same_Some, slice_get_read}
 use Rattle.core_lang.specs.declared.tree.Section.{Section}
 use Rattle.core_lang.specs.declared.typed.Typed.{Typed}
+use Rattle.core_lang.specs.Theory.Items.{pushed_at}
 use Rattle.locks.specs.LockPaths.{LockPath, lock_path_of, lock_paths}
 use Rattle.lockpaths.specs.declared.table.Paths.{Paths}
 use Rattle.lockpaths.specs.declared.table.SectionPaths.{SectionPaths}
 use Rattle.lockpaths.specs.Paths.{AreSectionPaths, ArePaths}
 use Rattle.layout.specs.declared.room.Room.{Room}
 use Rattle.lowering.specs.Working.Rooms.{IsRoomOf, most_cells}
-use Rattle.lowering.proofs.Pushes.{push_cases}
 use Rattle.lowering.proofs.Most.{cells_same}
 use Rattle.lowering.proofs.program_rooms.rooms.Goals as goal
 
@@ -56,7 +56,7 @@ loop-k-preserved c =
     record {
       long = omega (arith, c.in_ok-push.ensures.len, c.loop-k.invariant.long, c.loop-k.rooms.ok.0, c.push.new.self.ok.0);
       each = λ j section r at e.
-          elim (push_cases c.loop-k.rooms.items room j r (subst (λ l. slice_get l j ≡ Some r) c.in_ok-push.ensures.items e)) [
+          elim (pushed_at c.loop-k.rooms.items room j r (subst (λ l. slice_get l j ≡ Some r) c.in_ok-push.ensures.items e)) [
             | inl old ↦ c.loop-k.invariant.each j section r at old
             | inr new ↦
                 let k : j ≡ c.loop-k.k = new.0 ∙ c.loop-k.invariant.long in

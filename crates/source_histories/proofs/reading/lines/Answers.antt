@@ -1,4 +1,4 @@
-use Rattle.std.proofs.Common.{◌∙◌, sym, arith, length, drop, ap, ◌+◌}
+use Rattle.std.proofs.Common.{◌∙◌, arith}
 use Rattle.std.proofs.lemmas.List.{length-drop}
 use Rattle.source_histories.proofs.ReadingLemmas.{end_refused, line_refused, line_more}
 use Rattle.source_histories.proofs.reading.lines.Goals as goal

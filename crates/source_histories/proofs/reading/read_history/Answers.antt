@@ -1,4 +1,4 @@
-use Rattle.std.proofs.Common.{◌∙◌, sym, arith, Err, ◌≤◌, Option}
+use Rattle.std.proofs.Common.{◌∙◌, sym, arith}
 use Rattle.source_histories.proofs.ReadingLemmas.{first_long, first_alone, first_bad, first_good, first_answers}
 use Rattle.source_histories.proofs.reading.read_history.Goals as goal
 

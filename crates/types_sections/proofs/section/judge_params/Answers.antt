@@ -7,8 +7,9 @@ use Rattle.resolution.specs.Working.FaultLists.{one_if}
 use Rattle.core_lang.specs.declared.tree.LocalKind.TheVariants.{Parameter}
 use Rattle.syntax.specs.Views.{ident}
 use Rattle.resolution.specs.Scopes.{bound}
+use Rattle.types_symbols.specs.Theory.Steps.{param_step}
 use Rattle.types_expressions.specs.Working.Checkers.{scope}
-use Rattle.types_sections.proofs.Blocks.{param_fault_step, param_scope_step}
+use Rattle.types_sections.proofs.Blocks.{param_fault_step}
 use Rattle.types_sections.proofs.section.judge_params.Goals as goal
 
 pub loop-place-preserved : goal.loop-place-preserved
@@ -20,5 +21,5 @@ loop-place-preserved c =
       faults = param_fault_step sc sc' c.args.params.now c.loop-place.place c.index-params-place.result _ _ _ _ _ c.loop-place-test.true c.index-params-place.is c.note_name.ensures
           (c.note_if.ensures ∙ ap (λ (l : BodyLimits). least_of c.note_name.new.least (one_if (nat_le l.parameters c.loop-place.place) LimitExceeded (ident c.index-params-place.result.name).span.start)) c.limits.ensures)
           c.declared_type-t.ensures.faults behind c.loop-place.invariant.faults;
-      scope = param_scope_step sc sc' _ c.args.params.now c.loop-place.place c.index-params-place.result c.loop-place-test.true c.index-params-place.is behind c.loop-place.invariant.scope;
+      scope = param_step sc sc' _ c.args.params.now c.loop-place.place c.index-params-place.result c.loop-place-test.true c.index-params-place.is behind c.loop-place.invariant.scope;
     }

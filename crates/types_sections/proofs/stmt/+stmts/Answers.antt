@@ -10,14 +10,16 @@ use Rattle.resolution.specs.Statements.{after, after_else, after_all}
 use Rattle.resolution.specs.Working.TypedExpressions.{as_value, fitting, typed}
 use Rattle.resolution.specs.Expressions.{want}
 use Rattle.source.specs.Mistakes.{least_of}
+use Rattle.syntax.specs.Theory.Rows.{while_seen}
 use Rattle.resolution.specs.Working.FaultLists.{stmt_faults, stmts_faults, wanted_faults}
 use Rattle.resolution.specs.Scopes.{left}
+use Rattle.resolution.specs.Theory.Blocks.{left_is}
 use Rattle.types_expressions.specs.Working.Checkers.{scope}
 use Rattle.types_sections.specs.Working.Targets.{row_of, part_of}
-use Rattle.types_symbols.specs.Theory.Steps.{on_ok, on_ok_by}
+use Rattle.types_symbols.specs.Theory.Steps.{on_ok, on_ok_by, scope_step}
 use Rattle.types_sections.proofs.Blocks.{let_seen, var_seen, body_joined, body_end, stmt_step, stmt_fault_step}
-use Rattle.types_sections.proofs.Blocks.{stmt_scope_step, left_is, while_seen, while_value, while_faults, if_seen}
-use Rattle.types_sections.proofs.Blocks.{if_value, if_faults, if_scope, otherwise_value}
+use Rattle.types_sections.proofs.Blocks.{while_value, while_faults, if_seen, if_value, if_faults, if_scope}
+use Rattle.types_sections.proofs.Blocks.{otherwise_value}
 use Rattle.types_sections.proofs.stmt.+stmts.Goals as goal
 
 pub judge_body-loop-s-preserved : goal.judge_body-loop-s-preserved
@@ -28,7 +30,7 @@ judge_body-loop-s-preserved t c =
     record {
       value = stmt_step sc sc' items c.loop-s.s-index c.s-item.result _ _ (option_map part_of c.in-Ok.part) _ c.loop-s-test.true c.s-item.is c.in_ok-body.ensures c.in-Ok.ensures.value c.in-Ok.ensures.scope c.loop-s.invariant.value;
       faults = stmt_fault_step sc sc' items c.loop-s.s-index c.s-item.result _ _ _ c.loop-s-test.true c.s-item.is c.in-Ok.ensures.faults c.in-Ok.ensures.scope c.loop-s.invariant.faults;
-      scope = stmt_scope_step sc sc' _ items c.loop-s.s-index c.s-item.result c.loop-s-test.true c.s-item.is c.in-Ok.ensures.scope c.loop-s.invariant.scope;
+      scope = scope_step sc sc' _ items c.loop-s.s-index c.s-item.result c.loop-s-test.true c.s-item.is c.in-Ok.ensures.scope c.loop-s.invariant.scope;
     }
 
 pub judge_body-returns-clause-value : goal.judge_body-returns-clause-value

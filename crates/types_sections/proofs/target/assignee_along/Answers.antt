@@ -1,6 +1,6 @@
 use Rattle.std.proofs.Common.{arith}
 use Rattle.std.proofs.lemmas.Grind.{common_steps}
-use Rattle.types_sections.proofs.Lasts.{last_push, last_final}
+use Rattle.resolution.specs.Theory.Blocks.{last_push, last_final}
 use Rattle.types_sections.proofs.target.assignee_along.Goals as goal
 
 pub returns-in-Local-clause-value : goal.returns-in-Local-clause-value

@@ -1,4 +1,4 @@
-use Rattle.std.proofs.Common.{◌∙◌, sym, subst, refl, length, arith, ◌<◌}
+use Rattle.std.proofs.Common.{◌∙◌, sym, subst, refl, length}
 use Rattle.std.proofs.lemmas.Option.{slice_get_read, slice_get_within, same_Some}
 use Rattle.explanation.specs.Notes.{note_of}
 use Rattle.lockorder.specs.Edges.{UsesClass, BindsClass}

@@ -2,11 +2,12 @@ use Rattle.std.proofs.Common.{◌∙◌, ◌++◌, ap, append-nil, refl, sym}
 use Rattle.std.proofs.lemmas.List.{at_drop_all}
 use Rattle.syntax.specs.declared.tree.If.{out-If}
 use Rattle.syntax.specs.Views.{else_of, stmt_of, stmts_of}
+use Rattle.syntax.specs.Theory.Rows.{while_seen}
 use Rattle.explanation_names.specs.Working.UsesFound.{all_declared, uses_by, uses_in_blocks, uses_in_else}
 use Rattle.explanation_names.specs.Working.UsesFound.{uses_in_stmts}
 use Rattle.explanation_names.specs.Working.Values.{typed_seen}
 use Rattle.explanation_names.proofs.Added.{all_said, both, said_as, said_when, stmt_grown, stmt_said, tells_first}
-use Rattle.explanation_names.proofs.Seen.{blocks_seen, taken_off, while_seen}
+use Rattle.explanation_names.proofs.Seen.{blocks_seen, taken_off}
 use Rattle.explanation_names.proofs.search.Search.+stmts.Goals as goal
 
 pub in_block-returns-clause-scope : goal.in_block-returns-clause-scope

@@ -1,7 +1,8 @@
 use Rattle.std.proofs.Common.{ap}
+use Rattle.syntax.specs.Theory.Rows.{while_seen}
 use Rattle.explanation_names.specs.Working.UsesFound.{uses_by}
 use Rattle.explanation_names.specs.Working.Values.{locals_at}
-use Rattle.explanation_names.proofs.Seen.{if_seen, while_seen}
+use Rattle.explanation_names.proofs.Seen.{if_seen}
 use Rattle.explanation_names.proofs.Added.{both, said_as}
 use Rattle.explanation_names.proofs.search.Search.in_own.Goals as goal
 

@@ -1,13 +1,15 @@
 use Rattle.std.proofs.Common.{◌+◌, ◌++◌, drop, ap, ◌∙◌}
 use Rattle.syntax.specs.Views.{stmt_of, stmts_of}
+use Rattle.syntax.specs.Theory.Rows.{while_seen}
 use Rattle.resolution.specs.Scopes.{left}
 use Rattle.resolution.specs.Statements.{after, after_all}
+use Rattle.resolution.specs.Theory.Blocks.{left_is}
 use Rattle.types_expressions.specs.Working.Checkers.{scope}
 use Rattle.types_symbols.specs.Theory.Steps.{on_ok_by, step}
 use Rattle.explanation_types.specs.Working.Searches.{in_blocks}
 use Rattle.explanation_types.specs.Working.Values.{block_clashes, said_of_stmt, stmts_clashes}
 use Rattle.explanation_types.proofs.NoteSteps.{two, turn}
-use Rattle.explanation_types.proofs.BlockLaws.{left_is, while_seen, if_notes, if_scope}
+use Rattle.explanation_types.proofs.BlockLaws.{if_notes, if_scope}
 use Rattle.explanation_types.proofs.searches.Search.+stmts.Goals as goal
 
 pub behind-returns-in_ok-block-in-If-clause-found : goal.behind-returns-in_ok-block-in-If-clause-found

@@ -6,11 +6,11 @@ use Rattle.core_lang.specs.declared.typed.LockField.{LockField}
 use Rattle.locks.specs.declared.lock.Lock.{Lock}
 use Rattle.layout.specs.declared.places.ClassPlace.TheVariants as place
 use Rattle.layout.specs.Working.Numbers.{locks_at}
-use Rattle.layout.proofs.Lists.{last_at, taken_whole}
+use Rattle.layout.proofs.Lists.{taken_whole}
 use Rattle.layout.proofs.Listed.{one_more_lock}
 use Rattle.layout.proofs.Numbered.{object_added, field_added}
 use Rattle.layout.proofs.numbering.Numbering.add_object.Goals as goal
-use Rattle.core_lang.specs.Theory.Items.{read_at}
+use Rattle.core_lang.specs.Theory.Items.{read_at, last_at}
 
 pub invariant_of-self : goal.invariant_of-self
 invariant_of-self c =

@@ -1,7 +1,7 @@
 use Rattle.std.proofs.Common.{◌≡◌, ◌+◌, Some, ap, ◌∙◌, subst, arith}
 use Rattle.lock_manager.specs.Working.Committed.{CommittedOf}
 use Rattle.lock_manager.specs.Working.Managers.{number_from}
-use Rattle.lock_manager.proofs.Numbers.{number_found}
+use Rattle.lock_manager.specs.Theory.Numbers.{number_found}
 use Rattle.lock_manager.proofs.committed.Committed.number_of.Goals as goal
 
 pub returns-clause-found : goal.returns-clause-found

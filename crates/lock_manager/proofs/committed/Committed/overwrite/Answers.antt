@@ -1,5 +1,5 @@
 use Rattle.std.proofs.Common.{◌∙◌, length, ap, subst, sym}
-use Rattle.lock_manager.proofs.Heaps.{length-overwritten}
+use Rattle.code.specs.Theory.Values.{length-overwritten}
 use Rattle.lock_manager.specs.Working.Committed.{CommittedOf, AreOfCells}
 use Rattle.lock_manager.proofs.committed.Committed.overwrite.Goals as goal
 

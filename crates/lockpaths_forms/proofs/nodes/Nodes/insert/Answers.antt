@@ -1,11 +1,11 @@
 use Rattle.std.proofs.Common.{◌≡◌, ◌∙◌, true, true≢false, sym, ap, refl, arith}
 use Rattle.std.specs.Prelude.{◌&&◌, ◌==◌}
-use Rattle.std.proofs.lemmas.Bool.{eq-eqb}
+use Rattle.std.proofs.lemmas.Bool.{eq-eqb, and_parts}
 use Rattle.std.proofs.lemmas.Bool.Decides.{nat_tests}
 use Rattle.lockpaths_forms.specs.declared.nodes.Step.{Step}
 use Rattle.lockpaths_forms.specs.declared.nodes.Step.TheVariants.{Local, Final}
 use Rattle.lockpaths_forms.specs.contracts.nodes.StepPartialEq.TheImpl.{ghosts}
-use Rattle.lockpaths_forms.proofs.Numbered.{both, grown, are_more, numbered}
+use Rattle.lockpaths_forms.proofs.Numbered.{grown, are_more, numbered}
 use Rattle.lockpaths_forms.proofs.nodes.Nodes.insert.Goals as goal
 
 self : (s : Step) → ghosts.eq s s ≡ true
@@ -17,7 +17,7 @@ same (Local l) (Local m) h = let e : l ≡ m = grind (arith, nat_tests, h) in ap
 same (Local l) (Final n k) h = absurd (true≢false (sym h))
 same (Final n k) (Local l) h = absurd (true≢false (sym h))
 same (Final n k) (Final m j) h =
-    let parts = both (n == m) (k == j) h in
+    let parts = and_parts (n == m) (k == j) h in
     let a : n ≡ m = grind (arith, nat_tests, parts.0) in
     let b : k ≡ j = grind (arith, nat_tests, parts.1) in
     ap (λ x. Final x k) a ∙ ap (Final m) b

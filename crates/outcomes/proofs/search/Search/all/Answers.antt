@@ -2,7 +2,7 @@ use Rattle.std.proofs.Common.{◌≡◌, ◌∙◌, ℕ, ◌+◌, ◌-◌, [], �
 use Rattle.core_lang.specs.Serial.{opening_heap}
 use Rattle.outcomes.specs.declared.search.Work.{Work}
 use Rattle.outcomes.specs.Orders.{none_done}
-use Rattle.outcomes.specs.Working.Searching.{AreGood, order_at, total, weight}
+use Rattle.outcomes.specs.Working.Searching.{AreGood, order_at, weight}
 use Rattle.outcomes.proofs.Whole.{good_at_first, sums_at_first, sums_of_more, good_of_more, stops_after, too_many}
 use Rattle.outcomes.proofs.Whole.{are_all_ends}
 use Rattle.outcomes.proofs.Configurations.{configuration_of, no_places, places_more, has_places, before_more}

@@ -1,6 +1,5 @@
-use Rattle.std.proofs.Common.{◌≡◌, ◌<◌, length, Some, slice_get, refl, arith}
+use Rattle.std.proofs.Common.{◌≡◌, length, Some, slice_get, refl, arith}
 use Rattle.std.proofs.lemmas.Option.{slice_get_read}
-use Rattle.outcomes.specs.Working.Drawing.{calls_of_thread}
 use Rattle.outcomes.proofs.Drawn.{calls_of_one}
 use Rattle.outcomes.proofs.search.Search.left.Goals as goal
 

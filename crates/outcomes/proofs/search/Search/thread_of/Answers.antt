@@ -1,4 +1,4 @@
-use Rattle.std.proofs.Common.{◌≡◌, ◌<◌, length, arith}
+use Rattle.std.proofs.Common.{arith}
 use Rattle.outcomes.proofs.Drawn.{walk_fits, from_first, from_within, from_next, done_within, is_left}
 use Rattle.outcomes.proofs.search.Search.thread_of.Goals as goal
 

@@ -3,13 +3,14 @@ use Rattle.std.specs.Prelude.{OnOk}
 use Rattle.syntax.specs.declared.tree.If.{out-If}
 use Rattle.syntax.specs.Trees.{Stmt}
 use Rattle.syntax.specs.Views.{stmts_of}
+use Rattle.syntax.specs.Theory.Rows.{while_seen}
 use Rattle.resolution.specs.Statements.{after}
 use Rattle.resolution.specs.CallGraphs.{stmt_calls, stmts_calls, stmt_points}
 use Rattle.core_lang_calls.specs.declared.graph.CallSite.{CallSite}
 use Rattle.types_symbols.specs.{decls_of, KnownLocals}
 use Rattle.types_symbols.specs.Theory.Steps.{on_ok_by}
 use Rattle.types_calls.specs.Working.Walks.{scope_at, behind_block}
-use Rattle.types_calls.proofs.Steps.{left_is, while_seen, if_scope, if_calls, if_points}
+use Rattle.types_calls.proofs.Steps.{left_is, if_scope, if_calls, if_points}
 use Rattle.types_calls.proofs.walk.Reader.+stmts.Goals as goal
 
 pub block-returns-clause-scope : goal.block-returns-clause-scope

@@ -3,8 +3,8 @@ use Rattle.core_lang.specs.declared.tree.LocalKind.TheVariants.{Parameter}
 use Rattle.syntax.specs.Views.{param_of}
 use Rattle.resolution.specs.Scopes.{bound}
 use Rattle.types_symbols.specs.{decls_of}
+use Rattle.types_symbols.specs.Theory.Steps.{param_step}
 use Rattle.types_calls.specs.Working.Walks.{scope_at}
-use Rattle.types_calls.proofs.Steps.{param_step}
 use Rattle.types_calls.proofs.walk.Reader.params.Goals as goal
 
 pub loop-param-preserved : goal.loop-param-preserved

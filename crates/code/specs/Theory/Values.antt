@@ -1,5 +1,6 @@
--- Values of cells, and heaps that they are written into.
-use Rattle.std.proofs.Common.{◌≡◌, ◌≢◌, ℕ, ◌<◌, List, [], ◌∷◌, length, map, Option, Some, None, Bool, true, false}
+-- Values of cells, and heaps that they are written into. Nobody has to believe this: it is proved here, for proofs of this crate and
+-- of those above.
+use Rattle.std.proofs.Common.{◌≡◌, ◌≢◌, ℕ, ◌<◌, List, [], ◌∷◌, ◌++◌, length, map, Option, Some, None, Bool, true, false}
 use Rattle.std.proofs.Common.{inl, inr, refl, sym, ap, ◌∙◌, arith, length-set, get_or-set_same, get_or-set_other}
 use Rattle.std.specs.Prelude.{slice_get, slice_set, nat_eq, nat_lt, if◌then◌else◌}
 use Rattle.std.proofs.lemmas.Bool.Decides.{eqb_tells}
@@ -10,19 +11,38 @@ use Rattle.code.specs.Memory.{value_at, with_value, with_changed, overwritten, A
 
 -- ---- the first of the list, and the rest
 
-same_cell : (a b : ℕ) → nat_eq a b ≡ true → a ≡ b
+pub same_cell : (a b : ℕ) → nat_eq a b ≡ true → a ≡ b
 same_cell a b e = elim (eqb_tells a b) [ inl h ↦ h.1 | inr h ↦ absurd (let bad : true ≡ false = sym e ∙ h.0 in cc) ]
 
-other_cell : (a b : ℕ) → nat_eq a b ≡ false → a ≢ b
+pub other_cell : (a b : ℕ) → nat_eq a b ≡ false → a ≢ b
 other_cell a b e = elim (eqb_tells a b) [ inl h ↦ absurd (let bad : true ≡ false = sym h.0 ∙ e in cc) | inr h ↦ h.1 ]
 
-first_is : (a k : ℕ) (v : Value) (rest : Option Value) → a ≡ k → (if nat_eq a k then Some v else rest) ≡ Some v
+pub first_is : (a k : ℕ) (v : Value) (rest : Option Value) → a ≡ k → (if nat_eq a k then Some v else rest) ≡ Some v
 first_is a k v rest e =
     elim (eqb_tells a k) [ inl h ↦ ap (λ b. if b then Some v else rest) h.0 | inr h ↦ absurd (h.1 e) ]
 
-first_is_not : (a k : ℕ) (v : Value) (rest : Option Value) → a ≢ k → (if nat_eq a k then Some v else rest) ≡ rest
+pub first_is_not : (a k : ℕ) (v : Value) (rest : Option Value) → a ≢ k → (if nat_eq a k then Some v else rest) ≡ rest
 first_is_not a k v rest ne =
     elim (eqb_tells a k) [ inl h ↦ absurd (ne h.1) | inr h ↦ ap (λ b. if b then Some v else rest) h.0 ]
+
+-- ---- one list behind another
+
+pub value_left : (xs ys : List (ℕ × Value)) (c : ℕ) (v : Value) → value_at xs c ≡ Some v →
+    value_at (xs ++ ys) c ≡ Some v
+value_left [] ys c v e = absurd (none-some v e)
+value_left (x ∷ xs) ys c v e = elim (eqb_tells x.0 c) [
+  | inl h ↦ first_is x.0 c x.1 (value_at (xs ++ ys) c) h.1 ∙ sym (first_is x.0 c x.1 (value_at xs c) h.1) ∙ e
+  | inr h ↦ first_is_not x.0 c x.1 (value_at (xs ++ ys) c) h.1
+      ∙ value_left xs ys c v (sym (first_is_not x.0 c x.1 (value_at xs c) h.1) ∙ e)
+]
+
+pub value_right : (xs ys : List (ℕ × Value)) (c : ℕ) → value_at xs c ≡ None → value_at (xs ++ ys) c ≡ value_at ys c
+value_right [] ys c e = refl
+value_right (x ∷ xs) ys c e = elim (eqb_tells x.0 c) [
+  | inl h ↦ absurd (none-some x.1 (sym e ∙ first_is x.0 c x.1 (value_at xs c) h.1))
+  | inr h ↦ first_is_not x.0 c x.1 (value_at (xs ++ ys) c) h.1
+      ∙ value_right xs ys c (sym (first_is_not x.0 c x.1 (value_at xs c) h.1) ∙ e)
+]
 
 -- ---- with a cell's value set
 
