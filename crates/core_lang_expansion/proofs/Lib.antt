@@ -1,3 +1,4 @@
+pub mod Clones
 pub mod Pairs
 pub mod Rows
 pub mod Steps

@@ -6,12 +6,10 @@
 //! - [`writing`]: its statements, one after another, with the calls in them.
 //! - [`scope`]: the locals in scope by their new numbers, and expressions and conditions of them.
 //! - [`idle`]: the helpers that do nothing, whose calls are passed over.
-//! - [`copies`]: the parts that stay as they were.
 //! - [`not_written_out`]: why a section is not written out.
 #![tactic(auto)]
 
 pub mod body;
-mod copies;
 mod idle;
 pub mod not_written_out;
 pub mod program;

@@ -8,7 +8,6 @@ ghost use Rattle.core_lang.specs.WrittenLocals.{AreWrittenLocals};
 ghost use Rattle.core_lang_expansion.specs.Data.{head_data, IsExpanded};
 
 use crate::body::Body;
-use crate::copies::{arrays, cells, classes, globals, pools, structs, threads};
 use crate::idle::Idle;
 use crate::not_written_out::NotWrittenOut;
 use core_lang::laws;
@@ -77,8 +76,8 @@ fn places(alloc: Global, shape: &Shape) -> Result<Shape, NoMemory>
     ensures same { IfOk result (HasSamePlaces shape.now) }
     ensures helpers { IfOk result (λ made. made.helpers.items ≡ []) }
 {
-    let arrays = arrays(alloc, &shape.arrays)?;
-    let pools = pools(alloc, &shape.pools)?;
+    let arrays = shape.arrays.clone()?;
+    let pools = shape.pools.clone()?;
     let objects = shape.objects.clone()?;
     let finals = shape.finals.clone()?;
     Ok(Shape {
@@ -104,11 +103,11 @@ pub fn expand(alloc: Global, program: &Typed) -> Result<Typed, NoMemory>
         return Err(NoMemory);
     };
     let shape = places(alloc, &program.shape)?;
-    let classes = classes(alloc, &program.classes)?;
-    let structs = structs(alloc, &program.structs)?;
-    let globals = globals(alloc, &program.globals)?;
-    let cells = cells(&program.cells)?;
-    let threads = threads(alloc, &program.threads)?;
+    let classes = program.classes.clone()?;
+    let structs = program.structs.clone()?;
+    let globals = program.globals.clone()?;
+    let cells = program.cells.clone()?;
+    let threads = program.threads.clone()?;
     Ok(Typed {
         classes,
         structs,

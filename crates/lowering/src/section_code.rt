@@ -16,16 +16,6 @@ pub fn code_of(alloc: Global, section: &Section, lists: &[Vec<u8>]) -> Result<Se
 {
     Ok(SectionCode {
         instructions: instructions(alloc, section, lists)?,
-        lists: copy_of(alloc, lists)?,
+        lists: Vec::from_clones(alloc, lists)?,
     })
-}
-
-fn copy_of(alloc: Global, lists: &[Vec<u8>]) -> Result<Vec<Vec<u8>>, NoMemory>
-    ensures { IfOk result (λ copy. number_lists copy.items ≡ number_lists lists.now) }
-{
-    let mut copy = Vec::with_capacity(alloc, lists.len())?;
-    for list in lists {
-        copy.push(Vec::from_slice(alloc, list)?)?;
-    }
-    Ok(copy)
 }

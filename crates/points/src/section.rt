@@ -13,7 +13,6 @@ use flow::points::points_of;
 use flow::skeleton::parts_of;
 use lockpaths::table::Paths;
 use locks::path::LockPath;
-use locks::path_set::PathSet;
 use source::memory::NoMemory;
 use std::alloc::Global;
 
@@ -25,14 +24,6 @@ fn classes_of(alloc: Global, paths: &[LockPath]) -> Result<Vec<usize>, NoMemory>
         classes.push(path.class)?;
     }
     Ok(classes)
-}
-
-fn copy_of(alloc: Global, sets: &[PathSet]) -> Result<Vec<PathSet>, NoMemory>
-    ensures { IfOk result (λ copy. copy.items ≡ sets.now) }
-{
-    let mut copy = Vec::new(alloc);
-    copy.extend_from_slice(sets)?;
-    Ok(copy)
 }
 
 /// The points of the section of this number in [`Typed::sections`], by the program's lock paths.
@@ -63,7 +54,7 @@ pub fn points(
     let used_before = forward_may(alloc, &parts, &found.used)?;
     let used_later = backward_may(alloc, &parts, &found.used)?;
     let classes = classes_of(alloc, &found.paths)?;
-    let used = copy_of(alloc, &found.used)?;
+    let used = Vec::from_slice(alloc, &found.used)?;
     Ok(Points {
         parts,
         classes,

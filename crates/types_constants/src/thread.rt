@@ -138,23 +138,13 @@ fn add_call(
     }
 }
 
-/// A call once more.
-fn copy(c: &Call) -> Result<Call, AllocError>
-    ensures { IfOk result (λ r. core_call r ≡ core_call c.now) }
-{
-    Ok(Call {
-        section: c.section,
-        arguments: c.arguments.clone()?,
-    })
-}
-
 /// Adds so many of the calls, from one on, once more.
 fn add_again(calls: &mut Vec<Call>, from: usize, count: usize) -> Result<(), AllocError>
     requires { from + count ≤ length calls.old.items }
     ensures { OnOk result (cores calls.new.items ≡ cores calls.old.items ++ take count (drop from (cores calls.old.items))) }
 {
     for at in 0..count {
-        let call = copy(&calls[from + at])?;
+        let call = calls[from + at].clone()?;
         calls.push(call)?;
     }
     Ok(())

@@ -4,7 +4,7 @@ use Rattle.std.proofs.Common.{◌≡◌, ◌≢◌, ◌⊎◌, ◌∙◌, ◌+�
 use Rattle.std.proofs.Common.{◌++◌, length, map, set, drop, drop-cons, get_or, Option, Some, None, slice_get, inl, inr}
 use Rattle.std.proofs.Common.{refl, sym, ap, subst, add-one, arith, if◌then◌else◌}
 use Rattle.std.specs.Option.{option_map}
-use Rattle.std.specs.List.{All, AllPairs, Contains}
+use Rattle.std.specs.List.{All, AllPairs, AllZip, Contains}
 use Rattle.std.proofs.lemmas.List.Elements.{Contains-append_cases}
 use Rattle.std.proofs.lemmas.Option.{none-some, same_Some, slice_get_within, get_or_from_slice_get, slice_get-get_or}
 use Rattle.core_lang.specs.Typing.{lookup}
@@ -168,6 +168,23 @@ some_same a b e = cc
 
 pub both_false : {P : Type 0} → (P → ⊥) → (IsTrue false → P) × (P → IsTrue false)
 both_false {P} fails = (λ e. absurd (let bad : false ≡ true = e in cc), λ p. absurd (fails p))
+
+-- ---- two lists, place by place
+
+pub zip_same : {X : Type 0} (R : X → X → Type 0) → ((x y : X) → R x y → y ≡ x) → (xs ys : List X) → AllZip R xs ys → ys ≡ xs
+zip_same R each [] [] h = refl
+zip_same R each [] (y ∷ ys) h = absurd h
+zip_same R each (x ∷ xs) [] h = absurd h
+zip_same R each (x ∷ xs) (y ∷ ys) h =
+    ap (λ z. z ∷ ys) (each x y h.0) ∙ ap (λ zs. x ∷ zs) (zip_same R each xs ys h.1)
+
+pub zip_map : {A B : Type 0} (R : A → A → Type 0) (f : A → B) → ((x y : A) → R x y → f y ≡ f x) → (xs ys : List A) →
+    AllZip R xs ys → map f ys ≡ map f xs
+zip_map R f each [] [] h = refl
+zip_map R f each [] (y ∷ ys) h = absurd h
+zip_map R f each (x ∷ xs) [] h = absurd h
+zip_map R f each (x ∷ xs) (y ∷ ys) h =
+    ap (λ d. d ∷ map f ys) (each x y h.0) ∙ ap (λ ds. f x ∷ ds) (zip_map R f each xs ys h.1)
 
 -- ---- numbers
 

@@ -4,7 +4,9 @@ use Rattle.core_lang.specs.declared.tree.Section.{Section}
 use Rattle.core_lang.specs.declared.typed.Typed.{Typed}
 use Rattle.core_lang.specs.Expansion.{IsWrittenOut}
 use Rattle.core_lang.specs.WrittenLocals.{AreWrittenLocals}
-use Rattle.core_lang_expansion.specs.Data.{class_data, struct_data, global_data, thread_data, head_data, IsExpanded}
+use Rattle.core_lang_expansion.specs.Data.{head_data, IsExpanded}
+use Rattle.core_lang.specs.Theory.Items.{zip_same}
+use Rattle.core_lang_expansion.proofs.Clones.{same_classes, same_structs, same_globals, same_threads}
 use Rattle.core_lang_expansion.proofs.Pairs.{zip_there, zip_back}
 use Rattle.core_lang_expansion.proofs.WellFormed.{well_formed}
 use Rattle.core_lang_expansion.proofs.program.expand.Goals as goal
@@ -19,17 +21,17 @@ returns-clause-expanded c =
       expansion = record {
         places = c.in_ok-shape.ensures.same;
         helpers = c.in_ok-shape.ensures.helpers;
-        cells = c.in_ok-cells.ensures;
+        cells = zip_same _ (λ x y e. e) program.cells.items c.in_ok-cells.cells.items c.in_ok-cells.ensures.cases.0;
         there = zip_there R list c.in-Ok.sections.items all;
         back = zip_back R list c.in-Ok.sections.items all;
       };
       locals = subst (λ (xs : List Section). AllZip (AreWrittenLocals program.shape) xs c.in-Ok.sections.items) c.deref.ensures.value c.in-Ok.ensures.locals;
       besides = record {
-        classes = c.in_ok-classes.ensures ∙ ap (map class_data) c.deref-2.ensures.value;
-        structs = c.in_ok-structs.ensures ∙ ap (map struct_data) c.deref-3.ensures.value;
-        globals = c.in_ok-globals.ensures ∙ ap (map global_data) c.deref-4.ensures.value;
+        classes = same_classes program.classes.items c.in_ok-classes.classes.items c.in_ok-classes.ensures.cases.0;
+        structs = same_structs program.structs.items c.in_ok-structs.structs.items c.in_ok-structs.ensures.cases.0;
+        globals = same_globals program.globals.items c.in_ok-globals.globals.items c.in_ok-globals.ensures.cases.0;
         heads = c.in-Ok.ensures.heads ∙ ap (map head_data) c.deref.ensures.value;
-        threads = c.in_ok-threads.ensures ∙ ap (map thread_data) c.deref-5.ensures.value;
+        threads = same_threads program.threads.items c.in_ok-threads.threads.items c.in_ok-threads.ensures.cases.0;
       };
     }
 

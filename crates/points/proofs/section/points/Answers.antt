@@ -98,7 +98,7 @@ invariant_of-result c =
     record {
       few = omega (arith, c.in_ok-classes.classes.ok.0, classes, limit);
       of_bound = c.in_ok-bound.bound.ok.0 ∙ bound.0 ∙ all;
-      of_used = c.in_ok-used.used.ok.0 ∙ ap length (c.in_ok-used.ensures ∙ c.deref-8.ensures.value) ∙ are.used.0 ∙ all;
+      of_used = c.in_ok-used.used.ok.0 ∙ ap length (c.in_ok-used.ensures.items ∙ c.deref-8.ensures.value) ∙ are.used.0 ∙ all;
       of_in_scope = c.in_ok-in_scope.in_scope.ok.0 ∙ scope.0 ∙ all;
       of_used_before = c.in_ok-used_before.ensures.len ∙ ap (λ ps. count (skeleton_of ps)) c.deref-3.ensures.value;
       of_used_later = c.in_ok-used_later.ensures.len ∙ ap (λ ps. count (skeleton_of ps)) c.deref-5.ensures.value;
@@ -119,7 +119,7 @@ returns c = λ s at.
       parts = c.in_ok-parts.ensures;
       classes = classes_of program section found counted are c.deref.result.now c.deref.ensures.value c.deref-7.result.now c.in_ok-classes.classes.items c.deref-7.ensures.value c.in_ok-classes.ensures;
       bound = bound_are program section found counted are c.deref.result.now c.deref.ensures.value c.in_ok-bound.bound.items _ _ c.deref-2.ensures.value c.in_ok-points_of.ensures c.in_ok-bound.ensures;
-      used = subst used (sym (c.in_ok-used.ensures ∙ c.deref-8.ensures.value)) are.used;
+      used = subst used (sym (c.in_ok-used.ensures.items ∙ c.deref-8.ensures.value)) are.used;
       in_scope = scope_are program section found counted are c.deref.result.now c.deref.ensures.value c.in_ok-in_scope.in_scope.items c.points_are_counted.ensures.scopes c.in_ok-in_scope.ensures;
       used_before =
           before_sets program section counted c.deref-4.result.now (subst used (sym c.deref-4.ensures.value) are.used) (skeleton_of c.deref-3.result.now) c.in_ok-used_before.used_before.items
