@@ -23,6 +23,12 @@ BEGIN, END = "<!-- tests/believed.py writes from here -->\n", "<!-- to here -->\
 # The calls: a file and the names of its functions.
 HEADLINE = {"crates/interleavings/src/world.rt": ["run"], "crates/worlds/src/laws.rt": ["every_run"]}
 COMPILER = {"crates/compiler/src/passes.rt": ["compile"]}
+THREADS = {
+    "crates/workers/src/shared.rt": ["open", "call", "agree", "close"],
+    "crates/workers/src/threads.rt": ["run_threads"],
+    "crates/workers/src/closed.rt": None,
+    "crates/workers/src/seat.rt": ["keeps_its_rules"],
+}
 USE = re.compile(r"^(?:ghost |pub )*use Rattle\.([\w.]+?)(?:\.\{(.*?)\}| as (\S+))?;?$", re.M | re.S)
 WORD = re.compile(r"[^\s(){},;]+")
 NOT_NAMES = {"use", "module", "let", "in", "where", "|", "--", "→", "×", "λ", "if", "else", "then", "}", ")", "]", "unfolding"}
@@ -242,7 +248,7 @@ def others():
 
 def main():
     reading, failed, tables, counted = Reading(), 0, [], {}
-    groups = (("The headline", HEADLINE), ("The compiler", COMPILER), ("All engines", engines()))
+    groups = (("The headline", HEADLINE), ("The compiler", COMPILER), ("All engines", engines()), ("Real threads", THREADS))
     believed = {module for module, _ in reading.begin(others()).seen}
     for title, calls in groups:
         tables.append(reading.begin(calls).table(title))

@@ -5,7 +5,8 @@
 
 PROGRAM is the built program. Each FILE, by default each of examples/ that `serial` runs to its end, is run N times, by
 default 100. Besides, two threads that transfer between two accounts in opposite directions are run `--transfers` times, by
-default 200, with 1,000 calls each; and once 64 threads with 1,000 calls of a section on one lock each. `replay` has to answer
+default 200, with 1,000 calls each; once 64 threads with 1,000 calls of a section on one lock each; and once two threads
+with calls of sections that print 40 numbers without a loop. `replay` has to answer
 `same` to every text, and `differs` at its line to one of which a returned value was raised by one.
 
 Exits with 1 where anything differs, and prints the program and what was answered.
@@ -35,6 +36,13 @@ thread u { repeat 1000 { transfer(p[1], p[0], 7); } }
 MANY = "lock G;\nglobal int n protected_by(G);\natomic inc() { n = n + 1; }\n" + "".join(
     f"thread t{i} {{ repeat 1000 {{ inc(); }} }}\n" for i in range(64)
 )
+
+PRINTS = f"""lock G;
+global int n protected_by(G);
+atomic tell(int k) {{{" print n + k;" * 40} n = n + k; }}
+thread t {{ tell(1); tell(2); }}
+thread u {{ tell(3); }}
+"""
 
 
 class Differs(Exception):
@@ -88,12 +96,14 @@ def main():
     count = 0
     with tempfile.TemporaryDirectory() as room:
         runs = Runs(os.path.abspath(given.program), room)
-        made = {name: os.path.join(room, name) for name in ("transfers.al", "many.al")}
+        made = {name: os.path.join(room, name) for name in ("transfers.al", "many.al", "prints.al")}
         pathlib.Path(made["transfers.al"]).write_text(TRANSFERS)
         pathlib.Path(made["many.al"]).write_text(MANY)
+        pathlib.Path(made["prints.al"]).write_text(PRINTS)
         files = given.files or [file for file in sorted((TOP / "examples").glob("*.al")) if ends(runs, file)]
         try:
-            for file, times in [(made["transfers.al"], given.transfers), (made["many.al"], 1)] + [(f, given.times) for f in files]:
+            own = [(made["transfers.al"], given.transfers), (made["many.al"], 1), (made["prints.al"], 1)]
+            for file, times in own + [(f, given.times) for f in files]:
                 for _ in range(times):
                     text = runs.run(str(file))
                     count += 1
@@ -102,6 +112,8 @@ def main():
                 if str(file) == made["transfers.al"] and lines[-4:] != [b"p[0].bal 2010", b"p[1].bal -1980", b"end", b""]:
                     raise Differs(f"{file}: {lines[-4:]}")
                 if str(file) == made["many.al"] and (len(lines) != 64005 or lines[-3] != b"n 64000"):
+                    raise Differs(f"{file}: {len(lines)} lines, {lines[-3]}")
+                if str(file) == made["prints.al"] and (len(lines) != 128 or lines[-3] != b"n 6"):
                     raise Differs(f"{file}: {len(lines)} lines, {lines[-3]}")
         except (Differs, subprocess.TimeoutExpired) as wrong:
             print(str(wrong)[:4000])

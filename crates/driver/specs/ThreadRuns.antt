@@ -4,6 +4,7 @@ use Rattle.core_lang.specs.declared.value.Value.{Value}
 use Rattle.history.specs.Commits.{Commit}
 use Rattle.lowering.specs.Plans.{Plan}
 use Rattle.source_histories.specs.declared.format.Format.TheVariants.{Two}
+use Rattle.worlds.specs.Claims.{AreOfScripts}
 use Rattle.report.specs.Entry.{entry_of_commit}
 use Rattle.report.specs.History.{history_of}
 use Rattle.workers.specs.Answers.{HasScript, IsHistoryOf, RunsAsAccepted}
@@ -13,7 +14,7 @@ use Rattle.driver.specs.Answers.{TextAnswers}
 use Rattle.driver.specs.Messages.{strange}
 
 -- a history of the program, whose calls, run whole one after another, end and print as it says and leave these cells; it
--- has each thread's script as that thread's entries, in order and each once: out is its text, err is empty
+-- has each thread's script as that thread's entries, in order and each once, and no others: out is its text, err is empty
 pub record IsWrittenRun (plan : Plan) (status : Status) (out err : List ℕ) : Type 0 where
   pub log : List Commit
   pub values : List Value
@@ -21,6 +22,8 @@ pub record IsWrittenRun (plan : Plan) (status : Status) (out err : List ℕ) : T
   -- so they do on the program as it was accepted, with its helpers
   pub accepted : RunsAsAccepted plan log values
   pub scripts : (t : ℕ) → t < length plan.program.threads.items → HasScript plan log t
+  -- and no other entries
+  pub nobody_else : AreOfScripts plan log
   pub ended : status ≡ Done
   pub written : out ≡ history_of Two plan.program (map entry_of_commit log) values
   pub told : err ≡ []

@@ -6,7 +6,8 @@ use Rattle.std.proofs.lemmas.List.{set-set}
 use Rattle.std.proofs.lemmas.Option.{slice_get_within}
 use Rattle.locks.specs.Order.{PrecedesIsStrict}
 use Rattle.history.specs.Working.Laws.{CommittedKeepsSize}
-use Rattle.lock_manager.specs.Working.Managers.{Managed, IsKept}
+use Rattle.lock_manager.specs.Manager.{Managed}
+use Rattle.lock_manager.specs.Working.Managers.{IsKept}
 use Rattle.lowering.specs.Plans.{Plan}
 use Rattle.runner.specs.declared.states.Next.{Next}
 use Rattle.runner.specs.declared.states.Next.TheVariants as next

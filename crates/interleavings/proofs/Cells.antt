@@ -17,7 +17,8 @@ use Rattle.history.specs.Commits.{committed}
 use Rattle.history.specs.Working.Laws.{CommittedKeepsSize}
 use Rattle.lock_manager.specs.declared.places.LockPlace.{LockPlace}
 use Rattle.lock_manager.specs.declared.places.LockPlace.TheVariants.{Free, Taken}
-use Rattle.lock_manager.specs.Working.Managers.{Managed, IsKept, session_in, number_from, place_of, cell_of, value_in}
+use Rattle.lock_manager.specs.Manager.{Managed, session_in}
+use Rattle.lock_manager.specs.Working.Managers.{IsKept, number_from, place_of, cell_of, value_in}
 use Rattle.lowering.specs.Plans.{Plan}
 use Rattle.worlds.specs.Worlds.{World, with_taken, taken}
 use Rattle.worlds.specs.Working.States.{IsSound, HoldsLockOf}

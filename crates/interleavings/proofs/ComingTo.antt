@@ -3,7 +3,7 @@ use Rattle.std.proofs.Common.{◌≡◌, ◌≢◌, ℕ, List, [], ◌∷◌, Op
 use Rattle.std.specs.Prelude.{slice_get}
 use Rattle.core_lang.specs.declared.value.Outcome.{Outcome}
 use Rattle.locks.specs.declared.lock.Lock.{Lock}
-use Rattle.lock_manager.specs.Working.Managers.{Managed}
+use Rattle.lock_manager.specs.Manager.{Managed}
 use Rattle.lowering.specs.Plans.{Plan}
 use Rattle.worlds.specs.Worlds.{Activation}
 use Rattle.interleavings.specs.declared.coming.Coming.TheVariants as coming

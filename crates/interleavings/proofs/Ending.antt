@@ -19,7 +19,8 @@ use Rattle.moved_cells.specs.Working.Grants.{GrantOf, IsWhole, numbered, cells_i
 use Rattle.moved_cells.specs.Working.Laws.{OffsetsFindValues}
 use Rattle.runner_cells.specs.Working.Held.{cells_granted}
 use Rattle.history.specs.Commits.{committed}
-use Rattle.lock_manager.specs.Working.Managers.{Managed, IsKept}
+use Rattle.lock_manager.specs.Manager.{Managed}
+use Rattle.lock_manager.specs.Working.Managers.{IsKept}
 use Rattle.lock_manager.specs.Working.Calls.{Knows, AreOf, IsOwnWrite}
 use Rattle.lowering.specs.Plans.{Plan, IsCompiled}
 use Rattle.runner.specs.Working.Opens.{OpenOf, CanGiveBack, ticket_of}

@@ -10,8 +10,8 @@ use Rattle.core_lang.specs.Typing.{lookup}
 use Rattle.locks.specs.declared.lock.Lock.{Lock}
 use Rattle.lock_manager.specs.declared.places.LockPlace.{LockPlace}
 use Rattle.lock_manager.specs.declared.places.LockPlace.TheVariants.{Free, Taken}
-use Rattle.lock_manager.specs.Working.Sessions.{SessionOf}
-use Rattle.lock_manager.specs.Working.Managers.{Managed, IsKept, Holds, session_in, place_of, holder_of, taker}
+use Rattle.lock_manager.specs.Manager.{SessionOf, Managed, session_in}
+use Rattle.lock_manager.specs.Working.Managers.{IsKept, Holds, place_of, holder_of, taker}
 use Rattle.runner.specs.Working.Opens.{OpenOf, session_of_open}
 use Rattle.locks.specs.Locks.{among}
 use Rattle.worlds.specs.Worlds.{World, ThreadState, Activation, HasOpen, holds, holder_from, holder}

@@ -1,6 +1,6 @@
 -- Before any step.
-use Rattle.std.proofs.Common.{◌≡◌, ℕ, zero, suc, List, length, map, replicate, Some, None, inl, inr, refl, sym, ap}
-use Rattle.std.proofs.Common.{◌∙◌, subst, arith}
+use Rattle.std.proofs.Common.{◌≡◌, ℕ, zero, suc, List, length, map, replicate, Some, None, inl, inr, refl, sym, ap, ◌∙◌}
+use Rattle.std.proofs.Common.{subst, arith}
 use Rattle.std.specs.Prelude.{slice_get}
 use Rattle.std.specs.List.{Contains}
 use Rattle.std.proofs.lemmas.Bool.{cases_lt}
@@ -8,7 +8,8 @@ use Rattle.std.proofs.lemmas.List.{length-map}
 use Rattle.std.proofs.lemmas.Option.{slice_get_within, slice_get_past}
 use Rattle.core_lang.specs.Typing.{lookup}
 use Rattle.history.specs.Working.Laws.{CommittedKeepsSize}
-use Rattle.lock_manager.specs.Working.Managers.{Managed, IsKept, session_in, opened, threads as most_threads}
+use Rattle.lock_manager.specs.Manager.{Managed, session_in}
+use Rattle.lock_manager.specs.Working.Managers.{IsKept, opened, threads as most_threads}
 use Rattle.lowering.specs.Plans.{Plan, IsCompiled}
 use Rattle.worlds.specs.Worlds.{at_first, scripts, script_of, opening_world}
 use Rattle.worlds.specs.Working.States.{IsSound, OpeningIsSound}

@@ -17,8 +17,10 @@ use Rattle.moved_cells.specs.Working.Grants.{numbered}
 use Rattle.moved_cells.specs.Working.Laws.{OffsetsFindValues}
 use Rattle.history.specs.Commits.{Commit, committed}
 use Rattle.history.specs.Working.Laws.{CommittedKeepsSize}
-use Rattle.lock_manager.specs.Working.Sessions.{SessionOf, fresh, with_lock, with_ask}
-use Rattle.lock_manager.specs.Working.Managers.{Managed, IsKept, session_in, session_of, holder_of, taker}
+use Rattle.lock_manager.specs.Manager.{SessionOf}
+use Rattle.lock_manager.specs.Working.Sessions.{fresh, with_lock, with_ask}
+use Rattle.lock_manager.specs.Manager.{Managed, session_in, session_of}
+use Rattle.lock_manager.specs.Working.Managers.{IsKept, holder_of, taker}
 use Rattle.lock_manager.specs.Working.Calls.{with_session}
 use Rattle.lowering.specs.Plans.{Plan}
 use Rattle.source.specs.declared.memory.NoMemory.{NoMemory}

@@ -18,10 +18,12 @@ use Rattle.history.specs.Commits.{Commit, committed, IsLegal, WritesNot}
 use Rattle.history.specs.Working.Laws.{WritesSpareOthers, CommittedOfOneMore, LegalOfOneMore}
 use Rattle.lock_manager.specs.declared.places.LockPlace.TheVariants.{Free, Taken}
 use Rattle.lock_manager.specs.declared.queue.Waiter.{Waiter}
-use Rattle.lock_manager.specs.Working.Sessions.{SessionOf, TicketOf, fresh, with_lock, with_ask}
+use Rattle.lock_manager.specs.Manager.{SessionOf}
+use Rattle.lock_manager.specs.Working.Sessions.{TicketOf, fresh, with_lock, with_ask}
 use Rattle.lock_manager.specs.Working.Queues.{leaving, joining}
-use Rattle.lock_manager.specs.Working.Managers.{Managed, IsKept, Holds, Asks, place_of, session_of, session_in}
-use Rattle.lock_manager.specs.Working.Managers.{given_back, as_committed, ComesAfter, threads}
+use Rattle.lock_manager.specs.Manager.{Managed, session_of, session_in}
+use Rattle.lock_manager.specs.Working.Managers.{IsKept, Holds, Asks, place_of, given_back, as_committed, ComesAfter}
+use Rattle.lock_manager.specs.Working.Managers.{threads}
 use Rattle.lock_manager.specs.Working.Calls.{Knows, CanAsk, IsOwnWrite, Fits, AreItsGrants, with_session, after_grant}
 use Rattle.lock_manager.specs.Working.Calls.{after_refusal, after_release, after_give_up}
 use Rattle.locks.specs.Theory.Order.{lock_cases}

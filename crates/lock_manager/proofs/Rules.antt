@@ -21,10 +21,13 @@ use Rattle.lock_manager.specs.declared.places.LockPlace.{LockPlace}
 use Rattle.lock_manager.specs.declared.places.LockPlace.TheVariants.{Free, Taken}
 use Rattle.lock_manager.specs.declared.queue.Waiter.{Waiter}
 use Rattle.lock_manager.specs.Working.Committed.{CommittedOf, at_opening, lock_values}
-use Rattle.lock_manager.specs.Working.Sessions.{SessionOf, TicketOf}
-use Rattle.lock_manager.specs.Working.Managers.{Managed, managed, IsKept, IsLayout, Holds, place_of, session_of}
-use Rattle.lock_manager.specs.Working.Managers.{session_in, holder_of, taker, cell_of, value_in, number_from}
-use Rattle.lock_manager.specs.Working.Managers.{ComesAfter, asker_of, askers_of, opened, threads}
+use Rattle.lock_manager.specs.Manager.{SessionOf}
+use Rattle.lock_manager.specs.Working.Sessions.{TicketOf}
+use Rattle.lock_manager.specs.Manager.{Managed, session_of}
+use Rattle.lock_manager.specs.Working.Managers.{managed, IsKept, IsLayout, Holds, place_of}
+use Rattle.lock_manager.specs.Manager.{session_in}
+use Rattle.lock_manager.specs.Working.Managers.{holder_of, taker, cell_of, value_in, number_from, ComesAfter, asker_of}
+use Rattle.lock_manager.specs.Working.Managers.{askers_of, opened, threads}
 use Rattle.lock_manager.specs.Working.Calls.{AreOf, IsOwnWrite, Knows}
 use Rattle.lock_manager.specs.Working.Ties.{sum_over, one_if_open, cells_if_open}
 use Rattle.lock_manager.specs.Theory.Numbers.{number_at}

@@ -8,8 +8,8 @@ use Rattle.std.proofs.lemmas.Option.{none-some, slice_get_within, slice_get_past
 use Rattle.core_lang.specs.Typing.{lookup}
 use Rattle.layout.specs.Layouts.{AreDistinct}
 use Rattle.locks.specs.declared.lock.Lock.{Lock}
-use Rattle.lock_manager.specs.Working.Sessions.{SessionOf}
-use Rattle.lock_manager.specs.Working.Managers.{session_in, Holds, Asks}
+use Rattle.lock_manager.specs.Manager.{SessionOf, session_in}
+use Rattle.lock_manager.specs.Working.Managers.{Holds, Asks}
 use Rattle.lock_manager.specs.Working.Ties.{sum_over, one_if_asking, one_if_some}
 use Rattle.core_lang.specs.Theory.Items.{lookup_some, set_same, set_other, some_same}
 

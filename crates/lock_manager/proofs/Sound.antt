@@ -15,10 +15,11 @@ use Rattle.history.specs.Working.Laws.{WritesSpareOthers, CommittedOfOneMore, Le
 use Rattle.lock_manager.specs.declared.places.LockPlace.{LockPlace}
 use Rattle.lock_manager.specs.declared.places.LockPlace.TheVariants.{Free, Taken}
 use Rattle.lock_manager.specs.declared.queue.Waiter.{Waiter}
-use Rattle.lock_manager.specs.Working.Sessions.{SessionOf, TicketOf, fresh, with_lock, with_ask}
+use Rattle.lock_manager.specs.Manager.{SessionOf}
+use Rattle.lock_manager.specs.Working.Sessions.{TicketOf, fresh, with_lock, with_ask}
 use Rattle.lock_manager.specs.Working.Queues.{leaving, joining}
-use Rattle.lock_manager.specs.Working.Managers.{Managed, IsKept, session_of, given_back, as_committed, number_from}
-use Rattle.lock_manager.specs.Working.Managers.{put_for, threads}
+use Rattle.lock_manager.specs.Manager.{Managed, session_of}
+use Rattle.lock_manager.specs.Working.Managers.{IsKept, given_back, as_committed, number_from, put_for, threads}
 use Rattle.lock_manager.specs.Working.Calls.{Knows, CanAsk, Fits, AreItsGrants, after_grant, after_refusal}
 use Rattle.lock_manager.specs.Working.Calls.{after_release, after_give_up}
 use Rattle.lock_manager.specs.Working.Ties.{IsTied, sum_over, one_if_open, cells_if_open, one_if_asking, one_if_some}

@@ -4,7 +4,8 @@ ghost use Rattle.std.specs.Prelude.{◌≡◌, ◌↔◌, ◌<◌, [], length, s
 ghost use Rattle.std.specs.List.{Contains, All};
 ghost use Rattle.locks.specs.Waiting.{HasNoCycle};
 ghost use Rattle.history.specs.Working.Histories.{IsWithin};
-ghost use Rattle.lock_manager.specs.Working.Managers.{IsLayout, IsKept, opened, waiting_for, session_of, IsQuiet, holder_of, cell_of, askers_of};
+ghost use Rattle.lock_manager.specs.Manager.{session_of, IsQuiet};
+ghost use Rattle.lock_manager.specs.Working.Managers.{IsLayout, IsKept, opened, waiting_for, holder_of, cell_of, askers_of};
 ghost use Rattle.lock_manager.specs.Working.Calls.{Begins, Answers, CanAsk, Knows, Fits, CanRelease, Releases, GivesUp, AreOf, AreItsGrants};
 
 use crate::asking::comes_after;
@@ -45,7 +46,8 @@ pub struct Manager<'p> {
 }
 
 impl<'p> Model for Manager<'p> {
-    ghost use Rattle.lock_manager.specs.Working.Managers.{Managed, managed, IsKept};
+    ghost use Rattle.lock_manager.specs.Manager.{Managed};
+    ghost use Rattle.lock_manager.specs.Working.Managers.{managed, IsKept};
     ghost use Rattle.lock_manager.specs.Working.Ties.{IsTied};
 
     ghost Value = { Managed };

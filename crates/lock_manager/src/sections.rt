@@ -2,8 +2,10 @@
 
 ghost use Rattle.std.specs.Prelude.{◌≡◌, ◌≢◌, ◌↔◌, ◌<◌, ℕ, IsTrue, length, replicate, slice_get, slice_set, Some, None, IfOk, MatchOption};
 ghost use Rattle.std.specs.List.{Contains};
-ghost use Rattle.lock_manager.specs.Working.Sessions.{SessionOf, fresh, with_lock, with_ask};
-ghost use Rattle.lock_manager.specs.Working.Managers.{session_in, Holds};
+ghost use Rattle.lock_manager.specs.Manager.{SessionOf};
+ghost use Rattle.lock_manager.specs.Working.Sessions.{fresh, with_lock, with_ask};
+ghost use Rattle.lock_manager.specs.Manager.{session_in};
+ghost use Rattle.lock_manager.specs.Working.Managers.{Holds};
 ghost use Rattle.lock_manager.specs.Working.Ties.{HasRoom, IsChanged, cells_if_open};
 
 use crate::session::Session;
@@ -24,7 +26,7 @@ pub struct Sections {
 
 impl Model for Sections {
     ghost use Rattle.std.specs.Prelude.{◌≡◌, List, Option, length};
-    ghost use Rattle.lock_manager.specs.Working.Sessions.{SessionOf};
+    ghost use Rattle.lock_manager.specs.Manager.{SessionOf};
 
     ghost Value = { List (Option SessionOf) };
 

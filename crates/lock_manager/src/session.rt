@@ -20,7 +20,7 @@ pub struct Session {
 
 impl Model for Session {
     ghost use Rattle.std.specs.Prelude.{◌≤◌, vec_len, vec_capacity};
-    ghost use Rattle.lock_manager.specs.Working.Sessions.{SessionOf};
+    ghost use Rattle.lock_manager.specs.Manager.{SessionOf};
 
     ghost Value = { SessionOf };
 

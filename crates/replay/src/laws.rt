@@ -10,7 +10,8 @@ pub fn at_most_one_verdict()
 {}
 
 /// A recorded history is the same, with turns enough, exactly where its lines are those of calls that run whole one after
-/// another from the opening cells, each thread's its script's in order, and of the heap that they leave.
+/// another from the opening cells, each thread's its script's in order, in the second format with begins that they may
+/// have, and of the heap that they leave.
 pub fn same_is_history()
     ensures same { SameIsHistory }
     ensures history { HistoryIsSame }
@@ -30,7 +31,7 @@ pub fn serial_is_same()
 {}
 
 /// What a history's entries say is the same, with turns enough, where the history is legal, its entries are true, and each
-/// thread's calls are those of its script.
+/// thread's calls are those of its script, in the second format with begins that they may have.
 pub fn entries_are_same()
     ensures { EntriesAreSame }
 {

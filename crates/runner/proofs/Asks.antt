@@ -21,7 +21,8 @@ use Rattle.moved_cells.specs.Working.Laws.{ValuesAreWhole, ValuesAgree, HasItsCe
 use Rattle.runner_cells.specs.Working.Held.{CanHold, with_grant}
 use Rattle.lock_manager.specs.declared.places.LockPlace.TheVariants.{Free}
 use Rattle.lock_manager.specs.Working.Sessions.{TicketOf}
-use Rattle.lock_manager.specs.Working.Managers.{Managed, place_of, IsKept, ComesAfter}
+use Rattle.lock_manager.specs.Manager.{Managed}
+use Rattle.lock_manager.specs.Working.Managers.{place_of, IsKept, ComesAfter}
 use Rattle.lock_manager.specs.Working.Calls.{CanAsk}
 use Rattle.worlds.specs.Worlds.{granted}
 use Rattle.worlds.specs.Waiting.{first_if}

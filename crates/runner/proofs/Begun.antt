@@ -13,8 +13,9 @@ use Rattle.core_lang.specs.Typing.{local_types}
 use Rattle.core_lang.specs.Whole.{opening}
 use Rattle.core_lang.specs.Theory.Openings.{have_length}
 use Rattle.layout.specs.declared.room.Room.{Room}
-use Rattle.lock_manager.specs.Working.Sessions.{SessionOf, TicketOf, fresh}
-use Rattle.lock_manager.specs.Working.Managers.{Managed}
+use Rattle.lock_manager.specs.Manager.{SessionOf}
+use Rattle.lock_manager.specs.Working.Sessions.{TicketOf, fresh}
+use Rattle.lock_manager.specs.Manager.{Managed}
 use Rattle.lock_manager.specs.Working.Calls.{Begins}
 use Rattle.lowering.specs.Plans.{Plan, IsCompiled}
 use Rattle.worlds.specs.Waiting.{first_if}

@@ -13,7 +13,7 @@ use Rattle.code.specs.Memory.{HeldCells, IsConsistent, value_at}
 use Rattle.std.proofs.lemmas.List.Elements.{All-head, All-tail}
 use Rattle.layout.specs.LockCells.{cells_of}
 use Rattle.moved_cells.specs.Working.Grants.{GrantOf, IsWhole, numbered, locks_of}
-use Rattle.lock_manager.specs.Working.Managers.{Managed}
+use Rattle.lock_manager.specs.Manager.{Managed}
 use Rattle.lock_manager.specs.Working.Calls.{CanRelease}
 use Rattle.runner_cells.specs.Working.Held.{cells_granted}
 use Rattle.history.specs.Commits.{Commit}

@@ -3,7 +3,7 @@
 ghost use Rattle.std.specs.Prelude.{◌≡◌, ◌≢◌, ◌<◌, ◌+◌, ◌^◌, ◌↔◌, [], slice_get, Some, None, IfOk, IfErr, OnErr, IsTrue};
 ghost use Rattle.core_lang.specs.Serial.{invocation};
 ghost use Rattle.core_lang.specs.WellFormed.{CanCall};
-ghost use Rattle.lock_manager.specs.Working.Managers.{session_of};
+ghost use Rattle.lock_manager.specs.Manager.{session_of};
 ghost use Rattle.runner.specs.Working.Opens.{moved, IsOpen};
 ghost use Rattle.lock_manager.specs.Working.Sessions.{fresh};
 ghost use Rattle.runner.specs.Working.Ties.{over_by, IsBeginning, its_call, begun_as};

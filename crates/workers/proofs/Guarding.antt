@@ -12,7 +12,8 @@ use Rattle.code.specs.Memory.{Agrees}
 use Rattle.history.specs.Commits.{Commit, committed, IsLegal, IsTrueCommit, AreTrue}
 use Rattle.history.specs.Working.Laws.{LegalOfOneMore, TrueOfOneMore}
 use Rattle.lock_manager.specs.Working.Sessions.{ReceiptOf}
-use Rattle.lock_manager.specs.Working.Managers.{Managed, IsKept}
+use Rattle.lock_manager.specs.Manager.{Managed}
+use Rattle.lock_manager.specs.Working.Managers.{IsKept}
 use Rattle.lock_manager.specs.Working.Calls.{KeepsEntries}
 use Rattle.lowering.specs.Plans.{Plan}
 use Rattle.worlds.specs.Working.InOrder.{SectionsStayInOrder}

@@ -1,10 +1,10 @@
 -- The answers and the steps of a thread's entries, by parts of a log.
-use Rattle.std.proofs.Common.{◌≡◌, ◌≢◌, ℕ, ◌+◌, ◌<◌, ◌==◌, ◌&&◌, Bool, true, false, if◌then◌else◌, List, [], ◌∷◌}
+use Rattle.std.proofs.Common.{◌≡◌, ◌≢◌, ℕ, ◌+◌, ◌<◌, ◌≤◌, ◌==◌, ◌&&◌, Bool, true, false, if◌then◌else◌, List, [], ◌∷◌}
 use Rattle.std.proofs.Common.{◌++◌, length, drop, refl, sym, ap, ◌∙◌, subst, arith, ne_eqb, eq-eqb}
 use Rattle.std.proofs.lemmas.List.{append-nil, drop_at}
 use Rattle.std.proofs.lemmas.List.Elements.{All-nil, All-cons, All-head, All-tail}
 use Rattle.history.specs.Commits.{Commit}
-use Rattle.workers.specs.Seats.{ReplyOf, SeatOf, AllBelow}
+use Rattle.workers.specs.Seats.{ReplyOf, SeatOf, AllBelow, AreBegunInTurn}
 use Rattle.workers_seen.specs.Logs.{Begins, NoneOf}
 use Rattle.workers.specs.Answers.{reply_at, replies_of, in_step}
 use Rattle.lowering.specs.Plans.{Plan}
@@ -54,6 +54,16 @@ replies-below t p (x ∷ xs) =
         AllBelow (p + length (x ∷ xs)) (first_if b r rs)
     put true r rs here rest = All-cons (λ (r : ReplyOf). r.position < p + length (x ∷ xs)) r rs here rest
     put false r rs here rest = rest
+
+-- ---- begins
+
+-- one more, which began above the positions of all others
+pub begun-push : (floor : ℕ) (rs : List ReplyOf) (r : ReplyOf) → AreBegunInTurn floor rs → floor ≤ r.begun → AllBelow r.begun rs →
+    r.begun ≤ r.position → AreBegunInTurn floor (rs ++ r ∷ [])
+begun-push floor [] r begun le below most = (le, most, tt)
+begun-push floor (x ∷ rs) r begun le below most =
+    let first : x.position < r.begun = All-head (λ (z : ReplyOf). z.position < r.begun) x rs below in
+    (begun.0, begun.1, begun-push (x.position + 1) rs r begun.2 (omega (arith, first)) (All-tail (λ (z : ReplyOf). z.position < r.begun) x rs below) most)
 
 -- ---- steps
 
@@ -129,6 +139,7 @@ answers_in plan t step count thread s seat log view kept begins long same others
         answers =
             sym (ap (replies_of t 0) begins.is ∙ replies-append t 0 s rest
             ∙ ap (λ (rs : List ReplyOf). replies_of t 0 s ++ rs) (replies-none t (0 + length s) rest none) ∙ append-nil (replies_of t 0 s));
+        begun = kept.begun;
         steps =
             ap (in_step t 0) begins.is
             ∙ steps-append t 0 0 s rest kept.steps (steps-none t (0 + length (replies_of t 0 s)) rest none);

@@ -16,7 +16,7 @@ use Rattle.history.specs.Commits.{Commit, call_of}
 use Rattle.worlds.specs.Claims.{AreOfScripts}
 use Rattle.lowering.specs.Plans.{Plan}
 use Rattle.worlds.specs.Theory.Steps.{each_of_scripts}
-use Rattle.workers.specs.Seats.{SeatOf, ReplyOf}
+use Rattle.workers.specs.Seats.{SeatOf, ReplyOf, AreBegunInTurn}
 use Rattle.workers.specs.Working.Within.{AreInOrder, HasCalls}
 use Rattle.workers.specs.Answers.{AnswersAreIn, IsSeated, HasScript, call_in, reply_at, replies_of, in_step, script_at}
 
@@ -30,6 +30,7 @@ has_script plan count seats log order sit t below =
     let here : AnswersAreIn log s = All-get_or (AnswersAreIn log) seats t d k sit in
     record {
       calls = ap (λ n. Some (map call_in (replies_of n 0 log))) (sym is) ∙ ap (λ (hs : List ReplyOf). Some (map call_in hs)) (sym here.answers) ∙ order.calls t d k ∙ ap (script_at plan) is;
+      begun = subst (λ n. AreBegunInTurn 0 (replies_of n 0 log)) is (subst (AreBegunInTurn 0) here.answers here.begun);
       steps = ap (λ n. in_step n 0 log) (sym is) ∙ here.steps;
     }
 

@@ -1,5 +1,5 @@
 -- A seat gains an answer.
-use Rattle.std.proofs.Common.{◌≡◌, ◌<◌, ◌≤◌, ◌+◌, ℕ, ℤ, refl, List, [], ◌∷◌, ◌++◌, length, sym, ap, ◌∙◌, subst, arith, Some}
+use Rattle.std.proofs.Common.{◌≡◌, ◌<◌, ◌≤◌, ◌+◌, ℕ, ℤ, Vec, Global, refl, List, [], ◌∷◌, ◌++◌, length, sym, ap, ◌∙◌, subst, arith, Some}
 use Rattle.std.proofs.lemmas.List.{length_push}
 use Rattle.std.proofs.lemmas.List.Elements.{All-weaker}
 use Rattle.std.proofs.lemmas.Option.{slice_get_within}
@@ -11,12 +11,12 @@ use Rattle.history.specs.Commits.{Commit, call_of, committed}
 use Rattle.lowering.specs.Plans.{Plan}
 use Rattle.core_lang.specs.declared.value.Value.{Value}
 use Rattle.runner.specs.Working.Opens.{OpenOf, PoisedOf, ReadyOf, Prepares, IsItsEntry, IsSame, entry_of}
-use Rattle.workers.specs.Seats.{ReplyOf, SeatOf, AllBelow, Gains, reply}
+use Rattle.workers.specs.Seats.{ReplyOf, SeatOf, AllBelow, AreBegunInTurn, Gains, reply}
 use Rattle.workers.specs.Answers.{IsAnswer, reply_at, replies_of}
 use Rattle.workers_seen.specs.Logs.{IsSound}
-use Rattle.workers.specs.Working.Seen.{Sees}
+use Rattle.workers.specs.Seen.{Sees}
 use Rattle.workers.specs.Working.Within.{IsSeat, IsBegun, HasBegun, IsEntered, IsNotedOf, SeesOwn, SeesItsOwn, HasAnswer}
-use Rattle.workers.proofs.Passing.{replies-below, replies_more, steps_more}
+use Rattle.workers.proofs.Passing.{replies-below, replies_more, steps_more, begun-push}
 use Rattle.workers.specs.declared.seat.Done.{Done}
 
 pub raised : (a b : ℕ) (hs : List ReplyOf) → a ≤ b → AllBelow a hs → AllBelow b hs
@@ -63,6 +63,11 @@ some_same x y e = cc e
 one_entry : (o : OpenOf) (e e' : Commit) → IsItsEntry o e → IsItsEntry o e' → e ≡ e'
 one_entry o e e' a b =
     a.is ∙ ap (entry_of o) (some_same e.outcome e'.outcome (sym a.over ∙ b.over)) ∙ sym b.is
+
+-- what is told of an entry stays so with a list of the same prints
+pub noted_still : {entry : Commit} {told : Done} (prints : Vec ℤ Global) → IsNotedOf entry told →
+    prints.items ≡ told.prints.items → IsNotedOf entry (record told { prints = prints })
+noted_still prints noted same = record { outcome = noted.outcome; prints = same ∙ noted.prints }
 
 -- a call that has begun, was run to its end and entered is answered
 pub answered : (plan : Plan) (position section : ℕ) (arguments : List Value) (ready ready' : ReadyOf) (b o : OpenOf) (e : Commit) (told : Done)
@@ -112,6 +117,10 @@ seat_after plan call ready ready' told old new seat answered =
       few = seat.few;
       step_is = ap (λ (n : ℕ). n + 1) seat.step_is ∙ sym (ap length more ∙ length_push (replies_of t 0 old) (reply_at told.position answered.entry));
       steps = steps_more t told.position answered.entry old new answered.seen answered.own (answered.step ∙ seat.step_is) seat.steps;
+      begun =
+          subst (AreBegunInTurn 0) (sym more)
+          (begun-push 0 (replies_of t 0 old) (reply_at told.position answered.entry) seat.begun (omega arith)
+          (raised (0 + length old) answered.entry.begun (replies_of t 0 old) (omega (arith, answered.above)) (replies-below t 0 old)) answered.at_most);
       sound = answered.sound;
     } in
     subst (λ (r : ReadyOf). IsSeat plan r.thread r.step new) (sym answered.ready_is) gained

@@ -10,7 +10,7 @@ use Rattle.history.specs.Commits.{Commit, call_of, answer_of, committed}
 use Rattle.lowering.specs.Plans.{Plan}
 use Rattle.worlds.specs.Worlds.{scripts}
 use Rattle.workers_seen.specs.Logs.{IsSound}
-use Rattle.workers.specs.Seats.{ReplyOf, SeatOf}
+use Rattle.workers.specs.Seats.{ReplyOf, SeatOf, AreBegunInTurn}
 
 -- there is such a log, as long as the position, after which the call, run whole, ends and prints so
 pub record IsAnswer (plan : Plan) (call : Invocation) (position : ℕ) (outcome : Outcome) (prints : List ℤ) : Type 0
@@ -44,9 +44,10 @@ in_step thread step [] = true
 in_step thread step (c ∷ cs) =
     if c.thread == thread then ((c.step == step) && in_step thread (step + 1) cs) else in_step thread step cs
 
--- the thread's entries are the seat's answers, each with the number of those before it as its step
+-- the thread's entries are the seat's answers, each with the number of those before it as its step; they began in turn
 pub record AnswersAreIn (log : List Commit) (s : SeatOf) : Type 0 where
   pub answers : s.answers ≡ replies_of s.thread 0 log
+  pub begun : AreBegunInTurn 0 s.answers
   pub steps : in_step s.thread 0 log ≡ true
 
 -- one of the seats is the thread's
@@ -81,4 +82,5 @@ script_at plan t = slice_get (scripts plan) t
 -- thread t's entries are its script's calls in order, each once, with the steps 0, 1, 2 and so on
 pub record HasScript (plan : Plan) (log : List Commit) (t : ℕ) : Type 0 where
   pub calls : Some (map call_in (replies_of t 0 log)) ≡ script_at plan t
+  pub begun : AreBegunInTurn 0 (replies_of t 0 log)
   pub steps : in_step t 0 log ≡ true

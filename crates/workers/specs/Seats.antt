@@ -1,5 +1,5 @@
 -- What contracts see of a seat.
-use Rattle.std.specs.Prelude.{◌≡◌, ◌<◌, ◌≤◌, ℕ, ℤ, zero, suc, List, [], ◌∷◌, ◌++◌}
+use Rattle.std.specs.Prelude.{◌≡◌, ◌<◌, ◌≤◌, ◌+◌, ⊤, ℕ, ℤ, zero, suc, List, [], ◌∷◌, ◌++◌}
 use Rattle.std.specs.List.{All}
 use Rattle.core_lang.specs.declared.value.Outcome.{Outcome}
 use Rattle.core_lang.specs.Serial.{Invocation}
@@ -37,6 +37,11 @@ AllBelow floor replies = All (λ (r : ReplyOf). r.position < floor) replies
 abbrev pub reply : ℕ → ℕ → Invocation → Outcome → List ℤ → ReplyOf
 reply position begun call outcome prints =
     record { position = position; begun = begun; call = call; outcome = outcome; prints = prints }
+
+-- each call began at most at its own position, and above that of the one before it; the first at this floor or above
+abbrev pub AreBegunInTurn : ℕ → List ReplyOf → Type 0
+AreBegunInTurn floor [] = ⊤
+AreBegunInTurn floor (r ∷ rs) = (floor ≤ r.begun) × (r.begun ≤ r.position) × AreBegunInTurn (r.position + 1) rs
 
 -- of thread and answers the seat has just one answer more, to a call that began above the positions of all its
 -- others, and at most at its own

@@ -44,13 +44,13 @@ impl AnswerRoom {
     }
 }
 
-// Fills a list that is empty, in room that is there, and gives back the rest of the room.
+// Fills a list that is empty, in room that is there.
 fn fill(into: &mut Vec<i64>, from: &[i64])
     requires { vec_len into.old + length from.now ≤ vec_capacity into.old }
     ensures { into.new.items ≡ into.old.items ++ from.now }
 {
     match into.extend_from_slice(from) {
-        Ok(()) => into.shrink_to_fit(),
+        Ok(()) => {}
         Err(_) => unreachable!(),
     }
 }

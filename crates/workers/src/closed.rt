@@ -1,7 +1,7 @@
 //! A history that is over.
 
 ghost use Rattle.std.specs.Prelude.{◌≡◌, ◌<◌, length, slice_get, Some};
-ghost use Rattle.lock_manager.specs.Working.Managers.{IsQuiet};
+ghost use Rattle.lock_manager.specs.Manager.{IsQuiet};
 
 use core_lang::value::Value;
 use history::entries::History;
@@ -15,7 +15,7 @@ pub struct Closed<'p> {
 }
 
 impl<'p> Model for Closed<'p> {
-    ghost use Rattle.lock_manager.specs.Working.Managers.{Managed, IsQuiet};
+    ghost use Rattle.lock_manager.specs.Manager.{Managed, IsQuiet};
 
     ghost Value = { Managed };
 

@@ -2,7 +2,8 @@
 
 ghost use Rattle.std.specs.Prelude.{◌≡◌, ◌<◌, ◌+◌, ◌^◌, [], length, IfOk, IfErr, OnOk, OnErr, IfSome};
 ghost use Rattle.locks.specs.Waiting.{HasNoCycle};
-ghost use Rattle.lock_manager.specs.Working.Managers.{opened, askers_of, IsKept, IsQuiet};
+ghost use Rattle.lock_manager.specs.Manager.{IsQuiet};
+ghost use Rattle.lock_manager.specs.Working.Managers.{opened, askers_of, IsKept};
 ghost use Rattle.runner.specs.Working.Opens.{ready_of, ready_again};
 ghost use Rattle.runner.specs.Working.Answers.{GoesOnSame};
 ghost use Rattle.workers.specs.Working.Guarding.{IsManagerOf};
@@ -33,7 +34,7 @@ pub struct Guarded<'p, J: Naming> {
 
 impl<'p, J: Naming> Model for Guarded<'p, J> {
     ghost use Rattle.std.specs.Prelude.{◌≡◌};
-    ghost use Rattle.lock_manager.specs.Working.Managers.{Managed};
+    ghost use Rattle.lock_manager.specs.Manager.{Managed};
     ghost use Rattle.workers.specs.Working.Guarding.{IsManagerOf};
 
     ghost Value = { Managed };
@@ -77,6 +78,7 @@ impl<'p, J: Naming> Guarded<'p, J> {
         requires thread { poised.thread < 64 }
         ensures ok { IfOk result (λ running. IsBegun poised.entry running) }
         ensures err { IfErr result (λ e. e.0 ≡ ready_of poised.entry) }
+        ensures history { self.new.history ≡ self.old.history }
     {
         if self.manager.is_open(poised.thread()) {
             return Err((poised.let_go(), CallRefusal::Strange));
@@ -96,6 +98,7 @@ impl<'p, J: Naming> Guarded<'p, J> {
         requires { asking.plan ≡ J.plan }
         ensures ok { IfOk result (λ asked. GoesOnSame asking.entry asked) }
         ensures err { IfErr result (λ ready. ready ≡ ready_again asking.entry) }
+        ensures history { self.new.history ≡ self.old.history }
     {
         if !asking.fits(&self.manager) {
             return Err(asking.give_up(&mut self.manager));
@@ -122,6 +125,8 @@ impl<'p, J: Naming> Guarded<'p, J> {
         ensures ok { IfOk result (λ r. r.0 ≡ record { thread = ended.entry.thread; step = ended.entry.step + 1 }) }
         ensures err { IfErr result (λ ready. ready ≡ ready_again ended.entry) }
         ensures same { OnErr result (seen.new ≡ seen.old) }
+        ensures nothing { OnErr result (self.new.history ≡ self.old.history) }
+        ensures one { IfOk result (λ r. r.1.position ≡ length self.old.history) }
     {
         history::laws::one_entry_more();
         worlds::laws::sections_stay_in_order();
@@ -146,7 +151,8 @@ impl<'p, J: Naming> Guarded<'p, J> {
 
     /// Ends a section without an entry.
     pub fn give_up(&mut self, ended: Ended<'p>) -> Ready<'p>
-        ensures { result ≡ ready_again ended.entry }
+        ensures ready { result ≡ ready_again ended.entry }
+        ensures history { self.new.history ≡ self.old.history }
     {
         ended.give_up(&mut self.manager)
     }

@@ -29,7 +29,7 @@ pub struct Done {
 pub enum CallRefusal {
     /// Want of memory.
     NoMemory,
-    /// The manager isn't the one that the seat left.
+    /// The manager isn't the one that the seat left, or there is an entry of its thread that it hasn't seen.
     Strange,
 }
 

@@ -3,12 +3,12 @@
 ghost use Rattle.std.specs.Prelude.{◌≡◌, ◌<◌, ◌≤◌, ◌+◌, ◌^◌, ◌↔◌, length, IsTrue, MatchBool, IfOk, IfErr, OnOk, OnErr};
 ghost use Rattle.std.specs.List.{All};
 ghost use Rattle.core_lang.specs.WellFormed.{CanCall};
-ghost use Rattle.lock_manager.specs.Working.Managers.{IsQuiet};
+ghost use Rattle.lock_manager.specs.Manager.{IsQuiet};
 ghost use Rattle.runner.specs.Working.Opens.{IsSame, ready_again};
 ghost use Rattle.workers.specs.Seats.{AllBelow, Gains, new_seats};
 ghost use Rattle.workers.specs.Answers.{IsAnswer, IsSeated, IsHistoryOf, AnswersAreIn, as_call};
 ghost use Rattle.workers_seen.specs.Logs.{Begins, IsSound};
-ghost use Rattle.workers.specs.Working.Seen.{Sees, SeenIsIn};
+ghost use Rattle.workers.specs.Seen.{Sees, SeenIsIn};
 ghost use Rattle.workers.specs.Working.Within.{HasAnswer, HasBegun, IsEntered, SeesItsOwn};
 
 use crate::answer_room::AnswerRoom;
@@ -119,8 +119,8 @@ impl<'p, J: Naming> Shared<'p, J> {
     ///
     /// # Errors
     ///
-    /// Want of memory; or the manager isn't the one that the seat left, or the thread has another entry that the seat
-    /// hasn't seen: nothing is entered, and the seat is as it was.
+    /// Want of memory; or the manager isn't the one that the seat left, the thread has another entry that the seat
+    /// hasn't seen, or the log has no place for the thread. The seat is then as it was.
     pub fn call<R: Wait, G: Gate>(
         &self,
         rt: &R,
@@ -185,6 +185,8 @@ impl<'p, J: Naming> Shared<'p, J> {
         match self.finish(rt, ended, seen) {
             Ok((ready, position)) => {
                 done.position = position;
+                // (only now, since an open section neither takes memory nor gives any back)
+                done.prints.shrink_to_fit();
                 Ok((ready, done))
             }
             Err(ready) => Err((ready, CallRefusal::Strange)),

@@ -1,6 +1,7 @@
 //! The scripts of a program, each run by a thread of its own.
 
-ghost use Rattle.std.specs.Prelude.{◌≡◌, ◌<◌, ℕ, true, Some, IfOk, IfSome, OnOk, MatchOption, length, map};
+ghost use Rattle.workers.specs.declared.seat.CallRefusal.TheVariants as refusal;
+ghost use Rattle.std.specs.Prelude.{◌≡◌, ◌<◌, ℕ, true, Some, Err, IfOk, IfSome, OnOk, MatchOption, length, map};
 ghost use denote.Param.Send.{IsSend, IsSync};
 ghost use Rattle.lowering.specs.contracts.compiled.Program as program;
 ghost use Rattle.worlds.specs.Claims.{AreOfScripts};
@@ -121,7 +122,10 @@ fn run_all<'p, J: Naming + Send + Sync, R: Threads + Wait + Sync, G: Gate>(
         move |scope| -> Result<(), CallRefusal>
             requires { IsSync R.row × IsSync G.row × IsSync J.row × IsSend J.row × IsSync program.the_row }
         {
-            let mut handles = Vec::new(alloc);
+            // (the room for all of them, before the first thread starts)
+            let Ok(mut handles) = Vec::with_capacity(alloc, lent.len()) else {
+                return Err(CallRefusal::NoMemory);
+            };
             let mut worst = Worst { refusal: None };
             let each = lent.iter_mut();
             for place in each {
@@ -157,7 +161,10 @@ struct Worst {
 
 impl Worst {
     // What is strange stays so, whatever else is refused.
-    fn note(&mut self, joined: Result<(), CallRefusal>) {
+    fn note(&mut self, joined: Result<(), CallRefusal>)
+        ensures kept { self.old.refusal ≡ Some refusal.Strange → self.new.refusal ≡ Some refusal.Strange }
+        ensures strange { joined ≡ Err refusal.Strange → self.new.refusal ≡ Some refusal.Strange }
+    {
         if let Err(refusal) = joined {
             if self.refusal != Some(CallRefusal::Strange) {
                 self.refusal = Some(refusal);

@@ -93,7 +93,7 @@ impl<J: Naming> Log<J> {
         self.front.again()
     }
 
-    /// Adds an entry, if it is of one of the log's threads.
+    /// Adds an entry, if it is of one of the log's threads and the log isn't as long as one can be.
     pub fn enter(&mut self, entry: &Kept<'_>) -> bool
         ensures { MatchBool result (self.new ≡ self.old ++ entry.now ∷ []) (self.new ≡ self.old) }
     {

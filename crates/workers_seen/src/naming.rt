@@ -2,8 +2,8 @@
 
 use std::marker::Brand;
 
-/// Which program it is, and which log its calls are entered into, for contracts. Each call of a program picks them; they
-/// aren't there when the program runs.
+/// Which program it is, and which log its calls are entered into, for contracts. Whoever makes a log picks them;
+/// they aren't there when the program runs.
 pub trait Naming {
     ghost use Rattle.lowering.specs.Plans.{Plan};
     ghost use Rattle.logbook.specs.Pages.{Book};

@@ -5,8 +5,8 @@ use Rattle.std.specs.List.{range_with_len}
 use Rattle.core_lang.specs.declared.value.Value.{Value}
 use Rattle.core_lang.specs.Typing.{lookup}
 use Rattle.layout.specs.Layouts.{AreDistinct}
-use Rattle.lock_manager.specs.Working.Sessions.{SessionOf}
-use Rattle.lock_manager.specs.Working.Managers.{Managed, session_in, cell_of}
+use Rattle.lock_manager.specs.Manager.{SessionOf, Managed, session_in}
+use Rattle.lock_manager.specs.Working.Managers.{cell_of}
 use Rattle.lowering.specs.Plans.{Plan, IsCompiled}
 use Rattle.runner.specs.Working.Opens.{OpenOf, session_of_open}
 use Rattle.runner.specs.declared.states.Next.{Next}

@@ -4,7 +4,8 @@ use Rattle.core_lang.specs.declared.typed.Call.{Call}
 use Rattle.core_lang.specs.Serial.{Invocation, invocation}
 use Rattle.core_lang.specs.WellFormed.{CanCall}
 use Rattle.lock_manager.specs.Working.Sessions.{ReceiptOf}
-use Rattle.lock_manager.specs.Working.Managers.{Managed, session_of, holder_of}
+use Rattle.lock_manager.specs.Manager.{Managed, session_of}
+use Rattle.lock_manager.specs.Working.Managers.{holder_of}
 use Rattle.lowering.specs.Plans.{Plan}
 use Rattle.source.specs.declared.memory.NoMemory.{NoMemory}
 use Rattle.runner.specs.Working.Opens.{OpenOf, ReadyOf, Began, Gets, Waits, Released, IsKnown, CanBeReleased, moved}

@@ -12,10 +12,11 @@ use Rattle.lock_manager.specs.declared.places.LockPlace.TheVariants.{Free, Taken
 use Rattle.lock_manager.specs.declared.queue.Waiter.{Waiter}
 use Rattle.lock_manager.specs.declared.response.Response.{Response}
 use Rattle.lock_manager.specs.declared.response.Response.TheVariants.{Granted, Held}
-use Rattle.lock_manager.specs.Working.Sessions.{SessionOf, TicketOf, ReceiptOf, fresh, with_lock, with_ask}
+use Rattle.lock_manager.specs.Manager.{SessionOf}
+use Rattle.lock_manager.specs.Working.Sessions.{TicketOf, ReceiptOf, fresh, with_lock, with_ask}
 use Rattle.lock_manager.specs.Working.Queues.{waiting_in, leaving, joining}
-use Rattle.lock_manager.specs.Working.Managers.{Managed, place_of, session_of, put_for, given_back, as_committed}
-use Rattle.lock_manager.specs.Working.Managers.{ComesAfter}
+use Rattle.lock_manager.specs.Manager.{Managed, session_of}
+use Rattle.lock_manager.specs.Working.Managers.{place_of, put_for, given_back, as_committed, ComesAfter}
 
 -- with a thread's section as it is now
 abbrev pub with_session : Managed → ℕ → Option SessionOf → Managed

@@ -17,20 +17,9 @@ use Rattle.history.specs.Commits.{Commit, committed, IsLegal}
 use Rattle.lock_manager.specs.declared.places.LockPlace.{LockPlace}
 use Rattle.lock_manager.specs.declared.places.LockPlace.TheVariants.{Free, Taken}
 use Rattle.lock_manager.specs.declared.queue.Waiter.{Waiter}
-use Rattle.lock_manager.specs.Working.Sessions.{SessionOf}
+use Rattle.lock_manager.specs.Manager.{SessionOf, Managed, session_in}
 use Rattle.lock_manager.specs.Working.Queues.{waiting_in}
 use Rattle.lock_manager.specs.Working.Committed.{CommittedOf}
-
--- the program's layout, and the ranks of the classes; by a lock's number where its cells are; who waits, first come
--- first; by thread its open section; the entries, and the values of all cells after them
-pub record Managed : Type 0 where
-  pub layout : LayoutOf
-  pub ranks : List ℕ
-  pub places : List LockPlace
-  pub waiters : List Waiter
-  pub slots : List (Option SessionOf)
-  pub history : List Commit
-  pub values : List Value
 
 abbrev pub managed :
     CommittedOf → List ℕ → List LockPlace → List Waiter → List (Option SessionOf) → List Commit → Managed
@@ -67,17 +56,6 @@ holder_of m lock = taker (place_of m lock)
 -- the threads that wait for a lock
 abbrev pub waiting_for : Managed → Lock → List ℕ
 waiting_for m lock = waiting_in m.waiters lock
-
--- the open section of a thread
-abbrev pub session_in : List (Option SessionOf) → ℕ → Option SessionOf
-session_in slots t = lookup (slice_get slots t) (λ s. s)
-
-abbrev pub session_of : Managed → ℕ → Option SessionOf
-session_of m t = session_in m.slots t
-
--- no thread has a section open
-abbrev pub IsQuiet : Managed → Type 0
-IsQuiet m = (t : ℕ) → session_of m t ≡ None
 
 -- what a cell of a lock holds, if the lock's cells are here
 abbrev pub value_in : List Lock → Lock → Option LockPlace → ℕ → Option Value

@@ -1,15 +1,8 @@
 -- Open sections, and the tickets for them.
-use Rattle.std.specs.Prelude.{ℕ, List, [], ◌∷◌, ◌++◌, Option, Some, None}
+use Rattle.std.specs.Prelude.{ℕ, List, [], ◌∷◌, ◌++◌, Some, None}
 use Rattle.locks.specs.declared.lock.Lock.{Lock}
 use Rattle.layout.specs.declared.room.Room.{Room}
-
--- an open section: how long the history was when it began, the locks that it holds, the oldest first, the lock that
--- it asked for and wasn't granted yet, and the room that it was given
-pub record SessionOf : Type 0 where
-  pub begun : ℕ
-  pub held : List Lock
-  pub ask : Option Lock
-  pub room : Room
+use Rattle.lock_manager.specs.Manager.{SessionOf}
 
 -- one that begins
 abbrev pub fresh : ℕ → Room → SessionOf

@@ -9,8 +9,8 @@ use Rattle.moved_cells.specs.Working.Grants.{GrantOf, cells_in, locks_of}
 use Rattle.history.specs.Working.Histories.{PromisedOf}
 use Rattle.lock_manager.specs.declared.places.LockPlace.{LockPlace}
 use Rattle.lock_manager.specs.Working.Committed.{CommittedOf, restored}
-use Rattle.lock_manager.specs.Working.Sessions.{SessionOf}
-use Rattle.lock_manager.specs.Working.Managers.{Managed, session_in, given_back}
+use Rattle.lock_manager.specs.Manager.{SessionOf, Managed, session_in}
+use Rattle.lock_manager.specs.Working.Managers.{given_back}
 
 -- a thread's open section has room for one more lock
 pub record HasRoom (slots : List (Option SessionOf)) (t : ℕ) : Type 0 where

@@ -1,6 +1,6 @@
 -- Which state an open section is in, and what a request for a lock is answered.
 use Rattle.std.specs.Prelude.{◌≡◌, ◌≢◌, [], None}
-use Rattle.lock_manager.specs.Working.Managers.{Managed}
+use Rattle.lock_manager.specs.Manager.{Managed}
 use Rattle.runner.specs.declared.states.Next.{Next}
 use Rattle.runner.specs.declared.states.Next.TheVariants.{Running, Asking, Ended}
 use Rattle.runner.specs.declared.states.Asked.{Asked}

@@ -13,8 +13,10 @@ use Rattle.moved_cells.specs.Working.Grants.{GrantOf, IsWhole, numbered, locks_o
 use Rattle.runner_cells.specs.Working.Held.{cells_granted}
 use Rattle.history.specs.Commits.{Commit, IsTrueCommit}
 use Rattle.lock_manager.specs.declared.places.LockPlace.TheVariants.{Free, Taken}
-use Rattle.lock_manager.specs.Working.Sessions.{SessionOf, TicketOf, ReceiptOf}
-use Rattle.lock_manager.specs.Working.Managers.{Managed, place_of}
+use Rattle.lock_manager.specs.Manager.{SessionOf}
+use Rattle.lock_manager.specs.Working.Sessions.{TicketOf, ReceiptOf}
+use Rattle.lock_manager.specs.Manager.{Managed}
+use Rattle.lock_manager.specs.Working.Managers.{place_of}
 use Rattle.lock_manager.specs.Working.Calls.{Begins, Knows, CanRelease, Releases, GivesUp, after_grant, after_refusal}
 use Rattle.lowering.specs.Plans.{Plan, IsCompiled}
 use Rattle.lowering.specs.Working.Compiled.{IsRoomAt}

@@ -16,7 +16,7 @@ use Rattle.lowering.specs.Plans.{Plan, IsCompiled}
 use Rattle.lowering.specs.Working.Compiled.{IsRoomAt}
 use Rattle.worlds.specs.Worlds.{activation, locals_at}
 use Rattle.runner_machine.specs.Working.Machines.{RunOf, at_first}
-use Rattle.lock_manager.specs.Working.Managers.{Managed}
+use Rattle.lock_manager.specs.Manager.{Managed}
 use Rattle.moved_cells.specs.Working.Grants.{GrantOf}
 use Rattle.history.specs.Commits.{Commit}
 use Rattle.history.specs.Working.Histories.{IsWithin}

@@ -2,7 +2,7 @@
 use Rattle.std.specs.Prelude.{◌≡◌}
 use Rattle.core_lang.specs.Typing.{IsHeap}
 use Rattle.history.specs.Commits.{AreTrue}
-use Rattle.lock_manager.specs.Working.Managers.{Managed}
+use Rattle.lock_manager.specs.Manager.{Managed}
 use Rattle.lowering.specs.Plans.{Plan}
 
 -- a manager of the plan, whose entries are true, and leave a value of its type in each cell

@@ -11,10 +11,10 @@ use Rattle.history.specs.Commits.{Commit, committed, IsTrueCommit}
 use Rattle.lowering.specs.Plans.{Plan}
 use Rattle.worlds.specs.Worlds.{call_at}
 use Rattle.runner.specs.Working.Opens.{ReadyOf, PoisedOf, OpenOf, IsItsEntry, entry_of}
-use Rattle.workers.specs.Seats.{SeatOf, reply}
+use Rattle.workers.specs.Seats.{SeatOf, AreBegunInTurn, reply}
 use Rattle.workers.specs.Answers.{IsAnswer, AnswersAreIn, reply_at, replies_of, in_step, call_in, script_at}
 use Rattle.workers_seen.specs.Logs.{IsSound, NoneOf}
-use Rattle.workers.specs.Working.Seen.{SeenIsIn}
+use Rattle.workers.specs.Seen.{SeenIsIn}
 use Rattle.workers.specs.declared.seat.Done.{Done}
 
 -- ---- a seat
@@ -25,6 +25,7 @@ pub record IsSeat (plan : Plan) (thread step : ℕ) (log : List Commit) : Type 0
   pub few : thread < 64
   pub step_is : step ≡ length (replies_of thread 0 log)
   pub steps : in_step thread 0 log ≡ true
+  pub begun : AreBegunInTurn 0 (replies_of thread 0 log)
   pub sound : IsSound plan log
 
 -- what it has seen begins a history, which has no further entry of its thread

@@ -1,9 +1,10 @@
 use Rattle.std.proofs.Common.{sym, subst, List, ap, ◌∙◌}
 use Rattle.std.specs.List.{All, Contains}
-use Rattle.lock_manager.specs.Working.Managers.{Managed, managed, session_of}
+use Rattle.lock_manager.specs.Manager.{Managed, session_of}
+use Rattle.lock_manager.specs.Working.Managers.{managed}
 use Rattle.lock_manager.proofs.Rules.{listed_held}
 use Rattle.locks.specs.declared.lock.Lock.{Lock}
-use Rattle.lock_manager.specs.Working.Sessions.{SessionOf}
+use Rattle.lock_manager.specs.Manager.{SessionOf}
 use Rattle.lock_manager.specs.Working.Calls.{AreOf}
 use Rattle.std.proofs.lemmas.Option.{none-some}
 use Rattle.lock_manager.proofs.manager.Manager.are_its_grants.Goals as goal

@@ -2,7 +2,7 @@ use Rattle.std.proofs.Common.{List, ap, subst, sym}
 use Rattle.std.specs.List.{All, Contains}
 use Rattle.locks.specs.declared.lock.Lock.{Lock}
 use Rattle.moved_cells.specs.Working.Grants.{GrantOf, IsWhole}
-use Rattle.lock_manager.specs.Working.Managers.{Managed}
+use Rattle.lock_manager.specs.Manager.{Managed}
 use Rattle.lock_manager.proofs.Lists.{never_both}
 use Rattle.lock_manager.proofs.manager.Manager.are_of.Goals as goal
 use Rattle.core_lang.specs.Theory.Items.{all_contained, all_from, both_false}

@@ -1,7 +1,9 @@
 use Rattle.std.proofs.Common.{ℕ, Some, set, ap, ◌∙◌, List, Option}
 use Rattle.history.specs.Working.Histories.{HistoryOf}
-use Rattle.lock_manager.specs.Working.Sessions.{SessionOf, fresh}
-use Rattle.lock_manager.specs.Working.Managers.{Managed, managed, session_of}
+use Rattle.lock_manager.specs.Manager.{SessionOf}
+use Rattle.lock_manager.specs.Working.Sessions.{fresh}
+use Rattle.lock_manager.specs.Manager.{Managed, session_of}
+use Rattle.lock_manager.specs.Working.Managers.{managed}
 use Rattle.lock_manager.proofs.Sound.{sound_begin}
 use Rattle.lock_manager.proofs.manager.Manager.begin.Goals as goal
 

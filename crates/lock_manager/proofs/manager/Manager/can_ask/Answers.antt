@@ -1,7 +1,7 @@
 use Rattle.std.proofs.Common.{List, subst, sym, ap, ◌∙◌}
 use Rattle.locks.specs.declared.lock.Lock.{Lock}
-use Rattle.lock_manager.specs.Working.Sessions.{SessionOf}
-use Rattle.lock_manager.specs.Working.Managers.{Managed, ComesAfter}
+use Rattle.lock_manager.specs.Manager.{SessionOf, Managed}
+use Rattle.lock_manager.specs.Working.Managers.{ComesAfter}
 use Rattle.lock_manager.proofs.Lists.{never_both}
 use Rattle.std.specs.List.{Contains}
 use Rattle.lock_manager.specs.Working.Ties.{MayTake}

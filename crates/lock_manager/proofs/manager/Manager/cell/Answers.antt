@@ -1,6 +1,7 @@
 use Rattle.std.proofs.Common.{◌≡◌, ◌∙◌, Some, None, subst, sym, ap, arith, refl}
 use Rattle.std.proofs.lemmas.Option.{slice_get_within}
-use Rattle.lock_manager.specs.Working.Managers.{Managed, managed, cell_of}
+use Rattle.lock_manager.specs.Manager.{Managed}
+use Rattle.lock_manager.specs.Working.Managers.{managed, cell_of}
 use Rattle.lock_manager.proofs.Rules.{as_many_values, free_cell, taken_cell, place_within}
 use Rattle.lock_manager.proofs.manager.Manager.cell.Goals as goal
 use Rattle.core_lang.specs.Theory.Items.{read_at}

@@ -3,8 +3,8 @@ use Rattle.std.specs.Prelude.{is_some}
 use Rattle.std.proofs.lemmas.Bool.{false≢true}
 use Rattle.std.specs.List.{All, Contains}
 use Rattle.locks.specs.declared.lock.Lock.{Lock}
-use Rattle.lock_manager.specs.Working.Sessions.{SessionOf}
-use Rattle.lock_manager.specs.Working.Managers.{Managed, managed}
+use Rattle.lock_manager.specs.Manager.{SessionOf, Managed}
+use Rattle.lock_manager.specs.Working.Managers.{managed}
 use Rattle.lock_manager.specs.Working.Calls.{AreOf, Knows, IsOwnWrite}
 use Rattle.lock_manager.proofs.Rules.{listed_held, listed_grants}
 use Rattle.lock_manager.proofs.manager.Manager.fits.Goals.{then-thread-via-then-thread}

@@ -1,6 +1,7 @@
 use Rattle.std.proofs.Common.{List, subst, sym, ◌≡◌, ◌∙◌, ℕ, ap, refl}
 use Rattle.moved_cells.specs.Working.Grants.{GrantOf}
-use Rattle.lock_manager.specs.Working.Managers.{Managed, managed}
+use Rattle.lock_manager.specs.Manager.{Managed}
+use Rattle.lock_manager.specs.Working.Managers.{managed}
 use Rattle.lock_manager.specs.Working.Calls.{AreItsGrants, after_give_up}
 use Rattle.lock_manager.proofs.Rules.{listed_held, listed_grants, thread_within}
 use Rattle.lock_manager.proofs.Sound.{promised_one, sound_give_up}

@@ -1,6 +1,7 @@
 use Rattle.std.proofs.Common.{◌≡◌, ℕ, Option, Some, None, subst}
 use Rattle.std.specs.Option.{MatchOption}
-use Rattle.lock_manager.specs.Working.Managers.{Managed, managed, IsKept, Holds, holder_of}
+use Rattle.lock_manager.specs.Manager.{Managed}
+use Rattle.lock_manager.specs.Working.Managers.{managed, IsKept, Holds, holder_of}
 use Rattle.locks.specs.declared.lock.Lock.{Lock}
 use Rattle.lock_manager.proofs.Rules.{held_by, held_by_none}
 use Rattle.lock_manager.proofs.manager.Manager.holder.Goals as goal

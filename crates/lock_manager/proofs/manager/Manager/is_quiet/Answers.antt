@@ -1,6 +1,6 @@
 use Rattle.std.specs.Prelude.{◌↔◌, IsTrue}
 use Rattle.std.proofs.Common.{subst}
-use Rattle.lock_manager.specs.Working.Managers.{Managed, IsQuiet}
+use Rattle.lock_manager.specs.Manager.{Managed, IsQuiet}
 use Rattle.lock_manager.proofs.manager.Manager.is_quiet.Goals as goal
 
 pub returns : goal.returns

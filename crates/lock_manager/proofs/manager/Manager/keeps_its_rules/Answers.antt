@@ -1,6 +1,7 @@
 use Rattle.std.proofs.Common.{subst}
 use Rattle.locks.specs.Waiting.{HasNoCycle}
-use Rattle.lock_manager.specs.Working.Managers.{Managed, managed, askers_of, IsKept}
+use Rattle.lock_manager.specs.Manager.{Managed}
+use Rattle.lock_manager.specs.Working.Managers.{managed, askers_of, IsKept}
 use Rattle.lock_manager.proofs.Rules.{asks_rise}
 use Rattle.lock_manager.proofs.manager.Manager.keeps_its_rules.Goals as goal
 

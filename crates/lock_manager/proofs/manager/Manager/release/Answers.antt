@@ -4,7 +4,8 @@ use Rattle.code.specs.Memory.{overwritten}
 use Rattle.moved_cells.specs.Working.Grants.{GrantOf}
 use Rattle.history.specs.Working.Histories.{IsWithin}
 use Rattle.lock_manager.specs.Working.Committed.{CommittedOf, AreOfCells, with_writes}
-use Rattle.lock_manager.specs.Working.Managers.{Managed, managed, given_back, threads, session_in}
+use Rattle.lock_manager.specs.Manager.{Managed, session_in}
+use Rattle.lock_manager.specs.Working.Managers.{managed, given_back, threads}
 use Rattle.lock_manager.specs.Working.Ties.{cells_if_open}
 use Rattle.lock_manager.specs.Working.Calls.{Knows, Fits, after_release, first_waiters}
 use Rattle.lock_manager.proofs.Rules.{listed_held, listed_grants, thread_within, writes_within}

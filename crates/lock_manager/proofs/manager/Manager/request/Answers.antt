@@ -3,7 +3,8 @@ use Rattle.locks.specs.declared.lock.Lock.{Lock}
 use Rattle.lock_manager.specs.declared.places.LockPlace.TheVariants.{Taken, Free}
 use Rattle.lock_manager.specs.Working.Sessions.{with_lock, with_ask}
 use Rattle.lock_manager.specs.Working.Queues.{leaving, joining}
-use Rattle.lock_manager.specs.Working.Managers.{Managed, managed, session_in, place_of}
+use Rattle.lock_manager.specs.Manager.{Managed, session_in}
+use Rattle.lock_manager.specs.Working.Managers.{managed, place_of}
 use Rattle.lock_manager.specs.Working.Calls.{Knows, CanAsk, Refuses, after_grant}
 use Rattle.lock_manager.proofs.GivenBack.{place_at, put_at}
 use Rattle.lock_manager.proofs.Rules.{held_by_another, place_within}

@@ -1,5 +1,5 @@
 use Rattle.std.proofs.Common.{◌≡◌, ◌<◌, ℕ, None}
-use Rattle.lock_manager.specs.Working.Managers.{session_in}
+use Rattle.lock_manager.specs.Manager.{session_in}
 use Rattle.lock_manager.proofs.sections.Sections.are_none.Given as goal
 
 abbrev pub invariant-loop-thread : goal.invariant-loop-thread

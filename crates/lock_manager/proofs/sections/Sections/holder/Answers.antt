@@ -1,5 +1,5 @@
 use Rattle.std.proofs.Common.{length, ap, List, Option, arith}
-use Rattle.lock_manager.specs.Working.Sessions.{SessionOf}
+use Rattle.lock_manager.specs.Manager.{SessionOf}
 use Rattle.lock_manager.proofs.Slots.{slot_within}
 use Rattle.lock_manager.proofs.sections.Sections.holder.Goals as goal
 

@@ -1,7 +1,7 @@
 use Rattle.std.proofs.Common.{List, sym, ap, subst, ◌∙◌}
 use Rattle.std.specs.List.{Contains}
 use Rattle.locks.specs.declared.lock.Lock.{Lock}
-use Rattle.lock_manager.specs.Working.Sessions.{SessionOf}
+use Rattle.lock_manager.specs.Manager.{SessionOf}
 use Rattle.locks.specs.Theory.Order.{is_contained}
 use Rattle.std.proofs.lemmas.Option.{none-some}
 use Rattle.lock_manager.proofs.sections.Sections.holds.Goals as goal

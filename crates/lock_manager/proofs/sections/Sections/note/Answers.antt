@@ -1,6 +1,7 @@
 use Rattle.std.proofs.Common.{Some, set, length, List, Option, sym, ap, ◌∙◌, arith}
-use Rattle.lock_manager.specs.Working.Sessions.{SessionOf, with_ask}
-use Rattle.lock_manager.specs.Working.Managers.{session_in}
+use Rattle.lock_manager.specs.Manager.{SessionOf}
+use Rattle.lock_manager.specs.Working.Sessions.{with_ask}
+use Rattle.lock_manager.specs.Manager.{session_in}
 use Rattle.lock_manager.proofs.Slots.{none_there, some_there, open_within}
 use Rattle.std.proofs.Math.ListN.{length-set}
 use Rattle.lock_manager.proofs.sections.Sections.note.Goals as goal

@@ -1,7 +1,6 @@
 use Rattle.std.proofs.Common.{List, Option, length, sym, ap, ◌∙◌}
 use Rattle.std.proofs.lemmas.Bool.{ltb-true}
-use Rattle.lock_manager.specs.Working.Sessions.{SessionOf}
-use Rattle.lock_manager.specs.Working.Managers.{session_in}
+use Rattle.lock_manager.specs.Manager.{SessionOf, session_in}
 use Rattle.lock_manager.proofs.Slots.{none_there, session_read, none_past}
 use Rattle.lock_manager.proofs.sections.Sections.of.Goals as goal
 

@@ -1,7 +1,8 @@
-use Rattle.std.proofs.Common.{◌≡◌, ◌∙◌, ◌<◌, ◌≤◌, ◌++◌, ◌∷◌, [], ℕ, List, length, length-append, sym, ap, subst}
-use Rattle.std.proofs.Common.{arith, vec_len, vec_capacity}
+use Rattle.std.proofs.Common.{◌≡◌, ◌∙◌, ◌<◌, ◌≤◌, ◌++◌, ◌∷◌, [], ℕ, List, length, length-append, sym, ap, subst, arith}
+use Rattle.std.proofs.Common.{vec_len, vec_capacity}
 use Rattle.locks.specs.declared.lock.Lock.{Lock}
-use Rattle.lock_manager.specs.Working.Sessions.{SessionOf, TicketOf, with_lock}
+use Rattle.lock_manager.specs.Manager.{SessionOf}
+use Rattle.lock_manager.specs.Working.Sessions.{TicketOf, with_lock}
 use Rattle.lock_manager.specs.Working.Ties.{HasWakingRoom}
 use Rattle.lock_manager.specs.declared.ticket.Pass.{Pass}
 use Rattle.lock_manager.proofs.ticket.Ticket.grant.Goals as goal
