@@ -29,6 +29,15 @@ def tower(bottom, levels, calls, use):
     return HEAD + "".join(lines) + use.format(last=f"call h{levels - 1}(); " * calls) + THREAD
 
 
+def chain(helpers, step, bottom):
+    """A section before one helper after another, each of which calls the one that is so many further on, round the end; the first
+    is called by the section, and the last of them does what stands there. As many as fit in a source."""
+    order = [k * step % helpers for k in range(helpers)]
+    calls = dict(zip(order, order[1:]))
+    lines = [f"call h{k}(){{{f'call h{calls[k]}();' if k in calls else bottom}}}" for k in range(helpers)]
+    return HEAD + "atomic s() { call h0(); }\n" + "\n".join(lines) + "\n" + THREAD
+
+
 def fan(helpers, bottom):
     """Two calls of each helper in the next one: two to the number of helpers, at depths far over the limit."""
     lines = [f"call h0() {{ {bottom} }}\n"]
@@ -50,6 +59,9 @@ PROGRAMS = {
     "as many points as there may be": (tower("n = n + 1;", 2, 256, ONCE), 0, "n 65537"),
     "two hundred deep": (fan(200, "n = n + 1;"), 1, None),
     "two hundred deep, nothing": (fan(200, ""), 1, None),
+    "a chain as long as a source, which brings 65 locals": (chain(35000, 1, "".join(f"let x{k}: int = 0;" for k in range(65))), 1, None),
+    "the same, each call far ahead or back": (chain(35000, 13001, "".join(f"let x{k}: int = 0;" for k in range(65))), 1, None),
+    "a circle as long as a source": (chain(35000, 13001, "call h0();"), 1, None),
 }
 
 

@@ -103,14 +103,14 @@ class Names:
     def tell(self, number, code):
         self.faults.append((number, code))
 
-    def kind(self, type_, is_told=True):
-        """The type that is written there, or nothing where it has a fault."""
+    def kind(self, type_, is_told=True, locals_=()):
+        """The type that is written there, where these locals are in scope, or nothing where it has a fault."""
         text, number = type_
         name = text.removeprefix("ref ")
         if text == "int" or text in self.members:
             return text
         if is_told:
-            self.tell(number, "E07" if name in self.top else "E06")
+            self.tell(number, "E07" if name in self.top or name in locals_ else "E06")
         return None
 
     def helpers(self):
@@ -158,7 +158,7 @@ class Names:
         if kind == "call":
             self.call(statement)
         elif kind in ("let", "var"):
-            type_ = self.kind(statement.type)
+            type_ = self.kind(statement.type, locals_=self.known)
             self.want(statement.value, type_)
             if statement.where:
                 self.where(statement, type_)
@@ -192,7 +192,7 @@ class Names:
 
     def call(self, call):
         name = self.word(call.helper)
-        type_ = self.kind(call.type) if call.name is not None else None
+        type_ = self.kind(call.type, locals_=self.known) if call.name is not None else None
         helper = self.top.get(name)
         if not helper or helper.kind != "call":
             self.tell(call.helper, "E07" if helper or name in self.known else "E06")

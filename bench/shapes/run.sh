@@ -1,6 +1,6 @@
 #!/usr/bin/env bash
-# Times `check` of texts of shapes that were dear once, each beside a plain text of its size, and prints for each the
-# least of several runs, process and all, and the most memory that one held.
+# Times `check` of texts of shapes that were slow once, and `outcomes` of such programs, each beside a plain one of its size,
+# and prints for each the least of several runs, process and all, and the most memory that one held.
 #
 #     bench/shapes/run.sh BIN [ROUNDS]
 set -euo pipefail
@@ -76,6 +76,23 @@ def aliases(length, size):
 alike = (top / "alike.names").read_text().split()
 write("names_alike", names_used(alike))
 write("names_plain", names_used([f"aaaa{i:04}" for i in range(len(alike))]))
+
+
+def locals_named(names):
+    head = "lock G;\nglobal int n protected_by(G);\natomic f() {\n" + "".join(f"let {n}: int = 1;\n" for n in names)
+    line = f"n = {'+'.join(names[-40:])};\n"
+    return head + line * ((SIZE - len(head) - 2) // len(line)) + "}\n"
+
+
+def written(values, calls):
+    """Two threads that write the elements of an array in turn, each its own value."""
+    head = "lock G;\nglobal int a[32] protected_by(G);\nglobal int k protected_by(G);\n"
+    head += "atomic put(int s) { a[k] = s; k = k + 1; }\n"
+    return head + "".join(f"thread t{i} {{ repeat {calls} {{ put({v}); }} }}\n" for i, v in enumerate(values))
+
+
+write("locals_alike", locals_named(alike))
+write("locals_plain", locals_named([f"aaaa{i:04}" for i in range(len(alike))]))
 repeat = "repeat 1 {" * 60 + "repeat 100000 { f(7); }" + "}" * 60
 write("repeat_1_60_deep", f"atomic f(int k) {{ }}\nthread t {{ {repeat} }}\n")
 write("repeat_once", "atomic f(int k) { }\nthread t { repeat 100000 { f(7); } }\n")
@@ -86,10 +103,14 @@ for name, branch in (("taken_often", "if (k > 0) { m.x = 1; }\n"), ("taken_once"
 for size in (262144, 524288, 1048000):
     write(f"chain_of_finals_{size // 1024}K", along(size // 8, size))
     write(f"chain_of_finals_by_62_names_{size // 1024}K", aliases(size // 8, size))
+for name, values in (("signs", (1, -1)), ("numbers", (1, 2)), ("powers", (1 << 32, 1 << 40)), ("halves", (-1 << 62, 1 << 62))):
+    (top / f"outcomes_{name}.al").write_text(written(values, 9))
 PYTHON
 for text in $(ls -v "$texts"/*.al); do
+  command=check
+  case $(basename "$text") in outcomes_*) command="outcomes --count 1000000" ;; esac
   printf '%-35s ' "$(basename "$text" .al)"
   for _ in $(seq "$rounds"); do
-    /usr/bin/time -f '%e %M' "$program" check "$text" 2>&1 > /dev/null | tail -n 1
+    { /usr/bin/time -f "%e %M" "$program" $command "$text" 2>&1 > /dev/null || true; } | tail -n 1
   done | sort -n | head -n 1 | awk '{printf "%6.2f s %6.0f MiB\n", $1, $2 / 1024}'
 done

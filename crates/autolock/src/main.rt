@@ -15,7 +15,7 @@ ghost use Rattle.driver.specs.{Alone, Beside, Serves, Tells, IsMissed, cannot_re
 use clap::Error;
 use clap::error::ErrorKind;
 use driver::{
-    Judging, Looking, Sink, SourceText, Status, Streams, check, explain, find_outcomes, list,
+    Judging, Looking, Sink, SourceText, Status, Streams, check, explain, find_outcomes, listing,
     miss_other, order_graph, replay, run, serial, simulate, trace,
 };
 use driver_words::{Line, words};
@@ -75,7 +75,7 @@ fn run_opened<R: Threads + Wait + Sync, S: Read, O: Write, E: Write>(
         Line::Check { .. } => check(alloc, source, streams),
         Line::Explain { json, .. } => explain(alloc, json, source, streams),
         Line::Order { .. } => order_graph(alloc, source, streams),
-        Line::Listing { .. } => list(alloc, source, streams),
+        Line::Listing { .. } => listing(alloc, source, streams),
         Line::Serial { turns, .. } => serial(alloc, turns, source, streams),
         Line::Outcomes {
             turns,

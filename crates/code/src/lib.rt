@@ -22,3 +22,4 @@ pub mod run_laws;
 pub mod section_code;
 
 pub use lines::{Lister, path_texts};
+pub use section_code::ProgramCode as Code;

@@ -89,7 +89,7 @@ deepest_ge deep (c ∷ cs) g (inl e) = let same : deep c.helper ≡ deep g = ap 
 deepest_ge deep (c ∷ cs) g (inr h) = let rest : deep g ≤ deepest_of deep cs = deepest_ge deep cs g h in omega (arith, rest)
 
 -- where none is there, nothing is deep
-none_deep : (helpers : List Body) (n h : ℕ) → length helpers ≤ h → depth_within n helpers h ≡ 0
+pub none_deep : (helpers : List Body) (n h : ℕ) → length helpers ≤ h → depth_within n helpers h ≡ 0
 none_deep helpers zero h le = refl
 none_deep helpers (suc n) h le =
     ap (λ (o : Option Body). of_body o (λ (b : Body). 1 + deepest_of (depth_within n helpers) b.calls)) (slice_get_past helpers h le)
@@ -153,7 +153,7 @@ free_ends helpers f free = le-ltb (length helpers) (depth helpers f) (free_depth
 
 -- ---- where one is reached, they go as far as they are followed
 
-called_deeper : (helpers : List Body) (n f g : ℕ) → Calls helpers f g →
+pub called_deeper : (helpers : List Body) (n f g : ℕ) → Calls helpers f g →
     depth_within n helpers g + 1 ≤ depth_within (suc n) helpers f
 called_deeper helpers n f g c =
     let is : depth_within (suc n) helpers f ≡ 1 + deepest_of (depth_within n helpers) c.0.calls =

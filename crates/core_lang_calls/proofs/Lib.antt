@@ -1,9 +1,11 @@
-pub mod Sets
 pub mod Closing
 pub mod Endless
 pub mod Deep
 pub mod Extending
-pub mod Reaching
+pub mod Having
+pub mod Calling
+pub mod Leading
+pub mod Settled
 pub mod Noting
 pub mod Listed
 pub mod Faultless

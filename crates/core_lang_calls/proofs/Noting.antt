@@ -1,12 +1,12 @@
 -- Faults that are noted one after another.
 use Rattle.std.proofs.Common.{◌≡◌, ℕ, zero, suc, ◌+◌, ◌<◌, ◌≤◌, Bool, true, false, ◌&&◌, List, [], ◌∷◌, ◌++◌, length}
-use Rattle.std.proofs.Common.{get_or, take, drop, map, Option, inl, inr, sym, ap, ◌∙◌, append_assoc, append-nil}
+use Rattle.std.proofs.Common.{get_or, take, drop, map, Option, inl, inr, refl, sym, ap, ◌∙◌, append_assoc, append-nil}
 use Rattle.std.proofs.Common.{arith}
-use Rattle.std.specs.Prelude.{nat_lt, nat_le}
+use Rattle.std.specs.Prelude.{nat_lt, nat_le, not, ◌||◌, if◌then◌else◌, Some, None}
 use Rattle.std.specs.List.{flat_map, sum_by}
 use Rattle.std.proofs.lemmas.Bool.{cases_lt, lt-ltb, le-ltb}
 use Rattle.std.proofs.lemmas.Bool.Decides.{nat_tests}
-use Rattle.std.proofs.lemmas.List.{drop_more, length-take-le, length-map, take-map, get_or_default}
+use Rattle.std.proofs.lemmas.List.{drop_more, length-take-le, length-map, take-map}
 use Rattle.std.proofs.lemmas.List.Concat.{flat_map-append}
 use Rattle.std.proofs.lemmas.List.Sums.{sum_by_more}
 use Rattle.source.specs.declared.fault.Code.{Code}
@@ -15,13 +15,14 @@ use Rattle.source.specs.declared.mistake.Mistake.{Mistake}
 use Rattle.source.specs.Mistakes.{lesser, least_of}
 use Rattle.source.specs.Theory.Leasts.{least_append}
 use Rattle.core_lang_calls.specs.declared.graph.CallSite.{CallSite}
-use Rattle.core_lang_calls.specs.Graphs.{Body, body_of}
+use Rattle.core_lang_calls.specs.declared.extents.Extent.{Extent}
+use Rattle.core_lang_calls.specs.Graphs.{Body}
+use Rattle.core_lang_calls.specs.Depths.{depth}
 use Rattle.core_lang_calls.specs.Counts.{brought_locals, brought_points}
-use Rattle.core_lang_calls.specs.Faults.{LOCAL_LIMIT, POINT_LIMIT}
-use Rattle.core_lang_calls.specs.declared.judge.Known.{Known}
-use Rattle.core_lang_calls.specs.Working.Tables.{up_to, leads, reaches_over, reaches}
-use Rattle.core_lang_calls.specs.Working.Knowledge.{IsKnown, bodies}
+use Rattle.core_lang_calls.specs.Faults.{DEPTH_LIMIT, LOCAL_LIMIT, POINT_LIMIT}
+use Rattle.core_lang_calls.specs.Working.Tables.{up_to, is_marked, extent_at, is_deep_by, IsExtentOf, IsExtents}
 use Rattle.core_lang_calls.specs.Working.FaultLists.{told_if, leads_back, recursion_faults, is_too_deep}
+use Rattle.core_lang_calls.specs.Working.FaultLists.{marked_faults, is_new, any_new}
 use Rattle.core_lang_calls.specs.Working.FaultLists.{helper_faults, helpers_faults, first_too_many, call_faults}
 use Rattle.core_lang_calls.proofs.Extending.{taken}
 
@@ -144,19 +145,41 @@ call_next helpers b start old middle new i c locals points more_locals more_poin
 
 -- ---- as the code goes over calls, helpers and sections
 
-pub recursion_noted : (helpers : List Body) (f : ℕ) (cs : List CallSite) (i : ℕ) (d : CallSite) (start old new : Option Mistake) → i < length cs →
-    old ≡ least_of start (flat_map (recursion_faults helpers f) (take i cs)) → leads_back helpers f (get_or cs i d) ≡ true →
-    new ≡ lesser old (record { code = RecursiveHelper; start = (get_or cs i d).start }) → new ≡ least_of start (flat_map (recursion_faults helpers f) (take (i + 1) cs))
-recursion_noted helpers f cs i d start old new lt before back is =
-    flat_next (recursion_faults helpers f) cs i (get_or cs i d) start old new lt (get_or_default cs i d (get_or cs i d) lt) before
-    (noted (leads_back helpers f (get_or cs i d)) RecursiveHelper (get_or cs i d).start old new back is)
+pub mark_noted : (marks : List Bool) (cs : List CallSite) (i : ℕ) (c : CallSite) (start old new : Option Mistake) → i < length cs →
+    c ≡ get_or cs i c → old ≡ least_of start (flat_map (marked_faults marks) (take i cs)) → is_marked marks c.helper ≡ true →
+    new ≡ lesser old (record { code = RecursiveHelper; start = c.start }) → new ≡ least_of start (flat_map (marked_faults marks) (take (i + 1) cs))
+mark_noted marks cs i c start old new lt at before marked is =
+    flat_next (marked_faults marks) cs i c start old new lt at before (noted (is_marked marks c.helper) RecursiveHelper c.start old new marked is)
 
-pub recursion_passed : (helpers : List Body) (f : ℕ) (cs : List CallSite) (i : ℕ) (d : CallSite) (start old new : Option Mistake) → i < length cs →
-    old ≡ least_of start (flat_map (recursion_faults helpers f) (take i cs)) → leads_back helpers f (get_or cs i d) ≡ false →
-    new ≡ old → new ≡ least_of start (flat_map (recursion_faults helpers f) (take (i + 1) cs))
-recursion_passed helpers f cs i d start old new lt before back is =
-    flat_next (recursion_faults helpers f) cs i (get_or cs i d) start old new lt (get_or_default cs i d (get_or cs i d) lt) before
-    (is ∙ not_noted (leads_back helpers f (get_or cs i d)) RecursiveHelper (get_or cs i d).start old back)
+pub mark_passed : (marks : List Bool) (cs : List CallSite) (i : ℕ) (c : CallSite) (start old new : Option Mistake) → i < length cs →
+    c ≡ get_or cs i c → old ≡ least_of start (flat_map (marked_faults marks) (take i cs)) → is_marked marks c.helper ≡ false →
+    new ≡ old → new ≡ least_of start (flat_map (marked_faults marks) (take (i + 1) cs))
+mark_passed marks cs i c start old new lt at before fails is =
+    flat_next (marked_faults marks) cs i c start old new lt at before (is ∙ not_noted (is_marked marks c.helper) RecursiveHelper c.start old fails)
+
+pub both_false : (a b : Bool) → a ≡ false → b ≡ false → (a || b) ≡ false
+both_false a b p q = ap (λ (t : Bool). t || b) p ∙ q
+
+-- where none would be kept, nothing changes
+none_kept : (least : Option Mistake) (c : CallSite) (b : Bool) → is_new least c ≡ false →
+    least ≡ least_of least (told_if b RecursiveHelper c.start)
+none_kept None c b old = absurd cc
+none_kept (Some kept) c true old =
+    ap (λ (t : Bool). if t then Some (record { code = RecursiveHelper; start = c.start }) else Some kept) (sym old)
+none_kept (Some kept) c false old = refl
+
+pub none_new : (helpers : List Body) (f : ℕ) (least : Option Mistake) (cs : List CallSite) → any_new least cs ≡ false →
+    least ≡ least_of least (flat_map (recursion_faults helpers f) cs)
+none_new helpers f least [] old = refl
+none_new helpers f least (c ∷ cs) old =
+    let parts : (is_new least c ≡ false) × (any_new least cs ≡ false) = or_parts (is_new least c) (any_new least cs) old in
+    none_new helpers f least cs parts.1
+    ∙ ap (λ (o : Option Mistake). least_of o (flat_map (recursion_faults helpers f) cs)) (none_kept least c (leads_back helpers f c) parts.0)
+    ∙ sym (least_append least (recursion_faults helpers f c) (flat_map (recursion_faults helpers f) cs))
+  where
+    or_parts : (a b : Bool) → (a || b) ≡ false → (a ≡ false) × (b ≡ false)
+    or_parts false b e = (refl, e)
+    or_parts true b e = absurd cc
 
 mapped_item : {X Y : Type 0} (f : X → Y) (xs : List X) (i : ℕ) (x : X) → i < length xs → x ≡ get_or xs i x →
     f x ≡ get_or (map f xs) i (f x)
@@ -185,7 +208,25 @@ helper_mapped view all xs i x start old middle new lt is before first second =
     ∙ sym (least_append old (told_if (is_too_deep all i) LimitExceeded (view x).start) (flat_map (recursion_faults all i) (view x).calls)))
     ∙ ap (λ ys. least_of start (helpers_faults all 0 ys)) (take-map view (i + 1) xs)
 
-pub one_path : (known : Known) → IsKnown known → (f g : ℕ) → g < 256 →
-    leads known.reach.rows.items f g ≡ reaches (bodies known) f g
-one_path known is f g few =
-    is.reach.leads f g few ∙ ap (λ (n : ℕ). reaches_over n (bodies known) f g) (sym (length-map known.helpers.now body_of))
+-- ---- depth, by the table
+
+deep_by : (helpers : List Body) (table : List (Option Extent)) (f : ℕ) (o : Option Extent) → IsExtents helpers table → extent_at table f ≡ o →
+    is_deep_by o ≡ is_too_deep helpers f
+deep_by helpers table f (Some e) is at =
+    let right : IsExtentOf helpers f e = is.ends f e at in
+    ap (λ (x : Extent). nat_lt DEPTH_LIMIT x.depth) right.1 ∙ lt_up DEPTH_LIMIT DEPTH_LIMIT (depth helpers f) (omega arith) ∙ sym (and_true (nat_lt DEPTH_LIMIT (depth helpers f)))
+    ∙ ap (λ (t : Bool). nat_lt DEPTH_LIMIT (depth helpers f) && not t) (sym right.0)
+  where
+    and_true : (b : Bool) → (b && true) ≡ b
+    and_true true = refl
+    and_true false = refl
+deep_by helpers table f None is at =
+    sym (ap (λ (t : Bool). nat_lt DEPTH_LIMIT (depth helpers f) && not t) (is.endless f at) ∙ and_false (nat_lt DEPTH_LIMIT (depth helpers f)))
+  where
+    and_false : (b : Bool) → (b && false) ≡ false
+    and_false true = refl
+    and_false false = refl
+
+pub deep_is : (helpers : List Body) (table : List (Option Extent)) (f : ℕ) → IsExtents helpers table →
+    is_deep_by (extent_at table f) ≡ is_too_deep helpers f
+deep_is helpers table f is = deep_by helpers table f (extent_at table f) is refl

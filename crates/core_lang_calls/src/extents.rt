@@ -1,12 +1,11 @@
 //! How deep helpers are, and what they bring.
 
-ghost use Rattle.std.specs.Prelude.{◌≡◌, ◌+◌, ◌≤◌, ◌<◌, ◌^◌, min, ℕ, length, map, IfOk};
+ghost use Rattle.std.specs.Prelude.{◌≡◌, ◌+◌, ◌<◌, ◌^◌};
 ghost use Rattle.core_lang_calls.specs.Graphs.{body_of, bodies_of};
 ghost use Rattle.core_lang_calls.specs.Counts.{hidden};
-ghost use Rattle.core_lang_calls.specs.Working.Tables.{up_to, no_extent, extent_at, extent_by, IsExtents};
+ghost use Rattle.core_lang_calls.specs.Working.Tables.{up_to, no_extent, extent_at, extent_seen, extent_by, is_deep_by};
 
 use crate::graph::{Body, CallSite};
-use std::alloc::{AllocError, Global};
 
 /// How deep the calls of a section may go.
 pub const DEPTH_LIMIT: usize = 8;
@@ -17,14 +16,11 @@ pub const LOCAL_LIMIT: usize = 64;
 /// How many points a section may have from its helpers.
 pub const POINT_LIMIT: usize = 65536;
 
-// Depths are counted up to the number of helpers.
-const FAR: usize = 256;
-
 /// What a helper comes to, with all that it calls. Each number is counted no further than one past its limit, so that
 /// none overflows, and no test is answered otherwise.
 #[derive(Clone, Copy, Debug, PartialEq, Eq)]
 pub struct Extent {
-    /// How deep its calls go, itself included: at most 257.
+    /// How deep its calls go, itself included: at most 9.
     pub depth: usize,
     /// How many locals it brings: at most 65.
     pub locals: usize,
@@ -52,13 +48,30 @@ pub(crate) fn nothing() -> Extent
     }
 }
 
-// Of a helper by its number; nothing, where none has it.
-pub(crate) fn extent_of(table: &[Extent], helper: usize) -> Extent
+/// Of a helper by its number, if it is settled; nothing, where none has the number.
+pub(crate) fn settled(table: &[Option<Extent>], helper: usize) -> Option<Extent>
     ensures { result ≡ extent_at table.now helper }
 {
     match table.get(helper) {
         Some(extent) => *extent,
-        None => nothing(),
+        None => Some(nothing()),
+    }
+}
+
+// Of a helper that is settled.
+fn extent_of(table: &[Option<Extent>], helper: usize) -> Extent
+    ensures { result ≡ extent_seen table.now helper }
+{
+    settled(table, helper).unwrap_or(nothing())
+}
+
+/// Whether a helper is settled, and too deep.
+pub fn is_too_deep(table: &[Option<Extent>], helper: usize) -> bool
+    ensures { result ≡ is_deep_by (extent_at table.now helper) }
+{
+    match settled(table, helper) {
+        Some(extent) => extent.depth > DEPTH_LIMIT,
+        None => false,
     }
 }
 
@@ -76,7 +89,7 @@ pub(crate) fn hidden_local(helpers: &[Body], call: CallSite) -> usize
 }
 
 // Of a body by those of the helpers that it calls.
-fn extent_from(table: &[Extent], helpers: &[Body], body: &Body) -> Extent
+pub(crate) fn extent_from(table: &[Option<Extent>], helpers: &[Body], body: &Body) -> Extent
     ensures { result ≡ extent_by table.now (bodies_of helpers.now) (body_of body.now) }
 {
     let mut depth: usize = 0;
@@ -90,41 +103,8 @@ fn extent_from(table: &[Extent], helpers: &[Body], body: &Body) -> Extent
         points = sum_up_to(POINT_LIMIT, points, callee.points);
     }
     Extent {
-        depth: sum_up_to(FAR, 1, depth),
+        depth: sum_up_to(DEPTH_LIMIT, 1, depth),
         locals,
         points: sum_up_to(POINT_LIMIT, points, if body.has_result { 1 } else { 0 }),
-    }
-}
-
-// Of each helper, where calls are followed one further than in a table.
-fn one_further(alloc: Global, table: &[Extent], helpers: &[Body]) -> Result<Vec<Extent>, AllocError>
-    ensures { IfOk result (λ further. further.items ≡ map (extent_by table.now (bodies_of helpers.now)) (bodies_of helpers.now)) }
-{
-    let mut further = Vec::new(alloc);
-    for helper in helpers {
-        further.push(extent_from(table, helpers, helper))?;
-    }
-    Ok(further)
-}
-
-/// What each helper of a graph comes to.
-#[derive(Drop)]
-pub struct Extents {
-    /// By number.
-    pub table: Vec<Extent>,
-}
-
-impl Extents {
-    /// What each helper comes to, where calls are followed one further than there are helpers. The one error is a
-    /// refused growth.
-    pub fn new(alloc: Global, helpers: &[Body]) -> Result<Extents, AllocError>
-        requires { length helpers.now ≤ 256 }
-        ensures { IfOk result (λ extents. IsExtents (bodies_of helpers.now) extents.table.items (length helpers.now + 1)) }
-    {
-        let mut table = vec![in alloc; nothing(); helpers.len()]?;
-        for _ in 0..helpers.len() + 1 {
-            table = one_further(alloc, &table, helpers)?;
-        }
-        Ok(Extents { table })
     }
 }

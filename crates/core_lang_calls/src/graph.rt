@@ -1,11 +1,8 @@
 //! What helpers and sections call.
 
-ghost use Rattle.std.specs.Prelude.{◌≡◌, ◌≤◌, ◌<◌, ◌++◌, [], ◌∷◌, length, OnOk, OnErr};
+ghost use Rattle.std.specs.Prelude.{◌≡◌, OnOk, OnErr};
 
 use std::alloc::{AllocError, Global};
-
-/// How many helpers a graph may have.
-pub const HELPER_LIMIT: usize = 256;
 
 /// A call of a helper.
 #[derive(Clone, Copy, Debug, PartialEq, Eq)]
@@ -42,7 +39,6 @@ pub struct CallGraph {
     pub helpers: Vec<Body>,
     /// The sections, in the order of the text.
     pub sections: Vec<Body>,
-    ghost few: { length helpers.items ≤ 256 },
 }
 
 impl CallGraph {
@@ -60,7 +56,6 @@ impl CallGraph {
 
     /// Adds the next helper. The one error is a refused growth; then the graph is as it was.
     pub fn add_helper(&mut self, helper: Body) -> Result<(), AllocError>
-        requires { length self.old.helpers.items < HELPER_LIMIT }
         ensures ok { OnOk result (graph_of self.new ≡ with_helper (graph_of self.old) (body_of helper)) }
         ensures err { OnErr result (graph_of self.new ≡ graph_of self.old) }
     {

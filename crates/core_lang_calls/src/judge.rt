@@ -1,21 +1,20 @@
 //! The faults of a graph.
 
-ghost use Rattle.std.specs.Prelude.{◌≡◌, ◌+◌, ◌≤◌, ◌<◌, ◌^◌, length, OnOk};
+ghost use Rattle.std.specs.Prelude.{◌≡◌, ◌+◌, ◌<◌, ◌^◌, length, OnOk};
 ghost use Rattle.std.specs.List.{flat_map};
 ghost use Rattle.source.specs.Mistakes.{least_of};
 ghost use Rattle.core_lang_calls.specs.Graphs.{body_of, bodies_of, graph_of};
-ghost use Rattle.core_lang_calls.specs.Depths.{is_endless};
 ghost use Rattle.core_lang_calls.specs.Counts.{brought_locals, brought_points};
-ghost use Rattle.core_lang_calls.specs.Working.Tables.{up_to};
+ghost use Rattle.core_lang_calls.specs.Working.Tables.{up_to, is_marked};
 ghost use Rattle.core_lang_calls.specs.Working.Knowledge.{IsKnown, bodies};
-ghost use Rattle.core_lang_calls.specs.Working.FaultLists.{told_if, first_too_many, is_too_deep, recursion_faults, helpers_faults, section_faults, graph_faults};
+ghost use Rattle.core_lang_calls.specs.Working.FaultLists.{told_if, first_too_many, is_new, any_new, marked_faults, recursion_faults, helpers_faults, section_faults, graph_faults};
 
+use crate::callers::Callers;
 use crate::extents::{
-    DEPTH_LIMIT, Extent, Extents, LOCAL_LIMIT, POINT_LIMIT, extent_of, hidden_local, nothing,
-    sum_up_to,
+    Extent, LOCAL_LIMIT, POINT_LIMIT, hidden_local, is_too_deep, nothing, settled, sum_up_to,
 };
 use crate::graph::{Body, CallGraph, CallSite};
-use crate::reach::Reach;
+use crate::settling::Extents;
 use source::fault::Code;
 use source::mistake::{Mistake, note};
 use std::alloc::{AllocError, Global};
@@ -43,55 +42,93 @@ impl Counter {
     }
 }
 
+// Whether a recursion that is found at a call is kept: it comes before what was noted.
+fn is_new(call: CallSite, least: Option<Mistake>) -> bool
+    ensures { result ≡ is_new least call }
+{
+    let found = Mistake {
+        code: Code::RecursiveHelper,
+        start: call.start,
+    };
+    match least {
+        Some(kept) => found.precedes(kept),
+        None => true,
+    }
+}
+
+// Whether one that is found at any of the calls is kept.
+fn any_is_new(calls: &[CallSite], least: Option<Mistake>) -> bool
+    ensures { result ≡ any_new least calls.now }
+{
+    for call in calls {
+        if is_new(*call, least) {
+            return true;
+        }
+    }
+    false
+}
+
+// Whether a helper is marked.
+fn is_marked(marks: &[bool], helper: usize) -> bool
+    ensures { result ≡ is_marked marks.now helper }
+{
+    match marks.get(helper) {
+        Some(mark) => *mark,
+        None => false,
+    }
+}
+
+// The calls of helpers that are marked.
+fn note_marked(marks: &[bool], calls: &[CallSite], least: &mut Option<Mistake>)
+    ensures { least.new ≡ least_of least.old (flat_map (marked_faults marks.now) calls.now) }
+{
+    for call in calls {
+        if is_marked(marks, call.helper) {
+            note(least, Code::RecursiveHelper, call.start);
+        }
+    }
+}
+
 /// The helpers of a graph, and what is known of them.
 #[derive(Drop)]
 struct Known<'a> {
-    helpers: &'a [Body],
-    reach: Reach,
+    callers: Callers<'a>,
     extents: Extents,
 }
 
 impl Known<'_> {
-    // Whether the calls of a helper have no end.
-    fn is_endless(&self, helper: usize) -> bool
-        requires { IsKnown self.now }
-        ensures { result ≡ is_endless (bodies self.now) helper }
-    {
-        extent_of(&self.extents.table, helper).depth > self.helpers.len()
-    }
-
-    // Whether a helper is too deep, and reaches no recursion.
-    fn is_too_deep(&self, helper: usize) -> bool
-        requires { IsKnown self.now }
-        ensures { result ≡ is_too_deep (bodies self.now) helper }
-    {
-        extent_of(&self.extents.table, helper).depth > DEPTH_LIMIT && !self.is_endless(helper)
-    }
-
-    // The calls of helper `from` by which a circle closes.
-    fn note_recursion(&self, from: usize, calls: &[CallSite], least: &mut Option<Mistake>)
+    // The calls of helper `from` by which a circle closes. They are looked for only where a fault there would be kept: where
+    // there are many helpers, that is only in the first of them.
+    fn note_recursion(
+        &self,
+        alloc: Global,
+        from: usize,
+        calls: &[CallSite],
+        least: &mut Option<Mistake>,
+    ) -> Result<(), AllocError>
         requires known { IsKnown self.now }
-        requires few { from < 256 }
-        ensures { least.new ≡ least_of least.old (flat_map (recursion_faults (bodies self.now) from) calls.now) }
+        requires there { from < length self.now.callers.helpers.now }
+        ensures { OnOk result (least.new ≡ least_of least.old (flat_map (recursion_faults (bodies self.now) from) calls.now)) }
     {
-        for call in calls {
-            if call.helper == from || self.reach.leads(call.helper, from) {
-                note(least, Code::RecursiveHelper, call.start);
-            }
+        if any_is_new(calls, *least) {
+            let marks = self.callers.leading_to(alloc, from)?;
+            note_marked(&marks, calls, least);
         }
+        Ok(())
     }
 
     // The helpers, one after another.
-    fn note_helpers(&self, least: &mut Option<Mistake>)
+    fn note_helpers(&self, alloc: Global, least: &mut Option<Mistake>) -> Result<(), AllocError>
         requires { IsKnown self.now }
-        ensures { least.new ≡ least_of least.old (helpers_faults (bodies self.now) 0 (bodies self.now)) }
+        ensures { OnOk result (least.new ≡ least_of least.old (helpers_faults (bodies self.now) 0 (bodies self.now))) }
     {
-        for (number, helper) in self.helpers.iter().enumerate() {
-            if self.is_too_deep(number) {
+        for (number, helper) in self.callers.helpers.iter().enumerate() {
+            if is_too_deep(&self.extents.table, number) {
                 note(least, Code::LimitExceeded, helper.start);
             }
-            self.note_recursion(number, &helper.calls, least);
+            self.note_recursion(alloc, number, &helper.calls, least)?;
         }
+        Ok(())
     }
 
     // What a call in a section brings.
@@ -100,15 +137,17 @@ impl Known<'_> {
         ensures locals { result.locals ≡ up_to LOCAL_LIMIT (brought_locals (bodies self.now) call) }
         ensures points { result.points ≡ up_to POINT_LIMIT (brought_points (bodies self.now) call) }
     {
-        if self.is_endless(call.helper) {
-            return nothing();
-        }
-        let callee = extent_of(&self.extents.table, call.helper);
-        let hidden = hidden_local(self.helpers, call);
-        Extent {
-            depth: callee.depth,
-            locals: sum_up_to(LOCAL_LIMIT, callee.locals, hidden),
-            points: callee.points,
+        match settled(&self.extents.table, call.helper) {
+            Some(callee) => Extent {
+                depth: callee.depth,
+                locals: sum_up_to(
+                    LOCAL_LIMIT,
+                    callee.locals,
+                    hidden_local(self.callers.helpers, call),
+                ),
+                points: callee.points,
+            },
+            None => nothing(),
         }
     }
 
@@ -154,14 +193,10 @@ impl CallGraph {
     pub fn judge(&self, alloc: Global, least: &mut Option<Mistake>) -> Result<(), AllocError>
         ensures { OnOk result (least.new ≡ least_of least.old (graph_faults (graph_of self.now))) }
     {
-        let reach = Reach::new(alloc, &self.helpers)?;
-        let extents = Extents::new(alloc, &self.helpers)?;
-        let known = Known {
-            helpers: &self.helpers,
-            reach,
-            extents,
-        };
-        known.note_helpers(least);
+        let callers = Callers::new(alloc, &self.helpers)?;
+        let extents = Extents::new(alloc, &callers)?;
+        let known = Known { callers, extents };
+        known.note_helpers(alloc, least)?;
         known.note_sections(&self.sections, least);
         Ok(())
     }

@@ -6,12 +6,13 @@
 //! - `specs/Recursion.antt`, `specs/Depths.antt`, `specs/Counts.antt`: what it is to reach a recursion, how deep calls
 //!   go, and what they bring.
 //! - [`laws`]: what holds of a graph without these faults.
-//! - [`reach`], [`helper_set`], [`extents`]: which helpers reach which, and what each brings, in tables.
+//! - [`callers`]: who calls each helper, and which helpers lead to one.
+//! - [`extents`], [`settling`]: what each helper comes to.
 #![tactic(auto)]
 
+pub mod callers;
 pub mod extents;
 pub mod graph;
-pub mod helper_set;
 pub mod judge;
 pub mod laws;
-pub mod reach;
+pub mod settling;

@@ -1,5 +1,5 @@
--- What holds of helpers and of `where`.
-use Rattle.std.specs.Prelude.{◌≡◌, ◌↔◌, ℕ, ◌<◌, List, ◌++◌, length, slice_get, Some, None, Ok, false}
+-- What holds of helpers, of `where` and of prints.
+use Rattle.std.specs.Prelude.{◌≡◌, ◌↔◌, ℕ, ◌<◌, ◌≤◌, List, ◌++◌, length, slice_get, Some, None, Ok, false}
 use Rattle.std.proofs.Common.{Vec, Box, Global}
 use Rattle.core_lang.specs.declared.value.Value.{Value}
 use Rattle.core_lang.specs.declared.value.Value.TheVariants.{Ref}
@@ -15,12 +15,13 @@ use Rattle.core_lang.specs.declared.typed.Typed.{Typed}
 use Rattle.core_lang.specs.Arithmetic.{compared}
 use Rattle.core_lang.specs.Cells.{final_value, owned}
 use Rattle.core_lang.specs.Meaning.{State, Traps, Helpers, value_of, values_of, effect_by, helped, opening, run_from}
-use Rattle.core_lang.specs.Whole.{run_of}
+use Rattle.core_lang.specs.Whole.{Finished, run_of, Whole}
 use Rattle.core_lang.specs.Serial.{Invocation, Ended, Serial}
 use Rattle.core_lang.specs.Expansion.{HasSamePlaces, IsExpansion, one}
 use Rattle.core_lang.specs.Laws.{CallsFill}
 use Rattle.core_lang.specs.WellFormed.{IsWellFormed}
 use Rattle.core_lang_expansion.specs.Data.{IsExpanded}
+use Rattle.core_lang_laws.specs.Prints.{most_prints}
 
 -- ---- programs without helpers
 
@@ -79,3 +80,11 @@ AWhereThatFailsEndsTheSection =
     value_of value.value shape s.locals s.heap ≡ Ok (Ref (Some o)) → slice_get s.locals owner ≡ Some named →
     final_value shape (Ref (Some o)) final ≡ Ok other → compared Equal other named ≡ Ok false →
     effect_by call (Bind k (Owned value structure final start owner)) shape n s ≡ Traps NotOwned s
+
+-- ---- prints
+
+-- a section run whole, from whatever arguments and heap, has printed at most so many numbers
+abbrev pub NoRunPrintsMore : Type 0
+NoRunPrintsMore =
+    (section : Section) (shape : Shape) (arguments heap : List Value) (finished : Finished) →
+    Whole section shape arguments heap finished → length finished.prints ≤ most_prints section

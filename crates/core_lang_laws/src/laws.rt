@@ -1,6 +1,6 @@
 //! The laws: functions that do nothing, and whose contracts are what holds.
 
-ghost use Rattle.core_lang_laws.specs.Laws.{AProgramWithoutHelpersIsItsOwnExpansion, UncalledHelpersChangeNoExpansion, UncalledHelpersChangeNoRun, ACallDoesWhatTheHelperDoes, ACallGivesWhatTheHelperGives, AWhereThatHoldsChangesNothing, AWhereThatFailsEndsTheSection};
+ghost use Rattle.core_lang_laws.specs.Laws.{AProgramWithoutHelpersIsItsOwnExpansion, UncalledHelpersChangeNoExpansion, UncalledHelpersChangeNoRun, ACallDoesWhatTheHelperDoes, ACallGivesWhatTheHelperGives, AWhereThatHoldsChangesNothing, AWhereThatFailsEndsTheSection, NoRunPrintsMore};
 
 /// A program without helpers is its own expansion: nothing of it is written anew.
 pub fn a_program_without_helpers_is_its_own_expansion()
@@ -27,4 +27,10 @@ pub fn a_call_is_the_helper()
 pub fn a_where_is_a_test()
     ensures holds { AWhereThatHoldsChangesNothing }
     ensures fails { AWhereThatFailsEndsTheSection }
+{}
+
+/// No run of a section, from whatever arguments and heap, prints more numbers than the section has prints, where none stands
+/// in a loop and it calls no helper; and none prints more than 256.
+pub fn no_run_prints_more()
+    ensures { NoRunPrintsMore }
 {}

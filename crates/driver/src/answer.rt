@@ -29,6 +29,7 @@ use report::{history_text, unsettled_text};
 use report_check::Check;
 use rope::Rope;
 use source::fault::{Fault, Refusal};
+use source::keyed::KeyedState;
 use source::line::fault_line;
 use source::memory::NoMemory;
 use source_histories::Format;
@@ -77,7 +78,7 @@ fn checked(alloc: Global, text: &[u8], program: &Program) -> Result<Answer, NoMe
 {
     let check = Check {
         text,
-        program: program.typed(),
+        program: program.expanded(),
         paths: program.paths(),
         ranks: program.ranks(),
         placed: program.placed(),
@@ -150,12 +151,13 @@ fn of_program(
         Request::Listing => listed(alloc, program),
         Request::Serial { turns } => {
             let prepared = prepared(alloc, program)?;
-            ran(alloc, program.accepted(), &prepared, turns)
+            ran(alloc, program.typed(), &prepared, turns)
         }
         Request::Outcomes(looking) => {
             let exploring = Exploring {
                 prepared: &prepared(alloc, program)?,
                 looking,
+                hashing: KeyedState::of(text),
             };
             exploring.answer(alloc)
         }

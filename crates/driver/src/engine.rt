@@ -126,7 +126,7 @@ pub fn order_graph<S: Read, O: Write, E: Write>(
 
 /// Writes the instructions of each section of the program that `source` gives. Answers how that ended, as [`check`] does:
 /// where it is `Done`, the listing was written to `out`.
-pub fn list<S: Read, O: Write, E: Write>(
+pub fn listing<S: Read, O: Write, E: Write>(
     alloc: Global,
     source: &mut SourceText<'_, S>,
     streams: &mut Streams<O, E>,

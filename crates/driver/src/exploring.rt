@@ -20,6 +20,7 @@ use outcomes::search::Search;
 use report::unsettled_text;
 use report_outcomes::Ends;
 use rope::Rope;
+use source::keyed::KeyedState;
 use source::memory::NoMemory;
 use std::alloc::Global;
 
@@ -51,6 +52,8 @@ pub struct Exploring<'a> {
     pub prepared: &'a Prepared<'a>,
     /// How its orders are looked at.
     pub looking: Looking,
+    /// How states are hashed: keyed by the program's text.
+    pub hashing: KeyedState,
 }
 
 impl Exploring<'_> {
@@ -65,6 +68,7 @@ impl Exploring<'_> {
             prepared: self.prepared,
             turns: self.looking.turns,
             most: self.looking.count,
+            hashing: self.hashing,
         };
         let found = search.ends(alloc, self.looking.seed);
         let Search {
@@ -72,6 +76,7 @@ impl Exploring<'_> {
             prepared: _prepared,
             turns: _turns,
             most: _most,
+            hashing: _hashing,
         } = search;
         found
     }

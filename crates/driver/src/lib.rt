@@ -8,7 +8,7 @@
 //!   what it answers.
 //! - [`explain`]: the fault of a program, with its place in the source. `specs/Explanations.antt` says what it answers.
 //! - [`order_graph`]: the order of a program's lock classes, as a graph. `specs/OrderGraphs.antt` says what it answers.
-//! - [`list`]: the instructions of each section. `specs/Listings.antt` says what it answers.
+//! - [`listing`]: the instructions of each section. `specs/Listings.antt` says what it answers.
 //! - [`serial`]: all calls of a program one after another. `specs/Serial.antt` says what it answers.
 //! - [`find_outcomes`]: how a program's cells can end, over the orders of its calls. `specs/Outcomes.antt` says what it
 //!   answers.
@@ -43,7 +43,7 @@ mod tracing;
 mod why;
 
 pub use engine::{
-    check, find_outcomes, list, miss_other, order_graph, replay, run, serial, simulate, trace,
+    check, find_outcomes, listing, miss_other, order_graph, replay, run, serial, simulate, trace,
 };
 pub use explaining::explain;
 pub use request::{Judging, Looking};

@@ -17,10 +17,10 @@ use std::alloc::Global;
 pub fn ordered(alloc: Global, text: &[u8], program: &Program) -> Result<Answer, NoMemory>
     ensures { IfOk result (Meets (IsOrderGraph text.now program.now)) }
 {
-    let pairs = class_pairs(alloc, program.typed(), program.paths())?;
+    let pairs = class_pairs(alloc, program.expanded(), program.paths())?;
     let order = Order {
         text,
-        program: program.typed(),
+        program: program.expanded(),
         ranks: program.ranks(),
         pairs: &pairs,
     };

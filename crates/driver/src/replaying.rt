@@ -12,7 +12,7 @@ use crate::running::prepared;
 use crate::status::Status;
 use crate::why::push_why;
 use lowering::compiled::Program;
-use replay::{Judgement, Verdict, replay};
+use replay::{Judgement, Verdict, judge};
 use rope::Rope;
 use source::memory::NoMemory;
 use source_histories::refusal::{HistoryFault, HistoryRefusal};
@@ -90,6 +90,6 @@ pub fn replayed(
         Err(HistoryRefusal::NoMemory) => return Err(NoMemory),
     };
     let prepared = prepared(alloc, program)?;
-    let judgement = replay(alloc, prepared, &recorded, judging.turns)?;
+    let judgement = judge(alloc, prepared, &recorded, judging.turns)?;
     judged(alloc, judging.why, &judgement, &recorded)
 }

@@ -56,7 +56,7 @@ pub fn prepared(alloc: Global, program: &Program) -> Result<Prepared<'_>, NoMemo
     ensures checked { IfOk result (λ prepared. IsChecked prepared.program.now) }
     ensures expansion { IfOk result (λ prepared. IsExpansion prepared.program.now prepared.written.now) }
 {
-    Prepared::new(alloc, program.accepted(), program.typed())
+    Prepared::new(alloc, program.typed(), program.expanded())
 }
 
 /// Runs calls of a program one after another from its opening heap, as far as so many turns of each execution of a loop

@@ -2,6 +2,7 @@
 
 use std::alloc::Global;
 use std::io::{ErrorKind, Read, Take};
+use thiserror::Error;
 
 /// A file that is read: its name in messages, its reader, and whether reading it failed.
 #[derive(Drop)]
@@ -12,11 +13,13 @@ pub struct SourceText<'a, R> {
 }
 
 /// Why a text was not read.
-#[derive(Clone, Copy, Debug, PartialEq, Eq)]
+#[derive(Clone, Copy, Debug, PartialEq, Eq, Error)]
 pub enum ReadError {
     /// The reader failed.
+    #[error("cannot read")]
     Failed,
     /// A growth was refused, or the reader answered that it was out of memory.
+    #[error("no memory")]
     OutOfMemory,
 }
 

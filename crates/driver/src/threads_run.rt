@@ -63,7 +63,7 @@ pub fn run_by_threads<R: Threads + Wait + Sync>(
         Err(CallRefusal::NoMemory) => return Err(NoMemory),
         Err(CallRefusal::Strange) => return strange(alloc),
     };
-    let typed = program.typed();
+    let typed = program.expanded();
     let values = values_of(alloc, &closed, typed.cells.len())?;
     Ok(Answer {
         status: Status::Done,

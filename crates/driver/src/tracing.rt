@@ -26,7 +26,7 @@ pub fn traced(
     ensures { IfOk result (Meets (IsTraceAnswer moves pair.now.other_file.now pair.now.text.now pair.now.other.now program.now)) }
 {
     worlds::laws::every_run();
-    let _typed = program.typed();
+    let _typed = program.expanded();
     let turns = match read_steps(alloc, pair.other, program.threads()) {
         Ok(turns) => turns,
         Err(StepsRefusal::Fault(fault)) => {

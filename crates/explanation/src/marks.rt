@@ -4,7 +4,7 @@ ghost use Rattle.std.specs.Prelude.{◌≡◌, IfOk};
 ghost use Rattle.source.specs.Faults.{line_of, column_of};
 ghost use Rattle.explanation.specs.Working.Marks.{AreOf};
 
-use report_check::places::Cursor;
+use source::cursor::Cursor;
 use source::memory::NoMemory;
 use std::alloc::Global;
 

@@ -14,9 +14,9 @@ ghost use Rattle.explanation_faults.specs.Working.Values.{FoundWords};
 
 use explanation_names::declared;
 use source::memory::NoMemory;
-use std::alloc::Global;
 use syntax::tree::{Decl, Member, Pool};
 use types_symbols::members::Structure;
+use types_symbols::names::TableMaker;
 use types_symbols::table::SymbolTable;
 
 const OBJECT_LIMIT: u64 = 65536;
@@ -146,32 +146,32 @@ fn is_first_over(symbols: &SymbolTable, amount: Amount, at: usize) -> bool
 }
 
 /// Whether the threads among these declarations make no more calls than they may.
-fn has_few_calls(alloc: Global, decls: &[Decl]) -> Result<bool, NoMemory>
+fn has_few_calls(maker: TableMaker, decls: &[Decl]) -> Result<bool, NoMemory>
     ensures { IfOk result (λ few. few ≡ few_calls (map decl_of decls.now)) }
 {
     let mut least = None;
-    let symbols = SymbolTable::new(alloc, decls, &mut least)?;
+    let symbols = SymbolTable::new(maker, decls, &mut least)?;
     Ok(symbols.has_few_calls())
 }
 
 /// Whether with the declaration at a place there are first too many calls.
-fn ends_few_calls(alloc: Global, decls: &[Decl], place: usize) -> Result<bool, NoMemory>
+fn ends_few_calls(maker: TableMaker, decls: &[Decl], place: usize) -> Result<bool, NoMemory>
     requires { place < length decls.now }
     ensures { IfOk result (λ ends. ends ≡ ends_few (map decl_of decls.now) place) }
 {
-    if has_few_calls(alloc, &decls[..place + 1])? {
+    if has_few_calls(maker, &decls[..place + 1])? {
         return Ok(false);
     }
-    has_few_calls(alloc, &decls[..place])
+    has_few_calls(maker, &decls[..place])
 }
 
 /// Whether the thread with which there are first too many calls begins there.
-fn are_calls_past(alloc: Global, decls: &[Decl], at: usize) -> Result<bool, NoMemory>
+fn are_calls_past(maker: TableMaker, decls: &[Decl], at: usize) -> Result<bool, NoMemory>
     ensures { IfOk result (λ is. Decides is (IsFirstOver calls_of (map decl_of decls.now) at CALL_LIMIT)) }
 {
     for (place, decl) in decls.iter().enumerate() {
         if begins_there(at, decl) {
-            if ends_few_calls(alloc, decls, place)? {
+            if ends_few_calls(maker, decls, place)? {
                 return Ok(true);
             }
         }
@@ -180,11 +180,7 @@ fn are_calls_past(alloc: Global, decls: &[Decl], at: usize) -> Result<bool, NoMe
 }
 
 /// The limit on objects, cells or calls that is passed there.
-pub fn amount_passed(
-    alloc: Global,
-    symbols: &SymbolTable,
-    at: usize,
-) -> Result<Option<&'static str>, NoMemory>
+pub fn amount_passed(symbols: &SymbolTable, at: usize) -> Result<Option<&'static str>, NoMemory>
     ensures { IfOk result (FoundWords (IsAmountPassed (decls_of symbols.now) at)) }
 {
     if is_first_over(symbols, Amount::Objects, at) {
@@ -193,7 +189,7 @@ pub fn amount_passed(
     if is_first_over(symbols, Amount::Cells, at) {
         return Ok(Some("a program has at most 262144 cells"));
     }
-    if are_calls_past(alloc, symbols.items(), at)? {
+    if are_calls_past(symbols.maker(), symbols.items(), at)? {
         return Ok(Some(
             "the threads of a program make at most 100000 calls, each repeat multiplied out",
         ));

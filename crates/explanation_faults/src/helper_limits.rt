@@ -1,18 +1,20 @@
 //! Which limit on what helpers call is passed.
 
-ghost use Rattle.std.specs.Prelude.{◌≡◌, ◌≤◌, Decides, IfOk, length};
+ghost use Rattle.std.specs.Prelude.{◌≡◌, Decides, IfOk};
 ghost use Rattle.core_lang_calls.specs.Graphs.{bodies_of};
-ghost use Rattle.core_lang_calls.specs.Working.Tables.{extent_at};
 ghost use Rattle.resolution.specs.CallGraphs.{helper_bodies};
 ghost use Rattle.types_symbols.specs.{decls_of};
-ghost use Rattle.explanation_faults.specs.Working.HelpersFound.{IsDeepThere, IsFirstThere, all_helpers, is_deep};
+ghost use Rattle.explanation_faults.specs.Working.HelpersFound.{IsDeepThere, IsFirstThere, all_helpers};
 ghost use Rattle.explanation_faults.specs.Working.Values.{IsHelperIfTold};
 
-use core_lang_calls::extents::{DEPTH_LIMIT, Extent, Extents};
-use core_lang_calls::graph::{Body, HELPER_LIMIT};
+use core_lang_calls::callers::Callers;
+use core_lang_calls::extents::is_too_deep;
+use core_lang_calls::graph::Body;
+use core_lang_calls::settling::Extents;
 use resolution::body_limits::BodyLimits;
 use source::fault::Code;
 use source::memory::NoMemory;
+use source::mistake::Mistake;
 use std::alloc::Global;
 use syntax::tree::Decl;
 use types_calls::program::note_calls;
@@ -38,42 +40,28 @@ fn helper_bodies(reader: &Reader) -> Result<Vec<Body>, NoMemory>
     Ok(bodies)
 }
 
-/// How deep the calls of a helper go, by a table.
-fn depth_of(table: &[Extent], helper: usize) -> usize
-    ensures { result ≡ (extent_at table.now helper).depth }
-{
-    match table.get(helper) {
-        Some(extent) => extent.depth,
-        None => 0,
-    }
-}
-
-/// Whether a depth, of one of so many helpers, is too great, and has an end.
-fn is_deep(depth: usize, helpers: usize) -> bool
-    ensures { result ≡ is_deep depth helpers }
-{
-    depth > DEPTH_LIMIT && depth <= helpers
-}
-
 /// Whether one of the helpers is declared there, and is too deep.
 fn is_deep_there(alloc: Global, helpers: &[Body], at: usize) -> Result<bool, NoMemory>
-    requires { length helpers.now ≤ 256 }
     ensures { IfOk result (λ is. Decides is (IsDeepThere (bodies_of helpers.now) at)) }
 {
-    let extents = Extents::new(alloc, helpers)?;
+    let callers = Callers::new(alloc, helpers)?;
+    let extents = Extents::new(alloc, &callers)?;
     for (number, helper) in helpers.iter().enumerate() {
-        if helper.start == at && is_deep(depth_of(&extents.table, number), helpers.len()) {
+        if helper.start == at && is_too_deep(&extents.table, number) {
             return Ok(true);
         }
     }
     Ok(false)
 }
 
-/// Whether the first fault of what sections and helpers call is one of a limit there.
+/// Whether the first fault of what sections and helpers call is one of a limit there. What comes behind it is not looked for.
 fn is_first_there(alloc: Global, symbols: &SymbolTable, at: usize) -> Result<bool, NoMemory>
     ensures { IfOk result (λ is. Decides is (IsFirstThere (decls_of symbols.now) at)) }
 {
-    let mut least = None;
+    let mut least = Some(Mistake {
+        code: Code::RecursiveHelper,
+        start: at,
+    });
     note_calls(alloc, symbols, &mut least)?;
     match least {
         Some(found) => Ok(found.code == Code::LimitExceeded && found.start == at),
@@ -90,9 +78,8 @@ pub fn helper_limit(
     ensures { IfOk result (IsHelperIfTold (decls_of symbols.now) at) }
 {
     core_lang_calls::laws::listed_faults();
-    let bodies = helper_bodies(&Reader { alloc, symbols })?;
-    let helpers = &bodies[..bodies.len().min(HELPER_LIMIT)];
-    if is_deep_there(alloc, helpers, at)? {
+    let helpers = helper_bodies(&Reader { alloc, symbols })?;
+    if is_deep_there(alloc, &helpers, at)? {
         return Ok(Some("calls of helpers go at most 8 deep"));
     }
     if is_first_there(alloc, symbols, at)? {

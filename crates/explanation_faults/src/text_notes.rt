@@ -14,6 +14,7 @@ use parser::{find_tree, one_tree};
 use source::fault::{Code, Fault, Refusal};
 use source::memory::NoMemory;
 use std::alloc::Global;
+use types_symbols::names::TableMaker;
 use types_symbols::table::SymbolTable;
 
 /// How many bytes a source may have.
@@ -81,6 +82,10 @@ pub fn fault_notes(alloc: Global, text: &[u8], fault: &Fault) -> Result<Vec<Note
         return return_notes(alloc, &tree.decls, fault.start);
     }
     let mut least = None;
-    let symbols = SymbolTable::new(alloc, &tree.decls, &mut least)?;
+    let maker = TableMaker {
+        alloc,
+        hashing: tree.hashing,
+    };
+    let symbols = SymbolTable::new(maker, &tree.decls, &mut least)?;
     tree_notes(alloc, &tokens, &symbols, fault)
 }

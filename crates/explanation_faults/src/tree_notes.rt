@@ -222,7 +222,7 @@ impl<'a> Faulty<'a> {
         if let Some(words) = limit_passed(alloc, self.symbols.items(), self.at)? {
             return Ok(Some(words));
         }
-        if let Some(words) = amount_passed(alloc, self.symbols, self.at)? {
+        if let Some(words) = amount_passed(self.symbols, self.at)? {
             return Ok(Some(words));
         }
         if let Some(_) = passed_member(self.symbols, Sought::FinalTooMany(self.at)) {

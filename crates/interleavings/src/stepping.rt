@@ -73,8 +73,8 @@ fn ask<'p>(manager: &mut Manager<'p>, asking: Asking<'p>) -> (State<'p>, Event)
 {
     let lock = asking.lock();
     match asking.ask(manager) {
-        Asked::Granted(next) => (state_of(next), Event::Got(lock)),
-        Asked::Held(holder, asking) => (State::Asking(asking), Event::Waits(lock, holder)),
+        Asked::Got(next) => (state_of(next), Event::Got(lock)),
+        Asked::Waits(asking, holder) => (State::Asking(asking), Event::Waits(lock, holder)),
     }
 }
 
@@ -92,7 +92,7 @@ fn end<'p>(manager: &mut Manager<'p>, ended: Ended<'p>) -> (State<'p>, Event)
 pub fn call_at(program: &Program, thread: u32, step: usize) -> Option<&Call>
     ensures { MatchOption result (HasNoCall program.now thread step) (λ call. IsCall program.now thread step call.now) }
 {
-    let thread = program.typed().threads.get(thread as usize)?;
+    let thread = program.expanded().threads.get(thread as usize)?;
     thread.calls.get(step)
 }
 

@@ -63,7 +63,7 @@ impl<'p> World<'p> {
         worlds::laws::steps_keep_sound();
         worlds::laws::worlds_stay_ready();
         history::laws::one_entry_more();
-        let typed = program.typed();
+        let typed = program.expanded();
         let manager = Manager::open(alloc, program.layout(), program.ranks())?;
         manager.keeps_its_rules();
         let states = all_ready(alloc, typed.threads.len())?;
@@ -240,7 +240,7 @@ pub fn run<'p>(alloc: Global, program: &'p Program, turns: &[Turn]) -> Result<Wo
     ensures headline { OnOk result (Headline program.now (steps_of turns.now)) }
 {
     worlds::laws::every_run();
-    let _typed = program.typed();
+    let _typed = program.expanded();
     let mut world = World::open(alloc, program)?;
     world.take_turns(alloc, turns)?;
     Ok(world)

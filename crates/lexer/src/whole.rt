@@ -74,7 +74,7 @@ pub fn lex(alloc: Global, text: &[u8]) -> Result<Vec<Token>, Refusal>
         return Err(Refusal::Fault(Fault::at(alloc, Code::LimitExceeded, 0)));
     }
     let mut tokens = Vec::new(alloc);
-    let mut names = Interner::new(alloc)?;
+    let mut names = Interner::new(alloc, text);
     let mut rest = text;
     'tokens: loop {
         let here = after_gap(rest);

@@ -4,7 +4,8 @@
 //! - [`manager::Manager`]: opens sections, grants locks, ends sections.
 //! - [`ticket::Ticket`], [`ticket::Receipt`]: the right to ask for a section's locks and to end it, and what ending
 //!   it gives.
-//! - [`response::Response`]: what a request is answered.
+//! - [`answer::Answer`]: what a request is answered.
+//! - [`no_circle`]: where each noted ask is greater than all that its thread holds, nobody waits in a circle.
 //!
 //! To it a section is a transaction under strict two-phase locking: it takes locks as it goes on, and gives all of them
 //! back at its end, when its entry goes into the history.
@@ -14,6 +15,7 @@
 //! the code relies on; nobody has to believe them.
 #![tactic(auto)]
 
+pub mod answer;
 mod asking;
 mod committed;
 mod fitting;
@@ -22,9 +24,10 @@ pub mod manager;
 mod opening;
 mod places;
 mod queue;
-pub mod response;
 mod sections;
 mod session;
 pub mod ticket;
 mod values;
 mod writes;
+
+pub use locks::laws::no_circle;

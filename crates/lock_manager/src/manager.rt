@@ -8,13 +8,13 @@ ghost use Rattle.lock_manager.specs.Manager.{session_of, IsQuiet};
 ghost use Rattle.lock_manager.specs.Working.Managers.{IsLayout, IsKept, opened, waiting_for, holder_of, cell_of, askers_of};
 ghost use Rattle.lock_manager.specs.Working.Calls.{Begins, Answers, CanAsk, Knows, Fits, CanRelease, Releases, GivesUp, AreOf, AreItsGrants};
 
+use crate::answer::Answer;
 use crate::asking::comes_after;
 use crate::committed::Committed;
 use crate::fitting::{all_granted, all_held};
 use crate::giving::{let_go, take};
 use crate::places::LockPlace;
 use crate::queue::{Queue, Waiter};
-use crate::response::Response;
 use crate::sections::Sections;
 use crate::ticket::{Receipt, Spare, Ticket};
 use core_lang::value::Value;
@@ -113,7 +113,7 @@ impl<'p> Manager<'p> {
     }
 
     /// Asks for a lock.
-    pub fn request(&mut self, ticket: &mut Ticket, lock: Lock) -> Response
+    pub fn request(&mut self, ticket: &mut Ticket, lock: Lock) -> Answer
         requires known { Knows self.old ticket.old }
         requires asks { CanAsk self.old ticket.old lock }
         ensures { Answers self.old ticket.old lock result self.new ticket.new }
@@ -126,13 +126,13 @@ impl<'p> Manager<'p> {
                 self.queue.leave(thread);
                 self.sections.grant(thread, lock);
                 ticket.grant(lock);
-                Response::Granted(Grant::new(lock, cells))
+                Answer::Granted(Grant::new(lock, cells))
             }
             Err(holder) => {
                 self.queue.wait(ticket.ask(), Waiter { thread, lock });
                 self.sections.note(thread, lock);
                 ticket.note(lock);
-                Response::Held(holder)
+                Answer::Held(holder)
             }
         }
     }

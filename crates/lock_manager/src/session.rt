@@ -57,6 +57,13 @@ impl Session {
         Ok(())
     }
 
+    /// What it can need at most.
+    pub fn room(&self) -> Room
+        ensures { result ≡ self.now.room }
+    {
+        self.room
+    }
+
     /// The memory that it took.
     pub fn into_memory(self) -> Vec<Lock> {
         let Session {

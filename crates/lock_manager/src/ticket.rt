@@ -1,12 +1,14 @@
 //! Tickets and receipts, and the memory that they take.
 
-ghost use Rattle.std.specs.Prelude.{◌≡◌, ◌<◌, ◌≤◌, length, slice_get, IfOk, OnOk, vec_len, vec_capacity};
+ghost use Rattle.std.specs.Prelude.{◌≡◌, ◌<◌, ◌≤◌, ◌↔◌, length, slice_get, IfOk, IsTrue, OnOk, vec_len, vec_capacity};
+ghost use Rattle.history.specs.{IsWithin};
 ghost use Rattle.lock_manager.specs.Working.Sessions.{fresh, with_lock, with_ask};
 ghost use Rattle.lock_manager.specs.Working.Ties.{HasWakingRoom};
 ghost use Rattle.lock_manager.specs.Working.Calls.{ticket_with, first_waiters};
 
 use crate::queue::Queue;
 use crate::session::Session;
+use history::kept::Kept;
 use layout::room::Room;
 use locks::lock::Lock;
 use source::memory::NoMemory;
@@ -151,6 +153,18 @@ impl Ticket {
         ensures { result.now ≡ self.now.session.held }
     {
         self.pass.session.held()
+    }
+
+    /// Whether the begin made room for such an entry: with what [`crate::manager::Manager::fits`] tests, that is all that
+    /// [`crate::manager::Manager::release`] asks for.
+    pub fn has_room_for(&self, entry: &Kept<'_>) -> bool
+        ensures { IsTrue result ↔ IsWithin self.now.session.room.cells entry.now }
+    {
+        let cells = self.pass.session.room().cells;
+        entry.arguments().len() <= 8
+            && entry.reads().len() <= cells
+            && entry.writes().len() <= cells
+            && entry.prints().len() <= 256
     }
 }
 

@@ -1,13 +1,14 @@
 //! Ranks of lock classes, and cycles.
 
 use source::memory::NoMemory;
+use thiserror::Error;
 
 /// For each lock class, by number, its rank: its place in the order in which sections take locks.
 pub type Ranks = Vec<u32>;
 
 /// An edge of the order of classes: from a class to another, and what makes it. In a cycle it leads to the class of the
 /// next edge, or from the last to the first.
-#[derive(Clone, Copy)]
+#[derive(Clone, Copy, Debug)]
 pub struct Edge {
     /// The class, an index into [`core_lang::typed::Typed::classes`].
     pub class: usize,
@@ -29,18 +30,20 @@ pub struct ClassPair {
 }
 
 /// Lock classes of which each has to come before the next, and the last before the first.
-#[derive(Drop)]
+#[derive(Debug, Drop)]
 pub struct Cycle {
     /// One or more edges, from distinct classes.
     pub edges: Vec<Edge>,
 }
 
 /// Why there are no ranks.
-#[derive(Drop)]
+#[derive(Debug, Drop, Error)]
 pub enum OrderRefusal {
     /// The classes have no order.
+    #[error("lock order cycle")]
     Cycle(Cycle),
     /// A growth was refused.
+    #[error("no memory")]
     NoMemory,
 }
 

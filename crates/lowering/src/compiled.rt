@@ -127,7 +127,7 @@ impl Program {
 
     /// The program as it was accepted, with its helpers.
     #[inline]
-    pub fn accepted(&self) -> &Typed
+    pub fn typed(&self) -> &Typed
         ensures accepted { result.now ≡ self.now.accepted }
         ensures compiled { IsCompiled self.now }
     {
@@ -136,7 +136,7 @@ impl Program {
 
     /// The program with its helpers written out, which is what runs. That it is compiled is what later layers stand on.
     #[inline]
-    pub fn typed(&self) -> &Typed
+    pub fn expanded(&self) -> &Typed
         ensures program { result.now ≡ self.now.program }
         ensures compiled { IsCompiled self.now }
     {
@@ -148,7 +148,7 @@ impl Program {
     pub fn threads(&self) -> u32
         ensures { result ≡ length self.now.program.threads.items }
     {
-        self.typed().threads.len() as u32
+        self.expanded().threads.len() as u32
     }
 
     /// The lock paths of its sections.

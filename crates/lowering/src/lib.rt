@@ -3,7 +3,8 @@
 //! - [`compiled::Program`]: a compiled program.
 //! - [`lower`]: the code of each section. [`listing`]: its listing, a line for each instruction.
 //! - [`rooms`]: what one run of each section can need at most.
-//! - [`laws`]: the code of a program behaves as its sections; what is taken where depends on the section and the ranks alone.
+//! - [`laws`]: the code of a program behaves as its sections, and calls of the program with its helpers written out run as those
+//!   of the program that was accepted.
 //!
 //! `specs/` says what the code of a program is (`Lowered`), what its sections need (`Rooms`), and what a compiled program is
 //! (`Plans`, `Compiled`). `NeedLists` only says what needs are over lists; nobody has to believe it.

@@ -18,7 +18,7 @@ use std::alloc::Global;
 pub fn listing(alloc: Global, program: &Program) -> Result<Rope, NoMemory>
     ensures { IfOk result (λ listed. rope_text listed ≡ listing_text program.now.program program.now.lists) }
 {
-    let typed = program.typed();
+    let typed = program.expanded();
     let paths = program.paths();
     let code = program.code();
     let lister = Lister::new(alloc, typed)?;

@@ -1,6 +1,6 @@
 //! The values of all cells.
 
-ghost use Rattle.std.specs.Prelude.{◌≡◌, [], IfOk};
+ghost use Rattle.std.specs.Prelude.{◌≡◌, ◌<◌, [], IfOk, Some, length, slice_get};
 ghost use Rattle.std.specs.Bool.{Decides};
 ghost use Rattle.core_lang.specs.Serial.{opening_heap};
 ghost use Rattle.core_lang.specs.Typing.{HasCells};
@@ -60,6 +60,15 @@ impl Heap {
         ensures { result.now ≡ self.now }
     {
         self.cells.as_slice()
+    }
+
+    /// What a cell holds.
+    #[inline]
+    pub fn get(&self, cell: usize) -> Value
+        requires { cell < length self.now }
+        ensures { slice_get self.now cell ≡ Some result }
+    {
+        self.cells[cell]
     }
 
     /// Whether the heap has as many cells as a program.

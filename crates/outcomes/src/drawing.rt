@@ -160,7 +160,7 @@ impl Search<'_> {
                 done: Vec::new(alloc),
                 order: Vec::new(alloc),
             },
-            ends: Layer::new(alloc),
+            ends: Layer::new(alloc, self.hashing),
             trail: Trail::new(alloc),
         };
         for _ in 0..self.most {

@@ -1,46 +1,47 @@
 //! Numbers by which states are found.
 
 ghost use Rattle.std.specs.Prelude.{◌≡◌};
-ghost use Rattle.outcomes.specs.Working.Hashes.{hash, mixed, mixed_all, word_of, mixed_cells};
+ghost use Rattle.outcomes.specs.Working.Hashes.{hash, mixed, mixed_all, word_of};
 
 use core_lang::value::Value;
+use std::hash::{DefaultHasher, Hasher};
 
-/// What a number is multiplied by for each further word: odd, with bits all over.
-pub(crate) const FACTOR: u64 = 0x9e37_79b9_7f4a_7c15;
-
-fn mixed(hash: u64, word: u64) -> u64
-    ensures { result ≡ mixed hash word }
+fn mixed(hasher: DefaultHasher, word: u64) -> DefaultHasher
+    ensures { result ≡ mixed hasher word }
 {
-    hash.wrapping_mul(FACTOR).wrapping_add(word)
+    let mut hasher = hasher;
+    hasher.write_u64(word);
+    hasher
 }
 
+// Values of one cell are of one type, so a number and a reference need not differ.
 fn word_of(value: Value) -> u64
     ensures { result ≡ word_of value }
 {
     match value {
-        Value::Int(n) => n.unsigned_abs(),
+        Value::Int(n) => n.cast_unsigned(),
         Value::Ref(Some(object)) => u64::from(object),
         Value::Ref(None) => 1 << 32,
     }
 }
 
-fn mixed_counts(done: &[usize]) -> u64
-    ensures { result ≡ mixed_all 0 done.now }
+fn mixed_counts(start: DefaultHasher, done: &[usize]) -> DefaultHasher
+    ensures { result ≡ mixed_all start done.now }
 {
-    let mut hash = 0;
+    let mut hasher = start;
     for count in done {
-        hash = mixed(hash, *count as u64);
+        hasher = mixed(hasher, *count as u64);
     }
-    hash
+    hasher
 }
 
-/// The number of a state: alike states have the same.
-pub(crate) fn hash(done: &[usize], cells: &[Value]) -> u64
-    ensures { result ≡ hash done.now cells.now }
+/// The number of a state, by a hasher with the keys: alike states have the same.
+pub(crate) fn hash(start: DefaultHasher, done: &[usize], cells: &[Value]) -> u64
+    ensures { result ≡ hash start done.now cells.now }
 {
-    let mut hash = mixed_counts(done);
+    let mut hasher = mixed_counts(start, done);
     for cell in cells {
-        hash = mixed(hash, word_of(*cell));
+        hasher = mixed(hasher, word_of(*cell));
     }
-    hash
+    hasher.finish()
 }

@@ -6,9 +6,11 @@ ghost use Rattle.outcomes.specs.Working.States.{reached_of, orders_to, IsOne, Is
 use crate::hash::hash;
 use crate::state::State;
 use core_lang::value::Value;
+use source::keyed::KeyedState;
 use source::memory::NoMemory;
 use std::alloc::Global;
 use std::collections::HashMap;
+use std::hash::{BuildHasher, DefaultHasher};
 use std::marker::Model;
 
 /// A state, and the last one before it that has the same hash.
@@ -25,6 +27,8 @@ pub struct Layer {
     // By hash: the last state that has it.
     places: HashMap<u64, usize>,
     total: u64,
+    // Before any word of a state.
+    start: DefaultHasher,
 }
 
 impl Model for Layer {
@@ -36,18 +40,19 @@ impl Model for Layer {
 
     ghost view = { λ l. map entry_state l.entries.items };
 
-    ghost invariant = { λ l. IsTable l.entries.items l.places l.total };
+    ghost invariant = { λ l. IsTable l.start l.entries.items l.places l.total };
 }
 
 impl Layer {
-    /// No states.
-    pub fn new(alloc: Global) -> Layer
+    /// No states; those that come are hashed by these keys.
+    pub fn new(alloc: Global, hashing: KeyedState) -> Layer
         ensures { result ≡ [] }
     {
         Layer {
             entries: Vec::new(alloc),
             places: HashMap::new(alloc),
             total: 0,
+            start: hashing.build_hasher(),
         }
     }
 
@@ -87,7 +92,7 @@ impl Layer {
         ensures { MatchOption result (NoneIsAlike done.now cells.now self.now)
             (λ number. (number < length self.now) × IsAlike done.now cells.now (at self.now number)) }
     {
-        let mut last = self.places.get(&hash(done, cells)).copied();
+        let mut last = self.places.get(&hash(self.start, done, cells)).copied();
         while let Some(number) = last {
             if self.is_alike(number, done, cells) {
                 return Some(number);
@@ -118,7 +123,7 @@ impl Layer {
         ensures ok { OnOk result (self.new ≡ self.old ++ reached_of state ∷ []) }
         ensures err { OnErr result (self.new ≡ self.old) }
     {
-        let key = hash(&state.done, &state.cells);
+        let key = hash(self.start, &state.done, &state.cells);
         let before = self.places.get(&key).copied();
         let number = self.entries.len();
         let orders = state.orders;

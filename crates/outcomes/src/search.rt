@@ -20,6 +20,7 @@ use core_lang::value::Value;
 use meaning_registers::prepared::Prepared;
 use meaning_trees::draft::Draft;
 use meaning_trees::heap::Heap;
+use source::keyed::KeyedState;
 use source::memory::NoMemory;
 use std::alloc::{AllocError, Global};
 use std::mem;
@@ -34,6 +35,8 @@ pub struct Search<'a> {
     pub turns: u64,
     /// The most orders of which all are looked at.
     pub most: u64,
+    /// How states are hashed: keyed by the program's text.
+    pub hashing: KeyedState,
 }
 
 /// What a search works on: a heap to run calls on, the states of the layer that is made, and the orders that lead to
@@ -271,7 +274,7 @@ impl Search<'_> {
         requires { heap.now ≡ opening_heap self.now.program.now }
         ensures { IfOk result (λ layer. layer ≡ opening_state self.now.program.now ∷ []) }
     {
-        let mut layer = Layer::new(alloc);
+        let mut layer = Layer::new(alloc, self.hashing);
         layer.push(State {
             done: vec![in alloc; 0; self.program.threads.len()]?,
             cells: Vec::from_slice(alloc, heap.cells())?,
@@ -293,7 +296,7 @@ impl Search<'_> {
         let mut layer = self.opening(alloc, &heap)?;
         let mut work = Work {
             heap,
-            next: Layer::new(alloc),
+            next: Layer::new(alloc, self.hashing),
             trail: Trail::new(alloc),
             depth: 0,
         };
@@ -308,7 +311,7 @@ impl Search<'_> {
                     return Ok(Some(Found::Unsettled { order, thread }));
                 }
             }
-            layer = mem::replace(&mut work.next, Layer::new(alloc));
+            layer = mem::replace(&mut work.next, Layer::new(alloc, self.hashing));
         }
         let ends = told(alloc, &layer, &work.trail)?;
         let configurations = work.trail.len();

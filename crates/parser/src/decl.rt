@@ -14,6 +14,7 @@ use crate::stmt::block;
 use crate::stop::Stop;
 use crate::take::{ended_by, is_end_next, is_sign_next, take_name};
 use crate::thread::thread;
+use source::keyed::{Digest, KeyedState};
 use source::span::Span;
 use source::token::{Keyword, Sign, Token};
 use std::alloc::Global;
@@ -172,6 +173,17 @@ fn decls(alloc: Global, tokens: &[Token], room: u32) -> Result<(Vec<Decl>, &[Tok
     Ok((decls, rest))
 }
 
+/// How tables of the names of these tokens hash them.
+fn hashing_of(tokens: &[Token]) -> KeyedState {
+    let mut digest = Digest::new();
+    for token in tokens {
+        if let Token::Name(_, name) = token {
+            digest.add(name.as_bytes());
+        }
+    }
+    digest.into_keys()
+}
+
 /// A program, with at most `room` signs open at a time.
 #[tactic(auto, unfolding(crate::specs::Working::Declarations::program_at))]
 pub fn program(alloc: Global, tokens: &[Token], room: u32) -> Result<Tree, Stop>
@@ -180,7 +192,10 @@ pub fn program(alloc: Global, tokens: &[Token], room: u32) -> Result<Tree, Stop>
     let (decls, rest) = decls(alloc, tokens, room)?;
     match rest {
         [] => Err(Stop::Unexpected(0)),
-        [_] => Ok(Tree { decls }),
+        [_] => Ok(Tree {
+            decls,
+            hashing: hashing_of(tokens),
+        }),
         [_, more @ ..] => Err(Stop::Unexpected(more.len())),
     }
 }

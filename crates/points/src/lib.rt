@@ -22,3 +22,4 @@ pub mod table;
 mod wanted;
 
 pub use section::points;
+pub use wanted::{Held, Wanted};

@@ -13,6 +13,12 @@ use locks::path_set::PathSet;
 use source::memory::NoMemory;
 use std::alloc::Global;
 
+/// For each point of a section, by its number, the lock paths that are wanted there.
+pub type Wanted = Vec<PathSet>;
+
+/// For each point of a section, by its number, the lock paths that are surely held there.
+pub type Held = Vec<PathSet>;
+
 // The rank of a class; 0 where it has none.
 fn rank_of(ranks: &[u32], class: usize) -> u32
     ensures { result ≡ slice_index ranks.now class }
@@ -36,7 +42,7 @@ impl Points {
     /// # Errors
     ///
     /// Want of memory.
-    pub fn wanted(&self, alloc: Global, ranks: &[u32]) -> Result<Vec<PathSet>, NoMemory>
+    pub fn wanted(&self, alloc: Global, ranks: &[u32]) -> Result<Wanted, NoMemory>
         ensures { IfOk result (λ sets. AreWanted self.now ranks.now sets.items) }
     {
         // The laws tell that there is a set for each point, and that each path that is used has a number.
@@ -52,7 +58,7 @@ impl Points {
     /// # Errors
     ///
     /// Want of memory.
-    pub fn surely_held(&self, alloc: Global, ranks: &[u32]) -> Result<Vec<PathSet>, NoMemory>
+    pub fn surely_held(&self, alloc: Global, ranks: &[u32]) -> Result<Held, NoMemory>
         ensures { IfOk result (λ sets. AreSurelyHeld self.now ranks.now sets.items) }
     {
         flow::laws::points_are_counted();
@@ -62,7 +68,7 @@ impl Points {
         Ok(sets)
     }
 
-    fn wanted_by(&self, alloc: Global, ranks: &[u32]) -> Result<Vec<PathSet>, NoMemory>
+    fn wanted_by(&self, alloc: Global, ranks: &[u32]) -> Result<Wanted, NoMemory>
         ensures sets { IfOk result (λ sets. AreWantedBy self.now (ranks_by_path self.now ranks.now) (vec_len sets) sets.items) }
         ensures len { IfOk result (λ sets. vec_len sets ≡ count (skeleton_of self.now.parts.items)) }
     {

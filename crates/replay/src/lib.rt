@@ -1,6 +1,6 @@
 //! Replays recorded histories: what a file tells of a program's run is judged line by line.
 //!
-//! - [`replay`]: the verdict on a recorded history, and why.
+//! - [`replay`]: the verdict on a recorded history of a program. [`judge`]: the same of a prepared one, and why.
 //! - [`Verdict`]: that it is the same, or the first line that differs or is not settled.
 //! - [`Wanted`]: what may come at a line that differs.
 //! - [`laws`]: what holds of every verdict.
@@ -18,6 +18,6 @@ mod told;
 pub mod verdict;
 pub mod wanted;
 
-pub use replaying::replay;
+pub use replaying::{judge, replay};
 pub use verdict::{Judgement, Verdict};
 pub use wanted::Wanted;

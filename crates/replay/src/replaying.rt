@@ -15,6 +15,7 @@ use crate::progress::{Finding, Progress, Seat, Stage};
 use crate::verdict::{Judgement, Verdict};
 use crate::wanted::Wanted;
 use core_lang::typed::Typed;
+use lowering::compiled::Program;
 use meaning_registers::prepared::Prepared;
 use meaning_trees::heap::Heap;
 use source::memory::NoMemory;
@@ -96,13 +97,13 @@ impl Replay<'_> {
     }
 }
 
-/// The verdict on a recorded history of a program, where each execution of a loop may make at most so many turns; and where it
-/// differs, what may come there.
+/// The verdict on a recorded history of a prepared program, where each execution of a loop may make at most so many turns; and
+/// where it differs, what may come there.
 ///
 /// # Errors
 ///
 /// Want of memory.
-pub fn replay(
+pub fn judge(
     alloc: Global,
     prepared: Prepared<'_>,
     recorded: &Recorded<'_>,
@@ -124,4 +125,23 @@ pub fn replay(
     };
     let judgement = replay.judgement(recorded)?;
     Ok(judgement)
+}
+
+/// The verdict on a recorded history of a program, where each execution of a loop may make at most so many turns.
+///
+/// # Errors
+///
+/// Want of memory.
+pub fn replay(
+    alloc: Global,
+    program: &Program,
+    recorded: &Recorded<'_>,
+    turns: u64,
+) -> Result<Verdict, NoMemory>
+    ensures { let format = recorded.now.format in let program = program.now.accepted in
+        IfOk result (Holds turns format program (recorded_lines recorded.now)) }
+{
+    let prepared = Prepared::new(alloc, program.typed(), program.expanded())?;
+    let Judgement { verdict, wanted: _ } = judge(alloc, prepared, recorded, turns)?;
+    Ok(verdict)
 }

@@ -6,6 +6,7 @@
 //! - [`push_entries`]: the lines of the entries of a history.
 //! - [`push_closing`]: the end of a history, the values of all cells.
 //! - [`Record`]: a call, how it ended and what it printed.
+//! - [`read_history`], [`read_steps`]: the files that the commands read.
 //! - [`lines`] and [`pieces`]: single lines of a history, and what they are put together from.
 //!
 //! `specs/History.antt` and `specs/Pieces.antt` define the texts byte for byte.
@@ -18,3 +19,5 @@ pub mod record;
 
 pub use histories::{entries_text, history_text, push_closing, push_entries, unsettled_text};
 pub use record::Record;
+pub use source_histories::read_history;
+pub use source_steps::read_steps;

@@ -6,7 +6,6 @@ ghost use Rattle.lockpaths.specs.Paths.{ArePaths};
 ghost use Rattle.rope.specs.Working.Ropes.{rope_text, Grows};
 ghost use Rattle.report_check.specs.Check.{ranked_class, rank_text, rank_texts};
 
-use crate::places::Cursor;
 use crate::section_text::SectionText;
 use code::path_texts;
 use core_lang::typed::Typed;
@@ -14,6 +13,7 @@ use inserter::placed::Placed;
 use lockpaths::table::Paths;
 use locks::text::push_class;
 use rope::Rope;
+use source::cursor::Cursor;
 use source::memory::NoMemory;
 use std::alloc::{AllocError, Global};
 

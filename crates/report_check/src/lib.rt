@@ -10,7 +10,6 @@
 mod check;
 mod edges;
 mod order;
-pub mod places;
 mod positions;
 mod section_text;
 

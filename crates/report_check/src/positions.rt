@@ -3,7 +3,7 @@
 ghost use Rattle.std.specs.Prelude.{◌≡◌, IfOk};
 ghost use Rattle.report_check.specs.Working.Positions.{IsPositionOf, ArePositionsOf};
 
-use crate::places::Cursor;
+use source::cursor::Cursor;
 use source::memory::NoMemory;
 use std::alloc::Global;
 

@@ -3,12 +3,12 @@
 ghost use Rattle.std.specs.Prelude.{◌≡◌, OnOk};
 ghost use Rattle.rope.specs.Working.Ropes.{AddsTo};
 
-use crate::places::Cursor;
 use core_lang::tree::Section;
 use core_lang::typed::Typed;
 use flow::points::{PointRef, points_of};
 use inserter::placed::SectionLists;
 use rope::Rope;
+use source::cursor::Cursor;
 use source::memory::NoMemory;
 use std::alloc::{AllocError, Global};
 

@@ -29,7 +29,7 @@ fn push_present(out: &mut String, shape: &Shape, value: Option<Value>) -> Result
 fn push_cells(out: &mut String, world: &World<'_>) -> Result<(), AllocError>
     ensures { OnOk result (AddsText (cells_text world.now.plan world.now.world) out.old out.new) }
 {
-    let program = world.program().typed();
+    let program = world.program().expanded();
     for (number, cell) in program.cells.iter().enumerate() {
         push_owner(out, program, cell.owner)?;
         out.push_str(" ")?;
@@ -60,7 +60,7 @@ fn push_thread(out: &mut String, world: &World<'_>, thread: u32) -> Result<(), A
     ensures { OnOk result (AddsText (thread_text world.now.plan world.now.world thread) out.old out.new) }
 {
     write!(out, "{thread} ")?;
-    push_status(out, world.program().typed(), world.state(thread))?;
+    push_status(out, world.program().expanded(), world.state(thread))?;
     out.push_str("\n")
 }
 
@@ -83,7 +83,7 @@ fn push_threads(out: &mut String, world: &World<'_>) -> Result<(), AllocError>
 pub fn simulation_text(alloc: Global, world: &World<'_>) -> Result<String, NoMemory>
     ensures { IfOk result (λ text. string_bytes text ≡ simulation_of world.now.plan world.now.world) }
 {
-    let program = world.program().typed();
+    let program = world.program().expanded();
     let mut out = String::from_str(alloc, "simulation 1\n")?;
     push_entries(&mut out, Format::One, program, world.history())?;
     out.push_str("cells\n")?;

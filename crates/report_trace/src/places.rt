@@ -12,7 +12,7 @@ use code::instr::Instr;
 use code_emission::instructions;
 use core_lang::tree::Section;
 use flow::points::{PointRef, points_of};
-use report_check::places::Cursor;
+use source::cursor::Cursor;
 use source::memory::NoMemory;
 use std::alloc::{AllocError, Global};
 

@@ -18,7 +18,7 @@ use interleavings::coming::Coming;
 use interleavings::world::World;
 use lowering::compiled::Program;
 use report::pieces::{push_invocation, push_lock};
-use report_check::places::Cursor;
+use source::cursor::Cursor;
 use source::memory::NoMemory;
 use source_steps::turn::Turn;
 use std::alloc::{AllocError, Global};
@@ -28,7 +28,7 @@ use worlds::event::Event;
 fn all_places(alloc: Global, text: &[u8], program: &Program) -> Result<Vec<SectionPlaces>, NoMemory>
     ensures { IfOk result (λ places. AreTables text.now program.now places.items) }
 {
-    let typed = program.typed();
+    let typed = program.expanded();
     let code = program.code();
     let mut cursor = Cursor::new(text);
     let mut places = Vec::with_capacity(alloc, typed.sections.len())?;
@@ -69,7 +69,7 @@ impl<'a> Teller<'a> {
         Ok(Teller {
             text,
             program,
-            lister: Lister::new(alloc, program.typed())?,
+            lister: Lister::new(alloc, program.expanded())?,
             places: all_places(alloc, text, program)?,
             moves,
         })
@@ -79,7 +79,7 @@ impl<'a> Teller<'a> {
     fn push_call(&self, out: &mut String, thread: u32, step: usize) -> Result<(), AllocError>
         ensures { OnOk result (AddsText (call_told self.now thread step) out.old out.new) }
     {
-        let program = self.program.typed();
+        let program = self.program.expanded();
         let Some(script) = program.threads.get(thread as usize) else {
             return Ok(());
         };
@@ -98,7 +98,7 @@ impl<'a> Teller<'a> {
     ) -> Result<(), AllocError>
         ensures { OnOk result (AddsText (instruction_told self.now section place) out.old out.new) }
     {
-        let typed = self.program.typed();
+        let typed = self.program.expanded();
         let code = self.program.code();
         let paths = self.program.paths();
         let Some(found) = typed.sections.get(section) else {
@@ -146,11 +146,11 @@ impl<'a> Teller<'a> {
             }
             Event::Got(lock) => {
                 out.push_str("got ")?;
-                push_lock(out, self.program.typed(), lock)
+                push_lock(out, self.program.expanded(), lock)
             }
             Event::Waits(lock, holder) => {
                 out.push_str("waits ")?;
-                push_lock(out, self.program.typed(), lock)?;
+                push_lock(out, self.program.expanded(), lock)?;
                 write!(out, " for {holder}")
             }
             Event::Moved => {

@@ -16,7 +16,7 @@ use Rattle.core_lang_calls.specs.Working.Programs.{IsBodyOf, IsGraphOf}
 use Rattle.resolution.specs.declared.body_limits.BodyLimits.{BodyLimits}
 use Rattle.resolution.specs.Core as core
 use Rattle.resolution.specs.CoreViews.{core_local, core_section, core_of}
-use Rattle.resolution.specs.Limits.{SECTION_LIMIT, section_limits, helper_limits}
+use Rattle.resolution.specs.Limits.{section_limits, helper_limits}
 use Rattle.resolution.specs.Scopes.{count, alike, number_at}
 use Rattle.resolution.specs.Statements.{after_all, ahead_of, entry}
 use Rattle.resolution.specs.Working.TypedSections.{typed_section}
@@ -25,7 +25,6 @@ use Rattle.resolution.specs.Resolved.{Resolves}
 use Rattle.resolution.proofs.FaultlessExpressions.{Clean}
 use Rattle.resolution.proofs.LaidProgram.{sections_are, helpers_are}
 use Rattle.resolution.proofs.LaidScripts.{helper_at}
-use Rattle.resolution.proofs.WithinLimits.{within_limits}
 use Rattle.resolution.proofs.WellSections.{locals_length, section_well_scoped}
 use Rattle.resolution.proofs.CallSites.{all_seen, points_all_seen, body_has}
 use Rattle.resolution.specs.Typing.{TypesLocals, TypesBody, TypesResult, no_result, one_result, TypesSection}
@@ -151,20 +150,6 @@ helper_back all (init x ∷ ds) k b e = let r = helper_back all ds k b e in (suc
 helper_back all (atomic x ∷ ds) k b e = let r = helper_back all ds k b e in (suc r.0, (r.1.0, r.1.1, r.1.2))
 helper_back all (thread x ∷ ds) k b e = let r = helper_back all ds k b e in (suc r.0, (r.1.0, r.1.1, r.1.2))
 
-take_there : {A : Type 0} (n : ℕ) (xs : List A) (k : ℕ) (x : A) → k < n → slice_get xs k ≡ Some x →
-    slice_get (take n xs) k ≡ Some x
-take_there zero xs k x lt e = absurd (omega (arith, lt))
-take_there (suc n) [] k x lt e = absurd cc
-take_there (suc n) (y ∷ xs) zero x lt e = e
-take_there (suc n) (y ∷ xs) (suc k) x lt e = take_there n xs k x (omega (arith, lt)) e
-
-take_back : {A : Type 0} (n : ℕ) (xs : List A) (k : ℕ) (x : A) → slice_get (take n xs) k ≡ Some x →
-    slice_get xs k ≡ Some x
-take_back zero xs k x e = absurd cc
-take_back (suc n) [] k x e = absurd cc
-take_back (suc n) (y ∷ xs) zero x e = e
-take_back (suc n) (y ∷ xs) (suc k) x e = take_back n xs k x e
-
 -- a list that has an item at each place that another one has is as long
 as_long : {A B : Type 0} (xs : List A) (ys : List B) → ((k : ℕ) (x : A) → slice_get xs k ≡ Some x → k < length ys) →
     length xs ≤ length ys
@@ -178,24 +163,16 @@ as_long xs ys h = by_length (length xs) refl
 -- ---- the whole
 
 module _ (decls : List Decl) (clean : Clean decls) (program : Typed) (is : Resolves decls program) where
-  few : length program.shape.helpers.items ≤ SECTION_LIMIT
-  few = let within = within_limits decls clean program is in omega (arith, within.sections)
-
   helper_is : (k : ℕ) (h : the_section.Section) → slice_get program.shape.helpers.items k ≡ Some h →
       (b : Body) × (slice_get (tree_graph decls).helpers k ≡ Some b) × IsBodyOf h b
   helper_is k h at =
       let r = helpers_are decls clean program is k (core_section h)
       (map_at core_section program.shape.helpers.items k h at) in
-      let lt : k < length program.shape.helpers.items = slice_get_within program.shape.helpers.items k h at in
       let b : Body = body_in (ahead_of decls helper_limits r.1) r.1 in
       let there : slice_get (helper_bodies decls decls) k ≡ Some b =
       subst (λ (n : ℕ). slice_get (helper_bodies decls decls) n ≡ Some b) r.3
-      (helper_there decls decls r.0 r.1 r.2) in (
-        b,
-        take_there SECTION_LIMIT (helper_bodies decls decls) k b
-            (omega (arith, lt, few)) there,
-        body_of_section decls helper_limits r.1 h r.4,
-      )
+      (helper_there decls decls r.0 r.1 r.2) in
+      (b, there, body_of_section decls helper_limits r.1 h r.4)
 
   section_is : (k : ℕ) (x : the_section.Section) → slice_get program.sections.items k ≡ Some x →
       (b : Body) × (slice_get (tree_graph decls).sections k ≡ Some b) × IsBodyOf x b
@@ -211,7 +188,7 @@ module _ (decls : List Decl) (clean : Clean decls) (program : Typed) (is : Resol
   helper_known : (k : ℕ) (b : Body) → slice_get (tree_graph decls).helpers k ≡ Some b →
       k < length program.shape.helpers.items
   helper_known k b at =
-      let from = helper_back decls decls k b (take_back SECTION_LIMIT (helper_bodies decls decls) k b at) in
+      let from = helper_back decls decls k b at in
       let x = helper_at decls clean (core_of program) is from.0 from.1.0 from.1.1 in
       let lt : number_at decls from.0 (helper from.1.0) < length (map core_section program.shape.helpers.items) =
       slice_get_within (map core_section program.shape.helpers.items)

@@ -1,12 +1,12 @@
 -- What the sections and helpers of a tree call, as a graph. A call is in it if its name means a helper where it stands, whatever else is
--- wrong there. Behind as many helpers as there may be, no further ones are: the program is over the limit of sections and helpers.
-use Rattle.std.specs.Prelude.{ℕ, ◌+◌, Bool, true, false, List, [], ◌∷◌, ◌++◌, take, length, Option, Some, None, is_some}
+-- wrong there.
+use Rattle.std.specs.Prelude.{ℕ, ◌+◌, Bool, true, false, List, [], ◌∷◌, ◌++◌, length, Option, Some, None, is_some}
 use Rattle.syntax.specs.Trees.{HelperCall, Stmt, let_local, let_owned, let_call, var_local, assign, if_then, while}
 use Rattle.syntax.specs.Trees.{print, return_value, call, Stmts, no_stmts, stmt, Otherwise, no_else, else_do, Section}
 use Rattle.syntax.specs.Trees.{Decl, atomic, helper}
 use Rattle.core_lang_calls.specs.declared.graph.CallSite.{CallSite}
 use Rattle.core_lang_calls.specs.Graphs.{Body, Graph}
-use Rattle.resolution.specs.Limits.{SECTION_LIMIT, section_limits, helper_limits}
+use Rattle.resolution.specs.Limits.{section_limits, helper_limits}
 use Rattle.resolution.specs.Scopes.{Scope, meaning, helper_meant, number_at, entered, left}
 use Rattle.resolution.specs.Statements.{after, after_all}
 use Rattle.resolution.specs.Statements.{ahead_of}
@@ -82,4 +82,4 @@ section_bodies all (atomic s ∷ ds) = body_in (ahead_of all section_limits s) s
 section_bodies all (d ∷ ds) = section_bodies all ds
 
 abbrev pub tree_graph : List Decl → Graph
-tree_graph decls = record { helpers = take SECTION_LIMIT (helper_bodies decls decls); sections = section_bodies decls decls }
+tree_graph decls = record { helpers = helper_bodies decls decls; sections = section_bodies decls decls }

@@ -28,7 +28,7 @@ impl<'a> Asker<'a> {
         let Some(path) = paths.paths.get(number as usize) else {
             return None;
         };
-        path.lock(&self.program.typed().shape, self.locals)
+        path.lock(&self.program.expanded().shape, self.locals)
     }
 
     // Puts the lock of a lock path in, unless it is held.

@@ -47,7 +47,7 @@ impl<'p> Body<'p> {
         ensures machine { self.new.machine.locks ≡ [] }
         ensures grants { self.new.grants.items ≡ [] }
     {
-        let called = &program.typed().sections[section];
+        let called = &program.expanded().sections[section];
         let room = program.room(section);
         self.section = section;
         self.room = room;

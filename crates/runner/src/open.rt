@@ -12,8 +12,8 @@ use crate::body::{Body, Memory};
 use crate::states::Ready;
 use code::instr::Instr;
 use core_lang::value::Outcome;
+use lock_manager::answer::Answer;
 use lock_manager::manager::Manager;
-use lock_manager::response::Response;
 use lock_manager::ticket::Ticket;
 use locks::lock::Lock;
 use lowering::compiled::Program;
@@ -92,7 +92,10 @@ impl<'p> Open<'p> {
         let instruction = self.instruction();
         let body = &mut *self.body;
         let _code = self.program.code();
-        match body.machine.step(&self.program.typed().shape, instruction) {
+        match body
+            .machine
+            .step(&self.program.expanded().shape, instruction)
+        {
             Progress::Moved => None,
             Progress::Asks(point) => {
                 self.pass_on(point);
@@ -122,14 +125,14 @@ impl<'p> Open<'p> {
         manager.keeps_its_rules();
         let lock = self.body.pending[0];
         match manager.request(&mut self.ticket, lock) {
-            Response::Granted(grant) => {
+            Answer::Granted(grant) => {
                 let body = &mut *self.body;
                 body.machine.grant(grant);
                 take_first(&mut body.pending);
                 body.asked = false;
                 None
             }
-            Response::Held(holder) => {
+            Answer::Held(holder) => {
                 self.body.asked = true;
                 Some(holder)
             }

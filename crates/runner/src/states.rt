@@ -123,9 +123,9 @@ pub enum Next<'p> {
 /// What a section that asked for a lock goes on as.
 pub enum Asked<'p> {
     /// It has the lock.
-    Granted(Next<'p>),
-    /// This other thread holds the lock.
-    Held(u32, Asking<'p>),
+    Got(Next<'p>),
+    /// It waits for the lock, which this other thread holds.
+    Waits(Asking<'p>, u32),
 }
 
 impl<'p> Ready<'p> {
@@ -528,8 +528,8 @@ impl<'p> Asking<'p> {
     {
         let Asking { mut open } = self;
         match open.ask(manager) {
-            None => Asked::Granted(named(open)),
-            Some(holder) => Asked::Held(holder, Asking { open }),
+            None => Asked::Got(named(open)),
+            Some(holder) => Asked::Waits(Asking { open }, holder),
         }
     }
 

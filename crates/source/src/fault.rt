@@ -50,7 +50,7 @@ pub enum Code {
     MisplacedReturn,
     /// `E19`: a lock where a value is wanted.
     LockAsValue,
-    /// `E20`: a helper that calls itself. Kept for a later language.
+    /// `E20`: a helper that calls itself, by itself or through others.
     RecursiveHelper,
 }
 

@@ -5,6 +5,7 @@ ghost use Rattle.source_histories.specs.declared.refusal.HistoryRefusal.TheVaria
 ghost use Rattle.source_histories.specs.Refusals.{code_name, code_text};
 
 use std::alloc::{AllocError, AllocFailed};
+use thiserror::Error;
 
 /// What is wrong with a line. The documents call each by its printed name, `H1` to `H4`.
 #[derive(Clone, Copy, Debug, PartialEq, Eq)]
@@ -55,11 +56,13 @@ pub struct HistoryFault {
 }
 
 /// Why a file gives no history.
-#[derive(Clone, Copy, Debug, PartialEq, Eq)]
+#[derive(Clone, Copy, Debug, PartialEq, Eq, Error)]
 pub enum HistoryRefusal {
     /// A line is faulty.
+    #[error("{} {} at line {}", .0.code.name(), .0.code.text(), .0.line)]
     Fault(HistoryFault),
     /// A growth was refused.
+    #[error("no memory")]
     NoMemory,
 }
 

@@ -5,6 +5,7 @@ ghost use Rattle.source_steps.specs.declared.refusal.StepsRefusal.TheVariants.{N
 ghost use Rattle.source_steps.specs.Steps.{code_name, code_text};
 
 use std::alloc::{AllocError, AllocFailed};
+use thiserror::Error;
 
 /// What is wrong with an item. The documents call each by its printed name, `S1` to `S3`.
 #[derive(Clone, Copy, Debug, PartialEq, Eq)]
@@ -51,11 +52,13 @@ pub struct StepsFault {
 }
 
 /// Why a steps file gives no turns.
-#[derive(Clone, Copy, Debug, PartialEq, Eq)]
+#[derive(Clone, Copy, Debug, PartialEq, Eq, Error)]
 pub enum StepsRefusal {
     /// An item is faulty.
+    #[error("{} {} at byte {}", .0.code.name(), .0.code.text(), .0.start)]
     Fault(StepsFault),
     /// A growth was refused.
+    #[error("no memory")]
     NoMemory,
 }
 

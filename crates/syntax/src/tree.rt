@@ -1,5 +1,6 @@
 //! The trees of programs.
 
+use source::keyed::KeyedState;
 use source::span::Span;
 use source::token::Number;
 use std::rc::RcStr;
@@ -8,6 +9,8 @@ use std::rc::RcStr;
 #[derive(Drop)]
 pub struct Tree {
     pub decls: Vec<Decl>,
+    /// How tables of the tree's names hash them: keyed by all names of the text. It is no part of what the tree says.
+    pub hashing: KeyedState,
 }
 
 /// A name, and its first byte. It stands up to where its text ends. The names of one program that

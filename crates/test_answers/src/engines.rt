@@ -1,7 +1,7 @@
 //! What the engines of the crate `driver` answer for a text.
 
 use driver::{
-    Looking, Sink, SourceText, Status, Streams, check, find_outcomes, list, order_graph, serial,
+    Looking, Sink, SourceText, Status, Streams, check, find_outcomes, listing, order_graph, serial,
     simulate,
 };
 use source::memory::NoMemory;
@@ -35,7 +35,7 @@ fn answer(alloc: Global, engine: Engine<'_>, text: &str) -> Result<Outcome, NoMe
     let status = match engine {
         Engine::Check | Engine::Lists => check(alloc, &mut source, &mut streams),
         Engine::Graph => order_graph(alloc, &mut source, &mut streams),
-        Engine::Listing => list(alloc, &mut source, &mut streams),
+        Engine::Listing => listing(alloc, &mut source, &mut streams),
         Engine::Serial(turns) => serial(alloc, turns, &mut source, &mut streams),
         Engine::Outcomes => find_outcomes(alloc, LOOKING, &mut source, &mut streams),
         Engine::Simulate(steps) => {

@@ -70,7 +70,7 @@ fn of_order(alloc: Global, text: &str) -> Result<String, NoMemory> {
     };
     let told = Analysed {
         text,
-        program: program.typed(),
+        program: program.expanded(),
     };
     told.order_said(alloc, program.paths(), program.ranks())
 }

@@ -6,8 +6,8 @@ ghost use Rattle.history.specs.Working.Histories.{IsWithin};
 use core_lang::value::{Outcome, Value};
 use history::kept::{CellValue, Kept};
 use layout::room::Room;
+use lock_manager::answer::Answer;
 use lock_manager::manager::Manager;
-use lock_manager::response::Response;
 use lock_manager::ticket::{Spare, Ticket};
 use locks::lock::Lock;
 use moved_cells::grant::Grant;
@@ -133,11 +133,11 @@ impl<'p> Calls<'p> {
         }
         session.grants.reserve(1)?;
         match self.manager.request(&mut session.ticket, lock) {
-            Response::Granted(grant) => {
+            Answer::Granted(grant) => {
                 session.grants.push(grant).unwrap();
                 write!(&mut self.said, "{thread} is granted the lock\n")?;
             }
-            Response::Held(holder) => {
+            Answer::Held(holder) => {
                 write!(&mut self.said, "{thread} waits for {holder}\n")?;
             }
         }

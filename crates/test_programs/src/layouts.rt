@@ -11,7 +11,7 @@ pub fn laid_out(alloc: Global, program: &Program) -> Result<String, Fail> {
     for lock in layout.locks() {
         write!(&mut said, "lock {} of {}\n", lock.class, lock.object)?;
     }
-    for cell in 0..program.typed().cells.len() {
+    for cell in 0..program.expanded().cells.len() {
         let (lock, offset) = layout.slot_of(cell);
         let size = layout.cells_of(lock);
         let opening = layout.opening(cell);

@@ -2,18 +2,23 @@
 
 use interleavings::world::World;
 use lowering::compiled::Program;
-use source::memory::NoMemory;
+use report_simulation::simulation_text;
 use std::alloc::Global;
 use std::test::Fail;
 use worlds::event::Event;
 
-/// A step of a thread, taken again where its memory is refused (`tests/refused_memory.sh`): what it then is, it would have
-/// been at first.
-fn step_of(alloc: Global, world: &mut World<'_>, thread: u32) -> Result<Event, NoMemory> {
-    match world.step(alloc, thread) {
-        Ok(event) => Ok(event),
-        Err(_) => world.step(alloc, thread),
+/// A step of a thread. Where its memory is refused (`tests/refused_memory.sh`) the world has to be as it was, and the step is
+/// taken again: what it then is, it would have been at first.
+fn step_of(alloc: Global, world: &mut World<'_>, thread: u32) -> Result<Event, Fail> {
+    let before = simulation_text(alloc, world)?;
+    if let Ok(event) = world.step(alloc, thread) {
+        return Ok(event);
     }
+    let after = simulation_text(alloc, world)?;
+    if after.as_str() != before.as_str() {
+        return Err(Fail::new("a step that was refused changed the world"));
+    }
+    Ok(world.step(alloc, thread)?)
 }
 
 /// What so many steps of a thread of the program are, a line for each, and how the thread stands behind each.

@@ -25,7 +25,7 @@ pub fn laid_out(alloc: Global, text: &str) -> Result<String, Fail> {
 /// Which of these calls the program takes.
 pub fn taken(alloc: Global, text: &str, calls: &[(usize, &[Value])]) -> Result<String, Fail> {
     let program = compile(alloc, text.as_bytes())?;
-    test_programs::taken(alloc, program.typed(), calls)
+    test_programs::taken(alloc, program.expanded(), calls)
 }
 
 /// What so many steps of a thread of the program are.

@@ -5,7 +5,7 @@ ghost use Rattle.core_lang.specs.Typing.{HasCells};
 
 use crate::scene::Scene;
 use crate::stage::Stage;
-use crate::told::{say_agreement, say_done, say_history};
+use crate::told::{say_agreement, say_done, say_history, say_refusal};
 use crate::turns::{Answered, Turns, all_at_once, one_by_one, take_turn};
 use compiler::compile;
 use lowering::compiled::Program;
@@ -18,8 +18,8 @@ use workers::closed::{Closed, Strange};
 use workers::seat::Seat;
 use workers::shared::Shared;
 use workers::threads::run_threads;
-use workers_seen::log::NewLog;
 use workers_seen::naming::Naming;
+use workers_seen::row::Row;
 
 /// What is said where the scene's seats call one after another, and so many of them close.
 pub fn in_turn<R: Wait>(
@@ -29,7 +29,8 @@ pub fn in_turn<R: Wait>(
     closing: usize,
 ) -> Result<String, Fail> {
     let program = compile(alloc, scene.text.as_bytes())?;
-    said_in_turn::<Brand, R>(rt, alloc, &program, NewLog::new(), scene, closing)
+    let row = Row::new(alloc)?;
+    said_in_turn::<Brand, R>(rt, alloc, &program, &row, scene, closing)
 }
 
 /// What is said where the scene's seats call from a thread each.
@@ -39,14 +40,24 @@ pub fn side_by_side<R: Threads + Wait + Sync>(
     scene: &Scene<'_>,
 ) -> Result<String, Fail> {
     let program = compile(alloc, scene.text.as_bytes())?;
-    said_side_by_side::<Brand, R>(rt, alloc, &program, NewLog::new(), scene)
+    let row = Row::new(alloc)?;
+    said_side_by_side::<Brand, R>(rt, alloc, &program, &row, scene)
 }
 
 /// What is said where two seats of the scene call one after another, with whether what one has seen begins what the other
 /// has, both ways, before that and after.
 pub fn in_agreement<R: Wait>(rt: &R, alloc: Global, scene: &Scene<'_>) -> Result<String, Fail> {
     let program = compile(alloc, scene.text.as_bytes())?;
-    said_in_agreement::<Brand, R>(rt, alloc, &program, NewLog::new(), scene)
+    let row = Row::new(alloc)?;
+    said_in_agreement::<Brand, R>(rt, alloc, &program, &row, scene)
+}
+
+/// What is said where two are opened over one row, with a seat each, of which the first's calls and then the second's: of
+/// the first's answer and end, and then of the second's.
+pub fn over_one_row<R: Wait>(rt: &R, alloc: Global, scene: &Scene<'_>) -> Result<String, Fail> {
+    let program = compile(alloc, scene.text.as_bytes())?;
+    let row = Row::new(alloc)?;
+    said_over_one_row::<Brand, R>(rt, alloc, &program, &row, scene)
 }
 
 /// What is said where a thread runs each script of the scene's text.
@@ -59,41 +70,41 @@ pub fn by_threads<R: Threads + Wait + Sync>(
     said_by_threads(rt, alloc, &program, scene)
 }
 
-// What `in_turn` says of the program, in the log that `J` names.
+// What `in_turn` says of the program, in the row that `J` names.
 fn said_in_turn<J: Naming, R: Wait>(
     rt: &R,
     alloc: Global,
     program: &Program,
-    log: NewLog,
+    row: &Row,
     scene: &Scene<'_>,
     closing: usize,
 ) -> Result<String, Fail>
     requires program { program.now ≡ J.plan }
-    requires log { log ≡ J.book }
+    requires row { row.now ≡ J.book }
 {
     let count = seats_of(scene)?;
-    let (shared, seats): (Shared<'_, J>, Vec<Seat<'_, J>>) = Shared::open(
-        log, alloc, program, count,
+    let (shared, seats): (Shared<'_, '_, J>, Vec<Seat<'_, '_, J>>) = Shared::open(
+        row, alloc, program, count,
     )?;
     let stage = Stage::new(scene);
     let turns = one_by_one(rt, alloc, &shared, seats, &stage)?;
     with_patience(said_of(alloc, program, shared, turns, closing), &stage)
 }
 
-// What `side_by_side` says of the program, in the log that `J` names.
+// What `side_by_side` says of the program, in the row that `J` names.
 fn said_side_by_side<J: Naming + Send + Sync, R: Threads + Wait + Sync>(
     rt: &R,
     alloc: Global,
     program: &Program,
-    log: NewLog,
+    row: &Row,
     scene: &Scene<'_>,
 ) -> Result<String, Fail>
     requires program { program.now ≡ J.plan }
-    requires log { log ≡ J.book }
+    requires row { row.now ≡ J.book }
 {
     let count = seats_of(scene)?;
-    let (shared, seats): (Shared<'_, J>, Vec<Seat<'_, J>>) = Shared::open(
-        log, alloc, program, count,
+    let (shared, seats): (Shared<'_, '_, J>, Vec<Seat<'_, '_, J>>) = Shared::open(
+        row, alloc, program, count,
     )?;
     let stage = Stage::new(scene);
     let turns = all_at_once(rt, alloc, &shared, seats, &stage)?;
@@ -103,24 +114,57 @@ fn said_side_by_side<J: Naming + Send + Sync, R: Threads + Wait + Sync>(
     )
 }
 
-// What `in_agreement` says of the program, in the log that `J` names.
+// What `in_agreement` says of the program, in the row that `J` names.
 fn said_in_agreement<J: Naming, R: Wait>(
     rt: &R,
     alloc: Global,
     program: &Program,
-    log: NewLog,
+    row: &Row,
     scene: &Scene<'_>,
 ) -> Result<String, Fail>
     requires program { program.now ≡ J.plan }
-    requires log { log ≡ J.book }
+    requires row { row.now ≡ J.book }
 {
-    let (shared, seats): (Shared<'_, J>, Vec<Seat<'_, J>>) = Shared::open(log, alloc, program, 2)?;
+    let (shared, seats): (Shared<'_, '_, J>, Vec<Seat<'_, '_, J>>) = Shared::open(
+        row, alloc, program, 2,
+    )?;
     let Some((mut one, mut other)) = two_of(seats) else {
         return Err(Fail::new("there aren't two seats"));
     };
     let stage = Stage::new(scene);
     let said = agreement(rt, alloc, &shared, &mut one, &mut other, &stage);
     with_patience(said, &stage)
+}
+
+// What `over_one_row` says of the program, in the row that `J` names.
+fn said_over_one_row<J: Naming, R: Wait>(
+    rt: &R,
+    alloc: Global,
+    program: &Program,
+    row: &Row,
+    scene: &Scene<'_>,
+) -> Result<String, Fail>
+    requires program { program.now ≡ J.plan }
+    requires row { row.now ≡ J.book }
+{
+    let (first, seats): (Shared<'_, '_, J>, Vec<Seat<'_, '_, J>>) = Shared::open(
+        row, alloc, program, 1,
+    )?;
+    let (second, others): (Shared<'_, '_, J>, Vec<Seat<'_, '_, J>>) = Shared::open(
+        row, alloc, program, 1,
+    )?;
+    let stage = Stage::new(scene);
+    let turns = one_by_one(rt, alloc, &first, seats, &stage)?;
+    let Turns { seats, answers } = one_by_one(rt, alloc, &second, others, &stage)?;
+    let mut said = said_of(alloc, program, first, turns, 1)?;
+    for answer in answers {
+        say_refusal(&mut said, 0, answer)?;
+    }
+    match second.close(seats) {
+        Ok(closed) => say_history(&mut said, program, &closed)?,
+        Err(Strange) => said.push_str("strange\n")?,
+    }
+    with_patience(Ok(said), &stage)
 }
 
 // What `by_threads` says of a program.
@@ -136,12 +180,12 @@ fn said_by_threads<R: Threads + Wait + Sync>(
 }
 
 // What two seats that call one after another are answered, and how they agree before that and after.
-fn agreement<'p, J: Naming, R: Wait>(
+fn agreement<'p, 'r, J: Naming, R: Wait>(
     rt: &R,
     alloc: Global,
-    shared: &Shared<'p, J>,
-    one: &mut Seat<'p, J>,
-    other: &mut Seat<'p, J>,
+    shared: &Shared<'p, 'r, J>,
+    one: &mut Seat<'p, 'r, J>,
+    other: &mut Seat<'p, 'r, J>,
     stage: &Stage<'_>,
 ) -> Result<String, Fail> {
     let mut said = String::new(alloc);
@@ -153,7 +197,9 @@ fn agreement<'p, J: Naming, R: Wait>(
 }
 
 // The two seats.
-fn two_of<'p, J: Naming>(mut seats: Vec<Seat<'p, J>>) -> Option<(Seat<'p, J>, Seat<'p, J>)> {
+fn two_of<'p, 'r, J: Naming>(
+    mut seats: Vec<Seat<'p, 'r, J>>,
+) -> Option<(Seat<'p, 'r, J>, Seat<'p, 'r, J>)> {
     let other = seats.pop()?;
     let one = seats.pop()?;
     Some((one, other))
@@ -171,11 +217,11 @@ fn seats_of(scene: &Scene<'_>) -> Result<u32, Fail>
 }
 
 // What is said of turns, and of the end where so many of the seats close.
-fn said_of<'p, J: Naming>(
+fn said_of<'p, 'r, J: Naming>(
     alloc: Global,
     program: &Program,
-    shared: Shared<'p, J>,
-    turns: Turns<'p, J>,
+    shared: Shared<'p, 'r, J>,
+    turns: Turns<'p, 'r, J>,
     closing: usize,
 ) -> Result<String, Fail>
     requires { program.now ≡ J.plan }

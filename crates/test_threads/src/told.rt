@@ -20,11 +20,24 @@ pub fn say_done(
     Ok(())
 }
 
-/// Says whether what a seat has seen begins what another has, both ways.
-pub fn say_agreement<'p, J: Naming>(
+/// Says that a thread's call was strange, or else how it ended.
+pub fn say_refusal(
     said: &mut String,
-    one: &Seat<'p, J>,
-    other: &Seat<'p, J>,
+    thread: usize,
+    done: Result<Done, CallRefusal>,
+) -> Result<(), Fail> {
+    if let Err(CallRefusal::Strange) = done {
+        said.push_str("strange\n")?;
+        return Ok(());
+    }
+    say_done(said, thread, done)
+}
+
+/// Says whether what a seat has seen begins what another has, both ways.
+pub fn say_agreement<'p, 'r, J: Naming>(
+    said: &mut String,
+    one: &Seat<'p, 'r, J>,
+    other: &Seat<'p, 'r, J>,
 ) -> Result<(), Fail> {
     let forth = Shared::agree(one, other);
     let back = Shared::agree(other, one);
@@ -37,7 +50,7 @@ pub fn say_history(said: &mut String, program: &Program, closed: &Closed<'_>) ->
     requires { HasCells program.now.program closed.now.values }
 {
     write!(said, "{} entries, left", closed.history().len())?;
-    for cell in 0..program.typed().cells.len() {
+    for cell in 0..program.expanded().cells.len() {
         write!(said, " {:?}", closed.cell(cell))?;
     }
     said.push_str("\n")?;

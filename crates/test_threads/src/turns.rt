@@ -20,19 +20,19 @@ pub type Answered = Result<Done, CallRefusal>;
 
 /// Seats that have called, and what they were answered, in the same order.
 #[derive(Drop)]
-pub struct Turns<'p, J: Naming> {
-    pub seats: Vec<Seat<'p, J>>,
+pub struct Turns<'p, 'r, J: Naming> {
+    pub seats: Vec<Seat<'p, 'r, J>>,
     pub answers: Vec<Answered>,
 }
 
 /// The seats call one after another.
-pub fn one_by_one<'p, J: Naming, R: Wait>(
+pub fn one_by_one<'p, 'r, J: Naming, R: Wait>(
     rt: &R,
     alloc: Global,
-    shared: &Shared<'p, J>,
-    seats: Vec<Seat<'p, J>>,
+    shared: &Shared<'p, 'r, J>,
+    seats: Vec<Seat<'p, 'r, J>>,
     stage: &Stage<'_>,
-) -> Result<Turns<'p, J>, NoMemory> {
+) -> Result<Turns<'p, 'r, J>, NoMemory> {
     let mut after = Vec::new(alloc);
     let mut answers = Vec::new(alloc);
     for seat in seats {
@@ -47,13 +47,13 @@ pub fn one_by_one<'p, J: Naming, R: Wait>(
 }
 
 /// The seats call from a thread each.
-pub fn all_at_once<'p, J: Naming + Send + Sync, R: Threads + Wait + Sync>(
+pub fn all_at_once<'p, 'r, J: Naming + Send + Sync, R: Threads + Wait + Sync>(
     rt: &R,
     alloc: Global,
-    shared: &Shared<'p, J>,
-    seats: Vec<Seat<'p, J>>,
+    shared: &Shared<'p, 'r, J>,
+    seats: Vec<Seat<'p, 'r, J>>,
     stage: &Stage<'_>,
-) -> Result<Turns<'p, J>, NoMemory> {
+) -> Result<Turns<'p, 'r, J>, NoMemory> {
     lowering::laws::programs_are_shared();
     let mut seats = seats;
     let lent = &mut seats;
@@ -88,10 +88,10 @@ pub fn all_at_once<'p, J: Naming + Send + Sync, R: Threads + Wait + Sync>(
 }
 
 /// A seat calls.
-pub fn take_turn<'p, J: Naming, R: Wait>(
+pub fn take_turn<'p, 'r, J: Naming, R: Wait>(
     rt: &R,
-    shared: &Shared<'p, J>,
-    seat: &mut Seat<'p, J>,
+    shared: &Shared<'p, 'r, J>,
+    seat: &mut Seat<'p, 'r, J>,
     stage: &Stage<'_>,
 ) -> Answered {
     let thread = seat.thread();
@@ -105,16 +105,16 @@ pub fn take_turn<'p, J: Naming, R: Wait>(
     answer
 }
 
-fn call<'p, J: Naming, R: Wait>(
+fn call<'p, 'r, J: Naming, R: Wait>(
     rt: &R,
-    shared: &Shared<'p, J>,
-    seat: &mut Seat<'p, J>,
+    shared: &Shared<'p, 'r, J>,
+    seat: &mut Seat<'p, 'r, J>,
     stage: &Stage<'_>,
 ) -> Answered {
     let Some(call) = stage.call_of(seat.thread()) else {
         return Err(CallRefusal::Strange);
     };
-    if !can_call(shared.program().typed(), call.section, call.arguments) {
+    if !can_call(shared.program().expanded(), call.section, call.arguments) {
         return Err(CallRefusal::Strange);
     }
     shared.call(rt, seat, call.section, call.arguments, stage)

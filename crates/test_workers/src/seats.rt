@@ -3,7 +3,9 @@
 use core_lang::value::Value;
 use std::test::Fail;
 use test_files::judging::compare;
-use test_threads::{Hold, Mark, Scene, SeatCall, in_agreement, in_turn, side_by_side};
+use test_threads::{
+    Hold, Mark, Scene, SeatCall, in_agreement, in_turn, over_one_row, side_by_side,
+};
 
 /// One cell that is written and read.
 const PUT_AND_GET: &str = "lock G;
@@ -117,6 +119,27 @@ fn an_entry_without_its_seat_is_strange(rt: HostRuntime) -> Result<(), Fail> {
         said.as_str(),
         "0: Ends at 0
 1: Returns(Int(9)) at 1
+strange
+",
+    )
+}
+
+/// The second has a seat of thread 0 too, and finds an entry in the row that isn't its own.
+#[test]
+fn a_row_with_entries_is_strange(rt: HostRuntime) -> Result<(), Fail> {
+    let alloc = rt.alloc();
+    let scene = Scene {
+        text: PUT_AND_GET,
+        calls: PUT_9_THEN_GET,
+        holds: &[],
+    };
+    let said = over_one_row(&rt, alloc, &scene)?;
+    compare(
+        alloc,
+        said.as_str(),
+        "0: Ends at 0
+1 entries, left Int(9)
+strange
 strange
 ",
     )
@@ -254,6 +277,85 @@ fn who_waits_holds_no_third(rt: HostRuntime) -> Result<(), Fail> {
 1: Ends at 0
 2: Ends at 2
 3 entries, left Int(2) Int(2)
+",
+    )
+}
+
+/// Two cells, and a section that takes both locks.
+const BOTH_LOCKS: &str = "lock G; lock H;
+global int x protected_by(G); global int y protected_by(H);
+atomic both() { x = x + 1; y = y + 1; }
+atomic f() { x = x + 1; }
+atomic g() { y = y + 2; }
+";
+
+/// A section that runs long with its lock.
+const LONG: &str = "lock G; lock H;
+global int x protected_by(G); global int y protected_by(H);
+atomic long() { x = 1; var i: int = 0; while (i < 3000000) { i = i + 1; } x = x + 1; }
+atomic g() { y = y + 2; }
+";
+
+/// Seats 1 and 2 have waited long, each for one of the two locks that seat 0 gives back. Both are woken: seat 1 is held
+/// with its lock until seat 2 is answered.
+#[test]
+fn a_release_wakes_who_waits_for_each_lock(rt: HostRuntime) -> Result<(), Fail> {
+    let alloc = rt.alloc();
+    let third = SeatCall {
+        section: 2,
+        arguments: &[],
+    };
+    let scene = Scene {
+        text: BOTH_LOCKS,
+        calls: &[F, G, third],
+        holds: &[
+            behind(1, 0, 2),
+            behind(2, 0, 2),
+            Hold {
+                thread: 0,
+                at: Mark::Passed(2),
+                other: 1,
+                until: Mark::Passed(0),
+                turns: 0,
+            },
+            Hold {
+                thread: 0,
+                at: Mark::Passed(2),
+                other: 2,
+                until: Mark::Passed(0),
+                turns: 1_000_000,
+            },
+            with_its_lock(1, 2, Mark::Over, 0),
+        ],
+    };
+    let said = side_by_side(&rt, alloc, &scene)?;
+    compare(
+        alloc,
+        said.as_str(),
+        "0: Ends at 0
+1: Ends at 2
+2: Ends at 1
+3 entries, left Int(2) Int(3)
+",
+    )
+}
+
+/// Seat 1 is answered while seat 0 runs long.
+#[test]
+fn a_long_section_holds_no_other(rt: HostRuntime) -> Result<(), Fail> {
+    let alloc = rt.alloc();
+    let scene = Scene {
+        text: LONG,
+        calls: &[F, G],
+        holds: &[behind(1, 0, 1)],
+    };
+    let said = side_by_side(&rt, alloc, &scene)?;
+    compare(
+        alloc,
+        said.as_str(),
+        "0: Ends at 1
+1: Ends at 0
+2 entries, left Int(2) Int(2)
 ",
     )
 }

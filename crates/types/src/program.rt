@@ -36,6 +36,7 @@ use types_declarations::pool::note_missing;
 use types_expressions::wanted::want;
 use types_sections::section::{judge_helper, judge_section};
 use types_symbols::members::Structure;
+use types_symbols::names::TableMaker;
 use types_symbols::scope::{note_target, note_type, type_outside};
 use types_symbols::table::SymbolTable;
 
@@ -297,7 +298,11 @@ pub fn check(alloc: Global, tree: &Tree) -> Result<Typed, Refusal>
     laws::resolved_are_checked();
     laws::without_helpers();
     let mut least = None;
-    let symbols = SymbolTable::new(alloc, &tree.decls, &mut least)?;
+    let maker = TableMaker {
+        alloc,
+        hashing: tree.hashing,
+    };
+    let symbols = SymbolTable::new(maker, &tree.decls, &mut least)?;
     // Behind a fault nothing is built.
     let mut grown = Grown {
         program: nothing(alloc),

@@ -1,6 +1,6 @@
 -- Bodies, one declaration more.
-use Rattle.std.proofs.Common.{◌≡◌, ℕ, zero, suc, ◌+◌, ◌<◌, ◌≤◌, List, [], ◌∷◌, ◌++◌, length, take, map, get_or, refl}
-use Rattle.std.proofs.Common.{sym, ap, ◌∙◌, arith}
+use Rattle.std.proofs.Common.{◌≡◌, ℕ, ◌+◌, ◌<◌, List, [], ◌∷◌, ◌++◌, length, take, map, get_or, refl}
+use Rattle.std.proofs.Common.{sym, ap, ◌∙◌}
 use Rattle.std.proofs.lemmas.List.{map-append, take_more, append-nil}
 use Rattle.syntax.specs.declared.tree.Decl as the_decl
 use Rattle.syntax.specs.declared.tree.Decl.TheVariants as of
@@ -8,7 +8,7 @@ use Rattle.syntax.specs.declared.tree.Section as the_section
 use Rattle.syntax.specs.Trees.{Section, Decl, lock, struct, global, array, pool, init, atomic, helper, thread}
 use Rattle.syntax.specs.Views.{decl_of}
 use Rattle.core_lang_calls.specs.Graphs.{Body, Graph, with_helper, with_section}
-use Rattle.resolution.specs.Limits.{SECTION_LIMIT, section_limits, helper_limits}
+use Rattle.resolution.specs.Limits.{section_limits, helper_limits}
 use Rattle.resolution.specs.Statements.{ahead_of}
 use Rattle.resolution.specs.CallGraphs.{body_in, helper_bodies, section_bodies}
 
@@ -37,21 +37,6 @@ sections_push all (pool x ∷ ds) d = sections_push all ds d
 sections_push all (init x ∷ ds) d = sections_push all ds d
 sections_push all (helper x ∷ ds) d = sections_push all ds d
 sections_push all (thread x ∷ ds) d = sections_push all ds d
-
-pub take_full : {A : Type 0} (n : ℕ) (xs ys : List A) → n ≤ length (take n xs) → take n (xs ++ ys) ≡ take n xs
-take_full zero xs ys le = refl
-take_full (suc n) [] ys le = absurd (omega (arith, le))
-take_full (suc n) (x ∷ xs) ys le = ap (λ l. x ∷ l) (take_full n xs ys (omega (arith, le)))
-
-pub take_room : {A : Type 0} (n : ℕ) (xs : List A) (y : A) → length (take n xs) < n →
-    take n (xs ++ y ∷ []) ≡ take n xs ++ y ∷ []
-take_room zero xs y lt = absurd (omega (arith, lt))
-take_room (suc n) [] y lt = one n
-  where
-    one : (n : ℕ) → take (suc n) (y ∷ []) ≡ y ∷ []
-    one zero = refl
-    one (suc n) = refl
-take_room (suc n) (x ∷ xs) y lt = ap (λ l. x ∷ l) (take_room n xs y (omega (arith, lt)))
 
 -- the declarations up to one, and that one
 decls_next : (items : List the_decl.Decl) (i : ℕ) (d : the_decl.Decl) → i < length items → d ≡ get_or items i d →
@@ -96,42 +81,26 @@ none_section all (of.Atomic x) no_one = absurd (no_one _ refl)
 none_section all (of.Thread x) no_one = refl
 
 -- the helpers up to a declaration
-abbrev pub helpers_to : List Decl → List the_decl.Decl → ℕ → List Body
-helpers_to all items i = take SECTION_LIMIT (helper_bodies all (map decl_of (take i items)))
-
 abbrev pub HelpersSo : List Decl → List the_decl.Decl → Graph → Graph → ℕ → Type 0
-HelpersSo all items first graph i = graph ≡ record first { helpers = helpers_to all items i }
+HelpersSo all items first graph i = graph ≡ record first { helpers = helper_bodies all (map decl_of (take i items)) }
 
 module _ (all : List Decl) (items : List the_decl.Decl) (i : ℕ) (d : the_decl.Decl) (first old new : Graph) (lt : i < length items) (is : d ≡ get_or items i d)
     (so : HelpersSo all items first old i) where
   abbrev before : List Body
   before = helper_bodies all (map decl_of (take i items))
 
-  few_is : length old.helpers ≡ length (take SECTION_LIMIT before)
-  few_is = ap (λ (g : Graph). length g.helpers) so
-
   pub helper_added : (s : Section) (b : Body) → decl_of d ≡ helper s → b ≡ body_in (ahead_of all helper_limits s) s →
-      length old.helpers < SECTION_LIMIT → new ≡ with_helper old b →
-      HelpersSo all items first new (i + 1)
-  helper_added s b seen made room added =
+      new ≡ with_helper old b → HelpersSo all items first new (i + 1)
+  helper_added s b seen made added =
       let next : helper_bodies all (map decl_of (take (i + 1) items)) ≡ before ++ b ∷ [] =
       helpers_next all items i d lt is ∙ ap (λ (x : Decl). before ++ helper_bodies all (x ∷ [])) seen ∙ ap (λ (x : Body). before ++ x ∷ []) (sym made) in
-      let whole : helpers_to all items (i + 1) ≡ take SECTION_LIMIT before ++ b ∷ [] =
-      ap (take SECTION_LIMIT) next ∙ take_room SECTION_LIMIT before b (omega (arith, room, few_is)) in
-      added ∙ ap (λ (g : Graph). with_helper g b) so ∙ ap (λ (l : List Body). record first { helpers = l }) (sym whole)
+      added ∙ ap (λ (g : Graph). with_helper g b) so ∙ ap (λ (l : List Body). record first { helpers = l }) (sym next)
 
-  pub helper_left : new ≡ old → SECTION_LIMIT ≤ length old.helpers → HelpersSo all items first new (i + 1)
-  helper_left same full =
-      let whole : helpers_to all items (i + 1) ≡ take SECTION_LIMIT before =
-      ap (take SECTION_LIMIT) (helpers_next all items i d lt is) ∙ take_full SECTION_LIMIT before (helper_bodies all (decl_of d ∷ [])) (omega (arith, full, few_is)) in
-      same ∙ so ∙ ap (λ (l : List Body). record first { helpers = l }) (sym whole)
-
-  pub helper_none : new ≡ old → ((x : the_section.Section) → d ≡ of.Helper x → ⊥) →
-      HelpersSo all items first new (i + 1)
+  pub helper_none : new ≡ old → ((x : the_section.Section) → d ≡ of.Helper x → ⊥) → HelpersSo all items first new (i + 1)
   helper_none same no_one =
-      let whole : helpers_to all items (i + 1) ≡ take SECTION_LIMIT before =
-      ap (take SECTION_LIMIT) (helpers_next all items i d lt is ∙ ap (λ (l : List Body). before ++ l) (none_helper all d no_one) ∙ append-nil before) in
-      same ∙ so ∙ ap (λ (l : List Body). record first { helpers = l }) (sym whole)
+      let next : helper_bodies all (map decl_of (take (i + 1) items)) ≡ before =
+      helpers_next all items i d lt is ∙ ap (λ (l : List Body). before ++ l) (none_helper all d no_one) ∙ append-nil before in
+      same ∙ so ∙ ap (λ (l : List Body). record first { helpers = l }) (sym next)
 
 -- the sections up to a declaration
 abbrev pub SectionsSo : List Decl → List the_decl.Decl → Graph → Graph → ℕ → Type 0

@@ -31,7 +31,7 @@ impl Reader<'_> {
         ensures { IfOk result (λ body. body_of body ≡ body_within (decls_of self.now.symbols.now) limits (section_of s.now)) }
     {
         let mut walk = Walk {
-            locals: Locals::new(self.alloc, self.result_type(s), limits),
+            locals: Locals::new(self.symbols.maker(), self.result_type(s), limits),
             calls: Vec::new(self.alloc),
             points: 0,
         };

@@ -6,10 +6,10 @@ ghost use Rattle.core_lang_calls.specs.Graphs.{graph_of};
 ghost use Rattle.core_lang_calls.specs.Working.FaultLists.{graph_faults};
 ghost use Rattle.resolution.specs.CallGraphs.{tree_graph};
 ghost use Rattle.types_symbols.specs.{decls_of};
-ghost use Rattle.types_calls.specs.Working.Bodies.{all_sections, first_helpers};
+ghost use Rattle.types_calls.specs.Working.Bodies.{all_sections, all_helpers};
 
 use crate::walk::Reader;
-use core_lang_calls::graph::{CallGraph, HELPER_LIMIT};
+use core_lang_calls::graph::CallGraph;
 use resolution::body_limits::BodyLimits;
 use source::mistake::Mistake;
 use std::alloc::{AllocError, Global};
@@ -29,17 +29,15 @@ const HELPER_LIMITS: BodyLimits = BodyLimits {
 };
 
 impl Reader<'_> {
-    // Adds the helpers, as many as there may be.
+    // Adds the helpers.
     fn add_helpers(&self, graph: &mut CallGraph) -> Result<(), AllocError>
         requires { (graph_of graph.old).helpers ≡ [] }
-        ensures { OnOk result (graph_of graph.new ≡ record (graph_of graph.old) { helpers = first_helpers (decls_of self.now.symbols.now) }) }
+        ensures { OnOk result (graph_of graph.new ≡ record (graph_of graph.old) { helpers = all_helpers (decls_of self.now.symbols.now) }) }
     {
         for d in self.symbols.items() {
             if let Decl::Helper(s) = d {
-                if graph.helpers.len() < HELPER_LIMIT {
-                    let helper = self.body(s, HELPER_LIMITS)?;
-                    graph.add_helper(helper)?;
-                }
+                let helper = self.body(s, HELPER_LIMITS)?;
+                graph.add_helper(helper)?;
             }
         }
         Ok(())

@@ -62,7 +62,7 @@ impl<'a> Checker<'a> {
         Checker {
             alloc,
             symbols,
-            locals: Locals::new(alloc, given, most),
+            locals: Locals::new(symbols.maker(), given, most),
         }
     }
 

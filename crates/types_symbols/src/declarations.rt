@@ -11,7 +11,7 @@ ghost use Rattle.types_symbols.specs.Working.Faults.{name_faults};
 ghost use Rattle.types_symbols.specs.Working.Views.{decls_of, name_seen, struct_in, AreStructures};
 
 use crate::members::Structure;
-use crate::names::Names;
+use crate::names::{Names, TableMaker};
 use crate::totals::SECTION_LIMIT;
 use source::fault::Code;
 use source::mistake::{Mistake, note};
@@ -206,7 +206,7 @@ fn add_name(
 
 /// The names of declarations, and how many of each kind stand ahead of each and are in all.
 fn judge_names(
-    alloc: Global,
+    maker: TableMaker,
     decls: &[Decl],
     least: &mut Option<Mistake>,
 ) -> Result<(Names, Vec<Counts>, Counts), AllocError>
@@ -214,7 +214,8 @@ fn judge_names(
     ensures counts { IfOk result (λ t. AreAhead (counts_from no_counts) (decls_of decls.now) t.1.items t.2) }
     ensures faults { OnOk result (least.new ≡ least_of least.old (twice_faults [] (decls_of decls.now))) }
 {
-    let mut names = Names::new(alloc);
+    let alloc = maker.alloc;
+    let mut names = Names::new(maker);
     let mut ahead = Vec::new(alloc);
     let mut counts = Counts::new();
     for (place, d) in decls.iter().enumerate() {
@@ -229,7 +230,7 @@ fn judge_names(
 
 /// Adds a declaration to the structs if it is one, with tables of its members.
 fn judge_struct<'t>(
-    alloc: Global,
+    maker: TableMaker,
     d: &'t Decl,
     structs: &mut Vec<Structure<'t>>,
     least: &mut Option<Mistake>,
@@ -240,23 +241,23 @@ fn judge_struct<'t>(
     let Decl::Struct(item) = d else {
         return Ok(());
     };
-    let structure = Structure::new(alloc, item, least)?;
+    let structure = Structure::new(maker, item, least)?;
     structs.push(structure)?;
     Ok(())
 }
 
 /// The structs among declarations, by number, with tables of their members.
 fn judge_structs<'t>(
-    alloc: Global,
+    maker: TableMaker,
     decls: &'t [Decl],
     least: &mut Option<Mistake>,
 ) -> Result<Vec<Structure<'t>>, AllocError>
     ensures structs { IfOk result (λ t. AreStructures (decls_of decls.now) t.items) }
     ensures faults { OnOk result (least.new ≡ least_of least.old (struct_faults (decls_of decls.now))) }
 {
-    let mut structs = Vec::new(alloc);
+    let mut structs = Vec::new(maker.alloc);
     for d in decls {
-        judge_struct(alloc, d, &mut structs, least)?;
+        judge_struct(maker, d, &mut structs, least)?;
     }
     Ok(structs)
 }
@@ -264,15 +265,15 @@ fn judge_structs<'t>(
 impl<'t> Declarations<'t> {
     /// The declarations with their tables. Names that are declared twice are noted. The one error is a refused growth.
     pub(crate) fn new(
-        alloc: Global,
+        maker: TableMaker,
         items: &'t [Decl],
         least: &mut Option<Mistake>,
     ) -> Result<Declarations<'t>, AllocError>
         ensures items { IfOk result (λ t. t ≡ items.now) }
         ensures faults { OnOk result (least.new ≡ least_of least.old (name_faults (decls_of items.now))) }
     {
-        let (names, ahead, all) = judge_names(alloc, items, least)?;
-        let structs = judge_structs(alloc, items, least)?;
+        let (names, ahead, all) = judge_names(maker, items, least)?;
+        let structs = judge_structs(maker, items, least)?;
         Ok(Declarations {
             items,
             names,

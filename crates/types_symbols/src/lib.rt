@@ -4,7 +4,7 @@
 //!
 //! - [`table::SymbolTable`]: the declarations with all their tables, and the faults that these show: names declared twice,
 //!   too many of something, a repeated `init`.
-//! - [`types_declarations::Declarations`], [`members::Structure`], [`first_inits::FirstInits`], [`totals::Totals`], [`names::Names`]:
+//! - [`declarations::Declarations`], [`members::Structure`], [`first_inits::FirstInits`], [`totals::Totals`], [`names::Names`]:
 //!   the tables.
 //! - [`scope`]: what a name means, in a section or outside of sections, and the types that are written.
 //! - [`note::note_if`]: notes a fault where there is one.

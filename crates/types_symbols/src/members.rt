@@ -12,7 +12,7 @@ ghost use Rattle.types_symbols.specs.Working.Found.{IsTableOf, AreAhead};
 ghost use Rattle.types_symbols.specs.Working.Counted.{member_count, member_counted, member_counts_from, no_members, field_if};
 ghost use Rattle.types_symbols.specs.Working.Views.{members_seen};
 
-use crate::names::Names;
+use crate::names::{Names, TableMaker};
 use source::fault::Code;
 use source::mistake::{Mistake, note};
 use std::alloc::{AllocError, Global};
@@ -137,7 +137,7 @@ fn note_again(is_first: bool, start: usize, least: &mut Option<Mistake>)
 /// Members with their tables: their names, how many of each kind stand ahead of each and are in all, and how many fields
 /// that are neither locks nor final have a name of their own. Names that two members bear are noted.
 fn judge_members(
-    alloc: Global,
+    maker: TableMaker,
     members: &[Member],
     least: &mut Option<Mistake>,
 ) -> Result<(Names, Vec<MemberCounts>, MemberCounts, usize), AllocError>
@@ -146,7 +146,8 @@ fn judge_members(
     ensures width { IfOk result (λ t. t.3 ≡ fields_from [] (map member_of members.now)) }
     ensures faults { OnOk result (least.new ≡ least_of least.old (member_twice_faults [] (map member_of members.now))) }
 {
-    let mut names = Names::new(alloc);
+    let alloc = maker.alloc;
+    let mut names = Names::new(maker);
     let mut ahead = Vec::new(alloc);
     let mut counts = MemberCounts::new();
     let mut width = 0;
@@ -165,14 +166,14 @@ fn judge_members(
 impl<'t> Structure<'t> {
     /// A struct with its tables. Names that two members bear are noted. The one error is a refused growth.
     pub(crate) fn new(
-        alloc: Global,
+        maker: TableMaker,
         item: &'t Struct,
         least: &mut Option<Mistake>,
     ) -> Result<Structure<'t>, AllocError>
         ensures item { IfOk result (λ s. s ≡ item.now) }
         ensures faults { OnOk result (least.new ≡ least_of least.old (member_twice_faults [] (struct_of item.now).members)) }
     {
-        let (names, ahead, all, width) = judge_members(alloc, &item.members, least)?;
+        let (names, ahead, all, width) = judge_members(maker, &item.members, least)?;
         Ok(Structure {
             item,
             names,

@@ -4,27 +4,41 @@ ghost use Rattle.std.specs.Prelude.{◌≡◌, ℕ, List, IfOk, OnOk, None, is_s
 ghost use Rattle.std.specs.Rc.{rc_str_bytes};
 ghost use Rattle.types_symbols.specs.Working.Found.{found, IsTableWithName};
 
+use indexmap::IndexMap;
+use source::keyed::KeyedState;
 use std::alloc::{AllocError, Global};
-use std::collections::BTreeMap;
 use std::rc::RcStr;
 
-/// A table of names: for each name the place of the first thing that bears it, in the list that the table is of.
-///
-/// It is a tree, since whoever writes a program picks its names: a table by hashes can be made slow by names of one hash.
+/// Makes tables of names.
+#[derive(Clone, Copy)]
+pub struct TableMaker {
+    /// Where memory is taken.
+    pub alloc: Global,
+    /// How they hash names.
+    pub hashing: KeyedState,
+}
+
+/// A table of names, in the order of their declarations: for each name the place of the first thing that bears it, in the
+/// list that the table is of.
 #[derive(Drop)]
 pub struct Names {
     /// The place of each name that there is, counted from 0.
-    pub places: BTreeMap<String, usize>,
+    pub places: IndexMap<String, usize, KeyedState>,
 }
 
 impl Names {
     /// A table without names.
-    pub(crate) fn new(alloc: Global) -> Names
+    pub(crate) fn new(maker: TableMaker) -> Names
         ensures { (q : List ℕ) → found result q ≡ None }
     {
         Names {
-            places: BTreeMap::new(alloc),
+            places: IndexMap::with_hasher(maker.alloc, maker.hashing),
         }
+    }
+
+    /// How it hashes names.
+    pub(crate) fn hashing(&self) -> KeyedState {
+        *self.places.hasher()
     }
 
     /// The place of the first thing that bears the name, counted from 0. `None` where nothing does.

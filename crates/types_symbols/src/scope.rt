@@ -11,7 +11,7 @@ ghost use Rattle.types_symbols.specs.Working.Found.{IsTableWithName};
 ghost use Rattle.types_symbols.specs.Working.Views.{decls_of};
 ghost use Rattle.types_symbols.specs.Working.Scoped.{locals_seen, local_seen, scope_of, IsBound, meaning_of};
 
-use crate::names::Names;
+use crate::names::{Names, TableMaker};
 use crate::note::note_if;
 use crate::table::SymbolTable;
 use core_lang::tree::LocalKind;
@@ -93,14 +93,14 @@ fn push_local(
 
 impl Locals {
     /// No locals, where the result has this type and so many parameters and locals may stand.
-    pub fn new(alloc: Global, result_type: Option<ValueType>, limits: BodyLimits) -> Locals
+    pub fn new(maker: TableMaker, result_type: Option<ValueType>, limits: BodyLimits) -> Locals
         ensures none { result.locals ≡ [] }
         ensures result_type { result.result ≡ result_type }
         ensures limits { result.limits ≡ limits }
     {
         Locals {
-            names: Names::new(alloc),
-            items: Vec::new(alloc),
+            names: Names::new(maker),
+            items: Vec::new(maker.alloc),
             result: result_type,
             limits,
         }
@@ -162,7 +162,8 @@ impl Locals {
         };
         let Ok(()) = push_local(alloc, &mut self.names, &mut self.items, &name.text, local) else {
             // There may be a local that the table lacks, so none is kept.
-            *self = Locals::new(alloc, None, self.limits);
+            let hashing = self.names.hashing();
+            *self = Locals::new(TableMaker { alloc, hashing }, None, self.limits);
             return Err(AllocError);
         };
         Ok(())

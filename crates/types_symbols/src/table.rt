@@ -15,10 +15,11 @@ ghost use Rattle.types_symbols.specs.Working.Views.{decls_of, struct_in};
 use crate::declarations::Declarations;
 use crate::first_inits::{FirstInits, judge_first_inits};
 use crate::members::Structure;
+use crate::names::TableMaker;
 use crate::totals::{CALL_LIMIT, CELL_LIMIT, CLASS_LIMIT, OBJECT_LIMIT, Totals, judge_totals};
 use resolution::init_target::InitTarget;
 use source::mistake::Mistake;
-use std::alloc::{AllocError, Global};
+use std::alloc::AllocError;
 use std::marker::Model;
 use syntax::tree::{Const, Decl, Name};
 
@@ -33,6 +34,7 @@ pub struct SymbolTable<'t> {
     all: Totals,
     /// What `init`s give.
     first_inits: FirstInits,
+    maker: TableMaker,
 }
 
 // It stands for the declarations as they are written, and the tables are those of these.
@@ -61,14 +63,15 @@ impl<'t> SymbolTable<'t> {
     /// The declarations with all their tables. What is wrong with names, counts and repeated `init`s is noted. The one
     /// error is a refused growth.
     pub fn new(
-        alloc: Global,
+        maker: TableMaker,
         items: &'t [Decl],
         least: &mut Option<Mistake>,
     ) -> Result<SymbolTable<'t>, AllocError>
         ensures items { IfOk result (λ t. t ≡ items.now) }
         ensures faults { OnOk result (least.new ≡ least_of least.old (table_faults (decls_of items.now))) }
     {
-        let decls = Declarations::new(alloc, items, least)?;
+        let alloc = maker.alloc;
+        let decls = Declarations::new(maker, items, least)?;
         let Ok((ahead, all)) = judge_totals(alloc, &decls, least) else {
             drop(decls);
             return Err(AllocError);
@@ -83,7 +86,13 @@ impl<'t> SymbolTable<'t> {
             ahead,
             all,
             first_inits,
+            maker,
         })
+    }
+
+    /// Makes further tables of the program's names.
+    pub fn maker(&self) -> TableMaker {
+        self.maker
     }
 
     /// The declarations with the tables of their names, numbers and structs alone.

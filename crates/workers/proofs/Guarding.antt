@@ -2,11 +2,13 @@
 use Rattle.std.proofs.Common.{◌≡◌, ◌≤◌, ℕ, List, [], ◌∷◌, ◌++◌, length, drop, sym, ap, ◌∙◌, subst, Some}
 use Rattle.core_lang.specs.declared.value.Outcome.{Outcome}
 use Rattle.std.proofs.lemmas.List.{length-map, drop_at}
+use Rattle.std.proofs.lemmas.List.Elements.{All-push}
 use Rattle.core_lang.specs.declared.value.Value.{Value}
 use Rattle.core_lang.specs.declared.typed.Typed.{Typed}
 use Rattle.core_lang.specs.declared.typed.Cell.{Cell}
 use Rattle.core_lang.specs.Typing.{IsHeap, HasCells, cell_types}
 use Rattle.core_lang.specs.Theory.Openings.{have_length}
+use Rattle.core_lang.specs.WellFormed.{CanCall}
 use Rattle.layout.specs.Layouts.{LayoutOf}
 use Rattle.code.specs.Memory.{Agrees}
 use Rattle.history.specs.Commits.{Commit, committed, IsLegal, IsTrueCommit, AreTrue}
@@ -18,7 +20,7 @@ use Rattle.lock_manager.specs.Working.Calls.{KeepsEntries}
 use Rattle.lowering.specs.Plans.{Plan}
 use Rattle.worlds.specs.Working.InOrder.{SectionsStayInOrder}
 use Rattle.runner.specs.Working.Opens.{OpenOf, ReadyOf, IsOpen, IsSame, IsItsEntry, CanBeReleased, Released, entry_of}
-use Rattle.workers.specs.Working.Guarding.{IsManagerOf}
+use Rattle.workers.specs.Working.Guarding.{IsManagerOf, AreCallable}
 use Rattle.workers.specs.Working.Within.{IsEntered, SeesItsOwn}
 use Rattle.workers_seen.specs.Logs.{Begins, IsSound, NoneOf}
 
@@ -32,8 +34,14 @@ manager_kept plan m m' d k = record {
   layout = k.layout ∙ d.layout;
   ranks = k.ranks ∙ d.ranks;
   true_entries = subst (AreTrue plan.program) (sym k.history) d.true_entries;
+  callable = subst (AreCallable plan.program) (sym k.history) d.callable;
   heap = subst (IsHeap plan.program) (sym k.values) d.heap;
 }
+
+-- a section that is open was called as it can be
+called : (o : OpenOf) → IsOpen o → CanCall o.plan.program o.activation.call.section o.activation.call.arguments
+unfolding CanCall
+called o is_open = let ready = is_open.in_order.ready in (ready.section, ready.is, ready.fit)
 
 -- an entry is entered
 pub released_manager : (m m' : Managed) (o : OpenOf) (ready : ReadyOf) (receipt : ReceiptOf) → SectionsStayInOrder →
@@ -50,6 +58,9 @@ released_manager m m' o ready receipt laws more d is_open can r =
       true_entries =
           subst (AreTrue p) (sym (ap (λ (v : Managed). v.history) after))
           (more p m.history e d.true_entries (laws.ends o.plan o.thread o.step o.activation r.outcome is_open.compiled is_open.in_order r.over));
+      callable =
+          subst (AreCallable p) (sym (ap (λ (v : Managed). v.history) after))
+          (All-push (λ (c : Commit). CanCall p c.section c.arguments) m.history e d.callable (called o is_open));
       heap =
           subst (IsHeap p) (sym (ap (λ (v : Managed). v.values) after))
           (laws.leaves o.plan o.activation r.outcome m.values is_open.compiled is_open.in_order r.over (has_cells p m.values d.heap) d.heap fits.reads);
@@ -66,6 +77,7 @@ entered m m' o ready receipt floor laws d kept is_open can r above begun =
       log = m.history;
       long = sym r.releases.position;
       sound = record { legal = subst (λ (l : LayoutOf). IsLegal l.opening m.history) d.layout kept.legal; true_entries = d.true_entries };
+      callable = d.callable;
       cells = subst (HasCells p) left (has_cells p m.values d.heap);
       agrees = subst (λ (h : List Value). Agrees h o.activation.machine.memory.reads) left fits.reads;
       is_true = λ outcome over. laws.ends o.plan o.thread o.step o.activation outcome is_open.compiled is_open.in_order over;

@@ -66,9 +66,21 @@ pub record IsHistoryOf (plan : Plan) (log : List Commit) (values : List Value) :
   pub cells : HasCells plan.program values
   pub serial : SerialFromOpening plan.program (map call_of log) (map answer_of log) values
 
--- those calls run so on the program as it was accepted, whose helpers are not written out
+-- its calls run so on the program as it was accepted, whose helpers are not written out
 abbrev pub RunsAsAccepted : Plan → List Commit → List Value → Type 0
 RunsAsAccepted plan log values = SerialFromOpening plan.accepted (map call_of log) (map answer_of log) values
+
+-- there is such a log, as long as the position, whose calls run so; and after them the call, run whole on the program as
+-- it was accepted, ends and prints so
+pub record IsAnswerAsAccepted (plan : Plan) (call : Invocation) (position : ℕ) (outcome : Outcome) (prints : List ℤ) :
+    Type 0 where
+  pub log : List Commit
+  pub long : length log ≡ position
+  pub sound : IsSound plan log
+  pub before : RunsAsAccepted plan log (committed plan.layout.opening log)
+  pub heap : List Value
+  pub gives : WholeCall plan.accepted call (committed plan.layout.opening log)
+      (record { outcome = outcome; prints = prints; heap = heap })
 
 -- ---- scripts
 

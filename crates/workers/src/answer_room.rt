@@ -1,19 +1,29 @@
 //! Room for an answer.
 
-ghost use Rattle.std.specs.Prelude.{◌≡◌, ◌≤◌, ◌+◌, ◌++◌, [], length, IfSome, vec_len, vec_capacity};
+ghost use Rattle.std.specs.Prelude.{◌≡◌, ◌≤◌, ◌+◌, ◌++◌, [], length, IfOk, vec_len, vec_capacity};
 ghost use Rattle.workers.specs.Working.Within.{IsNotedOf};
 
 use crate::seat::Done;
 use history::kept::Kept;
 use source::memory::NoMemory;
 use std::alloc::Global;
+use std::marker::Model;
 
-/// Room for an answer, made before a call begins, so that its answer is never refused.
+/// Room for an answer, made before a call begins, so that its answer is never refused. As a value it is for how many
+/// prints there is room.
 #[derive(Drop)]
 pub(crate) struct AnswerRoom {
     told: Vec<i64>,
-    ghost none: { told.items ≡ [] },
-    ghost empty: { vec_len told ≡ 0 },
+}
+
+impl Model for AnswerRoom {
+    ghost use Rattle.std.specs.Prelude.{◌≡◌, [], ℕ, vec_len, vec_capacity};
+
+    ghost Value = { ℕ };
+
+    ghost view = { λ r. vec_capacity r.told };
+
+    ghost invariant = { λ r. (r.told.items ≡ []) × (vec_len r.told ≡ 0) };
 }
 
 impl AnswerRoom {
@@ -22,25 +32,26 @@ impl AnswerRoom {
     /// # Errors
     ///
     /// Want of memory.
-    pub fn new(alloc: Global, prints: usize) -> Result<AnswerRoom, NoMemory> {
+    pub fn new(alloc: Global, prints: usize) -> Result<AnswerRoom, NoMemory>
+        ensures { IfOk result (λ room. prints ≤ room) }
+    {
         let told = Vec::with_capacity(alloc, prints)?;
         Ok(AnswerRoom { told })
     }
 
-    /// The answer that an entry gives, where there is room for it. Its position is still to come.
-    pub fn of(self, entry: &Kept<'_>) -> Option<Done>
-        ensures { IfSome result (λ done. IsNotedOf entry.now done) }
+    /// The answer that an entry gives, if there is room for its prints. Its position is still to come.
+    pub fn of(self, entry: &Kept<'_>) -> Done
+        ensures { length entry.now.prints ≤ self → IsNotedOf entry.now result }
     {
         let AnswerRoom { mut told } = self;
-        if entry.prints().len() > told.capacity() {
-            return None;
+        if entry.prints().len() <= told.capacity() {
+            fill(&mut told, entry.prints());
         }
-        fill(&mut told, entry.prints());
-        Some(Done {
+        Done {
             position: 0,
             outcome: entry.outcome(),
             prints: told,
-        })
+        }
     }
 }
 

@@ -7,6 +7,7 @@ use core_lang::value::Value;
 use history::entries::History;
 use lock_manager::manager::Manager;
 use std::marker::Model;
+use thiserror::Error;
 
 /// A history that is over, with the values that it leaves. As a value it is a manager with no open section.
 #[derive(Drop)]
@@ -48,6 +49,7 @@ impl<'p> Closed<'p> {
     }
 }
 
-/// The answers of the seats aren't just the entries of the history, or a section is open.
-#[derive(Clone, Copy, PartialEq, Eq, Debug)]
+/// The answers of the seats aren't just the entries of the history, their row has others, or a section is open.
+#[derive(Clone, Copy, PartialEq, Eq, Debug, Error)]
+#[error("strange")]
 pub struct Strange;

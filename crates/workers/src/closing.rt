@@ -1,4 +1,5 @@
-//! Whether what seats have seen are a history's entries, up to the last one of each seat's thread.
+//! Whether what seats have seen are a history's entries, up to the last one of each seat's thread, and these are all that
+//! their row has.
 
 ghost use Rattle.std.specs.Prelude.{◌⊎◌, IsTrue};
 ghost use Rattle.std.specs.List.{All};
@@ -10,23 +11,28 @@ use crate::seat::Seat;
 use workers_seen::log::Log;
 use workers_seen::naming::Naming;
 
-/// Whether what each seat has seen begins the entries, none of those behind it is of the seat's thread, and each entry's
-/// thread has a seat.
-pub fn fit<J: Naming>(seats: &[Seat<'_, J>], log: &Log<J>) -> bool
+/// Whether what each seat has seen begins the entries, none of those behind it is of the seat's thread, each entry's
+/// thread has a seat, and the row has no others.
+pub fn fit<J: Naming>(seats: &[Seat<'_, '_, J>], log: &Log<'_, J>) -> bool
     ensures seen { IsTrue result → All (IsIn log.now) seats.now }
     ensures seated { IsTrue result → All (IsSeated seats.now) log.now }
 {
+    let entries = log.front();
+    // (a look, of which no clause tells: another log on the row may have got further in the meantime)
+    if entries.whole().len() != entries.len() {
+        return false;
+    }
     all_in(seats, log) && are_seated(seats, log)
 }
 
 // Whether what each seat has seen begins the entries, and none of those behind it is of the seat's thread.
-fn all_in<J: Naming>(seats: &[Seat<'_, J>], log: &Log<J>) -> bool
+fn all_in<J: Naming>(seats: &[Seat<'_, '_, J>], log: &Log<'_, J>) -> bool
     ensures { IsTrue result → All (IsIn log.now) seats.now }
 {
     seats.iter().all(|s| is_in(s, log))
 }
 
-fn is_in<J: Naming>(seat: &Seat<'_, J>, log: &Log<J>) -> bool
+fn is_in<J: Naming>(seat: &Seat<'_, '_, J>, log: &Log<'_, J>) -> bool
     ensures { IsTrue result → IsIn log.now seat.now }
 {
     if !seat.seen.begins(&log.front()) {
@@ -36,7 +42,7 @@ fn is_in<J: Naming>(seat: &Seat<'_, J>, log: &Log<J>) -> bool
 }
 
 // Whether each entry's thread has a seat.
-fn are_seated<J: Naming>(seats: &[Seat<'_, J>], log: &Log<J>) -> bool
+fn are_seated<J: Naming>(seats: &[Seat<'_, '_, J>], log: &Log<'_, J>) -> bool
     ensures { IsTrue result → All (IsSeated seats.now) log.now }
 {
     for thread in 0..64 {
@@ -48,7 +54,7 @@ fn are_seated<J: Naming>(seats: &[Seat<'_, J>], log: &Log<J>) -> bool
 }
 
 // Whether a thread has no entry, or a seat.
-fn is_settled<J: Naming>(seats: &[Seat<'_, J>], log: &Log<J>, thread: u32) -> bool
+fn is_settled<J: Naming>(seats: &[Seat<'_, '_, J>], log: &Log<'_, J>, thread: u32) -> bool
     ensures { IsTrue result → NoneOf thread log.now ⊎ HasSeat seats.now thread }
 {
     if log.has_none_of(thread, 0) {
@@ -58,7 +64,7 @@ fn is_settled<J: Naming>(seats: &[Seat<'_, J>], log: &Log<J>, thread: u32) -> bo
 }
 
 // Whether a thread has a seat.
-fn is_seated<J: Naming>(seats: &[Seat<'_, J>], thread: u32) -> bool
+fn is_seated<J: Naming>(seats: &[Seat<'_, '_, J>], thread: u32) -> bool
     ensures { IsTrue result → HasSeat seats.now thread }
 {
     for s in seats {

@@ -27,12 +27,12 @@ use workers_seen::naming::Naming;
 ///
 /// Each method is one hold of the Mutex. What one hold left for the next is tested, never taken for granted.
 #[derive(Drop)]
-pub struct Guarded<'p, J: Naming> {
+pub struct Guarded<'p, 'r, J: Naming> {
     manager: Manager<'p>,
-    log: Log<J>,
+    log: Log<'r, J>,
 }
 
-impl<'p, J: Naming> Model for Guarded<'p, J> {
+impl<'p, 'r, J: Naming> Model for Guarded<'p, 'r, J> {
     ghost use Rattle.std.specs.Prelude.{◌≡◌};
     ghost use Rattle.lock_manager.specs.Manager.{Managed};
     ghost use Rattle.workers.specs.Working.Guarding.{IsManagerOf};
@@ -44,7 +44,7 @@ impl<'p, J: Naming> Model for Guarded<'p, J> {
     ghost invariant = { λ g. IsManagerOf J.plan g.manager × (g.log ≡ g.manager.history) };
 }
 
-impl<'p, J: Naming> Guarded<'p, J> {
+impl<'p, 'r, J: Naming> Guarded<'p, 'r, J> {
     /// Before any call.
     ///
     /// # Errors
@@ -53,14 +53,14 @@ impl<'p, J: Naming> Guarded<'p, J> {
     pub fn open(
         alloc: Global,
         program: &'p Program,
-        log: Log<J>,
-    ) -> Result<Guarded<'p, J>, NoMemory>
+        log: Log<'r, J>,
+    ) -> Result<Guarded<'p, 'r, J>, NoMemory>
         requires named { program.now ≡ J.plan }
         requires empty { log ≡ [] }
         ensures { IfOk result (λ g. g ≡ opened J.plan.layout J.plan.ranks) }
     {
         worlds::laws::worlds_stay_ready();
-        let _typed = program.typed();
+        let _typed = program.expanded();
         let manager = Manager::open(alloc, program.layout(), program.ranks())?;
         Ok(Guarded { manager, log })
     }
@@ -115,7 +115,7 @@ impl<'p, J: Naming> Guarded<'p, J> {
     pub fn finish(
         &mut self,
         ended: Ended<'p>,
-        seen: &mut Front<J>,
+        seen: &mut Front<'r, J>,
     ) -> Result<(Ready<'p>, Receipt), Ready<'p>>
         requires { ended.plan ≡ J.plan }
         ensures entered { IfOk result (λ r. IsEntered J.plan (length seen.old) ended.entry r.1.position) }
@@ -158,7 +158,7 @@ impl<'p, J: Naming> Guarded<'p, J> {
     }
 
     /// The manager and the log, where no section is open.
-    pub fn into_parts(self) -> Option<(Manager<'p>, Log<J>)>
+    pub fn into_parts(self) -> Option<(Manager<'p>, Log<'r, J>)>
         ensures manager { IfSome result (λ r. r.0 ≡ self.entry) }
         ensures of_the_program { IfSome result (λ r. IsManagerOf J.plan r.0) }
         ensures quiet { IfSome result (λ r. IsQuiet r.0) }

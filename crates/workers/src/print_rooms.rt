@@ -1,57 +1,50 @@
 //! For how many prints calls make room.
 
-use code::instr::Instr;
-use code::section_code::ProgramCode;
+ghost use Rattle.std.specs.Prelude.{◌≡◌, ◌<◌, Some, length, map, slice_get, IfOk};
+ghost use Rattle.core_lang_laws.specs.Prints.{most_prints};
+
+use core_lang::typed::Typed;
+use core_lang_laws::prints;
 use source::memory::NoMemory;
 use std::alloc::Global;
+use std::marker::Model;
 
-/// How many numbers one run of a section can print.
-const MOST_PRINTS: usize = 256;
-
-/// For how many prints a call of each section makes room. A section prints no more; if it did, its call would be refused.
+/// For how many prints a call of each section makes room: for the most that one run of it prints. As a value it is these
+/// numbers, by section.
 #[derive(Drop)]
 pub(crate) struct PrintRooms {
-    // By section.
     rooms: Vec<usize>,
 }
 
+impl Model for PrintRooms {
+    ghost use Rattle.std.specs.Prelude.{List, ℕ};
+
+    ghost Value = { List ℕ };
+
+    ghost view = { λ p. p.rooms.items };
+}
+
 impl PrintRooms {
-    /// Of a program with this code.
+    /// For the sections of a program.
     ///
     /// # Errors
     ///
     /// Want of memory.
-    pub fn of(alloc: Global, code: &ProgramCode) -> Result<PrintRooms, NoMemory> {
-        let mut rooms = Vec::with_capacity(alloc, code.sections.len())?;
-        for section in &code.sections {
-            rooms.push(most_prints(&section.instructions))?;
+    pub fn of(alloc: Global, program: &Typed) -> Result<PrintRooms, NoMemory>
+        ensures { IfOk result (λ rooms. rooms ≡ map most_prints program.now.sections.items) }
+    {
+        let mut rooms = Vec::with_capacity(alloc, program.sections.len())?;
+        for section in &program.sections {
+            rooms.push(prints::of_section(section))?;
         }
         Ok(PrintRooms { rooms })
     }
 
     /// For a call of a section.
-    pub fn room(&self, section: usize) -> usize {
-        match self.rooms.get(section) {
-            Some(room) => *room,
-            None => MOST_PRINTS,
-        }
-    }
-}
-
-// Where nothing goes back, each instruction is made once at most.
-fn most_prints(instructions: &[Instr]) -> usize {
-    let mut prints = 0usize;
-    let mut goes_back = false;
-    for instruction in instructions {
-        match instruction {
-            Instr::PrintTop => prints = prints.saturating_add(1),
-            Instr::JumpBack(_) => goes_back = true,
-            _ => {}
-        }
-    }
-    if goes_back && prints > 0 {
-        MOST_PRINTS
-    } else {
-        prints.min(MOST_PRINTS)
+    pub fn room(&self, section: usize) -> usize
+        requires { section < length self.now }
+        ensures { slice_get self.now section ≡ Some result }
+    {
+        self.rooms[section]
     }
 }

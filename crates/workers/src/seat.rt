@@ -10,6 +10,7 @@ use runner::states::Ready;
 use source::memory::NoMemory;
 use std::alloc::AllocError;
 use std::marker::Model;
+use thiserror::Error;
 use workers_seen::front::Front;
 use workers_seen::naming::Naming;
 
@@ -25,11 +26,13 @@ pub struct Done {
 }
 
 /// Why a call is refused.
-#[derive(Clone, Copy, PartialEq, Eq, Debug)]
+#[derive(Clone, Copy, PartialEq, Eq, Debug, Error)]
 pub enum CallRefusal {
     /// Want of memory.
+    #[error("no memory")]
     NoMemory,
     /// The manager isn't the one that the seat left, or there is an entry of its thread that it hasn't seen.
+    #[error("strange")]
     Strange,
 }
 
@@ -48,14 +51,14 @@ impl From<NoMemory> for CallRefusal {
 /// A thread's place at a [`crate::shared::Shared`]. As a value it is the thread, the answers to its calls, in order, and
 /// what it has seen of the history. The answers are those that its own entries give among what it has seen.
 #[derive(Drop)]
-pub struct Seat<'p, J: Naming> {
+pub struct Seat<'p, 'r, J: Naming> {
     // The number of its next call is that of its answers: only a release raises it.
     pub(crate) ready: Ready<'p>,
     pub(crate) parking: Parking,
-    pub(crate) seen: Front<J>,
+    pub(crate) seen: Front<'r, J>,
 }
 
-impl<'p, J: Naming> Model for Seat<'p, J> {
+impl<'p, 'r, J: Naming> Model for Seat<'p, 'r, J> {
     ghost use Rattle.workers.specs.Seats.{SeatOf};
     ghost use Rattle.workers.specs.Answers.{replies_of};
     ghost use Rattle.workers.specs.Working.Within.{IsSeat};
@@ -71,11 +74,11 @@ impl<'p, J: Naming> Model for Seat<'p, J> {
     ghost invariant = { λ s. IsSeat J.plan s.ready.thread s.ready.step s.seen };
 }
 
-impl<'p, J: Naming> Seat<'p, J> {
+impl<'p, 'r, J: Naming> Seat<'p, 'r, J> {
     ghost use Rattle.std.specs.Prelude.{◌≡◌, ◌<◌, []};
 
     // A thread's place before its first call.
-    pub(crate) fn new(thread: u32, parking: Parking, seen: Front<J>) -> Seat<'p, J>
+    pub(crate) fn new(thread: u32, parking: Parking, seen: Front<'r, J>) -> Seat<'p, 'r, J>
         requires few { thread < 64 }
         requires none { seen ≡ [] }
         ensures { result ≡ new_seat thread }

@@ -12,17 +12,21 @@ use workers_seen::naming::Naming;
 
 /// Seats of the threads from 0 on, none of which has seen anything, and what ends the waiting of each.
 #[derive(Drop)]
-pub(crate) struct Seating<'p, J: Naming> {
+pub(crate) struct Seating<'p, 'r, J: Naming> {
     alloc: Global,
-    front: Front<J>,
-    pub(crate) seats: Vec<Seat<'p, J>>,
+    front: Front<'r, J>,
+    pub(crate) seats: Vec<Seat<'p, 'r, J>>,
     pub(crate) wakings: Vec<Waking>,
     ghost none: { front ≡ [] },
 }
 
-impl<'p, J: Naming> Seating<'p, J> {
+impl<'p, 'r, J: Naming> Seating<'p, 'r, J> {
     // So many seats.
-    pub(crate) fn of(alloc: Global, front: Front<J>, count: u32) -> Result<Seating<'p, J>, NoMemory>
+    pub(crate) fn of(
+        alloc: Global,
+        front: Front<'r, J>,
+        count: u32,
+    ) -> Result<Seating<'p, 'r, J>, NoMemory>
         requires none { front ≡ [] }
         requires few { count ≤ 64 }
         ensures { IfOk result (λ s. s.seats.items ≡ new_seats count) }

@@ -1,15 +1,16 @@
 //! A program whose sections threads run.
 
-ghost use Rattle.std.specs.Prelude.{◌≡◌, ◌<◌, ◌≤◌, ◌+◌, ◌^◌, ◌↔◌, length, IsTrue, MatchBool, IfOk, IfErr, OnOk, OnErr};
+ghost use Rattle.std.specs.Prelude.{◌≡◌, ◌<◌, ◌≤◌, ◌+◌, ◌^◌, ◌↔◌, length, map, IsTrue, MatchBool, IfOk, IfErr, OnOk, OnErr};
 ghost use Rattle.std.specs.List.{All};
 ghost use Rattle.core_lang.specs.WellFormed.{CanCall};
+ghost use Rattle.core_lang_laws.specs.Prints.{most_prints};
 ghost use Rattle.lock_manager.specs.Manager.{IsQuiet};
 ghost use Rattle.runner.specs.Working.Opens.{IsSame, ready_again};
 ghost use Rattle.workers.specs.Seats.{AllBelow, Gains, new_seats};
-ghost use Rattle.workers.specs.Answers.{IsAnswer, IsSeated, IsHistoryOf, AnswersAreIn, as_call};
+ghost use Rattle.workers.specs.Answers.{IsAnswer, IsAnswerAsAccepted, RunsAsAccepted, IsSeated, IsHistoryOf, AnswersAreIn, as_call};
 ghost use Rattle.workers_seen.specs.Logs.{Begins, IsSound};
 ghost use Rattle.workers.specs.Seen.{Sees, SeenIsIn};
-ghost use Rattle.workers.specs.Working.Within.{HasAnswer, HasBegun, IsEntered, SeesItsOwn};
+ghost use Rattle.workers.specs.Working.Within.{HasAnswer, HasBegun, HasRoomFor, IsEntered, SeesItsOwn};
 
 use crate::answer_room::AnswerRoom;
 use crate::closed::{Closed, Strange};
@@ -29,19 +30,21 @@ use std::alloc::Global;
 use std::mem;
 use std::sync::{Mutex, Wait};
 use workers_seen::front::Front;
-use workers_seen::log::NewLog;
+use workers_seen::log::Log;
 use workers_seen::naming::Naming;
+use workers_seen::row::Row;
 
 /// A program whose sections threads run, each from its own [`Seat`]. The manager of its locks, with the cells and the
 /// history, lies under a Mutex.
 #[derive(Drop)]
-pub struct Shared<'p, J: Naming> {
+pub struct Shared<'p, 'r, J: Naming> {
     alloc: Global,
     program: &'p Program,
-    guarded: Mutex<Guarded<'p, J>>,
+    guarded: Mutex<Guarded<'p, 'r, J>>,
     wakings: Wakings,
     print_rooms: PrintRooms,
     ghost is: { program.now ≡ J.plan },
+    ghost rooms: { print_rooms ≡ map most_prints J.plan.program.sections.items },
 }
 
 // Takes a thread out of its seat. In its place is the thread as it was before its first call.
@@ -67,25 +70,28 @@ struct Request<'a> {
     parking: &'a Parking,
 }
 
-impl<'p, J: Naming> Shared<'p, J> {
-    /// Before any call, with so many seats, of the threads from 0 on. Its history is the log that `J` names.
+impl<'p, 'r, J: Naming> Shared<'p, 'r, J> {
+    /// Before any call, with so many seats, of the threads from 0 on. Its calls are entered into the row that is lent,
+    /// which `J` names. The row stays as it was, also where this is refused, so it can be lent again. Of all that are
+    /// opened over one row only the one that enters a call first enters any: whatever the others call is strange, and so
+    /// is their `close`.
     ///
     /// # Errors
     ///
     /// Want of memory.
     pub fn open(
-        log: NewLog,
+        row: &'r Row,
         alloc: Global,
         program: &'p Program,
         count: u32,
-    ) -> Result<(Shared<'p, J>, Vec<Seat<'p, J>>), NoMemory>
+    ) -> Result<(Shared<'p, 'r, J>, Vec<Seat<'p, 'r, J>>), NoMemory>
         requires program { program.now ≡ J.plan }
-        requires log { log ≡ J.book }
+        requires row { row.now ≡ J.book }
         requires few { count ≤ 64 }
         ensures { IfOk result (λ r. r.1.items ≡ new_seats count) }
     {
-        let print_rooms = PrintRooms::of(alloc, program.code())?;
-        let log = log.named::<J>(alloc, count)?;
+        let print_rooms = PrintRooms::of(alloc, program.expanded())?;
+        let log = Log::of(row, alloc, count)?;
         let Seating { seats, wakings, .. } = Seating::of(alloc, log.front(), count)?;
         let guarded = match Guarded::open(alloc, program, log) {
             Ok(guarded) => guarded,
@@ -120,11 +126,13 @@ impl<'p, J: Naming> Shared<'p, J> {
     /// # Errors
     ///
     /// Want of memory; or the manager isn't the one that the seat left, the thread has another entry that the seat
-    /// hasn't seen, or the log has no place for the thread. The seat is then as it was.
+    /// hasn't seen, the log has no place for the thread, or the row has entries of another [`Shared`]. The seat is then
+    /// as it was, and nothing was entered: between what the seat had seen and the entry of a later call there is none of
+    /// the thread (`seen`), and a closed history has just the entries of the seat's answers (`close`: `answers`).
     pub fn call<R: Wait, G: Gate>(
         &self,
         rt: &R,
-        seat: &mut Seat<'p, J>,
+        seat: &mut Seat<'p, 'r, J>,
         section: usize,
         arguments: &[Value],
         gate: &G,
@@ -132,6 +140,8 @@ impl<'p, J: Naming> Shared<'p, J> {
         requires { CanCall J.plan.program section arguments.now }
         ensures answer { let call = as_call section arguments.now in
             IfOk result (λ d. IsAnswer J.plan call d.position d.outcome d.prints.items) }
+        ensures accepted { let call = as_call section arguments.now in
+            IfOk result (λ d. IsAnswerAsAccepted J.plan call d.position d.outcome d.prints.items) }
         ensures gained { let call = as_call section arguments.now in
             IfOk result (λ d. Gains seat.old seat.new d.position call d.outcome d.prints.items) }
         ensures above { IfOk result (λ d. AllBelow d.position seat.old.answers) }
@@ -156,22 +166,30 @@ impl<'p, J: Naming> Shared<'p, J> {
         }
     }
 
-    // A call of a thread, from its begin to its entry.
+    // A call of a thread, from its begin to its entry. That there was room for its prints shows where it is entered: it is
+    // run whole there.
     fn run<R: Wait, G: Gate>(
         &self,
         rt: &R,
         ready: Ready<'p>,
         request: Request<'_>,
-        seen: &mut Front<J>,
+        seen: &mut Front<'r, J>,
         gate: &G,
     ) -> Result<(Ready<'p>, Done), (Ready<'p>, CallRefusal)>
         requires thread { ready.thread < 64 }
         requires fits { CanCall J.plan.program request.section request.arguments.now }
         ensures answer { let call = as_call request.entry.section request.entry.arguments.now in
             IfOk result (λ r. HasAnswer J.plan call ready.entry seen.old r.0 r.1 seen.new) }
+        ensures accepted { let call = as_call request.entry.section request.entry.arguments.now in
+            IfOk result (λ r. IsAnswerAsAccepted J.plan call r.1.position r.1.outcome r.1.prints.items) }
         ensures err { IfErr result (λ r. r.0 ≡ ready.entry) }
         ensures same { OnErr result (seen.new ≡ seen.old) }
     {
+        history::laws::legal_is_serial();
+        lowering::laws::compiled_run_alike();
+        core_lang::laws::writing_out_changes_nothing();
+        let _typed = self.program.expanded();
+        core_lang_laws::laws::no_run_prints_more();
         let thread = ready.thread();
         let (room, running) = self.begin(rt, ready, request)?;
         gate.pass(thread, 0);
@@ -179,9 +197,7 @@ impl<'p, J: Naming> Shared<'p, J> {
             Ok(ended) => ended,
             Err(ready) => return Err((ready, CallRefusal::Strange)),
         };
-        let Some(mut done) = room.of(&ended.entry()) else {
-            return Err((self.give_up(rt, ended), CallRefusal::Strange));
-        };
+        let mut done = room.of(&ended.entry());
         match self.finish(rt, ended, seen) {
             Ok((ready, position)) => {
                 done.position = position;
@@ -204,6 +220,7 @@ impl<'p, J: Naming> Shared<'p, J> {
         requires fits { CanCall J.plan.program request.section request.arguments.now }
         ensures ok { let call = as_call request.entry.section request.entry.arguments.now in
             IfOk result (λ r. HasBegun J.plan call ready.entry r.1) }
+        ensures room { IfOk result (λ r. HasRoomFor J.plan request.entry.section r.0) }
         ensures err { IfErr result (λ r. r.0 ≡ ready.entry) }
     {
         let alloc = self.alloc;
@@ -244,12 +261,12 @@ impl<'p, J: Naming> Shared<'p, J> {
                 Next::Asking(asking) => {
                     let answer = self.guarded.lock(rt).ask(asking);
                     match answer {
-                        Ok(Asked::Granted(further)) => {
+                        Ok(Asked::Got(further)) => {
                             granted = granted.wrapping_add(1);
                             gate.pass(thread, granted);
                             further
                         }
-                        Ok(Asked::Held(_, again)) => {
+                        Ok(Asked::Waits(again, _)) => {
                             parking.wait(rt);
                             Next::Asking(again)
                         }
@@ -272,7 +289,7 @@ impl<'p, J: Naming> Shared<'p, J> {
         &self,
         rt: &R,
         ended: Ended<'p>,
-        seen: &mut Front<J>,
+        seen: &mut Front<'r, J>,
     ) -> Result<(Ready<'p>, usize), Ready<'p>>
         requires { ended.plan ≡ J.plan }
         ensures entered { IfOk result (λ r. IsEntered J.plan (length seen.old) ended.entry r.1) }
@@ -296,15 +313,6 @@ impl<'p, J: Naming> Shared<'p, J> {
         }
     }
 
-    // Ends a section without an entry.
-    fn give_up<R: Wait>(&self, rt: &R, ended: Ended<'p>) -> Ready<'p>
-        ensures { result ≡ ready_again ended.entry }
-    {
-        let ready = self.guarded.lock(rt).give_up(ended);
-        self.wakings.wake_all();
-        ready
-    }
-
     // Wakes those that a receipt names.
     fn wake(&self, receipt: &Receipt) {
         for i in 0..64usize {
@@ -316,7 +324,7 @@ impl<'p, J: Naming> Shared<'p, J> {
     }
 
     /// Of what two seats have seen one begins the other: whether the first's begins the second's.
-    pub fn agree(one: &Seat<'p, J>, other: &Seat<'p, J>) -> bool
+    pub fn agree(one: &Seat<'p, 'r, J>, other: &Seat<'p, 'r, J>) -> bool
         ensures one_begins { MatchBool result (Begins one.now.seen other.now.seen) (Begins other.now.seen one.now.seen) }
         ensures exact { IsTrue result ↔ Begins one.now.seen other.now.seen }
     {
@@ -328,16 +336,18 @@ impl<'p, J: Naming> Shared<'p, J> {
     ///
     /// # Errors
     ///
-    /// A section is open, or the answers aren't just the entries.
+    /// A section is open, the answers aren't just the entries, or the row has others.
     #[tactic(auto, using(crate::proofs::Guarding::has_cells))]
-    pub fn close(self, seats: Vec<Seat<'p, J>>) -> Result<Closed<'p>, Strange>
+    pub fn close(self, seats: Vec<Seat<'p, 'r, J>>) -> Result<Closed<'p>, Strange>
         ensures history { IfOk result (λ c. IsHistoryOf J.plan c.history c.values) }
+        ensures accepted { IfOk result (λ c. RunsAsAccepted J.plan c.history c.values) }
         ensures quiet { IfOk result IsQuiet }
         ensures answers { IfOk result (λ c. All (AnswersAreIn c.history) seats.entry.items) }
         ensures no_other { IfOk result (λ c. All (IsSeated seats.entry.items) c.history) }
         ensures seen { IfOk result (λ c. All (SeenIsIn c.history) seats.entry.items) }
     {
         history::laws::legal_is_serial();
+        lowering::laws::compiled_run_alike();
         let Shared {
             alloc: _,
             program,
@@ -345,7 +355,7 @@ impl<'p, J: Naming> Shared<'p, J> {
             wakings: _,
             print_rooms: _,
         } = self;
-        let _typed = program.typed();
+        let _typed = program.expanded();
         let Some((manager, log)) = guarded.into_inner().into_parts() else {
             return Err(Strange);
         };

@@ -1,7 +1,7 @@
 //! The scripts of a program, each run by a thread of its own.
 
 ghost use Rattle.workers.specs.declared.seat.CallRefusal.TheVariants as refusal;
-ghost use Rattle.std.specs.Prelude.{◌≡◌, ◌<◌, ℕ, true, Some, Err, IfOk, IfSome, OnOk, MatchOption, length, map};
+ghost use Rattle.std.specs.Prelude.{◌≡◌, ◌<◌, ◌↔◌, ◌⊎◌, ℕ, true, Some, Err, IsOk, IfOk, IfSome, OnOk, MatchOption, length, map};
 ghost use denote.Param.Send.{IsSend, IsSync};
 ghost use Rattle.lowering.specs.contracts.compiled.Program as program;
 ghost use Rattle.worlds.specs.Claims.{AreOfScripts};
@@ -20,15 +20,15 @@ use std::marker::Brand;
 use std::sync::Wait;
 use std::thread;
 use std::thread::Threads;
-use workers_seen::log::NewLog;
 use workers_seen::naming::Naming;
+use workers_seen::row::Row;
 
 /// Runs each script of the program in a thread of its own, to its end. The gate is told how far each call has come.
 ///
 /// # Errors
 ///
 /// A thread that is refused memory, or can't be started, stops; the others go on, and the answer is want of memory. It
-/// is strange where a thread's call was, whatever else was refused.
+/// is strange where a thread's call was, whatever else was refused: [`joined`].
 pub fn run_threads<'p, R: Threads + Wait + Sync, G: Gate>(
     rt: &R,
     alloc: Global,
@@ -41,33 +41,33 @@ pub fn run_threads<'p, R: Threads + Wait + Sync, G: Gate>(
         IfOk result (λ c. (t : ℕ) → t < count → HasScript program.now c.history t) }
     ensures nobody_else { IfOk result (λ c. AreOfScripts program.now c.history) }
 {
-    run_named::<Brand, R, G>(rt, alloc, program, NewLog::new(), gate)
+    let row = Row::new(alloc)?;
+    run_named::<Brand, R, G>(rt, alloc, program, &row, gate)
 }
 
-// The same, of the program and into the log that `J` names.
-fn run_named<'p, J: Naming + Send + Sync, R: Threads + Wait + Sync, G: Gate>(
+// The same, of the program and into the row that `J` names.
+fn run_named<'p, 'r, J: Naming + Send + Sync, R: Threads + Wait + Sync, G: Gate>(
     rt: &R,
     alloc: Global,
     program: &'p Program,
-    log: NewLog,
+    row: &'r Row,
     gate: &G,
 ) -> Result<Closed<'p>, CallRefusal>
     requires program { program.now ≡ J.plan }
-    requires log { log ≡ J.book }
+    requires row { row.now ≡ J.book }
     ensures history { IfOk result (λ c. IsHistoryOf J.plan c.history c.values) }
     ensures accepted { IfOk result (λ c. RunsAsAccepted J.plan c.history c.values) }
     ensures scripts { let count = length program.now.program.threads.items in
         IfOk result (λ c. (t : ℕ) → t < count → HasScript J.plan c.history t) }
     ensures nobody_else { IfOk result (λ c. AreOfScripts J.plan c.history) }
 {
-    worlds::laws::of_scripts_run_alike();
-    let _typed = program.typed();
+    let _typed = program.expanded();
     let count = program.threads();
     if count > 64 {
         return Err(CallRefusal::Strange);
     }
-    let (shared, seats): (Shared<'p, J>, Vec<Seat<'p, J>>) = Shared::open(
-        log, alloc, program, count,
+    let (shared, seats): (Shared<'p, 'r, J>, Vec<Seat<'p, 'r, J>>) = Shared::open(
+        row, alloc, program, count,
     )?;
     let places = places_of(alloc, seats)?;
     let places = run_all(rt, alloc, &shared, places, gate)?;
@@ -82,22 +82,22 @@ fn run_named<'p, J: Naming + Send + Sync, R: Threads + Wait + Sync, G: Gate>(
 
 /// A seat, and whether its thread's script has run: its answers are to just the calls of that, in order.
 #[derive(Drop)]
-pub(crate) struct ScriptSeat<'p, J: Naming> {
-    seat: Seat<'p, J>,
+pub(crate) struct ScriptSeat<'p, 'r, J: Naming> {
+    seat: Seat<'p, 'r, J>,
     ran: bool,
     ghost calls: { ran ≡ true → Some (map call_in seat.answers) ≡ script_at J.plan seat.thread },
 }
 
 // A seat before its thread's script has run.
-fn place_of<'p, J: Naming>(seat: Seat<'p, J>) -> ScriptSeat<'p, J> {
+fn place_of<'p, 'r, J: Naming>(seat: Seat<'p, 'r, J>) -> ScriptSeat<'p, 'r, J> {
     ScriptSeat { seat, ran: false }
 }
 
 // The seats before any script has run.
-fn places_of<'p, J: Naming>(
+fn places_of<'p, 'r, J: Naming>(
     alloc: Global,
-    seats: Vec<Seat<'p, J>>,
-) -> Result<Vec<ScriptSeat<'p, J>>, NoMemory> {
+    seats: Vec<Seat<'p, 'r, J>>,
+) -> Result<Vec<ScriptSeat<'p, 'r, J>>, NoMemory> {
     let mut places = Vec::with_capacity(alloc, seats.len())?;
     for seat in seats {
         places.push(place_of(seat))?;
@@ -105,14 +105,14 @@ fn places_of<'p, J: Naming>(
     Ok(places)
 }
 
-// Runs the script of each seat's thread in a thread of its own. Errors: the worst refusal.
-fn run_all<'p, J: Naming + Send + Sync, R: Threads + Wait + Sync, G: Gate>(
+// Runs the script of each seat's thread in a thread of its own. Errors: the threads' refusals, joined.
+fn run_all<'p, 'r, J: Naming + Send + Sync, R: Threads + Wait + Sync, G: Gate>(
     rt: &R,
     alloc: Global,
-    shared: &Shared<'p, J>,
-    places: Vec<ScriptSeat<'p, J>>,
+    shared: &Shared<'p, 'r, J>,
+    places: Vec<ScriptSeat<'p, 'r, J>>,
     gate: &G,
-) -> Result<Vec<ScriptSeat<'p, J>>, CallRefusal> {
+) -> Result<Vec<ScriptSeat<'p, 'r, J>>, CallRefusal> {
     lowering::laws::programs_are_shared();
     let mut places = places;
     let lent = &mut places;
@@ -126,7 +126,7 @@ fn run_all<'p, J: Naming + Send + Sync, R: Threads + Wait + Sync, G: Gate>(
             let Ok(mut handles) = Vec::with_capacity(alloc, lent.len()) else {
                 return Err(CallRefusal::NoMemory);
             };
-            let mut worst = Worst { refusal: None };
+            let mut told = Ok(());
             let each = lent.iter_mut();
             for place in each {
                 let started = scope.spawn(move || -> Result<(), CallRefusal> {
@@ -135,16 +135,16 @@ fn run_all<'p, J: Naming + Send + Sync, R: Threads + Wait + Sync, G: Gate>(
                 match started {
                     Ok(handle) => {
                         if handles.push(handle).is_err() {
-                            worst.note(Err(CallRefusal::NoMemory));
+                            told = joined(told, Err(CallRefusal::NoMemory));
                         }
                     }
-                    Err(_) => worst.note(Err(CallRefusal::NoMemory)),
+                    Err(_) => told = joined(told, Err(CallRefusal::NoMemory)),
                 }
             }
             for handle in handles {
-                worst.note(handle.join(rt));
+                told = joined(told, handle.join(rt));
             }
-            worst.into_result()
+            told
         },
     );
     match ran {
@@ -153,30 +153,21 @@ fn run_all<'p, J: Naming + Send + Sync, R: Threads + Wait + Sync, G: Gate>(
     }
 }
 
-// The worst refusal so far.
-#[derive(Drop)]
-struct Worst {
-    refusal: Option<CallRefusal>,
-}
-
-impl Worst {
-    // What is strange stays so, whatever else is refused.
-    fn note(&mut self, joined: Result<(), CallRefusal>)
-        ensures kept { self.old.refusal ≡ Some refusal.Strange → self.new.refusal ≡ Some refusal.Strange }
-        ensures strange { joined ≡ Err refusal.Strange → self.new.refusal ≡ Some refusal.Strange }
-    {
-        if let Err(refusal) = joined {
-            if self.refusal != Some(CallRefusal::Strange) {
-                self.refusal = Some(refusal);
-            }
-        }
-    }
-
-    fn into_result(self) -> Result<(), CallRefusal> {
-        match self.refusal {
-            None => Ok(()),
-            Some(refusal) => Err(refusal),
-        }
+/// What the answers of two threads come to: strange, where one is, whatever the other; else want of memory, where one is.
+pub fn joined(
+    one: Result<(), CallRefusal>,
+    other: Result<(), CallRefusal>,
+) -> Result<(), CallRefusal>
+    ensures strange { (result ≡ Err refusal.Strange) ↔ ((one ≡ Err refusal.Strange) ⊎ (other ≡ Err refusal.Strange)) }
+    ensures ok { IsOk result ↔ (IsOk one × IsOk other) }
+{
+    match one {
+        Ok(()) => other,
+        Err(CallRefusal::Strange) => Err(CallRefusal::Strange),
+        Err(CallRefusal::NoMemory) => match other {
+            Ok(()) => Err(CallRefusal::NoMemory),
+            Err(refused) => Err(refused),
+        },
     }
 }
 
@@ -184,7 +175,7 @@ impl Worst {
 fn call_at(program: &Program, thread: u32, step: usize) -> Option<&Call>
     ensures { MatchOption result (NoCall program.now thread step) (λ call. IsCall program.now thread step call.now) }
 {
-    let thread = program.typed().threads.get(thread as usize)?;
+    let thread = program.expanded().threads.get(thread as usize)?;
     thread.calls.get(step)
 }
 
@@ -192,15 +183,15 @@ fn call_at(program: &Program, thread: u32, step: usize) -> Option<&Call>
 fn calls_of(program: &Program, thread: u32) -> Option<usize>
     ensures { IfSome result (λ n. HasCalls program.now thread n) }
 {
-    let thread = program.typed().threads.get(thread as usize)?;
+    let thread = program.expanded().threads.get(thread as usize)?;
     Some(thread.calls.len())
 }
 
 // Runs the script of a seat's thread.
-fn run_place<'p, J: Naming, R: Wait, G: Gate>(
+fn run_place<'p, 'r, J: Naming, R: Wait, G: Gate>(
     rt: &R,
-    shared: &Shared<'p, J>,
-    place: &mut ScriptSeat<'p, J>,
+    shared: &Shared<'p, 'r, J>,
+    place: &mut ScriptSeat<'p, 'r, J>,
     gate: &G,
 ) -> Result<(), CallRefusal> {
     place.ran = false;
@@ -210,10 +201,10 @@ fn run_place<'p, J: Naming, R: Wait, G: Gate>(
 }
 
 // Runs the script of a seat's thread.
-fn run_script<'p, J: Naming, R: Wait, G: Gate>(
+fn run_script<'p, 'r, J: Naming, R: Wait, G: Gate>(
     rt: &R,
-    shared: &Shared<'p, J>,
-    seat: &mut Seat<'p, J>,
+    shared: &Shared<'p, 'r, J>,
+    seat: &mut Seat<'p, 'r, J>,
     gate: &G,
 ) -> Result<(), CallRefusal>
     ensures { OnOk result (Some (map call_in seat.new.answers) ≡ script_at J.plan seat.new.thread) }
@@ -236,11 +227,11 @@ fn run_script<'p, J: Naming, R: Wait, G: Gate>(
 }
 
 // The seats, where all scripts have run and they are those of all threads, in order.
-fn in_order<'p, J: Naming>(
+fn in_order<'p, 'r, J: Naming>(
     alloc: Global,
-    places: Vec<ScriptSeat<'p, J>>,
+    places: Vec<ScriptSeat<'p, 'r, J>>,
     count: u32,
-) -> Result<Option<Vec<Seat<'p, J>>>, NoMemory>
+) -> Result<Option<Vec<Seat<'p, 'r, J>>>, NoMemory>
     ensures { IfOk result (λ r. IfSome r (λ seats. AreInOrder J.plan count seats.items)) }
 {
     let mut seats = Vec::new(alloc);

@@ -1,4 +1,4 @@
--- The exchange that adds an entry keeps the rule.
+-- The exchange that adds an entry keeps the rule, and so does a look.
 use Rattle.std.proofs.Common.{◌≡◌, ℕ, ◌+◌, ◌<◌, ◌==◌, Bool, true, false, List, [], ◌∷◌, ◌++◌, length, refl, ap, sym, subst, arith, inl, length-append, None}
 use Rattle.std.proofs.lemmas.List.{append-nil}
 use Rattle.std.proofs.lemmas.Bool.Decides.{nat_tests}
@@ -6,7 +6,7 @@ use mathlib.Core.List.{IsPrefix}
 use prog.Atomic.{either}
 use Rattle.logbook.specs.Pages.{Cell, cell, keeps, no_nib, step, Moves, Goes}
 use Rattle.history.specs.Commits.{Commit}
-use Rattle.workers_seen.specs.Working.Rules.{IsKept, Adds}
+use Rattle.workers_seen.specs.Working.Rules.{IsKept, Adds, Looks}
 use Rattle.workers_seen.proofs.Fronts.{prefix_whole}
 
 abbrev shown : List Commit → List Commit
@@ -47,3 +47,23 @@ pub adds_moves : (v : List Commit) (e : Commit) (old : ℕ) → length v ≡ old
 adds_moves v e old len cs log kept pre away =
     let P : List Cell → Type 0 = λ c. (0 < length c) × ((cell c 0).1 ≡ true) × Goes IsKept shown (moved e) 0 (v, (no_nib, None)) (λ n. either (n == old) (old + 1) n) (Adds (step 0 old (old + 1) e) (v, (no_nib, None))) c log in
     subst P (sym kept.words) (omega arith, refl, adds_goes log v e old len pre (length log == old) refl)
+
+looks_goes : (log v : List Commit) (e : Commit) →
+    Goes IsKept shown (moved e) 0 (v, (no_nib, None)) (λ n. n) (Looks (step 0 0 0 e) (v, (no_nib, None))) ((length log, true) ∷ (0, true) ∷ []) log
+looks_goes log v e =
+    let n : length log ≡ length (log ++ []) = ap length (sym (append-nil log)) in (
+      keeps,
+      [],
+      None,
+      tt,
+      record { words = ap (λ (k : ℕ). (k, true) ∷ (0, true) ∷ []) n },
+      inl (refl, refl),
+      n,
+    )
+
+-- whatever the row is, a look finds how many entries it has
+pub looks_moves : (v : List Commit) (e : Commit) →
+    Moves IsKept shown (moved e) 0 (v, (no_nib, None)) (λ n. n) (Looks (step 0 0 0 e) (v, (no_nib, None)))
+looks_moves v e cs log kept pre away =
+    let P : List Cell → Type 0 = λ c. (0 < length c) × ((cell c 0).1 ≡ true) × Goes IsKept shown (moved e) 0 (v, (no_nib, None)) (λ n. n) (Looks (step 0 0 0 e) (v, (no_nib, None))) c log in
+    subst P (sym kept.words) (omega arith, refl, looks_goes log v e)

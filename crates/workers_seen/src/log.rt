@@ -1,4 +1,4 @@
-//! A log, to which entries are added.
+//! A log: what one who borrows a row adds to it.
 
 ghost use Rattle.std.specs.Prelude.{◌≡◌, ◌<◌, ◌↔◌, ◌++◌, ◌∷◌, [], drop, length, IfOk, IsTrue, MatchBool};
 ghost use Rattle.std.specs.List.{All};
@@ -6,94 +6,64 @@ ghost use Rattle.workers_seen.specs.Logs.{NoneOf};
 
 use crate::front::Front;
 use crate::naming::Naming;
-use crate::rule::{Count, Entered, Law};
+use crate::row::Row;
 use history::kept::Kept;
-use logbook::{Seen, Start, Word};
 use source::memory::NoMemory;
 use std::alloc::Global;
 use std::marker::Model;
 
-/// A log without entries, which no call has named yet. As a value it is what tells it from other logs.
+/// The log on the row that `J` names, to which entries are added. As a value it is its entries.
 #[derive(Drop)]
-pub struct NewLog {
-    word: Count,
-    seen: Seen<Entered, u64, Law>,
-}
-
-impl Model for NewLog {
-    ghost use Rattle.std.specs.Prelude.{◌≡◌, []};
-    ghost use Rattle.logbook.specs.Pages.{Book};
-    ghost use Rattle.workers_seen.specs.Working.Rules.{word_of};
-
-    ghost Value = { Book };
-
-    ghost view = { λ l. l.seen.book };
-
-    ghost invariant = { λ l. (l.seen.log ≡ []) × (l.word ≡ word_of l.seen.book) };
-}
-
-impl NewLog {
-    /// A log without entries.
-    pub fn new() -> NewLog {
-        let (seen, mut first, _second) = Seen::open(Start::alone(), 0, 0);
-        NewLog {
-            word: Word::tracked(0, &mut first),
-            seen,
-        }
-    }
-
-    /// The log by its name, for the entries of so many threads.
-    ///
-    /// # Errors
-    ///
-    /// Want of memory.
-    pub fn named<J: Naming>(self, alloc: Global, threads: u32) -> Result<Log<J>, NoMemory>
-        requires { self ≡ J.book }
-        ensures { IfOk result (λ log. log ≡ []) }
-    {
-        let NewLog { word, seen } = self;
-        let mut ends = Vec::with_capacity(alloc, threads as usize)?;
-        for _ in 0..threads {
-            ends.push(0)?;
-        }
-        Ok(Log {
-            word,
-            front: Front::new(seen),
-            ends,
-        })
-    }
-}
-
-/// The log that `J` names, to which entries are added. As a value it is its entries.
-#[derive(Drop)]
-pub struct Log<J: Naming> {
-    word: Count,
-    front: Front<J>,
+pub struct Log<'r, J: Naming> {
+    front: Front<'r, J>,
     // For each thread how long the log was with its last entry: 0, where it has none.
     ends: Vec<usize>,
 }
 
-impl<J: Naming> Model for Log<J> {
+impl<'r, J: Naming> Model for Log<'r, J> {
     ghost use Rattle.std.specs.Prelude.{◌≡◌, List};
     ghost use Rattle.history.specs.Commits.{Commit};
-    ghost use Rattle.workers_seen.specs.Working.Rules.{word_of, AreEnds};
+    ghost use Rattle.workers_seen.specs.Working.Rules.{AreEnds};
 
     ghost Value = { List Commit };
 
     ghost view = { λ l. l.front };
 
-    ghost invariant = { λ l. (l.word ≡ word_of J.book) × AreEnds l.ends.items l.front };
+    ghost invariant = { λ l. AreEnds l.ends.items l.front };
 }
 
-impl<J: Naming> Log<J> {
+impl<'r, J: Naming> Log<'r, J> {
+    ghost use Rattle.std.specs.Prelude.{◌≡◌, []};
+
+    /// A log without entries at the beginning of a row, for the entries of so many threads. The row stays as it was. Where
+    /// it has entries already, none is added here.
+    ///
+    /// # Errors
+    ///
+    /// Want of memory.
+    pub fn of(row: &'r Row, alloc: Global, threads: u32) -> Result<Log<'r, J>, NoMemory>
+        requires { row.now ≡ J.book }
+        ensures { IfOk result (λ log. log ≡ []) }
+    {
+        let mut ends = Vec::with_capacity(alloc, threads as usize)?;
+        for _ in 0..threads {
+            ends.push(0)?;
+        }
+        Ok(Log {
+            front: Front::new(row),
+            ends,
+        })
+    }
+
     /// What there is of it, as it can be seen.
-    pub fn front(&self) -> Front<J>
+    pub fn front(&self) -> Front<'r, J>
         ensures { result ≡ self.now }
     {
         self.front.again()
     }
 
-    /// Adds an entry, if it is of one of the log's threads and the log isn't as long as one can be.
+    /// Adds an entry, if it is of one of the log's threads, the log isn't as long as one can be, and the row has no entry
+    /// that isn't the log's. Else all is as it was.
     pub fn enter(&mut self, entry: &Kept<'_>) -> bool
         ensures { MatchBool result (self.new ≡ self.old ++ entry.now ∷ []) (self.new ≡ self.old) }
     {
@@ -102,7 +72,7 @@ impl<J: Naming> Log<J> {
         if thread >= self.ends.len() || count == usize::MAX {
             return false;
         }
-        if !self.front.add(&self.word, entry) {
+        if !self.front.add(entry) {
             return false;
         }
         self.ends[thread] = count + 1;

@@ -1,8 +1,8 @@
-//! Which program it is, and which log.
+//! Which program it is, and which row.
 
 use std::marker::Brand;
 
-/// Which program it is, and which log its calls are entered into, for contracts. Whoever makes a log picks them;
+/// Which program it is, and which row its calls are entered into, for contracts. Whoever makes a row picks them;
 /// they aren't there when the program runs.
 pub trait Naming {
     ghost use Rattle.lowering.specs.Plans.{Plan};

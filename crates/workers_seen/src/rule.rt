@@ -1,4 +1,4 @@
-//! What holds of a log's word.
+//! What holds of a row's word.
 
 ghost use Rattle.history.specs.Commits.{Commit};
 
@@ -6,7 +6,7 @@ use history::kept::Kept;
 use logbook::{Gain, Plain, Play, Rule, Word};
 use std::marker::{Model, PhantomData};
 
-/// An entry, of which a log's tokens tell. None is ever made: tokens have no bytes.
+/// An entry, of which a row's tokens tell. None is ever made: tokens have no bytes.
 pub struct Entered {
     marker: PhantomData<()>,
     ghost commit: { Commit },
@@ -23,10 +23,10 @@ impl Model for Entered {
     ghost also_owns = { λ _. ftrue };
 }
 
-/// The word of a log.
+/// The word of a row.
 pub type Count = Word<Entered, u64, Law>;
 
-/// The word is the length of the log.
+/// The word is the length of the row.
 pub struct Law;
 
 impl Rule<Entered, u64> for Law {
@@ -63,6 +63,25 @@ impl Play<Entered, u64> for Add {
     ghost use Rattle.workers_seen.specs.Working.Rules.{Adds};
 
     ghost then = { Adds };
+}
+
+/// A step that tells how many entries there are, and adds none.
+pub struct Look;
+
+impl Play<Entered, u64> for Look {
+    ghost use Rattle.workers_seen.specs.Working.Rules.{Looks};
+
+    ghost then = { Looks };
+}
+
+/// It asks for nothing.
+impl Plain<(), Entered, u64> for Look {
+    ghost use Rattle.std.specs.Prelude.{None};
+    ghost use Rattle.workers_seen.specs.Working.Nothing.{no_entry};
+
+    ghost ask = { λ nothing. no_entry };
+
+    ghost state = { λ nothing. None };
 }
 
 /// It adds the entry that is lent.

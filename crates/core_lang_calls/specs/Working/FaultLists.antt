@@ -1,15 +1,17 @@
 -- The faults of a graph as one list, in the order in which they are looked for. Only proofs read it: what a fault is, says Faults.
-use Rattle.std.specs.Prelude.{ℕ, ◌+◌, nat_lt, nat_le, not, ◌==◌, ◌&&◌, ◌||◌, Bool, if◌then◌else◌, List, [], ◌∷◌, ◌++◌}
-use Rattle.std.specs.List.{flat_map}
+use Rattle.std.specs.Prelude.{ℕ, ◌+◌, nat_lt, nat_le, not, ◌&&◌, Bool, true, if◌then◌else◌, List, [], ◌∷◌, ◌++◌, Option}
+use Rattle.std.specs.Prelude.{Some, None}
+use Rattle.std.specs.List.{flat_map, list_any}
 use Rattle.source.specs.declared.fault.Code.{Code}
 use Rattle.source.specs.declared.fault.Code.TheVariants.{LimitExceeded, RecursiveHelper}
 use Rattle.source.specs.declared.mistake.Mistake.{Mistake}
+use Rattle.source.specs.Mistakes.{goes_before}
 use Rattle.core_lang_calls.specs.declared.graph.CallSite.{CallSite}
 use Rattle.core_lang_calls.specs.Graphs.{Body, Graph}
 use Rattle.core_lang_calls.specs.Depths.{depth, is_endless}
 use Rattle.core_lang_calls.specs.Counts.{brought_locals, brought_points}
 use Rattle.core_lang_calls.specs.Faults.{DEPTH_LIMIT, LOCAL_LIMIT, POINT_LIMIT}
-use Rattle.core_lang_calls.specs.Working.Tables.{reaches}
+use Rattle.core_lang_calls.specs.Working.Tables.{leads_to, is_marked}
 
 abbrev pub told_if : Bool → Code → ℕ → List Mistake
 told_if b code start = if b then record { code = code; start = start } ∷ [] else []
@@ -18,10 +20,22 @@ told_if b code start = if b then record { code = code; start = start } ∷ [] el
 
 -- a call in helper f
 abbrev pub leads_back : List Body → ℕ → CallSite → Bool
-leads_back helpers f c = (c.helper == f) || reaches helpers c.helper f
+leads_back helpers f c = leads_to helpers c.helper f
 
 abbrev pub recursion_faults : List Body → ℕ → CallSite → List Mistake
 recursion_faults helpers f c = told_if (leads_back helpers f c) RecursiveHelper c.start
+
+-- a call of a helper that is marked
+abbrev pub marked_faults : List Bool → CallSite → List Mistake
+marked_faults marks c = told_if (is_marked marks c.helper) RecursiveHelper c.start
+
+-- a recursion that is found there is kept: it comes before what was noted
+abbrev pub is_new : Option Mistake → CallSite → Bool
+is_new None c = true
+is_new (Some kept) c = goes_before (record { code = RecursiveHelper; start = c.start }) kept
+
+abbrev pub any_new : Option Mistake → List CallSite → Bool
+any_new least calls = list_any (is_new least) calls
 
 abbrev pub is_too_deep : List Body → ℕ → Bool
 is_too_deep helpers f = nat_lt DEPTH_LIMIT (depth helpers f) && not (is_endless helpers f)

@@ -1,34 +1,17 @@
 -- What the tables of the code hold. Nobody has to believe these: what the faults are, says `Faults`.
-use Rattle.std.specs.Prelude.{◌≡◌, ℕ, zero, suc, ◌+◌, ◌<◌, ◌-◌, min, nat_lt, ◌==◌, ◌&&◌, ◌||◌, Bool, true, false}
-use Rattle.std.specs.Prelude.{List, length, slice_get, slice_index_or, Option, Some, None}
+use Rattle.std.specs.Prelude.{◌≡◌, ◌⊎◌, ℕ, zero, suc, ◌+◌, ◌<◌, min, nat_lt, ◌==◌, ◌&&◌, ◌||◌, Bool, true, false}
+use Rattle.std.specs.Prelude.{List, [], ◌∷◌, length, take, get_or, slice_get, slice_index_or, Option, Some, None}
 use Rattle.std.specs.List.{list_any, sum_by}
+use Rattle.std.proofs.Common.{Vec, Global}
 use Rattle.core_lang_calls.specs.declared.graph.CallSite.{CallSite}
-use Rattle.bit_set.specs.Working.Sets.{has_number}
-use Rattle.core_lang_calls.specs.declared.helper_set.HelperSet.{HelperSet}
 use Rattle.core_lang_calls.specs.declared.extents.Extent.{Extent}
 use Rattle.core_lang_calls.specs.Graphs.{Body}
-use Rattle.core_lang_calls.specs.Depths.{deepest_of, depth_within}
+use Rattle.core_lang_calls.specs.Recursion.{HasCall, Calls}
+use Rattle.core_lang_calls.specs.Depths.{CallsOnly, deepest_of, depth_within, far, is_endless}
 use Rattle.core_lang_calls.specs.Counts.{one_for, hidden, locals_within, points_within}
-use Rattle.core_lang_calls.specs.Faults.{LOCAL_LIMIT, POINT_LIMIT}
+use Rattle.core_lang_calls.specs.Faults.{DEPTH_LIMIT, LOCAL_LIMIT, POINT_LIMIT}
 
--- ---- sets of helpers
-
--- helpers below 128 in the lower half
-abbrev pub has_by : Bool → HelperSet → ℕ → Bool
-has_by true set h = has_number set.low h
-has_by false set h = has_number set.high (h - 128)
-
-abbrev pub has_helper : HelperSet → ℕ → Bool
-has_helper set h = has_by (nat_lt h 128) set h
-
-abbrev pub no_helpers : HelperSet
-no_helpers = record { low = record { bits = 0 }; high = record { bits = 0 } }
-
--- ---- which helpers reach which: a set for each
-
--- the set of the first has the second
-abbrev pub leads : List HelperSet → ℕ → ℕ → Bool
-leads rows f g = has_helper (slice_index_or rows f no_helpers) g
+-- ---- which helpers reach which
 
 abbrev pub is_called : List CallSite → ℕ → Bool
 is_called calls g = list_any (λ (c : CallSite). c.helper == g) calls
@@ -45,20 +28,68 @@ reaches_over (suc k) helpers f g = reaches_over k helpers f g || (reaches_over k
 abbrev pub reaches : List Body → ℕ → ℕ → Bool
 reaches helpers f g = reaches_over (length helpers) helpers f g
 
--- what is reached through helper k is added
-abbrev pub AddsThrough : List HelperSet → List HelperSet → ℕ → Type 0
-AddsThrough old new k = (f g : ℕ) → leads new f g ≡ (leads old f g || (leads old f k && leads old k g))
+-- ---- who calls each helper: a row for each
 
--- a table of what is reached over helpers below k
-pub record IsReach (helpers : List Body) (rows : List HelperSet) (k : ℕ) : Type 0 where
+-- the list has the helper
+abbrev pub Has : List ℕ → ℕ → Type 0
+Has [] f = ⊥
+Has (x ∷ xs) f = (x ≡ f) ⊎ Has xs f
+
+abbrev pub row_of : Option (Vec ℕ Global) → List ℕ
+row_of (Some row) = row.items
+row_of None = []
+
+abbrev pub row_at : List (Vec ℕ Global) → ℕ → List ℕ
+row_at rows g = row_of (slice_get rows g)
+
+-- so many empty rows
+pub record HaveNone (rows : List (Vec ℕ Global)) (count : ℕ) : Type 0 where
+  pub long : length rows ≡ count
+  pub empty : (g f : ℕ) → Has (row_at rows g) f → ⊥
+
+-- helper f is added to the row of each helper that these calls are of
+pub record AddsCaller (old new : List (Vec ℕ Global)) (f : ℕ) (calls : List CallSite) : Type 0 where
+  pub long : length new ≡ length old
+  pub kept : (g x : ℕ) → Has (row_at old g) x → Has (row_at new g) x
+  pub added : (g : ℕ) → g < length old → HasCall calls g → Has (row_at new g) f
+  pub from : (g x : ℕ) → Has (row_at new g) x → Has (row_at old g) x ⊎ ((f ≡ x) × HasCall calls g)
+
+-- the rows have the callers of each helper among the first k, and no others
+pub record IsCallersTo (helpers : List Body) (rows : List (Vec ℕ Global)) (k : ℕ) : Type 0 where
   pub long : length rows ≡ length helpers
-  pub leads : (f g : ℕ) → g < 256 → leads rows f g ≡ reaches_over k helpers f g
+  pub calls : (f g : ℕ) → Has (row_at rows g) f → Calls helpers f g
+  pub called : (f g : ℕ) → f < k → g < length rows → Calls helpers f g → Has (row_at rows g) f
+
+-- ---- which helpers lead to one: those that are marked
+
+abbrev pub is_marked : List Bool → ℕ → Bool
+is_marked marks h = slice_index_or marks h false
+
+-- helper g is helper f, or reaches it
+abbrev pub leads_to : List Body → ℕ → ℕ → Bool
+leads_to helpers g f = (g == f) || reaches helpers g f
+
+pub record AreLeading (helpers : List Body) (marks : List Bool) (f : ℕ) : Type 0 where
+  pub leads : (g : ℕ) → is_marked marks g ≡ leads_to helpers g f
+
+abbrev pub open_mark : Bool → ℕ
+open_mark true = 0
+open_mark false = 1
+
+abbrev pub unmarked : List Bool → ℕ
+unmarked marks = sum_by open_mark marks
+
+-- the helpers of a row are marked, and those that were not yet are among the pending ones
+pub record Marks (row : List ℕ) (old new : List Bool) (before after : List ℕ) : Type 0 where
+  pub long : length new ≡ length old
+  pub kept : (g : ℕ) → is_marked old g ≡ true → is_marked new g ≡ true
+  pub all : (g : ℕ) → Has row g → g < length old → is_marked new g ≡ true
+  pub from : (g : ℕ) → is_marked new g ≡ true → (is_marked old g ≡ true) ⊎ (Has row g × Has after g)
+  pub still : (g : ℕ) → Has before g → Has after g
+  pub queued : (g : ℕ) → Has after g → Has before g ⊎ (is_marked new g ≡ true)
+  pub count : unmarked new + length after ≡ unmarked old + length before
 
 -- ---- depth, locals and points of each helper, none counted further than one past its limit
-
--- depths are counted up to the number of helpers
-abbrev pub FAR : ℕ
-FAR = 256
 
 abbrev pub up_to : ℕ → ℕ → ℕ
 up_to limit n = min n (limit + 1)
@@ -66,26 +97,59 @@ up_to limit n = min n (limit + 1)
 abbrev pub no_extent : Extent
 no_extent = record { depth = 0; locals = 0; points = 0 }
 
-abbrev pub extent_at : List Extent → ℕ → Extent
-extent_at table h = slice_index_or table h no_extent
+-- of a helper that is settled; nothing where there is none
+abbrev pub extent_at : List (Option Extent) → ℕ → Option Extent
+extent_at table h = slice_index_or table h (Some no_extent)
+
+abbrev pub seen : Option Extent → Extent
+seen (Some e) = e
+seen None = no_extent
+
+abbrev pub extent_seen : List (Option Extent) → ℕ → Extent
+extent_seen table h = seen (extent_at table h)
+
+-- settled, and too deep
+abbrev pub is_deep_by : Option Extent → Bool
+is_deep_by (Some e) = nat_lt DEPTH_LIMIT e.depth
+is_deep_by None = false
 
 -- of a helper, where calls are followed so far
 abbrev pub extent_within : ℕ → List Body → ℕ → Extent
 extent_within n helpers h = record {
-  depth = up_to FAR (depth_within n helpers h);
+  depth = up_to DEPTH_LIMIT (depth_within n helpers h);
   locals = up_to LOCAL_LIMIT (locals_within n helpers h);
   points = up_to POINT_LIMIT (points_within n helpers h);
 }
 
 -- of a body, by those of the helpers that it calls
-abbrev pub extent_by : List Extent → List Body → Body → Extent
+abbrev pub extent_by : List (Option Extent) → List Body → Body → Extent
 extent_by table helpers b = record {
-  depth = up_to FAR (1 + deepest_of (λ h. (extent_at table h).depth) b.calls);
-  locals = up_to LOCAL_LIMIT (b.locals + sum_by (λ (c : CallSite). (extent_at table c.helper).locals + hidden helpers c) b.calls);
-  points = up_to POINT_LIMIT (b.parameters + b.points + sum_by (λ (c : CallSite). (extent_at table c.helper).points) b.calls + one_for b.has_result);
+  depth = up_to DEPTH_LIMIT (1 + deepest_of (λ h. (extent_seen table h).depth) b.calls);
+  locals = up_to LOCAL_LIMIT (b.locals + sum_by (λ (c : CallSite). (extent_seen table c.helper).locals + hidden helpers c) b.calls);
+  points = up_to POINT_LIMIT (b.parameters + b.points + sum_by (λ (c : CallSite). (extent_seen table c.helper).points) b.calls + one_for b.has_result);
 }
 
--- a table of them
-pub record IsExtents (helpers : List Body) (table : List Extent) (n : ℕ) : Type 0 where
+abbrev pub IsSettled : List (Option Extent) → ℕ → Type 0
+IsSettled table h = (e : Extent) × (extent_at table h ≡ Some e)
+
+-- up to a place each call is of a settled helper, and there is none that is not
+pub record IsOpenFrom (table : List (Option Extent)) (calls : List CallSite) (k : ℕ) : Type 0 where
+  pub settled : CallsOnly (IsSettled table) (take k calls)
+  pub open_there : (d : CallSite) → k < length calls → extent_at table (get_or calls k d).helper ≡ None
+
+abbrev pub open_one : Option Extent → ℕ
+open_one (Some e) = 0
+open_one None = 1
+
+abbrev pub unsettled : List (Option Extent) → ℕ
+unsettled table = sum_by open_one table
+
+-- what a helper comes to that reaches no recursion
+abbrev pub IsExtentOf : List Body → ℕ → Extent → Type 0
+IsExtentOf helpers h e = (is_endless helpers h ≡ false) × (e ≡ extent_within (far helpers) helpers h)
+
+-- the helpers that reach no recursion are settled, and they come to that
+pub record IsExtents (helpers : List Body) (table : List (Option Extent)) : Type 0 where
   pub long : length table ≡ length helpers
-  pub extents : (h : ℕ) → extent_at table h ≡ extent_within n helpers h
+  pub ends : (h : ℕ) (e : Extent) → extent_at table h ≡ Some e → IsExtentOf helpers h e
+  pub endless : (h : ℕ) → extent_at table h ≡ None → is_endless helpers h ≡ true

@@ -1,7 +1,7 @@
 -- Marks in a text. Nobody has to believe this.
 use Rattle.std.specs.Prelude.{◌≡◌, ℕ, List}
 use Rattle.std.specs.List.{All}
-use Rattle.report_check.specs.declared.places.Cursor.{Cursor}
+use Rattle.source.specs.declared.cursor.Cursor.{Cursor}
 
 -- it is one of the text
 abbrev pub IsOf : List ℕ → Cursor → Type 0

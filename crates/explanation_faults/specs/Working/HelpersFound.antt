@@ -1,19 +1,16 @@
 -- How the code finds a limit on what helpers call. Nobody has to believe this file.
-use Rattle.std.specs.Prelude.{◌≡◌, ◌<◌, ◌&&◌, nat_le, nat_lt, ℕ, Bool, false, List, slice_get, Some, None}
+use Rattle.std.specs.Prelude.{◌≡◌, ◌<◌, ℕ, false, List, slice_get, Some}
 use Rattle.core_lang_calls.specs.Depths.{depth, is_endless}
 use Rattle.core_lang_calls.specs.Working.FaultLists.{graph_faults}
 use Rattle.core_lang_calls.specs.Faults.{DEPTH_LIMIT}
 use Rattle.core_lang_calls.specs.Graphs.{Body}
 use Rattle.resolution.specs.CallGraphs.{helper_bodies, tree_graph}
 use Rattle.source.specs.Mistakes.{least_of}
-use Rattle.source.specs.declared.fault.Code.TheVariants.{LimitExceeded}
+use Rattle.source.specs.declared.fault.Code.TheVariants.{LimitExceeded, RecursiveHelper}
 use Rattle.syntax.specs.Trees.{Decl}
 
 abbrev pub all_helpers : List Decl → List Body
 all_helpers decls = helper_bodies decls decls
-
-abbrev pub is_deep : ℕ → ℕ → Bool
-is_deep d helpers = nat_lt DEPTH_LIMIT d && nat_le d helpers
 
 -- one of the helpers is declared there, reaches no recursion, and is too deep
 pub record IsDeepThere (helpers : List Body) (at : ℕ) : Type 0 where
@@ -24,6 +21,7 @@ pub record IsDeepThere (helpers : List Body) (at : ℕ) : Type 0 where
   pub ends : is_endless helpers number ≡ false
   pub deep : DEPTH_LIMIT < depth helpers number
 
--- the first of the faults that are listed
+-- the first of the faults that are listed: of those that go before a recursion there
 abbrev pub IsFirstThere : List Decl → ℕ → Type 0
-IsFirstThere decls at = least_of None (graph_faults (tree_graph decls)) ≡ Some (record { code = LimitExceeded; start = at })
+IsFirstThere decls at =
+    least_of (Some (record { code = RecursiveHelper; start = at })) (graph_faults (tree_graph decls)) ≡ Some (record { code = LimitExceeded; start = at })

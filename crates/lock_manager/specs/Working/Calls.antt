@@ -10,8 +10,8 @@ use Rattle.moved_cells.specs.Working.Grants.{GrantOf, IsWhole, cells_in, locks_o
 use Rattle.history.specs.Commits.{Commit}
 use Rattle.lock_manager.specs.declared.places.LockPlace.TheVariants.{Free, Taken}
 use Rattle.lock_manager.specs.declared.queue.Waiter.{Waiter}
-use Rattle.lock_manager.specs.declared.response.Response.{Response}
-use Rattle.lock_manager.specs.declared.response.Response.TheVariants.{Granted, Held}
+use Rattle.lock_manager.specs.declared.answer.Answer.{Answer}
+use Rattle.lock_manager.specs.declared.answer.Answer.TheVariants.{Granted, Held}
 use Rattle.lock_manager.specs.Manager.{SessionOf}
 use Rattle.lock_manager.specs.Working.Sessions.{TicketOf, ReceiptOf, fresh, with_lock, with_ask}
 use Rattle.lock_manager.specs.Working.Queues.{waiting_in, leaving, joining}
@@ -81,7 +81,7 @@ pub record Refuses (m : Managed) (ticket : TicketOf) (lock : Lock) (holder : ℕ
   pub manager : m' ≡ after_refusal m ticket lock
 
 -- what a request is answered
-abbrev pub Answers : Managed → TicketOf → Lock → Response → Managed → TicketOf → Type 0
+abbrev pub Answers : Managed → TicketOf → Lock → Answer → Managed → TicketOf → Type 0
 Answers m ticket lock (Granted grant) m' ticket' = Grants m ticket lock grant m' ticket'
 Answers m ticket lock (Held holder) m' ticket' = Refuses m ticket lock holder m' ticket'
 

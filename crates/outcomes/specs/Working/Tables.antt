@@ -1,6 +1,7 @@
 -- How states are found. Nobody has to believe this file.
 use Rattle.std.specs.Prelude.{◌≡◌, ℕ, suc, ◌<◌, List, length, map, slice_get, Option, Some, None, nat_eq}
 use Rattle.std.specs.HashMap.{HashMap, get}
+use Rattle.std.specs.declared.hash.DefaultHasher.{DefaultHasher}
 use Rattle.std.specs.declared.hash.FoldHasher.{FoldHasher}
 use Rattle.std.specs.declared.hash.BuildHasherDefault.{BuildHasherDefault}
 use Rattle.core_lang.specs.declared.value.Value.{Value}
@@ -8,24 +9,26 @@ use Rattle.outcomes.specs.declared.layer.Entry.{Entry}
 use Rattle.outcomes.specs.Working.Hashes.{hash}
 use Rattle.outcomes.specs.Working.States.{IsAlike, entry_state, orders_to}
 
-abbrev pub hash_of : Entry → ℕ
-hash_of e = hash e.state.done.items e.state.cells.items
+-- by a hasher with the keys
+abbrev pub hash_of : DefaultHasher → Entry → ℕ
+hash_of start e = hash start e.state.done.items e.state.cells.items
 
 -- the entry of this number has the hash
-abbrev pub HasHash : List Entry → ℕ → ℕ → Type 0
-HasHash entries h k = (e : Entry) × (slice_get entries k ≡ Some e) × (hash_of e ≡ h)
+abbrev pub HasHash : DefaultHasher → List Entry → ℕ → ℕ → Type 0
+HasHash start entries h k = (e : Entry) × (slice_get entries k ≡ Some e) × (hash_of start e ≡ h)
 
 -- the last of the first n entries that has the hash, if any has
-abbrev pub IsLast : List Entry → ℕ → ℕ → Option ℕ → Type 0
-IsLast entries h n None = (k : ℕ) → k < n → ¬ (HasHash entries h k)
-IsLast entries h n (Some last) =
-    (last < n) × HasHash entries h last × ((k : ℕ) → last < k → k < n → ¬ (HasHash entries h k))
+abbrev pub IsLast : DefaultHasher → List Entry → ℕ → ℕ → Option ℕ → Type 0
+IsLast start entries h n None = (k : ℕ) → k < n → ¬ (HasHash start entries h k)
+IsLast start entries h n (Some last) =
+    (last < n) × HasHash start entries h last × ((k : ℕ) → last < k → k < n → ¬ (HasHash start entries h k))
 
 -- each hash leads to the last entry that has it, and each entry to the last before it with the same; and how many orders
 -- lead to any of the states
-pub record IsTable (entries : List Entry) (places : HashMap ℕ ℕ (BuildHasherDefault FoldHasher)) (total : ℕ) : Type 0 where
-  pub last : (h : ℕ) → IsLast entries h (length entries) (get nat_eq places h)
-  pub before : (k : ℕ) (e : Entry) → slice_get entries k ≡ Some e → IsLast entries (hash_of e) k e.before
+pub record IsTable (start : DefaultHasher) (entries : List Entry) (places : HashMap ℕ ℕ (BuildHasherDefault FoldHasher))
+    (total : ℕ) : Type 0 where
+  pub last : (h : ℕ) → IsLast start entries h (length entries) (get nat_eq places h)
+  pub before : (k : ℕ) (e : Entry) → slice_get entries k ≡ Some e → IsLast start entries (hash_of start e) k e.before
   pub sum : total ≡ orders_to (map entry_state entries)
 
 -- the entry of this number is of such a state
@@ -33,10 +36,10 @@ abbrev pub HasAlike : List Entry → List ℕ → List Value → ℕ → Type 0
 HasAlike entries done cells k = (e : Entry) × (slice_get entries k ≡ Some e) × IsAlike done cells (entry_state e)
 
 -- what is left to look at: such a state is of none above the number; of none at all, where there is no number
-abbrev pub IsLeft : List Entry → List ℕ → List Value → Option ℕ → Type 0
-IsLeft entries done cells None = (k : ℕ) → ¬ (HasAlike entries done cells k)
-IsLeft entries done cells (Some k) =
-    HasHash entries (hash done cells) k × ((j : ℕ) → k < j → ¬ (HasAlike entries done cells j))
+abbrev pub IsLeft : DefaultHasher → List Entry → List ℕ → List Value → Option ℕ → Type 0
+IsLeft start entries done cells None = (k : ℕ) → ¬ (HasAlike entries done cells k)
+IsLeft start entries done cells (Some k) =
+    HasHash start entries (hash start done cells) k × ((j : ℕ) → k < j → ¬ (HasAlike entries done cells j))
 
 -- one more than the number
 abbrev pub left_count : Option ℕ → ℕ

@@ -4,8 +4,8 @@ use Rattle.lock_manager.specs.Manager.{Managed}
 use Rattle.runner.specs.declared.states.Next.{Next}
 use Rattle.runner.specs.declared.states.Next.TheVariants.{Running, Asking, Ended}
 use Rattle.runner.specs.declared.states.Asked.{Asked}
-use Rattle.runner.specs.declared.states.Asked.TheVariants.{Granted, Held}
-use Rattle.runner.specs.Working.Opens.{OpenOf, IsRunning, IsSame, Gets, Waits}
+use Rattle.runner.specs.declared.states.Asked.TheVariants.{Got, Waits}
+use Rattle.runner.specs.Working.Opens.{OpenOf, IsRunning, IsSame, Gets, Waits as WaitsFor}
 
 -- the open section
 abbrev pub open_of : Next → OpenOf
@@ -21,15 +21,15 @@ IsNamed (Ended o) = (o.activation.pending ≡ []) × (o.activation.outcome ≢ N
 
 -- the lock is granted, or this other thread holds it
 abbrev pub Answered : Managed → OpenOf → Asked → Managed → Type 0
-Answered m o (Granted next) m' = Gets m o (open_of next) m'
-Answered m o (Held holder asking) m' = Waits m o holder asking m'
+Answered m o (Got next) m' = Gets m o (open_of next) m'
+Answered m o (Waits asking holder) m' = WaitsFor m o holder asking m'
 
 -- what is granted leads to the state that it is named
 abbrev pub IsNamedAfter : Asked → Type 0
-IsNamedAfter (Granted next) = IsNamed next
-IsNamedAfter (Held holder asking) = Unit {0}
+IsNamedAfter (Got next) = IsNamed next
+IsNamedAfter (Waits asking holder) = Unit {0}
 
 -- it goes on as the same section
 abbrev pub GoesOnSame : OpenOf → Asked → Type 0
-GoesOnSame o (Granted next) = IsSame o (open_of next)
-GoesOnSame o (Held holder asking) = IsSame o asking
+GoesOnSame o (Got next) = IsSame o (open_of next)
+GoesOnSame o (Waits asking holder) = IsSame o asking

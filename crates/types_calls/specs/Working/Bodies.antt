@@ -1,15 +1,14 @@
 -- The bodies of a tree.
-use Rattle.std.specs.Prelude.{List, take}
+use Rattle.std.specs.Prelude.{List}
 use Rattle.syntax.specs.Trees.{Decl, Section}
 use Rattle.core_lang_calls.specs.Graphs.{Body}
 use Rattle.resolution.specs.declared.body_limits.BodyLimits.{BodyLimits}
-use Rattle.resolution.specs.Limits.{SECTION_LIMIT}
 use Rattle.resolution.specs.Statements.{ahead_of}
 use Rattle.resolution.specs.CallGraphs.{body_in, helper_bodies, section_bodies}
 
--- the helpers, as many as there may be
-abbrev pub first_helpers : List Decl → List Body
-first_helpers decls = take SECTION_LIMIT (helper_bodies decls decls)
+-- the helpers, all of them
+abbrev pub all_helpers : List Decl → List Body
+all_helpers decls = helper_bodies decls decls
 
 -- the sections, all of them
 abbrev pub all_sections : List Decl → List Body

@@ -1,6 +1,6 @@
 -- Tables of names, and what stands ahead of each place.
 use Rattle.std.specs.Prelude.{◌≡◌, ℕ, List, [], take, Option, Some, None, Bool, slice_get, if◌then◌else◌}
-use Rattle.std.specs.BTreeMap.{get_by_text}
+use Rattle.std.specs.HashMap.{get_by_text}
 use Rattle.std.specs.Option.{option_or}
 use Rattle.std.specs.Str.{bytes_eq}
 use Rattle.syntax.specs.Trees.{Ident}

@@ -1,11 +1,13 @@
 -- What the parts of a call, and of a run of all scripts, tell each other. It mirrors the code: nobody has to believe
 -- it.
-use Rattle.std.specs.Prelude.{◌≡◌, ◌≤◌, ◌<◌, ◌+◌, ℕ, true, List, [], ◌∷◌, ◌++◌, length, map, Some, None, slice_index_or}
+use Rattle.std.specs.Prelude.{◌≡◌, ◌≤◌, ◌<◌, ◌+◌, ℕ, true, List, [], ◌∷◌, ◌++◌, length, map, Some, None, slice_get, slice_index_or}
 use Rattle.core_lang.specs.declared.value.Outcome.{Outcome}
+use Rattle.core_lang.specs.declared.tree.Section.{Section}
 use Rattle.core_lang.specs.declared.typed.Call.{Call}
 use Rattle.core_lang.specs.Serial.{Invocation, invocation}
 use Rattle.core_lang.specs.Typing.{HasCells}
 use Rattle.core_lang.specs.WellFormed.{CanCall}
+use Rattle.core_lang_laws.specs.Prints.{most_prints}
 use Rattle.code.specs.Memory.{Agrees}
 use Rattle.history.specs.Commits.{Commit, committed, IsTrueCommit}
 use Rattle.lowering.specs.Plans.{Plan}
@@ -15,6 +17,7 @@ use Rattle.workers.specs.Seats.{SeatOf, AreBegunInTurn, reply}
 use Rattle.workers.specs.Answers.{IsAnswer, AnswersAreIn, reply_at, replies_of, in_step, call_in, script_at}
 use Rattle.workers_seen.specs.Logs.{IsSound, NoneOf}
 use Rattle.workers.specs.Seen.{SeenIsIn}
+use Rattle.workers.specs.Working.Guarding.{AreCallable}
 use Rattle.workers.specs.declared.seat.Done.{Done}
 
 -- ---- a seat
@@ -50,12 +53,18 @@ pub record HasBegun (plan : Plan) (call : Invocation) (ready : ReadyOf) (o : Ope
     pub step : o.step ≡ ready.step
     pub call_is : o.activation.call ≡ call
 
--- its entry stands behind a sound log of this length, is true, and read what that log left; it began at a floor or
--- above
+-- there is room for all that one run of the section prints
+abbrev pub HasRoomFor : Plan → ℕ → ℕ → Type 0
+HasRoomFor plan number room =
+    (section : Section) → slice_get plan.program.sections.items number ≡ Some section → most_prints section ≤ room
+
+-- its entry stands behind a sound log of this length, of calls that can be made, is true, and read what that log left;
+-- it began at a floor or above
 pub record IsEntered (plan : Plan) (floor : ℕ) (o : OpenOf) (position : ℕ) : Type 0 where
   pub log : List Commit
   pub long : length log ≡ position
   pub sound : IsSound plan log
+  pub callable : AreCallable plan.program log
   pub cells : HasCells plan.program (committed plan.layout.opening log)
   pub agrees : Agrees (committed plan.layout.opening log) o.activation.machine.memory.reads
   pub is_true : (outcome : Outcome) → o.activation.outcome ≡ Some outcome →

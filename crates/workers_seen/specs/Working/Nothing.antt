@@ -1,8 +1,10 @@
--- The program and the log that a marker names where no call picks them: nothing.
+-- The program and the row that a marker names where no call picks them, and an entry that nobody asks for: nothing.
 use Rattle.std.specs.Prelude.{◌^◌, []}
 use Rattle.std.proofs.Common.{refl, lit<, lit≤, Vec, Global}
 use denote.RawPtr.{null_ptr}
 use Rattle.core_lang.specs.declared.typed.Typed.{Typed}
+use Rattle.core_lang.specs.declared.value.Outcome.TheVariants.{Ends}
+use Rattle.history.specs.Commits.{Commit}
 use Rattle.lowering.specs.Plans.{Plan}
 use Rattle.logbook.specs.Pages.{Book}
 
@@ -42,3 +44,16 @@ no_plan = record {
 
 abbrev pub no_book : Book
 no_book = record { number = 0; log_name = 0; cells_name = 0 }
+
+abbrev pub no_entry : Commit
+no_entry = record {
+  thread = 0;
+  step = 0;
+  section = 0;
+  arguments = [];
+  begun = 0;
+  reads = [];
+  writes = [];
+  outcome = Ends;
+  prints = [];
+}

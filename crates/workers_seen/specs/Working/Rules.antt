@@ -1,21 +1,25 @@
--- What holds of a log's word, and of the threads of its entries. It mirrors the code: nobody has to believe it.
+-- What holds of a row's word, and of the threads of its entries. It mirrors the code: nobody has to believe it.
 use Rattle.std.specs.Prelude.{ℕ, ◌≡◌, ◌<◌, ◌+◌, ◌==◌, true, List, [], ◌∷◌, ◌++◌, drop, length, slice_index_or, MatchBool}
 use Rattle.std.specs.List.{All}
 use Rattle.logbook.specs.Pages.{Cell, Step, View, Book, Named}
 use Rattle.history.specs.Commits.{Commit}
 use Rattle.workers_seen.specs.Logs.{NoneOf}
 
--- the first word is the length of the log. A book has two words, of which this one leaves the second at 0
+-- the first word is the length of the row. A book has two words, of which this one leaves the second at 0
 pub record IsKept (cells : List Cell) (log : List Commit) : Type 0 where
   pub words : cells ≡ (length log, true) ∷ (0, true) ∷ []
 
--- the word of a log
+-- the word of a row
 abbrev pub word_of : Book → Named
 word_of book = record { tracked = true; key = 0; book = book }
 
 -- where the word was as long as all that had been seen, the entry was added to that
 abbrev pub Adds : Step Commit → View Commit ℕ → ℕ → View Commit ℕ → Type 0
 Adds s v found w = MatchBool (found == s.old) (w.0 ≡ v.0 ++ s.ask ∷ []) (Unit {0})
+
+-- it found as many as there are
+abbrev pub Looks : Step Commit → View Commit ℕ → ℕ → View Commit ℕ → Type 0
+Looks s v found w = found ≡ length w.0
 
 -- for each thread how long the log was with its last entry, 0 where it has none
 pub record AreEnds (ends : List ℕ) (log : List Commit) : Type 0 where

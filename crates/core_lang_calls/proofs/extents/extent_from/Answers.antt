@@ -3,7 +3,7 @@ use Rattle.core_lang_calls.specs.declared.graph.CallSite.{CallSite}
 use Rattle.core_lang_calls.specs.declared.extents.Extent.{Extent}
 use Rattle.core_lang_calls.specs.Graphs.{body_of, bodies_of}
 use Rattle.core_lang_calls.specs.Counts.{hidden}
-use Rattle.core_lang_calls.specs.Working.Tables.{extent_at}
+use Rattle.core_lang_calls.specs.Working.Tables.{extent_seen}
 use Rattle.core_lang_calls.proofs.Extending.{depth_next, locals_next, points_next}
 use Rattle.core_lang_calls.proofs.extents.extent_from.Goals as goal
 
@@ -18,7 +18,7 @@ loop-call-preserved c =
     let same : c.deref-call-items.result.now ≡ cs = c.deref-call-items.ensures.value in
     let lt : i < length cs = omega (arith, c.loop-call-test.true, ap (λ (l : List CallSite). length l) same) in
     let item : get_or c.deref-call-items.result.now i d ≡ get_or cs i d = ap (λ (l : List CallSite). get_or l i d) same in
-    let callee : c.extent_of-callee.result ≡ extent_at table (get_or cs i d).helper = c.extent_of-callee.ensures ∙ ap (λ (x : CallSite). extent_at table x.helper) item in
+    let callee : c.extent_of-callee.result ≡ extent_seen table (get_or cs i d).helper = c.extent_of-callee.ensures ∙ ap (λ (x : CallSite). extent_seen table x.helper) item in
     record {
       depth = depth_next table helpers b cs i d lt _ _ _ c.loop-call.invariant.depth (ap (λ (e : Extent). e.depth) callee) c.max-depth.ensures;
       locals = locals_next table helpers b cs i d lt _ _ _ _ _ c.loop-call.invariant.locals (ap (λ (e : Extent). e.locals) callee)

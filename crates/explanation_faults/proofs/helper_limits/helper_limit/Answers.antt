@@ -1,29 +1,24 @@
-use Rattle.std.proofs.Common.{◌≡◌, ◌∙◌, List, true, false, sym, ap, subst, length, arith, take}
-use Rattle.std.specs.Prelude.{min}
+use Rattle.std.proofs.Common.{◌≡◌, ◌∙◌, List, true, false, sym, ap, subst}
 use Rattle.core_lang_calls.specs.Graphs.{Body, bodies_of}
 use Rattle.core_lang_calls.specs.declared.graph.Body as code
 use Rattle.resolution.specs.CallGraphs.{tree_graph}
 use Rattle.types_symbols.specs.Working.Views.{decls_of}
 use Rattle.explanation_faults.specs.HelperLimits.{depth, brought}
-use Rattle.explanation_faults.specs.Working.HelpersFound.{IsDeepThere, all_helpers}
-use Rattle.explanation_faults.proofs.HelperLimits.{deep_over, deep_there, first_over, first_there, helpers_are}
+use Rattle.explanation_faults.specs.Working.HelpersFound.{IsDeepThere}
+use Rattle.explanation_faults.proofs.HelperLimits.{deep_over, deep_there, first_over, first_there}
 use Rattle.explanation_faults.proofs.helper_limits.helper_limit.Goals as goal
 
 pub returns-then-branch : goal.returns-then-branch
 returns-then-branch c =
     let ds = decls_of c.args.symbols.now in
-    let items = c.in_ok-bodies.bodies.items in
-    let least : c.min.result ≡ min (length items) 256 = omega (arith, c.min.ensures, c.len.ensures, c.in_ok-bodies.bodies.ok.0) in
-    let same = ap (λ (l : List code.Body). bodies_of (take c.min.result l)) c.deref.ensures.value ∙ helpers_are items (all_helpers ds) c.min.result c.in_ok-bodies.ensures least in
+    let same = ap (λ (l : List code.Body). bodies_of l) c.deref.ensures.value ∙ c.in_ok-helpers.ensures in
     let d = deep_over (tree_graph ds) c.args.at (subst (λ (l : List Body). IsDeepThere l c.args.at) same (c.in_ok-is_deep_there.ensures.0 c.if-branch.true)) in
     depth d.0 d.1
 
 pub returns-then-branch-2 : goal.returns-then-branch-2
 returns-then-branch-2 c =
     let ds = decls_of c.args.symbols.now in
-    let items = c.in_ok-bodies.bodies.items in
-    let least : c.min.result ≡ min (length items) 256 = omega (arith, c.min.ensures, c.len.ensures, c.in_ok-bodies.bodies.ok.0) in
-    let same = ap (λ (l : List code.Body). bodies_of (take c.min.result l)) c.deref.ensures.value ∙ helpers_are items (all_helpers ds) c.min.result c.in_ok-bodies.ensures least in
+    let same = ap (λ (l : List code.Body). bodies_of l) c.deref.ensures.value ∙ c.in_ok-helpers.ensures in
     let o = first_over c.listed_faults.ensures.listed c.listed_faults.ensures.all ds c.args.at (c.in_ok-is_first_there.ensures.0 c.if-branch-2.true) in
     brought o
     (λ is.

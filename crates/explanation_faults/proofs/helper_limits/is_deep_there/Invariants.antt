@@ -1,6 +1,6 @@
-use Rattle.std.proofs.Common.{◌≡◌, ◌<◌, ◌≤◌, ℕ, Some, length}
+use Rattle.std.proofs.Common.{◌≡◌, ◌<◌, ℕ, Some, false}
 use Rattle.std.specs.Prelude.{slice_get}
-use Rattle.core_lang_calls.specs.Depths.{depth}
+use Rattle.core_lang_calls.specs.Depths.{depth, is_endless}
 use Rattle.core_lang_calls.specs.Faults.{DEPTH_LIMIT}
 use Rattle.core_lang_calls.specs.Graphs.{Body, bodies_of}
 use Rattle.explanation_faults.proofs.helper_limits.is_deep_there.Given as goal
@@ -8,5 +8,5 @@ use Rattle.explanation_faults.proofs.helper_limits.is_deep_there.Given as goal
 -- none so far is declared there, and too deep
 abbrev pub invariant-loop-number : goal.invariant-loop-number
 invariant-loop-number l =
-    (k : ℕ) → k < l.number → (b : Body) → slice_get (bodies_of l.helpers) k ≡ Some b → b.start ≡ l.at → DEPTH_LIMIT < depth (bodies_of l.helpers) k →
-    depth (bodies_of l.helpers) k ≤ length (bodies_of l.helpers) → ⊥
+    (k : ℕ) → k < l.number → (b : Body) → slice_get (bodies_of l.helpers) k ≡ Some b → b.start ≡ l.at → is_endless (bodies_of l.helpers) k ≡ false →
+    DEPTH_LIMIT < depth (bodies_of l.helpers) k → ⊥

@@ -11,10 +11,10 @@ use Rattle.lowering.proofs.program_listing.listing.Goals as goal
 
 pub push-requires-clause-paths : goal.push-requires-clause-paths
 push-requires-clause-paths c =
-    let program = c.typed-typed.result.now in
+    let program = c.expanded-typed.result.now in
     let section = c.index-section.result.now in
     let paths = c.paths-paths.result.now in
-    let are = subst (λ p. ArePaths p paths) (sym c.typed-typed.ensures.program) c.paths-paths.ensures in
+    let are = subst (λ p. ArePaths p paths) (sym c.expanded-typed.ensures.program) c.paths-paths.ensures in
     let lt : c.loop-k.k < length program.sections.items =
     omega (arith, c.loop-k-test.true, c.len-k-end.ensures, program.sections.ok.0) in
     ap (map lock_path_of) c.deref.ensures.value
@@ -23,10 +23,10 @@ push-requires-clause-paths c =
 
 pub push-requires-clause-instructions : goal.push-requires-clause-instructions
 push-requires-clause-instructions c =
-    let program = c.typed-typed.result.now in
+    let program = c.expanded-typed.result.now in
     let code = c.code-code.result.now in
     let lists = c.args.program.now.lists in
-    let is = subst (λ p. IsCodeOf p lists code) (sym c.typed-typed.ensures.program) c.code-code.ensures in
+    let is = subst (λ p. IsCodeOf p lists code) (sym c.expanded-typed.ensures.program) c.code-code.ensures in
     let lt : c.loop-k.k < length program.sections.items =
     omega (arith, c.loop-k-test.true, c.len-k-end.ensures, program.sections.ok.0) in
     instructions_are program c.loop-k.k c.index-section.result.now lt c.index-section.ensures lists code
@@ -34,12 +34,12 @@ push-requires-clause-instructions c =
 
 pub loop-k-preserved : goal.loop-k-preserved
 loop-k-preserved c =
-    let program = c.typed-typed.result.now in
+    let program = c.expanded-typed.result.now in
     let section = c.index-section.result.now in
     let code = c.code-code.result.now in
     let made = c.index-made.result.now in
     let lists = c.args.program.now.lists in
-    let is = subst (λ p. IsCodeOf p lists code) (sym c.typed-typed.ensures.program) c.code-code.ensures in
+    let is = subst (λ p. IsCodeOf p lists code) (sym c.expanded-typed.ensures.program) c.code-code.ensures in
     let lt : c.loop-k.k < length program.sections.items =
     omega (arith, c.loop-k-test.true, c.len-k-end.ensures, program.sections.ok.0) in
     let old = rope_text c.loop-k.out in

@@ -15,7 +15,7 @@ pub loop-k-preserved : goal.loop-k-preserved
 loop-k-preserved c =
     let text = c.args.text.now in
     let lists = c.args.program.now.lists in
-    let program = c.typed-typed.result.now in
+    let program = c.expanded-typed.result.now in
     let sections = program.sections.items in
     let code = c.code-code.result.now in
     let section = c.index-section.result.now in
@@ -25,7 +25,7 @@ loop-k-preserved c =
     let Are = λ (j : ℕ) (s : Section) (h : SectionPlaces). ArePlacesOf text s (lists_at lists j) h in
     let lt : k < length sections = omega (arith, c.loop-k-test.true, c.len-k-end.ensures, program.sections.ok.0) in
     let is : IsCodeOf program lists code =
-    subst (λ p. IsCodeOf p lists code) (sym c.typed-typed.ensures.program) c.code-code.ensures in
+    subst (λ p. IsCodeOf p lists code) (sym c.expanded-typed.ensures.program) c.code-code.ensures in
     let at : slice_get sections k ≡ Some section =
     slice_get_read sections (length sections) k section refl lt c.index-section.ensures in
     let lowered : IsLowered section (lists_at lists k) made =
@@ -48,8 +48,8 @@ loop-k-preserved c =
 
 pub returns : goal.returns
 returns c =
-    let program = c.typed-typed.result.now in
-    let is = c.typed-typed.ensures.program in
+    let program = c.expanded-typed.result.now in
+    let is = c.expanded-typed.ensures.program in
     let long : length c.loop-k.places.items ≡ length program.sections.items =
     omega (
       arith,

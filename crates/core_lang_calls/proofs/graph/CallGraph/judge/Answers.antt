@@ -14,11 +14,11 @@ returns c =
     let helpers = bodies_of c.args.self.now.helpers.items in
     let sections = bodies_of c.args.self.now.sections.items in
     let middle = c.note_helpers.new.least in
+    let same : c.in_ok-callers.callers.helpers.now ≡ c.args.self.now.helpers.items = c.in_ok-callers.ensures.0 ∙ c.deref.ensures.value in
     let first : middle ≡ least_of start (helpers_faults helpers 0 helpers) =
-    c.note_helpers.ensures ∙ ap (λ (l : List code.Body). least_of start (helpers_faults (bodies_of l) 0 (bodies_of l))) c.deref-3.ensures.value in
+    c.in_ok-note_helpers.ensures ∙ ap (λ (l : List code.Body). least_of start (helpers_faults (bodies_of l) 0 (bodies_of l))) same in
     let second : c.note_sections.new.least ≡ least_of middle (flat_map (section_faults helpers) sections) =
-    c.note_sections.ensures
-    ∙ ap (λ (l : List code.Body). least_of middle (flat_map (section_faults (bodies_of l)) (bodies_of c.deref-4.result.now))) c.deref-3.ensures.value
-    ∙ ap (λ (l : List code.Body). least_of middle (flat_map (section_faults helpers) (bodies_of l))) c.deref-4.ensures.value in
+    c.note_sections.ensures ∙ ap (λ (l : List code.Body). least_of middle (flat_map (section_faults (bodies_of l)) (bodies_of c.deref-2.result.now))) same
+    ∙ ap (λ (l : List code.Body). least_of middle (flat_map (section_faults helpers) (bodies_of l))) c.deref-2.ensures.value in
     second ∙ ap (λ (f : Option Mistake). least_of f (flat_map (section_faults helpers) sections)) first
     ∙ sym (least_append start (helpers_faults helpers 0 helpers) (flat_map (section_faults helpers) sections))

@@ -1,12 +1,14 @@
-use Rattle.std.proofs.Common.{◌≡◌, List, ap, sym, ◌∙◌}
+use Rattle.std.proofs.Common.{◌≡◌, List, Option, ap, sym, ◌∙◌}
 use Rattle.std.specs.List.{flat_map}
 use Rattle.source.specs.declared.fault.Code.TheVariants.{LimitExceeded}
 use Rattle.source.specs.Mistakes.{least_of}
 use Rattle.core_lang_calls.specs.declared.graph.CallSite.{CallSite}
+use Rattle.core_lang_calls.specs.declared.extents.Extent.{Extent}
 use Rattle.core_lang_calls.specs.Graphs.{body_of}
+use Rattle.core_lang_calls.specs.Working.Tables.{extent_at, is_deep_by}
 use Rattle.core_lang_calls.specs.Working.Knowledge.{bodies}
 use Rattle.core_lang_calls.specs.Working.FaultLists.{told_if, is_too_deep, recursion_faults}
-use Rattle.core_lang_calls.proofs.Noting.{noted, not_noted, helper_mapped}
+use Rattle.core_lang_calls.proofs.Noting.{noted, not_noted, helper_mapped, deep_is}
 use Rattle.core_lang_calls.proofs.judge.Known.note_helpers.Goals as goal
 use Rattle.core_lang_calls.proofs.judge.Known.note_helpers.Goals.{then-is_too_deep, else-is_too_deep}
 
@@ -16,10 +18,12 @@ loop-number-preserved c =
     let i = c.loop-number.number in
     let x = c.helper-item.result in
     let deep = is_too_deep (bodies known) i in
+    let test : c.is_too_deep.result ≡ deep =
+    c.is_too_deep.ensures ∙ ap (λ (t : List (Option Extent)). is_deep_by (extent_at t i)) c.deref.ensures.value ∙ deep_is (bodies known) known.extents.table.items i c.requires.extents in
     let first : c.if-is_too_deep.least ≡ least_of c.loop-number.least (told_if deep LimitExceeded x.start) = elim c.if-is_too_deep.branch [
-      | then-is_too_deep w ↦ noted deep LimitExceeded x.start c.loop-number.least c.if-is_too_deep.least (sym c.is_too_deep.ensures ∙ w.if-is_too_deep.true) (w.least-is ∙ w.note.ensures)
-      | else-is_too_deep w ↦ w.least-is ∙ not_noted deep LimitExceeded x.start c.loop-number.least (sym c.is_too_deep.ensures ∙ w.if-is_too_deep.false)
+      | then-is_too_deep w ↦ noted deep LimitExceeded x.start c.loop-number.least c.if-is_too_deep.least (sym test ∙ w.if-is_too_deep.true) (w.least-is ∙ w.note.ensures)
+      | else-is_too_deep w ↦ w.least-is ∙ not_noted deep LimitExceeded x.start c.loop-number.least (sym test ∙ w.if-is_too_deep.false)
     ] in
-    helper_mapped body_of (bodies known) known.helpers.now i x c.args.least.now c.loop-number.least c.if-is_too_deep.least c.note_recursion.new.least c.loop-number-test.true c.helper-item.is
+    helper_mapped body_of (bodies known) known.callers.helpers.now i x c.args.least.now c.loop-number.least c.if-is_too_deep.least c.note_recursion.new.least c.loop-number-test.true c.helper-item.is
     c.loop-number.invariant first
-    (c.note_recursion.ensures ∙ ap (λ (cs : List CallSite). least_of c.if-is_too_deep.least (flat_map (recursion_faults (bodies known) i) cs)) c.deref.ensures.value)
+    (c.in_ok-note_recursion.ensures ∙ ap (λ (cs : List CallSite). least_of c.if-is_too_deep.least (flat_map (recursion_faults (bodies known) i) cs)) c.deref-in-loop-number.ensures.value)

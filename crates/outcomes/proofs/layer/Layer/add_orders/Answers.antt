@@ -13,7 +13,7 @@ overflow_add-state c =
     let inside : i < length entries = rw (← c.self.view_is, length-map) at c.requires.within in
     let is : slice_get entries i ≡ Some c.index_mut.result.now = slice_get_read entries (length entries) i c.index_mut.result.now refl inside c.index_mut.ensures.value in
     let same : (at c.args.self.now i).orders ≡ c.index_mut.result.now.state.orders =
-    ap (λ (v : List Reached). (at v i).orders) (sym c.self.view_is) ∙ ap (λ (s : Reached). s.orders) (at_entry entries i c.index_mut.result.now is) in
+    ap (λ (v : List Reached). (at v i).orders) (sym c.self.view_is) ∙ ap (λ (s : Reached). s.orders) (at_entry c.self.inside.start entries i c.index_mut.result.now is) in
     let most = get_or-le-sum_by (λ (s : Reached). s.orders) c.args.self.now i nowhere c.requires.within in
     omega (arith, same, most, c.requires.fit)
 
@@ -24,7 +24,7 @@ invariant_of-self c =
     let e = c.index_mut.result.now in
     let inside : i < length entries = rw (← c.self.view_is, length-map) at c.requires.within in
     let is : slice_get entries i ≡ Some e = slice_get_read entries (length entries) i e refl inside c.index_mut.ensures.value in
-    table_set entries c.self.inside.places c.self.inside.total i c.args.more e _ c.self.invariant is refl refl refl
+    table_set c.self.inside.start entries c.self.inside.places c.self.inside.total i c.args.more e _ c.self.invariant is refl refl refl
 
 pub returns : goal.returns
 returns c =
@@ -34,6 +34,6 @@ returns c =
     let inside : i < length entries = rw (← c.self.view_is, length-map) at c.requires.within in
     let is : slice_get entries i ≡ Some e = slice_get_read entries (length entries) i e refl inside c.index_mut.ensures.value in
     let same : entry_state e ≡ at c.args.self.now i =
-    sym (at_entry entries i e is) ∙ ap (λ (v : List Reached). at v i) c.self.view_is in
+    sym (at_entry c.self.inside.start entries i e is) ∙ ap (λ (v : List Reached). at v i) c.self.view_is in
     map-set entry_state entries i _ ∙ ap (λ (v : List Reached). slice_set v i (with_more (entry_state e) c.args.more)) c.self.view_is
     ∙ ap (λ (s : Reached). slice_set c.args.self.now i (with_more s c.args.more)) same

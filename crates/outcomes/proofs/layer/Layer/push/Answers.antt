@@ -9,13 +9,14 @@ use Rattle.outcomes.proofs.layer.Layer.push.Goals as goal
 
 pub invariant_of-self-in-Ok : goal.invariant_of-self-in-Ok
 invariant_of-self-in-Ok c =
+    let start = c.self.inside.start in
     let e : Entry = record { state = c.args.state; before = c.copied-before.result } in
-    let h : c.hash-key.result ≡ hash_of e =
-    c.hash-key.ensures ∙ ap (λ (d : List ℕ). hash d c.deref-2.result.now) c.deref.ensures.value ∙ ap (λ (v : List Value). hash c.args.state.done.items v) c.deref-2.ensures.value in
-    let link : e.before ≡ get nat_eq c.self.inside.places (hash_of e) =
+    let h : c.hash-key.result ≡ hash_of start e =
+    c.hash-key.ensures ∙ ap (λ (d : List ℕ). hash start d c.deref-2.result.now) c.deref.ensures.value ∙ ap (λ (v : List Value). hash start c.args.state.done.items v) c.deref-2.ensures.value in
+    let link : e.before ≡ get nat_eq c.self.inside.places (hash_of start e) =
     c.copied-before.ensures ∙ c.get.ensures.value ∙ ap (get nat_eq c.self.inside.places) h in
     let long : c.len-number.result ≡ length c.self.inside.entries.items = omega (arith, c.len-number.ensures) in
-    rw c.in_ok-push.ensures.items (table_push c.self.inside.entries.items c.self.inside.places c.insert.new.self c.self.inside.total e c.self.invariant link
+    rw c.in_ok-push.ensures.items (table_push start c.self.inside.entries.items c.self.inside.places c.insert.new.self c.self.inside.total e c.self.invariant link
     (λ q. c.in-Ok.ensures.updates.0 q
     ∙ ap (λ (k : ℕ). cond (nat_eq k q) (Some c.len-number.result) (get nat_eq c.self.inside.places q)) h
-    ∙ ap (λ (n : ℕ). cond (nat_eq (hash_of e) q) (Some n) (get nat_eq c.self.inside.places q)) long))
+    ∙ ap (λ (n : ℕ). cond (nat_eq (hash_of start e) q) (Some n) (get nat_eq c.self.inside.places q)) long))

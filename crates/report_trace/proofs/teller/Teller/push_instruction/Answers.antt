@@ -17,75 +17,75 @@ use Rattle.report_trace.proofs.teller.Teller.push_instruction.Goals as goal
 pub index-places-requires : goal.index-places-requires
 index-places-requires c =
     let x = c.args.self.now in
-    let sections = c.typed-typed.result.now.sections.items in
+    let sections = c.expanded-typed.result.now.sections.items in
     let k = c.args.section in
     let at = item_here sections c.deref.result.now k c.deref.ensures.value c.in-Some.found c.in-Some.ensures.lookup in
     omega (
       arith,
       slice_get_within sections k _ at,
-      ap (λ (p : Typed). length p.sections.items) c.typed-typed.ensures.program,
+      ap (λ (p : Typed). length p.sections.items) c.expanded-typed.ensures.program,
       x.tables.long,
       x.places.ok.0,
     )
 
 pub index-made-requires : goal.index-made-requires
 index-made-requires c =
-    let sections = c.typed-typed.result.now.sections.items in
+    let sections = c.expanded-typed.result.now.sections.items in
     let k = c.args.section in
     let at = item_here sections c.deref.result.now k c.deref.ensures.value c.in-Some.found c.in-Some.ensures.lookup in
     omega (
       arith,
       slice_get_within sections k _ at,
-      ap (λ (p : Typed). length p.sections.items) c.typed-typed.ensures.program,
+      ap (λ (p : Typed). length p.sections.items) c.expanded-typed.ensures.program,
       c.code-code.ensures.long,
       c.code-code.result.now.sections.ok.0,
     )
 
 pub index-listed-requires : goal.index-listed-requires
 index-listed-requires c =
-    let sections = c.typed-typed.result.now.sections.items in
+    let sections = c.expanded-typed.result.now.sections.items in
     let k = c.args.section in
     let at = item_here sections c.deref.result.now k c.deref.ensures.value c.in-Some.found c.in-Some.ensures.lookup in
     omega (
       arith,
       slice_get_within sections k _ at,
-      ap (λ (p : Typed). length p.sections.items) c.typed-typed.ensures.program,
+      ap (λ (p : Typed). length p.sections.items) c.expanded-typed.ensures.program,
       c.paths-paths.ensures.sections,
       c.paths-paths.result.now.sections.ok.0,
     )
 
 pub push_at-requires-clause-paths : goal.push_at-requires-clause-paths
 push_at-requires-clause-paths c =
-    let program = c.typed-typed.result.now in
+    let program = c.expanded-typed.result.now in
     let sections = program.sections.items in
     let k = c.args.section in
     let paths = c.paths-paths.result.now in
     let listed = c.index-listed.result.now in
     let at = item_here sections c.deref.result.now k c.deref.ensures.value c.in-Some.found c.in-Some.ensures.lookup in
     let are : ArePaths program paths =
-    subst (λ p. ArePaths p paths) (sym c.typed-typed.ensures.program) c.paths-paths.ensures in
+    subst (λ p. ArePaths p paths) (sym c.expanded-typed.ensures.program) c.paths-paths.ensures in
     let there : slice_get paths.sections.items k ≡ Some listed =
     slice_get_read paths.sections.items (length sections) k listed (sym are.sections)
     (slice_get_within sections k _ at) c.index-listed.ensures in
     ap (map lock_path_of) c.deref-2.ensures.value ∙ (are.each k c.in-Some.found.now listed at there).paths
 
 pub push_at-requires-clause-names : goal.push_at-requires-clause-names
-push_at-requires-clause-names c = c.args.self.now.names ∙ sym c.typed-typed.ensures.program
+push_at-requires-clause-names c = c.args.self.now.names ∙ sym c.expanded-typed.ensures.program
 
 pub returns-in_default : goal.returns-in_default
 returns-in_default c =
     let x = c.args.self.now in
-    let sections = c.typed-typed.result.now.sections.items in
+    let sections = c.expanded-typed.result.now.sections.items in
     let k = c.args.section in
     let past = item_past sections c.deref.result.now k c.deref.ensures.value c.in_default.ensures.lookup in
-    let gone = ap (λ (p : Typed). slice_get p.sections.items k) (sym c.typed-typed.ensures.program) ∙ past in
+    let gone = ap (λ (p : Typed). slice_get p.sections.items k) (sym c.expanded-typed.ensures.program) ∙ past in
     none_put (string_bytes c.args.out.now) _ (untold x.text.now x.program.now k c.args.place gone)
 
 pub returns : goal.returns
 returns c =
     let x = c.args.self.now in
     let plan = x.program.now in
-    let program = c.typed-typed.result.now in
+    let program = c.expanded-typed.result.now in
     let sections = program.sections.items in
     let k = c.args.section in
     let place = c.args.place in
@@ -94,7 +94,7 @@ returns c =
     let found = c.in-Some.found.now in
     let places = c.index-places.result.now in
     let made = c.index-made.result.now in
-    let typed = c.typed-typed.ensures.program in
+    let typed = c.expanded-typed.ensures.program in
     let at = item_here sections c.deref.result.now k c.deref.ensures.value c.in-Some.found c.in-Some.ensures.lookup in
     let lt = slice_get_within sections k _ at in
     let here : slice_get plan.program.sections.items k ≡ Some found =

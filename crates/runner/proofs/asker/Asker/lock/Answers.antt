@@ -44,4 +44,4 @@ returns c =
     let is = of_path a.program.now a.section a.locals.now c.args.number c.paths.result.now c.in-Some.paths.now path
     c.paths.ensures at some in
     c.lock.ensures
-    ∙ ap (λ (t : Typed). lock_named (lock_path_of path) t.shape a.locals.now) c.typed.ensures.program ∙ sym is
+    ∙ ap (λ (t : Typed). lock_named (lock_path_of path) t.shape a.locals.now) c.expanded.ensures.program ∙ sym is

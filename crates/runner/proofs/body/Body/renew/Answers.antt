@@ -13,8 +13,8 @@ use Rattle.runner.proofs.body.Body.renew.Goals as goal
 pub index-called-requires : goal.index-called-requires
 index-called-requires c =
     let within = called_within c.args.program.now.program c.args.section c.args.arguments.now c.requires.fits in
-    let same = ap (λ (t : Typed). length t.sections.items) c.typed.ensures.program in
-    omega (arith, within, same, c.typed.result.now.sections.ok.0)
+    let same = ap (λ (t : Typed). length t.sections.items) c.expanded.ensures.program in
+    omega (arith, within, same, c.expanded.result.now.sections.ok.0)
 
 pub room-room-requires : goal.room-room-requires
 room-room-requires c =
@@ -30,13 +30,13 @@ returns-clause-begins c =
     let can : CanCall plan.program section arguments =
     subst (λ (vs : List Value). CanCall plan.program section vs) (sym same) c.requires.fits in
     let read : x ≡ get_or plan.program.sections.items section x =
-    subst (λ (t : Typed). x ≡ get_or t.sections.items section x) c.typed.ensures.program c.index-called.ensures in
+    subst (λ (t : Typed). x ≡ get_or t.sections.items section x) c.expanded.ensures.program c.index-called.ensures in
     let locals : c.in_ok-locals.locals.items ≡ locals_at plan (call_of section arguments) =
     c.in_ok-locals.ensures
     ∙ ap (λ (vs : List Value). (opening x vs []).locals) (sym same)
     ∙ first_locals plan (call_of section arguments) x can read in
     record {
-      compiled = c.typed.ensures.compiled;
+      compiled = c.expanded.ensures.compiled;
       fits = can;
       room_is = c.room-room.ensures;
       run_is = c.in_ok-renew.ensures.ok ∙ (λ i. at_first (locals i) (c.layout.ensures i) c.room-room.result);

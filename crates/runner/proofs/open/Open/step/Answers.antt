@@ -23,8 +23,8 @@ step-requires-clause-fits c =
     let o = open_in x.program.now x.ticket x.body.value in
     let b = x.body.value in
     let same_body : c.deref_mut-body.result.now ≡ b = c.deref_mut-body.ensures.value in
-    let typed : c.typed.result.now ≡ x.program.now.program =
-    c.typed.ensures.program in
+    let typed : c.expanded.result.now ≡ x.program.now.program =
+    c.expanded.ensures.program in
     let r : RunsInOrder o = record {
       is_open = c.self.invariant.0.is_open;
       pending = ap (λ (o : OpenOf). o.activation.pending) c.self.view_is ∙ c.requires;
@@ -36,9 +36,9 @@ step-requires-clause-fits c =
     ≡ act load_held store_held o.plan.program.shape (Some i) o.activation.machine) (sym c.self.view_is) c.instruction-instruction.ensures in
     let effect = is ∙ ap (λ (t : Typed). act load_held store_held t.shape (Some i) b.machine.machine) (sym typed) in
     let of = c.code-code.ensures in
-    subst (λ (b : Body). FitsRoom b.machine.operand_room (act load_held store_held c.typed.result.now.shape (Some i) b.machine.machine))
+    subst (λ (b : Body). FitsRoom b.machine.operand_room (act load_held store_held c.expanded.result.now.shape (Some i) b.machine.machine))
     (sym same_body)
-    (subst (λ (room : ℕ). FitsRoom room (act load_held store_held c.typed.result.now.shape (Some i) b.machine.machine))
+    (subst (λ (room : ℕ). FitsRoom room (act load_held store_held c.expanded.result.now.shape (Some i) b.machine.machine))
     (sym c.self.invariant.0.operands)
     (subst (λ (e : Effect HeldCells). FitsRoom o.room.operands e) effect
     (next_fits o c.code-code.result.now c.sections_stay_in_order.ensures of r)))
@@ -49,8 +49,8 @@ invariant_of-self c =
     let o = open_in x.program.now x.ticket x.body.value in
     let b = x.body.value in
     let same_body : c.deref_mut-body.result.now ≡ b = c.deref_mut-body.ensures.value in
-    let typed : c.typed.result.now ≡ x.program.now.program =
-    c.typed.ensures.program in
+    let typed : c.expanded.result.now ≡ x.program.now.program =
+    c.expanded.ensures.program in
     let r : RunsInOrder o = record {
       is_open = c.self.invariant.0.is_open;
       pending = ap (λ (o : OpenOf). o.activation.pending) c.self.view_is ∙ c.requires;
@@ -63,7 +63,7 @@ invariant_of-self c =
     let m = c.step.new.self.machine in
     let moves : next_effect o.plan o.activation ≡ Moves m =
     is ∙ ap (λ (t : Typed). act load_held store_held t.shape (Some i) b.machine.machine) (sym typed)
-    ∙ ap (λ (b : Body). act load_held store_held c.typed.result.now.shape (Some i) b.machine.machine) (sym same_body)
+    ∙ ap (λ (b : Body). act load_held store_held c.expanded.result.now.shape (Some i) b.machine.machine) (sym same_body)
     ∙ c.in-Moved.ensures.0 in
     let kept = kept_moving o x.ticket x.body.value.machine (vec_capacity x.body.value.pending) m
     c.steps_go_alike.ensures.keeps c.sections_stay_in_order.ensures r c.self.invariant.0 moves in

@@ -1,12 +1,10 @@
-use Rattle.std.proofs.Common.{ap, ◌∙◌, arith}
-use Rattle.std.proofs.lemmas.List.{length-map}
+use Rattle.std.proofs.Common.{ap, ◌∙◌}
 use Rattle.syntax.specs.Views.{decl_of, section_of}
 use Rattle.core_lang_calls.specs.Graphs.{body_of, graph_of}
 use Rattle.types_symbols.specs.{decls_of}
-use Rattle.types_calls.proofs.Adding.{helper_added, helper_left, helper_none}
+use Rattle.types_calls.proofs.Adding.{helper_added, helper_none}
 use Rattle.types_calls.proofs.walk.Reader.add_helpers.Goals as goal
-use Rattle.types_calls.proofs.walk.Reader.add_helpers.Goals.{in-Helper+then-len-lt-HELPER_LIMIT+in_ok-helper+in_ok-add_helper}
-use Rattle.types_calls.proofs.walk.Reader.add_helpers.Goals.{in-Helper+else-len-lt-HELPER_LIMIT, in_default}
+use Rattle.types_calls.proofs.walk.Reader.add_helpers.Goals.{in-Helper+in_ok-helper+in_ok-add_helper, in_default}
 
 pub loop-d-preserved : goal.loop-d-preserved
 loop-d-preserved c =
@@ -17,13 +15,9 @@ loop-d-preserved c =
     let first = graph_of c.args.graph.now in
     let old = graph_of c.loop-d.graph in
     let new = graph_of c.match-d.graph in
-    let many = length-map c.loop-d.graph.helpers.items body_of in
     elim c.match-d.branch [
-      | in-Helper+then-len-lt-HELPER_LIMIT+in_ok-helper+in_ok-add_helper w ↦
+      | in-Helper+in_ok-helper+in_ok-add_helper w ↦
           helper_added all items i d first old new c.loop-d-test.true c.d-item.is c.loop-d.invariant (section_of w.in-Helper.s) (body_of w.in_ok-helper.helper) (ap decl_of w.in-Helper.is)
-          w.in_ok-helper.ensures (omega (arith, many, w.len.ensures, w.if-len-lt-HELPER_LIMIT.true, c.loop-d.graph.helpers.ok.0)) (ap graph_of w.graph-is ∙ w.in_ok-add_helper.ensures.ok)
-      | in-Helper+else-len-lt-HELPER_LIMIT w ↦
-          helper_left all items i d first old new c.loop-d-test.true c.d-item.is c.loop-d.invariant (ap graph_of w.graph-is)
-          (omega (arith, many, w.len.ensures, w.if-len-lt-HELPER_LIMIT.false, c.loop-d.graph.helpers.ok.0))
+          w.in_ok-helper.ensures (ap graph_of w.graph-is ∙ w.in_ok-add_helper.ensures.ok)
       | in_default w ↦ helper_none all items i d first old new c.loop-d-test.true c.d-item.is c.loop-d.invariant (ap graph_of w.graph-is) w.in_default.not-Helper
     ]

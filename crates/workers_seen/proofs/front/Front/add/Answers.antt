@@ -1,10 +1,11 @@
 use Rattle.std.proofs.Common.{sym, ◌∙◌, ap}
+use Rattle.workers_seen.specs.Working.Rules.{word_of}
 use Rattle.workers_seen.proofs.Adding.{adds_moves}
 use Rattle.workers_seen.proofs.front.Front.add.Goals as goal
 
 pub compare_exchange-found-requires : goal.compare_exchange-found-requires
 compare_exchange-found-requires g c =
-    let h = c.requires.word in
+    let h = c.word.ensures ∙ ap word_of c.self.invariant.2 in
     let seen = c.again-seen.ensures in
     let offer = c.plain-offer.ensures in
     let pen = c.no_pen-pen.ensures in

@@ -11,9 +11,7 @@ invariant_of-self-2 g c =
     let e = c.args.entry.now in
     let t = c.thread-thread.result in
     let added : c.add.new.self ≡ log ++ e ∷ [] = c.if-not-add.ensures in
-    let below : t < length ends = omega (arith, c.if-thread-len.false, c.len.ensures) in (
-      c.self.invariant.0,
-      subst (λ (l : List Commit). AreEnds (slice_set ends t (c.len-count.result + 1)) l) (sym added)
-          (subst (λ (n : ℕ). AreEnds (slice_set ends t (n + 1)) (log ++ e ∷ [])) (sym c.len-count.ensures)
-          (ends_more ends log e t c.thread-thread.ensures below c.self.invariant.1)),
-    )
+    let below : t < length ends = omega (arith, c.if-thread-len.false, c.len.ensures) in
+    subst (λ (l : List Commit). AreEnds (slice_set ends t (c.len-count.result + 1)) l) (sym added)
+    (subst (λ (n : ℕ). AreEnds (slice_set ends t (n + 1)) (log ++ e ∷ [])) (sym c.len-count.ensures)
+    (ends_more ends log e t c.thread-thread.ensures below c.self.invariant))

@@ -17,10 +17,10 @@ returns-in-Some g c =
       λ is.
           let le : get_or ends t 0 ≤ c.args.from = grind (arith, nat_tests) in
           subst (λ (l : List Commit). NoneOf t (drop c.args.from l)) c.self.view_is
-          (none_behind t (get_or ends t 0) c.args.from log le (c.self.invariant.1.behind t there)),
+          (none_behind t (get_or ends t 0) c.args.from log le (c.self.invariant.behind t there)),
       λ none.
           ap (λ (n : ℕ). leb n c.args.from) end
-          ∙ last_before ends log t c.args.from there c.self.invariant.1 (subst (λ (l : List Commit). NoneOf t (drop c.args.from l)) (sym c.self.view_is) none)
+          ∙ last_before ends log t c.args.from there c.self.invariant (subst (λ (l : List Commit). NoneOf t (drop c.args.from l)) (sym c.self.view_is) none)
           (leb (get_or ends t 0) c.args.from) refl,
     )
 
@@ -34,6 +34,6 @@ returns-in-None g c =
     let above : length ends ≤ t = subst (λ (xs : List ℕ). length xs ≤ t) c.deref.ensures.value past in (
       λ is.
           subst (λ (l : List Commit). NoneOf t (drop c.args.from l)) c.self.view_is
-          (none_above t (length ends) c.args.from log c.self.invariant.1.threads above),
+          (none_above t (length ends) c.args.from log c.self.invariant.threads above),
       λ none. refl,
     )

@@ -1,0 +1,108 @@
+//! What each helper comes to, from those on that call none: a helper is settled once all that it calls are. One that reaches a
+//! recursion never is. No call is passed twice, so this takes as long as there are helpers and calls.
+
+ghost use Rattle.std.specs.Prelude.{◌≡◌, ◌≤◌, ◌<◌, ℕ, length, take, IfOk, OnOk};
+ghost use Rattle.core_lang_calls.specs.Depths.{CallsOnly};
+ghost use Rattle.core_lang_calls.specs.Graphs.{bodies_of};
+ghost use Rattle.core_lang_calls.specs.Working.Tables.{Has, IsSettled, IsOpenFrom, IsExtents};
+ghost use Rattle.core_lang_calls.specs.Working.Knowledge.{IsCallers, IsSettling, Settles, Pends};
+
+use crate::callers::Callers;
+use crate::extents::{Extent, extent_from, settled};
+use crate::graph::{Body, CallSite};
+use std::alloc::{AllocError, Global};
+
+/// What is known of helpers while they are settled.
+#[derive(Drop)]
+pub struct Settling<'a> {
+    /// The helpers.
+    pub helpers: &'a [Body],
+    /// What the settled ones come to.
+    pub table: Vec<Option<Extent>>,
+    /// Of each helper, how many of its first calls are known to be of settled ones.
+    pub passed: Vec<usize>,
+    /// Settled helpers whose callers have not been looked at since.
+    pub ready: Vec<usize>,
+}
+
+// The first call, from a place on, of a helper that is not settled; how many calls there are, if there is none.
+fn first_open(table: &[Option<Extent>], calls: &[CallSite], from: usize) -> usize
+    requires { CallsOnly (IsSettled table.now) (take from calls.now) }
+    ensures { IsOpenFrom table.now calls.now result }
+{
+    for at in from..calls.len() {
+        if settled(table, calls[at].helper).is_none() {
+            return at;
+        }
+    }
+    calls.len()
+}
+
+impl Settling<'_> {
+    // Settles a helper, if all that it calls are.
+    fn settle(&mut self, helper: usize) -> Result<(), AllocError>
+        requires settling { IsSettling self.old }
+        requires there { helper < length self.old.helpers.now }
+        ensures settling { OnOk result (IsSettling self.new) }
+        ensures settles { OnOk result (Settles self.old self.new) }
+        ensures pends { OnOk result (Pends self.new helper) }
+    {
+        if self.table[helper].is_some() {
+            return Ok(());
+        }
+        let body = &self.helpers[helper];
+        let open = first_open(&self.table, &body.calls, self.passed[helper]);
+        self.passed[helper] = open;
+        if open >= body.calls.len() {
+            self.table[helper] = Some(extent_from(&self.table, self.helpers, body));
+            self.ready.push(helper)?;
+        }
+        Ok(())
+    }
+
+    // Settles those of some helpers that can be settled.
+    fn settle_all(&mut self, row: &[usize]) -> Result<(), AllocError>
+        requires settling { IsSettling self.old }
+        requires there { (f : ℕ) → Has row.now f → f < length self.old.helpers.now }
+        ensures settling { OnOk result (IsSettling self.new) }
+        ensures settles { OnOk result (Settles self.old self.new) }
+        ensures pend { OnOk result ((f : ℕ) → Has row.now f → Pends self.new f) }
+    {
+        for helper in row {
+            self.settle(*helper)?;
+        }
+        Ok(())
+    }
+}
+
+/// What each helper of a graph comes to.
+#[derive(Drop)]
+pub struct Extents {
+    /// By number; nothing of a helper that reaches a recursion.
+    pub table: Vec<Option<Extent>>,
+}
+
+impl Extents {
+    /// What each helper comes to. The one error is a refused growth.
+    pub fn new(alloc: Global, callers: &Callers) -> Result<Extents, AllocError>
+        requires { IsCallers callers.now }
+        ensures { IfOk result (λ extents. IsExtents (bodies_of callers.now.helpers.now) extents.table.items) }
+    {
+        let count = callers.helpers.len();
+        let mut settling = Settling {
+            helpers: callers.helpers,
+            table: vec![in alloc; None; count]?,
+            passed: vec![in alloc; 0; count]?,
+            ready: Vec::new(alloc),
+        };
+        for helper in 0..count {
+            settling.settle(helper)?;
+        }
+        while let Some(helper) = settling.ready.pop() {
+            settling.settle_all(&callers.rows[helper])?;
+        }
+        Ok(Extents {
+            table: settling.table,
+        })
+    }
+}
