@@ -29,7 +29,7 @@ _autolock() {
     done
     COMPREPLY=()
     case $command/$word in
-        /-*) mapfile -t COMPREPLY < <(compgen -W "-h --help -V --version --unproved --build" -- "$word") ;;
+        /-*) mapfile -t COMPREPLY < <(compgen -W "-h --help -V --version --unproved --proved --build --install --uninstall" -- "$word") ;;
         /*) mapfile -t COMPREPLY < <(compgen -W "$commands" -- "$word") ;;
         help/*) mapfile -t COMPREPLY < <(compgen -W "$commands" -- "$word") ;;
         serial/-*) mapfile -t COMPREPLY < <(compgen -W "--turns -h --help" -- "$word") ;;

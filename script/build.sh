@@ -65,15 +65,22 @@ prove_libraries() {
     rt all check --jobs "$most" 2>&1 </dev/null
 }
 
+# Notes when the build began, and which sources there are, with their folders, for is_proved_current of ./autolock.
+keep_list() {
+    find "$top/crates.txt" "$top/HANDLES" "$top"/crates/*/{src,specs,proofs} -print0 >"$proved.sources" 2>/dev/null
+    mv -f -- "$proved.built.new" "$proved.built"
+}
+
 build() {
     need_rt
     local count most log
     count=$(count_crates)
     most=$(lanes)
     log=$(mktemp) || exit 3
+    mkdir -p -- "${proved%/*}" && touch -- "$proved.built.new" || exit 3
     SECONDS=0
     say "proving and building the program: $count crates, $most at a time; an hour and three quarters of processor time in all where none is proved yet"
-    say "(./autolock --unproved WORDS.. runs it within two minutes, without any proof)"
+    say "(./autolock WORDS.. runs one without any proof meanwhile, which takes two minutes to make)"
     set -o pipefail
     if ! (cd -- "$top/crates/autolock" && prove_libraries) | tell_progress ||
         ! (cd -- "$top/crates/autolock" && rt run --jobs "$most" -- --version) >>"$log" 2>&1 </dev/null; then
@@ -84,5 +91,5 @@ build() {
     set +o pipefail
     say "proved and built in $(so_far)"
     rm -f "$log"
-    touch "$built"
+    keep_list
 }

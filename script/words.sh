@@ -4,10 +4,9 @@
 #     judge_words WORDS..     answers and exits, or sets `command`, `turns`, `count` and `seed` (the N of --turns, --count and
 #                             --seed, or nothing), `why`, `sections` and `json` (each 1 or nothing), and `files`
 #
-# Where `many` is 1, a command over one FILE takes several. `top` is the folder of the repository.
+# `top` is the folder of the repository.
 # shellcheck disable=SC2154,SC2016
 
-many=0
 command=
 turns=
 count=
@@ -28,7 +27,7 @@ show_help() {
 }
 
 show_version() {
-    echo "autolock 0.1.0" 2>/dev/null || {
+    echo "autolock $(cat "$top/VERSION")" 2>/dev/null || {
         say "cannot write"
         exit 3
     }
@@ -277,7 +276,6 @@ judge_arguments() {
     local most=1 is_last=0 missing other option
     other=$(other_of "$command")
     [ -z "$other" ] || most=2
-    [ -n "$other" ] || [ "$many" = 0 ] || most=100000
     while [ $# -gt 0 ]; do
         case $is_last$command$1 in
             "0$command--")

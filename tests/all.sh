@@ -1,30 +1,68 @@
 #!/usr/bin/env bash
-# Runs all tests that take minutes at most: `rt ci`, which proves every crate from nothing, tries the wrong bodies and
-# runs the tests of the crates; and then the scripts, over the program that it leaves. docs/TESTING.md has the others.
+# The merge gate: proves every crate from nothing, tries its wrong bodies and runs its tests (`rt ci`); and then tries, over
+# the program that this built, what no clause says. docs/TESTING.md has the tests that take longer.
 #
-#     tests/all.sh [BIN]      with BIN: only the scripts, over that program
+#     tests/all.sh            the gate
+#     tests/all.sh BIN        the scripts alone, over that program
+#
+# The last line is 'N passed, M failed'; the status is 1 where M is not 0. What the gate of a commit came to is kept in
+# out/gate, for script/release.sh.
 set -u
 
 cd -- "$(dirname -- "$0")/.." || exit 1
-failed=()
+room=$(mktemp -d)
+trap 'rm -rf "$room"' EXIT
+passed=0
+failed=0
+
+# A test, by its words. What it writes is told where it fails.
+try() {
+    local begun=$SECONDS
+    if "$@" >"$room/said" 2>&1; then
+        passed=$((passed + 1))
+        echo "ok ${*/#$program/BIN}, $((SECONDS - begun)) s: $(tail -n 1 "$room/said")"
+    else
+        failed=$((failed + 1))
+        grep -v '^ok ' "$room/said" | tail -n 30
+        echo "FAILED ${*/#$program/BIN}"
+    fi
+}
+
 if [ $# -gt 0 ]; then
     program=$(realpath -- "$1")
 else
-    rt ci || failed+=("rt ci")
+    mkdir -p out && rm -f out/gate && touch out/begun
     program=$PWD/crates/autolock/out/autolock
-    tests/no_compile.sh || failed+=(no_compile.sh)
+    script/ci.py | tee "$room/ci"
+    counts=$(tail -n 1 "$room/ci")
+    [[ $counts =~ ^([0-9]+)\ passed,\ ([0-9]+)\ failed ]] || {
+        echo "script/ci.py did not end"
+        exit 1
+    }
+    passed=${BASH_REMATCH[1]} failed=${BASH_REMATCH[2]}
+    [ "$failed" = 0 ] || exit 1
+    # What ./autolock runs from now on.
+    top=$PWD proved=$program
+    . script/build.sh
+    mv out/begun "$program.built.new" && keep_list
+    try tests/no_compile.sh
 fi
 for script in examples language statuses words limited_memory; do
-    echo "== tests/$script.sh"
-    "tests/$script.sh" "$program" || failed+=("$script.sh")
+    try "tests/$script.sh" "$program"
 done
-echo "== tests/fans.py"
-tests/fans.py "$program" || failed+=("fans.py")
-echo "== tests/believed.py"
-tests/believed.py || failed+=(believed.py)
-echo "== tests/promises.py"
-tests/promises.py || failed+=(promises.py)
-echo "== tests/editors.py"
-tests/editors.py || failed+=(editors.py)
-echo "== ${#failed[@]} failed: ${failed[*]}"
-[ ${#failed[@]} -eq 0 ]
+try tests/rows.py "$program"
+try tests/rows.py "$program" --cuts
+try tests/runs.py "$program" --times 5 --transfers 200
+tests/rows.py --write "$room"
+try tests/failing.py --program "$program" --commands run --every 7 \
+    "$room"/{lost_update,transfer,null_reference,countdown,shared_owner}.al
+try tests/fans.py "$program"
+try tests/pages.py "$program"
+for script in believed promises editors; do
+    try "tests/$script.py"
+done
+if [ $# = 0 ] && [ "$failed" = 0 ] && [ -z "$(git status --porcelain 2>/dev/null)" ]; then
+    { git rev-parse HEAD && rt version && grep '^rt: ok' "$room/ci" && echo "$passed passed, $failed failed"; } >out/gate
+fi
+echo "$passed passed, $failed failed"
+[ "$failed" = 0 ]

@@ -61,7 +61,7 @@ echo 'differs at line 4' >differs
 echo 'unsettled at line 2' >unsettled
 echo 'bad_history:4: H2 bad line' >history_fault
 echo 'some text' >some
-echo 'autolock 0.1.0' >version
+echo "autolock $(cat "$top/VERSION")" >version
 
 # Whether an output is the wanted one, which `some` stands for where only some text is wanted.
 is() { if [ "$2" = some ]; then [ -s "$1" ]; else cmp -s "$1" "$2"; fi; }

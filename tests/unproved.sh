@@ -1,70 +1,111 @@
 #!/usr/bin/env bash
-# Runs `./autolock --unproved` over one file and over several, and compares the status and both outputs. No part of the
-# gate: each run takes one to two minutes.
+# What ./autolock does in a fresh copy of the repository, where nothing is proved: it makes a program without any proof once,
+# and keeps it; what is said and answered, what is installed, and what is done after a source has changed, after runs that
+# were killed, and by two that begin together. No part of the gate: it takes some ten minutes.
+#
+#     tests/unproved.sh [KILLS]      so many runs are killed at some moment, by default 10
 set -u
 
 top=$(cd -- "$(dirname -- "$0")/.." && pwd -P)
+kills=${1:-10}
 work=$(mktemp -d)
 trap 'rm -rf "$work"' EXIT
-mkdir "$work/in" "$work/at"
+mkdir "$work/in" "$work/at" "$work/repository"
+(cd "$top" && git ls-files -z | tar -c --null -T -) | tar -x -C "$work/repository"
+autolock=$work/repository/autolock
 cd "$work/at" || exit 1
 cp "$top/examples/lost_update.al" ../in/right.al
 cp "$top/examples/lost_update.steps" ../in/right.steps
 printf 'lock G;\nglobal int n;\n' >'../in/wrong one.al'
-printf 'atomic f() { while (0 == 0) { } }\nthread t { f(); }\n' >../in/loop.al
 printf 'lock G; global int n protected_by(G);\natomic f() { n = n + 1; }\nthread t { repeat 100000 { f(); } }\n' >../in/long.al
-printf 'lock G;\nglobal int n protected_by(G) = ;\n' >../in/program=a.al
+passed=0
 failed=0
 
-# A name, the status, what is on standard output and on standard error, and the words.
+pass() {
+    passed=$((passed + 1))
+    echo "ok $1"
+}
+
+fail() {
+    failed=$((failed + 1))
+    echo "FAILED $1"
+}
+
+# A name, the status, the file with what is on standard output and the text on standard error, and the words.
 run() {
     local name=$1 wanted=$2 wrote=$3 told=$4 status
     shift 4
-    "$top/autolock" --unproved "$@" >out 2>err </dev/null
+    "$autolock" "$@" >out 2>err </dev/null
     status=$?
-    if [ $status -eq "$wanted" ] && [ "$(cat out)" = "$wrote" ] && [ "$(cat err)" = "$told" ]; then
-        echo "ok $name"
+    sed -i -E 's/[0-9]+ min [0-9]+ s$/TIME/; s/, [0-9]+ s$/, TIME/' err
+    if [ $status -eq "$wanted" ] && cmp -s out "$wrote" && [ "$(cat err)" = "$told" ]; then
+        pass "$name"
     else
-        echo "FAILED $name: status $status"
+        fail "$name: status $status"
         head -n 20 out err
-        failed=1
     fi
 }
 
-said='autolock: nothing is proved of this run; it takes one to two minutes, and can write 1 MiB'
+said='autolock: nothing is proved of this program (./autolock --build proves it)'
+made="autolock: making the program without any proof: some two minutes, once; it is kept until a source changes
+autolock: 1 of 2, its sources are read and compiled to one module, TIME
+autolock: 2 of 2, the module is compiled and linked, TIME
+autolock: made in TIME"
 
-run "bad words" 2 "" "error: unexpected argument '--json' found
+run "a file that is not there" 3 /dev/null "autolock: cannot read ../in/missing.al" serial ../in/missing.al
+# Killed at some moment of the first two minutes; nothing may be left that is half made.
+for ((i = 0; i < kills; i++)); do
+    setsid "$autolock" check ../in/right.al >out 2>err </dev/null &
+    process=$!
+    sleep $((RANDOM % 120 + 1)).$((RANDOM % 10))
+    kill -9 -- -$process 2>/dev/null
+    wait $process 2>/dev/null
+done
+# Two that begin together: one makes the program, and both answer.
+"$autolock" check ../in/right.al >first 2>first.err </dev/null &
+"$autolock" check ../in/right.al >second 2>second.err </dev/null
+wait
+if cmp -s first "$top/examples/lost_update.check" && cmp -s second first &&
+    [ "$(cat first.err second.err | grep -c 'compiled to one module')" -le 1 ]; then
+    pass "two that begin together, after $kills that were killed"
+else
+    fail "two that begin together"
+    cat first first.err second second.err
+fi
+[ -z "$(find "$work/repository/out/unproved" -name 'making-*')" ] && pass "nothing half made is left" || fail "making-* is left"
+touch "$work/repository/crates/source/src/lib.rt"
+run "after a change" 0 "$top/examples/lost_update.check" "$made
+$said" check ../in/right.al
+run "the second run" 1 /dev/null "$said
+../in/wrong one.al:2:12: E10 neither final nor protected" check '../in/wrong one.al'
+run "with the word" 0 "$top/examples/lost_update.simulation" "$said" --unproved simulate ../in/right.al ../in/right.steps
+"$autolock" run ../in/right.al >../in/right.history 2>/dev/null
+echo same >../in/same
+run "a run of threads, replayed" 0 ../in/same "$said" replay ../in/right.al ../in/right.history
+"$autolock" serial ../in/long.al 2>/dev/null | wc -c >size
+[ "$(cat size)" -gt 2000000 ] && pass "more than a MiB" || fail "more than a MiB"
+echo "autolock $(cat "$top/VERSION")" >../in/version
+run "the version" 0 ../in/version "$said" --version
+run "the proved one alone" 3 /dev/null \
+    "autolock: there is no program that is proved of these sources: ./autolock --build proves and builds it" \
+    --proved check ../in/right.al
 
-  tip: to pass '--json' as a value, use '-- --json'
+# Installed, run from there, and removed.
+"$autolock" --install ../prefix >out 2>err
+if [ $? = 3 ] && [ ! -e ../prefix ]; then pass "what is not proved is not installed"; else fail "what is not proved is not installed"; fi
+DESTDIR=$work/root "$autolock" --install --unproved /usr >out 2>err && [ -z "$(find ../root -name autolock -path '*/bin/*')" ] &&
+    ../root/usr/bin/autolock-unproved check ../in/right.al 2>err | cmp -s - "$top/examples/lost_update.check" &&
+    [ -e ../root/usr/share/man/man1/autolock.1 ] && pass "installed as autolock-unproved" || { fail "installed as autolock-unproved"; cat err; }
+DESTDIR=$work/root "$autolock" --uninstall /usr >out 2>err
+[ -z "$(find ../root -type f)" ] && pass "removed" || { fail "removed"; find ../root -type f; }
 
-Usage: autolock check <FILE>
-
-For more information, try '--help'." check --json ../in/right.al
-run "a file that is not there" 3 "" "autolock: cannot read ../in/missing.al" serial ../in/right.al ../in/missing.al
-run "one file" 1 "" "$said
-$work/in/wrong one.al:2:12: E10 neither final nor protected" check "$work/in/wrong one.al"
-run "several files" 1 "== ../in/right.al
-$(cat "$top/examples/lost_update.check")
-== ../in/wrong one.al
-== ../in/program=a.al
-== /dev/null
-accepted" "$said
-../in/wrong one.al:2:12: E10 neither final nor protected
-../in/program=a.al:2:32: E03 unexpected token" \
-    check ../in/right.al '../in/wrong one.al' ../in/program=a.al /dev/null
-run "several files that don't end well" 7 "== ../in/right.al
-$(cat "$top/examples/lost_update.out")
-== ../in/loop.al
-history 1
-unsettled 0 0
-== ../in/long.al" "$said
-autolock: an unproved run can write 1 MiB; this one would have written more" \
-    serial --turns 3 ../in/right.al ../in/loop.al ../in/long.al
-run "two files of one run" 0 "$(cat "$top/examples/lost_update.simulation")" "$said" \
-    simulate ../in/right.al ../in/right.steps
-sed 's/^n 2$/n 1/' "$top/examples/lost_update.out" >../in/right.history
-run "a program and a history" 5 "differs at line $(grep -n '^n 1$' ../in/right.history | cut -d: -f1)
-wanted: n 2
-found: n 1" "$said" replay --why ../in/right.al ../in/right.history
-
-exit $failed
+echo 'fn broken( {' >>"$work/repository/crates/source/src/lib.rt"
+"$autolock" check ../in/right.al >out 2>err
+if [ $? = 3 ] && [ ! -s out ] && grep -q 'lib.rt:.*error' err && [ "$(tail -n 1 err)" = "autolock: the program was not made" ]; then
+    pass "a source that does not compile"
+else
+    fail "a source that does not compile"
+    cat out err
+fi
+echo "$passed passed, $failed failed"
+[ $failed = 0 ]

@@ -15,7 +15,7 @@ fi
 work=$(mktemp -d)
 trap 'rm -rf "$work"' EXIT
 mkdir "$work/bin" "$work/in"
-cp -r "$top/autolock" "$top/script" "$work"
+cp -r "$top/autolock" "$top/script" "$top/VERSION" "$work"
 : >"$work/crates.txt"
 # Where the script asks for the toolchain, it has not judged the words.
 printf '#!/bin/sh\necho "the toolchain was called"\n' >"$work/bin/rt"
@@ -275,7 +275,7 @@ completes() {
 completes "check explain help listing order outcomes replay run serial simulate trace" ''
 completes "serial simulate" s
 completes "right.al" order r
-completes "--build --help --unproved --version -V -h" -
+completes "--build --help --install --proved --uninstall --unproved --version -V -h" -
 completes "check explain help listing order outcomes replay run serial simulate trace" --unproved ''
 completes "--turns" serial --t
 completes "--why" replay --w

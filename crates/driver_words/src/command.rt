@@ -9,7 +9,7 @@ use clap::{Arg, ArgAction, Command};
 use std::alloc::{AllocError, Global};
 
 /// The version that `--version` prints behind the program's name.
-const VERSION: &str = "0.1.0";
+const VERSION: &str = "0.2.0";
 
 /// An argument that must be given, and stands for itself.
 fn file_argument<'a>(alloc: Global, id: &'a str) -> Arg<'a>
