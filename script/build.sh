@@ -67,7 +67,7 @@ prove_libraries() {
 
 # Notes when the build began, and which sources there are, with their folders, for is_proved_current of ./autolock.
 keep_list() {
-    find "$top/crates.txt" "$top/HANDLES" "$top"/crates/*/{src,specs,proofs} -print0 >"$proved.sources" 2>/dev/null
+    find "$top/crates.txt" "$top/HANDLES" "$top"/crates/*/{src,specs} -print0 >"$proved.sources" 2>/dev/null
     mv -f -- "$proved.built.new" "$proved.built"
 }
 
