@@ -79,7 +79,7 @@ build() {
     log=$(mktemp) || exit 3
     mkdir -p -- "${proved%/*}" && touch -- "$proved.built.new" || exit 3
     SECONDS=0
-    say "proving and building the program: $count crates, $most at a time; an hour and three quarters of processor time in all where none is proved yet"
+    say "proving and building the program: $count crates, $most at a time; one to two hours of processor time in all where none is proved yet"
     say "(./autolock WORDS.. runs one without any proof meanwhile, which takes two minutes to make)"
     set -o pipefail
     if ! (cd -- "$top/crates/autolock" && prove_libraries) | tell_progress ||
