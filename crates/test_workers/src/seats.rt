@@ -1,7 +1,10 @@
 //! Tests of seats: what their calls are answered, and who waits for whom.
 
 use core_lang::value::Value;
+use std::alloc::Global;
+use std::sync::Wait;
 use std::test::Fail;
+use std::thread::Threads;
 use test_files::judging::compare;
 use test_threads::{
     Hold, Mark, Scene, SeatCall, in_agreement, in_turn, over_one_row, side_by_side,
@@ -63,6 +66,17 @@ const fn behind(thread: u32, other: u32, step: u32) -> Hold {
         until: Mark::Passed(step),
         turns: 0,
     }
+}
+
+/// Compares what is said where the scene's seats call side by side.
+fn judge_side_by_side<R: Threads + Wait + Sync>(
+    rt: &R,
+    alloc: Global,
+    scene: &Scene<'_>,
+    want: &str,
+) -> Result<(), Fail> {
+    let said = side_by_side(rt, alloc, scene)?;
+    compare(alloc, said.as_str(), want)
 }
 
 #[test]
@@ -148,16 +162,15 @@ strange
 /// Seat 1 begins while the gate holds seat 0 with the lock.
 #[test]
 fn a_gate_holds_no_other_seat(rt: HostRuntime) -> Result<(), Fail> {
-    let alloc = rt.alloc();
     let scene = Scene {
         text: DISJOINT_LOCKS,
         calls: &[F, F],
         holds: &[behind(1, 0, 1), with_its_lock(0, 1, Mark::Passed(0), 0)],
     };
-    let said = side_by_side(&rt, alloc, &scene)?;
-    compare(
-        alloc,
-        said.as_str(),
+    judge_side_by_side(
+        &rt,
+        rt.alloc(),
+        &scene,
         "0: Ends at 0
 1: Ends at 1
 2 entries, left Int(2) Int(0)
@@ -168,7 +181,6 @@ fn a_gate_holds_no_other_seat(rt: HostRuntime) -> Result<(), Fail> {
 /// Seat 1 is answered while the gate holds seat 0 behind its begin, before any lock.
 #[test]
 fn a_begin_holds_no_other_seat(rt: HostRuntime) -> Result<(), Fail> {
-    let alloc = rt.alloc();
     let scene = Scene {
         text: DISJOINT_LOCKS,
         calls: &[F, F],
@@ -183,10 +195,10 @@ fn a_begin_holds_no_other_seat(rt: HostRuntime) -> Result<(), Fail> {
             },
         ],
     };
-    let said = side_by_side(&rt, alloc, &scene)?;
-    compare(
-        alloc,
-        said.as_str(),
+    judge_side_by_side(
+        &rt,
+        rt.alloc(),
+        &scene,
         "0: Ends at 1
 1: Ends at 0
 2 entries, left Int(2) Int(0)
@@ -197,7 +209,6 @@ fn a_begin_holds_no_other_seat(rt: HostRuntime) -> Result<(), Fail> {
 /// Seat 1 has waited for the lock long before it is released.
 #[test]
 fn a_release_wakes_who_waits(rt: HostRuntime) -> Result<(), Fail> {
-    let alloc = rt.alloc();
     let scene = Scene {
         text: DISJOINT_LOCKS,
         calls: &[F, F],
@@ -206,10 +217,10 @@ fn a_release_wakes_who_waits(rt: HostRuntime) -> Result<(), Fail> {
             with_its_lock(0, 1, Mark::Passed(0), 1_000_000),
         ],
     };
-    let said = side_by_side(&rt, alloc, &scene)?;
-    compare(
-        alloc,
-        said.as_str(),
+    judge_side_by_side(
+        &rt,
+        rt.alloc(),
+        &scene,
         "0: Ends at 0
 1: Ends at 1
 2 entries, left Int(2) Int(0)
@@ -219,16 +230,15 @@ fn a_release_wakes_who_waits(rt: HostRuntime) -> Result<(), Fail> {
 
 #[test]
 fn one_lock_holds_no_other(rt: HostRuntime) -> Result<(), Fail> {
-    let alloc = rt.alloc();
     let scene = Scene {
         text: DISJOINT_LOCKS,
         calls: &[F, G],
         holds: &[behind(1, 0, 1), with_its_lock(0, 1, Mark::Over, 0)],
     };
-    let said = side_by_side(&rt, alloc, &scene)?;
-    compare(
-        alloc,
-        said.as_str(),
+    judge_side_by_side(
+        &rt,
+        rt.alloc(),
+        &scene,
         "0: Ends at 1
 1: Ends at 0
 2 entries, left Int(1) Int(2)
@@ -238,16 +248,15 @@ fn one_lock_holds_no_other(rt: HostRuntime) -> Result<(), Fail> {
 
 #[test]
 fn the_other_lock_holds_no_other(rt: HostRuntime) -> Result<(), Fail> {
-    let alloc = rt.alloc();
     let scene = Scene {
         text: DISJOINT_LOCKS,
         calls: &[F, G],
         holds: &[behind(0, 1, 1), with_its_lock(1, 0, Mark::Over, 0)],
     };
-    let said = side_by_side(&rt, alloc, &scene)?;
-    compare(
-        alloc,
-        said.as_str(),
+    judge_side_by_side(
+        &rt,
+        rt.alloc(),
+        &scene,
         "0: Ends at 0
 1: Ends at 1
 2 entries, left Int(1) Int(2)
@@ -258,7 +267,6 @@ fn the_other_lock_holds_no_other(rt: HostRuntime) -> Result<(), Fail> {
 /// Once seat 0 is in `f`, seat 1 calls `g` and seat 2 `f`; seat 0 goes on when `g` is answered and seat 2 has waited long.
 #[test]
 fn who_waits_holds_no_third(rt: HostRuntime) -> Result<(), Fail> {
-    let alloc = rt.alloc();
     let scene = Scene {
         text: DISJOINT_LOCKS,
         calls: &[F, G, F],
@@ -269,10 +277,10 @@ fn who_waits_holds_no_third(rt: HostRuntime) -> Result<(), Fail> {
             with_its_lock(0, 2, Mark::Passed(0), 1_000_000),
         ],
     };
-    let said = side_by_side(&rt, alloc, &scene)?;
-    compare(
-        alloc,
-        said.as_str(),
+    judge_side_by_side(
+        &rt,
+        rt.alloc(),
+        &scene,
         "0: Ends at 1
 1: Ends at 0
 2: Ends at 2
@@ -300,7 +308,6 @@ atomic g() { y = y + 2; }
 /// with its lock until seat 2 is answered.
 #[test]
 fn a_release_wakes_who_waits_for_each_lock(rt: HostRuntime) -> Result<(), Fail> {
-    let alloc = rt.alloc();
     let third = SeatCall {
         section: 2,
         arguments: &[],
@@ -328,10 +335,10 @@ fn a_release_wakes_who_waits_for_each_lock(rt: HostRuntime) -> Result<(), Fail> 
             with_its_lock(1, 2, Mark::Over, 0),
         ],
     };
-    let said = side_by_side(&rt, alloc, &scene)?;
-    compare(
-        alloc,
-        said.as_str(),
+    judge_side_by_side(
+        &rt,
+        rt.alloc(),
+        &scene,
         "0: Ends at 0
 1: Ends at 2
 2: Ends at 1
@@ -343,16 +350,15 @@ fn a_release_wakes_who_waits_for_each_lock(rt: HostRuntime) -> Result<(), Fail> 
 /// Seat 1 is answered while seat 0 runs long.
 #[test]
 fn a_long_section_holds_no_other(rt: HostRuntime) -> Result<(), Fail> {
-    let alloc = rt.alloc();
     let scene = Scene {
         text: LONG,
         calls: &[F, G],
         holds: &[behind(1, 0, 1)],
     };
-    let said = side_by_side(&rt, alloc, &scene)?;
-    compare(
-        alloc,
-        said.as_str(),
+    judge_side_by_side(
+        &rt,
+        rt.alloc(),
+        &scene,
         "0: Ends at 1
 1: Ends at 0
 2 entries, left Int(2) Int(2)
