@@ -12,8 +12,8 @@ use Rattle.core_lang.specs.declared.typed.Typed.{Typed}
 use Rattle.core_lang_expansion.specs.Data.{IsExpanded}
 use Rattle.locks.specs.Faults as paths
 use Rattle.source.specs.Mistakes.{IsLeastOf}
-use Rattle.compiler.specs.Programs.{IsRefusal, IsOrderRefusal, HasNoTextFault, HasNoTokenFault, in_text, in_tokens}
-use Rattle.compiler.specs.Programs.{in_tree, in_paths, in_order}
+use Rattle.compiler.specs.Programs.{IsRefusal, HasNoTextFault, HasNoTokenFault, in_text, in_tokens}
+use Rattle.compiler.specs.Programs.{in_tree, in_paths}
 
 pub text_refused : (source : List ℕ) (e : Refusal) → text.IsRefusal source e → IsRefusal source e
 text_refused source NoMemory refused = tt
@@ -39,14 +39,6 @@ pub paths_refused : (source : List ℕ) (tokens : List Tok) (tree : List Decl) (
 paths_refused source tokens tree program written NoMemory no_text has no_token right no_name means expanded refused least = tt
 paths_refused source tokens tree program written (Fault fault) no_text has no_token right no_name means expanded refused least =
     in_paths tokens tree program written no_text has no_token right no_name means expanded refused least
-
-pub order_refused : (source : List ℕ) (tokens : List Tok) (tree : List Decl) (program written : Typed) (e : Refusal) →
-    HasNoTextFault source
-    → text.HasTokens source tokens → HasNoTokenFault tokens → grammar.HasRightTree tokens tree → names.HasNoFault tree
-    → Resolves tree program → IsExpanded program written → paths.HasNoFault written → IsOrderRefusal written e → IsRefusal source e
-order_refused source tokens tree program written NoMemory no_text has no_token right no_name means expanded no_path refused = tt
-order_refused source tokens tree program written (Fault fault) no_text has no_token right no_name means expanded no_path refused =
-    in_order tokens tree program written no_text has no_token right no_name means expanded no_path refused
 
 -- want of memory is one at any pass
 pub no_memory_refused : (source : List ℕ) (e : Refusal) → e ≡ NoMemory → IsRefusal source e

@@ -11,7 +11,8 @@ use Rattle.source.specs.Texts.{HasTokens}
 use Rattle.source.specs.Tokens.{Tok}
 use Rattle.syntax.specs.Faults.{HasRightTree}
 use Rattle.syntax.specs.Trees.{Decl}
-use Rattle.compiler.specs.declared.examining.Cyclic.{Cyclic}
+use Rattle.lowering.specs.Working.Compiled.{program_of}
+use Rattle.compiler.specs.declared.passes.Cyclic.{Cyclic}
 use Rattle.compiler.specs.Programs.{IsOfFirstPass}
 
 -- a fault with no detail, as all but that of a cycle have none; or want of memory
@@ -31,8 +32,8 @@ pub record IsWrittenProgram (source : List ℕ) (written : Typed) : Type 0 where
 
 -- the text's fault is that of a cycle of its program's lock classes, of which these are the edges
 pub record IsCyclic (source : List ℕ) (cyclic : Cyclic) : Type 0 where
-  pub program : IsWrittenProgram source cyclic.written
-  pub paths : ArePaths cyclic.written cyclic.paths
-  pub cycle : IsCycleOf cyclic.written cyclic.edges.items
-  pub told : IsFaultAtFirst cyclic.written cyclic.fault
+  pub program : IsWrittenProgram source (program_of cyclic.trees)
+  pub paths : ArePaths (program_of cyclic.trees) cyclic.paths
+  pub cycle : IsCycleOf (program_of cyclic.trees) cyclic.edges.items
+  pub told : IsFaultAtFirst (program_of cyclic.trees) cyclic.fault
   pub first : IsOfFirstPass source cyclic.fault

@@ -74,8 +74,3 @@ IsRefusal source (Fault fault) = IsOfFirstPass source fault
 -- for want of memory
 abbrev pub IsForMemory : Refusal → Type 0
 IsForMemory refusal = refusal ≡ NoMemory
-
--- a program was refused for a cycle of its lock classes, or for want of memory
-abbrev pub IsOrderRefusal : Typed → Refusal → Type 0
-IsOrderRefusal program NoMemory = Unit {0}
-IsOrderRefusal program (Fault fault) = order.IsFaultAtFirst program fault

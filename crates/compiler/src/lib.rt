@@ -7,8 +7,6 @@
 //! of lock classes (`Orders`), and of a cycle (`Cycles`). What a compiled program is, says `lowering`.
 #![tactic(auto)]
 
-mod examining;
 mod passes;
 
-pub use examining::{Cyclic, Ordered, examine};
-pub use passes::compile;
+pub use passes::{Cyclic, Ordered, compile, examine};

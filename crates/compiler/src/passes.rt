@@ -1,53 +1,57 @@
 //! The passes in order.
 
-ghost use Rattle.std.specs.Prelude.{◌≡◌, IfOk, IfErr, OnOk};
+ghost use Rattle.std.specs.Prelude.{◌≡◌, IfOk, IfErr};
 ghost use Rattle.core_lang.specs.WellFormed.{IsChecked, IsWellFormed};
 ghost use Rattle.core_lang_expansion.specs.Data.{IsExpanded};
-ghost use Rattle.lockpaths.specs.Paths.{ArePaths};
-ghost use Rattle.lockorder.specs.Edges.{AreRanksOf, RiseIn};
-ghost use Rattle.lockorder.specs.Faults.{HasNoFault};
+ghost use Rattle.lockorder.specs.Faults.{IsCycleOf, IsFaultAtFirst};
 ghost use Rattle.lowering.specs.Plans.{IsCompiled};
 ghost use Rattle.lowering.specs.Working.Compiled.{program_of};
-ghost use Rattle.compiler.specs.Programs.{Accepts, IsForMemory, IsOrderRefusal, IsRefusal};
+ghost use Rattle.compiler.specs.Cycles.{IsBare, IsCyclic};
+ghost use Rattle.compiler.specs.Programs.{Accepts, IsForMemory, IsRefusal};
+ghost use Rattle.compiler.specs.Working.Orders.{IsOrdered};
 
 use core_lang::typed::Typed;
 use core_lang_expansion::program::expand;
 use core_lang_laws::laws::a_program_without_helpers_is_its_own_expansion;
 use lexer::lex;
 use lockorder::order;
-use lockorder::ranks::{OrderRefusal, Ranks};
+use lockorder::ranks::{Cycle, Edge, OrderRefusal, Ranks};
 use lockpaths::paths;
 use lockpaths::table::Paths;
 use lowering::compiled::{Program, Trees};
 use parser::parse;
 use resolution::laws::one_program;
-use source::fault::Refusal;
+use source::fault::{Fault, Refusal};
 use source::memory::NoMemory;
 use std::alloc::Global;
 use types::program::check;
 
-// The ranks of the lock classes, or the fault of a cycle.
-fn ranked(alloc: Global, program: &Typed, paths: &Paths) -> Result<Ranks, Refusal>
-    requires program { IsWellFormed program.now }
-    requires paths { ArePaths program.now paths.now }
-    ensures ranks { IfOk result (λ ranks. AreRanksOf program.now ranks.items) }
-    ensures rise { IfOk result (λ ranks. RiseIn program.now ranks.items) }
-    ensures faultless { OnOk result (HasNoFault program.now) }
-    ensures fault { IfErr result (IsOrderRefusal program.now) }
-{
-    let cycle = match order(alloc, program, paths) {
-        Ok(ranks) => return Ok(ranks),
-        Err(OrderRefusal::Cycle(cycle)) => cycle,
-        Err(OrderRefusal::NoMemory) => return Err(Refusal::NoMemory),
-    };
-    match cycle.fault(alloc, program) {
-        Ok(fault) => Err(Refusal::Fault(fault)),
-        Err(NoMemory) => Err(Refusal::NoMemory),
-    }
+/// A text's program whose lock classes have an order.
+#[derive(Drop)]
+pub struct Ordered {
+    /// The program as it was accepted, and with its helpers written out.
+    pub trees: Trees,
+    /// Its lock paths.
+    pub paths: Paths,
+    /// For each lock class its rank.
+    pub ranks: Ranks,
+}
+
+/// A text's program whose lock classes have none.
+#[derive(Drop)]
+pub struct Cyclic {
+    /// The program as it was checked, and with its helpers written out.
+    pub trees: Trees,
+    /// Its lock paths.
+    pub paths: Paths,
+    /// The edges of a cycle of its lock classes.
+    pub edges: Vec<Edge>,
+    /// The fault of the cycle.
+    pub fault: Fault,
 }
 
 // The program with its helpers written out.
-pub(crate) fn written_out(alloc: Global, program: &Typed) -> Result<Typed, Refusal>
+fn written_out(alloc: Global, program: &Typed) -> Result<Typed, Refusal>
     requires { IsChecked program.now }
     ensures expanded { IfOk result (IsExpanded program.now) }
     ensures well_formed { IfOk result IsWellFormed }
@@ -81,6 +85,57 @@ fn trees(alloc: Global, accepted: Typed) -> Result<Trees, Refusal>
     })
 }
 
+// The fault of a cycle.
+fn cycle_fault(alloc: Global, program: &Typed, cycle: &Cycle) -> Result<Fault, Refusal>
+    requires { IsCycleOf program.now cycle.now.edges.items }
+    ensures fault { IfOk result (IsFaultAtFirst program.now) }
+    ensures cycle { IfOk result (λ _. IsCycleOf program.now cycle.now.edges.items) }
+    ensures memory { IfErr result IsForMemory }
+{
+    match cycle.fault(alloc, program) {
+        Ok(fault) => Ok(fault),
+        Err(NoMemory) => Err(Refusal::NoMemory),
+    }
+}
+
+/// Whether a text is accepted: its program, with the order of the classes of its locks; or a cycle of them.
+///
+/// # Errors
+///
+/// The fault of the first pass that has one, where that is none of the order of locks; or want of memory.
+pub fn examine(alloc: Global, text: &[u8]) -> Result<Result<Ordered, Cyclic>, Refusal>
+    ensures order { IfOk result (λ found. IfOk found (IsOrdered text.now)) }
+    ensures cycle { IfOk result (λ found. IfErr found (IsCyclic text.now)) }
+    ensures fault { IfErr result (IsRefusal text.now) }
+    ensures bare { IfErr result IsBare }
+{
+    one_program();
+    let tokens = lex(alloc, text)?;
+    let tree = parse(alloc, &tokens)?;
+    drop(tokens);
+    let accepted = check(alloc, &tree)?;
+    drop(tree);
+    let trees = trees(alloc, accepted)?;
+    let found = paths(alloc, trees.program())?;
+    match order(alloc, trees.program(), &found) {
+        Ok(ranks) => Ok(Ok(Ordered {
+            trees,
+            paths: found,
+            ranks,
+        })),
+        Err(OrderRefusal::Cycle(cycle)) => {
+            let fault = cycle_fault(alloc, trees.program(), &cycle)?;
+            Ok(Err(Cyclic {
+                trees,
+                paths: found,
+                edges: cycle.edges,
+                fault,
+            }))
+        }
+        Err(OrderRefusal::NoMemory) => Err(Refusal::NoMemory),
+    }
+}
+
 /// The program that the text means, compiled; or the fault of the first pass that has one.
 ///
 /// # Errors
@@ -91,18 +146,11 @@ pub fn compile(alloc: Global, text: &[u8]) -> Result<Program, Refusal>
     ensures compiled { IfOk result IsCompiled }
     ensures fault { IfErr result (IsRefusal text.now) }
 {
-    one_program();
-    let tokens = lex(alloc, text)?;
-    let tree = parse(alloc, &tokens)?;
-    drop(tokens);
-    let accepted = check(alloc, &tree)?;
-    drop(tree);
-    let trees = trees(alloc, accepted)?;
-    let program = trees.program();
-    let found = paths(alloc, program)?;
-    let ranks = ranked(alloc, program, &found)?;
-    match Program::of(alloc, trees, found, ranks) {
-        Ok(program) => Ok(program),
-        Err(NoMemory) => Err(Refusal::NoMemory),
+    match examine(alloc, text)? {
+        Ok(ordered) => match Program::of(alloc, ordered.trees, ordered.paths, ordered.ranks) {
+            Ok(program) => Ok(program),
+            Err(NoMemory) => Err(Refusal::NoMemory),
+        },
+        Err(cyclic) => Err(Refusal::Fault(cyclic.fault)),
     }
 }

@@ -2,7 +2,7 @@ use Rattle.std.proofs.lemmas.Result.{err_from_is_err_and}
 use Rattle.compiler.specs.Programs.{in_order}
 use Rattle.compiler.proofs.RefusalLemmas.{no_memory_refused, tokens_refused, tree_refused, paths_refused}
 use Rattle.compiler.proofs.FaultlessLemmas.{faultless, tokens_faultless}
-use Rattle.compiler.proofs.examining.examine.Goals as goal
+use Rattle.compiler.proofs.passes.examine.Goals as goal
 
 pub returns-in_err-tree-clause-fault : goal.returns-in_err-tree-clause-fault
 returns-in_err-tree-clause-fault c =
@@ -20,10 +20,10 @@ returns-in_err-accepted-clause-fault c =
     (λ code start. tokens_faultless _ _ _ code start c.in_ok-tokens.ensures.found right placed) right
     c.in_err-accepted.ensures.fault c.in_err-accepted.ensures.least)
 
-pub returns-in_err-written-clause-fault : goal.returns-in_err-written-clause-fault
-returns-in_err-written-clause-fault c =
-    let p = err_from_is_err_and c.from_residual-in_err-written.result c.from_residual-in_err-written.ensures.1 in
-    rw (p.1, p.2) (no_memory_refused _ c.in_err-written.field-0.0 c.in_err-written.ensures.fault)
+pub returns-in_err-trees-clause-fault : goal.returns-in_err-trees-clause-fault
+returns-in_err-trees-clause-fault c =
+    let p = err_from_is_err_and c.from_residual-in_err-trees.result c.from_residual-in_err-trees.ensures.1 in
+    rw (p.1, p.2) (no_memory_refused _ c.in_err-trees.field-0.0 c.in_err-trees.ensures.fault)
 
 pub returns-in_err-found-clause-fault : goal.returns-in_err-found-clause-fault
 returns-in_err-found-clause-fault c =
@@ -33,7 +33,7 @@ returns-in_err-found-clause-fault c =
     rw (p.1, p.2)
     (paths_refused _ _ _ _ _ c.in_err-found.field-0.0 c.in_ok-tokens.ensures.refused c.in_ok-tokens.ensures.found
     (λ code start. tokens_faultless _ _ _ code start c.in_ok-tokens.ensures.found right placed) right c.in_ok-accepted.ensures.faultless
-    c.in_ok-accepted.ensures.resolves c.in_ok-written.ensures.expanded c.in_err-found.ensures.fault c.in_err-found.ensures.least)
+    c.in_ok-accepted.ensures.resolves c.in_ok-trees.ensures.expanded c.in_err-found.ensures.fault c.in_err-found.ensures.least)
 
 pub returns-in-Ok-clause-order : goal.returns-in-Ok-clause-order
 returns-in-Ok-clause-order c =
@@ -48,10 +48,10 @@ returns-in-Ok-clause-order c =
         faultless = faultless _ _ _ _ _ c.in_ok-tokens.ensures.refused c.one_program.ensures
             c.in_ok-tokens.ensures.only c.in_ok-tokens.ensures.found right
             (rw c.deref.ensures.value at c.in_ok-tree.ensures.misplaced) (rw c.deref.ensures.value at c.in_ok-tree.ensures.only)
-            c.in_ok-accepted.ensures.faultless c.in_ok-accepted.ensures.resolves c.in_ok-written.ensures.expanded c.in_ok-found.ensures.faultless c.in-Ok.ensures.faultless;
+            c.in_ok-accepted.ensures.faultless c.in_ok-accepted.ensures.resolves c.in_ok-trees.ensures.expanded c.in_ok-found.ensures.faultless c.in-Ok.ensures.faultless;
       };
-      expanded = c.in_ok-written.ensures.expanded;
-      well_formed = c.in_ok-written.ensures.well_formed;
+      expanded = c.in_ok-trees.ensures.expanded;
+      well_formed = c.in_ok-trees.ensures.well_formed;
       paths = c.in_ok-found.ensures.paths;
       ranks = c.in-Ok.ensures.ranks;
       rise = c.in-Ok.ensures.rise;
@@ -69,12 +69,12 @@ returns-in-Err-Cycle-clause-cycle c =
         has_tokens = c.in_ok-tokens.ensures.found;
         has_tree = right;
         resolves = c.in_ok-accepted.ensures.resolves;
-        expanded = c.in_ok-written.ensures.expanded;
+        expanded = c.in_ok-trees.ensures.expanded;
       };
       paths = c.in_ok-found.ensures.paths;
       cycle = c.in_ok-fault-in-Err-Cycle.ensures.cycle;
       told = c.in_ok-fault-in-Err-Cycle.ensures.fault;
       first = in_order _ _ _ _ c.in_ok-tokens.ensures.refused c.in_ok-tokens.ensures.found
           (λ code start. tokens_faultless _ _ _ code start c.in_ok-tokens.ensures.found right placed) right c.in_ok-accepted.ensures.faultless
-          c.in_ok-accepted.ensures.resolves c.in_ok-written.ensures.expanded c.in_ok-found.ensures.faultless c.in_ok-fault-in-Err-Cycle.ensures.fault;
+          c.in_ok-accepted.ensures.resolves c.in_ok-trees.ensures.expanded c.in_ok-found.ensures.faultless c.in_ok-fault-in-Err-Cycle.ensures.fault;
     }
