@@ -1,0 +1,5 @@
+pub mod Groups
+pub mod Plans
+pub mod Alike
+pub mod Runs
+pub mod InC
