@@ -3,3 +3,4 @@ pub mod Plans
 pub mod Alike
 pub mod Runs
 pub mod InC
+pub mod Working
