@@ -1,0 +1,9 @@
+use Rattle.c_groups.proofs.Alike.{groups_do_alike}
+use Rattle.c_groups.proofs.Runs.{groups_lead_on}
+use Rattle.c_groups.proofs.laws.groups_do_alike.Goals as goal
+
+pub returns-clause-alike : goal.returns-clause-alike
+returns-clause-alike g c = groups_do_alike
+
+pub returns-clause-leads : goal.returns-clause-leads
+returns-clause-leads g c = groups_lead_on
