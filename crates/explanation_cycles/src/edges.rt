@@ -11,9 +11,9 @@ ghost use Rattle.explanation_cycles.specs.Working.Tellers.{IsMade, AddsEdge, Add
 use crate::teller::Teller;
 use core_lang::typed::Typed;
 use explanation::Note;
-use flow::points::points_of;
 use lockorder::ranks::Edge;
 use lockpaths::table::Paths;
+use report_check::AllPoints;
 use source::memory::NoMemory;
 use std::alloc::Global;
 
@@ -30,8 +30,8 @@ fn class_of_next(first: usize, rest: &[Edge]) -> usize
 /// A program and its lock paths.
 #[derive(Drop)]
 pub struct Edges<'a> {
-    /// The program.
-    pub program: &'a Typed,
+    /// The program, with the points of its sections.
+    pub points: &'a AllPoints<'a>,
     /// Its lock paths.
     pub paths: &'a Paths,
 }
@@ -45,18 +45,18 @@ impl Edges<'_> {
         next: usize,
         notes: &mut Vec<Note>,
     ) -> Result<(), NoMemory>
-        requires paths { ArePaths self.now.program.now self.now.paths.now }
-        requires made { IsMade self.now.program.now edge next }
-        ensures { OnOk result (AddsEdge self.now.program.now edge next notes.old.items notes.new.items) }
+        requires paths { ArePaths self.now.points.now.program.now self.now.paths.now }
+        requires made { IsMade self.now.points.now.program.now edge next }
+        ensures { OnOk result (AddsEdge self.now.points.now.program.now edge next notes.old.items notes.new.items) }
     {
         let teller = Teller {
-            program: self.program,
-            section: &self.program.sections[edge.section],
+            program: self.points.program,
+            section: &self.points.program.sections[edge.section],
             found: &self.paths.sections[edge.section],
         };
-        let points = points_of(alloc, teller.section)?;
-        notes.push(teller.use_note(alloc, &points, edge.used, edge.class)?)?;
-        notes.push(teller.binding_note(alloc, &points, edge.bound, next)?)?;
+        let points = self.points.at(edge.section);
+        notes.push(teller.use_note(alloc, points, edge.used, edge.class)?)?;
+        notes.push(teller.binding_note(alloc, points, edge.bound, next)?)?;
         Ok(())
     }
 
@@ -68,14 +68,14 @@ impl Edges<'_> {
         next: usize,
         notes: &mut Vec<Note>,
     ) -> Result<(), NoMemory>
-        requires paths { ArePaths self.now.program.now self.now.paths.now }
-        requires made { IsMade self.now.program.now edge next }
-        ensures { OnOk result (AddsWhole self.now.program.now edge next notes.old.items notes.new.items) }
+        requires paths { ArePaths self.now.points.now.program.now self.now.paths.now }
+        requires made { IsMade self.now.points.now.program.now edge next }
+        ensures { OnOk result (AddsWhole self.now.points.now.program.now edge next notes.old.items notes.new.items) }
     {
         self.push(alloc, edge, next, notes)?;
         let teller = Teller {
-            program: self.program,
-            section: &self.program.sections[edge.section],
+            program: self.points.program,
+            section: &self.points.program.sections[edge.section],
             found: &self.paths.sections[edge.section],
         };
         notes.push(teller.way_note(alloc, edge.bound, edge.class)?)?;
@@ -100,7 +100,11 @@ pub fn cycle_notes(
     requires cycle { IsCycleOf program.now edges.now }
     ensures { IfOk result (λ notes. AreCycleNotes program.now edges.now (map note_of notes.items)) }
 {
-    let told = Edges { program, paths };
+    let points = AllPoints::of(alloc, program)?;
+    let told = Edges {
+        points: &points,
+        paths,
+    };
     let first = edges[0].class;
     let mut notes = Vec::new(alloc);
     for (i, edge) in edges.iter().enumerate() {

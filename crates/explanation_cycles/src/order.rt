@@ -17,7 +17,7 @@ use lockorder::class_pairs;
 use lockorder::ranks::ClassPair;
 use lockpaths::table::Paths;
 use locks::text::push_class;
-use report_check::push_ranked;
+use report_check::{AllPoints, push_ranked};
 use source::memory::NoMemory;
 use std::alloc::Global;
 
@@ -61,11 +61,11 @@ impl Edges<'_> {
         pair: ClassPair,
         notes: &mut Vec<Note>,
     ) -> Result<(), NoMemory>
-        requires paths { ArePaths self.now.program.now self.now.paths.now }
-        requires made { IsMadeFirst self.now.program.now pair }
-        ensures { OnOk result (AddsPair self.now.program.now pair notes.old.items notes.new.items) }
+        requires paths { ArePaths self.now.points.now.program.now self.now.paths.now }
+        requires made { IsMadeFirst self.now.points.now.program.now pair }
+        ensures { OnOk result (AddsPair self.now.points.now.program.now pair notes.old.items notes.new.items) }
     {
-        notes.push(pair_note(alloc, self.program, pair)?)?;
+        notes.push(pair_note(alloc, self.points.program, pair)?)?;
         self.push(alloc, pair.edge, pair.next, notes)
     }
 
@@ -76,9 +76,9 @@ impl Edges<'_> {
         pairs: &[ClassPair],
         notes: &mut Vec<Note>,
     ) -> Result<(), NoMemory>
-        requires paths { ArePaths self.now.program.now self.now.paths.now }
-        requires made { All (IsMadeFirst self.now.program.now) pairs.now }
-        ensures { OnOk result (AddsPairs self.now.program.now pairs.now notes.old.items notes.new.items) }
+        requires paths { ArePaths self.now.points.now.program.now self.now.paths.now }
+        requires made { All (IsMadeFirst self.now.points.now.program.now) pairs.now }
+        ensures { OnOk result (AddsPairs self.now.points.now.program.now pairs.now notes.old.items notes.new.items) }
     {
         for pair in pairs {
             self.push_pair(alloc, *pair, notes)?;
@@ -105,7 +105,11 @@ pub fn order_notes(
 {
     let pairs = class_pairs(alloc, program, paths)?;
     let mut notes = rank_notes(alloc, program, ranks)?;
-    let edges = Edges { program, paths };
+    let points = AllPoints::of(alloc, program)?;
+    let edges = Edges {
+        points: &points,
+        paths,
+    };
     edges.push_pairs(alloc, &pairs, &mut notes)?;
     Ok(notes)
 }

@@ -1,16 +1,17 @@
 //! The lines of pairs of classes. The one error is a refused growth.
 
-ghost use Rattle.std.specs.Prelude.{OnOk};
+ghost use Rattle.std.specs.Prelude.{◌≡◌, OnOk};
 ghost use Rattle.locks.specs.Texts.{AddsText};
+ghost use Rattle.lockorder.specs.Faults.{classes_of, second};
+ghost use Rattle.report_check.specs.Order.{is_on, mark};
 ghost use Rattle.report_check.specs.Working.OrderValues.{point_text_of, numbered_point_of, use_text_of, edge_text_of, edge_texts_of};
 
+use crate::points::AllPoints;
 use crate::positions::Positions;
-use core_lang::typed::Typed;
-use flow::points::{PointRef, points_of};
+use flow::points::PointRef;
 use lockorder::ranks::{ClassPair, Edge};
 use locks::text::push_class;
-use source::memory::NoMemory;
-use std::alloc::{AllocError, Global};
+use std::alloc::AllocError;
 
 /// Where a point's statement starts.
 fn push_point(
@@ -39,49 +40,86 @@ fn push_numbered(
     }
 }
 
+/// The class to which the edge before these leads in a cycle: that of the next one, or the first.
+fn following(first: usize, rest: &[Edge]) -> usize
+    ensures { result ≡ second first (classes_of rest.now) }
+{
+    match rest {
+        [] => first,
+        [edge, ..] => edge.class,
+    }
+}
+
+/// Whether a cycle goes from the first class of a pair to the second.
+fn is_on(cycle: &[Edge], pair: ClassPair) -> bool
+    ensures { result ≡ is_on cycle.now pair }
+{
+    if cycle.is_empty() {
+        return false;
+    }
+    let first = cycle[0].class;
+    for i in 0..cycle.len() {
+        if cycle[i].class == pair.edge.class && following(first, &cycle[i + 1..]) == pair.next {
+            return true;
+        }
+    }
+    false
+}
+
 /// What the lines are made from.
 #[derive(Drop)]
 pub struct Edges<'a> {
-    /// The program.
-    pub program: &'a Typed,
+    /// The program, with the points of its sections.
+    pub points: &'a AllPoints<'a>,
     /// The lines and columns of its text.
     pub positions: &'a Positions<'a>,
+    /// A cycle of edges, or none.
+    pub cycle: &'a [Edge],
 }
 
 impl Edges<'_> {
     // The section, and where the statement of the point starts at which a lock of the edge's class is used.
-    fn push_use(&self, alloc: Global, out: &mut String, edge: Edge) -> Result<(), NoMemory>
+    fn push_use(&self, out: &mut String, edge: Edge) -> Result<(), AllocError>
         ensures { OnOk result (AddsText (use_text_of self.now edge) out.old out.new) }
     {
-        let Some(section) = self.program.sections.get(edge.section) else {
+        let Some(section) = self.points.program.sections.get(edge.section) else {
             return Ok(());
         };
         write!(out, "{}:", section.name)?;
-        let points = points_of(alloc, section)?;
-        push_numbered(out, self.positions, &points, edge.used)?;
+        push_numbered(out, self.positions, self.points.at(edge.section), edge.used)
+    }
+
+    // The mark of a pair between which the cycle goes.
+    fn push_mark(&self, out: &mut String, pair: ClassPair) -> Result<(), AllocError>
+        ensures { OnOk result (AddsText (mark self.now.cycle.now pair) out.old out.new) }
+    {
+        if is_on(self.cycle, pair) {
+            return out.push_str(", color=\"red\"");
+        }
         Ok(())
     }
 
     // The line of a pair.
-    fn push_edge(&self, alloc: Global, out: &mut String, pair: ClassPair) -> Result<(), NoMemory>
+    fn push_edge(&self, out: &mut String, pair: ClassPair) -> Result<(), AllocError>
         ensures { OnOk result (AddsText (edge_text_of self.now pair) out.old out.new) }
     {
         out.push_str("  \"")?;
-        push_class(out, self.program, pair.edge.class)?;
+        push_class(out, self.points.program, pair.edge.class)?;
         out.push_str("\" -> \"")?;
-        push_class(out, self.program, pair.next)?;
+        push_class(out, self.points.program, pair.next)?;
         out.push_str("\" [label=\"")?;
-        self.push_use(alloc, out, pair.edge)?;
-        out.push_str("\"];\n")?;
-        Ok(())
+        self.push_use(out, pair.edge)?;
+        out.push_str("\"")?;
+        self.push_mark(out, pair)?;
+        out.push_str("];\n")
     }
 
     /// The line of each pair.
-    pub fn push(&self, alloc: Global, out: &mut String, pairs: &[ClassPair]) -> Result<(), NoMemory>
+    pub fn push(&self, out: &mut String, pairs: &[ClassPair]) -> Result<(), AllocError>
         ensures { OnOk result (AddsText (edge_texts_of self.now pairs.now) out.old out.new) }
     {
         for pair in pairs {
-            self.push_edge(alloc, out, *pair)?;
+            self.push_edge(out, *pair)?;
         }
         Ok(())
     }

@@ -5,8 +5,8 @@ use Rattle.locks.specs.Sets.{has}
 use Rattle.lockorder.specs.Working.Sections.{IsOfClass}
 use Rattle.lockorder.proofs.InSection.{class_read}
 use Rattle.lockorder.proofs.Added.{below_end, end_passed, each_path, path_with, path_without}
-use Rattle.lockorder.proofs.section_edges.SectionEdges.paths_of.Goals as goal
-use Rattle.lockorder.proofs.section_edges.SectionEdges.paths_of.Goals.{then-index-class, else-index-class}
+use Rattle.lockorder.proofs.bindings.Bindings.paths_of.Goals as goal
+use Rattle.lockorder.proofs.bindings.Bindings.paths_of.Goals.{then-index-class, else-index-class}
 
 pub loop-path-preserved : goal.loop-path-preserved
 loop-path-preserved c = λ i.
