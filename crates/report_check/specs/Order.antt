@@ -51,31 +51,6 @@ place_text text p section = string_bytes section.name ++ codes ":" ++ numbered_p
 abbrev pub use_text : List ℕ → Typed → Edge → List ℕ
 use_text text program edge = option_map_or (place_text text edge.used) (slice_get program.sections.items edge.section) []
 
--- "CLASS" -> "CLASS" [label="SECTION:LINE:COL"MARK];
-abbrev pub marked_edge_text : List ℕ → Typed → List ℕ → ClassPair → List ℕ
-marked_edge_text text program mark pair =
-    line (codes "  \"" ++ class_name program pair.edge.class ++ codes "\" -> \"" ++ class_name program pair.next
-    ++ codes "\" [label=\"" ++ use_text text program pair.edge ++ codes "\"" ++ mark ++ codes "];")
-
--- for each pair, without a mark
-abbrev pub edge_texts : List ℕ → Typed → List ClassPair → List ℕ
-edge_texts text program pairs = flat_map (marked_edge_text text program []) pairs
-
--- ---- the whole text, of a program with the rank of each class and its pairs of classes
-abbrev pub order_text : List ℕ → Typed → List ℕ → List ClassPair → List ℕ
-order_text text program ranks pairs =
-    line (codes "digraph lock_order {") ++ node_texts program ranks ++ edge_texts text program pairs ++ line (codes "}")
-
--- ---- of a program with a cycle
-
--- "CLASS";
-abbrev pub class_text : Typed → ℕ → List ℕ
-class_text program class = line (codes "  \"" ++ class_name program class ++ codes "\";")
-
--- for each class, by their numbers
-abbrev pub class_texts : Typed → List ℕ
-class_texts program = flat_map (class_text program) (range_with_len 0 (length program.classes.items))
-
 -- whether these classes, of which each leads to the next and the last to the first one given, go from a class to another
 abbrev pub goes : ℕ → List ℕ → ℕ × ℕ → Bool
 goes first [] pair = false
@@ -90,11 +65,36 @@ is_on (e ∷ rest) pair = goes e.class (classes_of (e ∷ rest)) (classes_of_pai
 abbrev pub mark : List Edge → ClassPair → List ℕ
 mark cycle pair = if is_on cycle pair then codes ", color=\"red\"" else []
 
--- for each pair, with its mark
-abbrev pub cyclic_edge_texts : List ℕ → Typed → List Edge → List ClassPair → List ℕ
-cyclic_edge_texts text program cycle pairs = flat_map (λ pair. marked_edge_text text program (mark cycle pair) pair) pairs
+-- "CLASS" -> "CLASS"
+abbrev pub ends_text : Typed → ClassPair → List ℕ
+ends_text program pair =
+    codes "  \"" ++ class_name program pair.edge.class ++ codes "\" -> \"" ++ class_name program pair.next ++ codes "\""
+
+-- "CLASS" -> "CLASS" [label="SECTION:LINE:COL"]; or [label="SECTION:LINE:COL", color="red"];
+abbrev pub edge_text : List ℕ → Typed → List Edge → ClassPair → List ℕ
+edge_text text program cycle pair =
+    line (ends_text program pair ++ codes " [label=\"" ++ use_text text program pair.edge ++ codes "\"" ++ mark cycle pair ++ codes "];")
+
+-- for each pair
+abbrev pub edge_texts : List ℕ → Typed → List Edge → List ClassPair → List ℕ
+edge_texts text program cycle pairs = flat_map (edge_text text program cycle) pairs
+
+-- ---- the whole text, of a program with the rank of each class and its pairs of classes: none is on a cycle
+abbrev pub order_text : List ℕ → Typed → List ℕ → List ClassPair → List ℕ
+order_text text program ranks pairs =
+    line (codes "digraph lock_order {") ++ node_texts program ranks ++ edge_texts text program [] pairs ++ line (codes "}")
+
+-- ---- of a program with a cycle
+
+-- "CLASS";
+abbrev pub class_text : Typed → ℕ → List ℕ
+class_text program class = line (codes "  \"" ++ class_name program class ++ codes "\";")
+
+-- for each class, by their numbers
+abbrev pub class_texts : Typed → List ℕ
+class_texts program = flat_map (class_text program) (range_with_len 0 (length program.classes.items))
 
 -- the whole text, of a program with its pairs of classes and a cycle of them
 abbrev pub cyclic_order_text : List ℕ → Typed → List ClassPair → List Edge → List ℕ
 cyclic_order_text text program pairs cycle =
-    line (codes "digraph lock_order {") ++ class_texts program ++ cyclic_edge_texts text program cycle pairs ++ line (codes "}")
+    line (codes "digraph lock_order {") ++ class_texts program ++ edge_texts text program cycle pairs ++ line (codes "}")

@@ -6,7 +6,7 @@ ghost use Rattle.report_check.specs.Order.{class_text, class_texts};
 ghost use Rattle.report_check.specs.Working.OrderValues.{cyclic_order_text_of};
 
 use crate::edges::Edges;
-use crate::points::AllPoints;
+use crate::section_points::points_of_sections;
 use crate::positions::Positions;
 use core_lang::typed::Typed;
 use lockorder::ranks::{ClassPair, Edge};
@@ -56,8 +56,9 @@ impl CyclicOrder<'_> {
         let mut out = String::from_str(alloc, "digraph lock_order {\n")?;
         push_nodes(&mut out, self.program)?;
         let positions = Positions::of(alloc, self.text)?;
-        let points = AllPoints::of(alloc, self.program)?;
+        let points = points_of_sections(alloc, self.program)?;
         let edges = Edges {
+            program: self.program,
             points: &points,
             positions: &positions,
             cycle: self.cycle,

@@ -1,13 +1,17 @@
 //! The lines of pairs of classes. The one error is a refused growth.
 
-ghost use Rattle.std.specs.Prelude.{◌≡◌, OnOk};
+ghost use Rattle.std.specs.Prelude.{◌≡◌, OnOk, Some, map, slice_get};
+ghost use Rattle.flow.specs.Points.{points};
+ghost use Rattle.flow.specs.Working.PointList.{point_at};
 ghost use Rattle.locks.specs.Texts.{AddsText};
 ghost use Rattle.lockorder.specs.Faults.{classes_of, second};
-ghost use Rattle.report_check.specs.Order.{is_on, mark};
+ghost use Rattle.report_check.specs.Order.{ends_text, is_on, mark};
+ghost use Rattle.report_check.specs.Working.AllPoints.{AreAllPoints};
 ghost use Rattle.report_check.specs.Working.OrderValues.{point_text_of, numbered_point_of, use_text_of, edge_text_of, edge_texts_of};
 
-use crate::points::AllPoints;
 use crate::positions::Positions;
+use core_lang::tree::Section;
+use core_lang::typed::Typed;
 use flow::points::PointRef;
 use lockorder::ranks::{ClassPair, Edge};
 use locks::text::push_class;
@@ -68,25 +72,39 @@ fn is_on(cycle: &[Edge], pair: ClassPair) -> bool
 
 /// What the lines are made from.
 #[derive(Drop)]
-pub struct Edges<'a> {
-    /// The program, with the points of its sections.
-    pub points: &'a AllPoints<'a>,
+pub struct Edges<'a, 'b> {
+    /// The program.
+    pub program: &'a Typed,
+    /// For each section of it its points.
+    pub points: &'b [Vec<PointRef<'a>>],
     /// The lines and columns of its text.
-    pub positions: &'a Positions<'a>,
+    pub positions: &'b Positions<'a>,
     /// A cycle of edges, or none.
     pub cycle: &'a [Edge],
 }
 
-impl Edges<'_> {
+impl<'a> Edges<'a, '_> {
+    // The points of a section, which has this number.
+    fn points_at(&self, number: usize, section: &Section) -> &[PointRef<'a>]
+        requires points { AreAllPoints self.now.program.now self.now.points.now }
+        requires here { slice_get self.now.program.now.sections.items number ≡ Some section.now }
+        ensures { map point_at result.now ≡ points section.now }
+    {
+        &self.points[number]
+    }
+
     // The section, and where the statement of the point starts at which a lock of the edge's class is used.
     fn push_use(&self, out: &mut String, edge: Edge) -> Result<(), AllocError>
+        requires points { AreAllPoints self.now.program.now self.now.points.now }
         ensures { OnOk result (AddsText (use_text_of self.now edge) out.old out.new) }
     {
-        let Some(section) = self.points.program.sections.get(edge.section) else {
+        let Some(section) = self.program.sections.get(edge.section) else {
             return Ok(());
         };
         write!(out, "{}:", section.name)?;
-        push_numbered(out, self.positions, self.points.at(edge.section), edge.used)
+        let points = self.points_at(edge.section, section);
+        push_numbered(out, self.positions, points, edge.used)?;
+        Ok(())
     }
 
     // The mark of a pair between which the cycle goes.
@@ -99,23 +117,35 @@ impl Edges<'_> {
         Ok(())
     }
 
-    // The line of a pair.
-    fn push_edge(&self, out: &mut String, pair: ClassPair) -> Result<(), AllocError>
-        ensures { OnOk result (AddsText (edge_text_of self.now pair) out.old out.new) }
+    // The classes of a pair.
+    fn push_ends(&self, out: &mut String, pair: ClassPair) -> Result<(), AllocError>
+        ensures { OnOk result (AddsText (ends_text self.now.program.now pair) out.old out.new) }
     {
         out.push_str("  \"")?;
-        push_class(out, self.points.program, pair.edge.class)?;
+        push_class(out, self.program, pair.edge.class)?;
         out.push_str("\" -> \"")?;
-        push_class(out, self.points.program, pair.next)?;
-        out.push_str("\" [label=\"")?;
+        push_class(out, self.program, pair.next)?;
+        out.push_str("\"")?;
+        Ok(())
+    }
+
+    // The line of a pair.
+    fn push_edge(&self, out: &mut String, pair: ClassPair) -> Result<(), AllocError>
+        requires points { AreAllPoints self.now.program.now self.now.points.now }
+        ensures { OnOk result (AddsText (edge_text_of self.now pair) out.old out.new) }
+    {
+        self.push_ends(out, pair)?;
+        out.push_str(" [label=\"")?;
         self.push_use(out, pair.edge)?;
         out.push_str("\"")?;
         self.push_mark(out, pair)?;
-        out.push_str("];\n")
+        out.push_str("];\n")?;
+        Ok(())
     }
 
     /// The line of each pair.
     pub fn push(&self, out: &mut String, pairs: &[ClassPair]) -> Result<(), AllocError>
+        requires points { AreAllPoints self.now.program.now self.now.points.now }
         ensures { OnOk result (AddsText (edge_texts_of self.now pairs.now) out.old out.new) }
     {
         for pair in pairs {

@@ -1,6 +1,5 @@
 -- What values of the code say, in the words of the text of `order`. Nobody has to believe these.
 use Rattle.std.specs.Prelude.{ℕ, List, map}
-use Rattle.core_lang.specs.declared.typed.Typed.{Typed}
 use Rattle.flow.specs.declared.points.PointRef.{PointRef}
 use Rattle.flow.specs.Working.PointList.{point_at}
 use Rattle.lockorder.specs.declared.ranks.ClassPair.{ClassPair}
@@ -9,7 +8,7 @@ use Rattle.report_check.specs.declared.cyclic.CyclicOrder.{CyclicOrder}
 use Rattle.report_check.specs.declared.edges.Edges.{Edges}
 use Rattle.report_check.specs.declared.order.Order.{Order}
 use Rattle.report_check.specs.declared.positions.Positions.{Positions}
-use Rattle.report_check.specs.Order.{point_text, numbered_point, use_text, mark, marked_edge_text, cyclic_edge_texts, order_text}
+use Rattle.report_check.specs.Order.{point_text, numbered_point, use_text, edge_text, edge_texts, order_text}
 use Rattle.report_check.specs.Order.{cyclic_order_text}
 
 abbrev pub text_of : Edges → List ℕ
@@ -21,17 +20,14 @@ point_text_of x point = point_text x.text.now (point_at point)
 abbrev pub numbered_point_of : Positions → List PointRef → ℕ → List ℕ
 numbered_point_of x list p = numbered_point x.text.now (map point_at list) p
 
-abbrev pub program_of : Edges → Typed
-program_of x = x.points.now.program.now
-
 abbrev pub use_text_of : Edges → Edge → List ℕ
-use_text_of x edge = use_text (text_of x) (program_of x) edge
+use_text_of x edge = use_text (text_of x) x.program.now edge
 
 abbrev pub edge_text_of : Edges → ClassPair → List ℕ
-edge_text_of x pair = marked_edge_text (text_of x) (program_of x) (mark x.cycle.now pair) pair
+edge_text_of x pair = edge_text (text_of x) x.program.now x.cycle.now pair
 
 abbrev pub edge_texts_of : Edges → List ClassPair → List ℕ
-edge_texts_of x pairs = cyclic_edge_texts (text_of x) (program_of x) x.cycle.now pairs
+edge_texts_of x pairs = edge_texts (text_of x) x.program.now x.cycle.now pairs
 
 abbrev pub order_text_of : Order → List ℕ
 order_text_of x = order_text x.text.now x.program.now x.ranks.now x.pairs.now
