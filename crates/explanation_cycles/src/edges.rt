@@ -4,6 +4,7 @@ ghost use Rattle.std.specs.Prelude.{◌≡◌, IfOk, OnOk, map};
 ghost use Rattle.explanation.specs.Notes.{note_of};
 ghost use Rattle.lockpaths.specs.Paths.{ArePaths};
 ghost use Rattle.lockorder.specs.Faults.{IsCycleOf};
+ghost use Rattle.report_check.specs.Working.AllPoints.{AreAllPoints};
 ghost use Rattle.explanation_cycles.specs.CycleNotes.{AreCycleNotes};
 ghost use Rattle.explanation_cycles.specs.CycleNotes as cycle;
 ghost use Rattle.explanation_cycles.specs.Working.Tellers.{IsMade, AddsEdge, AddsWhole};
@@ -11,9 +12,10 @@ ghost use Rattle.explanation_cycles.specs.Working.Tellers.{IsMade, AddsEdge, Add
 use crate::teller::Teller;
 use core_lang::typed::Typed;
 use explanation::Note;
-use flow::points::points_of;
+use flow::points::PointRef;
 use lockorder::ranks::Edge;
 use lockpaths::table::Paths;
+use report_check::points_of_sections;
 use source::memory::NoMemory;
 use std::alloc::Global;
 
@@ -29,14 +31,16 @@ fn class_of_next(first: usize, rest: &[Edge]) -> usize
 
 /// A program and its lock paths.
 #[derive(Drop)]
-pub struct Edges<'a> {
+pub struct Edges<'a, 'b> {
     /// The program.
     pub program: &'a Typed,
+    /// For each section of it its points.
+    pub points: &'b [Vec<PointRef<'a>>],
     /// Its lock paths.
     pub paths: &'a Paths,
 }
 
-impl Edges<'_> {
+impl Edges<'_, '_> {
     /// The notes on an edge, which leads to a class.
     pub fn push(
         &self,
@@ -46,6 +50,7 @@ impl Edges<'_> {
         notes: &mut Vec<Note>,
     ) -> Result<(), NoMemory>
         requires paths { ArePaths self.now.program.now self.now.paths.now }
+        requires points { AreAllPoints self.now.program.now self.now.points.now }
         requires made { IsMade self.now.program.now edge next }
         ensures { OnOk result (AddsEdge self.now.program.now edge next notes.old.items notes.new.items) }
     {
@@ -54,9 +59,9 @@ impl Edges<'_> {
             section: &self.program.sections[edge.section],
             found: &self.paths.sections[edge.section],
         };
-        let points = points_of(alloc, teller.section)?;
-        notes.push(teller.use_note(alloc, &points, edge.used, edge.class)?)?;
-        notes.push(teller.binding_note(alloc, &points, edge.bound, next)?)?;
+        let points = &self.points[edge.section];
+        notes.push(teller.use_note(alloc, points, edge.used, edge.class)?)?;
+        notes.push(teller.binding_note(alloc, points, edge.bound, next)?)?;
         Ok(())
     }
 
@@ -69,6 +74,7 @@ impl Edges<'_> {
         notes: &mut Vec<Note>,
     ) -> Result<(), NoMemory>
         requires paths { ArePaths self.now.program.now self.now.paths.now }
+        requires points { AreAllPoints self.now.program.now self.now.points.now }
         requires made { IsMade self.now.program.now edge next }
         ensures { OnOk result (AddsWhole self.now.program.now edge next notes.old.items notes.new.items) }
     {
@@ -100,7 +106,12 @@ pub fn cycle_notes(
     requires cycle { IsCycleOf program.now edges.now }
     ensures { IfOk result (λ notes. AreCycleNotes program.now edges.now (map note_of notes.items)) }
 {
-    let told = Edges { program, paths };
+    let points = points_of_sections(alloc, program)?;
+    let told = Edges {
+        program,
+        points: &points,
+        paths,
+    };
     let first = edges[0].class;
     let mut notes = Vec::new(alloc);
     for (i, edge) in edges.iter().enumerate() {

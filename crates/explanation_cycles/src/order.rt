@@ -9,6 +9,7 @@ ghost use Rattle.explanation_cycles.specs.Working.Tellers.{AddsPair, AddsPairs};
 ghost use Rattle.explanation.specs.Notes.{note_of};
 ghost use Rattle.lockorder.specs.ClassPairs.{IsMadeFirst};
 ghost use Rattle.lockpaths.specs.Paths.{ArePaths};
+ghost use Rattle.report_check.specs.Working.AllPoints.{AreAllPoints};
 
 use crate::edges::Edges;
 use core_lang::typed::Typed;
@@ -17,7 +18,7 @@ use lockorder::class_pairs;
 use lockorder::ranks::ClassPair;
 use lockpaths::table::Paths;
 use locks::text::push_class;
-use report_check::push_ranked;
+use report_check::{points_of_sections, push_ranked};
 use source::memory::NoMemory;
 use std::alloc::Global;
 
@@ -53,7 +54,7 @@ fn pair_note(alloc: Global, program: &Typed, pair: ClassPair) -> Result<Note, No
     Ok(Note { start: None, words })
 }
 
-impl Edges<'_> {
+impl Edges<'_, '_> {
     // The notes on a pair.
     fn push_pair(
         &self,
@@ -62,6 +63,7 @@ impl Edges<'_> {
         notes: &mut Vec<Note>,
     ) -> Result<(), NoMemory>
         requires paths { ArePaths self.now.program.now self.now.paths.now }
+        requires points { AreAllPoints self.now.program.now self.now.points.now }
         requires made { IsMadeFirst self.now.program.now pair }
         ensures { OnOk result (AddsPair self.now.program.now pair notes.old.items notes.new.items) }
     {
@@ -77,6 +79,7 @@ impl Edges<'_> {
         notes: &mut Vec<Note>,
     ) -> Result<(), NoMemory>
         requires paths { ArePaths self.now.program.now self.now.paths.now }
+        requires points { AreAllPoints self.now.program.now self.now.points.now }
         requires made { All (IsMadeFirst self.now.program.now) pairs.now }
         ensures { OnOk result (AddsPairs self.now.program.now pairs.now notes.old.items notes.new.items) }
     {
@@ -105,7 +108,12 @@ pub fn order_notes(
 {
     let pairs = class_pairs(alloc, program, paths)?;
     let mut notes = rank_notes(alloc, program, ranks)?;
-    let edges = Edges { program, paths };
+    let points = points_of_sections(alloc, program)?;
+    let edges = Edges {
+        program,
+        points: &points,
+        paths,
+    };
     edges.push_pairs(alloc, &pairs, &mut notes)?;
     Ok(notes)
 }

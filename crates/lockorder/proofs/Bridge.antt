@@ -7,10 +7,12 @@ use Rattle.std.proofs.lemmas.Option.{same_Some, slice_get_within, slice_get-map,
 use Rattle.std.proofs.lemmas.List.Elements.{All-contains_itself, All-weaker}
 use Rattle.core_lang.specs.declared.tree.Section.{Section}
 use Rattle.core_lang.specs.declared.typed.Typed.{Typed}
+use Rattle.core_lang.specs.Scopes.{IsWellScoped}
 use Rattle.core_lang.specs.WellFormed.{IsWellFormed}
 use Rattle.flow.specs.Skeletons.{Skeleton, skeleton}
 use Rattle.flow.specs.Flow.{Before}
-use Rattle.flow.specs.Points.{points}
+use Rattle.flow.specs.Points.{points, Binds}
+use Rattle.locks.specs.declared.path.Root.TheVariants.{Local as AtLocal}
 use Rattle.locks.specs.declared.path_set.PathSet.{PathSet}
 use Rattle.locks.specs.LockPaths.{LockPath, Uses, BindsRoot, lock_paths}
 use Rattle.locks.specs.Working.Laws.{UsedAreListed, PathsHaveClasses}
@@ -19,11 +21,12 @@ use Rattle.points.specs.declared.table.Points.{Points}
 use Rattle.points.specs.Working.Points.{ArePoints}
 use Rattle.points.specs.Used.{IsUsedBefore}
 use Rattle.lockorder.specs.Edges.{Makes, Edge}
-use Rattle.lockorder.specs.Working.Sections.{set_at, no_paths, IsOfClass, HasClass, BindsAt, UsesAt, MakesSomewhere}
-use Rattle.lockorder.specs.Working.Sections.{MakesAt}
+use Rattle.lockorder.specs.Working.Sections.{set_at, no_paths, IsIn, IsOfClass, HasClass, BindsAt, UsesAt, MakesSomewhere}
+use Rattle.lockorder.specs.Working.Sections.{MakesAt, AreBoundOnce}
 use Rattle.lockorder.specs.Working.Tellings.{AreBetween, AreEdges}
 use Rattle.lockorder.proofs.InSection.{set_within}
-use Rattle.core_lang.specs.Theory.Items.{contains_at, at_contained, map_some}
+use Rattle.lockorder.proofs.Once.{bound_at_one}
+use Rattle.core_lang.specs.Theory.Items.{contains_at, at_contained, map_some, get_some}
 
 -- the section of this number makes the edge
 abbrev pub MakesIn : Typed → ℕ → ℕ → ℕ → Type 0
@@ -157,8 +160,20 @@ module _ (program : Typed) (well : IsWellFormed program) (listed : UsedAreListed
 
   -- ---- what the passes ask for
 
-  pub made_somewhere : (c d : ℕ) → MakesSomewhere x c d → (used bound : ℕ) × MakesAt x c d used bound
-  made_somewhere c d h = let m = somewhere_makes c d h in (m.0, m.1, makes_at_points m.0 m.1 c d m.2)
+  path_at : (i : ℕ) → i < length x.classes.items → (path : LockPath) × (slice_get paths i ≡ Some path)
+  path_at i lt = let c = get_some x.classes.items i lt in let path = path_of c.0 i c.1 in (path.0, path.1)
+
+  root_bound : (p i : ℕ) (path : LockPath) → slice_get paths i ≡ Some path → IsIn (set_at x.bound.items p) i → BindsRoot section p path
+  root_bound p i path e h =
+      (are.bound.1 p i (set_at x.bound.items p) path (there (BindsRoot section) x.bound.items are.bound p (set_within x.bound.items p i h)) e).0 h
+
+  pub bound_once : IsWellScoped section → AreBoundOnce x
+  bound_once scoped i p q lt h g =
+      let path = path_at i lt in
+      let one = root_bound p i path.0 path.1 h in
+      let other = root_bound q i path.0 path.1 g in
+      let same : other.0 ≡ one.0 = let roots : AtLocal other.0 ≡ AtLocal one.0 = sym other.1 ∙ one.1 in cc in
+      bound_at_one section scoped p q one.0 one.2 (subst (Binds section q) same other.2)
 
   pub classes_within : All (λ c. c < length program.classes.items) x.classes.items
   classes_within =

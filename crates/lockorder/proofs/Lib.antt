@@ -4,13 +4,13 @@ pub mod Stuck
 pub mod Ranked
 pub mod Blame
 pub mod Bridge
-pub mod Flows
 pub mod Tells
+pub mod Once
+pub mod Steps
+pub mod Bound
 pub mod Listed
-pub mod Making
 pub mod InSection
 pub mod Added
-pub mod Spreading
 pub mod Edges
 pub mod Bits
 pub mod Reaching

@@ -1,14 +1,11 @@
 -- What is told of edges between pairs of classes, section after section.
-use Rattle.std.proofs.Common.{◌≡◌, ℕ, zero, suc, ◌+◌, ◌≤◌, ◌<◌, true, false, List, [], ◌∷◌, map, length, get_or, set}
-use Rattle.std.proofs.Common.{replicate, Option, Some, None, inl, inr, refl, sym, ap, ◌∙◌, subst, arith}
-use Rattle.std.specs.Prelude.{◌≢◌, slice_index, IsSome}
+use Rattle.std.proofs.Common.{◌≡◌, ℕ, zero, suc, ◌+◌, ◌<◌, List, [], ◌∷◌, map, length, get_or, replicate, Option, Some}
+use Rattle.std.proofs.Common.{None, inl, inr, refl, sym, ap, ◌∙◌, subst, arith}
+use Rattle.std.specs.Prelude.{slice_index, slice_index_or, IsSome}
 use Rattle.std.specs.List.{All}
-use Rattle.std.specs.Option.{is_some}
-use Rattle.std.proofs.Math.ListN.{length-set}
 use Rattle.std.proofs.lemmas.List.Elements.{All-cons, All-tail}
-use Rattle.std.proofs.lemmas.Bool.{cases_lt, cases_eq}
+use Rattle.std.proofs.lemmas.Bool.{cases_lt}
 use Rattle.std.proofs.lemmas.Option.{none-some, same_Some}
-use Rattle.std.proofs.lemmas.List.{get_or-set_same, get_or-set_other, get_or_read}
 use Rattle.core_lang.specs.declared.typed.Typed.{Typed}
 use Rattle.points.specs.declared.table.Points.{Points}
 use Rattle.lockorder.specs.declared.ranks.Edge as written
@@ -16,80 +13,15 @@ use Rattle.lockorder.specs.declared.ranks.ClassPair.{ClassPair}
 use Rattle.lockorder.specs.Edges.{Makes, MakesFirst, Edge}
 use Rattle.lockorder.specs.Ranks.{AreDistinct, LeadTo, IsCycle}
 use Rattle.lockorder.specs.Faults.{classes_of, second, AllMakeFirst, IsCycleOf}
-use Rattle.lockorder.specs.Working.Sections.{MakesSomewhere, MakesAt, MakesFirstAt}
+use Rattle.lockorder.specs.Working.Sections.{MakesAt, MakesFirstAt}
 use Rattle.lockorder.specs.ClassPairs.{classes_of_pair, IsMadeFirst}
-use Rattle.lockorder.specs.Working.Tellings.{pair_at, told_at, around, AreClosed, AreEdges, IsNotMade, IsToldMore}
-use Rattle.lockorder.specs.Working.Tellings.{IsTold, AreTold}
-
--- ---- one section
-
-pub told_read : (told : List (Option written.Edge)) (i : ℕ) (o : Option written.Edge) → i < length told →
-    o ≡ get_or told i o → o ≡ told_at told i
-told_read told i o lt e = get_or_read told i o lt e None
-
-pub not_told : (o : Option written.Edge) → is_some o ≡ false → o ≡ None
-not_told None e = refl
-not_told (Some e) h = absurd cc
-
-pub is_told : (o : Option written.Edge) → is_some o ≡ true → (e : written.Edge) × (o ≡ Some e)
-is_told None h = absurd cc
-is_told (Some e) h = (e, refl)
-
--- the edges before a place are told of, the others as they were
-pub record AreToldBelow (x : Points) (section : ℕ) (pairs : List (ℕ × ℕ)) (old new : List (Option written.Edge)) (place : ℕ) : Type 0 where
-  pub long : length new ≡ length old
-  pub told : (i : ℕ) → i < place →
-      IsToldMore x section (pair_at pairs i).0 (pair_at pairs i).1 (told_at old i) (told_at new i)
-  pub rest : (i : ℕ) → place ≤ i → told_at new i ≡ told_at old i
-
-module _ (x : Points) (section : ℕ) (pairs : List (ℕ × ℕ)) (old now : List (Option written.Edge)) (p : ℕ) (b : AreToldBelow x section pairs old now p) where
-  next_told : (new : List (Option written.Edge)) → length new ≡ length now →
-      ((i : ℕ) → i ≢ p → told_at new i ≡ told_at now i) →
-      IsToldMore x section (pair_at pairs p).0 (pair_at pairs p).1 (told_at old p) (told_at new p) → AreToldBelow x section pairs old new (p + 1)
-  next_told new long others here = record {
-    long = long ∙ b.long;
-    told = λ i lt. elim (cases_eq i p) [
-      | inl e ↦ subst (λ j. IsToldMore x section (pair_at pairs j).0 (pair_at pairs j).1 (told_at old j) (told_at new j)) (sym e) here
-      | inr ne ↦ subst (IsToldMore x section (pair_at pairs i).0 (pair_at pairs i).1 (told_at old i)) (sym (others i ne)) (b.told i (below i ne lt))
-    ];
-    rest = λ i le. others i (λ e. omega (arith, le, e)) ∙ b.rest i (omega arith);
-  }
-    where
-      below : (i : ℕ) → i ≢ p → i < p + 1 → i < p
-      below i ne lt = elim (cases_lt i p) [ inl less ↦ less | inr ge ↦ let e : i ≡ p = omega arith in absurd (ne e) ]
-
-  pub tell_here : (new : List (Option written.Edge)) (used bound : ℕ) → p < length now → told_at now p ≡ None →
-      MakesFirstAt x (pair_at pairs p).0 (pair_at pairs p).1 used bound →
-      new ≡ set now p (Some (record { class = (pair_at pairs p).0; section = section; used = used; bound = bound })) → AreToldBelow x section pairs old new (p + 1)
-  tell_here new used bound lt none m e =
-      let edge : written.Edge = record { class = (pair_at pairs p).0; section = section; used = used; bound = bound } in
-      let there : told_at new p ≡ Some edge = ap (λ l. told_at l p) e ∙ get_or-set_same now p (Some edge) None lt in
-      next_told new (ap length e ∙ length-set now p (Some edge)) (λ i ne. ap (λ l. told_at l i) e ∙ get_or-set_other now p i (Some edge) None ne)
-      (subst (λ o. IsToldMore x section (pair_at pairs p).0 (pair_at pairs p).1 o (told_at new p)) (sym (sym (b.rest p (omega arith)) ∙ none)) (inl (used, bound, there, m)))
-
-  pub tell_none : (new : List (Option written.Edge)) → new ≡ now → told_at now p ≡ None →
-      (MakesSomewhere x (pair_at pairs p).0 (pair_at pairs p).1 → ⊥) →
-      AreToldBelow x section pairs old new (p + 1)
-  tell_none new e none not_made =
-      next_told new (ap length e) (λ i ne. ap (λ l. told_at l i) e)
-      (subst (λ o. IsToldMore x section (pair_at pairs p).0 (pair_at pairs p).1 o (told_at new p)) (sym (sym (b.rest p (omega arith)) ∙ none))
-      (inr (ap (λ l. told_at l p) e ∙ none, not_made)))
-
-  pub tell_kept : (new : List (Option written.Edge)) (edge : written.Edge) → new ≡ now → told_at now p ≡ Some edge →
-      AreToldBelow x section pairs old new (p + 1)
-  tell_kept new edge e some =
-      next_told new (ap length e) (λ i ne. ap (λ l. told_at l i) e)
-      (subst (λ o. IsToldMore x section (pair_at pairs p).0 (pair_at pairs p).1 o (told_at new p)) (sym (sym (b.rest p (omega arith)) ∙ some)) (ap (λ l. told_at l p) e ∙ some))
-
-pub tell_starts : (x : Points) (section : ℕ) (pairs : List (ℕ × ℕ)) (old : List (Option written.Edge)) →
-    AreToldBelow x section pairs old old 0
-tell_starts x section pairs old = record { long = refl; told = λ i lt. absurd (omega arith); rest = λ i le. refl }
+use Rattle.lockorder.specs.Working.Tellings.{told_at, told_pair, around, AreAllTold, AreBetween, AreClosed, AreEdges, IsNotMade}
+use Rattle.lockorder.specs.Working.Tellings.{IsToldOr, IsToldHere, AreToldMore, IsTold, AreTold}
 
 -- ---- one section more
 
 module _ (program : Typed) (k : ℕ) (x : Points) (makes : (c d used bound : ℕ) → MakesAt x c d used bound → Makes program k used bound c d)
-    (made_at : (c d used bound : ℕ) → Makes program k used bound c d → MakesAt x c d used bound)
-    (made : (c d used bound : ℕ) → Makes program k used bound c d → MakesSomewhere x c d) where
+    (made_at : (c d used bound : ℕ) → Makes program k used bound c d → MakesAt x c d used bound) where
   -- none of the sections before this one makes it
   made_first : (c d used bound : ℕ) → IsNotMade program k c d → MakesFirstAt x c d used bound →
       MakesFirst program k used bound c d
@@ -100,34 +32,32 @@ module _ (program : Typed) (k : ℕ) (x : Points) (makes : (c d used bound : ℕ
     lowest_binding = λ b h. m.lowest_binding b (made_at c d used b h);
   }
 
-  told_more : (c d : ℕ) (old new : Option written.Edge) → IsTold program k c d old → IsToldMore x k c d old new →
-      IsTold program (k + 1) c d new
+  told_more : (c d : ℕ) (old new : Option written.Edge) → IsTold program k c d old →
+      IsToldOr (IsToldHere x k c d) ((used bound : ℕ) → MakesAt x c d used bound → ⊥) old new → IsTold program (k + 1) c d new
   told_more c d (Some e) new t m = subst (IsTold program (k + 1) c d) (sym m) t
   told_more c d None new t (inl (used, bound, e, m)) = subst (IsTold program (k + 1) c d) (sym e) (refl, made_first c d used bound t m)
   told_more c d None new t (inr (e, none)) = subst (IsTold program (k + 1) c d) (sym e) (λ j used bound lt m. elim (cases_lt j k) [
     | inl less ↦ t j used bound less m
-    | inr ge ↦ let at : j ≡ k = omega arith in none (made c d used bound (subst (λ n. Makes program n used bound c d) at m))
+    | inr ge ↦
+        let at : j ≡ k = omega arith in none used bound (made_at c d used bound (subst (λ n. Makes program n used bound c d) at m))
   ])
 
-  pub are_told_more : (pairs : List (ℕ × ℕ)) (old new : List (Option written.Edge)) → AreTold program k pairs old →
-      length new ≡ length old →
-      ((i : ℕ) → i < length pairs → IsToldMore x k (pair_at pairs i).0 (pair_at pairs i).1 (told_at old i) (told_at new i)) → AreTold program (k + 1) pairs new
-  are_told_more pairs old new t long m = record {
-    long = long ∙ t.long;
-    each = λ i lt. told_more (pair_at pairs i).0 (pair_at pairs i).1 (told_at old i) (told_at new i) (t.each i lt) (m i lt);
-  }
+  pub are_told_more : (classes : ℕ) (old new : List (Option written.Edge)) → AreTold program k classes old →
+      AreToldMore x k classes old new → AreTold program (k + 1) classes new
+  are_told_more classes old new t m = λ c d lc ld. told_more c d (told_at old c d) (told_at new c d) (t c d lc ld) (m c d lc ld)
 
-pub none_told : (n i : ℕ) → told_at (replicate n None) i ≡ None
+abbrev pub item_at : List (Option written.Edge) → ℕ → Option written.Edge
+item_at told i = slice_index_or told i None
+
+pub none_told : (n i : ℕ) → item_at (replicate n None) i ≡ None
 none_told zero i = refl
 none_told (suc n) zero = refl
 none_told (suc n) (suc i) = none_told n i
 
-pub none_are_told : (program : Typed) (pairs : List (ℕ × ℕ)) (told : List (Option written.Edge)) →
-    length told ≡ length pairs → ((i : ℕ) → told_at told i ≡ None) → AreTold program 0 pairs told
-none_are_told program pairs told long none = record {
-  long = long;
-  each = λ i lt. subst (IsTold program 0 (pair_at pairs i).0 (pair_at pairs i).1) (sym (none i)) (λ k used bound less m. absurd (omega arith));
-}
+pub none_are_told : (program : Typed) (classes : ℕ) (told : List (Option written.Edge)) →
+    ((c d : ℕ) → told_at told c d ≡ None) → AreTold program 0 classes told
+none_are_told program classes told none =
+    λ c d lc ld. subst (IsTold program 0 c d) (sym (none c d)) (λ k used bound less m. absurd (omega arith))
 
 -- ---- all sections
 
@@ -137,13 +67,14 @@ module _ (program : Typed) where
   is_some_told c d sections None t m = absurd (t m.0 m.1 m.2 m.3 m.4)
   is_some_told c d sections (Some e) t m = refl
 
-  pub all_told : (pairs : List (ℕ × ℕ)) (told : List (Option written.Edge)) (sections : ℕ) → AreEdges program pairs →
-      AreTold program sections pairs told →
-      ((k used bound c d : ℕ) → Makes program k used bound c d → k < sections) → (i : ℕ) → i < length told → IsSome (told_at told i)
-  all_told pairs told sections h t within i lt =
-      let inside : i < length pairs = omega (arith, lt, t.long) in
-      let e = h i (0, 0) inside in
-      is_some_told (pair_at pairs i).0 (pair_at pairs i).1 sections (told_at told i) (t.each i inside) (e.0, e.1, e.2, within e.0 e.1 e.2 _ _ e.3, e.3)
+  pub all_told : (pairs : List (ℕ × ℕ)) (told : List (Option written.Edge)) (sections classes : ℕ) → AreEdges program pairs →
+      AreBetween classes pairs → AreTold program sections classes told →
+      ((k used bound c d : ℕ) → Makes program k used bound c d → k < sections) → AreAllTold told pairs
+  all_told pairs told sections classes h between t within i none lt =
+      let pair = get_or pairs i none in
+      let e = h i none lt in
+      let b = between i none lt in
+      is_some_told pair.0 pair.1 sections (told_pair told pair) (t pair.0 pair.1 b.0 b.1) (e.0, e.1, e.2, within e.0 e.1 e.2 _ _ e.3, e.3)
 
   made_of : (c d sections : ℕ) (o : Option written.Edge) (e : written.Edge) → IsTold program sections c d o →
       o ≡ Some e → (e.class ≡ c) × MakesFirst program e.section e.used e.bound c d
@@ -161,19 +92,21 @@ module _ (program : Typed) where
             (subst (λ n. MakesFirst program x.edge.section x.edge.used x.edge.bound c n) (sym next) m.1),
       )
 
-  pub closed_pairs : (sections : ℕ) (pairs : List (ℕ × ℕ)) (told : List (Option written.Edge)) (closed : List ClassPair) → AreTold program sections pairs told → AreClosed pairs told closed →
+  pub closed_pairs : (sections classes : ℕ) (pairs : List (ℕ × ℕ)) (told : List (Option written.Edge)) (closed : List ClassPair) →
+      AreTold program sections classes told → AreBetween classes pairs → AreClosed pairs (told_pair told) closed →
       (map classes_of_pair closed ≡ pairs) × All (IsMadeFirst program) closed
-  closed_pairs sections [] told [] t a = (refl, λ k d lt. absurd (omega arith))
-  closed_pairs sections [] told (x ∷ closed) t a = absurd (omega (arith, ap length a.nexts))
-  closed_pairs sections (pair ∷ pairs) told [] t a = absurd (omega (arith, ap length a.nexts))
-  closed_pairs sections (pair ∷ pairs) [] (x ∷ closed) t a = absurd (omega (arith, ap length a.edges))
-  closed_pairs sections (pair ∷ pairs) (o ∷ told) (x ∷ closed) t a =
-      let edge : Some x.edge ≡ o = let e = a.edges in cc in
+  closed_pairs sections classes [] told [] t b a = (refl, λ k d lt. absurd (omega arith))
+  closed_pairs sections classes [] told (x ∷ closed) t b a = absurd (omega (arith, ap length a.nexts))
+  closed_pairs sections classes (pair ∷ pairs) told [] t b a = absurd (omega (arith, ap length a.nexts))
+  closed_pairs sections classes (pair ∷ pairs) told (x ∷ closed) t b a =
+      let within = b 0 (0, 0) (omega arith) in
+      let edge : Some x.edge ≡ told_pair told pair = let e = a.edges in cc in
       let next : x.next ≡ pair.1 = let e = a.nexts in cc in
-      let edges : map (λ (y : ClassPair). Some y.edge) closed ≡ told = let e = a.edges in cc in
+      let edges : map (λ (y : ClassPair). Some y.edge) closed ≡ map (told_pair told) pairs = let e = a.edges in cc in
       let nexts : map (λ (y : ClassPair). y.next) closed ≡ map (λ (y : ℕ × ℕ). y.1) pairs = let e = a.nexts in cc in
-      let one = closed_pair sections pair.0 pair.1 o x (t.each 0 (omega arith)) edge next in
-      let others = closed_pairs sections pairs told closed (record { long = omega (arith, t.long); each = λ i lt. t.each (suc i) (omega (arith, lt)) }) (record { edges = edges; nexts = nexts }) in (
+      let one = closed_pair sections pair.0 pair.1 (told_pair told pair) x (t pair.0 pair.1 within.0 within.1) edge next in
+      let others = closed_pairs sections classes pairs told closed t (All-tail (λ (y : ℕ × ℕ). (y.0 < classes) × (y.1 < classes)) pair pairs b)
+      (record { edges = edges; nexts = nexts }) in (
         ap (λ y. y ∷ map classes_of_pair closed) one.0 ∙ ap (λ l. pair ∷ l) others.0,
         All-cons (IsMadeFirst program) x closed one.1 others.1,
       )

@@ -57,14 +57,12 @@ fn told(
 {
     locks::laws::each_path_once();
     locks::laws::paths_have_classes();
-    let mut telling = Telling::open(alloc, pairs)?;
+    let mut telling = Telling::open(alloc, program.classes.len())?;
     for section in 0..program.sections.len() {
         let points = points(alloc, program, section, paths)?;
-        let edges = SectionEdges { points: &points };
-        let table = edges.table(alloc, program.classes.len())?;
-        telling.tell(alloc, section, &points, &table)?;
+        telling.tell(alloc, section, &points)?;
     }
-    let told = telling.close(alloc)?;
+    let told = telling.close(alloc, pairs)?;
     Ok(told)
 }
 

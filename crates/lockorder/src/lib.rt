@@ -13,7 +13,7 @@
 //! has done; nobody has to believe them.
 #![tactic(auto)]
 
-mod before;
+mod bindings;
 mod class_order;
 mod cycles;
 mod fault;

@@ -1,30 +1,16 @@
 //! The edges that one section makes.
 
-ghost use Rattle.std.specs.Prelude.{◌≡◌, ◌<◌, ◌≤◌, ℕ, length, IfOk};
+ghost use Rattle.std.specs.Prelude.{◌≡◌, ◌<◌, ℕ, length};
 ghost use Rattle.std.specs.Bool.{Decides};
 ghost use Rattle.std.specs.List.{All};
-ghost use Rattle.locks.specs.Sets.{has};
-ghost use Rattle.lockorder.specs.Working.Tables.{InSet, AddsEdges, HasEdgesOf};
+ghost use Rattle.lockorder.specs.Working.Tables.{InSet, AddsEdges};
 ghost use Rattle.bit_set.specs.Working.Sets.{has_number};
-ghost use Rattle.lockorder.specs.Working.Sections.{AreFlowPairs, AreUsedSoFar, HasClass, IsOfClass, IsUseOrNone, KeepsLower, LeadsToRoots, MakesAt, MakesFirstAt, MakesSomewhere};
+ghost use Rattle.lockorder.specs.Working.Sections.{AreUsedSoFar, HasClass, LeadsToRoots, MakesSomewhere};
 
-use crate::before::{leads_on, points_before};
-use crate::path_sets::share;
 use crate::table::Table;
 use bit_set::set::BitSet;
 use locks::path_set::PathSet;
 use points::table::Points;
-use source::memory::NoMemory;
-use std::alloc::Global;
-
-/// The use and the binding by which a section makes an edge.
-#[derive(Clone, Copy)]
-pub struct Made {
-    /// The point at which a lock of the first class is used.
-    pub used: usize,
-    /// The point that binds the root of a path of the second class: the same, or one that the first comes before.
-    pub bound: usize,
-}
 
 /// The edges that a section makes.
 #[derive(Drop)]
@@ -56,19 +42,6 @@ impl<'a> SectionEdges<'a> {
         classes
     }
 
-    // The paths of a class.
-    fn paths_of(&self, class: usize) -> PathSet
-        ensures { (i : ℕ) → Decides (has result i) (IsOfClass self.now.points.now class i) }
-    {
-        let mut paths = PathSet::new();
-        for path in 0..self.points.classes.len() {
-            if self.points.classes[path] == class {
-                paths = paths.with(path);
-            }
-        }
-        paths
-    }
-
     /// Adds the edges that the section makes.
     pub fn add_to(&self, table: &mut Table)
         requires { All (λ c. c < length table.old.before.items) self.now.points.now.classes.items }
@@ -96,80 +69,5 @@ impl<'a> SectionEdges<'a> {
                 table.add(used, self.points.classes[path]);
             }
         }
-    }
-
-    /// The edges that the section makes, between so many classes.
-    pub fn table(&self, alloc: Global, classes: usize) -> Result<Table, NoMemory>
-        requires classes { classes ≤ 128 }
-        requires within { All (λ c. c < classes) self.now.points.now.classes.items }
-        ensures classes { IfOk result (λ table. length table.before.items ≡ classes) }
-        ensures edges { IfOk result (λ table. HasEdgesOf table.before.items (MakesSomewhere self.now.points.now)) }
-    {
-        let mut table = Table::new(alloc, classes)?;
-        self.add_to(&mut table);
-        Ok(table)
-    }
-
-    // The lowest point that uses one of some paths, and is the binding one or comes before it.
-    fn first_use(
-        &self,
-        alloc: Global,
-        pairs: &[(usize, usize)],
-        users: PathSet,
-        bound: usize,
-    ) -> Result<Option<usize>, NoMemory>
-        requires { AreFlowPairs self.now.points.now pairs.now }
-        ensures { IfOk result (IsUseOrNone self.now.points.now users bound) }
-    {
-        let before = points_before(alloc, pairs, self.points.used.len(), bound)?;
-        for used in 0..self.points.used.len() {
-            if leads_on(used, bound, &before) && share(self.points.used[used], users) {
-                return Ok(Some(used));
-            }
-        }
-        Ok(None)
-    }
-
-    /// What makes an edge: of those that do, by the lowest use, and of these by the lowest binding; the pairs are the
-    /// section's.
-    pub fn first_made(
-        &self,
-        alloc: Global,
-        pairs: &[(usize, usize)],
-        from: usize,
-        to: usize,
-    ) -> Result<Made, NoMemory>
-        requires pairs { AreFlowPairs self.now.points.now pairs.now }
-        requires made { (used bound : ℕ) × MakesAt self.now.points.now from to used bound }
-        ensures { IfOk result (λ made. MakesFirstAt self.now.points.now from to made.used made.bound) }
-    {
-        let users = self.paths_of(from);
-        let roots = self.paths_of(to);
-        let mut least = None;
-        for bound in 0..self.points.bound.len() {
-            if share(self.points.bound[bound], roots) {
-                if let Some(used) = self.first_use(alloc, pairs, users, bound)? {
-                    note(&mut least, Made { used, bound });
-                }
-            }
-        }
-        match least {
-            Some(made) => Ok(made),
-            None => unreachable!(),
-        }
-    }
-}
-
-// Keeps of two the one with the lower use, of two with the same the first.
-fn note(least: &mut Option<Made>, made: Made)
-    ensures { KeepsLower least.old least.new made }
-{
-    match *least {
-        Some(kept) => {
-            if made.used < kept.used {
-                *least = Some(made);
-            }
-        }
-        None => *least = Some(made),
     }
 }

@@ -1,82 +1,155 @@
 //! What makes the edges between pairs of classes.
 
-ghost use Rattle.std.specs.Prelude.{◌≡◌, ◌<◌, ℕ, length, None, IsSome, IfOk, OnOk};
-ghost use Rattle.lockorder.specs.Working.Sections.{MakesSomewhere};
-ghost use Rattle.lockorder.specs.Working.Tables.{HasEdgesOf};
-ghost use Rattle.lockorder.specs.Working.Tellings.{told_at, AreBetween, AreClosed, AreToldMore, MakesBySome};
+ghost use Rattle.std.specs.Prelude.{◌≡◌, ◌<◌, ◌≤◌, ◌*◌, ◌+◌, ℕ, length, None, IfOk, OnOk};
+ghost use Rattle.std.specs.List.{All};
+ghost use Rattle.lockorder.specs.Working.Sections.{AreBindings, AreBoundOnce, UsesAt};
+ghost use Rattle.lockorder.specs.Working.Tellings.{told_at, told_pair, AreAllTold, AreBetween, AreClosed, AreToldMore, TellsClass, TellsPair, TellsPoint};
 
+use crate::bindings::Bindings;
 use crate::ranks::{ClassPair, Edge};
-use crate::section_edges::SectionEdges;
-use crate::table::Table;
+use locks::path_set::PathSet;
 use points::table::Points;
 use source::memory::NoMemory;
 use std::alloc::Global;
 
-/// Pairs of classes, and what makes the edges between them, as far as it is known.
-#[derive(Drop)]
-pub struct Telling<'a> {
-    /// The pairs.
-    pub pairs: &'a [(usize, usize)],
-    /// For each the edge from the first class to the second.
-    pub told: Vec<Option<Edge>>,
+/// A use of a lock.
+#[derive(Clone, Copy)]
+pub struct Usage {
+    /// The section's number.
+    pub section: usize,
+    /// The point at which it is used.
+    pub point: usize,
+    /// The class of the lock.
+    pub class: usize,
 }
 
-impl<'a> Telling<'a> {
+/// The edges between the classes of a program, as far as it is known what makes them.
+#[derive(Drop)]
+pub struct Telling {
+    /// How many classes there are.
+    pub classes: usize,
+    // For each class, in a row of 128, the edge from it to each class.
+    told: Vec<Option<Edge>>,
+    ghost few: { classes ≤ 128 },
+    ghost long: { length told.items ≡ 128 * classes },
+}
+
+impl Telling {
     /// Nothing is known.
-    pub fn open(alloc: Global, pairs: &'a [(usize, usize)]) -> Result<Telling<'a>, NoMemory>
-        ensures pairs { IfOk result (λ t. t.pairs.now ≡ pairs.now) }
-        ensures long { IfOk result (λ t. length t.told.items ≡ length pairs.now) }
-        ensures none { IfOk result (λ t. (i : ℕ) → told_at t.told.items i ≡ None) }
+    pub fn open(alloc: Global, classes: usize) -> Result<Telling, NoMemory>
+        requires { classes ≤ 128 }
+        ensures classes { IfOk result (λ t. t.classes ≡ classes) }
+        ensures none { IfOk result (λ t. (c d : ℕ) → told_at t.told.items c d ≡ None) }
     {
-        let told = vec![in alloc; None; pairs.len()]?;
-        Ok(Telling { pairs, told })
+        let told = vec![in alloc; None; 128 * classes]?;
+        Ok(Telling { classes, told })
     }
 
-    /// Tells what makes the edges that a section makes, and no earlier one; the table has the section's edges.
-    pub fn tell(
-        &mut self,
-        alloc: Global,
-        section: usize,
-        points: &Points,
-        table: &Table,
-    ) -> Result<(), NoMemory>
-        requires long { length self.old.told.items ≡ length self.old.pairs.now }
-        requires between { AreBetween (length table.now.before.items) self.old.pairs.now }
-        requires edges { HasEdgesOf table.now.before.items (MakesSomewhere points.now) }
-        requires made { MakesBySome points.now }
-        ensures pairs { self.new.pairs.now ≡ self.old.pairs.now }
-        ensures long { length self.new.told.items ≡ length self.old.told.items }
-        ensures told { OnOk result (AreToldMore points.now section self.old.pairs.now self.old.told.items self.new.told.items) }
+    // The edge from one class to another, if it is known.
+    fn at(&self, class: usize, next: usize) -> Option<Edge>
+        requires class { class < self.now.classes }
+        requires next { next < self.now.classes }
+        ensures { result ≡ told_at self.now.told.items class next }
     {
-        let edges = SectionEdges { points };
-        let point_pairs = points.pairs(alloc)?;
-        for place in 0..self.pairs.len() {
-            let (class, next) = self.pairs[place];
-            if self.told[place].is_none() && table.has_edge(class, next) {
-                let made = edges.first_made(alloc, &point_pairs, class, next)?;
-                self.told[place] = Some(Edge {
-                    class,
-                    section,
-                    used: made.used,
-                    bound: made.bound,
+        self.told[128 * class + next]
+    }
+
+    // Tells what makes the edge from the class that is used to another, where nothing was told of it.
+    fn tell_pair(&mut self, usage: Usage, bindings: &Bindings<'_>, next: usize)
+        requires bindings { AreBindings bindings.now }
+        requires once { AreBoundOnce bindings.now.points.now }
+        requires point { usage.point < length bindings.now.points.now.bound.items }
+        requires class { usage.class < self.old.classes }
+        requires next { next < self.old.classes }
+        ensures classes { self.new.classes ≡ self.old.classes }
+        ensures told { TellsPair bindings.now.points.now usage next self.old.classes self.old.told.items self.new.told.items }
+    {
+        if self.at(usage.class, next).is_none() {
+            if let Some(bound) = bindings.first(usage.point, next) {
+                self.told[128 * usage.class + next] = Some(Edge {
+                    class: usage.class,
+                    section: usage.section,
+                    used: usage.point,
+                    bound,
                 });
             }
+        }
+    }
+
+    // The same of each class of which a root is bound there or later.
+    fn tell_class(&mut self, usage: Usage, bindings: &Bindings<'_>)
+        requires bindings { AreBindings bindings.now }
+        requires once { AreBoundOnce bindings.now.points.now }
+        requires within { All (λ c. c < self.old.classes) bindings.now.points.now.classes.items }
+        requires point { usage.point < length bindings.now.points.now.bound.items }
+        requires class { usage.class < self.old.classes }
+        ensures classes { self.new.classes ≡ self.old.classes }
+        ensures told { TellsClass bindings.now.points.now usage self.old.classes self.old.told.items self.new.told.items }
+    {
+        let behind = bindings.behind(usage.point);
+        for path in 0..bindings.points.classes.len() {
+            if behind.contains(path) {
+                self.tell_pair(usage, bindings, bindings.points.classes[path]);
+            }
+        }
+    }
+
+    // The same of each class that is used at a point.
+    fn tell_point(&mut self, section: usize, bindings: &Bindings<'_>, point: usize)
+        requires bindings { AreBindings bindings.now }
+        requires once { AreBoundOnce bindings.now.points.now }
+        requires within { All (λ c. c < self.old.classes) bindings.now.points.now.classes.items }
+        requires point { point < length bindings.now.points.now.bound.items }
+        ensures classes { self.new.classes ≡ self.old.classes }
+        ensures told { TellsPoint bindings.now.points.now section point self.old.classes self.old.told.items self.new.told.items }
+    {
+        let used = bindings.points.used[point];
+        for path in 0..bindings.points.classes.len() {
+            if used.contains(path) {
+                let class = bindings.points.classes[path];
+                self.tell_class(
+                    Usage {
+                        section,
+                        point,
+                        class,
+                    },
+                    bindings,
+                );
+            }
+        }
+    }
+
+    /// Tells what makes the edges that a section makes, and no earlier one. Its points come in the order of the text, so
+    /// the first that is found of an edge has the lowest use.
+    pub fn tell(&mut self, alloc: Global, section: usize, points: &Points) -> Result<(), NoMemory>
+        requires once { AreBoundOnce points.now }
+        requires within { All (λ c. c < self.old.classes) points.now.classes.items }
+        ensures classes { self.new.classes ≡ self.old.classes }
+        ensures told { OnOk result (AreToldMore points.now section self.old.classes self.old.told.items self.new.told.items) }
+    {
+        let bindings = Bindings::of(alloc, points)?;
+        for point in 0..points.used.len() {
+            self.tell_point(section, &bindings, point);
         }
         Ok(())
     }
 
-    /// The pairs with their edges, where all are known.
-    pub fn close(&self, alloc: Global) -> Result<Vec<ClassPair>, NoMemory>
-        requires long { length self.now.told.items ≡ length self.now.pairs.now }
-        requires all { (i : ℕ) → i < length self.now.told.items → IsSome (told_at self.now.told.items i) }
-        ensures { IfOk result (λ closed. AreClosed self.now.pairs.now self.now.told.items closed.items) }
+    /// Pairs of classes with the edges between them, which are known.
+    pub fn close(
+        &self,
+        alloc: Global,
+        pairs: &[(usize, usize)],
+    ) -> Result<Vec<ClassPair>, NoMemory>
+        requires between { AreBetween self.now.classes pairs.now }
+        requires all { AreAllTold self.now.told.items pairs.now }
+        ensures { IfOk result (λ closed. AreClosed pairs.now (told_pair self.now.told.items) closed.items) }
     {
-        let mut closed = Vec::with_capacity(alloc, self.told.len())?;
-        for (i, told) in self.told.iter().enumerate() {
-            match told {
+        let mut closed = Vec::with_capacity(alloc, pairs.len())?;
+        for pair in pairs {
+            match self.at(pair.0, pair.1) {
                 Some(edge) => closed.push(ClassPair {
-                    edge: *edge,
-                    next: self.pairs[i].1,
+                    edge,
+                    next: pair.1,
                 })?,
                 None => unreachable!(),
             }

@@ -4,6 +4,7 @@ pub mod PairLists
 pub mod EndLists
 pub mod Scopings
 pub mod Exact
+pub mod LaterBound
 pub mod Whole
 pub mod GenOnly
 pub mod RankLists

@@ -1,8 +1,8 @@
 //! What is used before the points of a section and later, and what is wanted and surely held at them.
 //!
 //! - [`points`]: the points of a section, and what each lock path is to each point.
-//! - [`table::Points`]: what is answered; which point is followed by which; with the ranks of the classes, which paths
-//!   are wanted at each point, and which are surely held there.
+//! - [`table::Points`]: what is answered; which point is followed by which; which roots are bound later; with the ranks of
+//!   the classes, which paths are wanted at each point, and which are surely held there.
 //!
 //! In the words of dataflow analysis, over the graph of which point is followed by which: used before is a forward may
 //! analysis, used later a backward may analysis, surely held a forward must analysis.
@@ -14,6 +14,7 @@
 mod counting;
 mod dataflow;
 mod ends;
+mod later;
 mod pairs;
 mod ranking;
 mod roots;

@@ -1,6 +1,7 @@
 -- The text of `order`, as bytes: the order of a program's lock classes as a graph in the language DOT. It has a line for each class, and
 -- one for each pair of classes of which the first has to come before the second.
-use Rattle.std.specs.Prelude.{ℕ, List, [], ◌++◌, length, slice_get, codes, string_bytes}
+use Rattle.std.specs.Prelude.{ℕ, ◌==◌, ◌&&◌, ◌||◌, if◌then◌else◌, Bool, false, List, [], ◌∷◌, ◌++◌, length, slice_get, codes}
+use Rattle.std.specs.Prelude.{string_bytes}
 use Rattle.std.specs.Option.{option_map_or}
 use Rattle.std.specs.List.{flat_map, range_with_len}
 use Rattle.std.specs.Fmt.{decimal}
@@ -11,6 +12,8 @@ use Rattle.flow.specs.Points.{Point, points, start_of}
 use Rattle.locks.specs.Texts.{class_name}
 use Rattle.lockorder.specs.declared.ranks.ClassPair.{ClassPair}
 use Rattle.lockorder.specs.declared.ranks.Edge.{Edge}
+use Rattle.lockorder.specs.ClassPairs.{classes_of_pair}
+use Rattle.lockorder.specs.Faults.{classes_of, second}
 use Rattle.report_check.specs.Check.{position_text, ranked_class}
 use Rattle.code.specs.Listing.{line}
 
@@ -48,17 +51,50 @@ place_text text p section = string_bytes section.name ++ codes ":" ++ numbered_p
 abbrev pub use_text : List ℕ → Typed → Edge → List ℕ
 use_text text program edge = option_map_or (place_text text edge.used) (slice_get program.sections.items edge.section) []
 
--- "CLASS" -> "CLASS" [label="SECTION:LINE:COL"];
-abbrev pub edge_text : List ℕ → Typed → ClassPair → List ℕ
-edge_text text program pair =
-    line (codes "  \"" ++ class_name program pair.edge.class ++ codes "\" -> \"" ++ class_name program pair.next
-    ++ codes "\" [label=\"" ++ use_text text program pair.edge ++ codes "\"];")
+-- whether these classes, of which each leads to the next and the last to the first one given, go from a class to another
+abbrev pub goes : ℕ → List ℕ → ℕ × ℕ → Bool
+goes first [] pair = false
+goes first (c ∷ rest) pair = (c == pair.0 && second first rest == pair.1) || goes first rest pair
+
+-- whether the cycle goes from the pair's first class to its second
+abbrev pub is_on : List Edge → ClassPair → Bool
+is_on [] pair = false
+is_on (e ∷ rest) pair = goes e.class (classes_of (e ∷ rest)) (classes_of_pair pair)
+
+-- a pair on the cycle is red
+abbrev pub mark : List Edge → ClassPair → List ℕ
+mark cycle pair = if is_on cycle pair then codes ", color=\"red\"" else []
+
+-- "CLASS" -> "CLASS"
+abbrev pub ends_text : Typed → ClassPair → List ℕ
+ends_text program pair =
+    codes "  \"" ++ class_name program pair.edge.class ++ codes "\" -> \"" ++ class_name program pair.next ++ codes "\""
+
+-- "CLASS" -> "CLASS" [label="SECTION:LINE:COL"]; or [label="SECTION:LINE:COL", color="red"];
+abbrev pub edge_text : List ℕ → Typed → List Edge → ClassPair → List ℕ
+edge_text text program cycle pair =
+    line (ends_text program pair ++ codes " [label=\"" ++ use_text text program pair.edge ++ codes "\"" ++ mark cycle pair ++ codes "];")
 
 -- for each pair
-abbrev pub edge_texts : List ℕ → Typed → List ClassPair → List ℕ
-edge_texts text program pairs = flat_map (edge_text text program) pairs
+abbrev pub edge_texts : List ℕ → Typed → List Edge → List ClassPair → List ℕ
+edge_texts text program cycle pairs = flat_map (edge_text text program cycle) pairs
 
--- ---- the whole text, of a program with the rank of each class and its pairs of classes
+-- ---- the whole text, of a program with the rank of each class and its pairs of classes: none is on a cycle
 abbrev pub order_text : List ℕ → Typed → List ℕ → List ClassPair → List ℕ
 order_text text program ranks pairs =
-    line (codes "digraph lock_order {") ++ node_texts program ranks ++ edge_texts text program pairs ++ line (codes "}")
+    line (codes "digraph lock_order {") ++ node_texts program ranks ++ edge_texts text program [] pairs ++ line (codes "}")
+
+-- ---- of a program with a cycle
+
+-- "CLASS";
+abbrev pub class_text : Typed → ℕ → List ℕ
+class_text program class = line (codes "  \"" ++ class_name program class ++ codes "\";")
+
+-- for each class, by their numbers
+abbrev pub class_texts : Typed → List ℕ
+class_texts program = flat_map (class_text program) (range_with_len 0 (length program.classes.items))
+
+-- the whole text, of a program with its pairs of classes and a cycle of them
+abbrev pub cyclic_order_text : List ℕ → Typed → List ClassPair → List Edge → List ℕ
+cyclic_order_text text program pairs cycle =
+    line (codes "digraph lock_order {") ++ class_texts program ++ edge_texts text program cycle pairs ++ line (codes "}")

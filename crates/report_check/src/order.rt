@@ -6,6 +6,7 @@ ghost use Rattle.report_check.specs.Order.{label_text, node_text, node_texts};
 ghost use Rattle.report_check.specs.Working.OrderValues.{order_text_of};
 
 use crate::edges::Edges;
+use crate::section_points::points_of_sections;
 use crate::positions::Positions;
 use crate::push_ranked;
 use core_lang::typed::Typed;
@@ -76,11 +77,14 @@ impl Order<'_> {
         let mut out = String::from_str(alloc, "digraph lock_order {\n")?;
         push_nodes(&mut out, self.program, self.ranks)?;
         let positions = Positions::of(alloc, self.text)?;
+        let points = points_of_sections(alloc, self.program)?;
         let edges = Edges {
             program: self.program,
+            points: &points,
             positions: &positions,
+            cycle: &[],
         };
-        edges.push(alloc, &mut out, self.pairs)?;
+        edges.push(&mut out, self.pairs)?;
         out.push_str("}\n")?;
         Ok(out)
     }

@@ -1,15 +1,15 @@
 -- Edges of one section by the sets of paths at its points. Nobody has to believe these: what makes an edge, says `Edges`.
-use Rattle.std.specs.Prelude.{◌≡◌, ◌⊎◌, ◌||◌, ◌<◌, ◌≤◌, ◌+◌, ℕ, Bool, true, false, List, [], ◌∷◌, slice_get}
-use Rattle.std.specs.Prelude.{slice_index_or, Some, None, Option, MatchOption}
-use Rattle.std.specs.List.{All, Contains}
-use Rattle.flow.specs.Flow.{Plus, Before}
-use Rattle.flow.specs.Flow as control
+use Rattle.std.specs.Prelude.{◌≡◌, ◌⊎◌, ◌||◌, ◌<◌, ◌≤◌, ℕ, true, List, length, slice_get, slice_index_or, Some, Option}
+use Rattle.std.specs.Prelude.{MatchOption}
+use Rattle.std.specs.List.{All, AllPairs, Contains}
+use Rattle.flow.specs.Flow.{Before}
 use Rattle.flow.specs.Working.Parts.{skeleton_of}
 use Rattle.locks.specs.declared.path_set.PathSet.{PathSet}
 use Rattle.locks.specs.Sets.{has}
 use Rattle.points.specs.declared.table.Points.{Points}
+use Rattle.points.specs.Working.Points.{AreBoundLater}
 use Rattle.bit_set.specs.declared.set.BitSet.{BitSet}
-use Rattle.lockorder.specs.declared.section_edges.Made.{Made}
+use Rattle.lockorder.specs.declared.bindings.Bindings.{Bindings}
 use Rattle.lockorder.specs.Working.Tables.{InSet}
 
 -- ---- sets of paths
@@ -64,57 +64,45 @@ pub record MakesFirstAt (x : Points) (c d used bound : ℕ) : Type 0 where
   pub lowest_use : (u b : ℕ) → MakesAt x c d u b → used ≤ u
   pub lowest_binding : (b : ℕ) → MakesAt x c d used b → bound ≤ b
 
--- of what is kept and a further use and binding the one with the lower use, of two with the same what is kept
-abbrev pub KeepsLower : Option Made → Option Made → Made → Type 0
-KeepsLower None new made = new ≡ Some made
-KeepsLower (Some kept) new made =
-    ((made.used < kept.used) × (new ≡ Some made)) ⊎ ((kept.used ≤ made.used) × (new ≡ Some kept))
+-- ---- bindings
 
--- ---- points that come before a target
-
--- the pairs are those of the section
-abbrev pub AreFlowPairs : Points → List (ℕ × ℕ) → Type 0
-AreFlowPairs x pairs = pairs ≡ control.pairs (skeleton_of x.parts.items)
-
--- control goes from one point to the other, over one or more pairs
-abbrev pub ComesBefore : List (ℕ × ℕ) → ℕ → ℕ → Type 0
-ComesBefore pairs p q = Plus (λ a b. Contains pairs (a, b)) p q
-
-abbrev pub is_found : List Bool → ℕ → Bool
-is_found found p = slice_index_or found p false
-
--- the points found come before the target
-abbrev pub AreBefore : List (ℕ × ℕ) → ℕ → List Bool → Type 0
-AreBefore pairs target found = (p : ℕ) → is_found found p ≡ true → ComesBefore pairs p target
-
--- a pair that leads to the target, or to a point that is found
-abbrev pub LeadsOn : ℕ → List Bool → ℕ → Type 0
-LeadsOn target found q = (q ≡ target) ⊎ (is_found found q ≡ true)
-
--- from a point that isn't found no pair leads on
-abbrev pub AreAllBefore : List (ℕ × ℕ) → ℕ → List Bool → Type 0
-AreAllBefore pairs target found = (p q : ℕ) → Contains pairs (p, q) → LeadsOn target found q → is_found found p ≡ true
-
--- how many points aren't found
-abbrev pub unfound : List Bool → ℕ
-unfound [] = 0
-unfound (true ∷ found) = unfound found
-unfound (false ∷ found) = 1 + unfound found
-
-abbrev pub LeadBetween : ℕ → List (ℕ × ℕ) → Type 0
-LeadBetween points pairs = All (λ pair. (pair.0 < points) × (pair.1 < points)) pairs
-
--- the point uses one of the paths, and is the binding one or comes before it
-abbrev pub IsUseFor : Points → PathSet → ℕ → ℕ → Type 0
-IsUseFor x users bound u = Share (set_at x.used.items u) users × ((u ≡ bound) ⊎ Before (skeleton_of x.parts.items) u bound)
+-- a root of the class is bound at the second point, which is the first or comes after it
+abbrev pub BindsBehind : Points → ℕ → ℕ → ℕ → Type 0
+BindsBehind x p d bound = ((p ≡ bound) ⊎ Before (skeleton_of x.parts.items) p bound) × BindsAt x bound d
 
 -- the lowest such point
-abbrev pub IsFirstUseFor : Points → PathSet → ℕ → ℕ → Type 0
-IsFirstUseFor x users bound u = IsUseFor x users bound u × ((v : ℕ) → IsUseFor x users bound v → u ≤ v)
+abbrev pub IsFirstBehind : Points → ℕ → ℕ → ℕ → Type 0
+IsFirstBehind x p d bound = BindsBehind x p d bound × ((b : ℕ) → BindsBehind x p d b → bound ≤ b)
+
+abbrev pub IsNotBehind : Points → ℕ → ℕ → Type 0
+IsNotBehind x p d = (b : ℕ) → BindsBehind x p d b → ⊥
 
 -- or none where there is none
-abbrev pub IsUseOrNone : Points → PathSet → ℕ → Option ℕ → Type 0
-IsUseOrNone x users bound used = MatchOption used ((u : ℕ) → IsUseFor x users bound u → ⊥) (IsFirstUseFor x users bound)
+abbrev pub IsFirstOrNone : Points → ℕ → ℕ → Option ℕ → Type 0
+IsFirstOrNone x p d bound = MatchOption bound (IsNotBehind x p d) (IsFirstBehind x p d)
+
+-- the second point binds one of the roots, and is the first or comes after it
+abbrev pub IsBindingFor : Points → PathSet → ℕ → ℕ → Type 0
+IsBindingFor x roots p bound = Share (set_at x.bound.items bound) roots × ((p ≡ bound) ⊎ Before (skeleton_of x.parts.items) p bound)
+
+-- no path's root is bound at two points
+abbrev pub AreBoundOnce : Points → Type 0
+AreBoundOnce x =
+    (i p q : ℕ) → i < length x.classes.items → IsIn (set_at x.bound.items p) i → IsIn (set_at x.bound.items q) i → p ≡ q
+
+-- a path of each class is in the set of which a root is bound at the point or behind it
+abbrev pub HasAnyBehind : Points → ℕ → PathSet → Type 0
+HasAnyBehind x p set = (d bound : ℕ) → BindsBehind x p d bound → HasClass x set d
+
+-- points in rising order, among them all that bind a root
+pub record AreListedBindings (x : Points) (list : List ℕ) : Type 0 where
+  pub within : All (λ p. p < length x.bound.items) list
+  pub rising : AllPairs ◌<◌ list
+  pub all : (p i : ℕ) → IsIn (set_at x.bound.items p) i → Contains list p
+
+pub record AreBindings (b : Bindings) : Type 0 where
+  pub later : AreBoundLater b.points.now b.later.items
+  pub listed : AreListedBindings b.points.now b.list.items
 
 -- the paths that are used at a point or before it
 abbrev pub AreUsedSoFar : Points → ℕ → PathSet → Type 0

@@ -1,43 +1,68 @@
--- What is known of pairs of classes and the edges between them. Nobody has to believe these: what makes an edge, says `Edges`.
-use Rattle.std.specs.Prelude.{◌≡◌, ◌⊎◌, ◌<◌, ℕ, List, [], ◌∷◌, length, map, slice_index_or, MatchOption, Option, Some}
-use Rattle.std.specs.Prelude.{None}
+-- What is known of the edges between classes. Nobody has to believe these: what makes an edge, says `Edges`.
+use Rattle.std.specs.Prelude.{◌≡◌, ◌⊎◌, ◌*◌, ◌+◌, ◌<◌, ℕ, List, [], ◌∷◌, map, slice_index_or, MatchOption, Option, Some}
+use Rattle.std.specs.Prelude.{None, IsSome}
 use Rattle.std.specs.List.{All, AllPairs, Contains}
 use Rattle.core_lang.specs.declared.typed.Typed.{Typed}
 use Rattle.points.specs.declared.table.Points.{Points}
 use Rattle.bit_set.specs.declared.set.BitSet.{BitSet}
 use Rattle.lockorder.specs.declared.ranks.ClassPair.{ClassPair}
 use Rattle.lockorder.specs.declared.ranks.Edge.{Edge}
+use Rattle.lockorder.specs.declared.telling.Usage.{Usage}
 use Rattle.lockorder.specs.ClassPairs.{Precedes}
 use Rattle.lockorder.specs.Edges as program_edges
 use Rattle.lockorder.specs.Edges.{Makes, MakesFirst}
 use Rattle.lockorder.specs.Faults.{second}
 use Rattle.lockorder.specs.Working.Tables.{InTable}
-use Rattle.lockorder.specs.Working.Sections.{MakesSomewhere, MakesAt, MakesFirstAt}
+use Rattle.lockorder.specs.Working.Sections.{UsesAt, MakesAt, MakesFirstAt, IsFirstBehind, IsNotBehind}
 
-abbrev pub pair_at : List (ℕ × ℕ) → ℕ → ℕ × ℕ
-pair_at pairs i = slice_index_or pairs i (0, 0)
+-- rows of 128, one for each class
+abbrev pub told_at : List (Option Edge) → ℕ → ℕ → Option Edge
+told_at told c d = slice_index_or told (128 * c + d) None
 
-abbrev pub told_at : List (Option Edge) → ℕ → Option Edge
-told_at told i = slice_index_or told i None
+abbrev pub told_pair : List (Option Edge) → ℕ × ℕ → Option Edge
+told_pair told pair = told_at told pair.0 pair.1
+
+-- what was told stays; else something is told of which this holds, or nothing is told, and that holds
+abbrev pub IsToldOr : (Option Edge → Type 0) → Type 0 → Option Edge → Option Edge → Type 0
+IsToldOr IsTold Lacks (Some e) new = new ≡ Some e
+IsToldOr IsTold Lacks None new = IsTold new ⊎ ((new ≡ None) × Lacks)
+
+-- of each two classes of so many
+abbrev pub EachIsToldOr : ℕ → (ℕ → ℕ → Option Edge → Type 0) → (ℕ → ℕ → Type 0) → List (Option Edge) → List (Option Edge) → Type 0
+EachIsToldOr classes IsTold Lacks old new =
+    (c d : ℕ) → c < classes → d < classes → IsToldOr (IsTold c d) (Lacks c d) (told_at old c d) (told_at new c d)
 
 -- the edge is told of this section, by what makes it there first
 abbrev pub IsToldHere : Points → ℕ → ℕ → ℕ → Option Edge → Type 0
 IsToldHere x section c d told =
     (used bound : ℕ) × (told ≡ Some (record { class = c; section = section; used = used; bound = bound })) × MakesFirstAt x c d used bound
 
--- what was told stays; else it is told of this section, or the section doesn't make it and nothing is told
-abbrev pub IsToldMore : Points → ℕ → ℕ → ℕ → Option Edge → Option Edge → Type 0
-IsToldMore x section c d (Some e) new = new ≡ Some e
-IsToldMore x section c d None new = IsToldHere x section c d new ⊎ ((new ≡ None) × (MakesSomewhere x c d → ⊥))
+abbrev pub AreToldMore : Points → ℕ → ℕ → List (Option Edge) → List (Option Edge) → Type 0
+AreToldMore x section classes old new =
+    EachIsToldOr classes (IsToldHere x section) (λ c d. (used bound : ℕ) → MakesAt x c d used bound → ⊥) old new
 
--- of each pair of classes
-abbrev pub AreToldMore : Points → ℕ → List (ℕ × ℕ) → List (Option Edge) → List (Option Edge) → Type 0
-AreToldMore x section pairs old new =
-    (i : ℕ) → i < length pairs → IsToldMore x section (pair_at pairs i).0 (pair_at pairs i).1 (told_at old i) (told_at new i)
+-- by a use at this point, which uses the class, and the lowest binding there or behind it
+abbrev pub IsToldAt : Points → ℕ → ℕ → ℕ → ℕ → Option Edge → Type 0
+IsToldAt x section point c d told =
+    (bound : ℕ) × (told ≡ Some (record { class = c; section = section; used = point; bound = bound })) × UsesAt x point c × IsFirstBehind x point d bound
 
--- where a section makes an edge, a use and a binding of it do
-abbrev pub MakesBySome : Points → Type 0
-MakesBySome x = (c d : ℕ) → MakesSomewhere x c d → (used bound : ℕ) × MakesAt x c d used bound
+abbrev pub TellsPoint : Points → ℕ → ℕ → ℕ → List (Option Edge) → List (Option Edge) → Type 0
+TellsPoint x section point classes old new =
+    EachIsToldOr classes (IsToldAt x section point) (λ c d. UsesAt x point c → IsNotBehind x point d) old new
+
+-- by this use, and the lowest binding there or behind it
+abbrev pub IsToldBy : Points → Usage → ℕ → ℕ → Option Edge → Type 0
+IsToldBy x usage c d told =
+    (c ≡ usage.class) × ((bound : ℕ)
+    × (told ≡ Some (record { class = usage.class; section = usage.section; used = usage.point; bound = bound })) × IsFirstBehind x usage.point d bound)
+
+abbrev pub TellsClass : Points → Usage → ℕ → List (Option Edge) → List (Option Edge) → Type 0
+TellsClass x usage classes old new =
+    EachIsToldOr classes (IsToldBy x usage) (λ c d. c ≡ usage.class → IsNotBehind x usage.point d) old new
+
+abbrev pub TellsPair : Points → Usage → ℕ → ℕ → List (Option Edge) → List (Option Edge) → Type 0
+TellsPair x usage next classes old new =
+    EachIsToldOr classes (IsToldBy x usage) (λ c d. c ≡ usage.class → d ≡ next → IsNotBehind x usage.point d) old new
 
 -- ---- by the program
 
@@ -50,11 +75,10 @@ abbrev pub IsTold : Typed → ℕ → ℕ → ℕ → Option Edge → Type 0
 IsTold program sections c d told =
     MatchOption told (IsNotMade program sections c d) (λ e. (e.class ≡ c) × MakesFirst program e.section e.used e.bound c d)
 
--- of each pair of classes
-pub record AreTold (program : Typed) (sections : ℕ) (pairs : List (ℕ × ℕ)) (told : List (Option Edge)) : Type 0 where
-  pub long : length told ≡ length pairs
-  pub each : (i : ℕ) → i < length pairs →
-      IsTold program sections (pair_at pairs i).0 (pair_at pairs i).1 (told_at told i)
+-- of each two classes of so many
+abbrev pub AreTold : Typed → ℕ → ℕ → List (Option Edge) → Type 0
+AreTold program sections classes told =
+    (c d : ℕ) → c < classes → d < classes → IsTold program sections c d (told_at told c d)
 
 -- each pair is one of the program's edges
 abbrev pub AreEdges : Typed → List (ℕ × ℕ) → Type 0
@@ -77,7 +101,11 @@ pub record ArePairsOf (before : List BitSet) (pairs : List (ℕ × ℕ)) : Type 
   pub rising : AllPairs Precedes pairs
   pub all : (c d : ℕ) → InTable before c d → Contains pairs (c, d)
 
+-- something is told of each pair
+abbrev pub AreAllTold : List (Option Edge) → List (ℕ × ℕ) → Type 0
+AreAllTold told pairs = All (λ (pair : ℕ × ℕ). IsSome (told_pair told pair)) pairs
+
 -- what is told of each pair, with the class to which it leads
-pub record AreClosed (pairs : List (ℕ × ℕ)) (told : List (Option Edge)) (closed : List ClassPair) : Type 0 where
-  pub edges : map (λ (pair : ClassPair). Some pair.edge) closed ≡ told
+pub record AreClosed (pairs : List (ℕ × ℕ)) (told : ℕ × ℕ → Option Edge) (closed : List ClassPair) : Type 0 where
+  pub edges : map (λ (pair : ClassPair). Some pair.edge) closed ≡ map told pairs
   pub nexts : map (λ (pair : ClassPair). pair.next) closed ≡ map (λ (pair : ℕ × ℕ). pair.1) pairs

@@ -1,13 +1,15 @@
 -- What is told of a section's points.
-use Rattle.std.specs.Prelude.{◌≡◌, ◌↔◌, ℕ, List, map, slice_get, Some}
+use Rattle.std.specs.Prelude.{◌≡◌, ◌↔◌, ℕ, true, List, length, map, slice_get, Some}
+use Rattle.std.specs.Bool.{Decides}
 use Rattle.std.specs.List.{Contains}
 use Rattle.core_lang.specs.declared.tree.Section.{Section}
 use Rattle.core_lang.specs.declared.typed.Typed.{Typed}
 use Rattle.flow.specs.Skeletons.{skeleton}
-use Rattle.flow.specs.Flow.{Follows}
+use Rattle.flow.specs.Flow.{Follows, Before}
 use Rattle.flow.specs.Working.Parts.{skeleton_of}
 use Rattle.locks.specs.LockPaths.{LockPath, Uses, IsInScope, BindsRoot, lock_paths}
-use Rattle.locks.specs.Sets.{AreSets}
+use Rattle.locks.specs.declared.path_set.PathSet.{PathSet}
+use Rattle.locks.specs.Sets.{has, AreSets}
 use Rattle.points.specs.declared.table.Points.{Points}
 use Rattle.points.specs.Used.{IsUsedBefore, IsUsedLater}
 
@@ -30,3 +32,14 @@ ArePointsOf program k x = (section : Section) → slice_get program.sections.ite
 abbrev pub ArePairs : Points → List (ℕ × ℕ) → Type 0
 ArePairs x list =
     (program : Typed) (section : Section) → ArePoints program section x → (p q : ℕ) → Contains list (p, q) ↔ Follows (skeleton section) p q
+
+-- the root of path i is bound at a point that point p comes before
+abbrev pub IsBoundLater : Points → ℕ → ℕ → Type 0
+IsBoundLater x p i =
+    (q : ℕ) × (set : PathSet) × Before (skeleton_of x.parts.items) p q × (slice_get x.bound.items q ≡ Some set) × (has set i ≡ true)
+
+-- for each point the set of such paths
+abbrev pub AreBoundLater : Points → List PathSet → Type 0
+AreBoundLater x sets =
+    (length sets ≡ length x.bound.items)
+    × ((p i : ℕ) (set : PathSet) → slice_get sets p ≡ Some set → Decides (has set i) (IsBoundLater x p i))

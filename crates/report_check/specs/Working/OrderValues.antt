@@ -4,10 +4,12 @@ use Rattle.flow.specs.declared.points.PointRef.{PointRef}
 use Rattle.flow.specs.Working.PointList.{point_at}
 use Rattle.lockorder.specs.declared.ranks.ClassPair.{ClassPair}
 use Rattle.lockorder.specs.declared.ranks.Edge.{Edge}
+use Rattle.report_check.specs.declared.cyclic.CyclicOrder.{CyclicOrder}
 use Rattle.report_check.specs.declared.edges.Edges.{Edges}
 use Rattle.report_check.specs.declared.order.Order.{Order}
 use Rattle.report_check.specs.declared.positions.Positions.{Positions}
 use Rattle.report_check.specs.Order.{point_text, numbered_point, use_text, edge_text, edge_texts, order_text}
+use Rattle.report_check.specs.Order.{cyclic_order_text}
 
 abbrev pub text_of : Edges → List ℕ
 text_of x = x.positions.now.text.now
@@ -22,10 +24,13 @@ abbrev pub use_text_of : Edges → Edge → List ℕ
 use_text_of x edge = use_text (text_of x) x.program.now edge
 
 abbrev pub edge_text_of : Edges → ClassPair → List ℕ
-edge_text_of x pair = edge_text (text_of x) x.program.now pair
+edge_text_of x pair = edge_text (text_of x) x.program.now x.cycle.now pair
 
 abbrev pub edge_texts_of : Edges → List ClassPair → List ℕ
-edge_texts_of x pairs = edge_texts (text_of x) x.program.now pairs
+edge_texts_of x pairs = edge_texts (text_of x) x.program.now x.cycle.now pairs
 
 abbrev pub order_text_of : Order → List ℕ
 order_text_of x = order_text x.text.now x.program.now x.ranks.now x.pairs.now
+
+abbrev pub cyclic_order_text_of : CyclicOrder → List ℕ
+cyclic_order_text_of x = cyclic_order_text x.text.now x.program.now x.pairs.now x.cycle.now

@@ -1,9 +1,9 @@
-use Rattle.std.proofs.Common.{◌≡◌}
+use Rattle.std.proofs.Common.{◌≡◌, length}
 use Rattle.lockorder.specs.Working.Tellings.{AreTold}
 use Rattle.lockorder.proofs.class_order.told.Given as goal
 
 abbrev pub invariant-loop-section : goal.invariant-loop-section
 invariant-loop-section l = record {
-  pairs : l.telling.pairs.now ≡ l.pairs;
-  told : AreTold l.program l.section l.pairs l.telling.told.items;
+  classes : l.telling.classes ≡ length l.program.classes.items;
+  told : AreTold l.program l.section (length l.program.classes.items) l.telling.told.items;
 }

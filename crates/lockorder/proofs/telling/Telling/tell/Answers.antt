@@ -1,53 +1,51 @@
-use Rattle.std.proofs.Common.{◌<◌, ℕ, List, Some, set, not, length, refl, sym, ap, ◌∙◌, subst, arith}
-use Rattle.std.proofs.lemmas.Bool.{both_ways}
-use Rattle.lockorder.specs.declared.telling.Telling.{Telling}
-use Rattle.lockorder.specs.Working.Tables.{has_edge}
-use Rattle.lockorder.specs.Working.Sections.{MakesSomewhere, MakesFirstAt}
-use Rattle.lockorder.specs.Working.Tellings.{pair_at}
-use Rattle.lockorder.proofs.Tells.{tell_starts, tell_here, tell_none, tell_kept, told_read, not_told, is_told}
+use Rattle.std.proofs.Common.{◌∙◌, ◌<◌, length, sym, refl, subst, arith}
+use Rattle.std.specs.List.{All}
+use Rattle.points.specs.declared.table.Points.{Points}
+use Rattle.lockorder.specs.Working.Sections.{AreBoundOnce}
+use Rattle.lockorder.specs.Working.Tellings.{TellsPoint}
+use Rattle.lockorder.proofs.Steps.{section_starts, section_next, section_ends}
 use Rattle.lockorder.proofs.telling.Telling.tell.Goals as goal
-use Rattle.lockorder.proofs.telling.Telling.tell.Goals.{then-is_none+then-has_edge+in_ok-made, else-is_none}
-use Rattle.lockorder.proofs.telling.Telling.tell.Goals.{else-is_none-via-then-is_none+else-has_edge}
-use Rattle.lockorder.proofs.telling.Telling.tell.Goals.{else-is_none-via-else-is_none}
 
-pub loop-place-init : goal.loop-place-init
-loop-place-init c = record { pairs = refl; told = tell_starts c.args.points.now c.args.section c.args.self.now.pairs.now c.args.self.now.told.items }
+pub loop-point-init : goal.loop-point-init
+loop-point-init c = record {
+  classes = refl;
+  told = section_starts c.args.points.now c.args.section c.args.self.now.classes c.args.self.now.told.items c.args.self.now.told.items refl;
+}
 
-pub loop-place-preserved : goal.loop-place-preserved
-loop-place-preserved c =
+pub loop-point-preserved : goal.loop-point-preserved
+loop-point-preserved c =
     let x = c.args.points.now in
     let s = c.args.section in
-    let pairs = c.args.self.now.pairs.now in
-    let now = c.loop-place.self.told.items in
-    let p = c.loop-place.place in
-    let i = c.loop-place.invariant in
-    let lt : p < length now = omega (arith, c.loop-place-test.true, i.told.long, c.requires.long, ap (λ (l : List (ℕ × ℕ)). length l) i.pairs) in
-    let read = told_read now p c.index.result.now lt c.index.ensures in
-    elim c.if-is_none.branch [
-      | then-is_none+then-has_edge+in_ok-made w ↦
-          let used = w.in_ok-made.made.used in
-          let bound = w.in_ok-made.made.bound in
-          record {
-            pairs = ap (λ (t : Telling). t.pairs.now) w.self-is ∙ i.pairs;
-            told = tell_here x s pairs c.args.self.now.told.items now p i.told c.if-is_none.self.told.items used bound lt
-                (sym read ∙ not_told c.index.result.now (c.is_none.ensures ∙ ap not w.if-is_none.true))
-                (subst (λ (l : List (ℕ × ℕ)). MakesFirstAt x (pair_at l p).0 (pair_at l p).1 used bound) i.pairs w.in_ok-made.ensures)
-                (ap (λ (t : Telling). t.told.items) w.self-is
-                ∙ ap (λ (l : List (ℕ × ℕ)). set now p (Some (record { class = (pair_at l p).0; section = s; used = used; bound = bound }))) i.pairs);
-          }
-      | else-is_none w ↦ record {
-        pairs = ap (λ (t : Telling). t.pairs.now) w.self-is ∙ i.pairs;
-        told = elim w.else-is_none.branch [
-          | else-is_none-via-then-is_none+else-has_edge v ↦
-              tell_none x s pairs c.args.self.now.told.items now p i.told c.if-is_none.self.told.items (ap (λ (t : Telling). t.told.items) w.self-is)
-              (sym read ∙ not_told c.index.result.now (c.is_none.ensures ∙ ap not v.if-is_none.true))
-              (λ m.
-              let here = pair_at c.loop-place.self.pairs.now p in
-              both_ways (has_edge c.args.table.now.before.items here.0 here.1) (sym v.has_edge.ensures ∙ v.if-has_edge.false)
-              ((c.requires.edges here.0 here.1).1 (subst (λ (l : List (ℕ × ℕ)). MakesSomewhere x (pair_at l p).0 (pair_at l p).1) (sym i.pairs) m)))
-          | else-is_none-via-else-is_none v ↦
-              let e = is_told c.index.result.now (c.is_none.ensures ∙ ap not v.if-is_none.false) in
-              tell_kept x s pairs c.args.self.now.told.items now p i.told c.if-is_none.self.told.items e.0 (ap (λ (t : Telling). t.told.items) w.self-is) (sym read ∙ e.1)
-        ];
-      }
-    ]
+    let n = c.loop-point.point in
+    let i = c.loop-point.invariant in
+    let mid = c.loop-point.self in
+    let new = c.tell_point.new.self.told.items in
+    record {
+      classes = c.tell_point.ensures.classes ∙ i.classes;
+      told = section_next x s c.args.self.now.classes n c.args.self.now.told.items mid.told.items new i.told
+          (subst (λ (y : Points). TellsPoint y s n c.args.self.now.classes mid.told.items new) c.in_ok-bindings.ensures.points
+          (subst (λ k. TellsPoint c.in_ok-bindings.bindings.points.now s n k mid.told.items new) i.classes c.tell_point.ensures.told));
+    }
+
+pub tell_point-requires-clause-once : goal.tell_point-requires-clause-once
+tell_point-requires-clause-once c = subst AreBoundOnce (sym c.in_ok-bindings.ensures.points) c.requires.once
+
+pub tell_point-requires-clause-within : goal.tell_point-requires-clause-within
+tell_point-requires-clause-within c =
+    subst (λ (y : Points). All (λ k. k < c.loop-point.self.classes) y.classes.items) (sym c.in_ok-bindings.ensures.points)
+    (subst (λ n. All (λ k. k < n) c.args.points.now.classes.items) (sym c.loop-point.invariant.classes) c.requires.within)
+
+pub tell_point-requires-clause-point : goal.tell_point-requires-clause-point
+tell_point-requires-clause-point c =
+    let x = c.args.points.now in
+    subst (λ (y : Points). c.loop-point.point < length y.bound.items) (sym c.in_ok-bindings.ensures.points)
+    (omega (arith, c.loop-point-test.true, c.len-point-end.ensures, x.of_bound, x.of_used, x.bound.ok.0, x.used.ok.0))
+
+pub returns : goal.returns
+returns c =
+    let x = c.args.points.now in
+    record {
+      classes = c.loop-point.invariant.classes;
+      told = section_ends x c.args.section c.args.self.now.classes c.loop-point.point c.args.self.now.told.items c.loop-point.self.told.items
+          (omega (arith, c.loop-point-test.false, c.len-point-end.ensures, x.used.ok.0)) c.loop-point.invariant.told;
+    }

@@ -1,9 +1,12 @@
 use Rattle.std.proofs.Common.{◌≡◌}
-use Rattle.lockorder.proofs.Tells.{AreToldBelow}
+use Rattle.lockorder.specs.Working.Tellings.{EachIsToldOr, IsToldHere}
+use Rattle.lockorder.proofs.Steps.{SectionLacks}
 use Rattle.lockorder.proofs.telling.Telling.tell.Given as goal
 
-abbrev pub invariant-loop-place : goal.invariant-loop-place
-invariant-loop-place l = record {
-  pairs : l.self.pairs.now ≡ l.initial.self.pairs.now;
-  told : AreToldBelow l.points l.section l.initial.self.pairs.now l.initial.self.told.items l.self.told.items l.place;
+abbrev pub invariant-loop-point : goal.invariant-loop-point
+invariant-loop-point l = record {
+  classes : l.self.classes ≡ l.initial.self.classes;
+  told :
+      EachIsToldOr l.initial.self.classes (IsToldHere l.points l.section) (SectionLacks l.points l.point)
+      l.initial.self.told.items l.self.told.items;
 }
