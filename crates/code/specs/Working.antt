@@ -10,3 +10,4 @@ pub mod NumberLists
 pub mod Naming
 pub mod Sections
 pub mod Listers
+pub mod Places

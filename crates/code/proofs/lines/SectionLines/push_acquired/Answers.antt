@@ -10,11 +10,11 @@ returns-in-Some c =
     let x = c.args.self.now in
     let old = rope_text c.args.out.now in
     let items = λ (list : Vec ℕ Global). list.items in
-    let mapped = text_at-map items (paths_text_of x) x.code.now.lists.items c.args.point in
-    let piece = ap (paths_text_of x) c.deref-in-Some.ensures.value in
+    let mapped = text_at-map items (paths_text_of x) x.listed.lists.now c.args.point in
+    let piece = ap (paths_text_of x) c.deref.ensures.value in
     on_ok_weaker c.push_paths.result
     (λ e. (
-      found_added (λ (list : Vec ℕ Global). paths_text_of x list.items) _ _ _ old c.deref.ensures.value c.in-Some.list
+      found_added (λ (list : Vec ℕ Global). paths_text_of x list.items) _ _ _ old refl c.in-Some.list
           _ _ c.in-Some.ensures.lookup piece e.0
           ∙ ap (λ t. old ++ t) (sym mapped),
       e.1,
@@ -26,8 +26,8 @@ returns-in-None c =
     let x = c.args.self.now in
     let old = rope_text c.args.out.now in
     let items = λ (list : Vec ℕ Global). list.items in
-    let mapped = text_at-map items (paths_text_of x) x.code.now.lists.items c.args.point in (
-      none_added (λ (list : Vec ℕ Global). paths_text_of x list.items) _ _ _ old c.deref.ensures.value
+    let mapped = text_at-map items (paths_text_of x) x.listed.lists.now c.args.point in (
+      none_added (λ (list : Vec ℕ Global). paths_text_of x list.items) _ _ _ old refl
           c.in-None.ensures.lookup
           ∙ ap (λ t. old ++ t) (sym mapped),
       refl,
