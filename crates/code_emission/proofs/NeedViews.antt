@@ -13,7 +13,7 @@ use Rattle.core_lang.specs.declared.tree.Action.{If, IfElse, While, Row_of-Stmt,
 use Rattle.core_lang.specs.declared.tree.Action.{items-the_row-Stmt, items_hidden-the_row-Stmt-0}
 use Rattle.core_lang.specs.Theory.Lists.{row_of, conditions_of, block_of, else_of}
 use Rattle.code.specs.Needs.{expr_need, chain_need, test_need, tests_need, stmt_need, block_need, body_need}
-use Rattle.lowering.specs.Working.NeedLists.{operations_need, conditions_need}
+use Rattle.code_emission.specs.Working.CodeLists.{operations_need, conditions_need}
 
 pub chain_need-items : (n : Count) (row : Row_of-Operation n) →
     chain_need row ≡ operations_need (items-the_row-Operation n row)
