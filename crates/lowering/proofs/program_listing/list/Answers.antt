@@ -21,7 +21,7 @@ push-requires-clause-paths c =
     let lt : c.loop-k.k < length program.sections.items =
     omega (arith, c.loop-k-test.true, c.len-k-end.ensures, program.sections.ok.0) in
     ap (map lock_path_of) c.deref.ensures.value
-    ∙ paths_are program c.loop-k.k section lt c.index-section.ensures paths c.index-2.result.now are c.index-2.ensures
+    ∙ paths_are program c.loop-k.k section lt c.index-section.ensures paths c.index-in-loop-k.result.now are c.index-in-loop-k.ensures
     ∙ ap (λ (p : Typed). lock_paths p section) (sym c.in_ok-lister.ensures)
 
 pub push-requires-clause-code : goal.push-requires-clause-code
@@ -73,5 +73,5 @@ loop-k-preserved c =
           (fronts_same text section (lists_at lists c.loop-k.k) made c.in_ok-places.places c.as_ref.result told c.as_ref.ensures.value done.begins)
           old (rope_text c.push.new.out) put
           ∙ c.loop-k.invariant.text;
-      cursor = c.places_of-places.ensures.same ∙ c.loop-k.invariant.cursor;
+      cursor = c.places_of.ensures.same ∙ c.loop-k.invariant.cursor;
     }

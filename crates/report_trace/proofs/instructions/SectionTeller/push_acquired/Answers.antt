@@ -1,4 +1,4 @@
-use Rattle.std.proofs.Common.{◌∙◌, ◌++◌, ℕ, Vec, Global, string_bytes, sym, ap}
+use Rattle.std.proofs.Common.{◌∙◌, ◌++◌, ℕ, Vec, Global, string_bytes, refl, sym, ap}
 use Rattle.std.proofs.lemmas.Result.{on_ok_weaker}
 use Rattle.code.specs.Theory.Written.{found_added, none_added, text_at-map}
 use Rattle.report_trace.specs.Working.Instructions.{paths_told}
@@ -9,10 +9,10 @@ returns-in-Some c =
     let x = c.args.self.now in
     let old = string_bytes c.args.out.now in
     let items = λ (list : Vec ℕ Global). list.items in
-    let mapped = text_at-map items (paths_told x) x.code.now.lists.items c.args.point in
-    let piece = ap (paths_told x) c.deref-in-Some.ensures.value in
+    let mapped = text_at-map items (paths_told x) x.listed.lists.now c.args.point in
+    let piece = ap (paths_told x) c.deref.ensures.value in
     on_ok_weaker c.push_paths.result
-    (λ e. found_added (λ (list : Vec ℕ Global). paths_told x list.items) _ _ _ old c.deref.ensures.value c.in-Some.list
+    (λ e. found_added (λ (list : Vec ℕ Global). paths_told x list.items) _ _ _ old refl c.in-Some.list
     _ _ c.in-Some.ensures.lookup piece e
     ∙ ap (λ t. old ++ t) (sym mapped))
     c.push_paths.ensures
@@ -22,7 +22,7 @@ returns-in-None c =
     let x = c.args.self.now in
     let old = string_bytes c.args.out.now in
     let items = λ (list : Vec ℕ Global). list.items in
-    let mapped = text_at-map items (paths_told x) x.code.now.lists.items c.args.point in
-    none_added (λ (list : Vec ℕ Global). paths_told x list.items) _ _ _ old c.deref.ensures.value
+    let mapped = text_at-map items (paths_told x) x.listed.lists.now c.args.point in
+    none_added (λ (list : Vec ℕ Global). paths_told x list.items) _ _ _ old refl
     c.in-None.ensures.lookup
     ∙ ap (λ t. old ++ t) (sym mapped)
