@@ -22,5 +22,6 @@ pub use Rattle.code.specs.Working.RunLaws.{EndsAsSection, EndsOnlyAsSection, Sec
 pub use Rattle.code.specs.LineTables.{section_begins, point_at, position_text, place_text}
 pub use Rattle.code.specs.Listing.{paths_text, section_text, listing_text, listing_with_places_text}
 pub use Rattle.code.specs.Working.NumberLists.{number_lists}
-pub use Rattle.code.specs.Working.Sections.{lists_of, front_of}
+pub use Rattle.code.specs.Working.Asked.{lists_of, asked}
+pub use Rattle.code.specs.Working.Sections.{front_of}
 pub use Rattle.code.specs.Working.Places.{PlacesOf}

@@ -126,17 +126,16 @@ module _ (program : Typed) (section : Section) (lists : List (List ℕ)) where
   instr_text place Return = codes "ret"
   instr_text place End = codes "end"
 
-  -- with what stands in front of the text of the instruction at each place
-  module _ (front : ℕ → List ℕ) where
-    -- PLACE FRONT TEXT, for each instruction from a place on
-    abbrev pub instrs_text : ℕ → List Instr → List ℕ
-    instrs_text place [] = []
-    instrs_text place (i ∷ is) =
-        line (decimal place ++ codes " " ++ front place ++ instr_text place i) ++ instrs_text (place + 1) is
+  -- PLACE FRONT TEXT, for each instruction from a place on, with what stands in front of the one at each place
+  abbrev pub instrs_text : (ℕ → List ℕ) → ℕ → List Instr → List ℕ
+  instrs_text front place [] = []
+  instrs_text front place (i ∷ is) =
+      line (decimal place ++ codes " " ++ front place ++ instr_text place i) ++ instrs_text front (place + 1) is
 
-    -- section NAME, and its instructions
-    abbrev pub section_text : List ℕ
-    section_text = line (codes "section " ++ string_bytes section.name) ++ instrs_text 0 (section_code lists section)
+  -- section NAME, and its instructions
+  abbrev pub section_text : (ℕ → List ℕ) → List ℕ
+  section_text front =
+      line (codes "section " ++ string_bytes section.name) ++ instrs_text front 0 (section_code lists section)
 
 -- in front of an instruction stands nothing; or, with the program's text, LINE:COL and a space
 abbrev pub front_text : Option (List ℕ) → Section → List (List ℕ) → ℕ → List ℕ

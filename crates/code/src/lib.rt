@@ -17,10 +17,12 @@
 pub mod instr;
 pub mod laws;
 mod lines;
+mod listed;
 pub mod places;
 pub mod point_laws;
 pub mod run_laws;
 pub mod section_code;
 
-pub use lines::{Listed, Lister, path_texts};
+pub use lines::{Lister, path_texts};
+pub use listed::Listed;
 pub use section_code::ProgramCode as Code;

@@ -13,8 +13,8 @@ ghost use Rattle.rope.specs.Working.Ropes.{Grows, AddsTo};
 ghost use Rattle.code.specs.Working.Naming.{IsIndexOf, IsMnemonic, AddsBare, operand_text};
 
 use crate::instr::Instr;
+use crate::listed::Listed;
 use crate::places::SectionPlaces;
-use crate::section_code::SectionCode;
 use core_lang::tree::{Comparison, Operator, Section};
 use core_lang::typed::{GlobalVariable, Struct, Typed};
 use indexmap::IndexMap;
@@ -205,19 +205,6 @@ fn index_by_cell<'a>(
     Ok(index)
 }
 
-/// A section, with what its listing is made from.
-#[derive(Clone, Copy)]
-pub struct Listed<'a> {
-    /// The section.
-    pub section: &'a Section,
-    /// Its code.
-    pub code: &'a SectionCode,
-    /// The lists of lock paths before its points, each path by its number among the section's.
-    pub lists: &'a [Vec<u8>],
-    /// Its lock paths.
-    pub paths: &'a [LockPath],
-}
-
 /// What the texts of instructions are made from beside the sections.
 #[derive(Drop)]
 pub struct Lister<'a> {
@@ -231,7 +218,8 @@ pub struct Lister<'a> {
 impl<'a> Lister<'a> {
     ghost use Rattle.code.specs.Listing.{global_text};
     ghost use Rattle.code.specs.Working.Listers.{program_of};
-    ghost use Rattle.code.specs.Working.Sections.{lists_of, front_of};
+    ghost use Rattle.code.specs.Working.Asked.{lists_of};
+    ghost use Rattle.code.specs.Working.Sections.{front_of};
 
     /// Of the code of this program. The one error is a refused growth.
     pub fn new(alloc: Global, program: &'a Typed) -> Result<Lister<'a>, AllocError>
@@ -341,7 +329,7 @@ struct SectionLines<'a> {
 }
 
 impl SectionLines<'_> {
-    ghost use Rattle.code.specs.Working.Sections.{HasPathsOf, paths_text_of, acquired_text_of, asked_text_of};
+    ghost use Rattle.code.specs.Working.Sections.{HasPathsOf, paths_text_of, asked_text_of};
     ghost use Rattle.code.specs.Working.Sections.{front_text_of, line_text_of, instrs_text_of, begins_of};
 
     // Lock paths, a space before each.
@@ -356,26 +344,12 @@ impl SectionLines<'_> {
         Ok(())
     }
 
-    // The lock paths before a point.
-    fn push_acquired(&self, out: &mut Rope, point: usize) -> Result<(), AllocError>
-        requires { HasPathsOf self.now out.old }
-        ensures { OnOk result (AddsTo (acquired_text_of self.now point) out.old out.new) }
-    {
-        match self.listed.lists.get(point) {
-            Some(list) => self.push_paths(out, list),
-            None => Ok(()),
-        }
-    }
-
     // The lock paths that an instruction asks for.
     fn push_asked(&self, out: &mut Rope, instr: Instr) -> Result<(), AllocError>
         requires { HasPathsOf self.now out.old }
         ensures { OnOk result (AddsTo (asked_text_of self.now instr) out.old out.new) }
     {
-        match instr {
-            Instr::Acquire(point) => self.push_acquired(out, point),
-            _ => Ok(()),
-        }
+        self.push_paths(out, self.listed.asked(instr))
     }
 
     // Where the instruction at a place stands in the program's text, if that is told.

@@ -55,12 +55,7 @@ impl SectionPlaces {
     }
 
     /// Where the instruction at a place of the section's code stands in the text, and a space.
-    pub fn push(
-        &self,
-        out: &mut String,
-        code: &SectionCode,
-        place: usize,
-    ) -> Result<(), AllocError>
+    pub fn push(&self, out: &mut String, code: &SectionCode, place: usize) -> Result<(), AllocError>
         requires { IsNonDecreasing code.now.begins.items }
         ensures { OnOk result (AddsText (table_text self.now code.now.begins.items place) out.old out.new) }
     {

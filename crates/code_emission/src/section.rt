@@ -26,7 +26,12 @@ pub fn code_of(alloc: Global, section: &Section, lists: &[Vec<u8>]) -> Result<Se
     let mut emitter = Emitter::new(alloc, lists);
     emitter.block(&section.body)?;
     emitter.end(&section.result)?;
-    let Emitter { begins, operands, code, .. } = emitter;
+    let Emitter {
+        begins,
+        operands,
+        code,
+        ..
+    } = emitter;
     Ok(SectionCode {
         instructions: code.instructions,
         begins,

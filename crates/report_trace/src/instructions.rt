@@ -24,7 +24,7 @@ pub struct SectionTeller<'a> {
 }
 
 impl SectionTeller<'_> {
-    ghost use Rattle.report_trace.specs.Working.Instructions.{HasPaths, path_told, paths_told, acquired_told};
+    ghost use Rattle.report_trace.specs.Working.Instructions.{HasPaths, path_told, paths_told};
     ghost use Rattle.report_trace.specs.Working.Instructions.{asked_told, instr_told, instr_at, begins_of};
 
     // A lock path, by its number.
@@ -50,26 +50,12 @@ impl SectionTeller<'_> {
         Ok(())
     }
 
-    // The lock paths before a point.
-    fn push_acquired(&self, out: &mut String, point: usize) -> Result<(), AllocError>
-        requires { HasPaths self.now }
-        ensures { OnOk result (AddsText (acquired_told self.now point) out.old out.new) }
-    {
-        match self.listed.lists.get(point) {
-            Some(list) => self.push_paths(out, list),
-            None => Ok(()),
-        }
-    }
-
     // The lock paths that an instruction asks for.
     fn push_asked(&self, out: &mut String, instr: Instr) -> Result<(), AllocError>
         requires { HasPaths self.now }
         ensures { OnOk result (AddsText (asked_told self.now instr) out.old out.new) }
     {
-        match instr {
-            Instr::Acquire(point) => self.push_acquired(out, point),
-            _ => Ok(()),
-        }
+        self.push_paths(out, self.listed.asked(instr))
     }
 
     // An instruction, which stands at this place of the section, behind its place in the text.

@@ -87,8 +87,8 @@ module _ {P : Type 0} (lists : List (List P)) where
         let m = length-append first (Jump (length second) ∷ second) in (
           (let z : place ≤ place = omega arith in z),
           from_below _ place b _ (omega arith)
-          (behind_each_other _ _ b e _ (to_above _ b (b + length first) e (omega arith) one)
-          (to_above _ e (e + length second) _ (omega (arith, l, m)) two)),
+              (behind_each_other _ _ b e _ (to_above _ b (b + length first) e (omega arith) one)
+              (to_above _ e (e + length second) _ (omega (arith, l, m)) two)),
         )
     stmt_rises (While' c m body) n place =
         let test = acquire_code lists n ++ test_code c in

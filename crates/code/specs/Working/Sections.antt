@@ -4,17 +4,12 @@ use Rattle.std.specs.Borrow.{Bor}
 use Rattle.code.specs.declared.instr.Instr.{Instr}
 use Rattle.code.specs.declared.section_code.SectionCode.{SectionCode}
 use Rattle.code.specs.declared.places.SectionPlaces.{SectionPlaces}
-use Rattle.code.specs.declared.lines.Listed.{Listed}
 use Rattle.code.specs.declared.lines.SectionLines.{SectionLines}
-use Rattle.code.specs.Listing.{paths_text, acquired_text, instrs_text}
-use Rattle.code.specs.Working.NumberLists.{number_lists}
+use Rattle.code.specs.Listing.{paths_text, instrs_text}
+use Rattle.code.specs.Working.Asked.{lists_of}
 use Rattle.code.specs.Working.Naming.{HasPaths, asked_text, line_text}
 use Rattle.code.specs.Working.Places.{table_text}
 use Rattle.rope.specs.Working.Ropes.{RopeOf}
-
--- the lists before the points of a section that is listed
-abbrev pub lists_of : Listed → List (List ℕ)
-lists_of listed = number_lists listed.lists.now
 
 -- what stands in front of the instruction at a place: where it stands in the program's text, if that is told
 abbrev pub front_of : Option (Bor SectionPlaces) → SectionCode → ℕ → List ℕ
@@ -30,9 +25,6 @@ HasPathsOf x rope = HasPaths x.lister.now.program.now x.listed.section.now x.gro
 
 abbrev pub paths_text_of : SectionLines → List ℕ → List ℕ
 paths_text_of x list = paths_text x.lister.now.program.now x.listed.section.now list
-
-abbrev pub acquired_text_of : SectionLines → ℕ → List ℕ
-acquired_text_of x point = acquired_text x.lister.now.program.now x.listed.section.now (lists_of x.listed) point
 
 abbrev pub asked_text_of : SectionLines → Instr → List ℕ
 asked_text_of x instr = asked_text x.lister.now.program.now x.listed.section.now (lists_of x.listed) instr

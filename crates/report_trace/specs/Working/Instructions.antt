@@ -1,10 +1,10 @@
 -- What the texts of a section's instructions are, of values of the code.
 use Rattle.std.specs.Prelude.{◌≡◌, ℕ, List, ◌++◌, map}
 use Rattle.code.specs.declared.instr.Instr.{Instr}
-use Rattle.code.specs.Listing.{text_at, paths_text, acquired_text, instr_text}
+use Rattle.code.specs.Listing.{text_at, paths_text, instr_text}
 use Rattle.code.specs.Working.Naming.{asked_text}
 use Rattle.code.specs.Working.Places.{table_text}
-use Rattle.code.specs.Working.Sections.{lists_of}
+use Rattle.code.specs.Working.Asked.{lists_of}
 use Rattle.locks.specs.LockPaths.{lock_path_of, lock_paths}
 use Rattle.locks.specs.Texts.{path_text}
 use Rattle.report_trace.specs.declared.instructions.SectionTeller.{SectionTeller}
@@ -18,9 +18,6 @@ path_told x i = text_at (path_text x.program.now x.listed.section.now) (lock_pat
 
 abbrev pub paths_told : SectionTeller → List ℕ → List ℕ
 paths_told x list = paths_text x.program.now x.listed.section.now list
-
-abbrev pub acquired_told : SectionTeller → ℕ → List ℕ
-acquired_told x point = acquired_text x.program.now x.listed.section.now (lists_of x.listed) point
 
 abbrev pub asked_told : SectionTeller → Instr → List ℕ
 asked_told x instr = asked_text x.program.now x.listed.section.now (lists_of x.listed) instr

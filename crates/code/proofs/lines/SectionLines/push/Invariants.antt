@@ -1,7 +1,8 @@
 use Rattle.std.proofs.Common.{◌≡◌, ◌++◌, drop}
 use Rattle.rope.specs.Working.Ropes.{rope_text}
 use Rattle.code.specs.Listing.{instrs_text}
-use Rattle.code.specs.Working.Sections.{lists_of, front_text_of}
+use Rattle.code.specs.Working.Asked.{lists_of}
+use Rattle.code.specs.Working.Sections.{front_text_of}
 use Rattle.code.proofs.lines.SectionLines.push.Given as goal
 
 -- what is written and the text of what is left are the whole text

@@ -3,7 +3,7 @@ use Rattle.std.proofs.lemmas.Result.{on_ok_weaker}
 use Rattle.code.specs.Listing.{instr_text}
 use Rattle.code.specs.Working.Naming.{AddsBare}
 use Rattle.code.specs.Working.Places.{table_text}
-use Rattle.code.specs.Working.Sections.{lists_of}
+use Rattle.code.specs.Working.Asked.{lists_of}
 use Rattle.report_trace.specs.Working.Instructions.{begins_of}
 use Rattle.report_trace.proofs.instructions.SectionTeller.push_instr.Goals as goal
 
