@@ -4,3 +4,4 @@ pub mod AlikeLaws
 pub mod points
 pub mod runs
 pub mod Indexes
+pub mod Counts

@@ -1,6 +1,7 @@
 pub mod Machine
 pub mod Memory
 pub mod Lowering
+pub mod LineTables
 pub mod Needs
 pub mod Alone
 pub mod Listing
@@ -18,5 +19,9 @@ pub use Rattle.code.specs.Working.PointLaws.{PointsGoOn, SpotsArePoints, PointsH
 pub use Rattle.code.specs.Working.PointLaws.{FirstPointIsAtStart}
 pub use Rattle.code.specs.Working.PointLaws.{EmptyHasEnd, SpotsAcquire, OnlySpotsAcquire, SectionsGoOn}
 pub use Rattle.code.specs.Working.RunLaws.{EndsAsSection, EndsOnlyAsSection, SectionsBehave}
-pub use Rattle.code.specs.Listing.{paths_text, section_text, listing_text}
-pub use Rattle.code.specs.Working.NumberLists.{number_lists, lists_of}
+pub use Rattle.code.specs.LineTables.{section_begins, point_at, position_text, place_text}
+pub use Rattle.code.specs.Listing.{paths_text, section_text, listing_text, listing_with_places_text}
+pub use Rattle.code.specs.Working.NumberLists.{number_lists}
+pub use Rattle.code.specs.Working.Asked.{lists_of, asked}
+pub use Rattle.code.specs.Working.Sections.{front_of}
+pub use Rattle.code.specs.Working.Places.{PlacesOf}

@@ -1,6 +1,7 @@
--- The listing of a program, as bytes: of each section its instructions, by the lists of lock paths before its points.
--- Names are looked up in the program.
+-- The listing of a program, as bytes: of each section its instructions, by the lists of lock paths before its points; with
+-- places, each behind the line and the column of its statement. Names are looked up in the program.
 use Rattle.std.specs.Prelude.{ℕ, ◌+◌, ◌-◌, ◌==◌, List, [], ◌∷◌, ◌++◌, slice_get, codes, string_bytes}
+use Rattle.std.specs.Prelude.{Option, Some, None}
 use Rattle.std.specs.List.{flat_map, find}
 use Rattle.std.specs.Option.{option_map_or}
 use Rattle.std.specs.Fmt.{decimal, signed_decimal}
@@ -24,6 +25,7 @@ use Rattle.code.specs.declared.instr.Instr.TheVariants.{LoadFinal, LoadField, No
 use Rattle.code.specs.declared.instr.Instr.TheVariants.{NotTop, Operate, Test, Jump, JumpBack, JumpIfFalse}
 use Rattle.code.specs.declared.instr.Instr.TheVariants.{JumpIfTrue, PrintTop, Acquire, Return, End}
 use Rattle.code.specs.Lowering.{section_code, lists_at}
+use Rattle.code.specs.LineTables.{place_text}
 use Rattle.locks.specs.LockPaths.{lock_paths}
 use Rattle.locks.specs.Texts.{path_text}
 
@@ -124,22 +126,36 @@ module _ (program : Typed) (section : Section) (lists : List (List ℕ)) where
   instr_text place Return = codes "ret"
   instr_text place End = codes "end"
 
-  -- PLACE TEXT, for each instruction from a place on
-  abbrev pub instrs_text : ℕ → List Instr → List ℕ
-  instrs_text place [] = []
-  instrs_text place (i ∷ is) = line (decimal place ++ codes " " ++ instr_text place i) ++ instrs_text (place + 1) is
+  -- PLACE FRONT TEXT, for each instruction from a place on, with what stands in front of the one at each place
+  abbrev pub instrs_text : (ℕ → List ℕ) → ℕ → List Instr → List ℕ
+  instrs_text front place [] = []
+  instrs_text front place (i ∷ is) =
+      line (decimal place ++ codes " " ++ front place ++ instr_text place i) ++ instrs_text front (place + 1) is
 
   -- section NAME, and its instructions
-  abbrev pub section_text : List ℕ
-  section_text = line (codes "section " ++ string_bytes section.name) ++ instrs_text 0 (section_code lists section)
+  abbrev pub section_text : (ℕ → List ℕ) → List ℕ
+  section_text front =
+      line (codes "section " ++ string_bytes section.name) ++ instrs_text front 0 (section_code lists section)
+
+-- in front of an instruction stands nothing; or, with the program's text, LINE:COL and a space
+abbrev pub front_text : Option (List ℕ) → Section → List (List ℕ) → ℕ → List ℕ
+front_text None section lists place = []
+front_text (Some text) section lists place = place_text text lists section place
 
 -- ---- the whole text, of a program with the lists before the points of each section
 
--- each section from one on, which has this number
-abbrev pub sections_text : Typed → List (List (List ℕ)) → ℕ → List Section → List ℕ
-sections_text program lists k [] = []
-sections_text program lists k (section ∷ sections) =
-    section_text program section (lists_at lists k) ++ sections_text program lists (k + 1) sections
+-- over the program's text, where places are told
+module _ (text : Option (List ℕ)) where
+  -- each section from one on, which has this number
+  abbrev pub sections_text : Typed → List (List (List ℕ)) → ℕ → List Section → List ℕ
+  sections_text program lists k [] = []
+  sections_text program lists k (section ∷ sections) =
+      section_text program section (lists_at lists k) (front_text text section (lists_at lists k))
+      ++ sections_text program lists (k + 1) sections
 
 abbrev pub listing_text : Typed → List (List (List ℕ)) → List ℕ
-listing_text program lists = sections_text program lists 0 program.sections.items
+listing_text program lists = sections_text None program lists 0 program.sections.items
+
+-- of a program with this text
+abbrev pub listing_with_places_text : List ℕ → Typed → List (List (List ℕ)) → List ℕ
+listing_with_places_text text program lists = sections_text (Some text) program lists 0 program.sections.items

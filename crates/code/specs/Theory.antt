@@ -2,3 +2,4 @@
 pub mod Safety
 pub mod Written
 pub mod Values
+pub mod LineTables

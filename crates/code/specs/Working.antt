@@ -8,5 +8,7 @@ pub mod PointLaws
 pub mod RunLaws
 pub mod NumberLists
 pub mod Naming
+pub mod Asked
 pub mod Sections
 pub mod Listers
+pub mod Places

@@ -2,18 +2,19 @@
 
 ghost use Rattle.std.specs.Prelude.{◌≡◌, ◌+◌, ◌++◌, codes, map, OnOk, IfOk, string_bytes};
 ghost use Rattle.std.specs.Fmt.{decimal};
+ghost use Rattle.std.specs.List.Sorted.{IsNonDecreasing};
 ghost use Rattle.std.proofs.Props.{props};
 ghost use Rattle.code.specs.Listing.{array_text, pool_text, final_of, final_text, where_text, field_of, field_text};
 ghost use Rattle.code.specs.Listing.{operator_text, comparison_text, section_text};
 ghost use Rattle.code.specs.Lowering.{section_code};
-ghost use Rattle.code.specs.Working.NumberLists.{lists_of};
 ghost use Rattle.locks.specs.LockPaths.{lock_path_of, lock_paths};
 ghost use Rattle.locks.specs.Texts.{AddsText, path_text};
 ghost use Rattle.rope.specs.Working.Ropes.{Grows, AddsTo};
 ghost use Rattle.code.specs.Working.Naming.{IsIndexOf, IsMnemonic, AddsBare, operand_text};
 
 use crate::instr::Instr;
-use crate::section_code::SectionCode;
+use crate::listed::Listed;
+use crate::places::SectionPlaces;
 use core_lang::tree::{Comparison, Operator, Section};
 use core_lang::typed::{GlobalVariable, Struct, Typed};
 use indexmap::IndexMap;
@@ -217,6 +218,8 @@ pub struct Lister<'a> {
 impl<'a> Lister<'a> {
     ghost use Rattle.code.specs.Listing.{global_text};
     ghost use Rattle.code.specs.Working.Listers.{program_of};
+    ghost use Rattle.code.specs.Working.Asked.{lists_of};
+    ghost use Rattle.code.specs.Working.Sections.{front_of};
 
     /// Of the code of this program. The one error is a refused growth.
     pub fn new(alloc: Global, program: &'a Typed) -> Result<Lister<'a>, AllocError>
@@ -283,7 +286,7 @@ impl<'a> Lister<'a> {
         self.push_operand(out, place, instr)
     }
 
-    /// The lines of a section, which has this code and these lock paths.
+    /// The lines of a section; with its places in the program's text, each line with where its statement starts.
     ///
     /// # Errors
     ///
@@ -292,23 +295,23 @@ impl<'a> Lister<'a> {
         &self,
         alloc: Global,
         out: &mut Rope,
-        section: &Section,
-        code: &SectionCode,
-        paths: &[LockPath],
+        listed: Listed<'_>,
+        places: Option<&SectionPlaces>,
     ) -> Result<(), NoMemory>
-        requires paths { map lock_path_of paths.now ≡ lock_paths (program_of self.now) section.now }
-        requires instructions { code.now.instructions.items ≡ section_code (lists_of code.now) section.now }
-        ensures { OnOk result
-            (Grows (section_text (program_of self.now) section.now (lists_of code.now)) out.old out.new) }
+        requires paths { map lock_path_of listed.paths.now ≡ lock_paths (program_of self.now) listed.section.now }
+        requires code { listed.code.now.instructions.items ≡ section_code (lists_of listed) listed.section.now }
+        requires rises { IsNonDecreasing listed.code.now.begins.items }
+        ensures { OnOk result (Grows (section_text (program_of self.now) listed.entry.section.now (lists_of listed.entry)
+            (front_of places.entry listed.entry.code.now)) out.old out.new) }
     {
         let lines = SectionLines {
             lister: self,
-            section,
-            code,
-            group: out.keep(path_texts(alloc, self.program, section, paths)?)?,
+            listed,
+            places,
+            group: out.keep(path_texts(alloc, self.program, listed.section, listed.paths)?)?,
         };
         out.push_str("section ")?;
-        out.push_str(section.name.as_str())?;
+        out.push_str(listed.section.name.as_str())?;
         out.push_str("\n")?;
         lines.push(alloc, out)?;
         Ok(())
@@ -319,15 +322,15 @@ impl<'a> Lister<'a> {
 #[derive(Drop)]
 struct SectionLines<'a> {
     lister: &'a Lister<'a>,
-    section: &'a Section,
-    code: &'a SectionCode,
+    listed: Listed<'a>,
+    places: Option<&'a SectionPlaces>,
     // The number of the group of parts that has the texts of the section's lock paths.
     group: usize,
 }
 
 impl SectionLines<'_> {
-    ghost use Rattle.code.specs.Working.Sections.{HasPathsOf, paths_text_of, acquired_text_of, asked_text_of};
-    ghost use Rattle.code.specs.Working.Sections.{line_text_of, instrs_text_of};
+    ghost use Rattle.code.specs.Working.Sections.{HasPathsOf, paths_text_of, asked_text_of};
+    ghost use Rattle.code.specs.Working.Sections.{front_text_of, line_text_of, instrs_text_of, begins_of};
 
     // Lock paths, a space before each.
     fn push_paths(&self, out: &mut Rope, list: &[u8]) -> Result<(), AllocError>
@@ -341,25 +344,22 @@ impl SectionLines<'_> {
         Ok(())
     }
 
-    // The lock paths before a point.
-    fn push_acquired(&self, out: &mut Rope, point: usize) -> Result<(), AllocError>
-        requires { HasPathsOf self.now out.old }
-        ensures { OnOk result (AddsTo (acquired_text_of self.now point) out.old out.new) }
-    {
-        match self.code.lists.get(point) {
-            Some(list) => self.push_paths(out, list),
-            None => Ok(()),
-        }
-    }
-
     // The lock paths that an instruction asks for.
     fn push_asked(&self, out: &mut Rope, instr: Instr) -> Result<(), AllocError>
         requires { HasPathsOf self.now out.old }
         ensures { OnOk result (AddsTo (asked_text_of self.now instr) out.old out.new) }
     {
-        match instr {
-            Instr::Acquire(point) => self.push_acquired(out, point),
-            _ => Ok(()),
+        self.push_paths(out, self.listed.asked(instr))
+    }
+
+    // Where the instruction at a place stands in the program's text, if that is told.
+    fn push_front(&self, line: &mut String, place: usize) -> Result<(), AllocError>
+        requires { IsNonDecreasing (begins_of self.now) }
+        ensures { OnOk result (AddsText (front_text_of self.now place) line.old line.new) }
+    {
+        match self.places {
+            Some(places) => places.push(line, self.listed.code, place),
+            None => Ok(()),
         }
     }
 
@@ -371,10 +371,12 @@ impl SectionLines<'_> {
         place: usize,
         instr: Instr,
     ) -> Result<(), AllocError>
-        requires { HasPathsOf self.now out.old }
+        requires paths { HasPathsOf self.now out.old }
+        requires rises { IsNonDecreasing (begins_of self.now) }
         ensures { OnOk result (AddsTo (line_text_of self.now place instr) out.old out.new) }
     {
         line.clear();
+        self.push_front(line, place)?;
         self.lister.push_instr(line, place, instr)?;
         out.push_number(place)?;
         out.push_str(" ")?;
@@ -385,11 +387,12 @@ impl SectionLines<'_> {
 
     // The lines of the section's instructions.
     fn push(&self, alloc: Global, out: &mut Rope) -> Result<(), AllocError>
-        requires { HasPathsOf self.now out.old }
+        requires paths { HasPathsOf self.now out.old }
+        requires rises { IsNonDecreasing (begins_of self.now) }
         ensures { OnOk result (AddsTo (instrs_text_of self.now) out.old out.new) }
     {
         let mut line = String::new(alloc);
-        for (place, instr) in self.code.instructions.iter().enumerate() {
+        for (place, instr) in self.listed.code.instructions.iter().enumerate() {
             self.push_line(out, &mut line, place, *instr)?;
         }
         Ok(())

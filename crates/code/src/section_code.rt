@@ -7,8 +7,29 @@ use crate::instr::Instr;
 pub struct SectionCode {
     /// Its instructions.
     pub instructions: Vec<Instr>,
-    /// For each point the lock paths before it, each by its number among the section's.
-    pub lists: Vec<Vec<u8>>,
+    /// Its line table: for each point the place of its first instruction.
+    pub begins: Vec<usize>,
+    /// How many operands its stack has at most.
+    pub operands: usize,
+}
+
+impl SectionCode {
+    ghost use Rattle.std.specs.Prelude.{◌≡◌, leb};
+    ghost use Rattle.std.specs.List.Sorted.{IsNonDecreasing};
+    ghost use Rattle.code.specs.LineTables as tables;
+
+    /// The point of the instruction at a place: of those that begin there or before, the last; nothing where none does.
+    pub fn point_at(&self, place: usize) -> Option<usize>
+        requires { IsNonDecreasing self.now.begins.items }
+        ensures { result ≡ tables.point_at self.now.begins.items place }
+    {
+        let begun = self.begins.as_slice().partition_point(
+            |begin: &usize| -> bool
+                ensures { result ≡ leb begin.now place }
+            { *begin <= place },
+        );
+        begun.checked_sub(1)
+    }
 }
 
 /// The code of a program.

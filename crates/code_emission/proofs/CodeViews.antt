@@ -81,7 +81,7 @@ points_in-items n end_of-Stmt = refl
 points_in-items n (more_of-Stmt start action rest) =
     count-in_front action (block_skeleton rest) ∙ ap (λ p. points_of action + p) (points_in-items _ rest)
 
-points_in-vec : (block : Vec Stmt Global) (n : Count) (row : Row_of-Stmt n) → items-the_row-Stmt n row ≡ block.items →
+pub points_in-vec : (block : Vec Stmt Global) (n : Count) (row : Row_of-Stmt n) → items-the_row-Stmt n row ≡ block.items →
     points_in row ≡ points_of_all block.items
 points_in-vec block n row e = points_in-items n row ∙ ap points_of_all e
 
@@ -118,7 +118,7 @@ module _ {P : Type 0} (lists : List (List P)) where
   block_code-items n (more_of-Stmt start action rest) point =
       ap (λ c. stmt_code lists action point ++ c) (block_code-items _ rest (point + points_of action))
 
-  block_code-vec : (block : Vec Stmt Global) (n : Count) (row : Row_of-Stmt n) (point : ℕ) →
+  pub block_code-vec : (block : Vec Stmt Global) (n : Count) (row : Row_of-Stmt n) (point : ℕ) →
       items-the_row-Stmt n row ≡ block.items →
       block_code lists row point ≡ sequence_code lists block.items point
   block_code-vec block n row point e = block_code-items n row point ∙ ap (λ ss. sequence_code lists ss point) e

@@ -1,4 +1,7 @@
 pub mod CodeViews
+pub mod BeginViews
+pub mod NeedViews
+pub mod Depths
 pub mod Jumps
 pub mod Chains
 pub mod Landing

@@ -3,7 +3,7 @@ use mir.Val.{to_z, of_z}
 use mir.Syntax.{w64}
 use Rattle.std.proofs.Common.{◌≡◌, ◌∙◌, ℕ, ◌+◌, ◌-◌, ◌<◌, ◌≤◌, List, [], ◌∷◌, ◌++◌, length, drop, get_or, add-one}
 use Rattle.std.proofs.Common.{append_assoc, append-nil, length-append, refl, sym, ap, arith}
-use Rattle.std.specs.Prelude.{slice_set, ℤ}
+use Rattle.std.specs.Prelude.{slice_set, ℤ, max}
 use Rattle.std.proofs.Math.Seq.{drop-cons}
 use Rattle.core_lang.specs.declared.tree.Comparison.{Comparison}
 use Rattle.core_lang.specs.declared.tree.Condition.{Condition, Compare}
@@ -20,8 +20,10 @@ use Rattle.code_emission.specs.declared.assembler.Connective.{Connective}
 use Rattle.code_emission.specs.declared.assembler.Connective.TheVariants as connective
 use Rattle.code_emission.specs.declared.emitter.Emitter.{Emitter}
 use Rattle.code_emission.specs.Working.Assembly.{Adds, field_code, jump_of, decided, blank, places, pointed, closed}
-use Rattle.code_emission.specs.Working.CodeLists.{operations_code}
-use Rattle.code_emission.specs.Working.Emission.{lists_of, Emits, Opens, condition_code}
+use Rattle.code_emission.specs.Working.CodeLists.{operations_code, operations_need, conditions_need}
+use Rattle.code_emission.specs.Working.Emission.{lists_of, point_of, Emits, Opens, condition_code, acquire_piece}
+use Rattle.code_emission.specs.Working.Emission.{point_piece}
+use Rattle.code.specs.Needs.{expr_need, test_need}
 use Rattle.core_lang.specs.Theory.Items.{drop_past, next_of}
 
 -- ---- what is put behind what there is
@@ -48,32 +50,44 @@ pub one_added : (base one two given part whole : List Instr) (last : Instr) → 
 one_added base one two given part whole last same is e d =
     two_added base one two given (last ∷ []) e d ∙ ap (λ (l : List Instr). base ++ (l ++ last ∷ [])) same ∙ sym (ap (λ (l : List Instr). base ++ l) is)
 
+nothing_needed : (n m : ℕ) → max (max n 0) m ≡ max n m
+nothing_needed n m = omega arith
+
 pub within_more : (n : ℕ) (old new more : List Instr) → n < length old → new ≡ old ++ more → n < length new
 within_more n old new more lt e = let l = ap length e ∙ length-append old more in omega arith
 
 -- at a point, behind its `Acquire`
-module _ (a b : Emitter) (x : Emits a b 1 (λ ls p. acquire_code ls p)) where
-  pub then_adds : (code : Assembler) (piece : List Instr) → Adds b.code code piece →
-      Emits a (record { lists = b.lists; point = b.point; code = code }) 1 (λ ls p. acquire_code ls p ++ piece)
-  then_adds code piece adds = record {
-    lists = x.lists;
-    point = x.point;
-    writes = λ p h. two_added a.code.instructions.items b.code.instructions.items code.instructions.items (acquire_code (lists_of a) p) piece (x.writes p h) adds;
-  }
+module _ (a b : Emitter) (x : Emits a b acquire_piece) where
+  pub then_adds : (code : Assembler) (piece : List Instr) (need operands : ℕ) → Adds b.code code piece →
+      operands ≡ max b.operands need →
+      Emits a (record { lists = b.lists; begins = b.begins; operands = operands; code = code }) (point_piece piece need)
+  then_adds code piece need operands adds deep =
+      let none = x.need in
+      record {
+        lists = x.lists;
+        point = x.point;
+        code = two_added a.code.instructions.items b.code.instructions.items code.instructions.items (acquire_code (lists_of a) (point_of a)) piece x.code adds;
+        begins = x.begins;
+        need = deep ∙ ap (λ n. max n need) none ∙ nothing_needed a.operands need;
+      }
 
-  pub opened : (one two : Assembler) (c : Condition) (place : ℕ) → Adds b.code one (test_code c) →
-      place ≡ length one.instructions.items → Adds one two (JumpIfFalse 0 ∷ []) →
-      Opens a (record { lists = b.lists; point = b.point; code = two }) c place
-  opened one two c place tests at jumps = record {
-    emits = record {
-      lists = x.lists;
-      point = x.point;
-      writes = λ p h.
-          two_added a.code.instructions.items one.instructions.items two.instructions.items (condition_code c (lists_of a) p) (JumpIfFalse 0 ∷ [])
-          (two_added a.code.instructions.items b.code.instructions.items one.instructions.items (acquire_code (lists_of a) p) (test_code c) (x.writes p h) tests) jumps;
-    };
-    last = ap (λ (n : ℕ). n + 1) at ∙ sym (ap length jumps ∙ length-append one.instructions.items (JumpIfFalse 0 ∷ []));
-  }
+  pub opened : (one two : Assembler) (c : Condition) (place need operands : ℕ) → Adds b.code one (test_code c) →
+      place ≡ length one.instructions.items → Adds one two (JumpIfFalse 0 ∷ []) → need ≡ test_need c →
+      operands ≡ max b.operands need →
+      Opens a (record { lists = b.lists; begins = b.begins; operands = operands; code = two }) c place
+  opened one two c place need operands tests at jumps needs deep =
+      let here = acquire_code (lists_of a) (point_of a) in
+      record {
+        emits = record {
+          lists = x.lists;
+          point = x.point;
+          code = two_added a.code.instructions.items one.instructions.items two.instructions.items (condition_code c (lists_of a) (point_of a)) (JumpIfFalse 0 ∷ [])
+              (two_added a.code.instructions.items b.code.instructions.items one.instructions.items here (test_code c) x.code tests) jumps;
+          begins = x.begins;
+          need = deep ∙ ap (λ n. max n need) x.need ∙ nothing_needed a.operands need ∙ ap (max a.operands) needs;
+        };
+        last = ap (λ (n : ℕ). n + 1) at ∙ sym (ap length jumps ∙ length-append one.instructions.items (JumpIfFalse 0 ∷ []));
+      }
 
 -- ---- one turn of a loop over what is left
 
@@ -117,6 +131,26 @@ pub operation_turn : (xs : List Operation) (i : ℕ) (x : Operation) → i < len
 operation_turn xs i x lt is code one two e d =
     turn (λ (o : Operation). expr_code o.operand ++ Operate o.operator ∷ []) operations_code (λ o os. refl) xs i x (next_of xs i x lt is) code two
     (two_added code one two (expr_code x.operand) (Operate x.operator ∷ []) e d)
+
+-- the need of one operand more
+pub need_turn : (xs : List Operation) (i : ℕ) (x : Operation) → i < length xs → x ≡ get_or xs i x → (need new above n : ℕ) → new ≡ max need above →
+    above ≡ 1 + n → n ≡ expr_need x.operand → max new (operations_need (drop (i + 1) xs)) ≡ max need (operations_need (drop i xs))
+need_turn xs i x lt is need new above n e f g =
+    let split : operations_need (drop i xs) ≡ max (1 + expr_need x.operand) (operations_need (drop (i + 1) xs)) = ap operations_need (next_of xs i x lt is) in
+    omega (arith, e, f, g, split)
+
+pub test_need_turn : (xs : List Condition) (i : ℕ) (x : Condition) → i < length xs → x ≡ get_or xs i x → (need new n : ℕ) → new ≡ max need n →
+    n ≡ test_need x → max new (conditions_need (drop (i + 1) xs)) ≡ max need (conditions_need (drop i xs))
+test_need_turn xs i x lt is need new n e f =
+    let split : conditions_need (drop i xs) ≡ max (test_need x) (conditions_need (drop (i + 1) xs)) = ap conditions_need (next_of xs i x lt is) in
+    omega (arith, e, f, split)
+
+-- nothing is left that needs more
+pub no_need_left : {A : Type 0} (all : List A → ℕ) (xs : List A) (i need whole : ℕ) → length xs ≤ i → all [] ≡ 0 →
+    max need (all (drop i xs)) ≡ whole → need ≡ whole
+no_need_left all xs i need whole past none e =
+    let zero_left : all (drop i xs) ≡ 0 = ap all (drop_past xs i past) ∙ none in
+    omega (arith, e, zero_left)
 
 module _ (k : Connective) (xs : List Condition) (i : ℕ) (x : Condition) (lt : i < length xs) (is : x ≡ get_or xs i x) (code one two : List Instr) (jump : Instr)
     (tests : one ≡ code ++ test_code x) (jumps : two ≡ one ++ jump ∷ []) where

@@ -1,178 +1,223 @@
 -- Statements with blocks, as they are emitted.
 use Rattle.std.proofs.Common.{◌≡◌, ℕ, ◌+◌, ◌-◌, ◌<◌, ◌≤◌, List, [], ◌∷◌, ◌++◌, length, sym, ap, subst, ◌∙◌, arith}
-use Rattle.std.proofs.Common.{append_assoc, length-append, Vec, Global}
+use Rattle.std.proofs.Common.{append_assoc, length-append, refl, Vec, Global}
 use Rattle.std.proofs.Math.ListN.{length-set}
 use Rattle.core_lang.specs.declared.tree.Condition.{Condition}
 use Rattle.core_lang.specs.declared.tree.Stmt.{Stmt}
 use Rattle.core_lang.specs.declared.tree.Action.{Action, If, IfElse, While}
 use Rattle.code.specs.declared.instr.Instr.{Instr}
 use Rattle.code.specs.declared.instr.Instr.TheVariants.{Jump, JumpBack, JumpIfFalse}
-use Rattle.code.specs.Lowering.{points_of, stmt_code, if_else_code}
+use Rattle.code.specs.Lowering.{test_code, if_code, while_code}
+use Rattle.code.specs.LineTables.{behind_test}
 use Rattle.code_emission.specs.declared.assembler.Assembler.{Assembler}
 use Rattle.code_emission.specs.declared.emitter.Emitter.{Emitter}
 use Rattle.code_emission.specs.Working.Assembly.{Adds, Lands}
-use Rattle.code_emission.specs.Working.CodeLists.{points_of_all, sequence_code}
+use Rattle.code_emission.specs.Working.CodeLists.{points_of_all, sequence_code, sequence_begins}
 use Rattle.code_emission.proofs.CodeViews.{points_of-If, points_of-IfElse, points_of-While, stmt_code-If}
 use Rattle.code_emission.proofs.CodeViews.{stmt_code-IfElse, stmt_code-While}
-use Rattle.code_emission.specs.Working.Emission.{lists_of, IsBefore, CodeAt, Emits, Opens, Skips, Joins}
-use Rattle.code_emission.specs.Working.Emission.{condition_code, choice_code, loop_code, statement_code}
+use Rattle.code_emission.proofs.BeginViews.{stmt_begins-If, stmt_begins-IfElse, stmt_begins-While}
+use Rattle.code_emission.proofs.NeedViews.{stmt_need-If, stmt_need-IfElse, stmt_need-While}
+use Rattle.code_emission.specs.Working.Emission.{lists_of, point_of, place_of, Piece, Emits, Opens, Keeps, Skips, Joins}
+use Rattle.code_emission.specs.Working.Emission.{and_then, open_piece, condition_code, tested_piece, choice_piece}
+use Rattle.code_emission.specs.Working.Emission.{loop_piece, either_piece, statement_piece, sequence_piece}
 use Rattle.code_emission.proofs.Landing.{landed}
-use Rattle.code_emission.proofs.Steps.{both, again, longer, same_lists, same_before}
+use Rattle.code_emission.proofs.Steps.{both, again, kept, longer, same_lists}
+
+-- what is open and what stands behind it begin where they should
+tested_begins : (ls : List (List ℕ)) (c : Condition) (ss : List Stmt) (p q : ℕ) →
+    (and_then (open_piece c) (sequence_piece ss)).begins ls p q ≡ q ∷ sequence_begins ls ss (p + 1) (behind_test ls (test_code c) p q)
+tested_begins ls c ss p q =
+    let test = condition_code c ls p in
+    let l : q + length (test ++ JumpIfFalse 0 ∷ []) ≡ q + length test + 1 = omega (arith, length-append test (JumpIfFalse 0 ∷ [])) in
+    ap (λ n. q ∷ sequence_begins ls ss (p + 1) n) l
 
 -- where the jump behind a condition stands
 module _ (c : Condition) (ss : List Stmt) (a b d : Emitter) (place : ℕ) (opens : Opens a b c place)
-    (block : Emits b d (points_of_all ss) (λ ls p. sequence_code ls ss p)) where
+    (block : Emits b d (sequence_piece ss)) where
+  whole : Emits a d (and_then (open_piece c) (sequence_piece ss))
+  whole = both a b d _ _ opens.emits block
+
   pub open_within : place < length d.code.instructions.items
-  open_within = omega (arith, opens.last, longer b d _ _ block)
+  open_within = omega (arith, opens.last, longer b d _ block)
 
   pub open_grows : length a.code.instructions.items ≤ length d.code.instructions.items
-  open_grows = omega (arith, longer a b _ _ opens.emits, longer b d _ _ block)
+  open_grows = omega (arith, longer a b _ opens.emits, longer b d _ block)
+
+  abbrev test : List Instr
+  test = condition_code c (lists_of a) (point_of a)
 
   -- the instructions before the jump, and those behind it
-  abbrev front : ℕ → List Instr
-  front p = a.code.instructions.items ++ condition_code c (lists_of a) p
+  abbrev front : List Instr
+  front = a.code.instructions.items ++ test
 
-  abbrev behind : ℕ → List Instr
-  behind p = sequence_code (lists_of a) ss (p + 1)
+  abbrev behind : List Instr
+  behind = sequence_code (lists_of a) ss (point_of a + 1)
 
   -- the code, split at the jump
-  split : (p : ℕ) → IsBefore a p → d.code.instructions.items ≡ front p ++ JumpIfFalse 0 ∷ behind p
-  split p h =
-      let test = condition_code c (lists_of a) p in
-      let whole = both a b d 1 (points_of_all ss) _ _ opens.emits block in
-      let flat : a.code.instructions.items ++ ((test ++ JumpIfFalse 0 ∷ []) ++ behind p) ≡ (a.code.instructions.items ++ test) ++ JumpIfFalse 0 ∷ behind p = simp append_assoc in
-      whole.writes p h ∙ flat
+  split : d.code.instructions.items ≡ front ++ JumpIfFalse 0 ∷ behind
+  split =
+      let flat : a.code.instructions.items ++ ((test ++ JumpIfFalse 0 ∷ []) ++ behind) ≡ (a.code.instructions.items ++ test) ++ JumpIfFalse 0 ∷ behind = simp append_assoc in
+      whole.code ∙ flat
 
-  stands : (p : ℕ) → IsBefore a p → place ≡ length (front p)
-  stands p h =
-      let test = condition_code c (lists_of a) p in
-      let l = ap length (opens.emits.writes p h) ∙ length-append a.code.instructions.items (test ++ JumpIfFalse 0 ∷ []) in
+  stands : place ≡ length front
+  stands =
+      let l = ap length opens.emits.code ∙ length-append a.code.instructions.items (test ++ JumpIfFalse 0 ∷ []) in
       omega (arith, opens.last, l, length-append test (JumpIfFalse 0 ∷ []), length-append a.code.instructions.items test)
 
-  pub choice_emitted : (e : Emitter) → e.lists ≡ d.lists → e.point ≡ d.point → Lands place d.code e.code →
-      Emits a e (1 + points_of_all ss) (choice_code c ss)
-  choice_emitted e lists point lands =
-      let whole = both a b d 1 (points_of_all ss) _ _ opens.emits block in
-      record {
-        lists = lists ∙ whole.lists;
-        point = λ p h. same_before d e (p + (1 + points_of_all ss)) lists point (whole.point p h);
-        writes = λ p h.
-            landed (λ n. JumpIfFalse n) (front p) (behind p) d.code.instructions.items e.code.instructions.items (JumpIfFalse 0) place (split p h) (stands p h) lands
-            ∙ append_assoc a.code.instructions.items (condition_code c (lists_of a) p) (JumpIfFalse (length (behind p)) ∷ behind p);
-      }
+  -- where all that is behind the condition stands, it makes one piece with it
+  tested : (join : List Instr → List Instr → List Instr) (e : Emitter) → Keeps d e →
+      e.code.instructions.items ≡ a.code.instructions.items ++ join test behind → Emits a e (tested_piece join c ss)
+  tested join e keeps code =
+      kept a d e (and_then (open_piece c) (sequence_piece ss)) (tested_piece join c ss) whole keeps refl code
+      (tested_begins (lists_of a) c ss (point_of a) (place_of a)) refl
+
+  pub choice_emitted : (e : Emitter) → Keeps d e → Lands place d.code e.code → Emits a e (choice_piece c ss)
+  choice_emitted e keeps lands =
+      tested if_code e keeps
+      (landed (λ n. JumpIfFalse n) front behind d.code.instructions.items e.code.instructions.items (JumpIfFalse 0) place split stands lands
+      ∙ append_assoc a.code.instructions.items test (JumpIfFalse (length behind) ∷ behind))
 
   pub loop_emitted : (put : Assembler) (e : Emitter) (start len : ℕ) → start ≡ length a.code.instructions.items →
       len ≡ length d.code.instructions.items →
-      Adds d.code put (JumpBack (len - start) ∷ []) → e.lists ≡ d.lists → e.point ≡ d.point → Lands place put e.code → Emits a e (1 + points_of_all ss) (loop_code c ss)
-  loop_emitted put e start len from to adds lists point lands =
-      let whole = both a b d 1 (points_of_all ss) _ _ opens.emits block in
+      Adds d.code put (JumpBack (len - start) ∷ []) → Keeps d e → Lands place put e.code → Emits a e (loop_piece c ss)
+  loop_emitted put e start len from to adds keeps lands =
       let jump = JumpBack (len - start) in
-      record {
-        lists = lists ∙ whole.lists;
-        point = λ p h. same_before d e (p + (1 + points_of_all ss)) lists point (whole.point p h);
-        writes = λ p h.
-            let test = condition_code c (lists_of a) p in
-            let all : put.instructions.items ≡ front p ++ JumpIfFalse 0 ∷ (behind p ++ jump ∷ []) =
-            adds ∙ ap (λ l. l ++ jump ∷ []) (split p h) ∙ append_assoc (front p) (JumpIfFalse 0 ∷ behind p) (jump ∷ []) in
-            let long = ap length (split p h) ∙ length-append (front p) (JumpIfFalse 0 ∷ behind p) in
-            let back : len - start ≡ length test + 1 + length (behind p) = omega (arith, from, to, long, length-append a.code.instructions.items test) in
-            let over : length (behind p ++ jump ∷ []) ≡ length (behind p) + 1 = length-append (behind p) (jump ∷ []) in
-            landed (λ n. JumpIfFalse n) (front p) (behind p ++ jump ∷ []) put.instructions.items e.code.instructions.items (JumpIfFalse 0) place all (stands p h) lands
-            ∙ ap (λ n. front p ++ JumpIfFalse n ∷ (behind p ++ jump ∷ [])) over
-            ∙ ap (λ n. front p ++ JumpIfFalse (length (behind p) + 1) ∷ (behind p ++ JumpBack n ∷ [])) back
-            ∙ append_assoc a.code.instructions.items test (JumpIfFalse (length (behind p) + 1) ∷ (behind p ++ JumpBack (length test + 1 + length (behind p)) ∷ []));
-      }
+      let all : put.instructions.items ≡ front ++ JumpIfFalse 0 ∷ (behind ++ jump ∷ []) =
+      adds ∙ ap (λ l. l ++ jump ∷ []) split ∙ append_assoc front (JumpIfFalse 0 ∷ behind) (jump ∷ []) in
+      let long = ap length split ∙ length-append front (JumpIfFalse 0 ∷ behind) in
+      let back : len - start ≡ length test + 1 + length behind = omega (arith, from, to, long, length-append a.code.instructions.items test) in
+      let over : length (behind ++ jump ∷ []) ≡ length behind + 1 = length-append behind (jump ∷ []) in
+      tested while_code e keeps
+      (landed (λ n. JumpIfFalse n) front (behind ++ jump ∷ []) put.instructions.items e.code.instructions.items (JumpIfFalse 0) place all stands lands
+      ∙ ap (λ n. front ++ JumpIfFalse n ∷ (behind ++ jump ∷ [])) over
+      ∙ ap (λ n. front ++ JumpIfFalse (length behind + 1) ∷ (behind ++ JumpBack n ∷ [])) back
+      ∙ append_assoc a.code.instructions.items test (JumpIfFalse (length behind + 1) ∷ (behind ++ JumpBack (length test + 1 + length behind) ∷ [])))
 
   -- with a second block
-  module _ (other : List Stmt) (s o e : Emitter) (skip : ℕ) (skips : Skips place d s skip) (second : Emits s o (points_of_all other) (λ ls p. sequence_code ls other p))
+  module _ (other : List Stmt) (s o e : Emitter) (skip : ℕ) (skips : Skips place d s skip) (second : Emits s o (sequence_piece other))
       (joins : Joins skip o e) where
     -- the instructions before the jump at the end of the first block
-    abbrev before_skip : ℕ → List Instr
-    before_skip p = front p ++ JumpIfFalse (length (behind p) + 1) ∷ behind p
+    abbrev before_skip : List Instr
+    before_skip = front ++ JumpIfFalse (length behind + 1) ∷ behind
 
-    first_done : (p : ℕ) → IsBefore a p → s.code.instructions.items ≡ before_skip p ++ Jump 0 ∷ []
-    first_done p h =
-        let tail = behind p ++ Jump 0 ∷ [] in
-        let all : d.code.instructions.items ++ Jump 0 ∷ [] ≡ front p ++ JumpIfFalse 0 ∷ tail =
-        ap (λ l. l ++ Jump 0 ∷ []) (split p h) ∙ append_assoc (front p) (JumpIfFalse 0 ∷ behind p) (Jump 0 ∷ []) in
-        landed (λ n. JumpIfFalse n) (front p) tail (d.code.instructions.items ++ Jump 0 ∷ []) s.code.instructions.items (JumpIfFalse 0) place all (stands p h) skips.code
-        ∙ ap (λ n. front p ++ JumpIfFalse n ∷ tail) (length-append (behind p) (Jump 0 ∷ []))
-        ∙ sym (append_assoc (front p) (JumpIfFalse (length (behind p) + 1) ∷ behind p) (Jump 0 ∷ []))
+    first_done : s.code.instructions.items ≡ before_skip ++ Jump 0 ∷ []
+    first_done =
+        let tail = behind ++ Jump 0 ∷ [] in
+        let all : d.code.instructions.items ++ Jump 0 ∷ [] ≡ front ++ JumpIfFalse 0 ∷ tail =
+        ap (λ l. l ++ Jump 0 ∷ []) split ∙ append_assoc front (JumpIfFalse 0 ∷ behind) (Jump 0 ∷ []) in
+        landed (λ n. JumpIfFalse n) front tail (d.code.instructions.items ++ Jump 0 ∷ []) s.code.instructions.items (JumpIfFalse 0) place all stands skips.code
+        ∙ ap (λ n. front ++ JumpIfFalse n ∷ tail) (length-append behind (Jump 0 ∷ []))
+        ∙ sym (append_assoc front (JumpIfFalse (length behind + 1) ∷ behind) (Jump 0 ∷ []))
 
-    skip_stands : (p : ℕ) → IsBefore a p → skip ≡ length (before_skip p)
-    skip_stands p h =
-        let l = ap length (split p h) ∙ length-append (front p) (JumpIfFalse 0 ∷ behind p) in
-        omega (arith, skips.last, l, length-append (front p) (JumpIfFalse (length (behind p) + 1) ∷ behind p))
+    skip_stands : skip ≡ length before_skip
+    skip_stands =
+        let l = ap length split ∙ length-append front (JumpIfFalse 0 ∷ behind) in
+        omega (arith, skips.last, l, length-append front (JumpIfFalse (length behind + 1) ∷ behind))
 
-    abbrev pub either_code : CodeAt
-    either_code ls p =
-        if_else_code (condition_code c ls p) (sequence_code ls ss (p + 1)) (sequence_code ls other (p + 1 + points_of_all ss))
+    -- the number of the second block's first point, and its place
+    second_point : point_of s ≡ point_of a + 1 + points_of_all ss
+    second_point =
+        let n = whole.point in
+        let m = ap (λ (v : Vec ℕ Global). length v.items) skips.keeps.begins in
+        omega (arith, n, m)
 
-    pub either_emitted : Emits a e (1 + points_of_all ss + points_of_all other) either_code
+    second_place : place_of s ≡ behind_test (lists_of a) (test_code c) (point_of a) (place_of a) + length behind + 1
+    second_place =
+        let l = ap length first_done ∙ length-append before_skip (Jump 0 ∷ []) in
+        let m = length-append front (JumpIfFalse (length behind + 1) ∷ behind) in
+        let n = length-append a.code.instructions.items test in
+        omega (arith, l, m, n)
+
+    lists_same : lists_of s ≡ lists_of a
+    lists_same = same_lists a s (skips.keeps.lists ∙ whole.lists)
+
+    pub either_emitted : Emits a e (either_piece c ss other)
     either_emitted =
-        let whole = both a b d 1 (points_of_all ss) _ _ opens.emits block in
-        let n = 1 + points_of_all ss in
-        let m = points_of_all other in
+        let ls = lists_of a in
+        let p = point_of a in
+        let q = place_of a in
+        let one = whole.point in
+        let two = second.point in
+        let middle = ap (λ (v : Vec ℕ Global). length v.items) skips.keeps.begins in
+        let last = ap (λ (v : Vec ℕ Global). length v.items) joins.keeps.begins in
+        let rest = sequence_code ls other (p + 1 + points_of_all ss) in
+        let base = before_skip in
+        let all : o.code.instructions.items ≡ base ++ Jump 0 ∷ rest =
+        second.code
+        ∙ ap (λ l. l ++ sequence_code (lists_of s) other (point_of s)) first_done
+        ∙ ap (λ l. (base ++ Jump 0 ∷ []) ++ sequence_code l other (point_of s)) lists_same
+        ∙ ap (λ k. (base ++ Jump 0 ∷ []) ++ sequence_code ls other k) second_point
+        ∙ append_assoc base (Jump 0 ∷ []) rest in
+        let deep = whole.need in
+        let deeper = second.need in
+        let still = skips.keeps.operands in
+        let kept_last = joins.keeps.operands in
+        let b = behind_test ls (test_code c) p q in
+        let first_begins = q ∷ sequence_begins ls ss (p + 1) b in
+        let begun : s.begins.items ≡ a.begins.items ++ first_begins =
+        ap (λ (v : Vec ℕ Global). v.items) skips.keeps.begins ∙ whole.begins ∙ ap (λ l. a.begins.items ++ l) (tested_begins ls c ss p q) in
         record {
-          lists = joins.lists ∙ second.lists ∙ skips.lists ∙ whole.lists;
-          point = λ p h.
-              let far : (p + n) + m ≡ p + (n + m) = omega arith in
-              same_before o e (p + (n + m)) joins.lists joins.point
-              (subst (IsBefore o) far (second.point (p + n) (same_before d s (p + n) skips.lists skips.point (whole.point p h))));
-          writes = λ p h.
-              let next : p + n ≡ p + 1 + points_of_all ss = omega arith in
-              let rest = sequence_code (lists_of a) other (p + 1 + points_of_all ss) in
-              let base = before_skip p in
-              let all : o.code.instructions.items ≡ base ++ Jump 0 ∷ rest =
-              second.writes (p + n) (same_before d s (p + n) skips.lists skips.point (whole.point p h))
-              ∙ ap (λ l. l ++ sequence_code (lists_of s) other (p + n)) (first_done p h)
-              ∙ ap (λ ls. (base ++ Jump 0 ∷ []) ++ sequence_code ls other (p + n)) (same_lists a s (skips.lists ∙ whole.lists))
-              ∙ ap (λ k. (base ++ Jump 0 ∷ []) ++ sequence_code (lists_of a) other k) next
-              ∙ append_assoc base (Jump 0 ∷ []) rest in
-              landed (λ k. Jump k) base rest o.code.instructions.items e.code.instructions.items (Jump 0) skip all (skip_stands p h) joins.code
-              ∙ append_assoc (front p) (JumpIfFalse (length (behind p) + 1) ∷ behind p) (Jump (length rest) ∷ rest)
-              ∙ append_assoc a.code.instructions.items (condition_code c (lists_of a) p)
-              (JumpIfFalse (length (behind p) + 1) ∷ (behind p ++ Jump (length rest) ∷ rest));
+          lists = joins.keeps.lists ∙ second.lists ∙ skips.keeps.lists ∙ whole.lists;
+          point = omega (arith, one, two, middle, last);
+          code =
+              landed (λ k. Jump k) base rest o.code.instructions.items e.code.instructions.items (Jump 0) skip all skip_stands joins.code
+              ∙ append_assoc front (JumpIfFalse (length behind + 1) ∷ behind) (Jump (length rest) ∷ rest)
+              ∙ append_assoc a.code.instructions.items test (JumpIfFalse (length behind + 1) ∷ (behind ++ Jump (length rest) ∷ rest));
+          begins =
+              ap (λ (v : Vec ℕ Global). v.items) joins.keeps.begins ∙ second.begins
+              ∙ ap (λ l. l ++ sequence_begins (lists_of s) other (point_of s) (place_of s)) begun
+              ∙ append_assoc a.begins.items first_begins (sequence_begins (lists_of s) other (point_of s) (place_of s))
+              ∙ ap (λ l. a.begins.items ++ (first_begins ++ sequence_begins l other (point_of s) (place_of s))) lists_same
+              ∙ ap (λ k. a.begins.items ++ (first_begins ++ sequence_begins ls other k (place_of s))) second_point
+              ∙ ap (λ k. a.begins.items ++ (first_begins ++ sequence_begins ls other (p + 1 + points_of_all ss) k)) second_place;
+          need = omega (arith, deep, deeper, still, kept_last);
         }
 
 -- the jump at the end of the first block stands in the code
-pub skip_within : (d s o : Emitter) (place skip n : ℕ) (f : CodeAt) → Skips place d s skip → Emits s o n f →
+pub skip_within : (d s o : Emitter) (place skip : ℕ) (f : Piece) → Skips place d s skip → Emits s o f →
     skip < length o.code.instructions.items
-skip_within d s o place skip n f skips second =
+skip_within d s o place skip f skips second =
     let whole = d.code.instructions.items ++ Jump 0 ∷ [] in
     let l = ap length skips.code ∙ length-set whole place (JumpIfFalse (length whole - place - 1)) ∙ length-append d.code.instructions.items (Jump 0 ∷ []) in
-    omega (arith, l, skips.last, longer s o n f second)
+    omega (arith, l, skips.last, longer s o f second)
 
 -- ---- of the statements
 
-pub emits_as : (x y : Action) (a e : Emitter) → x ≡ y → Emits a e (points_of y) (statement_code y) →
-    Emits a e (points_of x) (statement_code x)
-emits_as x y a e is h = subst (λ (z : Action). Emits a e (points_of z) (statement_code z)) (sym is) h
+pub emits_as : (x y : Action) (a e : Emitter) → x ≡ y → Emits a e (statement_piece y) → Emits a e (statement_piece x)
+emits_as x y a e is h = subst (λ (z : Action). Emits a e (statement_piece z)) (sym is) h
 
 pub if_is : (x : Action) (c : Condition) (block : Vec Stmt Global) (items : List Stmt) (a e : Emitter) →
-    x ≡ If c block → items ≡ block.items →
-    Emits a e (1 + points_of_all items) (choice_code c items) → Emits a e (points_of x) (λ ls p. stmt_code ls x p)
+    x ≡ If c block → items ≡ block.items → Emits a e (choice_piece c items) → Emits a e (statement_piece x)
 if_is x c block items a e is all h =
-    again a e _ _ _ _ h (ap (λ i. 1 + points_of_all i) all ∙ sym (points_of-If c block) ∙ ap points_of (sym is))
-    (λ ls p. ap (λ i. choice_code c i ls p) all ∙ sym (stmt_code-If ls c block p) ∙ ap (λ y. stmt_code ls y p) (sym is))
+    emits_as x (If c block) a e is
+    (again a e (choice_piece c items) (statement_piece (If c block)) h
+    (ap (choice_piece c) all ∙ (λ j. record {
+      points = sym (points_of-If c block) j;
+      code = λ ls p. sym (stmt_code-If ls c block p) j;
+      begins = λ ls p q. sym (stmt_begins-If ls c block p q) j;
+      need = sym (stmt_need-If c block) j;
+    })))
 
 pub while_is : (x : Action) (c : Condition) (body : Vec Stmt Global) (items : List Stmt) (a e : Emitter) →
-    x ≡ While c body → items ≡ body.items →
-    Emits a e (1 + points_of_all items) (loop_code c items) → Emits a e (points_of x) (λ ls p. stmt_code ls x p)
+    x ≡ While c body → items ≡ body.items → Emits a e (loop_piece c items) → Emits a e (statement_piece x)
 while_is x c body items a e is all h =
-    again a e _ _ _ _ h (ap (λ i. 1 + points_of_all i) all ∙ sym (points_of-While c body) ∙ ap points_of (sym is))
-    (λ ls p. ap (λ i. loop_code c i ls p) all ∙ sym (stmt_code-While ls c body p) ∙ ap (λ y. stmt_code ls y p) (sym is))
+    emits_as x (While c body) a e is
+    (again a e (loop_piece c items) (statement_piece (While c body)) h
+    (ap (loop_piece c) all ∙ (λ j. record {
+      points = sym (points_of-While c body) j;
+      code = λ ls p. sym (stmt_code-While ls c body p) j;
+      begins = λ ls p q. sym (stmt_begins-While ls c body p q) j;
+      need = sym (stmt_need-While c body) j;
+    })))
 
 pub if_else_is : (x : Action) (c : Condition) (block otherwise : Vec Stmt Global) (ss os : List Stmt) (a e : Emitter) → x ≡ IfElse c block otherwise → ss ≡ block.items →
-    os ≡ otherwise.items →
-    Emits a e (1 + points_of_all ss + points_of_all os)
-    (λ ls p. if_else_code (condition_code c ls p) (sequence_code ls ss (p + 1)) (sequence_code ls os (p + 1 + points_of_all ss))) →
-    Emits a e (points_of x) (λ ls p. stmt_code ls x p)
+    os ≡ otherwise.items → Emits a e (either_piece c ss os) → Emits a e (statement_piece x)
 if_else_is x c block otherwise ss os a e is all every h =
-    again a e _ _ _ _ h
-    (ap (λ i. 1 + points_of_all i + points_of_all os) all ∙ ap (λ i. 1 + points_of_all block.items + points_of_all i) every ∙ sym (points_of-IfElse c block otherwise)
-    ∙ ap points_of (sym is))
-    (λ ls p.
-    ap (λ i. if_else_code (condition_code c ls p) (sequence_code ls i (p + 1)) (sequence_code ls os (p + 1 + points_of_all i))) all
-    ∙ ap (λ i. if_else_code (condition_code c ls p) (sequence_code ls block.items (p + 1)) (sequence_code ls i (p + 1 + points_of_all block.items))) every
-    ∙ sym (stmt_code-IfElse ls c block otherwise p) ∙ ap (λ y. stmt_code ls y p) (sym is))
+    emits_as x (IfElse c block otherwise) a e is
+    (again a e (either_piece c ss os) (statement_piece (IfElse c block otherwise)) h
+    (ap (λ i. either_piece c i os) all ∙ ap (either_piece c block.items) every ∙ (λ j. record {
+      points = sym (points_of-IfElse c block otherwise) j;
+      code = λ ls p. sym (stmt_code-IfElse ls c block otherwise p) j;
+      begins = λ ls p q. sym (stmt_begins-IfElse ls c block otherwise p q) j;
+      need = sym (stmt_need-IfElse c block otherwise) j;
+    })))

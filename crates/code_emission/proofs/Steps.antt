@@ -1,121 +1,106 @@
--- Emission goes point after point.
-use Rattle.std.proofs.Common.{◌≡◌, ◌≢◌, ℕ, ◌+◌, ◌<◌, ◌≤◌, min, List, [], ◌∷◌, ◌++◌, length, take, get_or, Some, None}
+-- Emission goes piece after piece.
+use Rattle.std.proofs.Common.{◌≡◌, ℕ, ◌+◌, ◌<◌, ◌≤◌, max, List, [], ◌∷◌, ◌++◌, length, take, get_or}
 use Rattle.std.proofs.Common.{refl, sym, ap, subst, ◌∙◌, arith, append_assoc, append-nil, length-append, Vec, Global}
-use Rattle.std.specs.Prelude.{slice_get, option_map}
-use Rattle.std.proofs.lemmas.List.{length-map, take_more}
-use Rattle.std.proofs.lemmas.Option.{slice_get-map, slice_get_past, slice_get_within}
+use Rattle.std.proofs.lemmas.List.{take_more}
 use Rattle.core_lang.specs.declared.tree.Stmt.{Stmt}
 use Rattle.core_lang.specs.declared.tree.Section.{Section}
-use Rattle.code.specs.declared.instr.Instr.{Instr}
-use Rattle.code.specs.declared.instr.Instr.TheVariants.{Acquire}
-use Rattle.code.specs.Lowering.{points_of, acquire_any, acquire_code, stmt_code, body_code, end_code, section_code}
+use Rattle.code.specs.Lowering.{points_of, acquire_code, stmt_code, body_code, end_code, section_code}
+use Rattle.code.specs.LineTables.{body_begins, end_begins, section_begins}
+use Rattle.code.specs.Needs.{stmt_need, body_need, end_need, operand_need}
 use Rattle.code_emission.specs.declared.assembler.Assembler.{Assembler}
 use Rattle.code_emission.specs.declared.emitter.Emitter.{Emitter}
-use Rattle.code_emission.specs.Working.Assembly.{Adds}
 use Rattle.code.specs.Working.NumberLists.{number_lists}
-use Rattle.code_emission.specs.Working.CodeLists.{points_of_all, sequence_code}
+use Rattle.code_emission.specs.Working.CodeLists.{points_of_all, sequence_code, sequence_begins}
 use Rattle.code_emission.proofs.CodeViews.{body_code-split}
-use Rattle.code_emission.specs.Working.Emission.{lists_of, IsBefore, CodeAt, Emits}
+use Rattle.code_emission.proofs.BeginViews.{body_begins-split, begins-append}
+use Rattle.code_emission.specs.Working.Emission.{lists_of, point_of, place_of, Piece, Emits, Ends, Keeps, and_then}
+use Rattle.code_emission.specs.Working.Emission.{acquire_piece, statement_piece, sequence_piece}
 
 pub same_lists : (a b : Emitter) → b.lists ≡ a.lists → lists_of b ≡ lists_of a
 same_lists a b e = ap (λ l. number_lists l.now) e
 
-pub same_before : (a b : Emitter) (p : ℕ) → b.lists ≡ a.lists → b.point ≡ a.point → IsBefore a p → IsBefore b p
-same_before a b p lists point h =
-    let n : length (lists_of b) ≡ length (lists_of a) = ap length (same_lists a b lists) in
-    let h' : min a.point (length (lists_of a)) ≡ min p (length (lists_of a)) = h in
-    ap (λ x. min x (length (lists_of b))) point ∙ ap (min a.point) n ∙ h' ∙ ap (min p) (sym n)
+-- how far it has come
+pub next_place : (a b : Emitter) (f : Piece) → Emits a b f →
+    place_of b ≡ place_of a + length (f.code (lists_of a) (point_of a))
+next_place a b f x = ap length x.code ∙ length-append a.code.instructions.items (f.code (lists_of a) (point_of a))
 
 -- one after the other
-pub both : (a b c : Emitter) (m n : ℕ) (f g : CodeAt) → Emits a b m f → Emits b c n g →
-    Emits a c (m + n) (λ ls p. f ls p ++ g ls (p + m))
-both a b c m n f g x y = record {
-  lists = y.lists ∙ x.lists;
-  point = λ p h. let far : (p + m) + n ≡ p + (m + n) = omega arith in subst (IsBefore c) far (y.point (p + m) (x.point p h));
-  writes = λ p h.
-      y.writes (p + m) (x.point p h)
-      ∙ ap (λ code. code ++ g (lists_of b) (p + m)) (x.writes p h)
-      ∙ append_assoc a.code.instructions.items (f (lists_of a) p) (g (lists_of b) (p + m))
-      ∙ ap (λ ls. a.code.instructions.items ++ (f (lists_of a) p ++ g ls (p + m))) (same_lists a b x.lists);
-}
+pub both : (a b c : Emitter) (f g : Piece) → Emits a b f → Emits b c g → Emits a c (and_then f g)
+both a b c f g x y =
+    let ls = lists_of a in
+    let p = point_of a in
+    let q = place_of a in
+    let same = same_lists a b x.lists in
+    let one = x.point in
+    let two = y.point in
+    let deep = x.need in
+    let deeper = y.need in
+    record {
+      lists = y.lists ∙ x.lists;
+      point = omega (arith, one, two);
+      code =
+          y.code ∙ ap (λ code. code ++ g.code (lists_of b) (point_of b)) x.code
+          ∙ append_assoc a.code.instructions.items (f.code ls p) (g.code (lists_of b) (point_of b))
+          ∙ ap (λ l. a.code.instructions.items ++ (f.code ls p ++ g.code l (point_of b))) same
+          ∙ ap (λ n. a.code.instructions.items ++ (f.code ls p ++ g.code ls n)) one;
+      begins =
+          y.begins ∙ ap (λ l. l ++ g.begins (lists_of b) (point_of b) (place_of b)) x.begins
+          ∙ append_assoc a.begins.items (f.begins ls p q) (g.begins (lists_of b) (point_of b) (place_of b))
+          ∙ ap (λ l. a.begins.items ++ (f.begins ls p q ++ g.begins l (point_of b) (place_of b))) same
+          ∙ ap (λ n. a.begins.items ++ (f.begins ls p q ++ g.begins ls n (place_of b))) one
+          ∙ ap (λ n. a.begins.items ++ (f.begins ls p q ++ g.begins ls (p + f.points) n)) (next_place a b f x);
+      need = omega (arith, deep, deeper);
+    }
 
--- by equal numbers and equal code
-pub again : (a b : Emitter) (m n : ℕ) (f g : CodeAt) → Emits a b m f → m ≡ n →
-    ((ls : List (List ℕ)) (p : ℕ) → f ls p ≡ g ls p) → Emits a b n g
-again a b m n f g x e same = record {
-  lists = x.lists;
-  point = λ p h. subst (λ k. IsBefore b (p + k)) e (x.point p h);
-  writes = λ p h. x.writes p h ∙ ap (λ code. a.code.instructions.items ++ code) (same (lists_of a) p);
-}
+-- by an equal piece
+pub again : (a b : Emitter) (f g : Piece) → Emits a b f → f ≡ g → Emits a b g
+again a b f g x e = subst (Emits a b) e x
 
 -- code is never lost
-pub longer : (a b : Emitter) (n : ℕ) (f : CodeAt) → Emits a b n f →
+pub longer : (a b : Emitter) (f : Piece) → Emits a b f →
     length a.code.instructions.items ≤ length b.code.instructions.items
-longer a b n f x =
-    let more = f (lists_of a) a.point in
-    omega (arith, ap length (x.writes a.point refl) ∙ length-append a.code.instructions.items more)
+longer a b f x = let l = next_place a b f x in omega arith
 
--- ---- the lists before the points
+-- what only writes instructions
+pub kept : (a b c : Emitter) (f g : Piece) → Emits a b f → Keeps b c → f.points ≡ g.points →
+    c.code.instructions.items ≡ a.code.instructions.items ++ g.code (lists_of a) (point_of a) →
+    f.begins (lists_of a) (point_of a) (place_of a) ≡ g.begins (lists_of a) (point_of a) (place_of a) → f.need ≡ g.need → Emits a c g
+kept a b c f g x k points code begins need =
+    let n = x.point in
+    let begun = ap (λ (v : Vec ℕ Global). length v.items) k.begins in
+    record {
+      lists = k.lists ∙ x.lists;
+      point = omega (arith, n, begun, points);
+      code = code;
+      begins = ap (λ (v : Vec ℕ Global). v.items) k.begins ∙ x.begins ∙ ap (λ l. a.begins.items ++ l) begins;
+      need = k.operands ∙ x.need ∙ ap (max a.operands) need;
+    }
 
-pub past_the_last : (a : Emitter) → length a.lists.now ≤ a.point → Emits a a 1 (λ ls p. acquire_code ls p)
-past_the_last a past =
-    let n : length (lists_of a) ≡ length a.lists.now = length-map a.lists.now _ in
+-- ---- where a point begins
+
+pub begun : (a : Emitter) (begins : Vec ℕ Global) (code : Assembler) (n p : ℕ) → p ≡ point_of a → n ≡ place_of a →
+    begins.items ≡ a.begins.items ++ n ∷ [] →
+    code.instructions.items ≡ a.code.instructions.items ++ acquire_code (lists_of a) p →
+    Emits a (record { lists = a.lists; begins = begins; operands = a.operands; code = code }) acquire_piece
+begun a begins code n p at place put adds =
+    let l = ap length put ∙ length-append a.begins.items (n ∷ []) in
     record {
       lists = refl;
-      point = λ p h. let h' : min a.point (length (lists_of a)) ≡ min p (length (lists_of a)) = h in omega arith;
-      writes = λ p h.
-          let h' : min a.point (length (lists_of a)) ≡ min p (length (lists_of a)) = h in
-          let none : slice_get (lists_of a) p ≡ None = slice_get_past (lists_of a) p (omega arith) in
-          sym (append-nil a.code.instructions.items) ∙ ap (λ l. a.code.instructions.items ++ acquire_any l p) (sym none);
+      point = l;
+      code = adds ∙ ap (λ k. a.code.instructions.items ++ acquire_code (lists_of a) k) at;
+      begins = put ∙ ap (λ k. a.begins.items ++ k ∷ []) place;
+      need = (let z : a.operands ≡ max a.operands 0 = omega arith in z);
     }
-
-pub at_a_list : (a b : Emitter) (list : Vec ℕ Global) → slice_get a.lists.now a.point ≡ Some list →
-    b.lists ≡ a.lists → b.point ≡ a.point + 1 →
-    b.code.instructions.items ≡ a.code.instructions.items ++ acquire_any (Some list.items) a.point → Emits a b 1 (λ ls p. acquire_code ls p)
-at_a_list a b list at lists point code =
-    let n : length (lists_of a) ≡ length a.lists.now = length-map a.lists.now _ in
-    let within : a.point < length a.lists.now = slice_get_within _ _ _ at in
-    let got : slice_get (lists_of a) a.point ≡ Some list.items = slice_get-map _ a.lists.now a.point ∙ ap (option_map (λ (l : Vec ℕ Global). l.items)) at in
-    let m : length (lists_of b) ≡ length (lists_of a) = ap length (same_lists a b lists) in
-    record {
-      lists = lists;
-      point = λ p h. let h' : min a.point (length (lists_of a)) ≡ min p (length (lists_of a)) = h in omega arith;
-      writes = λ p h.
-          let h' : min a.point (length (lists_of a)) ≡ min p (length (lists_of a)) = h in
-          let here : a.point ≡ p = omega arith in
-          code ∙ ap (λ l. a.code.instructions.items ++ acquire_any l a.point) (sym got) ∙ ap (λ k. a.code.instructions.items ++ acquire_code (lists_of a) k) here;
-    }
-
--- its instruction, where it has a path
-acquired : (items : List ℕ) (point : ℕ) → length items ≢ 0 → acquire_any (Some items) point ≡ Acquire point ∷ []
-acquired [] point some = absurd (some refl)
-acquired (x ∷ items) point some = refl
-
-not_acquired : (items : List ℕ) (point : ℕ) → length items ≡ 0 → acquire_any (Some items) point ≡ []
-not_acquired [] point none = refl
-not_acquired (x ∷ items) point none = absurd (omega arith)
-
-pub at_some_list : (a b : Emitter) (put : Assembler) (list : Vec ℕ Global) →
-    slice_get a.lists.now a.point ≡ Some list → length list.items ≢ 0 →
-    b ≡ record { lists = a.lists; point = a.point; code = put } → Adds a.code put (Acquire a.point ∷ []) →
-    Emits a (record { lists = b.lists; point = b.point + 1; code = b.code }) 1 (λ ls p. acquire_code ls p)
-at_some_list a b put list at some is adds =
-    at_a_list a (record { lists = b.lists; point = b.point + 1; code = b.code }) list at (ap (λ (e : Emitter). e.lists) is) (ap (λ (e : Emitter). e.point + 1) is)
-    (ap (λ (e : Emitter). e.code.instructions.items) is ∙ adds ∙ ap (λ l. a.code.instructions.items ++ l) (sym (acquired list.items a.point some)))
-
-pub at_no_path : (a b : Emitter) (list : Vec ℕ Global) → slice_get a.lists.now a.point ≡ Some list →
-    length list.items ≡ 0 → b ≡ a →
-    Emits a (record { lists = b.lists; point = b.point + 1; code = b.code }) 1 (λ ls p. acquire_code ls p)
-at_no_path a b list at none is =
-    at_a_list a (record { lists = b.lists; point = b.point + 1; code = b.code }) list at (ap (λ (e : Emitter). e.lists) is) (ap (λ (e : Emitter). e.point + 1) is)
-    (ap (λ (e : Emitter). e.code.instructions.items) is ∙ sym (append-nil a.code.instructions.items)
-    ∙ ap (λ l. a.code.instructions.items ++ l) (sym (not_acquired list.items a.point none)))
 
 -- ---- one turn of the loop over a block
 
 points-append : (ss : List Stmt) (s : Stmt) → points_of_all (ss ++ s ∷ []) ≡ points_of_all ss + points_of s.action
 points-append [] s = omega arith
 points-append (x ∷ ss) s = omega (arith, points-append ss s)
+
+need-append : (ss : List Stmt) (s : Stmt) → body_need (ss ++ s ∷ []) ≡ max (body_need ss) (stmt_need s.action)
+need-append [] s = omega arith
+need-append (x ∷ ss) s = omega (arith, need-append ss s)
 
 code-append : (ls : List (List ℕ)) (ss : List Stmt) (s : Stmt) (p : ℕ) →
     sequence_code ls (ss ++ s ∷ []) p ≡ sequence_code ls ss p ++ stmt_code ls s.action (p + points_of_all ss)
@@ -126,27 +111,75 @@ code-append ls (x ∷ ss) s p =
     ∙ sym (append_assoc (stmt_code ls x.action p) (sequence_code ls ss (p + points_of x.action)) (stmt_code ls s.action ((p + points_of x.action) + points_of_all ss)))
     ∙ ap (λ k. sequence_code ls (x ∷ ss) p ++ stmt_code ls s.action k) far
 
+one_more : (ss : List Stmt) (s : Stmt) → and_then (sequence_piece ss) (statement_piece s.action) ≡ sequence_piece (ss ++ s ∷ [])
+one_more ss s = λ j. record {
+  points = sym (points-append ss s) j;
+  code = λ ls p. sym (code-append ls ss s p) j;
+  begins = λ ls p q. sym (begins-append ls ss s p q) j;
+  need = sym (need-append ss s) j;
+}
+
 pub block_turn : (ss : List Stmt) (i : ℕ) (s : Stmt) (a b c : Emitter) → s ≡ get_or ss i s → i < length ss →
-    Emits a b (points_of_all (take i ss)) (λ ls p. sequence_code ls (take i ss) p) → Emits b c (points_of s.action) (λ ls p. stmt_code ls s.action p) →
-    Emits a c (points_of_all (take (i + 1) ss)) (λ ls p. sequence_code ls (take (i + 1) ss) p)
+    Emits a b (sequence_piece (take i ss)) → Emits b c (statement_piece s.action) → Emits a c (sequence_piece (take (i + 1) ss))
 block_turn ss i s a b c is h x y =
-    let more : take (i + 1) ss ≡ take i ss ++ s ∷ [] = take_more ss i s h ∙ ap (λ (z : Stmt). take i ss ++ z ∷ []) (sym is) in
-    again a c _ _ _ _ (both a b c _ _ _ _ x y)
-    (sym (points-append (take i ss) s) ∙ ap points_of_all (sym more))
-    (λ ls p. sym (code-append ls (take i ss) s p) ∙ ap (λ l. sequence_code ls l p) (sym more))
+    let more : take i ss ++ s ∷ [] ≡ take (i + 1) ss = sym (take_more ss i s h ∙ ap (λ (z : Stmt). take i ss ++ z ∷ []) (sym is)) in
+    again a c _ _ (both a b c _ _ x y) (one_more (take i ss) s ∙ ap sequence_piece more)
+
+-- nothing yet
+pub nothing_put : (a : Emitter) → Emits a a (sequence_piece [])
+nothing_put a = record {
+  lists = refl;
+  point = (let z : point_of a ≡ point_of a + 0 = omega arith in z);
+  code = sym (append-nil a.code.instructions.items);
+  begins = sym (append-nil a.begins.items);
+  need = (let z : a.operands ≡ max a.operands 0 = omega arith in z);
+}
 
 -- ---- a whole section
 
-pub section_emitted : (a b : Emitter) (code : List Instr) (ls : List (List ℕ)) (section : Section) (ss : List Stmt) →
-    lists_of a ≡ ls → a.point ≡ 0 →
-    a.code.instructions.items ≡ [] → ss ≡ section.body.items → Emits a b (points_of_all ss) (λ ls p. sequence_code ls ss p) →
-    ((p : ℕ) → IsBefore b p → code ≡ b.code.instructions.items ++ end_code (lists_of b) section.result p) → code ≡ section_code ls section
-section_emitted a b code ls section ss is at_first empty body x ends =
-    let h : IsBefore a 0 = ap (λ k. min k (length (lists_of a))) at_first in
-    let n = 0 + points_of_all ss in
-    ends n (x.point 0 h)
-    ∙ ap (λ l. l ++ end_code (lists_of b) section.result n) (x.writes 0 h ∙ ap (λ l. l ++ sequence_code (lists_of a) ss 0) empty)
-    ∙ ap (λ l. sequence_code (lists_of a) ss 0 ++ end_code l section.result n) (same_lists a b x.lists)
-    ∙ sym (body_code-split (lists_of a) ss 0 section.result)
-    ∙ ap (λ l. body_code l ss 0 section.result) is
-    ∙ ap (λ s. body_code ls s 0 section.result) body
+module _ (a b c : Emitter) (ls : List (List ℕ)) (section : Section) (ss : List Stmt) (is : lists_of a ≡ ls) (at_first : a.begins.items ≡ [])
+    (empty : a.code.instructions.items ≡ []) (body : ss ≡ section.body.items) (x : Emits a b (sequence_piece ss)) (ends : Ends b c section.result) where
+  first : point_of a ≡ 0
+  first = ap length at_first
+
+  front : place_of a ≡ 0
+  front = ap length empty
+
+  next : point_of b ≡ 0 + points_of_all ss
+  next = x.point ∙ ap (λ n. n + points_of_all ss) first
+
+  lists_same : lists_of b ≡ ls
+  lists_same = same_lists a b x.lists ∙ is
+
+  body_put : b.code.instructions.items ≡ sequence_code ls ss 0
+  body_put =
+      x.code ∙ ap (λ l. l ++ sequence_code (lists_of a) ss (point_of a)) empty ∙ ap (λ l. sequence_code l ss (point_of a)) is
+      ∙ ap (sequence_code ls ss) first
+
+  pub code_emitted : c.code.instructions.items ≡ section_code ls section
+  code_emitted =
+      ends.code ∙ ap (λ l. l ++ end_code (lists_of b) section.result (point_of b)) body_put
+      ∙ ap (λ l. sequence_code ls ss 0 ++ end_code l section.result (point_of b)) lists_same
+      ∙ ap (λ n. sequence_code ls ss 0 ++ end_code ls section.result n) next
+      ∙ sym (body_code-split ls ss 0 section.result)
+      ∙ ap (λ s. body_code ls s 0 section.result) body
+
+  from_zero : length (sequence_code ls ss 0) ≡ 0 + length (sequence_code ls ss 0)
+  from_zero = omega arith
+
+  pub begins_emitted : c.begins.items ≡ section_begins ls section
+  begins_emitted =
+      ends.begins
+      ∙ ap (λ l. l ++ end_begins section.result (place_of b))
+      (x.begins ∙ ap (λ l. l ++ sequence_begins (lists_of a) ss (point_of a) (place_of a)) at_first
+      ∙ ap (λ l. sequence_begins l ss (point_of a) (place_of a)) is ∙ ap (λ n. sequence_begins ls ss n (place_of a)) first
+      ∙ ap (sequence_begins ls ss 0) front)
+      ∙ ap (λ n. sequence_begins ls ss 0 0 ++ end_begins section.result n) (ap length body_put ∙ from_zero)
+      ∙ sym (body_begins-split ls ss 0 0 section.result)
+      ∙ ap (λ s. body_begins ls s 0 0 section.result) body
+
+  pub need_emitted : a.operands ≡ 0 → c.operands ≡ operand_need section
+  need_emitted none =
+      let deep = x.need in
+      let all : b.operands ≡ body_need ss = omega (arith, deep, none) in
+      ends.need ∙ ap (λ n. max n (end_need section.result)) (all ∙ ap body_need body)

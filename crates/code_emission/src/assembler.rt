@@ -1,8 +1,9 @@
 //! The instructions of expressions and conditions.
 
-ghost use Rattle.std.specs.Prelude.{◌≡◌, ◌<◌, [], ◌∷◌, length, IfOk, OnOk};
+ghost use Rattle.std.specs.Prelude.{◌≡◌, ◌<◌, ◌+◌, [], ◌∷◌, length, IfOk, OnOk};
 ghost use Rattle.std.specs.List.{All};
 ghost use Rattle.code.specs.Lowering.{path_code, expr_code, test_code};
+ghost use Rattle.code.specs.Needs.{expr_need, test_need};
 
 use code::instr::Instr;
 use core_lang::tree::{Condition, Expr, FieldStep, Path};
@@ -42,7 +43,23 @@ impl Connective {
     }
 }
 
-/// Instructions under way.
+/// One operand more. No memory holds a stack whose depth has no number.
+pub fn above_one(need: usize) -> Result<usize, NoMemory>
+    ensures { IfOk result (λ more. more ≡ 1 + need) }
+{
+    need.checked_add(1).ok_or(NoMemory)
+}
+
+/// What was put of the operands of `&&` or `||` but for the last.
+#[derive(Drop)]
+struct Operands {
+    /// Where the jumps behind them stand.
+    jumps: Vec<usize>,
+    /// How many operands the stack has at most.
+    need: usize,
+}
+
+/// Instructions under way. What puts an expression or a condition answers how many operands the stack has at most.
 #[derive(Drop)]
 pub struct Assembler {
     /// The instructions so far.
@@ -52,15 +69,16 @@ pub struct Assembler {
 
 impl Assembler {
     ghost use Rattle.code_emission.specs.Working.Assembly.{Adds, Lands, field_code, blank, places, closed, PointsToEnd};
+    ghost use Rattle.code_emission.specs.Working.CodeLists.{conditions_need};
 
-    /// No instructions, with room for so many.
-    pub fn new(alloc: Global, size: usize) -> Result<Assembler, NoMemory>
-        ensures { IfOk result (λ code. code.instructions.items ≡ []) }
+    /// No instructions.
+    pub fn new(alloc: Global) -> Assembler
+        ensures { result.instructions.items ≡ [] }
     {
-        Ok(Assembler {
-            instructions: Vec::with_capacity(alloc, size)?,
+        Assembler {
+            instructions: Vec::new(alloc),
             alloc,
-        })
+        }
     }
 
     /// One more instruction.
@@ -92,26 +110,42 @@ impl Assembler {
         }
     }
 
+    // An instruction that is an operand by itself.
+    fn operand(&mut self, instr: Instr) -> Result<usize, NoMemory>
+        ensures code { OnOk result (Adds self.old self.new (instr ∷ [])) }
+        ensures need { IfOk result (λ need. need ≡ 1) }
+    {
+        self.put(instr)?;
+        Ok(1)
+    }
+
     /// An expression.
-    pub fn expression(&mut self, e: &Expr) -> Result<(), NoMemory>
-        ensures { OnOk result (Adds self.old self.new (expr_code e.now)) }
+    pub fn expression(&mut self, e: &Expr) -> Result<usize, NoMemory>
+        ensures code { OnOk result (Adds self.old self.new (expr_code e.now)) }
+        ensures need { IfOk result (λ need. need ≡ expr_need e.now) }
     {
         match e {
-            Expr::Number(n) => self.put(Instr::PushNumber(*n)),
-            Expr::Null => self.put(Instr::PushNull),
-            Expr::Place(path) => self.path(path),
-            Expr::Global { cell, .. } => self.put(Instr::LoadGlobal(*cell)),
+            Expr::Number(n) => self.operand(Instr::PushNumber(*n)),
+            Expr::Null => self.operand(Instr::PushNull),
+            Expr::Place(path) => {
+                self.path(path)?;
+                Ok(1)
+            }
+            Expr::Global { cell, .. } => self.operand(Instr::LoadGlobal(*cell)),
             Expr::Element { array, index, .. } => {
-                self.expression(index)?;
-                self.put(Instr::LoadElement(*array))
+                let need = self.expression(index)?;
+                self.put(Instr::LoadElement(*array))?;
+                Ok(need)
             }
             Expr::Member { pool, index } => {
-                self.expression(index)?;
-                self.put(Instr::GetMember(*pool))
+                let need = self.expression(index)?;
+                self.put(Instr::GetMember(*pool))?;
+                Ok(need)
             }
             Expr::Negate(e) => {
-                self.expression(e)?;
-                self.put(Instr::NegateTop)
+                let need = self.expression(e)?;
+                self.put(Instr::NegateTop)?;
+                Ok(need)
             }
             Expr::Owned {
                 value,
@@ -120,69 +154,79 @@ impl Assembler {
                 owner,
                 ..
             } => {
-                self.expression(value)?;
+                let need = self.expression(value)?;
                 self.put(Instr::Where {
                     number: *number,
                     structure: *structure,
                     local: *owner,
-                })
+                })?;
+                Ok(need)
             }
             Expr::Chain { first, rest } => {
-                self.expression(first)?;
+                let mut need = self.expression(first)?;
                 for operation in rest {
-                    self.expression(&operation.operand)?;
+                    let operand = above_one(self.expression(&operation.operand)?)?;
                     self.put(Instr::Operate(operation.operator))?;
+                    need = need.max(operand);
                 }
-                Ok(())
+                Ok(need)
             }
         }
     }
 
     /// A condition.
     #[cycle(condition)]
-    pub fn condition(&mut self, c: &Condition) -> Result<(), NoMemory>
-        ensures { OnOk result (Adds self.old self.new (test_code c.now)) }
+    pub fn condition(&mut self, c: &Condition) -> Result<usize, NoMemory>
+        ensures code { OnOk result (Adds self.old self.new (test_code c.now)) }
+        ensures need { IfOk result (λ need. need ≡ test_need c.now) }
     {
         match c {
             Condition::Compare(comparison, a, b) => {
-                self.expression(a)?;
-                self.expression(b)?;
-                self.put(Instr::Test(*comparison))
+                let left = self.expression(a)?;
+                let right = self.expression(b)?;
+                self.put(Instr::Test(*comparison))?;
+                Ok(left.max(above_one(right)?))
             }
             Condition::Not(c) => {
-                self.condition(c)?;
-                self.put(Instr::NotTop)
+                let need = self.condition(c)?;
+                self.put(Instr::NotTop)?;
+                Ok(need)
             }
             Condition::And(before, last) => {
-                let jumps = self.operands(Connective::And, before)?;
-                self.condition(last)?;
-                self.close(Connective::And, &jumps)
+                let operands = self.operands(Connective::And, before)?;
+                let need = self.condition(last)?;
+                self.close(Connective::And, &operands.jumps)?;
+                Ok(operands.need.max(need))
             }
             Condition::Or(before, last) => {
-                let jumps = self.operands(Connective::Or, before)?;
-                self.condition(last)?;
-                self.close(Connective::Or, &jumps)
+                let operands = self.operands(Connective::Or, before)?;
+                let need = self.condition(last)?;
+                self.close(Connective::Or, &operands.jumps)?;
+                Ok(operands.need.max(need))
             }
         }
     }
 
-    // The operands of `&&` or `||` but for the last, each with a jump behind it. Answers where the jumps stand.
+    // The operands of `&&` or `||` but for the last, each with a jump behind it.
     #[cycle(condition)]
     fn operands(
         &mut self,
         connective: Connective,
         operands: &[Condition],
-    ) -> Result<Vec<usize>, NoMemory>
+    ) -> Result<Operands, NoMemory>
         ensures code { OnOk result (Adds self.old self.new (blank connective operands.now)) }
-        ensures jumps { IfOk result (λ jumps. jumps.items ≡ places (length self.old.instructions.items) operands.now) }
+        ensures jumps { IfOk result (λ put. put.jumps.items ≡ places (length self.old.instructions.items) operands.now) }
+        ensures need { IfOk result (λ put. put.need ≡ conditions_need operands.now) }
     {
         let mut jumps = Vec::new(self.alloc);
+        let mut need = 0;
         for operand in operands {
-            self.condition(operand)?;
+            let operand_need = self.condition(operand)?;
+            need = need.max(operand_need);
             jumps.push(self.instructions.len())?;
             self.put(connective.jump(0))?;
         }
-        Ok(jumps)
+        Ok(Operands { jumps, need })
     }
 
     // The end of `&&` or `||`, behind the last operand: where these jumps lead, which skips it.
@@ -205,6 +249,7 @@ impl Assembler {
             self.instructions[*place] = connective.jump(end - *place - 1);
         }
     }
+
     /// Makes the instruction at this place a jump that passes all behind it where the condition is false.
     pub fn land(&mut self, place: usize)
         requires { place < length self.old.instructions.items }

@@ -1,10 +1,10 @@
 //! The instructions of statements.
 
-ghost use Rattle.std.specs.Prelude.{◌≡◌, ◌+◌, ◌<◌, [], length, IfOk, OnOk};
-ghost use Rattle.code.specs.Lowering.{points_of, acquire_code, end_code};
-ghost use Rattle.code_emission.specs.Working.CodeLists.{points_of_all};
+ghost use Rattle.std.specs.Prelude.{◌≡◌, ◌<◌, [], length, IfOk, OnOk};
+ghost use Rattle.code.specs.Working.NumberLists.{number_lists};
+ghost use Rattle.code_emission.specs.Working.Assembly.{IsListed};
 
-use crate::assembler::Assembler;
+use crate::assembler::{Assembler, above_one};
 use code::instr::Instr;
 use core_lang::tree::{Action, Condition, Expr, Path, Return, Stmt};
 use source::memory::NoMemory;
@@ -15,92 +15,109 @@ use std::alloc::Global;
 pub struct Emitter<'a> {
     /// The lists before its points.
     pub lists: &'a [Vec<u8>],
-    /// The next point. It counts no further than the lists do: behind the last one nothing is acquired.
-    pub point: usize,
+    /// For each point so far the place of its first instruction.
+    pub begins: Vec<usize>,
+    /// How many operands the stack has at most so far.
+    pub operands: usize,
     /// The instructions so far.
     pub code: Assembler,
 }
 
-impl<'a> Emitter<'a> {
-    ghost use Rattle.code_emission.specs.Working.Emission.{Emits, Writes, Opens, Skips, Joins};
-    ghost use Rattle.code_emission.specs.Working.Emission.{value_code, stuck_code, set_element_code, set_field_code};
-    ghost use Rattle.code_emission.specs.Working.Emission.{choice_code, loop_code, statement_code, statements_code};
+/// Whether a lock path is listed before a point.
+fn is_listed(lists: &[Vec<u8>], point: usize) -> bool
+    ensures { IsListed (number_lists lists.now) point result }
+{
+    match lists.get(point) {
+        Some(list) => !list.is_empty(),
+        None => false,
+    }
+}
 
-    /// Before the first point, with room for so many instructions.
-    pub fn new(alloc: Global, lists: &'a [Vec<u8>], size: usize) -> Result<Emitter<'a>, NoMemory>
-        ensures lists { IfOk result (λ emitter. emitter.lists ≡ lists.entry) }
-        ensures point { IfOk result (λ emitter. emitter.point ≡ 0) }
-        ensures code { IfOk result (λ emitter. emitter.code.instructions.items ≡ []) }
+impl<'a> Emitter<'a> {
+    ghost use Rattle.code_emission.specs.Working.Emission.{Emits, Ends, Opens, Skips, Joins};
+    ghost use Rattle.code_emission.specs.Working.Emission.{acquire_piece, value_piece, stuck_piece, set_element_piece};
+    ghost use Rattle.code_emission.specs.Working.Emission.{set_field_piece, choice_piece, loop_piece, statement_piece};
+    ghost use Rattle.code_emission.specs.Working.Emission.{sequence_piece};
+
+    /// Before the first point.
+    pub fn new(alloc: Global, lists: &'a [Vec<u8>]) -> Emitter<'a>
+        ensures lists { result.lists ≡ lists.entry }
+        ensures begins { result.begins.items ≡ [] }
+        ensures operands { result.operands ≡ 0 }
+        ensures code { result.code.instructions.items ≡ [] }
     {
-        Ok(Emitter {
+        Emitter {
             lists,
-            point: 0,
-            code: Assembler::new(alloc, size)?,
-        })
+            begins: Vec::new(alloc),
+            operands: 0,
+            code: Assembler::new(alloc),
+        }
     }
 
     // The next point, with an instruction where its list has a path.
     fn acquire(&mut self) -> Result<(), NoMemory>
-        ensures { OnOk result (Emits self.old self.new 1 (λ lists. acquire_code lists)) }
+        ensures { OnOk result (Emits self.old self.new acquire_piece) }
     {
-        let Some(list) = self.lists.get(self.point) else {
+        let point = self.begins.len();
+        self.begins.push(self.code.instructions.len())?;
+        if !is_listed(self.lists, point) {
             return Ok(());
-        };
-        if !list.is_empty() {
-            self.code.put(Instr::Acquire(self.point))?;
         }
-        self.point += 1;
-        Ok(())
+        self.code.put(Instr::Acquire(point))
     }
 
     // A point that evaluates an expression and ends with an instruction for its value.
     fn evaluate(&mut self, value: &Expr, last: Instr) -> Result<(), NoMemory>
-        ensures { OnOk result (Emits self.old self.new 1 (value_code value.now last)) }
+        ensures { OnOk result (Emits self.old self.new (value_piece value.now last)) }
     {
         self.acquire()?;
-        self.code.expression(value)?;
+        let need = self.code.expression(value)?;
         self.code.put(last)?;
+        self.operands = self.operands.max(need);
         Ok(())
     }
 
     // A call, which has no code of its own: what stands here gets stuck.
     fn stick(&mut self) -> Result<(), NoMemory>
-        ensures { OnOk result (Emits self.old self.new 1 stuck_code) }
+        ensures { OnOk result (Emits self.old self.new stuck_piece) }
     {
         self.acquire()?;
         self.code.put(Instr::PushNull)?;
         self.code.put(Instr::PrintTop)?;
+        self.operands = self.operands.max(1);
         Ok(())
     }
 
     // An assignment to an element.
     fn set_element(&mut self, array: usize, index: &Expr, value: &Expr) -> Result<(), NoMemory>
-        ensures { OnOk result (Emits self.old self.new 1 (set_element_code array index.now value.now)) }
+        ensures { OnOk result (Emits self.old self.new (set_element_piece array index.now value.now)) }
     {
         self.acquire()?;
-        self.code.expression(index)?;
+        let below = self.code.expression(index)?;
         self.code.put(Instr::Bound(array))?;
-        self.code.expression(value)?;
+        let above = above_one(self.code.expression(value)?)?;
         self.code.put(Instr::PutElement(array))?;
+        self.operands = self.operands.max(below.max(above));
         Ok(())
     }
 
     // An assignment to a field, which this instruction makes.
     fn set_field(&mut self, base: &Path, value: &Expr, last: Instr) -> Result<(), NoMemory>
-        ensures { OnOk result (Emits self.old self.new 1 (set_field_code base.now value.now last)) }
+        ensures { OnOk result (Emits self.old self.new (set_field_piece base.now value.now last)) }
     {
         self.acquire()?;
         self.code.path(base)?;
         self.code.put(Instr::NonNull)?;
-        self.code.expression(value)?;
+        let need = above_one(self.code.expression(value)?)?;
         self.code.put(last)?;
+        self.operands = self.operands.max(need);
         Ok(())
     }
 
     // A statement.
     #[cycle(statement)]
     fn statement(&mut self, action: &Action) -> Result<(), NoMemory>
-        ensures { OnOk result (Emits self.old self.new (points_of action.now) (statement_code action.now)) }
+        ensures { OnOk result (Emits self.old self.new (statement_piece action.now)) }
     {
         match action {
             Action::Bind { local, value } => self.evaluate(value, Instr::PutLocal(*local)),
@@ -147,9 +164,10 @@ impl<'a> Emitter<'a> {
         ensures { IfOk result (λ place. Opens self.old self.new condition.now place) }
     {
         self.acquire()?;
-        self.code.condition(condition)?;
+        let need = self.code.condition(condition)?;
         let place = self.code.instructions.len();
         self.code.put(Instr::JumpIfFalse(0))?;
+        self.operands = self.operands.max(need);
         Ok(place)
     }
 
@@ -176,7 +194,7 @@ impl<'a> Emitter<'a> {
     // An `if` without an `else`.
     #[cycle(statement)]
     fn choose(&mut self, block: &[Stmt], condition: &Condition) -> Result<(), NoMemory>
-        ensures { OnOk result (Emits self.old self.new (1 + points_of_all block.now) (choice_code condition.now block.now)) }
+        ensures { OnOk result (Emits self.old self.new (choice_piece condition.now block.now)) }
     {
         let test_end = self.open(condition)?;
         self.block(block)?;
@@ -187,7 +205,7 @@ impl<'a> Emitter<'a> {
     // A `while`.
     #[cycle(statement)]
     fn repeat(&mut self, body: &[Stmt], condition: &Condition) -> Result<(), NoMemory>
-        ensures { OnOk result (Emits self.old self.new (1 + points_of_all body.now) (loop_code condition.now body.now)) }
+        ensures { OnOk result (Emits self.old self.new (loop_piece condition.now body.now)) }
     {
         let start = self.code.instructions.len();
         let test_end = self.open(condition)?;
@@ -201,7 +219,7 @@ impl<'a> Emitter<'a> {
     /// Statements.
     #[cycle(statement)]
     pub fn block(&mut self, statements: &[Stmt]) -> Result<(), NoMemory>
-        ensures { OnOk result (Emits self.old self.new (points_of_all statements.now) (statements_code statements.now)) }
+        ensures { OnOk result (Emits self.old self.new (sequence_piece statements.now)) }
     {
         for statement in statements {
             self.statement(&statement.action)?;
@@ -211,7 +229,7 @@ impl<'a> Emitter<'a> {
 
     /// The result, or the end.
     pub fn end(&mut self, returned: &Option<Return>) -> Result<(), NoMemory>
-        ensures { OnOk result (Writes self.old self.new (λ lists. end_code lists returned.now)) }
+        ensures { OnOk result (Ends self.old self.new returned.now) }
     {
         match returned {
             Some(returned) => self.evaluate(&returned.value, Instr::Return),

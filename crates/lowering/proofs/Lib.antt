@@ -1,5 +1,3 @@
-pub mod NeedViews
-pub mod Depths
 pub mod Most
 pub mod NothingTaken
 pub mod Listed

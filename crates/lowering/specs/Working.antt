@@ -4,4 +4,4 @@ pub mod Lowered
 pub mod Rooms
 pub mod Compiled
 pub mod PlanLaws
-pub mod NeedLists
+pub mod Listings

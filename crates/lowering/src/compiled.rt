@@ -9,7 +9,7 @@ ghost use Rattle.lockpaths.specs.Paths.{ArePaths};
 ghost use Rattle.locks.specs.Faults.{HasNoFault};
 ghost use Rattle.lowering.specs.Working.Compiled.{program_of, written_in};
 
-use crate::program_code::lower;
+use crate::program_code::{lists_before, lower};
 use crate::program_rooms::rooms;
 use code::section_code::ProgramCode;
 use core_lang::typed::Typed;
@@ -87,6 +87,8 @@ impl Model for Program {
 
 impl Program {
     ghost use Rattle.lowering.specs.Plans.{IsCompiled};
+    ghost use Rattle.code.specs.Lowering.{lists_at};
+    ghost use Rattle.code.specs.Working.NumberLists.{number_lists};
     ghost use Rattle.lowering.specs.Working.Lowered.{IsCodeOf};
     ghost use Rattle.lowering.specs.Working.Compiled.{IsRoomAt};
 
@@ -111,7 +113,7 @@ impl Program {
         let placed = place(alloc, program, &paths, &ranks)?;
         let layout = lay_out(alloc, program)?;
         let code = lower(alloc, program, &placed)?;
-        let rooms = rooms(alloc, program, &paths, &layout)?;
+        let rooms = rooms(alloc, program, &code, &paths, &layout)?;
         let Trees { accepted, written } = trees;
         Ok(Program {
             accepted,
@@ -173,6 +175,14 @@ impl Program {
         ensures { all_lists result.now ≡ self.now.lists }
     {
         &self.placed
+    }
+
+    /// The lists of lock paths before the points of the section of this number; none, where it has no such section.
+    #[inline]
+    pub fn lists_before(&self, section: usize) -> &[Vec<u8>]
+        ensures { number_lists result.now ≡ lists_at self.now.lists section }
+    {
+        lists_before(self.placed(), section)
     }
 
     /// Where its cells and its locks lie.

@@ -6,15 +6,15 @@ ghost use Rattle.code.specs.Lowering.{lists_at};
 ghost use Rattle.code.specs.Working.NumberLists.{number_lists};
 ghost use Rattle.lowering.specs.Working.Lowered.{IsCodeOf};
 
-use crate::section_code::code_of;
 use code::section_code::ProgramCode;
+use code_emission::code_of;
 use core_lang::typed::Typed;
 use inserter::placed::Placed;
 use source::memory::NoMemory;
 use std::alloc::Global;
 
-// The lists before the points of the section of this number; none, where there are none for it.
-fn lists_before(placed: &Placed, section: usize) -> &[Vec<u8>]
+/// The lists before the points of the section of this number; none, where there are none for it.
+pub fn lists_before(placed: &Placed, section: usize) -> &[Vec<u8>]
     ensures { number_lists result.now ≡ lists_at (all_lists placed.now) section }
 {
     match placed.sections.get(section) {

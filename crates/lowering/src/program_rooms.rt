@@ -5,9 +5,10 @@ ghost use Rattle.std.specs.List.{sum_by};
 ghost use Rattle.lockpaths.specs.Paths.{ArePaths};
 ghost use Rattle.locks.specs.declared.path.LockPath as written;
 ghost use Rattle.layout.specs.Layouts.{IsLayoutOf};
+ghost use Rattle.lowering.specs.Working.Lowered.{IsCode};
 ghost use Rattle.lowering.specs.Working.Rooms.{AreRoomsOf, most_cells};
 
-use crate::needs;
+use code::section_code::ProgramCode;
 use core_lang::typed::Typed;
 use layout::room::Room;
 use layout::table::Layout;
@@ -58,9 +59,11 @@ fn cells_under(paths: &[LockPath], most: &[u32]) -> usize
 pub fn rooms(
     alloc: Global,
     program: &Typed,
+    code: &ProgramCode,
     paths: &Paths,
     layout: &Layout,
 ) -> Result<Vec<Room>, NoMemory>
+    requires code { IsCode program.now code.now }
     requires paths { ArePaths program.now paths.now }
     requires layout { IsLayoutOf program.now layout.now }
     ensures { IfOk result (λ rooms. AreRoomsOf program.now layout.now rooms.items) }
@@ -73,7 +76,7 @@ pub fn rooms(
         rooms.push(Room {
             locks: found.len(),
             cells: cells_under(found, &most),
-            operands: needs::of_section(section)?,
+            operands: code.sections[k].operands,
             locals: section.locals.len(),
         })?;
     }

@@ -1,4 +1,3 @@
-pub mod Places
 pub mod Trace
 pub mod Working
 -- what the public clauses cite

@@ -5,6 +5,7 @@ use Rattle.std.specs.Fmt.{decimal}
 use Rattle.core_lang.specs.declared.tree.Section.{Section}
 use Rattle.core_lang.specs.Serial.{Invocation}
 use Rattle.code.specs.Listing.{line, text_at, instr_text}
+use Rattle.code.specs.LineTables.{place_text}
 use Rattle.code.specs.Lowering.{section_code, lists_at}
 use Rattle.lowering.specs.Plans.{Plan}
 use Rattle.worlds.specs.declared.event.Event.{Event}
@@ -15,7 +16,6 @@ use Rattle.interleavings.specs.declared.coming.Coming.TheVariants as coming
 use Rattle.interleavings.specs.Coming.{coming_to}
 use Rattle.report.specs.Pieces.{invocation_text, lock_text}
 use Rattle.report_simulation.specs.Simulation.{simulation_of}
-use Rattle.report_trace.specs.Places.{place_text}
 
 -- over a program's text and its plan
 module _ (text : List ℕ) (plan : Plan) where
@@ -24,11 +24,11 @@ module _ (text : List ℕ) (plan : Plan) where
   call_text None = []
   call_text (Some call) = invocation_text plan.program call.section call.arguments
 
-  -- LINE:COL TEXT of the instruction at a place of a section that has these lists, TEXT as in the listing
+  -- LINE:COL TEXT of the instruction at a place of a section that has these lists, as in the listing with places
   abbrev pub text_in : List (List ℕ) → ℕ → Section → List ℕ
   text_in lists place section =
-      place_text text lists section place
-      ++ text_at (instr_text plan.program section lists place) (section_code lists section) place
+      text_at (λ i. place_text text lists section place ++ instr_text plan.program section lists place i)
+      (section_code lists section) place
 
   -- at a place of the section of this number
   abbrev pub instruction_text : ℕ → ℕ → List ℕ

@@ -1,15 +1,14 @@
 //! The texts of single instructions, as the listing has them. The one error is a refused growth.
 
 ghost use Rattle.std.specs.Prelude.{◌≡◌, OnOk};
+ghost use Rattle.std.specs.List.Sorted.{IsNonDecreasing};
 ghost use Rattle.code.specs.Working.Listers.{program_of};
 ghost use Rattle.locks.specs.Texts.{AddsText};
 
-use code::Lister;
 use code::instr::Instr;
-use code::section_code::SectionCode;
-use core_lang::tree::Section;
+use code::places::SectionPlaces;
+use code::{Listed, Lister};
 use core_lang::typed::Typed;
-use locks::path::LockPath;
 use locks::text::push_path;
 use std::alloc::AllocError;
 
@@ -19,24 +18,22 @@ pub struct SectionTeller<'a> {
     /// The program.
     pub program: &'a Typed,
     /// A section of it.
-    pub section: &'a Section,
-    /// The section's code.
-    pub code: &'a SectionCode,
-    /// Its lock paths.
-    pub paths: &'a [LockPath],
+    pub listed: Listed<'a>,
+    /// Where the section's points stand in the program's text.
+    pub places: &'a SectionPlaces,
 }
 
 impl SectionTeller<'_> {
-    ghost use Rattle.report_trace.specs.Working.Instructions.{HasPaths, path_told, paths_told, acquired_told};
-    ghost use Rattle.report_trace.specs.Working.Instructions.{asked_told, instr_told, instr_at};
+    ghost use Rattle.report_trace.specs.Working.Instructions.{HasPaths, path_told, paths_told};
+    ghost use Rattle.report_trace.specs.Working.Instructions.{asked_told, instr_told, instr_at, begins_of};
 
     // A lock path, by its number.
     fn push_numbered(&self, out: &mut String, number: usize) -> Result<(), AllocError>
         requires { HasPaths self.now }
         ensures { OnOk result (AddsText (path_told self.now number) out.old out.new) }
     {
-        match self.paths.get(number) {
-            Some(path) => push_path(out, self.program, self.section, path),
+        match self.listed.paths.get(number) {
+            Some(path) => push_path(out, self.program, self.listed.section, path),
             None => Ok(()),
         }
     }
@@ -53,29 +50,15 @@ impl SectionTeller<'_> {
         Ok(())
     }
 
-    // The lock paths before a point.
-    fn push_acquired(&self, out: &mut String, point: usize) -> Result<(), AllocError>
-        requires { HasPaths self.now }
-        ensures { OnOk result (AddsText (acquired_told self.now point) out.old out.new) }
-    {
-        match self.code.lists.get(point) {
-            Some(list) => self.push_paths(out, list),
-            None => Ok(()),
-        }
-    }
-
     // The lock paths that an instruction asks for.
     fn push_asked(&self, out: &mut String, instr: Instr) -> Result<(), AllocError>
         requires { HasPaths self.now }
         ensures { OnOk result (AddsText (asked_told self.now instr) out.old out.new) }
     {
-        match instr {
-            Instr::Acquire(point) => self.push_acquired(out, point),
-            _ => Ok(()),
-        }
+        self.push_paths(out, self.listed.asked(instr))
     }
 
-    // An instruction, which stands at this place of the section.
+    // An instruction, which stands at this place of the section, behind its place in the text.
     fn push_instr(
         &self,
         lister: &Lister<'_>,
@@ -85,13 +68,15 @@ impl SectionTeller<'_> {
     ) -> Result<(), AllocError>
         requires paths { HasPaths self.now }
         requires names { program_of lister.now ≡ self.now.program.now }
+        requires rises { IsNonDecreasing (begins_of self.now) }
         ensures { OnOk result (AddsText (instr_told self.now place instr) out.old out.new) }
     {
+        self.places.push(out, self.listed.code, place)?;
         lister.push_instr(out, place, instr)?;
         self.push_asked(out, instr)
     }
 
-    /// The instruction at a place of the section, if there is one.
+    /// The instruction at a place of the section, behind its place in the text, if there is one.
     pub fn push_at(
         &self,
         lister: &Lister<'_>,
@@ -100,9 +85,10 @@ impl SectionTeller<'_> {
     ) -> Result<(), AllocError>
         requires paths { HasPaths self.now }
         requires names { program_of lister.now ≡ self.now.program.now }
+        requires rises { IsNonDecreasing (begins_of self.now) }
         ensures { OnOk result (AddsText (instr_at self.now place) out.old out.new) }
     {
-        match self.code.instructions.get(place) {
+        match self.listed.code.instructions.get(place) {
             Some(instr) => self.push_instr(lister, out, place, *instr),
             None => Ok(()),
         }

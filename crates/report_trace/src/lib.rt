@@ -2,12 +2,10 @@
 //!
 //! - [`Trace`]: what is traced.
 //!
-//! `specs/Trace.antt` defines the text byte for byte, and `specs/Places.antt` where an instruction stands in a program's
-//! text. `Told` only says what the code has done; nobody has to believe it.
+//! `specs/Trace.antt` defines the text byte for byte. `Told` only says what the code has done; nobody has to believe it.
 #![tactic(auto)]
 
 mod instructions;
-mod places;
 mod teller;
 mod trace;
 

@@ -12,8 +12,8 @@ ghost use Rattle.source_steps.specs.Turns.{steps_of};
 ghost use Rattle.report_trace.specs.Working.Told.{AreTables};
 
 use crate::instructions::SectionTeller;
-use crate::places::SectionPlaces;
-use code::Lister;
+use code::places::SectionPlaces;
+use code::{Listed, Lister};
 use interleavings::coming::Coming;
 use interleavings::world::World;
 use lowering::compiled::Program;
@@ -29,13 +29,10 @@ fn all_places(alloc: Global, text: &[u8], program: &Program) -> Result<Vec<Secti
     ensures { IfOk result (λ places. AreTables text.now program.now places.items) }
 {
     let typed = program.expanded();
-    let code = program.code();
     let mut cursor = Cursor::new(text);
     let mut places = Vec::with_capacity(alloc, typed.sections.len())?;
     for k in 0..typed.sections.len() {
-        let section = &typed.sections[k];
-        let made = &code.sections[k];
-        places.push(SectionPlaces::of(alloc, &mut cursor, section, &made.lists)?)?;
+        places.push(SectionPlaces::of(alloc, &mut cursor, &typed.sections[k])?)?;
     }
     Ok(places)
 }
@@ -104,15 +101,15 @@ impl<'a> Teller<'a> {
         let Some(found) = typed.sections.get(section) else {
             return Ok(());
         };
-        let places = &self.places[section];
-        places.push(out, place)?;
-        let made = &code.sections[section];
-        let listed = &paths.sections[section];
         let teller = SectionTeller {
             program: typed,
-            section: found,
-            code: made,
-            paths: &listed.paths,
+            listed: Listed {
+                section: found,
+                code: &code.sections[section],
+                lists: self.program.lists_before(section),
+                paths: &paths.sections[section].paths,
+            },
+            places: &self.places[section],
         };
         teller.push_at(&self.lister, out, place)
     }

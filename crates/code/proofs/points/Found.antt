@@ -20,7 +20,8 @@ use Rattle.code.specs.declared.instr.Instr.{Instr}
 use Rattle.code.specs.declared.instr.Instr.TheVariants.{Jump, Acquire, Return}
 use Rattle.code.specs.Lowering.{fields_code, path_code, expr_code, chain_code, test_code, all_code, any_code}
 use Rattle.code.specs.Lowering.{points_of, points_in, acquire_any, acquire_code, stmt_code, block_code, body_code}
-use Rattle.code.specs.Working.Spots.{Spot, spot, behind_test, Inside, InBlock, InAction, InBody, InSection}
+use Rattle.code.specs.LineTables.{behind_test}
+use Rattle.code.specs.Working.Spots.{Spot, spot, Inside, InBlock, InAction, InBody, InSection}
 use Rattle.code.specs.Working.PointLaws.{PointsHaveSpots, OnlySpotsAcquire}
 use Rattle.code.proofs.points.Numbers.{length_inner, length_block}
 use Rattle.code.proofs.points.Numbered.{EachAt, each_at_append, each_at_there}

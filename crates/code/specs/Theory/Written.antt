@@ -1,9 +1,16 @@
 -- The text of what stands at a place of a list, or nothing, behind what was written.
-use Rattle.std.proofs.Common.{◌≡◌, ◌++◌, ℕ, zero, suc, List, [], ◌∷◌, Some, None, map, refl}
+use Rattle.std.proofs.Common.{◌≡◌, ◌++◌, ℕ, zero, suc, List, [], ◌∷◌, Option, Some, None, map, refl}
+use Rattle.std.specs.Prelude.{slice_get, unwrap_or}
 use Rattle.std.specs.Borrow.{Bor}
 use Rattle.std.specs.Option.{option_map_or}
 use Rattle.std.specs.Slice.{IsItemAt}
-use Rattle.code.specs.Listing.{text_at}
+use Rattle.core_lang.specs.declared.tree.Section.{Section}
+use Rattle.core_lang.specs.declared.typed.Typed.{Typed}
+use Rattle.code.specs.declared.instr.Instr.{Instr}
+use Rattle.code.specs.declared.instr.Instr.TheVariants.{Acquire}
+use Rattle.code.specs.Listing.{text_at, paths_text}
+use Rattle.code.specs.Working.Asked.{asked}
+use Rattle.code.specs.Working.Naming.{asked_text}
 use Rattle.locks.specs.Theory.Written as written
 
 -- of a list that a slice lends
@@ -24,3 +31,16 @@ pub text_at-map : {A B : Type 0} (f : A → B) (text : B → List ℕ) (xs : Lis
 text_at-map f text [] k = refl
 text_at-map f text (x ∷ xs) zero = refl
 text_at-map f text (x ∷ xs) (suc k) = text_at-map f text xs k
+
+-- ---- the lock paths that an instruction asks for
+
+module _ (program : Typed) (section : Section) where
+  paths_there : (o : Option (List ℕ)) →
+      paths_text program section (unwrap_or o []) ≡ option_map_or (paths_text program section) o []
+  paths_there None = refl
+  paths_there (Some list) = refl
+
+  pub asked_paths : (lists : List (List ℕ)) (instr : Instr) →
+      paths_text program section (asked lists instr) ≡ asked_text program section lists instr
+  asked_paths lists (Acquire point) = paths_there (slice_get lists point)
+  asked_paths lists _ = refl

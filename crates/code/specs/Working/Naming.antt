@@ -65,9 +65,9 @@ AddsBare program place instr old new =
     ≡ string_bytes old ++ instr_text program section lists place instr
 
 -- the line of an instruction
-abbrev pub line_text : Typed → Section → List (List ℕ) → ℕ → Instr → List ℕ
-line_text program section lists place instr =
-    line (decimal place ++ codes " " ++ instr_text program section lists place instr)
+abbrev pub line_text : Typed → Section → List (List ℕ) → (ℕ → List ℕ) → ℕ → Instr → List ℕ
+line_text program section lists front place instr =
+    line (decimal place ++ codes " " ++ front place ++ instr_text program section lists place instr)
 
 -- the rope keeps the texts of the section's lock paths, as the group of this number
 abbrev pub HasPaths : Typed → Section → ℕ → RopeOf → Type 0

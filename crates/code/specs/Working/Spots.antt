@@ -1,12 +1,13 @@
 -- Where the code of each point of a section begins.
-use Rattle.std.specs.Prelude.{◌≡◌, ℕ, ◌+◌, List, [], ◌∷◌, ◌++◌, length, slice_get, Option, Some, None, ◌⊎◌, ⊤}
+use Rattle.std.specs.Prelude.{◌≡◌, ℕ, ◌+◌, List, [], ◌∷◌, length, slice_get, Option, Some, None, ◌⊎◌, ⊤}
 use Rattle.core_lang.specs.declared.tree.Stmt.{Stmt}
 use Rattle.core_lang.specs.declared.tree.Action.{Action, If', IfElse', While', Row_of-Stmt, end_of-Stmt, more_of-Stmt}
 use Rattle.core_lang.specs.declared.tree.Return.{Return as Result_of}
 use Rattle.core_lang.specs.declared.tree.Section.{Section}
 use Rattle.flow.specs.Points.{Point, statement, result}
 use Rattle.code.specs.declared.instr.Instr.{Instr}
-use Rattle.code.specs.Lowering.{test_code, points_of, points_in, acquire_code, stmt_code, block_code}
+use Rattle.code.specs.Lowering.{test_code, points_of, points_in, stmt_code, block_code}
+use Rattle.code.specs.LineTables.{behind_test}
 
 -- instructions stand in a code from a place on
 abbrev pub HasAt : List Instr → ℕ → List Instr → Type 0
@@ -24,19 +25,15 @@ spot number place point = record { number = number; place = place; point = point
 
 -- over the lists of lock paths that stand before the points
 module _ {P : Type 0} (lists : List (List P)) where
-  -- the place behind a condition and its jump; n is the condition's number
-  abbrev pub behind_test : List Instr → ℕ → ℕ → ℕ
-  behind_test test n place = place + length (acquire_code lists n ++ test) + 1
-
   -- x is a point of the blocks of a statement; the statement's first point has number n, and its code begins at place
   abbrev mutual
     pub Inside : Action → ℕ → ℕ → Spot → Type 0
-    Inside (If' c m block) n place x = InBlock block (n + 1) (behind_test (test_code c) n place) x
+    Inside (If' c m block) n place x = InBlock block (n + 1) (behind_test lists (test_code c) n place) x
     Inside (IfElse' c m block k otherwise) n place x =
-        InBlock block (n + 1) (behind_test (test_code c) n place) x
+        InBlock block (n + 1) (behind_test lists (test_code c) n place) x
         ⊎ InBlock otherwise (n + 1 + points_in block)
-        (behind_test (test_code c) n place + length (block_code lists block (n + 1)) + 1) x
-    Inside (While' c m body) n place x = InBlock body (n + 1) (behind_test (test_code c) n place) x
+        (behind_test lists (test_code c) n place + length (block_code lists block (n + 1)) + 1) x
+    Inside (While' c m body) n place x = InBlock body (n + 1) (behind_test lists (test_code c) n place) x
     Inside _ n place x = ⊥
 
     -- of a block

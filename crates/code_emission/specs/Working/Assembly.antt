@@ -1,11 +1,12 @@
 -- What the code has done with instructions under way. Nobody has to believe these.
-use Rattle.std.specs.Prelude.{◌≡◌, ℕ, ◌+◌, ◌-◌, ℤ, pos, List, [], ◌∷◌, ◌++◌, length, slice_set}
+use Rattle.std.specs.Prelude.{◌≡◌, ℕ, ◌+◌, ◌-◌, ℤ, pos, Bool, true, false, List, [], ◌∷◌, ◌++◌, length, slice_set}
 use Rattle.core_lang.specs.declared.tree.FieldStep.{FieldStep}
 use Rattle.core_lang.specs.declared.tree.FieldStep.TheVariants.{Final, Field}
 use Rattle.core_lang.specs.declared.tree.Condition.{Condition}
 use Rattle.code.specs.declared.instr.Instr.{Instr}
 use Rattle.code.specs.declared.instr.Instr.TheVariants.{PushNumber, LoadFinal, LoadField, Jump, JumpIfFalse, JumpIfTrue}
-use Rattle.code.specs.Lowering.{test_code}
+use Rattle.code.specs.declared.instr.Instr.TheVariants.{Acquire}
+use Rattle.code.specs.Lowering.{test_code, acquire_code}
 use Rattle.code_emission.specs.declared.assembler.Assembler.{Assembler}
 use Rattle.code_emission.specs.declared.assembler.Connective.{Connective}
 use Rattle.code_emission.specs.declared.assembler.Connective.TheVariants.{And, Or}
@@ -59,3 +60,8 @@ abbrev pub Lands : ℕ → Assembler → Assembler → Type 0
 Lands place old new =
     let code = old.instructions.items in
     new.instructions.items ≡ slice_set code place (JumpIfFalse (length code - place - 1))
+
+-- whether a lock path is listed before a point
+abbrev pub IsListed : List (List ℕ) → ℕ → Bool → Type 0
+IsListed lists point true = acquire_code lists point ≡ Acquire point ∷ []
+IsListed lists point false = acquire_code lists point ≡ []

@@ -38,7 +38,10 @@ loop-k-preserved c =
     let layout = c.args.layout.now in
     let here = c.index-section.result.now in
     let found = c.index.result.now in
-    let room : Room = record { locks = c.len-in-loop-k.result; cells = c.cells_under.result; operands = c.in_ok-of_section.field-0; locals = c.len-in-loop-k-2.result } in
+    let code = c.args.code.now in
+    let made = c.index-in-loop-k.result.now in
+    let is = c.requires.code.1 in
+    let room : Room = record { locks = c.len-in-loop-k.result; cells = c.cells_under.result; operands = made.operands; locals = c.len-in-loop-k-2.result } in
     let lt : c.loop-k.k < length program.sections.items = omega (arith, c.loop-k-test.true, c.len-k-end.ensures, program.sections.ok.0) in
     let are = known program c.args.paths.now c.loop-k.k here found c.requires.paths lt c.index-section.ensures c.index.ensures in
     let there : slice_get program.sections.items c.loop-k.k ≡ Some here =
@@ -50,7 +53,7 @@ loop-k-preserved c =
           c.cells_under.ensures
           ∙ cells_same layout c.deref-in-loop-k.result.now (λ class. ap (λ t. slice_index t class) c.deref-in-loop-k.ensures.value ∙ c.in_ok-most.ensures class) c.deref.result.now
           ∙ ap (sum_by (λ (path : LockPath). most_cells layout path.class)) (ap (map lock_path_of) c.deref.ensures.value ∙ listed);
-      operands = c.in_ok-of_section.ensures;
+      operands = (is.each c.loop-k.k here made there (slice_get_read code.sections.items (length program.sections.items) c.loop-k.k made (sym is.long) lt c.index-in-loop-k.ensures)).operands;
       locals = c.len-in-loop-k-2.ensures ∙ here.locals.ok.0;
     } in
     record {

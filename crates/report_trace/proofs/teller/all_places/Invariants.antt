@@ -1,9 +1,8 @@
 use Rattle.std.proofs.Common.{◌≡◌, ℕ, length, Some}
 use Rattle.std.specs.Prelude.{slice_get}
 use Rattle.core_lang.specs.declared.tree.Section.{Section}
-use Rattle.code.specs.Lowering.{lists_at}
-use Rattle.report_trace.specs.declared.places.SectionPlaces.{SectionPlaces}
-use Rattle.report_trace.specs.Working.Told.{ArePlacesOf}
+use Rattle.code.specs.declared.places.SectionPlaces.{SectionPlaces}
+use Rattle.code.specs.Working.Places.{PlacesOf}
 use Rattle.report_trace.proofs.teller.all_places.Given as goal
 
 abbrev pub invariant-loop-k : goal.invariant-loop-k
@@ -11,5 +10,5 @@ invariant-loop-k l = record {
   same : l.cursor.text.now ≡ l.text;
   long : length l.places.items ≡ l.k;
   each : (j : ℕ) (section : Section) (here : SectionPlaces) → slice_get l.typed.sections.items j ≡ Some section →
-      slice_get l.places.items j ≡ Some here → ArePlacesOf l.text section (lists_at l.program.lists j) here;
+      slice_get l.places.items j ≡ Some here → PlacesOf l.text section here;
 }

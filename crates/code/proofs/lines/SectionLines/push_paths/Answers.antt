@@ -11,7 +11,7 @@ use Rattle.code.proofs.lines.SectionLines.push_paths.Goals as goal
 pub loop-number-preserved : goal.loop-number-preserved
 loop-number-preserved c =
     let program = c.args.self.now.lister.now.program.now in
-    let section = c.args.self.now.section.now in
+    let section = c.args.self.now.listed.section.now in
     let paths = lock_paths program section in
     let group = c.args.self.now.group in
     let i = c.loop-number.number-index in

@@ -3,8 +3,7 @@ use Rattle.std.proofs.Common.{◌∙◌, List, refl, ap, subst, arith, length, l
 use Rattle.std.proofs.lemmas.Result.{on_ok_weaker}
 use Rattle.std.proofs.lemmas.List.{take_all}
 use Rattle.core_lang.specs.declared.tree.Stmt.{Stmt}
-use Rattle.code_emission.specs.Working.CodeLists.{points_of_all}
-use Rattle.code_emission.specs.Working.Emission.{Emits, statements_code}
+use Rattle.code_emission.specs.Working.Emission.{Emits, sequence_piece}
 use Rattle.code_emission.proofs.Steps.{block_turn}
 use Rattle.code_emission.proofs.Statements.{emits_as, open_within, open_grows, choice_emitted, loop_emitted}
 use Rattle.code_emission.proofs.Statements.{either_emitted, skip_within, if_is, if_else_is, while_is}
@@ -23,7 +22,7 @@ choose-land-requires t c =
 pub choose-returns : goal.choose-returns
 choose-returns t c =
     choice_emitted c.args.condition.now c.args.block.now c.args.self.now c.open.new.self c.block.new.self c.in_ok-test_end.test_end
-    c.in_ok-test_end.ensures c.in_ok-block.ensures _ refl refl c.land.ensures
+    c.in_ok-test_end.ensures c.in_ok-block.ensures _ (record { lists = refl; begins = refl; operands = refl }) c.land.ensures
 
 pub repeat-overflow_sub-passed : goal.repeat-overflow_sub-passed
 repeat-overflow_sub-passed t c =
@@ -41,7 +40,7 @@ pub repeat-returns : goal.repeat-returns
 repeat-returns t c =
     loop_emitted c.args.condition.now c.args.body.now c.args.self.now c.open.new.self c.block.new.self c.in_ok-test_end.test_end
     c.in_ok-test_end.ensures c.in_ok-block.ensures c.put.new.self _ c.len-start.result c.len.result (c.len-start.ensures ∙ c.args.self.now.code.instructions.ok.0)
-    (c.len.ensures ∙ c.block.new.self.code.instructions.ok.0) c.in_ok-put.ensures refl refl c.land.ensures
+    (c.len.ensures ∙ c.block.new.self.code.instructions.ok.0) c.in_ok-put.ensures (record { lists = refl; begins = refl; operands = refl }) c.land.ensures
 
 pub statement-skip-requires : goal.statement-skip-requires
 statement-skip-requires t c =
@@ -50,7 +49,7 @@ statement-skip-requires t c =
 
 pub statement-join-requires : goal.statement-join-requires
 statement-join-requires t c =
-    skip_within c.block.new.self c.skip.new.self c.block-in-IfElse.new.self c.in_ok-test_end-in-IfElse.test_end c.in_ok-block_end-in-IfElse.block_end _ _
+    skip_within c.block.new.self c.skip.new.self c.block-in-IfElse.new.self c.in_ok-test_end-in-IfElse.test_end c.in_ok-block_end-in-IfElse.block_end _
     c.in_ok-block_end-in-IfElse.ensures c.in_ok-block-in-IfElse-2.ensures
 
 pub statement-returns-in-If : goal.statement-returns-in-If
@@ -74,7 +73,7 @@ statement-returns-in-While t c =
 
 pub block-returns : goal.block-returns
 block-returns t c =
-    subst (λ (ss : List Stmt). Emits c.args.self.now c.loop-statement.self (points_of_all ss) (statements_code ss))
+    subst (λ (ss : List Stmt). Emits c.args.self.now c.loop-statement.self (sequence_piece ss))
     (take_all c.loop-statement.statement-index c.args.statements.now c.loop-statement-test.false) c.loop-statement.invariant
 
 pub statement-returns-in-SetField : goal.statement-returns-in-SetField

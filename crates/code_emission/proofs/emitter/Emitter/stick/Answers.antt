@@ -6,6 +6,7 @@ use Rattle.code_emission.proofs.emitter.Emitter.stick.Goals as goal
 pub returns : goal.returns
 returns c =
     let b = c.acquire.new.self in
-    then_adds c.args.self.now b c.in_ok-acquire.ensures c.put-2.new.self (PushNull ∷ (PrintTop ∷ []))
+    then_adds c.args.self.now b c.in_ok-acquire.ensures c.put-2.new.self (PushNull ∷ (PrintTop ∷ [])) 1 c.max-self.result
     (two_added b.code.instructions.items c.put.new.self.instructions.items c.put-2.new.self.instructions.items (PushNull ∷ []) (PrintTop ∷ [])
     c.in_ok-put.ensures c.in_ok-put-2.ensures)
+    c.max-self.ensures

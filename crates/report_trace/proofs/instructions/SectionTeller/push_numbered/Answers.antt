@@ -11,8 +11,8 @@ pub returns-in-Some : goal.returns-in-Some
 returns-in-Some c =
     let x = c.args.self.now in
     let old = string_bytes c.args.out.now in
-    let text = path_text x.program.now x.section.now in
-    let mapped = text_at-map lock_path_of text x.paths.now c.args.number in
+    let text = path_text x.program.now x.listed.section.now in
+    let mapped = text_at-map lock_path_of text x.listed.paths.now c.args.number in
     on_ok_weaker c.push_path.result
     (λ e. found_added (λ (p : written.LockPath). text (lock_path_of p)) _ _ _ old refl c.in-Some.path _ _
     c.in-Some.ensures.lookup refl e
@@ -23,7 +23,7 @@ pub returns-in-None : goal.returns-in-None
 returns-in-None c =
     let x = c.args.self.now in
     let old = string_bytes c.args.out.now in
-    let text = path_text x.program.now x.section.now in
-    let mapped = text_at-map lock_path_of text x.paths.now c.args.number in
+    let text = path_text x.program.now x.listed.section.now in
+    let mapped = text_at-map lock_path_of text x.listed.paths.now c.args.number in
     none_added (λ (p : written.LockPath). text (lock_path_of p)) _ _ _ old refl c.in-None.ensures.lookup
     ∙ ap (λ t. old ++ t) (sym mapped ∙ ap (λ paths. text_at text paths c.args.number) c.requires)

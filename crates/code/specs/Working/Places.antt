@@ -1,0 +1,23 @@
+-- Where the instructions of a section stand in the text, of values of the code.
+use Rattle.std.specs.Prelude.{◌≡◌, ℕ, List, [], ◌++◌, map, slice_get, option_and_then, codes}
+use Rattle.std.specs.Option.{option_map_or}
+use Rattle.source.specs.Faults.{line_of, column_of}
+use Rattle.core_lang.specs.declared.tree.Section.{Section}
+use Rattle.flow.specs.Points.{Point, points, start_of}
+use Rattle.code.specs.declared.places.Position.{Position}
+use Rattle.code.specs.declared.places.SectionPlaces.{SectionPlaces}
+use Rattle.code.specs.LineTables.{position_text, point_at}
+
+-- where a point's statement starts in a text
+abbrev pub position_in : List ℕ → Point → Position
+position_in text point = record { line = line_of text (start_of point); column = column_of text (start_of point) }
+
+-- these are the places of a section of a program with this text
+abbrev pub PlacesOf : List ℕ → Section → SectionPlaces → Type 0
+PlacesOf text section places = places.positions.items ≡ map (position_in text) (points section)
+
+-- what they say of the instruction at a place, where points begin at these
+abbrev pub table_text : SectionPlaces → List ℕ → ℕ → List ℕ
+table_text places begins place =
+    option_map_or (λ (p : Position). position_text p.line p.column ++ codes " ")
+    (option_and_then (λ point. slice_get places.positions.items point) (point_at begins place)) []
