@@ -73,15 +73,3 @@ pub record Serves {O E : Type 0} (Answers : List ℕ → List (List ℕ) → Sta
       Tells told old.err new.err cannot_write
   -- where memory runs out nothing is written
   pub memory : status ≡ OutOfMemory → (new.out ≡ old.out) × Tells told old.err new.err no_memory
-
--- ---- where a file can't be opened
-
--- a file was not read: reading it failed, or memory ran out; and that is told
-pub data IsUnread (file : List ℕ) (failed : Bool) (Told : List ℕ → Type 0) (status : Status) : Type 0 where
-  of_reader : status ≡ Failed → failed ≡ true → Told (cannot_read file) → IsUnread file failed Told status
-  of_memory : status ≡ OutOfMemory → failed ≡ false → Told no_memory → IsUnread file failed Told status
-
--- the other file can't be opened: that is told, where the program's file was read
-pub data IsMissed (file other : List ℕ) (failed : Bool) (Told : List ℕ → Type 0) (status : Status) : Type 0 where
-  of_program : IsUnread file failed Told status → IsMissed file other failed Told status
-  of_other : status ≡ Failed → failed ≡ false → Told (cannot_read other) → IsMissed file other failed Told status

@@ -3,8 +3,7 @@
 ghost use Rattle.std.specs.Prelude.{◌≡◌, ◌<◌, ◌+◌, ◌⊎◌, ◌^◌, false, take, length, IfOk, IfErr, OnOk, IfSome};
 ghost use Rattle.std.specs.Io.KnownBytes.{IsAtEnd};
 ghost use Rattle.driver.specs.Messages.{cannot_read, cannot_write, no_memory};
-ghost use Rattle.driver.specs.Engines.{IsUnread};
-ghost use Rattle.driver.specs.Working.Serving.{GoesOut, IsGiven};
+ghost use Rattle.driver.specs.Working.Serving.{GoesOut, IsGiven, IsUnread};
 ghost use Rattle.driver.specs.Streams.{name_of, reader_of, reading_failed, writing_failed, Tells};
 
 use crate::answer::Answer;

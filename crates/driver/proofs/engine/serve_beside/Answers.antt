@@ -2,19 +2,19 @@ use Rattle.std.proofs.Common.{sym, subst, ◌∙◌, ◌≡◌, ◌+◌, ◌<◌
 use Rattle.std.specs.Prelude.{IfSome}
 use Rattle.std.proofs.lemmas.Result.{IfOk-weaker}
 use Rattle.source.specs.Texts.{SOURCE_LIMIT}
-use Rattle.driver.specs.Working.Answering.{PairWanted}
-use Rattle.driver.specs.Answers.{Beside, TextAnswers}
+use Rattle.driver.specs.Answers.{OfTwo}
+use Rattle.driver.specs.Requests.{BesideAnswers, IsReportBeside}
 use Rattle.driver.specs.Engines.{reading_of, IsReadOut}
 use Rattle.driver.specs.Streams.{name_of, reader_of}
-use Rattle.driver.proofs.AnswerLemmas.{pair_is_answered}
+use Rattle.driver.proofs.AnswerLemmas.{beside_is_answered}
 use Rattle.driver.proofs.LongTexts.{answers_of_whole, read_or_long, whole_text, read_out}
 use Rattle.driver.proofs.ServingLemmas.{program_unread, other_unread, given_served, IsRight, All_one}
-use Rattle.driver.proofs.engine.serve_pair.Goals as goal
+use Rattle.driver.proofs.engine.serve_beside.Goals as goal
 
 pub returns-in-Err : goal.returns-in-Err
 returns-in-Err g c =
     program_unread
-    (Beside (λ text items. TextAnswers (PairWanted c.args.request text (name_of c.args.other.now) items) (name_of c.args.source.now) text))
+    (OfTwo (BesideAnswers c.args.request (name_of c.args.source.now) (name_of c.args.other.now)))
     (reading_of g.S.Read.remaining c.args.source.now c.read.new.source)
     (reading_of g.T.Read.remaining c.args.other.now c.args.other.now ∷ []) g.O.Write.contents g.E.Write.contents c.args.streams.now
     c.read.new.self c.in-Err.status c.requires.writable c.in-Err.ensures.out (rw c.requires.other_readable refl) c.in-Err.ensures.unread
@@ -22,7 +22,7 @@ returns-in-Err g c =
 pub returns-in-Err-read : goal.returns-in-Err-read
 returns-in-Err-read g c =
     other_unread
-    (Beside (λ text items. TextAnswers (PairWanted c.args.request text (name_of c.args.other.now) items) (name_of c.args.source.now) text))
+    (OfTwo (BesideAnswers c.args.request (name_of c.args.source.now) (name_of c.args.other.now)))
     (reading_of g.S.Read.remaining c.args.source.now c.read.new.source)
     (reading_of g.T.Read.remaining c.args.other.now c.read-2.new.source) g.O.Write.contents g.E.Write.contents c.args.streams.now
     c.read-2.new.self c.in-Err-read.status c.in-Ok.ensures.ok c.requires.writable
@@ -42,23 +42,23 @@ returns g c =
     let other_ended = rw (← c.deref-2.ensures.value) at c.in-Ok-read.ensures.end in
     let other_whole = whole_text items (all + 1) other_had (omega (arith, few)) other_bytes in
     let other_is = c.name-2.ensures ∙ c.read-2.ensures.name in
-    let whole = IfOk-weaker c.pair_answer_to-answer.result _
+    let whole = IfOk-weaker c.beside_answer-answer.result _
     (IsRight
-    (Beside (λ text items. TextAnswers (PairWanted c.args.request text (name_of c.args.other.now) items) (name_of c.args.source.now) text))
+    (OfTwo (BesideAnswers c.args.request (name_of c.args.source.now) (name_of c.args.other.now)))
     (reading_of g.S.Read.remaining c.args.source.now c.read.new.source)
     (reading_of g.T.Read.remaining c.args.other.now c.read-2.new.source ∷ []))
     (λ answer is.
-    let right = answers_of_whole (λ text. PairWanted c.args.request text (name_of c.args.other.now) items) (name_of c.args.source.now)
+    let right = answers_of_whole (λ text. IsReportBeside c.args.request text (name_of c.args.other.now) items) (name_of c.args.source.now)
     c.deref.result.now had _ _ _ bytes (rw (name_is, other_is) at is) in
     record {
       text = right.0;
       texts = items ∷ [];
       gave = (right.1, (other_whole, tt));
       answers = right.2;
-      answered = pair_is_answered _ _ _ _ _ _ _ _ _ is;
+      answered = beside_is_answered c.args.request _ _ _ _ _ _ _ is;
     })
-    c.pair_answer_to-answer.ensures in
-    given_served _ _ _ _ _ c.args.streams.now c.give.new.self c.give.result c.pair_answer_to-answer.result
+    c.beside_answer-answer.ensures in
+    given_served _ _ _ _ _ c.args.streams.now c.give.new.self c.give.result c.beside_answer-answer.result
     (rw (c.in-Ok.ensures.ok, c.in-Ok-read.ensures.ok) refl) c.requires.writable
     (read_or_long c.deref.result.now had _ bytes ended, All_one IsReadOut (read_out items all _ (omega (arith, few)) other_ended)) whole
     (rw (c.in-Ok-read.ensures.quiet, c.in-Ok.ensures.quiet) at c.give.ensures)
