@@ -24,32 +24,15 @@ use std::sync::Wait;
 use std::thread::Threads;
 use std::{env, fs, io};
 
-/// A file that a line names: open, or one that can't be opened, which can't be read either.
-#[derive(Drop)]
-enum Input {
-    Open(File),
-    Missing,
-}
-
-impl Read for Input {
-    fn read(&mut self, buf: &mut [u8]) -> io::Result<usize> {
-        match self {
-            Input::Open(file) => file.read(buf),
-            Input::Missing => Err(io::Error::from(io::ErrorKind::NotFound)),
-        }
-    }
-}
-
-/// The file of this name.
-fn source_text<'a>(rt: &HostRuntime, file: &'a str) -> SourceText<'a, Input>
+/// The file of this name, which can be read where it can be opened.
+fn source_text<'a>(rt: &HostRuntime, file: &'a str) -> SourceText<'a, File>
     ensures name { name_of result ≡ file.entry.now }
     ensures readable { reading_failed result ≡ false }
 {
-    let input = match fs::open(rt, file) {
-        Ok(opened) => Input::Open(opened),
-        Err(_) => Input::Missing,
-    };
-    SourceText::new(file, input)
+    match fs::open(rt, file) {
+        Ok(opened) => SourceText::new(file, opened),
+        Err(_) => SourceText::missing(file),
+    }
 }
 
 /// Opens the files of a line, and answers what it asks for, with threads from `threads`.

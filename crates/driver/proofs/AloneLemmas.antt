@@ -1,5 +1,5 @@
 -- An engine that reads a program's file alone, and gave what it answers to the beginning of its text, has served its request.
-use Rattle.std.proofs.Common.{◌≡◌, ◌<◌, ◌+◌, ◌⊎◌, Bool, false, ℕ, List, [], length, take, Option, Result, IfOk, arith, refl}
+use Rattle.std.proofs.Common.{◌≡◌, ◌<◌, ◌+◌, ◌⊎◌, true, false, ℕ, List, [], length, take, Option, Result, IfOk, arith, refl}
 use Rattle.std.proofs.lemmas.Result.{IfOk-weaker}
 use Rattle.std.specs.Prelude.{IfSome}
 use Rattle.std.specs.Io.KnownBytes.{IsAtEnd}
@@ -29,12 +29,12 @@ pub alone_served : {O E : Type 0} (request : Alone) (program : Reading) (content
     (old new : Streams O E) (status : Status) (t : List ℕ) (result : Result Answer NoMemory) →
     IsAnswerOfWhole request program t →
     IfSome program.had (λ bytes. t ≡ take (SOURCE_LIMIT + 1) bytes) → IsAtEnd program.left ⊎ (SOURCE_LIMIT < length t) →
-    program.failed ≡ false → writing_failed old.out ≡ false →
+    program.opened ≡ true → program.failed ≡ false → writing_failed old.out ≡ false →
     IfOk result (Meets (AloneAnswers request program.name t)) → IsGiven contents told result old new status →
     Serves (OfOne (AloneAnswers request program.name)) program [] contents told old new status
-alone_served request program contents told old new status t result whole bytes ended read writable answers given =
+alone_served request program contents told old new status t result whole bytes ended opened read writable answers given =
     given_served (OfOne (AloneAnswers request program.name)) program [] contents told old new status result (rw read refl) writable
-    (read_or_long t program.had program.left bytes ended, λ k d within. absurd (omega arith))
+    ((opened, read_or_long t program.had program.left bytes ended), λ k d within. absurd (omega arith))
     (IfOk-weaker result _ (IsRight (OfOne (AloneAnswers request program.name)) program [])
     (λ answer is.
     let right = whole _ _ _ is in

@@ -5,7 +5,7 @@ use Rattle.source.specs.Texts.{SOURCE_LIMIT}
 use Rattle.driver.specs.Answers.{OfTwo}
 use Rattle.driver.specs.Requests.{BesideAnswers, IsReportBeside}
 use Rattle.driver.specs.Engines.{reading_of, IsReadOut}
-use Rattle.driver.specs.Streams.{name_of, reader_of}
+use Rattle.driver.specs.Streams.{name_of, left_in}
 use Rattle.driver.proofs.AnswerLemmas.{beside_is_answered}
 use Rattle.driver.proofs.LongTexts.{answers_of_whole, read_or_long, whole_text, read_out}
 use Rattle.driver.proofs.ServingLemmas.{program_unread, other_unread, given_served, IsRight, All_one}
@@ -30,11 +30,11 @@ returns-in-Err-read g c =
 
 pub returns : goal.returns
 returns g c =
-    let had = g.S.Read.remaining (reader_of c.args.source.now) in
+    let had = left_in g.S.Read.remaining c.args.source.now in
     let bytes = subst (λ (t : List ℕ). IfSome had (λ all. t ≡ take (SOURCE_LIMIT + 1) all)) (sym c.deref.ensures.value) c.in-Ok.ensures.bytes in
     let ended = rw (← c.deref.ensures.value) at c.in-Ok.ensures.end in
     let name_is = c.name.ensures ∙ c.read.ensures.name in
-    let other_had = g.T.Read.remaining (reader_of c.args.other.now) in
+    let other_had = left_in g.T.Read.remaining c.args.other.now in
     let all : ℕ = 18446744073709551614 in
     let items = c.deref-2.result.now in
     let few : length items < 2 ^ 63 = rw c.deref-2.ensures.value (omega (arith, c.in-Ok-read.items.small, c.in-Ok-read.items.ok.0)) in
@@ -59,6 +59,8 @@ returns g c =
     })
     c.beside_answer-answer.ensures in
     given_served _ _ _ _ _ c.args.streams.now c.give.new.self c.give.result c.beside_answer-answer.result
-    (rw (c.in-Ok.ensures.ok, c.in-Ok-read.ensures.ok) refl) c.requires.writable
-    (read_or_long c.deref.result.now had _ bytes ended, All_one IsReadOut (read_out items all _ (omega (arith, few)) other_ended)) whole
+    (rw (c.in-Ok.ensures.ok, c.in-Ok-read.ensures.ok) refl) c.requires.writable (
+      (c.in-Ok.ensures.opened, read_or_long c.deref.result.now had _ bytes ended),
+      All_one IsReadOut (c.in-Ok-read.ensures.opened, read_out items all _ (omega (arith, few)) other_ended),
+    ) whole
     (rw (c.in-Ok-read.ensures.quiet, c.in-Ok.ensures.quiet) at c.give.ensures)

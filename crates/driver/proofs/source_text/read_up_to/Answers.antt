@@ -1,7 +1,7 @@
 use Rattle.std.proofs.Common.{inl, inr, arith}
 use Rattle.driver.proofs.ReadingLemmas.{ended}
-use Rattle.driver.proofs.source_text.SourceText.read_up_to.Goals as goal
-use Rattle.driver.proofs.source_text.SourceText.read_up_to.Goals.{then-limit-eq0+else-len-most, else-limit-eq0}
+use Rattle.driver.proofs.source_text.read_up_to.Goals as goal
+use Rattle.driver.proofs.source_text.read_up_to.Goals.{then-limit-eq0+else-len-most, else-limit-eq0}
 
 pub returns-in-Ok-2-clause-end : goal.returns-in-Ok-2-clause-end
 returns-in-Ok-2-clause-end g c =
