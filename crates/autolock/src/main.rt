@@ -7,119 +7,35 @@
 //! it had left; `--help` and `--version` exit with 0.
 #![tactic(auto)]
 
-ghost use Rattle.std.specs.Prelude.{◌≡◌, ◌≢◌, ◌⊎◌, [], ◌∷◌, false, None, IfOk, IfSome, map, string_bytes};
-ghost use Rattle.autolock.specs.Asked.{file_of, other_of, files_of, NamesOneOf, IsOverOne, IsOverTwo, IsAsked, LineAnswers, PairAnswers};
+ghost use Rattle.std.specs.Prelude.{◌≡◌, ◌≢◌, ◌⊎◌, false, IfOk, map, string_bytes};
+ghost use Rattle.autolock.specs.Asked.{files_of, NamesOneOf, IsAsked};
 ghost use Rattle.clap.specs.Values.{kind_of};
-ghost use Rattle.driver.specs.{Alone, Beside, Serves, Tells, IsMissed, cannot_read, cannot_write, no_memory, name_of, reading_failed, reading_of, writing_failed};
+ghost use Rattle.driver.specs.{Tells, cannot_write, no_memory, name_of, reading_failed, writing_failed};
 
 use clap::Error;
 use clap::error::ErrorKind;
-use driver::{
-    Judging, Looking, Sink, SourceText, Status, Streams, check, explain, find_outcomes, listing,
-    miss_other, order_graph, replay, run, serial, simulate, trace,
-};
-use driver_words::{Line, words};
+use driver::{Sink, SourceText, Status, Streams, serve, serve_beside};
+use driver_words::{Line, Request, words};
 use std::alloc::{AllocError, Global};
+use std::fs::File;
 use std::io::{Read, Write};
 use std::process::ExitCode;
 use std::sync::Wait;
 use std::thread::Threads;
 use std::{env, fs, io};
 
-/// The name of the file whose program is asked for.
-fn file_name<'a>(line: Line<'a>) -> &'a str
-    ensures { result.now ≡ file_of line.entry }
+/// The file of this name, which can be read where it can be opened.
+fn source_text<'a>(rt: &HostRuntime, file: &'a str) -> SourceText<'a, File>
+    ensures name { name_of result ≡ file.entry.now }
+    ensures readable { reading_failed result ≡ false }
 {
-    match line {
-        Line::Check { file } => file,
-        Line::Explain { file, .. } => file,
-        Line::Order { file } => file,
-        Line::Listing { file } => file,
-        Line::Serial { file, .. } => file,
-        Line::Outcomes { file, .. } => file,
-        Line::Simulate { file, .. } => file,
-        Line::Trace { file, .. } => file,
-        Line::Run { file } => file,
-        Line::Replay { file, .. } => file,
+    match fs::open(rt, file) {
+        Ok(opened) => SourceText::new(file, opened),
+        Err(_) => SourceText::missing(file),
     }
 }
 
-/// The name of the other file that a line names, if it names one.
-fn other_name<'a>(line: Line<'a>) -> Option<&'a str>
-    ensures some { IfSome result (λ name. (name.now ≡ other_of line.entry) × IsOverTwo line.entry) }
-    ensures none { result ≡ None → IsOverOne line.entry }
-{
-    match line {
-        Line::Simulate { steps, .. } => Some(steps),
-        Line::Trace { steps, .. } => Some(steps),
-        Line::Replay { history, .. } => Some(history),
-        _ => None,
-    }
-}
-
-/// Runs the engine of a line's command over its one file, which is open.
-fn run_opened<R: Threads + Wait + Sync, S: Read, O: Write, E: Write>(
-    threads: &R,
-    alloc: Global,
-    line: Line<'_>,
-    source: &mut SourceText<'_, S>,
-    streams: &mut Streams<O, E>,
-) -> Status
-    requires one { IsOverOne line }
-    requires readable { reading_failed source.old ≡ false }
-    requires writable { writing_failed streams.old.out ≡ false }
-    ensures { Serves (Alone (LineAnswers line.entry (name_of source.old))) (reading_of S.remaining source.old source.new) []
-        O.contents E.contents streams.old streams.new result }
-{
-    match line {
-        Line::Check { .. } => check(alloc, source, streams),
-        Line::Explain { json, .. } => explain(alloc, json, source, streams),
-        Line::Order { .. } => order_graph(alloc, source, streams),
-        Line::Listing { .. } => listing(alloc, source, streams),
-        Line::Serial { turns, .. } => serial(alloc, turns, source, streams),
-        Line::Outcomes {
-            turns,
-            count,
-            seed,
-            ..
-        } => {
-            let looking = Looking { turns, count, seed };
-            find_outcomes(alloc, looking, source, streams)
-        }
-        Line::Run { .. } => run(threads, alloc, source, streams),
-        Line::Simulate { .. } => unreachable!(),
-        Line::Trace { .. } => unreachable!(),
-        Line::Replay { .. } => unreachable!(),
-    }
-}
-
-/// Runs the engine of a line's command over its two files, which are open.
-fn run_both_opened<S: Read, T: Read, O: Write, E: Write>(
-    alloc: Global,
-    line: Line<'_>,
-    source: &mut SourceText<'_, S>,
-    other: &mut SourceText<'_, T>,
-    streams: &mut Streams<O, E>,
-) -> Status
-    requires two { IsOverTwo line }
-    requires readable { reading_failed source.old ≡ false }
-    requires other_readable { reading_failed other.old ≡ false }
-    requires writable { writing_failed streams.old.out ≡ false }
-    ensures { Serves (Beside (PairAnswers line.entry (name_of source.old) (name_of other.old)))
-        (reading_of S.remaining source.old source.new) (reading_of T.remaining other.old other.new ∷ [])
-        O.contents E.contents streams.old streams.new result }
-{
-    match line {
-        Line::Simulate { .. } => simulate(alloc, source, other, streams),
-        Line::Trace { sections, .. } => trace(alloc, !sections, source, other, streams),
-        Line::Replay { turns, why, .. } => {
-            replay(alloc, Judging { turns, why }, source, other, streams)
-        }
-        _ => unreachable!(),
-    }
-}
-
-/// Opens the files of a line, and runs its engine, with threads from `threads`.
+/// Opens the files of a line, and answers what it asks for, with threads from `threads`.
 fn run_line<R: Threads + Wait + Sync, O: Write, E: Write>(
     rt: &HostRuntime,
     threads: &R,
@@ -132,20 +48,14 @@ fn run_line<R: Threads + Wait + Sync, O: Write, E: Write>(
         ⊎ Tells E.contents streams.old.err streams.new.err cannot_write }
     ensures memory { result ≡ Status.OutOfMemory → Tells E.contents streams.old.err streams.new.err no_memory }
 {
-    let file = file_name(line);
-    let Ok(opened) = fs::open(rt, file) else {
-        streams.tell_cannot_read(file);
-        return Status::Failed;
-    };
-    let mut source = SourceText::new(file, opened);
-    let Some(other_file) = other_name(line) else {
-        return run_opened(threads, rt.alloc(), line, &mut source, streams);
-    };
-    let Ok(opened) = fs::open(rt, other_file) else {
-        return miss_other(rt.alloc(), &mut source, other_file, streams);
-    };
-    let mut other = SourceText::new(other_file, opened);
-    run_both_opened(rt.alloc(), line, &mut source, &mut other, streams)
+    let mut source = source_text(rt, line.file);
+    match line.request {
+        Request::Alone(request) => serve(threads, rt.alloc(), request, &mut source, streams),
+        Request::Beside(request, other_file) => {
+            let mut other = source_text(rt, other_file);
+            serve_beside(rt.alloc(), request, &mut source, &mut other, streams)
+        }
+    }
 }
 
 /// Prints what `clap` says of the words: help and the version on standard output, anything else on standard error.

@@ -9,3 +9,4 @@ pub mod LongTexts
 pub mod LongExplanations
 pub mod ServingLemmas
 pub mod AnswerLemmas
+pub mod AloneLemmas

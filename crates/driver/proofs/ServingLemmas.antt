@@ -8,10 +8,9 @@ use Rattle.driver.specs.declared.streams.Streams.{Streams}
 use Rattle.driver.specs.declared.status.Status.{Status}
 use Rattle.driver.specs.declared.status.Status.TheVariants.{Done, Refused, BadWords, Failed, OutOfMemory, Differs}
 use Rattle.driver.specs.declared.status.Status.TheVariants.{BadInput, Unsettled, Strange}
-use Rattle.driver.specs.Engines.{Serves, Reading, Gave, first_unread, IsReadOut, IsReadOrLong, IsUnread, of_reader}
-use Rattle.driver.specs.Engines.{of_memory}
+use Rattle.driver.specs.Engines.{Serves, Reading, Gave, first_unread, IsReadOut, IsReadOrLong}
 use Rattle.driver.specs.Messages.{cannot_read, no_memory}
-use Rattle.driver.specs.Working.Serving.{IsOut, GoesOut, IsGiven}
+use Rattle.driver.specs.Working.Serving.{IsOut, GoesOut, IsGiven, IsUnread, of_reader, of_memory}
 use Rattle.source.specs.declared.memory.NoMemory.{NoMemory}
 use Rattle.driver.specs.Streams.{writing_failed, Tells}
 

@@ -24,11 +24,11 @@ pub data TextAnswers (Wanted : Plan → Status → List ℕ → List ℕ → Typ
   refused : IsRefused file text status out err → TextAnswers Wanted file text status out err
 
 -- of an engine that reads no other file, and of one that reads one
-abbrev pub Alone : (List ℕ → Status → List ℕ → List ℕ → Type 0) →
+abbrev pub OfOne : (List ℕ → Status → List ℕ → List ℕ → Type 0) →
     List ℕ → List (List ℕ) → Status → List ℕ → List ℕ → Type 0
-Alone Answers text texts = Answers text
+OfOne Answers text texts = Answers text
 
-abbrev pub Beside : (List ℕ → List ℕ → Status → List ℕ → List ℕ → Type 0) →
+abbrev pub OfTwo : (List ℕ → List ℕ → Status → List ℕ → List ℕ → Type 0) →
     List ℕ → List (List ℕ) → Status → List ℕ → List ℕ → Type 0
-Beside Answers text [] status out err = ⊥
-Beside Answers text (other ∷ texts) status out err = Answers text other status out err
+OfTwo Answers text [] status out err = ⊥
+OfTwo Answers text (other ∷ texts) status out err = Answers text other status out err

@@ -2,6 +2,7 @@
 use Rattle.std.specs.Prelude.{◌≡◌, ◌≢◌, ◌⊎◌, ◌||◌, ◌↔◌, ◌<◌, ℕ, Bool, true, false, List, [], ◌∷◌, length, Option}
 use Rattle.std.specs.Prelude.{Some, None, IfSome, ⊤, if◌then◌else◌}
 use Rattle.std.specs.List.{All}
+use Rattle.std.specs.Option.{is_some}
 use Rattle.std.specs.Io.KnownBytes.{IsAtEnd}
 use Rattle.source.specs.Texts.{SOURCE_LIMIT}
 use Rattle.driver.specs.declared.source_text.SourceText.{SourceText}
@@ -9,12 +10,13 @@ use Rattle.driver.specs.declared.streams.Streams.{Streams}
 use Rattle.driver.specs.declared.status.Status.{Status}
 use Rattle.driver.specs.declared.status.Status.TheVariants.{BadWords, Failed, OutOfMemory}
 use Rattle.driver.specs.Messages.{cannot_read, cannot_write, no_memory}
-use Rattle.driver.specs.Streams.{name_of, reader_of, reading_failed, writing_failed, Writes, Tells}
+use Rattle.driver.specs.Streams.{name_of, reader_of, left_in, reading_failed, writing_failed, Writes, Tells}
 
--- what became of a file: its name, what its reader had to give before and has after, where it tells that, and whether
--- reading it failed
+-- what became of a file: its name, whether it could be opened, what its reader had to give before and has after, where it
+-- tells that, and whether reading it failed
 pub record Reading : Type 0 where
   pub name : List ℕ
+  pub opened : Bool
   pub had : Option (List ℕ)
   pub left : Option (List ℕ)
   pub failed : Bool
@@ -22,8 +24,9 @@ pub record Reading : Type 0 where
 abbrev pub reading_of : {R : Type 0} → (R → Option (List ℕ)) → SourceText R → SourceText R → Reading
 reading_of remaining old new = record {
   name = name_of old;
-  had = remaining (reader_of old);
-  left = remaining (reader_of new);
+  opened = is_some (reader_of old);
+  had = left_in remaining old;
+  left = left_in remaining new;
   failed = reading_failed new;
 }
 
@@ -39,17 +42,13 @@ abbrev pub first_unread : List Reading → Option Reading
 first_unread [] = None
 first_unread (file ∷ files) = if file.failed then Some file else first_unread files
 
-abbrev pub is_there : Option Reading → Bool
-is_there None = false
-is_there (Some file) = true
-
--- a file was read to its end
+-- a file was opened, and read to its end
 abbrev pub IsReadOut : Reading → Type 0
-IsReadOut file = IsAtEnd file.left
+IsReadOut file = (file.opened ≡ true) × IsAtEnd file.left
 
 -- a program's file was, unless it is longer than a program may be
 abbrev pub IsReadOrLong : Reading → Type 0
-IsReadOrLong file = IsReadOut file ⊎ IfSome file.had (λ bytes. SOURCE_LIMIT < length bytes)
+IsReadOrLong file = (file.opened ≡ true) × (IsAtEnd file.left ⊎ IfSome file.had (λ bytes. SOURCE_LIMIT < length bytes))
 
 -- an engine ended like this, which answers the program's text and the texts of its other files as `Answers` says
 pub record Serves {O E : Type 0} (Answers : List ℕ → List (List ℕ) → Status → List ℕ → List ℕ → Type 0)
@@ -65,7 +64,7 @@ pub record Serves {O E : Type 0} (Answers : List ℕ → List (List ℕ) → Sta
   -- no word is its to judge
   pub words : status ≢ BadWords
   -- it fails where reading or writing failed, and nowhere else
-  pub failed : (status ≡ Failed) ↔ ((is_there (first_unread (program ∷ others)) || writing_failed new.out) ≡ true)
+  pub failed : (status ≡ Failed) ↔ ((is_some (first_unread (program ∷ others)) || writing_failed new.out) ≡ true)
   -- where a file could not be read nothing is written, and the first such file is told
   pub unread : (file : Reading) → first_unread (program ∷ others) ≡ Some file →
       (new.out ≡ old.out) × Tells told old.err new.err (cannot_read file.name)
@@ -73,15 +72,3 @@ pub record Serves {O E : Type 0} (Answers : List ℕ → List (List ℕ) → Sta
       Tells told old.err new.err cannot_write
   -- where memory runs out nothing is written
   pub memory : status ≡ OutOfMemory → (new.out ≡ old.out) × Tells told old.err new.err no_memory
-
--- ---- where a file can't be opened
-
--- a file was not read: reading it failed, or memory ran out; and that is told
-pub data IsUnread (file : List ℕ) (failed : Bool) (Told : List ℕ → Type 0) (status : Status) : Type 0 where
-  of_reader : status ≡ Failed → failed ≡ true → Told (cannot_read file) → IsUnread file failed Told status
-  of_memory : status ≡ OutOfMemory → failed ≡ false → Told no_memory → IsUnread file failed Told status
-
--- the other file can't be opened: that is told, where the program's file was read
-pub data IsMissed (file other : List ℕ) (failed : Bool) (Told : List ℕ → Type 0) (status : Status) : Type 0 where
-  of_program : IsUnread file failed Told status → IsMissed file other failed Told status
-  of_other : status ≡ Failed → failed ≡ false → Told (cannot_read other) → IsMissed file other failed Told status

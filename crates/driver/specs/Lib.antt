@@ -11,22 +11,14 @@ pub mod Simulations
 pub mod Traces
 pub mod Replays
 pub mod ThreadRuns
+pub mod Requests
 pub mod Engines
 pub mod Working
 -- what the public clauses cite
 pub use Rattle.driver.specs.Working.Statuses.{exit_status}
-pub use Rattle.driver.specs.Streams.{name_of, reader_of, reading_failed, writer_of, writing_failed, Writes, Tells}
+pub use Rattle.driver.specs.Streams.{name_of, reader_of, left_in, reading_failed, writer_of, writing_failed, Writes, Tells}
 pub use Rattle.driver.specs.Messages.{cannot_read, cannot_write, no_memory, strange}
 pub use Rattle.compiler.specs.Programs.{Accepts}
-pub use Rattle.driver.specs.Answers.{TextAnswers, Alone, Beside}
-pub use Rattle.driver.specs.Serial.{SerialAnswers}
-pub use Rattle.driver.specs.Checks.{CheckAnswers}
-pub use Rattle.driver.specs.Explanations.{ExplainAnswers}
-pub use Rattle.driver.specs.Listings.{ListingAnswers}
-pub use Rattle.driver.specs.OrderGraphs.{OrderGraphAnswers}
-pub use Rattle.driver.specs.Outcomes.{OutcomesAnswers}
-pub use Rattle.driver.specs.Simulations.{SimulationAnswers}
-pub use Rattle.driver.specs.Traces.{TraceAnswers}
-pub use Rattle.driver.specs.Replays.{ReplayAnswers}
-pub use Rattle.driver.specs.ThreadRuns.{ThreadsAnswers}
-pub use Rattle.driver.specs.Engines.{Serves, Reading, reading_of, IsUnread, IsMissed}
+pub use Rattle.driver.specs.Answers.{TextAnswers, OfOne, OfTwo}
+pub use Rattle.driver.specs.Requests.{AloneAnswers, BesideAnswers}
+pub use Rattle.driver.specs.Engines.{Serves, Reading, reading_of}

@@ -6,7 +6,6 @@ use Rattle.lowering.specs.Plans.{Plan}
 use Rattle.report_check.specs.Order.{order_text}
 use Rattle.driver.specs.declared.status.Status.{Status}
 use Rattle.driver.specs.declared.status.Status.TheVariants.{Done}
-use Rattle.driver.specs.Answers.{TextAnswers}
 
 -- out says the ranks of the program's lock classes, and the pairs of which the first has to come before the second, each with what makes
 -- it so; err is empty
@@ -16,7 +15,3 @@ pub record IsOrderGraph (text : List ℕ) (plan : Plan) (status : Status) (out e
   pub ended : status ≡ Done
   pub written : out ≡ order_text text plan.program plan.ranks pairs
   pub told : err ≡ []
-
--- what `order` answers for a text
-abbrev pub OrderGraphAnswers : List ℕ → List ℕ → Status → List ℕ → List ℕ → Type 0
-OrderGraphAnswers file text = TextAnswers (IsOrderGraph text) file text

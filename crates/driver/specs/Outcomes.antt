@@ -6,10 +6,9 @@ use Rattle.outcomes.specs.Ends.{Told, AreAllEnds, AreDrawnEnds, HasConfiguration
 use Rattle.outcomes.specs.Orders.{next_call, one_more, none_done}
 use Rattle.report_outcomes.specs.Outcomes.{outcomes_text}
 use Rattle.report.specs.History.{unsettled_of}
-use Rattle.driver.specs.declared.request.Looking.{Looking}
+use Rattle.driver_words.specs.declared.line.Looking.{Looking}
 use Rattle.driver.specs.declared.status.Status.{Status}
 use Rattle.driver.specs.declared.status.Status.TheVariants.{Done, Unsettled}
-use Rattle.driver.specs.Answers.{TextAnswers}
 use Rattle.driver.specs.Serial.{entries}
 
 -- the call that a thread makes next, where so many calls of each thread are done, with the thread and its number there
@@ -59,7 +58,3 @@ pub data IsLookedAt (looking : Looking) (program : Typed) (status : Status) (out
   all_told : TellsAll looking.turns program status out err → IsLookedAt looking program status out err
   drawn_told : TellsDrawn looking.count program status out err → IsLookedAt looking program status out err
   stopped : StopsInOrder looking.turns program status out err → IsLookedAt looking program status out err
-
--- what `outcomes` answers for a text
-abbrev pub OutcomesAnswers : Looking → List ℕ → List ℕ → Status → List ℕ → List ℕ → Type 0
-OutcomesAnswers looking file text = TextAnswers (λ plan. IsLookedAt looking plan.accepted) file text

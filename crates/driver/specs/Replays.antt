@@ -17,10 +17,9 @@ use Rattle.replay.specs.declared.wanted.Wanted.{Wanted}
 use Rattle.replay.specs.declared.wanted.Wanted.TheVariants as wanted
 use Rattle.replay.specs.Verdicts.{Holds}
 use Rattle.replay.specs.Wanted.{Explains}
-use Rattle.driver.specs.declared.request.Judging.{Judging}
+use Rattle.driver_words.specs.declared.line.Judging.{Judging}
 use Rattle.driver.specs.declared.status.Status.{Status}
 use Rattle.driver.specs.declared.status.Status.TheVariants.{Done, Differs, BadInput, Unsettled}
-use Rattle.driver.specs.Answers.{TextAnswers}
 
 -- what is written of a verdict
 abbrev pub verdict_text : Verdict → List ℕ
@@ -85,7 +84,3 @@ pub data IsReplayed (judging : Judging) (history_file text : List ℕ) (plan : P
   judged : IsJudged judging text plan status out err → IsReplayed judging history_file text plan status out err
   bad_history : HasBadHistory history_file text status out err →
       IsReplayed judging history_file text plan status out err
-
--- and for a program's text and a history file's
-abbrev pub ReplayAnswers : Judging → List ℕ → List ℕ → List ℕ → List ℕ → Status → List ℕ → List ℕ → Type 0
-ReplayAnswers judging file history_file text history = TextAnswers (IsReplayed judging history_file history) file text

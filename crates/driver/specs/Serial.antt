@@ -8,7 +8,6 @@ use Rattle.report.specs.Entry.{Entry}
 use Rattle.report.specs.History.{history_of, unsettled_of}
 use Rattle.driver.specs.declared.status.Status.{Status}
 use Rattle.driver.specs.declared.status.Status.TheVariants.{Done, Unsettled}
-use Rattle.driver.specs.Answers.{TextAnswers}
 
 -- what is called
 abbrev pub calls_of : List Scheduled → List Invocation
@@ -58,7 +57,3 @@ pub record StopsAtCall (turns : ℕ) (program : Typed) (status : Status) (out er
 pub data IsRun (turns : ℕ) (program : Typed) (status : Status) (out err : List ℕ) : Type 0 where
   all_settled : IsHistory turns program status out err → IsRun turns program status out err
   stopped : StopsAtCall turns program status out err → IsRun turns program status out err
-
--- what `serial` answers for a text
-abbrev pub SerialAnswers : ℕ → List ℕ → List ℕ → Status → List ℕ → List ℕ → Type 0
-SerialAnswers turns file text = TextAnswers (λ plan. IsRun turns plan.accepted) file text

@@ -11,7 +11,6 @@ use Rattle.code.specs.Listing.{line}
 use Rattle.report_simulation.specs.Simulation.{simulation_of}
 use Rattle.driver.specs.declared.status.Status.{Status}
 use Rattle.driver.specs.declared.status.Status.TheVariants.{Done, BadInput}
-use Rattle.driver.specs.Answers.{TextAnswers}
 
 -- the file says these turns: out is the text of the world after their steps, of which the headline holds; err is empty
 pub record IsWorldAfter (items : List ℕ) (plan : Plan) (status : Status) (out err : List ℕ) : Type 0 where
@@ -34,7 +33,3 @@ pub record HasBadSteps (steps_file items : List ℕ) (plan : Plan) (status : Sta
 pub data IsSimulated (steps_file items : List ℕ) (plan : Plan) (status : Status) (out err : List ℕ) : Type 0 where
   ran : IsWorldAfter items plan status out err → IsSimulated steps_file items plan status out err
   bad_steps : HasBadSteps steps_file items plan status out err → IsSimulated steps_file items plan status out err
-
--- and for a program's text and a steps file's
-abbrev pub SimulationAnswers : List ℕ → List ℕ → List ℕ → List ℕ → Status → List ℕ → List ℕ → Type 0
-SimulationAnswers file steps_file text items = TextAnswers (IsSimulated steps_file items) file text

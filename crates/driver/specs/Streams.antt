@@ -1,5 +1,6 @@
 -- What clauses say of the readers and writers that an engine is lent.
-use Rattle.std.specs.Prelude.{◌≡◌, ℕ, Bool, false, List, Option}
+use Rattle.std.specs.Prelude.{◌≡◌, ℕ, Bool, false, List, Option, None, option_map}
+use Rattle.std.specs.Option.{option_map_or}
 use Rattle.std.specs.Io.KnownBytes.{Appends}
 use Rattle.std.specs.Io.Take.{take_inner}
 use Rattle.driver.specs.declared.source_text.SourceText.{SourceText}
@@ -9,9 +10,13 @@ use Rattle.driver.specs.declared.sink.Sink.{Sink}
 abbrev pub name_of : {R : Type 0} → SourceText R → List ℕ
 name_of source = source.name.now
 
--- the reader itself
-abbrev pub reader_of : {R : Type 0} → SourceText R → R
-reader_of source = take_inner source.reader
+-- the reader itself, where the file could be opened
+abbrev pub reader_of : {R : Type 0} → SourceText R → Option R
+reader_of source = option_map take_inner source.reader
+
+-- what the reader has left to give, where it tells that
+abbrev pub left_in : {R : Type 0} → (R → Option (List ℕ)) → SourceText R → Option (List ℕ)
+left_in remaining source = option_map_or remaining (reader_of source) None
 
 -- whether reading it failed
 abbrev pub reading_failed : {R : Type 0} → SourceText R → Bool

@@ -10,7 +10,6 @@ use Rattle.report.specs.History.{history_of}
 use Rattle.workers.specs.Answers.{HasScript, IsHistoryOf, RunsAsAccepted}
 use Rattle.driver.specs.declared.status.Status.{Status}
 use Rattle.driver.specs.declared.status.Status.TheVariants.{Done, Strange}
-use Rattle.driver.specs.Answers.{TextAnswers}
 use Rattle.driver.specs.Messages.{strange}
 
 -- a history of the program, whose calls, run whole one after another, end and print as it says and leave these cells; it
@@ -38,7 +37,3 @@ pub record IsStrange (status : Status) (out err : List ℕ) : Type 0 where
 pub data IsThreadsRun (plan : Plan) (status : Status) (out err : List ℕ) : Type 0 where
   written : IsWrittenRun plan status out err → IsThreadsRun plan status out err
   was_strange : IsStrange status out err → IsThreadsRun plan status out err
-
--- and for a text
-abbrev pub ThreadsAnswers : List ℕ → List ℕ → Status → List ℕ → List ℕ → Type 0
-ThreadsAnswers file text = TextAnswers IsThreadsRun file text

@@ -8,7 +8,6 @@ use Rattle.worlds.specs.Claims.{Headline}
 use Rattle.report_trace.specs.Trace.{trace_text}
 use Rattle.driver.specs.declared.status.Status.{Status}
 use Rattle.driver.specs.declared.status.Status.TheVariants.{Done}
-use Rattle.driver.specs.Answers.{TextAnswers}
 use Rattle.driver.specs.Simulations.{HasBadSteps}
 
 -- the file says these turns: out is the text of their steps and of the world after them, of which the headline holds;
@@ -26,7 +25,3 @@ pub data IsTraceAnswer (moves : Bool) (steps_file text items : List ℕ) (plan :
   traced : IsTold moves text items plan status out err → IsTraceAnswer moves steps_file text items plan status out err
   bad_steps : HasBadSteps steps_file items plan status out err →
       IsTraceAnswer moves steps_file text items plan status out err
-
--- and for a program's text and a steps file's
-abbrev pub TraceAnswers : Bool → List ℕ → List ℕ → List ℕ → List ℕ → Status → List ℕ → List ℕ → Type 0
-TraceAnswers moves file steps_file text items = TextAnswers (IsTraceAnswer moves steps_file text items) file text

@@ -1,19 +1,21 @@
 //! What an engine answers, as a function of the bytes that it read.
 
-ghost use Rattle.std.specs.Prelude.{◌≡◌, IfOk};
+ghost use Rattle.std.specs.Prelude.{◌≡◌, [], IfOk, string_bytes};
+ghost use Rattle.code.specs.Listing.{line};
 ghost use Rattle.core_lang.specs.Expansion.{IsExpansion};
 ghost use Rattle.core_lang.specs.WellFormed.{IsChecked};
-ghost use Rattle.driver.specs.Working.Answering.{Meets, IsAccepted, IsFaultAnswer, RequestAnswers, PairWanted};
+ghost use Rattle.rope.specs.Working.Ropes.{rope_text};
+ghost use Rattle.driver.specs.Working.Answering.{Meets, IsAccepted, IsMessage};
 ghost use Rattle.driver.specs.Answers.{TextAnswers};
+ghost use Rattle.driver.specs.Requests.{BesideAnswers, IsReport};
 ghost use Rattle.driver.specs.Checks.{IsCheckReport};
 ghost use Rattle.driver.specs.Listings.{IsListed};
 ghost use Rattle.driver.specs.Serial.{IsRun};
-ghost use Rattle.driver.specs.ThreadRuns.{ThreadsAnswers};
+ghost use Rattle.driver.specs.ThreadRuns.{IsThreadsRun};
 
 use crate::exploring::Exploring;
 use crate::ordering::ordered;
 use crate::replaying::replayed;
-use crate::request::{Pair, PairRequest, Request};
 use crate::running::{prepared, run_scripts};
 use crate::simulating::simulated;
 use crate::status::Status;
@@ -22,13 +24,15 @@ use crate::tracing::traced;
 use compiler::compile;
 use core_lang::laws;
 use core_lang::typed::Typed;
+use driver_words::{Beside, Report};
 use lowering::compiled::Program;
 use lowering::listing;
 use meaning_registers::prepared::Prepared;
 use report::{history_text, unsettled_text};
 use report_check::Check;
+use report_trace::Trace;
 use rope::Rope;
-use source::fault::{Fault, Refusal};
+use source::fault::Refusal;
 use source::keyed::KeyedState;
 use source::line::fault_line;
 use source::memory::NoMemory;
@@ -48,26 +52,61 @@ pub struct Answer {
     pub err: String,
 }
 
-/// The line of a fault.
-fn refused(alloc: Global, file: &str, text: &[u8], fault: &Fault) -> Result<Answer, NoMemory>
-    ensures { IfOk result (IsFaultAnswer file.now text.now fault.now) }
-{
-    let mut err = fault_line(alloc, file, text, fault)?;
-    err.push_str("\n")?;
-    Ok(Answer {
-        status: Status::Refused,
-        out: Rope::new(alloc),
-        err,
-    })
+impl Answer {
+    /// What a command that ended like this writes: this text, and no message.
+    pub fn written(alloc: Global, status: Status, out: Rope) -> Answer
+        ensures ended { result.status ≡ status }
+        ensures written { rope_text result.out ≡ rope_text out }
+        ensures told { string_bytes result.err ≡ [] }
+    {
+        Answer {
+            status,
+            out,
+            err: String::new(alloc),
+        }
+    }
+
+    /// What was asked for: this text.
+    pub fn done(alloc: Global, out: Rope) -> Answer
+        ensures ended { result.status ≡ Status.Done }
+        ensures written { rope_text result.out ≡ rope_text out }
+        ensures told { string_bytes result.err ≡ [] }
+    {
+        Answer::written(alloc, Status::Done, out)
+    }
+
+    /// Why nothing is written: this message, which gets a line feed.
+    pub fn refused(alloc: Global, status: Status, mut message: String) -> Result<Answer, NoMemory>
+        ensures { IfOk result (IsMessage status (line (string_bytes message.entry))) }
+    {
+        message.push_str("\n")?;
+        Ok(Answer {
+            status,
+            out: Rope::new(alloc),
+            err: message,
+        })
+    }
 }
 
-/// The program of the text of the file of this name, or the answer to its fault.
-fn accepted(alloc: Global, file: &str, text: &[u8]) -> Result<Result<Program, Answer>, NoMemory>
-    ensures { IfOk result (IsAccepted file.now text.now) }
+/// A file's text, with the file's name.
+#[derive(Clone, Copy)]
+pub struct Named<'a> {
+    /// The file's name.
+    pub file: &'a str,
+    /// The text.
+    pub text: &'a [u8],
+}
+
+/// The program of a text, or the answer to its fault.
+fn accepted(alloc: Global, source: &Named<'_>) -> Result<Result<Program, Answer>, NoMemory>
+    ensures { IfOk result (IsAccepted source.now.file.now source.now.text.now) }
 {
-    match compile(alloc, text) {
+    match compile(alloc, source.text) {
         Ok(program) => Ok(Ok(program)),
-        Err(Refusal::Fault(fault)) => Ok(Err(refused(alloc, file, text, &fault)?)),
+        Err(Refusal::Fault(fault)) => {
+            let line = fault_line(alloc, source.file, source.text, &fault)?;
+            Ok(Err(Answer::refused(alloc, Status::Refused, line)?))
+        }
         Err(Refusal::NoMemory) => Err(NoMemory),
     }
 }
@@ -83,22 +122,14 @@ fn checked(alloc: Global, text: &[u8], program: &Program) -> Result<Answer, NoMe
         ranks: program.ranks(),
         placed: program.placed(),
     };
-    Ok(Answer {
-        status: Status::Done,
-        out: check.text(alloc)?,
-        err: String::new(alloc),
-    })
+    Ok(Answer::done(alloc, check.text(alloc)?))
 }
 
 /// The listing of a program.
 fn listed(alloc: Global, program: &Program) -> Result<Answer, NoMemory>
     ensures { IfOk result (Meets (IsListed program.now)) }
 {
-    Ok(Answer {
-        status: Status::Done,
-        out: listing(alloc, program)?,
-        err: String::new(alloc),
-    })
+    Ok(Answer::done(alloc, listing(alloc, program)?))
 }
 
 /// The text of a program's run.
@@ -115,45 +146,36 @@ fn ran(
 {
     laws::settled_are_serial();
     let ran = run_scripts(alloc, program, prepared, turns)?;
-    let err = String::new(alloc);
     match ran.unsettled {
-        None => Ok(Answer {
-            status: Status::Done,
-            out: Rope::of(
-                alloc,
-                history_text(alloc, Format::One, program, &ran.records, ran.heap.cells())?,
-            ),
-            err,
-        }),
-        Some((thread, step)) => Ok(Answer {
-            status: Status::Unsettled,
-            out: Rope::of(
-                alloc,
-                unsettled_text(alloc, program, &ran.records, thread, step)?,
-            ),
-            err,
-        }),
+        None => {
+            let out = history_text(alloc, Format::One, program, &ran.records, ran.heap.cells())?;
+            Ok(Answer::done(alloc, Rope::of(alloc, out)))
+        }
+        Some((thread, step)) => {
+            let out = unsettled_text(alloc, program, &ran.records, thread, step)?;
+            Ok(Answer::written(alloc, Status::Unsettled, Rope::of(alloc, out)))
+        }
     }
 }
 
-/// What is answered to a request for a program.
-fn of_program(
+/// What is told of a program with this text.
+fn reported(
     alloc: Global,
-    request: Request,
+    report: Report,
     text: &[u8],
     program: &Program,
 ) -> Result<Answer, NoMemory>
-    ensures { IfOk result (Meets (RequestAnswers request text.now program.now)) }
+    ensures { IfOk result (Meets (IsReport report text.now program.now)) }
 {
-    match request {
-        Request::Check => checked(alloc, text, program),
-        Request::OrderGraph => ordered(alloc, text, program),
-        Request::Listing => listed(alloc, program),
-        Request::Serial { turns } => {
+    match report {
+        Report::Check => checked(alloc, text, program),
+        Report::Order => ordered(alloc, text, program),
+        Report::Listing => listed(alloc, program),
+        Report::Serial { turns } => {
             let prepared = prepared(alloc, program)?;
             ran(alloc, program.typed(), &prepared, turns)
         }
-        Request::Outcomes(looking) => {
+        Report::Outcomes(looking) => {
             let exploring = Exploring {
                 prepared: &prepared(alloc, program)?,
                 looking,
@@ -164,65 +186,53 @@ fn of_program(
     }
 }
 
-/// What is answered for the text of the file of this name, where each script runs in a thread of its own.
+/// What is answered for a text of which that is to be told.
+pub fn report_answer(alloc: Global, report: Report, source: &Named<'_>) -> Result<Answer, NoMemory>
+    ensures { IfOk result (Meets (TextAnswers (IsReport report source.now.text.now) source.now.file.now source.now.text.now)) }
+{
+    match accepted(alloc, source)? {
+        Ok(program) => reported(alloc, report, source.text, &program),
+        Err(answer) => Ok(answer),
+    }
+}
+
+/// What is answered for a text of which that is to be told beside another file.
+pub fn beside_answer(
+    alloc: Global,
+    request: Beside,
+    source: &Named<'_>,
+    other: &Named<'_>,
+) -> Result<Answer, NoMemory>
+    ensures { IfOk result (Meets (BesideAnswers request source.now.file.now other.now.file.now source.now.text.now other.now.text.now)) }
+{
+    let program = match accepted(alloc, source)? {
+        Ok(program) => program,
+        Err(answer) => return Ok(answer),
+    };
+    match request {
+        Beside::Simulate => simulated(alloc, &program, other),
+        Beside::Trace { sections } => {
+            let trace = Trace {
+                text: source.text,
+                program: &program,
+                moves: !sections,
+            };
+            traced(alloc, &trace, other)
+        }
+        Beside::Replay(judging) => replayed(alloc, &program, judging, other),
+    }
+}
+
+/// What is answered for a text where each script of its program runs in a thread of its own.
 pub fn threads_answer<R: Threads + Wait + Sync>(
     rt: &R,
     alloc: Global,
-    file: &str,
-    text: &[u8],
+    source: &Named<'_>,
 ) -> Result<Answer, NoMemory>
-    ensures { IfOk result (Meets (ThreadsAnswers file.now text.now)) }
+    ensures { IfOk result (Meets (TextAnswers IsThreadsRun source.now.file.now source.now.text.now)) }
 {
-    match accepted(alloc, file, text)? {
+    match accepted(alloc, source)? {
         Ok(program) => run_by_threads(rt, alloc, &program),
-        Err(answer) => Ok(answer),
-    }
-}
-
-/// What is answered to a request for the text of the file of this name.
-pub fn answer_to(
-    alloc: Global,
-    request: Request,
-    file: &str,
-    text: &[u8],
-) -> Result<Answer, NoMemory>
-    ensures { IfOk result (Meets (TextAnswers (RequestAnswers request text.now) file.now text.now)) }
-{
-    match accepted(alloc, file, text)? {
-        Ok(program) => of_program(alloc, request, text, &program),
-        Err(answer) => Ok(answer),
-    }
-}
-
-/// What is answered to a request for two texts, of which this is the program.
-fn of_pair(
-    alloc: Global,
-    request: PairRequest,
-    program: &Program,
-    pair: &Pair<'_>,
-) -> Result<Answer, NoMemory>
-    ensures { IfOk result (Meets (PairWanted request pair.now.text.now pair.now.other_file.now pair.now.other.now program.now)) }
-{
-    match request {
-        PairRequest::Simulate => simulated(alloc, program, pair.other_file, pair.other),
-        PairRequest::Trace { moves } => traced(alloc, program, moves, pair),
-        PairRequest::Replay(judging) => {
-            replayed(alloc, program, judging, pair.other_file, pair.other)
-        }
-    }
-}
-
-/// What is answered to a request for two texts.
-pub fn pair_answer_to(
-    alloc: Global,
-    request: PairRequest,
-    pair: &Pair<'_>,
-) -> Result<Answer, NoMemory>
-    ensures { IfOk result (Meets (TextAnswers (PairWanted request pair.now.text.now pair.now.other_file.now pair.now.other.now)
-        pair.now.file.now pair.now.text.now)) }
-{
-    match accepted(alloc, pair.file, pair.text)? {
-        Ok(program) => of_pair(alloc, request, &program, pair),
         Err(answer) => Ok(answer),
     }
 }

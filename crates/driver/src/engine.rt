@@ -1,25 +1,17 @@
 //! The engines over readers and writers.
 
 ghost use Rattle.std.specs.Prelude.{◌≡◌, [], ◌∷◌, false};
-ghost use Rattle.driver.specs.Working.Answering.{PairWanted, RequestAnswers};
-ghost use Rattle.driver.specs.Answers.{Alone, Beside, TextAnswers};
-ghost use Rattle.driver.specs.Checks.{CheckAnswers};
-ghost use Rattle.driver.specs.Engines.{Serves, IsMissed, reading_of};
-ghost use Rattle.driver.specs.Listings.{ListingAnswers};
-ghost use Rattle.driver.specs.OrderGraphs.{OrderGraphAnswers};
-ghost use Rattle.driver.specs.Outcomes.{OutcomesAnswers};
-ghost use Rattle.driver.specs.Replays.{ReplayAnswers};
-ghost use Rattle.driver.specs.Serial.{SerialAnswers};
-ghost use Rattle.driver.specs.Simulations.{SimulationAnswers};
-ghost use Rattle.driver.specs.ThreadRuns.{ThreadsAnswers};
-ghost use Rattle.driver.specs.Traces.{TraceAnswers};
-ghost use Rattle.driver.specs.Streams.{name_of, reading_failed, writing_failed, Tells};
+ghost use Rattle.driver.specs.Answers.{OfOne, OfTwo};
+ghost use Rattle.driver.specs.Engines.{Serves, reading_of};
+ghost use Rattle.driver.specs.Requests.{AloneAnswers, BesideAnswers};
+ghost use Rattle.driver.specs.Streams.{name_of, reading_failed, writing_failed};
 
-use crate::answer::{answer_to, pair_answer_to, threads_answer};
-use crate::request::{Judging, Looking, Pair, PairRequest, Request};
+use crate::answer::{Named, beside_answer, report_answer, threads_answer};
+use crate::explaining::explain;
 use crate::source_text::SourceText;
 use crate::status::Status;
 use crate::streams::Streams;
+use driver_words::{Alone, Beside, Judging, Report};
 use std::alloc::Global;
 use std::io::{Read, Write};
 use std::sync::Wait;
@@ -31,31 +23,71 @@ pub(crate) const MOST_BYTES: u64 = 1_048_576;
 /// More bytes than there are in any file.
 const ALL_BYTES: u64 = u64::MAX - 1;
 
-/// Answers a request for the text that `source` gives: writes the answer's text to `out` and its message to `err`. Where
-/// reading fails or memory runs out, nothing is written to `out`.
-fn serve<S: Read, O: Write, E: Write>(
+/// Answers a request that reads the program's file alone, which `source` gives, with threads from `threads`. Its text is
+/// written to `out`, its message to `err`. The status says how that ended:
+///
+/// - `Done`: what was asked for was written to `out`.
+/// - `Refused`: the program has a fault, which is told on `err`, or, where it is to be explained, on `out`.
+/// - `Unsettled`: a call meets a loop past the turns that were given. The text is that of the calls before it, and a line
+///   that names it.
+/// - `Strange`: a thread found another history than it had left, which is told on `err`.
+/// - `Failed`: reading or writing failed, which is told on `err`.
+/// - `OutOfMemory`: a growth was refused, which is told on `err`; nothing was written to `out`. Threads that can't be started
+///   count as that.
+///
+/// Whether `err` fails changes no answer. Of a text that is longer than a program may be no more is read than one byte past
+/// that; so it is in all engines. It returns where all calls that run in threads of their own do.
+pub fn serve<R: Threads + Wait + Sync, S: Read, O: Write, E: Write>(
+    threads: &R,
     alloc: Global,
-    request: Request,
+    request: Alone,
     source: &mut SourceText<'_, S>,
     streams: &mut Streams<O, E>,
 ) -> Status
     requires readable { reading_failed source.old ≡ false }
     requires writable { writing_failed streams.old.out ≡ false }
-    ensures { Serves (Alone (λ text. TextAnswers (RequestAnswers request text) (name_of source.old) text))
-        (reading_of S.remaining source.old source.new) [] O.contents E.contents streams.old streams.new result }
+    ensures { Serves (OfOne (AloneAnswers request (name_of source.old))) (reading_of S.remaining source.old source.new) []
+        O.contents E.contents streams.old streams.new result }
+{
+    match request {
+        Alone::Report(report) => serve_report(alloc, report, source, streams),
+        Alone::Explain { json } => explain(alloc, json, source, streams),
+        Alone::Run => run(threads, alloc, source, streams),
+    }
+}
+
+/// Answers a request for what is told of the program that `source` gives, as [`serve`] does, and needs no threads.
+pub fn serve_report<S: Read, O: Write, E: Write>(
+    alloc: Global,
+    report: Report,
+    source: &mut SourceText<'_, S>,
+    streams: &mut Streams<O, E>,
+) -> Status
+    requires readable { reading_failed source.old ≡ false }
+    requires writable { writing_failed streams.old.out ≡ false }
+    ensures { Serves (OfOne (AloneAnswers (Alone.Report report) (name_of source.old))) (reading_of S.remaining source.old source.new) []
+        O.contents E.contents streams.old streams.new result }
 {
     let text = match streams.read(alloc, source, MOST_BYTES) {
         Ok(text) => text,
         Err(status) => return status,
     };
-    let answer = answer_to(alloc, request, source.name(), &text);
+    let named = Named {
+        file: source.name(),
+        text: &text,
+    };
+    let answer = report_answer(alloc, report, &named);
     streams.give(&answer)
 }
 
-/// The same for the texts that `source` and `other` give, both of which are read before either is judged.
-fn serve_pair<S: Read, T: Read, O: Write, E: Write>(
+/// Answers a request for what is told of the program that `source` gives and of the file that `other` gives, both of which are
+/// read before either is judged. Ends as [`serve`] does, with besides:
+///
+/// - `BadInput`: the other file has a fault, which is told on `err`.
+/// - `Differs`: a line of a history is another than may come there.
+pub fn serve_beside<S: Read, T: Read, O: Write, E: Write>(
     alloc: Global,
-    request: PairRequest,
+    request: Beside,
     source: &mut SourceText<'_, S>,
     other: &mut SourceText<'_, T>,
     streams: &mut Streams<O, E>,
@@ -63,7 +95,7 @@ fn serve_pair<S: Read, T: Read, O: Write, E: Write>(
     requires readable { reading_failed source.old ≡ false }
     requires other_readable { reading_failed other.old ≡ false }
     requires writable { writing_failed streams.old.out ≡ false }
-    ensures { Serves (Beside (λ text items. TextAnswers (PairWanted request text (name_of other.old) items) (name_of source.old) text))
+    ensures { Serves (OfTwo (BesideAnswers request (name_of source.old) (name_of other.old)))
         (reading_of S.remaining source.old source.new) (reading_of T.remaining other.old other.new ∷ [])
         O.contents E.contents streams.old streams.new result }
 {
@@ -75,26 +107,20 @@ fn serve_pair<S: Read, T: Read, O: Write, E: Write>(
         Ok(items) => items,
         Err(status) => return status,
     };
-    let pair = Pair {
+    let named = Named {
         file: source.name(),
         text: &text,
-        other_file: other.name(),
-        other: &items,
     };
-    let answer = pair_answer_to(alloc, request, &pair);
+    let other_named = Named {
+        file: other.name(),
+        text: &items,
+    };
+    let answer = beside_answer(alloc, request, &named, &other_named);
     streams.give(&answer)
 }
 
-/// Says of the program that `source` gives in which order it takes its locks, and which ones before each statement. Answers
-/// how that ended:
-///
-/// - `Done`: the program is accepted, and that was written to `out`.
-/// - `Refused`: the program has a fault, which is told on `err`.
-/// - `Failed`: reading or writing failed, which is told on `err`.
-/// - `OutOfMemory`: a growth was refused, which is told on `err`; nothing was written to `out`.
-///
-/// Whether `err` fails changes no answer. Of a text that is longer than a program may be no more is read than one byte past
-/// that; so it is in all engines.
+/// Says of the program that `source` gives in which order it takes its locks, and which ones before each statement. Ends as
+/// [`serve`] does.
 pub fn check<S: Read, O: Write, E: Write>(
     alloc: Global,
     source: &mut SourceText<'_, S>,
@@ -102,30 +128,13 @@ pub fn check<S: Read, O: Write, E: Write>(
 ) -> Status
     requires readable { reading_failed source.old ≡ false }
     requires writable { writing_failed streams.old.out ≡ false }
-    ensures { Serves (Alone (CheckAnswers (name_of source.old))) (reading_of S.remaining source.old source.new) []
+    ensures { Serves (OfOne (AloneAnswers (Alone.Report Report.Check) (name_of source.old))) (reading_of S.remaining source.old source.new) []
         O.contents E.contents streams.old streams.new result }
 {
-    serve(alloc, Request::Check, source, streams)
+    serve_report(alloc, Report::Check, source, streams)
 }
 
-/// Writes the order of the lock classes of the program that `source` gives, as a graph in the language DOT: each class with
-/// its rank, and for each pair of which the first has to come before the second a place that makes it so. Answers how that
-/// ended, as [`check`] does: where it is `Done`, the graph was written to `out`.
-pub fn order_graph<S: Read, O: Write, E: Write>(
-    alloc: Global,
-    source: &mut SourceText<'_, S>,
-    streams: &mut Streams<O, E>,
-) -> Status
-    requires readable { reading_failed source.old ≡ false }
-    requires writable { writing_failed streams.old.out ≡ false }
-    ensures { Serves (Alone (OrderGraphAnswers (name_of source.old))) (reading_of S.remaining source.old source.new) []
-        O.contents E.contents streams.old streams.new result }
-{
-    serve(alloc, Request::OrderGraph, source, streams)
-}
-
-/// Writes the instructions of each section of the program that `source` gives. Answers how that ended, as [`check`] does:
-/// where it is `Done`, the listing was written to `out`.
+/// Writes the instructions of each section of the program that `source` gives. Ends as [`serve`] does.
 pub fn listing<S: Read, O: Write, E: Write>(
     alloc: Global,
     source: &mut SourceText<'_, S>,
@@ -133,17 +142,14 @@ pub fn listing<S: Read, O: Write, E: Write>(
 ) -> Status
     requires readable { reading_failed source.old ≡ false }
     requires writable { writing_failed streams.old.out ≡ false }
-    ensures { Serves (Alone (ListingAnswers (name_of source.old))) (reading_of S.remaining source.old source.new) []
+    ensures { Serves (OfOne (AloneAnswers (Alone.Report Report.Listing) (name_of source.old))) (reading_of S.remaining source.old source.new) []
         O.contents E.contents streams.old streams.new result }
 {
-    serve(alloc, Request::Listing, source, streams)
+    serve_report(alloc, Report::Listing, source, streams)
 }
 
 /// Runs all calls of the program that `source` gives one after another, thread 0's whole script first, then thread 1's, and
-/// so on; each execution of a loop makes at most `turns` turns. Writes the history text to `out`, and answers how that
-/// ended, as [`check`] does, with besides:
-///
-/// - `Unsettled`: a call meets a loop past `turns`. The text is that of the calls before it, and a line that names it.
+/// so on; each execution of a loop makes at most `turns` turns. Writes the history text. Ends as [`serve`] does.
 pub fn serial<S: Read, O: Write, E: Write>(
     alloc: Global,
     turns: u64,
@@ -152,35 +158,14 @@ pub fn serial<S: Read, O: Write, E: Write>(
 ) -> Status
     requires readable { reading_failed source.old ≡ false }
     requires writable { writing_failed streams.old.out ≡ false }
-    ensures { Serves (Alone (SerialAnswers turns (name_of source.old))) (reading_of S.remaining source.old source.new) []
+    ensures { Serves (OfOne (AloneAnswers (Alone.Report (Report.Serial turns)) (name_of source.old))) (reading_of S.remaining source.old source.new) []
         O.contents E.contents streams.old streams.new result }
 {
-    serve(alloc, Request::Serial { turns }, source, streams)
-}
-
-/// Runs all calls of the program that `source` gives one after another, in each order that keeps each thread's own, or in so
-/// many that are drawn where there are more; each execution of a loop makes at most so many turns. Writes each end of the
-/// cells to `out`, with how many of these orders have it and one of them, and answers how that ended, as [`serial`] does.
-pub fn find_outcomes<S: Read, O: Write, E: Write>(
-    alloc: Global,
-    looking: Looking,
-    source: &mut SourceText<'_, S>,
-    streams: &mut Streams<O, E>,
-) -> Status
-    requires readable { reading_failed source.old ≡ false }
-    requires writable { writing_failed streams.old.out ≡ false }
-    ensures { Serves (Alone (OutcomesAnswers looking (name_of source.old))) (reading_of S.remaining source.old source.new) []
-        O.contents E.contents streams.old streams.new result }
-{
-    serve(alloc, Request::Outcomes(looking), source, streams)
+    serve_report(alloc, Report::Serial { turns }, source, streams)
 }
 
 /// Runs the steps that `steps` gives over the threads of the program that `source` gives, and writes the text of the world
-/// after them to `out`. Answers how that ended, as [`check`] does, with besides:
-///
-/// - `BadInput`: an item of the steps file is faulty, which is told on `err`.
-///
-/// Both files are read before either is judged.
+/// after them. Ends as [`serve_beside`] does.
 pub fn simulate<S: Read, T: Read, O: Write, E: Write>(
     alloc: Global,
     source: &mut SourceText<'_, S>,
@@ -190,41 +175,15 @@ pub fn simulate<S: Read, T: Read, O: Write, E: Write>(
     requires readable { reading_failed source.old ≡ false }
     requires steps_readable { reading_failed steps.old ≡ false }
     requires writable { writing_failed streams.old.out ≡ false }
-    ensures { Serves (Beside (SimulationAnswers (name_of source.old) (name_of steps.old)))
+    ensures { Serves (OfTwo (BesideAnswers Beside.Simulate (name_of source.old) (name_of steps.old)))
         (reading_of S.remaining source.old source.new) (reading_of T.remaining steps.old steps.new ∷ [])
         O.contents E.contents streams.old streams.new result }
 {
-    serve_pair(alloc, PairRequest::Simulate, source, steps, streams)
-}
-
-/// Makes the steps that `steps` gives over the threads of the program that `source` gives, and writes a line for each of them
-/// to `out`, but for instructions where `moves` is false, and then what [`simulate`] writes. Answers how that ended, as
-/// `simulate` does.
-pub fn trace<S: Read, T: Read, O: Write, E: Write>(
-    alloc: Global,
-    moves: bool,
-    source: &mut SourceText<'_, S>,
-    steps: &mut SourceText<'_, T>,
-    streams: &mut Streams<O, E>,
-) -> Status
-    requires readable { reading_failed source.old ≡ false }
-    requires steps_readable { reading_failed steps.old ≡ false }
-    requires writable { writing_failed streams.old.out ≡ false }
-    ensures { Serves (Beside (TraceAnswers moves (name_of source.old) (name_of steps.old)))
-        (reading_of S.remaining source.old source.new) (reading_of T.remaining steps.old steps.new ∷ [])
-        O.contents E.contents streams.old streams.new result }
-{
-    serve_pair(alloc, PairRequest::Trace { moves }, source, steps, streams)
+    serve_beside(alloc, Beside::Simulate, source, steps, streams)
 }
 
 /// Compares the history that `history` gives with what the calls of the program that `source` gives answer, one after
-/// another. Writes the verdict to `out`, and answers how that ended, as [`check`] does, with besides:
-///
-/// - `Differs`: a line is another than may come there.
-/// - `BadInput`: a line of the history file is faulty, which is told on `err`.
-/// - `Unsettled`: a line is of a call that meets a loop past the turns.
-///
-/// Both files are read before either is judged.
+/// another, and writes the verdict. Ends as [`serve_beside`] does.
 pub fn replay<S: Read, T: Read, O: Write, E: Write>(
     alloc: Global,
     judging: Judging,
@@ -235,25 +194,15 @@ pub fn replay<S: Read, T: Read, O: Write, E: Write>(
     requires readable { reading_failed source.old ≡ false }
     requires history_readable { reading_failed history.old ≡ false }
     requires writable { writing_failed streams.old.out ≡ false }
-    ensures { Serves (Beside (ReplayAnswers judging (name_of source.old) (name_of history.old)))
+    ensures { Serves (OfTwo (BesideAnswers (Beside.Replay judging) (name_of source.old) (name_of history.old)))
         (reading_of S.remaining source.old source.new) (reading_of T.remaining history.old history.new ∷ [])
         O.contents E.contents streams.old streams.new result }
 {
-    serve_pair(
-        alloc,
-        PairRequest::Replay(judging),
-        source,
-        history,
-        streams,
-    )
+    serve_beside(alloc, Beside::Replay(judging), source, history, streams)
 }
 
-/// Runs the calls of each thread of the program that `source` gives in a thread of its own. Writes the history text to
-/// `out`, in the second format, and answers how that ended, as [`check`] does, with besides:
-///
-/// - `Strange`: a thread found another history than it had left, which is told on `err`.
-///
-/// It returns where all calls do. Threads that can't be started count as refused memory.
+/// Runs the calls of each thread of the program that `source` gives in a thread of its own. Writes the history text, in the
+/// second format. Ends as [`serve`] does, where all calls do.
 pub fn run<R: Threads + Wait + Sync, S: Read, O: Write, E: Write>(
     rt: &R,
     alloc: Global,
@@ -262,33 +211,17 @@ pub fn run<R: Threads + Wait + Sync, S: Read, O: Write, E: Write>(
 ) -> Status
     requires readable { reading_failed source.old ≡ false }
     requires writable { writing_failed streams.old.out ≡ false }
-    ensures { Serves (Alone (ThreadsAnswers (name_of source.old))) (reading_of S.remaining source.old source.new) []
+    ensures { Serves (OfOne (AloneAnswers Alone.Run (name_of source.old))) (reading_of S.remaining source.old source.new) []
         O.contents E.contents streams.old streams.new result }
 {
     let text = match streams.read(alloc, source, MOST_BYTES) {
         Ok(text) => text,
         Err(status) => return status,
     };
-    let answer = threads_answer(rt, alloc, source.name(), &text);
+    let named = Named {
+        file: source.name(),
+        text: &text,
+    };
+    let answer = threads_answer(rt, alloc, &named);
     streams.give(&answer)
-}
-
-/// Answers for two files of which the second can't be opened: the program is read first, so where that fails, this is told.
-pub fn miss_other<S: Read, O: Write, E: Write>(
-    alloc: Global,
-    source: &mut SourceText<'_, S>,
-    other_file: &str,
-    streams: &mut Streams<O, E>,
-) -> Status
-    requires { reading_failed source.old ≡ false }
-    ensures out { streams.new.out ≡ streams.old.out }
-    ensures missed { IsMissed (name_of source.old) other_file.now (reading_failed source.new) (Tells E.contents streams.old.err streams.new.err) result }
-{
-    match streams.read(alloc, source, MOST_BYTES) {
-        Ok(_) => {
-            streams.tell_cannot_read(other_file);
-            Status::Failed
-        }
-        Err(status) => status,
-    }
 }

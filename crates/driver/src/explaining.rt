@@ -5,9 +5,10 @@ ghost use Rattle.compiler.specs.Cycles.{IsCyclic};
 ghost use Rattle.compiler.specs.Working.Orders.{IsOrdered};
 ghost use Rattle.compiler.specs.Programs.{IsOfFirstPass};
 ghost use Rattle.driver.specs.Working.Answering.{Meets, IsExplainedAnswer, acceptance_told_of, fault_told_of};
-ghost use Rattle.driver.specs.Answers.{Alone};
+ghost use Rattle.driver.specs.Answers.{OfOne};
 ghost use Rattle.driver.specs.Engines.{Serves, reading_of};
 ghost use Rattle.driver.specs.Explanations.{ExplainAnswers};
+ghost use Rattle.driver.specs.Requests.{AloneAnswers};
 ghost use Rattle.driver.specs.Streams.{name_of, reading_failed, writing_failed};
 
 use crate::answer::Answer;
@@ -16,6 +17,7 @@ use crate::source_text::SourceText;
 use crate::status::Status;
 use crate::streams::Streams;
 use compiler::{Cyclic, Ordered, examine};
+use driver_words::Alone;
 use explanation::{Acceptance, Explanation};
 use explanation_cycles::{cycle_notes, order_notes};
 use explanation_faults::fault_notes;
@@ -65,11 +67,8 @@ fn acceptance_told(
 fn explained(alloc: Global, json: bool, explanation: &Explanation<'_>) -> Result<Answer, NoMemory>
     ensures { IfOk result (IsExplainedAnswer json explanation.now) }
 {
-    Ok(Answer {
-        status: Status::Refused,
-        out: Rope::of(alloc, fault_told(alloc, json, explanation)?),
-        err: String::new(alloc),
-    })
+    let out = fault_told(alloc, json, explanation)?;
+    Ok(Answer::written(alloc, Status::Refused, Rope::of(alloc, out)))
 }
 
 /// What is told of a fault with no detail.
@@ -114,11 +113,8 @@ fn order_explained(alloc: Global, asked: &Asked<'_>, ordered: &Ordered) -> Resul
         text: asked.text,
         notes: &notes,
     };
-    Ok(Answer {
-        status: Status::Done,
-        out: Rope::of(alloc, acceptance_told(alloc, asked.json, &acceptance)?),
-        err: String::new(alloc),
-    })
+    let out = acceptance_told(alloc, asked.json, &acceptance)?;
+    Ok(Answer::done(alloc, Rope::of(alloc, out)))
 }
 
 /// What is answered for a text.
@@ -135,7 +131,7 @@ fn explain_answer(alloc: Global, asked: &Asked<'_>) -> Result<Answer, NoMemory>
 
 /// Explains the fault of the program that `source` gives: writes to `out` the line that reports it, the line of the source
 /// that it is in, where a lock order cycle comes from, and what can be done about it; or, where `json` is true, the same as a JSON
-/// object in one line. Answers how that ended, as [`check`](crate::check) does, but:
+/// object in one line. Answers how that ended, as [`serve`](crate::serve) does, but:
 ///
 /// - `Refused`: the program has a fault, and that was written to `out`; `err` gets nothing.
 /// - `Done`: the program has none. The line `accepted` was written to `out`, and the order of its lock classes: the class of
@@ -148,7 +144,7 @@ pub fn explain<S: Read, O: Write, E: Write>(
 ) -> Status
     requires readable { reading_failed source.old ≡ false }
     requires writable { writing_failed streams.old.out ≡ false }
-    ensures { Serves (Alone (ExplainAnswers json (name_of source.old))) (reading_of S.remaining source.old source.new) []
+    ensures { Serves (OfOne (AloneAnswers (Alone.Explain json) (name_of source.old))) (reading_of S.remaining source.old source.new) []
         O.contents E.contents streams.old streams.new result }
 {
     explanation::laws::shown_by_first_bytes();

@@ -9,11 +9,11 @@ ghost use Rattle.driver.specs.Outcomes.{IsLookedAt, StopsInOrder};
 
 use crate::answer::Answer;
 use crate::order_calls::order_calls;
-use crate::request::Looking;
 use crate::running::run_calls;
 use crate::status::Status;
 use core_lang::laws;
 use core_lang::typed::Typed;
+use driver_words::Looking;
 use meaning_registers::prepared::Prepared;
 use outcomes::outcome::{Found, Outcome};
 use outcomes::search::Search;
@@ -38,11 +38,7 @@ fn told(
         states,
         ends,
     };
-    Ok(Answer {
-        status: Status::Done,
-        out: Rope::of(alloc, ends.text(alloc)?),
-        err: String::new(alloc),
-    })
+    Ok(Answer::done(alloc, Rope::of(alloc, ends.text(alloc)?)))
 }
 
 /// What is looked at: the orders of a program's calls.
@@ -97,14 +93,8 @@ impl Exploring<'_> {
             Some(place) => place,
             None => (thread, made.done_of(thread)),
         };
-        Ok(Answer {
-            status: Status::Unsettled,
-            out: Rope::of(
-                alloc,
-                unsettled_text(alloc, program, &ran.records, thread, step)?,
-            ),
-            err: String::new(alloc),
-        })
+        let out = unsettled_text(alloc, program, &ran.records, thread, step)?;
+        Ok(Answer::written(alloc, Status::Unsettled, Rope::of(alloc, out)))
     }
 
     /// How the cells can end, over the orders that are looked at.

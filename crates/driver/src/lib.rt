@@ -2,25 +2,20 @@
 //!
 //! An engine reads everything, then computes the status and both texts as a function of the bytes, then writes each text
 //! once. So where memory is refused, nothing of the text has been written. `specs/Engines.antt` says what each does with
-//! its files and outputs, whatever it answers.
+//! its files and outputs, whatever it answers; `specs/Requests.antt` says what each request is answered, by the file of `specs`
+//! that is named below.
 //!
-//! - [`check`]: in which order a program takes its locks, and which ones before each statement. `specs/Checks.antt` says
-//!   what it answers.
-//! - [`explain`]: the fault of a program, with its place in the source. `specs/Explanations.antt` says what it answers.
-//! - [`order_graph`]: the order of a program's lock classes, as a graph. `specs/OrderGraphs.antt` says what it answers.
-//! - [`listing`]: the instructions of each section. `specs/Listings.antt` says what it answers.
-//! - [`serial`]: all calls of a program one after another. `specs/Serial.antt` says what it answers.
-//! - [`find_outcomes`]: how a program's cells can end, over the orders of its calls. `specs/Outcomes.antt` says what it
-//!   answers.
-//! - [`simulate`]: the world after the steps of a steps file. `specs/Simulations.antt` says what it answers.
-//! - [`trace`]: the steps of a steps file one after another, and the world after them. `specs/Traces.antt` says what it
-//!   answers.
-//! - [`run`]: a history of the program's scripts, each run by a thread of its own. `specs/ThreadRuns.antt` says what it
-//!   answers.
-//! - [`replay`]: the verdict on a recorded history, and why it differs. `specs/Replays.antt` says what it answers.
+//! - [`serve`]: answers each request that reads the program's file alone; [`serve_beside`]: each that reads another file too.
+//! - [`serve_report`]: what is told of an accepted program, without threads: in which order it takes its locks, and which ones
+//!   before each statement, also as [`check`] (`Checks`); the order of its lock classes, as a graph (`OrderGraphs`); the
+//!   instructions of each section, also as [`listing`] (`Listings`); all its calls one after another, also as [`serial`]
+//!   (`Serial`); how its cells can end, over the orders of its calls (`Outcomes`).
+//! - [`explain`]: the fault of a program, with its place in the source (`Explanations`).
+//! - [`run`]: a history of the program's scripts, each run by a thread of its own (`ThreadRuns`).
+//! - [`simulate`]: the world after the steps of a steps file (`Simulations`). The steps one after another, and the world after
+//!   them (`Traces`). [`replay`]: the verdict on a recorded history, and why it differs (`Replays`).
 //! - [`Status`]: how a command ended, which is the exit status.
 //! - [`SourceText`]: a file that is read. [`Streams`]: the two outputs, each a [`Sink`].
-//! - [`miss_other`]: what is answered where the second of two files can't be opened.
 #![tactic(auto)]
 
 mod answer;
@@ -30,7 +25,6 @@ mod exploring;
 mod order_calls;
 mod ordering;
 mod replaying;
-mod request;
 mod running;
 mod schedule;
 mod simulating;
@@ -43,10 +37,9 @@ mod tracing;
 mod why;
 
 pub use engine::{
-    check, find_outcomes, listing, miss_other, order_graph, replay, run, serial, simulate, trace,
+    check, listing, replay, run, serial, serve, serve_beside, serve_report, simulate,
 };
 pub use explaining::explain;
-pub use request::{Judging, Looking};
 pub use sink::Sink;
 pub use source_text::{ReadError, SourceText};
 pub use status::Status;

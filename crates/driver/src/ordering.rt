@@ -5,7 +5,6 @@ ghost use Rattle.driver.specs.Working.Answering.{Meets};
 ghost use Rattle.driver.specs.OrderGraphs.{IsOrderGraph};
 
 use crate::answer::Answer;
-use crate::status::Status;
 use lockorder::class_pairs;
 use lowering::compiled::Program;
 use report_check::Order;
@@ -24,9 +23,5 @@ pub fn ordered(alloc: Global, text: &[u8], program: &Program) -> Result<Answer, 
         ranks: program.ranks(),
         pairs: &pairs,
     };
-    Ok(Answer {
-        status: Status::Done,
-        out: Rope::of(alloc, order.text(alloc)?),
-        err: String::new(alloc),
-    })
+    Ok(Answer::done(alloc, Rope::of(alloc, order.text(alloc)?)))
 }

@@ -3,34 +3,21 @@
 ghost use Rattle.std.specs.Prelude.{◌≡◌, IfOk, string_bytes};
 ghost use Rattle.code.specs.Listing.{line};
 ghost use Rattle.source_histories.specs.Histories.{recorded_lines};
-ghost use Rattle.driver.specs.Working.Answering.{Meets, IsBadHistoryAnswer, IsJudgementAnswer};
+ghost use Rattle.driver.specs.Working.Answering.{Meets, IsJudgementAnswer};
 ghost use Rattle.driver.specs.Replays.{IsReplayed, verdict_status, verdict_text};
 
-use crate::answer::Answer;
-use crate::request::Judging;
+use crate::answer::{Answer, Named};
 use crate::running::prepared;
 use crate::status::Status;
 use crate::why::push_why;
+use driver_words::Judging;
 use lowering::compiled::Program;
 use replay::{Judgement, Verdict, judge};
 use rope::Rope;
 use source::memory::NoMemory;
-use source_histories::refusal::{HistoryFault, HistoryRefusal};
+use source_histories::refusal::HistoryRefusal;
 use source_histories::{Recorded, history_fault_line, read_history};
 use std::alloc::{AllocError, Global};
-
-/// The line of a fault of the history file.
-fn bad_history(alloc: Global, history_file: &str, fault: HistoryFault) -> Result<Answer, NoMemory>
-    ensures { IfOk result (IsBadHistoryAnswer history_file.now fault) }
-{
-    let mut err = history_fault_line(alloc, history_file, fault)?;
-    err.push_str("\n")?;
-    Ok(Answer {
-        status: Status::BadInput,
-        out: Rope::new(alloc),
-        err,
-    })
-}
 
 /// The line of a verdict.
 fn verdict_line(alloc: Global, verdict: Verdict) -> Result<String, AllocError>
@@ -67,11 +54,8 @@ fn judged(
     if why {
         push_why(alloc, &mut out, judgement, recorded)?;
     }
-    Ok(Answer {
-        status: status_of(judgement.verdict),
-        out: Rope::of(alloc, out),
-        err: String::new(alloc),
-    })
+    let status = status_of(judgement.verdict);
+    Ok(Answer::written(alloc, status, Rope::of(alloc, out)))
 }
 
 /// The verdict on a history file, or the line of its fault.
@@ -79,14 +63,16 @@ pub fn replayed(
     alloc: Global,
     program: &Program,
     judging: Judging,
-    history_file: &str,
-    text: &[u8],
+    history: &Named<'_>,
 ) -> Result<Answer, NoMemory>
-    ensures { IfOk result (Meets (IsReplayed judging history_file.now text.now program.now)) }
+    ensures { IfOk result (Meets (IsReplayed judging history.now.file.now history.now.text.now program.now)) }
 {
-    let recorded = match read_history(alloc, text) {
+    let recorded = match read_history(alloc, history.text) {
         Ok(recorded) => recorded,
-        Err(HistoryRefusal::Fault(fault)) => return bad_history(alloc, history_file, fault),
+        Err(HistoryRefusal::Fault(fault)) => {
+            let line = history_fault_line(alloc, history.file, fault)?;
+            return Answer::refused(alloc, Status::BadInput, line);
+        }
         Err(HistoryRefusal::NoMemory) => return Err(NoMemory),
     };
     let prepared = prepared(alloc, program)?;

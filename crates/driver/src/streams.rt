@@ -1,11 +1,11 @@
 //! The two outputs of a command, and what is told on them.
 
-ghost use Rattle.std.specs.Prelude.{◌≡◌, ◌<◌, ◌+◌, ◌⊎◌, ◌^◌, false, take, length, IfOk, IfErr, OnOk, IfSome};
+ghost use Rattle.std.specs.Prelude.{◌≡◌, ◌<◌, ◌+◌, ◌⊎◌, ◌^◌, true, false, take, length, IfOk, IfErr, OnOk, IfSome};
+ghost use Rattle.std.specs.Option.{is_some};
 ghost use Rattle.std.specs.Io.KnownBytes.{IsAtEnd};
 ghost use Rattle.driver.specs.Messages.{cannot_read, cannot_write, no_memory};
-ghost use Rattle.driver.specs.Engines.{IsUnread};
-ghost use Rattle.driver.specs.Working.Serving.{GoesOut, IsGiven};
-ghost use Rattle.driver.specs.Streams.{name_of, reader_of, reading_failed, writing_failed, Tells};
+ghost use Rattle.driver.specs.Working.Serving.{GoesOut, IsGiven, IsUnread};
+ghost use Rattle.driver.specs.Streams.{name_of, reader_of, left_in, reading_failed, writing_failed, Tells};
 
 use crate::answer::Answer;
 use crate::sink::Sink;
@@ -61,8 +61,9 @@ impl<O: Write, E: Write> Streams<O, E> {
     ) -> Result<Vec<u8>, Status>
         requires most { most + 1 < 2 ^ 64 }
         requires readable { reading_failed source.old ≡ false }
-        ensures bytes { IfOk result (λ text. IfSome (R.remaining (reader_of source.old)) (λ bytes. text.items ≡ take (most + 1) bytes)) }
-        ensures end { IfOk result (λ text. IsAtEnd (R.remaining (reader_of source.new)) ⊎ (most < length text.items)) }
+        ensures bytes { IfOk result (λ text. IfSome (left_in R.remaining source.old) (λ bytes. text.items ≡ take (most + 1) bytes)) }
+        ensures end { IfOk result (λ text. IsAtEnd (left_in R.remaining source.new) ⊎ (most < length text.items)) }
+        ensures opened { OnOk result (is_some (reader_of source.old) ≡ true) }
         ensures name { name_of source.new ≡ name_of source.old }
         ensures out { self.new.out ≡ self.old.out }
         ensures ok { OnOk result (reading_failed source.new ≡ false) }

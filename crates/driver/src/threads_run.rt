@@ -1,8 +1,8 @@
 //! What `run` answers for a program.
 
 ghost use Rattle.std.specs.Prelude.{◌≡◌, IfOk, length};
-ghost use Rattle.driver.specs.Working.Answering.{Meets, IsStrangeAnswer};
-ghost use Rattle.driver.specs.ThreadRuns.{IsThreadsRun};
+ghost use Rattle.driver.specs.Working.Answering.{Meets};
+ghost use Rattle.driver.specs.ThreadRuns.{IsStrange, IsThreadsRun};
 
 use crate::answer::Answer;
 use crate::status::Status;
@@ -41,13 +41,10 @@ fn values_of(alloc: Global, closed: &Closed<'_>, cells: usize) -> Result<Vec<Val
 
 /// The answer where a thread found another history than it had left.
 fn strange(alloc: Global) -> Result<Answer, NoMemory>
-    ensures { IfOk result IsStrangeAnswer }
+    ensures { IfOk result (Meets IsStrange) }
 {
-    Ok(Answer {
-        status: Status::Strange,
-        out: Rope::new(alloc),
-        err: String::from_str(alloc, "autolock: strange\n")?,
-    })
+    let message = String::from_str(alloc, "autolock: strange")?;
+    Answer::refused(alloc, Status::Strange, message)
 }
 
 /// The history text of a run of each script in a thread of its own. It returns where all calls do.
@@ -65,12 +62,6 @@ pub fn run_by_threads<R: Threads + Wait + Sync>(
     };
     let typed = program.expanded();
     let values = values_of(alloc, &closed, typed.cells.len())?;
-    Ok(Answer {
-        status: Status::Done,
-        out: Rope::of(
-            alloc,
-            entries_text(alloc, Format::Two, typed, closed.history(), &values)?,
-        ),
-        err: String::new(alloc),
-    })
+    let out = entries_text(alloc, Format::Two, typed, closed.history(), &values)?;
+    Ok(Answer::done(alloc, Rope::of(alloc, out)))
 }

@@ -6,9 +6,14 @@ use Rattle.clap.specs.Values.{kind_of}
 use Rattle.clap.specs.declared.error.Error.{Error}
 use Rattle.clap.specs.declared.error.kind.ErrorKind.TheVariants.{MissingSubcommand}
 use Rattle.driver_words.specs.Commands.{autolock}
+use Rattle.driver_words.specs.declared.line.Alone.{Alone}
+use Rattle.driver_words.specs.declared.line.Alone.TheVariants.{Report, Explain, Run}
+use Rattle.driver_words.specs.declared.line.Beside.{Beside}
+use Rattle.driver_words.specs.declared.line.Beside.TheVariants.{Simulate, Trace, Replay}
 use Rattle.driver_words.specs.declared.line.Line.{Line}
-use Rattle.driver_words.specs.declared.line.Line.TheVariants.{Check, Explain, Order, Listing, Serial, Outcomes}
-use Rattle.driver_words.specs.declared.line.Line.TheVariants.{Simulate, Trace, Run, Replay}
+use Rattle.driver_words.specs.declared.line.Report.TheVariants.{Check, Order, Listing, Serial, Outcomes}
+use Rattle.driver_words.specs.declared.line.Request.{Request}
+use Rattle.driver_words.specs.declared.line.Request.TheVariants as request
 
 -- the value of a name, or nothing
 abbrev pub name_in : Text → List Row → Text
@@ -30,27 +35,34 @@ pub record IsFlag (id : Text) (rows : List Row) (is : Bool) : Type 0 where
   pub withheld : one_of id rows ≡ Some (codes "false") → is ≡ false
   pub default : one_of id rows ≡ None → is ≡ false
 
+-- what is asked of the program's file alone is that command, with the values of its options
+abbrev pub IsAlone : Text → List Row → Alone → Type 0
+IsAlone command rows (Report Check) = command ≡ codes "check"
+IsAlone command rows (Report Order) = command ≡ codes "order"
+IsAlone command rows (Report Listing) = command ≡ codes "listing"
+IsAlone command rows (Report (Serial turns)) = (command ≡ codes "serial") × IsTurns rows turns
+IsAlone command rows (Report (Outcomes looking)) =
+    (command ≡ codes "outcomes") × IsTurns rows looking.turns
+    × IsNumber (codes "count") 100000 rows looking.count × IsNumber (codes "seed") 0 rows looking.seed
+IsAlone command rows (Explain json) = (command ≡ codes "explain") × IsFlag (codes "json") rows json
+IsAlone command rows Run = command ≡ codes "run"
+
+-- what is asked of it and of another file is that command
+abbrev pub IsBeside : Text → List Row → Beside → Text → Type 0
+IsBeside command rows Simulate other = (command ≡ codes "simulate") × (other ≡ name_in (codes "STEPS") rows)
+IsBeside command rows (Trace sections) other =
+    (command ≡ codes "trace") × (other ≡ name_in (codes "STEPS") rows) × IsFlag (codes "sections") rows sections
+IsBeside command rows (Replay judging) other =
+    (command ≡ codes "replay") × (other ≡ name_in (codes "HISTORY") rows)
+    × IsTurns rows judging.turns × IsFlag (codes "why") rows judging.why
+
+abbrev pub IsRequest : Text → List Row → Request → Type 0
+IsRequest command rows (request.Alone alone) = IsAlone command rows alone
+IsRequest command rows (request.Beside beside other) = IsBeside command rows beside other.now
+
 -- the line is that command, with the values of its arguments
 abbrev pub IsLine : Text → List Row → Line → Type 0
-IsLine command rows (Check file) = (command ≡ codes "check") × (file.now ≡ name_in (codes "FILE") rows)
-IsLine command rows (Explain file json) =
-    (command ≡ codes "explain") × (file.now ≡ name_in (codes "FILE") rows) × IsFlag (codes "json") rows json
-IsLine command rows (Order file) = (command ≡ codes "order") × (file.now ≡ name_in (codes "FILE") rows)
-IsLine command rows (Listing file) = (command ≡ codes "listing") × (file.now ≡ name_in (codes "FILE") rows)
-IsLine command rows (Serial file turns) =
-    (command ≡ codes "serial") × (file.now ≡ name_in (codes "FILE") rows) × IsTurns rows turns
-IsLine command rows (Outcomes file turns count seed) =
-    (command ≡ codes "outcomes") × (file.now ≡ name_in (codes "FILE") rows) × IsTurns rows turns
-    × IsNumber (codes "count") 100000 rows count × IsNumber (codes "seed") 0 rows seed
-IsLine command rows (Simulate file steps) =
-    (command ≡ codes "simulate") × (file.now ≡ name_in (codes "FILE") rows) × (steps.now ≡ name_in (codes "STEPS") rows)
-IsLine command rows (Trace file steps sections) =
-    (command ≡ codes "trace") × (file.now ≡ name_in (codes "FILE") rows) × (steps.now ≡ name_in (codes "STEPS") rows)
-    × IsFlag (codes "sections") rows sections
-IsLine command rows (Run file) = (command ≡ codes "run") × (file.now ≡ name_in (codes "FILE") rows)
-IsLine command rows (Replay file history turns why) =
-    (command ≡ codes "replay") × (file.now ≡ name_in (codes "FILE") rows) × (history.now ≡ name_in (codes "HISTORY") rows)
-    × IsTurns rows turns × IsFlag (codes "why") rows why
+IsLine command rows line = (line.file.now ≡ name_in (codes "FILE") rows) × IsRequest command rows line.request
 
 -- the line is the subcommand that was met
 abbrev pub IsLineOf : Option (Text × List Row) → Line → Type 0

@@ -9,5 +9,8 @@ mod command;
 mod line;
 mod reading;
 
-pub use line::{DEFAULT_COUNT, DEFAULT_SEED, DEFAULT_TURNS, Line};
+pub use line::{
+    Alone, Beside, DEFAULT_COUNT, DEFAULT_SEED, DEFAULT_TURNS, Judging, Line, Looking, Report,
+    Request,
+};
 pub use reading::words;

@@ -9,79 +9,86 @@ pub const DEFAULT_COUNT: u64 = 100_000;
 /// The seed of what is drawn where `--seed` is not given.
 pub const DEFAULT_SEED: u64 = 0;
 
-/// A command, with the names of its files as they were given.
+/// A command over the program of a file.
 #[derive(Clone, Copy, Debug, PartialEq, Eq)]
-pub enum Line<'a> {
-    /// `check`: say in which order a program takes its locks, and which ones before each statement.
-    Check {
-        /// The file of the program's text.
-        file: &'a str,
-    },
-    /// `explain`: tell the fault of a program, with its place in the source and what can be done about it.
+pub struct Line<'a> {
+    /// The name of the file of the program's text, as it was given.
+    pub file: &'a str,
+    /// What is asked of the program.
+    pub request: Request<'a>,
+}
+
+/// What is asked of a program, by which files it reads.
+#[derive(Clone, Copy, Debug, PartialEq, Eq)]
+pub enum Request<'a> {
+    /// A command that reads the program's file alone.
+    Alone(Alone),
+    /// A command that reads another file beside it, of this name, as it was given.
+    Beside(Beside, &'a str),
+}
+
+/// What is asked of a program's file alone.
+#[derive(Clone, Copy, Debug, PartialEq, Eq)]
+pub enum Alone {
+    /// What is told of the program, where it is accepted.
+    Report(Report),
+    /// `explain`: tell the fault of the program, with its place in the source and what can be done about it.
     Explain {
-        /// The file of the program's text.
-        file: &'a str,
         /// Whether it is told as JSON.
         json: bool,
     },
-    /// `order`: write the order of a program's lock classes as a graph.
-    Order {
-        /// The file of the program's text.
-        file: &'a str,
-    },
-    /// `listing`: write the instructions of a program's sections.
-    Listing {
-        /// The file of the program's text.
-        file: &'a str,
-    },
-    /// `serial`: run all calls of a program one after another.
+    /// `run`: run the calls of each thread in a thread of its own.
+    Run,
+}
+
+/// What is told of a program that is accepted.
+#[derive(Clone, Copy, Debug, PartialEq, Eq)]
+pub enum Report {
+    /// `check`: in which order it takes its locks, and which ones before each statement.
+    Check,
+    /// `order`: the order of its lock classes, as a graph.
+    Order,
+    /// `listing`: the instructions of its sections.
+    Listing,
+    /// `serial`: the history of all its calls, run one after another.
     Serial {
-        /// The file of the program's text.
-        file: &'a str,
         /// The most turns that each execution of a loop may make.
         turns: u64,
     },
-    /// `outcomes`: tell how the cells of a program can end, over the orders of its calls.
-    Outcomes {
-        /// The file of the program's text.
-        file: &'a str,
-        /// The most turns that each execution of a loop may make.
-        turns: u64,
-        /// The most orders that are looked at.
-        count: u64,
-        /// Which orders are drawn, where there are more.
-        seed: u64,
-    },
-    /// `simulate`: run the steps of a steps file over the threads of a program.
-    Simulate {
-        /// The file of the program's text.
-        file: &'a str,
-        /// The steps file.
-        steps: &'a str,
-    },
-    /// `trace`: the same, with a line for each step before it.
+    /// `outcomes`: how its cells can end, over the orders of its calls.
+    Outcomes(Looking),
+}
+
+/// How the orders of a program's calls are looked at.
+#[derive(Clone, Copy, Debug, PartialEq, Eq)]
+pub struct Looking {
+    /// The most turns that each execution of a loop may make.
+    pub turns: u64,
+    /// The most orders that are looked at.
+    pub count: u64,
+    /// Which orders are drawn, where there are more.
+    pub seed: u64,
+}
+
+/// What is told of a program that is accepted, and of another file.
+#[derive(Clone, Copy, Debug, PartialEq, Eq)]
+pub enum Beside {
+    /// `simulate`: the world after the steps of a steps file.
+    Simulate,
+    /// `trace`: the steps of a steps file, and the world after them.
     Trace {
-        /// The file of the program's text.
-        file: &'a str,
-        /// The steps file.
-        steps: &'a str,
         /// Whether the instructions of sections are left out.
         sections: bool,
     },
-    /// `run`: run the calls of each thread of a program in a thread of its own.
-    Run {
-        /// The file of the program's text.
-        file: &'a str,
-    },
-    /// `replay`: compare a recorded history with what its calls answer, one after another.
-    Replay {
-        /// The file of the program's text.
-        file: &'a str,
-        /// The history file.
-        history: &'a str,
-        /// The most turns that each execution of a loop may make.
-        turns: u64,
-        /// Whether to say what may come at a line that differs.
-        why: bool,
-    },
+    /// `replay`: whether a recorded history is one of the program's.
+    Replay(Judging),
+}
+
+/// How a recorded history is judged.
+#[derive(Clone, Copy, Debug, PartialEq, Eq)]
+pub struct Judging {
+    /// The most turns that each execution of a loop may make.
+    pub turns: u64,
+    /// Whether what may come at a line that differs is told.
+    pub why: bool,
 }

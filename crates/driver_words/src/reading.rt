@@ -3,10 +3,13 @@
 ghost use Rattle.std.specs.Prelude.{◌≡◌, IfOk, IfErr, IfSome, OnOk, None, [], map};
 ghost use Rattle.clap.specs.Words.{fault_of, found_of, rows_of, subcommand_of};
 ghost use Rattle.driver_words.specs.Commands.{autolock};
-ghost use Rattle.driver_words.specs.Lines.{name_in, IsNumber, IsTurns, IsFlag, IsLine, IsLineOf, IsOwnName, IsRefused};
+ghost use Rattle.driver_words.specs.Lines.{name_in, IsNumber, IsTurns, IsFlag, IsLine, IsLineOf, IsOwnName, IsRefused, IsRequest};
 
 use crate::command::command;
-use crate::line::{DEFAULT_COUNT, DEFAULT_SEED, DEFAULT_TURNS, Line};
+use crate::line::{
+    Alone, Beside, DEFAULT_COUNT, DEFAULT_SEED, DEFAULT_TURNS, Judging, Line, Looking, Report,
+    Request,
+};
 use clap::error::ErrorKind;
 use clap::{ArgMatches, Error};
 use std::alloc::Global;
@@ -39,48 +42,53 @@ fn flag(matches: &ArgMatches<'_>, id: &str) -> bool
     matches.get_flag(id)
 }
 
+/// What a command asks of the program, or `None` where there is no such command.
+fn request<'a>(command: &str, matches: &ArgMatches<'a>) -> Option<Request<'a>>
+    ensures request { IfSome result (IsRequest command.now (rows_of (found_of matches.now))) }
+    ensures none { result ≡ None → IsOwnName command.now → ⊥ }
+{
+    let request = match command {
+        "check" => Request::Alone(Alone::Report(Report::Check)),
+        "explain" => Request::Alone(Alone::Explain {
+            json: flag(matches, "json"),
+        }),
+        "order" => Request::Alone(Alone::Report(Report::Order)),
+        "listing" => Request::Alone(Alone::Report(Report::Listing)),
+        "serial" => Request::Alone(Alone::Report(Report::Serial {
+            turns: turns(matches),
+        })),
+        "outcomes" => Request::Alone(Alone::Report(Report::Outcomes(Looking {
+            turns: turns(matches),
+            count: number(matches, "count", DEFAULT_COUNT),
+            seed: number(matches, "seed", DEFAULT_SEED),
+        }))),
+        "run" => Request::Alone(Alone::Run),
+        "simulate" => Request::Beside(Beside::Simulate, name(matches, "STEPS")),
+        "trace" => {
+            let sections = flag(matches, "sections");
+            Request::Beside(Beside::Trace { sections }, name(matches, "STEPS"))
+        }
+        "replay" => {
+            let judging = Judging {
+                turns: turns(matches),
+                why: flag(matches, "why"),
+            };
+            Request::Beside(Beside::Replay(judging), name(matches, "HISTORY"))
+        }
+        _ => return None,
+    };
+    Some(request)
+}
+
 /// The line of a command, or `None` where there is no such command.
 fn line<'a>(command: &str, matches: &ArgMatches<'a>) -> Option<Line<'a>>
     ensures line { IfSome result (IsLine command.now (rows_of (found_of matches.now))) }
     ensures none { result ≡ None → IsOwnName command.now → ⊥ }
 {
-    let file = name(matches, "FILE");
-    match command {
-        "check" => Some(Line::Check { file }),
-        "explain" => Some(Line::Explain {
-            file,
-            json: flag(matches, "json"),
-        }),
-        "order" => Some(Line::Order { file }),
-        "listing" => Some(Line::Listing { file }),
-        "serial" => Some(Line::Serial {
-            file,
-            turns: turns(matches),
-        }),
-        "outcomes" => Some(Line::Outcomes {
-            file,
-            turns: turns(matches),
-            count: number(matches, "count", DEFAULT_COUNT),
-            seed: number(matches, "seed", DEFAULT_SEED),
-        }),
-        "simulate" => Some(Line::Simulate {
-            file,
-            steps: name(matches, "STEPS"),
-        }),
-        "trace" => Some(Line::Trace {
-            file,
-            steps: name(matches, "STEPS"),
-            sections: flag(matches, "sections"),
-        }),
-        "run" => Some(Line::Run { file }),
-        "replay" => Some(Line::Replay {
-            file,
-            history: name(matches, "HISTORY"),
-            turns: turns(matches),
-            why: flag(matches, "why"),
-        }),
-        _ => None,
-    }
+    Some(Line {
+        file: name(matches, "FILE"),
+        request: request(command, matches)?,
+    })
 }
 
 /// What the words of a command line ask for, of which the first is the program's name.

@@ -1,19 +1,9 @@
 //! What the engines of the crate `driver` answer for a text.
 
-use driver::{
-    Looking, Sink, SourceText, Status, Streams, check, find_outcomes, listing, order_graph, serial,
-    simulate,
-};
+use driver::{Sink, SourceText, Status, Streams, check, serve_report, simulate};
 use source::memory::NoMemory;
 use std::alloc::Global;
 use test_files::asked::Engine;
-
-/// How orders of calls are looked at.
-const LOOKING: Looking = Looking {
-    turns: 1000,
-    count: 1000,
-    seed: 0,
-};
 
 /// How an engine ended, and what it wrote.
 #[derive(Drop)]
@@ -33,11 +23,8 @@ fn answer(alloc: Global, engine: Engine<'_>, text: &str) -> Result<Outcome, NoMe
         err: Sink::new(Vec::new(alloc)),
     };
     let status = match engine {
-        Engine::Check | Engine::Lists => check(alloc, &mut source, &mut streams),
-        Engine::Graph => order_graph(alloc, &mut source, &mut streams),
-        Engine::Listing => listing(alloc, &mut source, &mut streams),
-        Engine::Serial(turns) => serial(alloc, turns, &mut source, &mut streams),
-        Engine::Outcomes => find_outcomes(alloc, LOOKING, &mut source, &mut streams),
+        Engine::Check => check(alloc, &mut source, &mut streams),
+        Engine::Report(report) => serve_report(alloc, report, &mut source, &mut streams),
         Engine::Simulate(steps) => {
             let mut steps = SourceText::new("T", steps.as_bytes());
             simulate(alloc, &mut source, &mut steps, &mut streams)

@@ -8,10 +8,10 @@
 //! - `@ask WORD` says what is asked of the texts below it:
 //!   - `check`, as at the head of a file: the first line of what the engine `check` writes, `accepted`;
 //!   - `lists`: what `check` writes;
-//!   - `graph`: what `order_graph` writes;
-//!   - `listing`: what `list` writes;
+//!   - `graph`: what `order` writes;
+//!   - `listing`: what `listing` writes;
 //!   - `serial N`: what `serial` writes within N turns of each loop;
-//!   - `outcomes`: what `find_outcomes` writes, of at most 1,000 orders and within 1,000 turns of each loop;
+//!   - `outcomes`: what `outcomes` writes, of at most 1,000 orders and within 1,000 turns of each loop;
 //!   - `simulate STEPS`: what `simulate` writes after these steps, in a file called `T`; they may be none behind the blank;
 //!   - `tree`: `tree`, or the line of the fault that the lexer or the parser tells;
 //!   - `print`: the tree printed, without the last line feed;

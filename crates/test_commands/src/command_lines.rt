@@ -44,24 +44,25 @@ fn reads_lines(rt: HostRuntime) -> Result<(), Fail> {
     judge(
         rt.alloc(),
         "
-autolock check F => Check { file: \"F\" }
-autolock explain F => Explain { file: \"F\", json: false }
-autolock explain F --json => Explain { file: \"F\", json: true }
-autolock order F => Order { file: \"F\" }
-autolock serial F => Serial { file: \"F\", turns: 1000000 }
-autolock serial --turns 7 F => Serial { file: \"F\", turns: 7 }
-autolock serial --turns=0 F => Serial { file: \"F\", turns: 0 }
-autolock serial --turns 1000000000 F => Serial { file: \"F\", turns: 1000000000 }
-autolock outcomes F => Outcomes { file: \"F\", turns: 1000000, count: 100000, seed: 0 }
-autolock outcomes --seed 5 --count 3 F => Outcomes { file: \"F\", turns: 1000000, count: 3, seed: 5 }
-autolock outcomes --turns 7 F => Outcomes { file: \"F\", turns: 7, count: 100000, seed: 0 }
-autolock simulate F S => Simulate { file: \"F\", steps: \"S\" }
-autolock trace F S => Trace { file: \"F\", steps: \"S\", sections: false }
-autolock trace F --sections S => Trace { file: \"F\", steps: \"S\", sections: true }
-autolock run F => Run { file: \"F\" }
-autolock replay F H => Replay { file: \"F\", history: \"H\", turns: 1000000, why: false }
-autolock replay F --turns 7 H => Replay { file: \"F\", history: \"H\", turns: 7, why: false }
-autolock replay --why F H => Replay { file: \"F\", history: \"H\", turns: 1000000, why: true }
+autolock check F => Line { file: \"F\", request: Alone(Report(Check)) }
+autolock explain F => Line { file: \"F\", request: Alone(Explain { json: false }) }
+autolock explain F --json => Line { file: \"F\", request: Alone(Explain { json: true }) }
+autolock order F => Line { file: \"F\", request: Alone(Report(Order)) }
+autolock listing F => Line { file: \"F\", request: Alone(Report(Listing)) }
+autolock serial F => Line { file: \"F\", request: Alone(Report(Serial { turns: 1000000 })) }
+autolock serial --turns 7 F => Line { file: \"F\", request: Alone(Report(Serial { turns: 7 })) }
+autolock serial --turns=0 F => Line { file: \"F\", request: Alone(Report(Serial { turns: 0 })) }
+autolock serial --turns 1000000000 F => Line { file: \"F\", request: Alone(Report(Serial { turns: 1000000000 })) }
+autolock outcomes F => Line { file: \"F\", request: Alone(Report(Outcomes(Looking { turns: 1000000, count: 100000, seed: 0 }))) }
+autolock outcomes --seed 5 --count 3 F => Line { file: \"F\", request: Alone(Report(Outcomes(Looking { turns: 1000000, count: 3, seed: 5 }))) }
+autolock outcomes --turns 7 F => Line { file: \"F\", request: Alone(Report(Outcomes(Looking { turns: 7, count: 100000, seed: 0 }))) }
+autolock simulate F S => Line { file: \"F\", request: Beside(Simulate, \"S\") }
+autolock trace F S => Line { file: \"F\", request: Beside(Trace { sections: false }, \"S\") }
+autolock trace F --sections S => Line { file: \"F\", request: Beside(Trace { sections: true }, \"S\") }
+autolock run F => Line { file: \"F\", request: Alone(Run) }
+autolock replay F H => Line { file: \"F\", request: Beside(Replay(Judging { turns: 1000000, why: false }), \"H\") }
+autolock replay F --turns 7 H => Line { file: \"F\", request: Beside(Replay(Judging { turns: 7, why: false }), \"H\") }
+autolock replay --why F H => Line { file: \"F\", request: Beside(Replay(Judging { turns: 1000000, why: true }), \"H\") }
 ",
     )
 }

@@ -10,17 +10,23 @@ use Rattle.test_files.specs.declared.asked.Asked.{Asked}
 use Rattle.test_files.specs.declared.asked.Asked.TheVariants.{Engine, Tokens, Tree, Print, Again, Paths, Points, Order}
 use Rattle.test_files.specs.declared.paragraph.Paragraph.{Paragraph}
 use Rattle.test_files.specs.declared.paragraph.Paragraph.TheVariants.{Note, Ask, Head, Case, Unreadable}
-use Rattle.test_files.specs.declared.asked.Engine.TheVariants.{Check, Lists, Graph, Listing, Serial, Outcomes, Simulate}
+use Rattle.test_files.specs.declared.asked.Engine.TheVariants.{Check, Report, Simulate}
+use Rattle.driver_words.specs.declared.line.Looking.{Looking}
+use Rattle.driver_words.specs.declared.line.Report.TheVariants as report
+
+-- how orders of calls are looked at
+abbrev pub looking : Looking
+looking = record { turns = 1000; count = 1000; seed = 0 }
 
 -- what `Asked::named` promises of a word and its answer
 abbrev pub Named : List ℕ → Option Asked → Type 0
 Named word result = record {
   check : (result ≡ Some (Engine Check)) ↔ (word ≡ codes "check");
-  lists : (result ≡ Some (Engine Lists)) ↔ (word ≡ codes "lists");
-  graph : (result ≡ Some (Engine Graph)) ↔ (word ≡ codes "graph");
-  listing : (result ≡ Some (Engine Listing)) ↔ (word ≡ codes "listing");
-  serial : (turns : ℕ) → (result ≡ Some (Engine (Serial turns))) ↔ IsSerial word turns;
-  outcomes : (result ≡ Some (Engine Outcomes)) ↔ (word ≡ codes "outcomes");
+  lists : (result ≡ Some (Engine (Report report.Check))) ↔ (word ≡ codes "lists");
+  graph : (result ≡ Some (Engine (Report report.Order))) ↔ (word ≡ codes "graph");
+  listing : (result ≡ Some (Engine (Report report.Listing))) ↔ (word ≡ codes "listing");
+  serial : (turns : ℕ) → (result ≡ Some (Engine (Report (report.Serial turns)))) ↔ IsSerial word turns;
+  outcomes : (result ≡ Some (Engine (Report (report.Outcomes looking)))) ↔ (word ≡ codes "outcomes");
   simulate : (steps : Bor (List ℕ)) → result ≡ Some (Engine (Simulate steps)) → IsSimulate word steps.now;
   steps : (s : List ℕ) → IsSimulate word s → (steps : Bor (List ℕ)) × (result ≡ Some (Engine (Simulate steps)));
   tokens : (result ≡ Some Tokens) ↔ (word ≡ codes "tokens");
@@ -35,16 +41,16 @@ Named word result = record {
 pub named_check : Named (codes "check") (Some (Engine Check))
 named_check = search rules
 
-pub named_lists : Named (codes "lists") (Some (Engine Lists))
+pub named_lists : Named (codes "lists") (Some (Engine (Report report.Check)))
 named_lists = search rules
 
-pub named_graph : Named (codes "graph") (Some (Engine Graph))
+pub named_graph : Named (codes "graph") (Some (Engine (Report report.Order)))
 named_graph = search rules
 
-pub named_outcomes : Named (codes "outcomes") (Some (Engine Outcomes))
+pub named_outcomes : Named (codes "outcomes") (Some (Engine (Report (report.Outcomes looking))))
 named_outcomes = search rules
 
-pub named_listing : Named (codes "listing") (Some (Engine Listing))
+pub named_listing : Named (codes "listing") (Some (Engine (Report report.Listing)))
 named_listing = search rules
 
 pub named_tokens : Named (codes "tokens") (Some Tokens)

@@ -4,21 +4,22 @@ ghost use Rattle.std.specs.Prelude.{◌≡◌, ◌↔◌, List, Some, ℕ, codes
 ghost use Rattle.std.specs.Borrow.{Bor};
 ghost use Rattle.test_files.specs.Asking.{IsSerial, IsSimulate};
 
+use driver_words::{Looking, Report};
+
+/// How orders of calls are looked at.
+const LOOKING: Looking = Looking {
+    turns: 1000,
+    count: 1000,
+    seed: 0,
+};
+
 /// An engine of the crate `driver` that is run on the text, and what is asked of its answer.
 #[derive(Clone, Copy)]
 pub enum Engine<'a> {
     /// `check`: whether it accepts the text, or its fault.
     Check,
-    /// `check`: all that it writes, which is the lock paths that are listed before each point.
-    Lists,
-    /// `order_graph`: the order of its lock classes as a graph.
-    Graph,
-    /// `list`: the instructions of each section.
-    Listing,
-    /// `serial`: the history within so many turns of each loop.
-    Serial(u64),
-    /// `find_outcomes`: how its cells can end, over the orders of its calls.
-    Outcomes,
+    /// All that is told of its program.
+    Report(Report),
     /// `simulate`: the world after these steps.
     Simulate(&'a str),
 }
@@ -48,11 +49,11 @@ impl Asked<'_> {
     /// What this word asks, if it is one of those below.
     pub fn named(word: &str) -> Option<Asked<'_>>
         ensures check { (result ≡ Some (Asked.Engine Engine.Check)) ↔ (word.now ≡ codes "check") }
-        ensures lists { (result ≡ Some (Asked.Engine Engine.Lists)) ↔ (word.now ≡ codes "lists") }
-        ensures graph { (result ≡ Some (Asked.Engine Engine.Graph)) ↔ (word.now ≡ codes "graph") }
-        ensures listing { (result ≡ Some (Asked.Engine Engine.Listing)) ↔ (word.now ≡ codes "listing") }
-        ensures serial { (turns : ℕ) → (result ≡ Some (Asked.Engine (Engine.Serial turns))) ↔ IsSerial word.now turns }
-        ensures outcomes { (result ≡ Some (Asked.Engine Engine.Outcomes)) ↔ (word.now ≡ codes "outcomes") }
+        ensures lists { (result ≡ Some (Asked.Engine (Engine.Report Report.Check))) ↔ (word.now ≡ codes "lists") }
+        ensures graph { (result ≡ Some (Asked.Engine (Engine.Report Report.Order))) ↔ (word.now ≡ codes "graph") }
+        ensures listing { (result ≡ Some (Asked.Engine (Engine.Report Report.Listing))) ↔ (word.now ≡ codes "listing") }
+        ensures serial { (turns : ℕ) → (result ≡ Some (Asked.Engine (Engine.Report (Report.Serial turns)))) ↔ IsSerial word.now turns }
+        ensures outcomes { (result ≡ Some (Asked.Engine (Engine.Report (Report.Outcomes (record { turns = 1000; count = 1000; seed = 0 }))))) ↔ (word.now ≡ codes "outcomes") }
         ensures simulate { (steps : Bor (List ℕ)) → result ≡ Some (Asked.Engine (Engine.Simulate steps)) → IsSimulate word.now steps.now }
         ensures steps { (s : List ℕ) → IsSimulate word.now s → (steps : Bor (List ℕ)) × (result ≡ Some (Asked.Engine (Engine.Simulate steps))) }
         ensures tokens { (result ≡ Some Asked.Tokens) ↔ (word.now ≡ codes "tokens") }
@@ -65,7 +66,7 @@ impl Asked<'_> {
     {
         if let Some(turns) = word.strip_prefix("serial ") {
             return match turns.parse::<u64>() {
-                Ok(turns) => Some(Asked::Engine(Engine::Serial(turns))),
+                Ok(turns) => Some(Asked::Engine(Engine::Report(Report::Serial { turns }))),
                 Err(_) => None,
             };
         }
@@ -74,10 +75,10 @@ impl Asked<'_> {
         }
         match word {
             "check" => Some(Asked::Engine(Engine::Check)),
-            "lists" => Some(Asked::Engine(Engine::Lists)),
-            "graph" => Some(Asked::Engine(Engine::Graph)),
-            "listing" => Some(Asked::Engine(Engine::Listing)),
-            "outcomes" => Some(Asked::Engine(Engine::Outcomes)),
+            "lists" => Some(Asked::Engine(Engine::Report(Report::Check))),
+            "graph" => Some(Asked::Engine(Engine::Report(Report::Order))),
+            "listing" => Some(Asked::Engine(Engine::Report(Report::Listing))),
+            "outcomes" => Some(Asked::Engine(Engine::Report(Report::Outcomes(LOOKING)))),
             "tokens" => Some(Asked::Tokens),
             "tree" => Some(Asked::Tree),
             "print" => Some(Asked::Print),

@@ -15,10 +15,6 @@ use Rattle.source_steps.specs.declared.refusal.StepsFault.{StepsFault}
 use Rattle.source_steps.specs.Steps.{steps_fault_text}
 use Rattle.rope.specs.Working.Ropes.{rope_text}
 use Rattle.driver.specs.declared.answer.Answer.{Answer}
-use Rattle.driver.specs.declared.request.PairRequest.{PairRequest}
-use Rattle.driver.specs.declared.request.PairRequest.TheVariants.{Simulate, Trace, Replay}
-use Rattle.driver.specs.declared.request.Request.{Request}
-use Rattle.driver.specs.declared.request.Request.TheVariants.{Check, OrderGraph, Listing, Serial, Outcomes}
 use Rattle.driver.specs.declared.status.Status.{Status}
 use Rattle.driver.specs.declared.status.Status.TheVariants.{Done, Refused, BadInput}
 use Rattle.driver.specs.Answers.{IsRefused}
@@ -40,10 +36,10 @@ use Rattle.replay.specs.declared.verdict.Judgement.{Judgement}
 abbrev pub Meets : (Status → List ℕ → List ℕ → Type 0) → Answer → Type 0
 Meets Wanted answer = Wanted answer.status (rope_text answer.out) (string_bytes answer.err)
 
--- the answer to a fault
-abbrev pub IsFaultAnswer : List ℕ → List ℕ → Fault → Answer → Type 0
-IsFaultAnswer file text fault answer =
-    (answer.status ≡ Refused) × (rope_text answer.out ≡ []) × (string_bytes answer.err ≡ line (fault_text file text fault))
+-- nothing is written, and this message is told
+abbrev pub IsMessage : Status → List ℕ → Answer → Type 0
+IsMessage status message answer =
+    (answer.status ≡ status) × (rope_text answer.out ≡ []) × (string_bytes answer.err ≡ message)
 
 -- what explains a fault, and what tells of a program without one, of values of the code
 abbrev pub fault_told_of : Bool → Explanation → List ℕ
@@ -57,14 +53,6 @@ abbrev pub IsExplainedAnswer : Bool → Explanation → Answer → Type 0
 IsExplainedAnswer json explanation answer =
     (answer.status ≡ Refused) × (rope_text answer.out ≡ fault_told_of json explanation) × (string_bytes answer.err ≡ [])
 
-abbrev pub IsBadStepsAnswer : List ℕ → List ℕ → StepsFault → Answer → Type 0
-IsBadStepsAnswer steps_file items fault answer =
-    (answer.status ≡ BadInput) × (rope_text answer.out ≡ []) × (string_bytes answer.err ≡ line (steps_fault_text steps_file items fault))
-
-abbrev pub IsBadHistoryAnswer : List ℕ → HistoryFault → Answer → Type 0
-IsBadHistoryAnswer history_file fault answer =
-    (answer.status ≡ BadInput) × (rope_text answer.out ≡ []) × (string_bytes answer.err ≡ line (history_fault_text history_file fault))
-
 -- to a judgement on these lines
 abbrev pub IsJudgementAnswer : Bool → Judgement → List (List ℕ) → Answer → Type 0
 IsJudgementAnswer why judgement lines answer =
@@ -76,25 +64,7 @@ abbrev pub IsToldAnswer : Typed → Option ℕ → List Told → Answer → Type
 IsToldAnswer program states ends answer =
     (answer.status ≡ Done) × (rope_text answer.out ≡ outcomes_text program states ends) × (string_bytes answer.err ≡ [])
 
--- to threads that found another history than they had left
-abbrev pub IsStrangeAnswer : Answer → Type 0
-IsStrangeAnswer answer = Meets IsStrange answer
-
 -- a text was accepted, or this is the answer to its fault
 abbrev pub IsAccepted : List ℕ → List ℕ → Result Plan Answer → Type 0
 IsAccepted file text (Ok plan) = Accepts text plan.accepted × IsCompiled plan
 IsAccepted file text (Err answer) = Meets (IsRefused file text) answer
-
--- what is answered to a request for a program
-abbrev pub RequestAnswers : Request → List ℕ → Plan → Status → List ℕ → List ℕ → Type 0
-RequestAnswers Check text plan = IsCheckReport text plan
-RequestAnswers OrderGraph text plan = IsOrderGraph text plan
-RequestAnswers Listing text plan = IsListed plan
-RequestAnswers (Serial turns) text plan = IsRun turns plan.accepted
-RequestAnswers (Outcomes looking) text plan = IsLookedAt looking plan.accepted
-
--- to one for a program with this text, and the text of another file
-abbrev pub PairWanted : PairRequest → List ℕ → List ℕ → List ℕ → Plan → Status → List ℕ → List ℕ → Type 0
-PairWanted Simulate text other_file other = IsSimulated other_file other
-PairWanted (Trace moves) text other_file other = IsTraceAnswer moves other_file text other
-PairWanted (Replay judging) text other_file other = IsReplayed judging other_file other

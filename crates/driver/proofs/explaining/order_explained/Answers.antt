@@ -1,4 +1,4 @@
-use Rattle.std.proofs.Common.{refl, ap, ◌∙◌}
+use Rattle.std.proofs.Common.{ap, ◌∙◌}
 use Rattle.rope.specs.Working.Ropes.{rope_text}
 use Rattle.driver.specs.Explanations.{faultless}
 use Rattle.driver.proofs.explaining.order_explained.Goals as goal
@@ -13,7 +13,7 @@ returns c = faultless (record {
   are_ranks = c.requires.ranks;
   notes = _;
   tell = rw (c.deref.ensures.value, ← c.deref-2.ensures.value) at c.in_ok-notes.ensures;
-  ended = refl;
-  written = ap rope_text c.of.ensures ∙ c.in_ok-acceptance_told.ensures;
-  told = c.new.ensures.bytes;
+  ended = c.done.ensures.ended;
+  written = c.done.ensures.written ∙ ap rope_text c.of.ensures ∙ c.in_ok-out.ensures;
+  told = c.done.ensures.told;
 })

@@ -11,8 +11,8 @@ returns c = answer.traced (record {
   turns = c.in-Ok.turns.items;
   said = search rules;
   headline = search rules;
-  ended = search rules;
-  written = ap rope_text c.of.ensures ∙ c.in_ok-text.ensures
-      ∙ ap (λ (ts : List Turn). trace_text c.args.pair.now.text.now c.args.program.now c.args.moves (steps_of ts)) c.deref.ensures.value;
-  told = search rules;
+  ended = c.done.ensures.ended;
+  written = c.done.ensures.written ∙ ap rope_text c.of.ensures ∙ c.in_ok-out.ensures
+      ∙ ap (λ (ts : List Turn). trace_text c.args.trace.now.text.now c.args.trace.now.program.now c.args.trace.now.moves (steps_of ts)) c.deref.ensures.value;
+  told = c.done.ensures.told;
 })

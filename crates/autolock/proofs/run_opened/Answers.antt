@@ -1,4 +1,0 @@
-use Rattle.autolock.proofs.run_opened.Goals as goal
-
-pub returns-in-Explain : goal.returns-in-Explain
-returns-in-Explain g c = rw c.in-Explain.is c.explain.ensures
