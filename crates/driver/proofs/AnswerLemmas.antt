@@ -3,13 +3,14 @@ use Rattle.std.proofs.Common.{◌≡◌, ℕ, List}
 use Rattle.driver_words.specs.declared.line.Beside.{Beside}
 use Rattle.driver_words.specs.declared.line.Beside.TheVariants.{Simulate, Trace, Replay}
 use Rattle.driver_words.specs.declared.line.Alone.{Alone}
-use Rattle.driver_words.specs.declared.line.Alone.TheVariants.{Report as of_report, Explain, Run}
+use Rattle.driver_words.specs.declared.line.Alone.TheVariants.{Report as of_report, Order, Explain, Run}
 use Rattle.driver_words.specs.declared.line.Report.{Report}
-use Rattle.driver_words.specs.declared.line.Report.TheVariants.{Check, Order, Listing, Serial, Outcomes}
+use Rattle.driver_words.specs.declared.line.Report.TheVariants.{Check, Listing, Serial, Outcomes}
 use Rattle.lowering.specs.Plans.{Plan}
 use Rattle.driver.specs.declared.status.Status.{Status}
 use Rattle.driver.specs.Answers.{accepted, refused}
 use Rattle.driver.specs.Explanations.{faultless, explained, cycle_explained}
+use Rattle.driver.specs.OrderGraphs as graphs
 use Rattle.driver.specs.Outcomes as outcomes
 use Rattle.driver.specs.Requests.{IsReport, IsReportBeside, AloneAnswers, BesideAnswers}
 use Rattle.driver.specs.Serial.{all_settled, stopped}
@@ -25,8 +26,7 @@ use Rattle.driver.proofs.ServingLemmas.{IsAnswered}
 of_program : (report : Report) (text : List ℕ) (plan : Plan) (status : Status) (out err : List ℕ) →
     IsReport report text plan status out err → IsAnswered status
 of_program Check text plan status out err is = serving.done is.ended
-of_program Order text plan status out err is = serving.done is.ended
-of_program Listing text plan status out err is = serving.done is.ended
+of_program (Listing places) text plan status out err is = serving.done is.ended
 of_program (Serial turns) text plan status out err (all_settled is) = serving.done is.ended
 of_program (Serial turns) text plan status out err (stopped is) = serving.unsettled is.ended
 of_program (Outcomes looking) text plan status out err (outcomes.all_told is) = serving.done is.ended
@@ -38,6 +38,9 @@ pub alone_is_answered : (request : Alone) (file text : List ℕ) (status : Statu
 alone_is_answered (of_report report) file text status out err (accepted plan accepts compiled is) =
     of_program report text plan status out err is
 alone_is_answered (of_report report) file text status out err (refused is) = serving.refused is.ended
+alone_is_answered Order file text status out err (graphs.ordered is) = serving.done is.ended
+alone_is_answered Order file text status out err (graphs.cyclic is) = serving.refused is.ended
+alone_is_answered Order file text status out err (graphs.refused is bare) = serving.refused is.ended
 alone_is_answered (Explain json) file text status out err (faultless is) = serving.done is.ended
 alone_is_answered (Explain json) file text status out err (explained is) = serving.refused is.ended
 alone_is_answered (Explain json) file text status out err (cycle_explained is) = serving.refused is.ended

@@ -98,7 +98,7 @@ tell_alike t u code at notes long longer are = record {
   limited = λ words is limit. are.limited words is (limit_alike longer long limit);
 }
 
-no_cycle : (program : Typed) (fault : Fault) → fault.code ≡ LimitExceeded → IsFaultAtFirst program fault → ⊥
+pub no_cycle : (program : Typed) (fault : Fault) → fault.code ≡ LimitExceeded → IsFaultAtFirst program fault → ⊥
 no_cycle program fault limit (at_first c rest number used bound cycle makes starts code detail) = absurd cc
 
 explained_of_long : (json : Bool) (file t u : List ℕ) (status : Status) (out err : List ℕ) → IsLong t → IsLong u →

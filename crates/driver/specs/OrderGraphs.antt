@@ -1,17 +1,55 @@
 -- What `order` answers.
-use Rattle.std.specs.Prelude.{◌≡◌, ℕ, List, []}
+use Rattle.std.specs.Prelude.{◌≡◌, ℕ, List, [], string_bytes}
+use Rattle.code.specs.Listing.{line}
+use Rattle.compiler.specs.Cycles.{IsWrittenProgram}
+use Rattle.compiler.specs.Programs.{Accepts, IsOfFirstPass}
+use Rattle.core_lang.specs.declared.typed.Typed.{Typed}
+use Rattle.core_lang_expansion.specs.Data.{IsExpanded}
 use Rattle.lockorder.specs.declared.ranks.ClassPair.{ClassPair}
+use Rattle.lockorder.specs.declared.ranks.Edge.{Edge}
 use Rattle.lockorder.specs.ClassPairs.{AreClassPairs}
-use Rattle.lowering.specs.Plans.{Plan}
-use Rattle.report_check.specs.Order.{order_text}
+use Rattle.lockorder.specs.Edges.{AreRanksOf}
+use Rattle.lockorder.specs.Faults.{IsCycleOf, IsFaultAtFirst}
+use Rattle.report_check.specs.Order.{order_text, cyclic_order_text}
+use Rattle.source.specs.declared.fault.Fault.{Fault}
+use Rattle.source.specs.Faults.{fault_text}
 use Rattle.driver.specs.declared.status.Status.{Status}
-use Rattle.driver.specs.declared.status.Status.TheVariants.{Done}
+use Rattle.driver.specs.declared.status.Status.TheVariants.{Done, Refused}
+use Rattle.driver.specs.Answers.{IsRefused}
 
--- out says the ranks of the program's lock classes, and the pairs of which the first has to come before the second, each with what makes
--- it so; err is empty
-pub record IsOrderGraph (text : List ℕ) (plan : Plan) (status : Status) (out err : List ℕ) : Type 0 where
+-- the text is accepted: out says the ranks of the lock classes of its program with helpers written out, and the pairs of which the first
+-- has to come before the second, each with what makes it so; err is empty
+pub record IsOrderGraph (text : List ℕ) (status : Status) (out err : List ℕ) : Type 0 where
+  pub program : Typed
+  pub accepts : Accepts text program
+  pub written_out : Typed
+  pub expanded : IsExpanded program written_out
+  pub ranks : List ℕ
+  pub are_ranks : AreRanksOf written_out ranks
   pub pairs : List ClassPair
-  pub are : AreClassPairs plan.program pairs
+  pub are : AreClassPairs written_out pairs
   pub ended : status ≡ Done
-  pub written : out ≡ order_text text plan.program plan.ranks pairs
+  pub written : out ≡ order_text text written_out ranks pairs
   pub told : err ≡ []
+
+-- a fault of the order of locks: out says the pairs of the program that the text means, with the edges of a cycle marked; the fault's
+-- line is told
+pub record IsCyclicGraph (file text : List ℕ) (status : Status) (out err : List ℕ) : Type 0 where
+  pub fault : Fault
+  pub given : IsOfFirstPass text fault
+  pub program : Typed
+  pub meant : IsWrittenProgram text program
+  pub of_order : IsFaultAtFirst program fault
+  pub edges : List Edge
+  pub cycle : IsCycleOf program edges
+  pub pairs : List ClassPair
+  pub are : AreClassPairs program pairs
+  pub ended : status ≡ Refused
+  pub written : out ≡ cyclic_order_text text program pairs edges
+  pub told : err ≡ line (fault_text file text fault)
+
+-- what `order` answers for a text; where the text has another fault, as all engines do
+pub data OrderAnswers (file text : List ℕ) (status : Status) (out err : List ℕ) : Type 0 where
+  ordered : IsOrderGraph text status out err → OrderAnswers file text status out err
+  cyclic : IsCyclicGraph file text status out err → OrderAnswers file text status out err
+  refused : (is : IsRefused file text status out err) → string_bytes is.fault.detail ≡ [] → OrderAnswers file text status out err

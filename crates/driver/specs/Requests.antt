@@ -5,14 +5,14 @@ use Rattle.driver_words.specs.declared.line.Alone.TheVariants as alone
 use Rattle.driver_words.specs.declared.line.Beside.{Beside}
 use Rattle.driver_words.specs.declared.line.Beside.TheVariants.{Simulate, Trace, Replay}
 use Rattle.driver_words.specs.declared.line.Report.{Report}
-use Rattle.driver_words.specs.declared.line.Report.TheVariants.{Check, Order, Listing, Serial, Outcomes}
+use Rattle.driver_words.specs.declared.line.Report.TheVariants.{Check, Listing, Serial, Outcomes}
 use Rattle.lowering.specs.Plans.{Plan}
 use Rattle.driver.specs.declared.status.Status.{Status}
 use Rattle.driver.specs.Answers.{TextAnswers}
 use Rattle.driver.specs.Checks.{IsCheckReport}
 use Rattle.driver.specs.Explanations.{ExplainAnswers}
 use Rattle.driver.specs.Listings.{IsListed}
-use Rattle.driver.specs.OrderGraphs.{IsOrderGraph}
+use Rattle.driver.specs.OrderGraphs.{OrderAnswers}
 use Rattle.driver.specs.Outcomes.{IsLookedAt}
 use Rattle.driver.specs.Replays.{IsReplayed}
 use Rattle.driver.specs.Serial.{IsRun}
@@ -23,8 +23,7 @@ use Rattle.driver.specs.Traces.{IsTraceAnswer}
 -- what is told of an accepted program with this text
 abbrev pub IsReport : Report → List ℕ → Plan → Status → List ℕ → List ℕ → Type 0
 IsReport Check text plan = IsCheckReport text plan
-IsReport Order text plan = IsOrderGraph text plan
-IsReport Listing text plan = IsListed plan
+IsReport (Listing places) text plan = IsListed places text plan
 IsReport (Serial turns) text plan = IsRun turns plan.accepted
 IsReport (Outcomes looking) text plan = IsLookedAt looking plan.accepted
 
@@ -37,6 +36,7 @@ IsReportBeside (Replay judging) text other_file other = IsReplayed judging other
 -- what is answered for the text of a program's file, of this name
 abbrev pub AloneAnswers : Alone → List ℕ → List ℕ → Status → List ℕ → List ℕ → Type 0
 AloneAnswers (alone.Report report) file text = TextAnswers (IsReport report text) file text
+AloneAnswers alone.Order file text = OrderAnswers file text
 AloneAnswers (alone.Explain json) file text = ExplainAnswers json file text
 AloneAnswers alone.Run file text = TextAnswers IsThreadsRun file text
 

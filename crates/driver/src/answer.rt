@@ -14,7 +14,6 @@ ghost use Rattle.driver.specs.Serial.{IsRun};
 ghost use Rattle.driver.specs.ThreadRuns.{IsThreadsRun};
 
 use crate::exploring::Exploring;
-use crate::ordering::ordered;
 use crate::replaying::replayed;
 use crate::running::{prepared, run_scripts};
 use crate::simulating::simulated;
@@ -26,7 +25,7 @@ use core_lang::laws;
 use core_lang::typed::Typed;
 use driver_words::{Beside, Report};
 use lowering::compiled::Program;
-use lowering::listing;
+use lowering::{listing, listing_with_places};
 use meaning_registers::prepared::Prepared;
 use report::{history_text, unsettled_text};
 use report_check::Check;
@@ -125,10 +124,18 @@ fn checked(alloc: Global, text: &[u8], program: &Program) -> Result<Answer, NoMe
     Ok(Answer::done(alloc, check.text(alloc)?))
 }
 
-/// The listing of a program.
-fn listed(alloc: Global, program: &Program) -> Result<Answer, NoMemory>
-    ensures { IfOk result (Meets (IsListed program.now)) }
+/// The listing of a program with this text, with places or without.
+fn listed(
+    alloc: Global,
+    places: bool,
+    text: &[u8],
+    program: &Program,
+) -> Result<Answer, NoMemory>
+    ensures { IfOk result (Meets (IsListed places text.now program.now)) }
 {
+    if places {
+        return Ok(Answer::done(alloc, listing_with_places(alloc, text, program)?));
+    }
     Ok(Answer::done(alloc, listing(alloc, program)?))
 }
 
@@ -169,8 +176,7 @@ fn reported(
 {
     match report {
         Report::Check => checked(alloc, text, program),
-        Report::Order => ordered(alloc, text, program),
-        Report::Listing => listed(alloc, program),
+        Report::Listing { places } => listed(alloc, places, text, program),
         Report::Serial { turns } => {
             let prepared = prepared(alloc, program)?;
             ran(alloc, program.typed(), &prepared, turns)

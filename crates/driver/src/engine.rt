@@ -8,6 +8,7 @@ ghost use Rattle.driver.specs.Streams.{name_of, reading_failed, writing_failed};
 
 use crate::answer::{Named, beside_answer, report_answer, threads_answer};
 use crate::explaining::explain;
+use crate::ordering::order_graph;
 use crate::source_text::SourceText;
 use crate::status::Status;
 use crate::streams::Streams;
@@ -27,7 +28,8 @@ const ALL_BYTES: u64 = u64::MAX - 1;
 /// written to `out`, its message to `err`. The status says how that ended:
 ///
 /// - `Done`: what was asked for was written to `out`.
-/// - `Refused`: the program has a fault, which is told on `err`, or, where it is to be explained, on `out`.
+/// - `Refused`: the program has a fault, which is told on `err`, or, where it is to be explained, on `out`. Where its locks have
+///   no order, the graph of their classes is written all the same.
 /// - `Unsettled`: a call meets a loop past the turns that were given. The text is that of the calls before it, and a line
 ///   that names it.
 /// - `Strange`: a thread found another history than it had left, which is told on `err`.
@@ -51,6 +53,7 @@ pub fn serve<R: Threads + Wait + Sync, S: Read, O: Write, E: Write>(
 {
     match request {
         Alone::Report(report) => serve_report(alloc, report, source, streams),
+        Alone::Order => order_graph(alloc, source, streams),
         Alone::Explain { json } => explain(alloc, json, source, streams),
         Alone::Run => run(threads, alloc, source, streams),
     }
@@ -142,10 +145,10 @@ pub fn listing<S: Read, O: Write, E: Write>(
 ) -> Status
     requires readable { reading_failed source.old ≡ false }
     requires writable { writing_failed streams.old.out ≡ false }
-    ensures { Serves (OfOne (AloneAnswers (Alone.Report Report.Listing) (name_of source.old))) (reading_of S.remaining source.old source.new) []
+    ensures { Serves (OfOne (AloneAnswers (Alone.Report (Report.Listing false)) (name_of source.old))) (reading_of S.remaining source.old source.new) []
         O.contents E.contents streams.old streams.new result }
 {
-    serve_report(alloc, Report::Listing, source, streams)
+    serve_report(alloc, Report::Listing { places: false }, source, streams)
 }
 
 /// Runs all calls of the program that `source` gives one after another, thread 0's whole script first, then thread 1's, and

@@ -92,7 +92,7 @@ fn cycle_explained(alloc: Global, asked: &Asked<'_>, cyclic: &Cyclic) -> Result<
     requires { IsCyclic asked.now.text.now cyclic.now }
     ensures { IfOk result (Meets (ExplainAnswers asked.now.json asked.now.file.now asked.now.text.now)) }
 {
-    let notes = cycle_notes(alloc, &cyclic.written, &cyclic.paths, &cyclic.edges)?;
+    let notes = cycle_notes(alloc, cyclic.trees.program(), &cyclic.paths, &cyclic.edges)?;
     let explanation = Explanation {
         file: asked.file,
         text: asked.text,
@@ -107,7 +107,7 @@ fn order_explained(alloc: Global, asked: &Asked<'_>, ordered: &Ordered) -> Resul
     requires { IsOrdered asked.now.text.now ordered.now }
     ensures { IfOk result (Meets (ExplainAnswers asked.now.json asked.now.file.now asked.now.text.now)) }
 {
-    let notes = order_notes(alloc, &ordered.written, &ordered.paths, &ordered.ranks)?;
+    let notes = order_notes(alloc, ordered.trees.program(), &ordered.paths, &ordered.ranks)?;
     let acceptance = Acceptance {
         file: asked.file,
         text: asked.text,

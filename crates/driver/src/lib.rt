@@ -7,9 +7,10 @@
 //!
 //! - [`serve`]: answers each request that reads the program's file alone; [`serve_beside`]: each that reads another file too.
 //! - [`serve_report`]: what is told of an accepted program, without threads: in which order it takes its locks, and which ones
-//!   before each statement, also as [`check`] (`Checks`); the order of its lock classes, as a graph (`OrderGraphs`); the
-//!   instructions of each section, also as [`listing`] (`Listings`); all its calls one after another, also as [`serial`]
-//!   (`Serial`); how its cells can end, over the orders of its calls (`Outcomes`).
+//!   before each statement, also as [`check`] (`Checks`); the instructions of each section, also as [`listing`] (`Listings`);
+//!   all its calls one after another, also as [`serial`] (`Serial`); how its cells can end, over the orders of its calls
+//!   (`Outcomes`).
+//! - [`order_graph`]: which lock class has to come before which, as a graph (`OrderGraphs`).
 //! - [`explain`]: the fault of a program, with its place in the source (`Explanations`).
 //! - [`run`]: a history of the program's scripts, each run by a thread of its own (`ThreadRuns`).
 //! - [`simulate`]: the world after the steps of a steps file (`Simulations`). The steps one after another, and the world after
@@ -40,6 +41,7 @@ pub use engine::{
     check, listing, replay, run, serial, serve, serve_beside, serve_report, simulate,
 };
 pub use explaining::explain;
+pub use ordering::order_graph;
 pub use sink::Sink;
 pub use source_text::{ReadError, SourceText};
 pub use status::Status;

@@ -1,27 +1,112 @@
-//! The answer of `order`.
+//! The engine of `order`.
 
-ghost use Rattle.std.specs.Prelude.{IfOk};
+ghost use Rattle.std.specs.Prelude.{◌≡◌, [], false, IfOk, string_bytes};
+ghost use Rattle.compiler.specs.Cycles.{IsCyclic};
+ghost use Rattle.compiler.specs.Programs.{IsOfFirstPass};
+ghost use Rattle.compiler.specs.Working.Orders.{IsOrdered};
+ghost use Rattle.driver.specs.Answers.{OfOne};
+ghost use Rattle.driver.specs.Engines.{Serves, reading_of};
+ghost use Rattle.driver.specs.OrderGraphs.{OrderAnswers};
+ghost use Rattle.driver.specs.Requests.{AloneAnswers};
+ghost use Rattle.driver.specs.Streams.{name_of, reading_failed, writing_failed};
 ghost use Rattle.driver.specs.Working.Answering.{Meets};
-ghost use Rattle.driver.specs.OrderGraphs.{IsOrderGraph};
 
-use crate::answer::Answer;
+use crate::answer::{Answer, Named};
+use crate::engine::MOST_BYTES;
+use crate::source_text::SourceText;
+use crate::status::Status;
+use crate::streams::Streams;
+use compiler::{Cyclic, Ordered, examine};
+use driver_words::Alone;
 use lockorder::class_pairs;
-use lowering::compiled::Program;
-use report_check::Order;
+use report_check::{CyclicOrder, Order};
 use rope::Rope;
+use source::fault::{Fault, Refusal};
+use source::line::fault_line;
 use source::memory::NoMemory;
 use std::alloc::Global;
+use std::io::{Read, Write};
 
 /// The order of a program's lock classes.
-pub fn ordered(alloc: Global, text: &[u8], program: &Program) -> Result<Answer, NoMemory>
-    ensures { IfOk result (Meets (IsOrderGraph text.now program.now)) }
+fn ordered(alloc: Global, source: &Named<'_>, found: &Ordered) -> Result<Answer, NoMemory>
+    requires { IsOrdered source.now.text.now found.now }
+    ensures { IfOk result (Meets (OrderAnswers source.now.file.now source.now.text.now)) }
 {
-    let pairs = class_pairs(alloc, program.expanded(), program.paths())?;
+    let program = found.trees.program();
+    let pairs = class_pairs(alloc, program, &found.paths)?;
     let order = Order {
-        text,
-        program: program.expanded(),
-        ranks: program.ranks(),
+        text: source.text,
+        program,
+        ranks: &found.ranks,
         pairs: &pairs,
     };
     Ok(Answer::done(alloc, Rope::of(alloc, order.text(alloc)?)))
+}
+
+/// What has to come before what, where there is no order.
+fn cyclic(alloc: Global, source: &Named<'_>, found: &Cyclic) -> Result<Answer, NoMemory>
+    requires { IsCyclic source.now.text.now found.now }
+    ensures { IfOk result (Meets (OrderAnswers source.now.file.now source.now.text.now)) }
+{
+    let program = found.trees.program();
+    let pairs = class_pairs(alloc, program, &found.paths)?;
+    let order = CyclicOrder {
+        text: source.text,
+        program,
+        pairs: &pairs,
+        cycle: &found.edges,
+    };
+    let mut err = fault_line(alloc, source.file, source.text, &found.fault)?;
+    err.push_str("\n")?;
+    Ok(Answer {
+        status: Status::Refused,
+        out: Rope::of(alloc, order.text(alloc)?),
+        err,
+    })
+}
+
+/// The line of a fault with no detail.
+fn faulty(alloc: Global, source: &Named<'_>, fault: &Fault) -> Result<Answer, NoMemory>
+    requires given { IsOfFirstPass source.now.text.now fault.now }
+    requires bare { string_bytes fault.now.detail ≡ [] }
+    ensures { IfOk result (Meets (OrderAnswers source.now.file.now source.now.text.now)) }
+{
+    let line = fault_line(alloc, source.file, source.text, fault)?;
+    Answer::refused(alloc, Status::Refused, line)
+}
+
+/// What is answered for a text.
+fn order_answer(alloc: Global, source: &Named<'_>) -> Result<Answer, NoMemory>
+    ensures { IfOk result (Meets (OrderAnswers source.now.file.now source.now.text.now)) }
+{
+    match examine(alloc, source.text) {
+        Ok(Ok(found)) => ordered(alloc, source, &found),
+        Ok(Err(found)) => cyclic(alloc, source, &found),
+        Err(Refusal::Fault(fault)) => faulty(alloc, source, &fault),
+        Err(Refusal::NoMemory) => Err(NoMemory),
+    }
+}
+
+/// Writes which lock class of the program that `source` gives has to come before which, as a graph. Ends as
+/// [`serve`](crate::serve) does; where the classes are on a cycle, with `Refused`, and the graph has the cycle's edges marked.
+pub fn order_graph<S: Read, O: Write, E: Write>(
+    alloc: Global,
+    source: &mut SourceText<'_, S>,
+    streams: &mut Streams<O, E>,
+) -> Status
+    requires readable { reading_failed source.old ≡ false }
+    requires writable { writing_failed streams.old.out ≡ false }
+    ensures { Serves (OfOne (AloneAnswers Alone.Order (name_of source.old))) (reading_of S.remaining source.old source.new) []
+        O.contents E.contents streams.old streams.new result }
+{
+    let text = match streams.read(alloc, source, MOST_BYTES) {
+        Ok(text) => text,
+        Err(status) => return status,
+    };
+    let named = Named {
+        file: source.name(),
+        text: &text,
+    };
+    let answer = order_answer(alloc, &named);
+    streams.give(&answer)
 }

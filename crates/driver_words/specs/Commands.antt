@@ -43,6 +43,10 @@ sections_rule = record (new_rule (codes "sections")) { long = Some (codes "secti
 abbrev pub json_rule : Rule
 json_rule = record (new_rule (codes "json")) { long = Some (codes "json"); action = Some SetTrue }
 
+-- --places
+abbrev pub places_rule : Rule
+places_rule = record (new_rule (codes "places")) { long = Some (codes "places"); action = Some SetTrue }
+
 -- a command over one file
 abbrev pub with_file : Text → App
 with_file name = with_rule (new_app name) (file_rule (codes "FILE"))
@@ -79,6 +83,10 @@ with_sections app = with_rule app sections_rule
 abbrev pub with_json : App → App
 with_json app = with_rule app json_rule
 
+-- a command that takes --places besides
+abbrev pub with_places : App → App
+with_places app = with_rule app places_rule
+
 -- a command that must have a subcommand
 abbrev pub needs_subcommand : App → App
 needs_subcommand app = record app { top = record app.top { subcommand_required = true } }
@@ -103,9 +111,9 @@ with_explain app = with_subcommand app (with_json (with_file (codes "explain")))
 abbrev pub with_order : App → App
 with_order app = with_subcommand app (with_file (codes "order")).top
 
--- autolock listing FILE
+-- autolock listing [--places] FILE
 abbrev pub with_listing : App → App
-with_listing app = with_subcommand app (with_file (codes "listing")).top
+with_listing app = with_subcommand app (with_places (with_file (codes "listing"))).top
 
 -- autolock serial [--turns N] FILE
 abbrev pub with_serial : App → App

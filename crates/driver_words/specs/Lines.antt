@@ -7,11 +7,11 @@ use Rattle.clap.specs.declared.error.Error.{Error}
 use Rattle.clap.specs.declared.error.kind.ErrorKind.TheVariants.{MissingSubcommand}
 use Rattle.driver_words.specs.Commands.{autolock}
 use Rattle.driver_words.specs.declared.line.Alone.{Alone}
-use Rattle.driver_words.specs.declared.line.Alone.TheVariants.{Report, Explain, Run}
+use Rattle.driver_words.specs.declared.line.Alone.TheVariants.{Report, Order, Explain, Run}
 use Rattle.driver_words.specs.declared.line.Beside.{Beside}
 use Rattle.driver_words.specs.declared.line.Beside.TheVariants.{Simulate, Trace, Replay}
 use Rattle.driver_words.specs.declared.line.Line.{Line}
-use Rattle.driver_words.specs.declared.line.Report.TheVariants.{Check, Order, Listing, Serial, Outcomes}
+use Rattle.driver_words.specs.declared.line.Report.TheVariants.{Check, Listing, Serial, Outcomes}
 use Rattle.driver_words.specs.declared.line.Request.{Request}
 use Rattle.driver_words.specs.declared.line.Request.TheVariants as request
 
@@ -38,12 +38,12 @@ pub record IsFlag (id : Text) (rows : List Row) (is : Bool) : Type 0 where
 -- what is asked of the program's file alone is that command, with the values of its options
 abbrev pub IsAlone : Text → List Row → Alone → Type 0
 IsAlone command rows (Report Check) = command ≡ codes "check"
-IsAlone command rows (Report Order) = command ≡ codes "order"
-IsAlone command rows (Report Listing) = command ≡ codes "listing"
+IsAlone command rows (Report (Listing places)) = (command ≡ codes "listing") × IsFlag (codes "places") rows places
 IsAlone command rows (Report (Serial turns)) = (command ≡ codes "serial") × IsTurns rows turns
 IsAlone command rows (Report (Outcomes looking)) =
     (command ≡ codes "outcomes") × IsTurns rows looking.turns
     × IsNumber (codes "count") 100000 rows looking.count × IsNumber (codes "seed") 0 rows looking.seed
+IsAlone command rows Order = command ≡ codes "order"
 IsAlone command rows (Explain json) = (command ≡ codes "explain") × IsFlag (codes "json") rows json
 IsAlone command rows Run = command ≡ codes "run"
 

@@ -2,7 +2,7 @@
 
 ghost use Rattle.std.specs.Prelude.{◌≡◌, IfOk, codes, false};
 ghost use Rattle.clap.specs.Words.{rule_of};
-ghost use Rattle.driver_words.specs.Commands.{IsCommand, file_rule, number_rule, turns_rule, count_rule, seed_rule, why_rule, sections_rule, json_rule, with_file, with_turns, with_count, with_seed, with_steps, with_history, with_why, with_sections, with_json, Adds, AddsRule, autolock};
+ghost use Rattle.driver_words.specs.Commands.{IsCommand, file_rule, number_rule, turns_rule, count_rule, seed_rule, why_rule, sections_rule, json_rule, with_file, with_turns, with_count, with_seed, with_steps, with_history, with_why, with_sections, with_json, places_rule, with_places, Adds, AddsRule, autolock};
 
 use clap::builder::ValueParser;
 use clap::{Arg, ArgAction, Command};
@@ -90,6 +90,17 @@ fn json_argument<'a>(alloc: Global) -> Arg<'a>
         .help("Tell it as a JSON object, in one line")
 }
 
+/// `--places`.
+fn places_argument<'a>(alloc: Global) -> Arg<'a>
+    ensures rule { rule_of result ≡ places_rule }
+    ensures local { result.global ≡ false }
+{
+    Arg::new(alloc, "places")
+        .long("places")
+        .action(ArgAction::SetTrue)
+        .help("Tell where each instruction's statement starts")
+}
+
 /// A command over one file.
 fn file_command<'a>(alloc: Global, name: &'a str, about: &'a str) -> Result<Command<'a>, AllocError>
     ensures { IfOk result (IsCommand (with_file name.entry.now)) }
@@ -114,6 +125,14 @@ fn explain_command<'a>(alloc: Global) -> Result<Command<'a>, AllocError>
     let about =
         "Tell the fault of a program, with its place in the source and what can be done about it";
     file_command(alloc, "explain", about)?.arg(json_argument(alloc))
+}
+
+/// `listing`.
+fn listing_command<'a>(alloc: Global) -> Result<Command<'a>, AllocError>
+    ensures { IfOk result (IsCommand (with_places (with_file (codes "listing")))) }
+{
+    let about = "Write the instructions of each section";
+    file_command(alloc, "listing", about)?.arg(places_argument(alloc))
 }
 
 /// `serial`.
@@ -217,8 +236,7 @@ pub fn command<'a>(alloc: Global) -> Result<Command<'a>, AllocError>
     let about =
         "Write the order of the lock classes as a graph in DOT: which has to come before which, and why";
     let line = with_command(line, file_command(alloc, "order", about));
-    let about = "Write the instructions of each section";
-    let line = with_command(line, file_command(alloc, "listing", about));
+    let line = with_command(line, listing_command(alloc));
     let line = with_command(line, serial_command(alloc));
     let line = with_command(line, outcomes_command(alloc));
     let line = with_command(line, simulate_command(alloc));

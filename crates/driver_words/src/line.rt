@@ -32,6 +32,8 @@ pub enum Request<'a> {
 pub enum Alone {
     /// What is told of the program, where it is accepted.
     Report(Report),
+    /// `order`: the order of the program's lock classes, as a graph, also where they are on a cycle.
+    Order,
     /// `explain`: tell the fault of the program, with its place in the source and what can be done about it.
     Explain {
         /// Whether it is told as JSON.
@@ -46,10 +48,11 @@ pub enum Alone {
 pub enum Report {
     /// `check`: in which order it takes its locks, and which ones before each statement.
     Check,
-    /// `order`: the order of its lock classes, as a graph.
-    Order,
     /// `listing`: the instructions of its sections.
-    Listing,
+    Listing {
+        /// Whether each is told with the line and the column of its statement.
+        places: bool,
+    },
     /// `serial`: the history of all its calls, run one after another.
     Serial {
         /// The most turns that each execution of a loop may make.

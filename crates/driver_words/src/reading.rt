@@ -52,8 +52,10 @@ fn request<'a>(command: &str, matches: &ArgMatches<'a>) -> Option<Request<'a>>
         "explain" => Request::Alone(Alone::Explain {
             json: flag(matches, "json"),
         }),
-        "order" => Request::Alone(Alone::Report(Report::Order)),
-        "listing" => Request::Alone(Alone::Report(Report::Listing)),
+        "order" => Request::Alone(Alone::Order),
+        "listing" => Request::Alone(Alone::Report(Report::Listing {
+            places: flag(matches, "places"),
+        })),
         "serial" => Request::Alone(Alone::Report(Report::Serial {
             turns: turns(matches),
         })),

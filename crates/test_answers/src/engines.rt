@@ -1,6 +1,6 @@
 //! What the engines of the crate `driver` answer for a text.
 
-use driver::{Sink, SourceText, Status, Streams, check, serve_report, simulate};
+use driver::{Sink, SourceText, Status, Streams, check, order_graph, serve_report, simulate};
 use source::memory::NoMemory;
 use std::alloc::Global;
 use test_files::asked::Engine;
@@ -25,6 +25,7 @@ fn answer(alloc: Global, engine: Engine<'_>, text: &str) -> Result<Outcome, NoMe
     let status = match engine {
         Engine::Check => check(alloc, &mut source, &mut streams),
         Engine::Report(report) => serve_report(alloc, report, &mut source, &mut streams),
+        Engine::Graph => order_graph(alloc, &mut source, &mut streams),
         Engine::Simulate(steps) => {
             let mut steps = SourceText::new("T", steps.as_bytes());
             simulate(alloc, &mut source, &mut steps, &mut streams)

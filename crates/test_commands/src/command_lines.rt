@@ -47,8 +47,9 @@ fn reads_lines(rt: HostRuntime) -> Result<(), Fail> {
 autolock check F => Line { file: \"F\", request: Alone(Report(Check)) }
 autolock explain F => Line { file: \"F\", request: Alone(Explain { json: false }) }
 autolock explain F --json => Line { file: \"F\", request: Alone(Explain { json: true }) }
-autolock order F => Line { file: \"F\", request: Alone(Report(Order)) }
-autolock listing F => Line { file: \"F\", request: Alone(Report(Listing)) }
+autolock order F => Line { file: \"F\", request: Alone(Order) }
+autolock listing F => Line { file: \"F\", request: Alone(Report(Listing { places: false })) }
+autolock listing --places F => Line { file: \"F\", request: Alone(Report(Listing { places: true })) }
 autolock serial F => Line { file: \"F\", request: Alone(Report(Serial { turns: 1000000 })) }
 autolock serial --turns 7 F => Line { file: \"F\", request: Alone(Report(Serial { turns: 7 })) }
 autolock serial --turns=0 F => Line { file: \"F\", request: Alone(Report(Serial { turns: 0 })) }

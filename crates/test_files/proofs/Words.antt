@@ -1,5 +1,5 @@
 -- What each word asks, and what each paragraph is that begins with words of its kind.
-use Rattle.std.proofs.Common.{◌≡◌, ◌++◌, ℕ, List, Option, Some, None, true, [], ◌∷◌, rules}
+use Rattle.std.proofs.Common.{◌≡◌, ◌++◌, ℕ, List, Option, Some, None, true, false, [], ◌∷◌, rules}
 use Rattle.std.specs.Prelude.{◌↔◌, ◌⊎◌, codes}
 use Rattle.std.specs.Borrow.{Bor}
 use lib.Pointwise.{pointwise}
@@ -10,7 +10,7 @@ use Rattle.test_files.specs.declared.asked.Asked.{Asked}
 use Rattle.test_files.specs.declared.asked.Asked.TheVariants.{Engine, Tokens, Tree, Print, Again, Paths, Points, Order}
 use Rattle.test_files.specs.declared.paragraph.Paragraph.{Paragraph}
 use Rattle.test_files.specs.declared.paragraph.Paragraph.TheVariants.{Note, Ask, Head, Case, Unreadable}
-use Rattle.test_files.specs.declared.asked.Engine.TheVariants.{Check, Report, Simulate}
+use Rattle.test_files.specs.declared.asked.Engine.TheVariants.{Check, Report, Graph, Simulate}
 use Rattle.driver_words.specs.declared.line.Looking.{Looking}
 use Rattle.driver_words.specs.declared.line.Report.TheVariants as report
 
@@ -23,8 +23,9 @@ abbrev pub Named : List ℕ → Option Asked → Type 0
 Named word result = record {
   check : (result ≡ Some (Engine Check)) ↔ (word ≡ codes "check");
   lists : (result ≡ Some (Engine (Report report.Check))) ↔ (word ≡ codes "lists");
-  graph : (result ≡ Some (Engine (Report report.Order))) ↔ (word ≡ codes "graph");
-  listing : (result ≡ Some (Engine (Report report.Listing))) ↔ (word ≡ codes "listing");
+  graph : (result ≡ Some (Engine Graph)) ↔ (word ≡ codes "graph");
+  listing : (result ≡ Some (Engine (Report (report.Listing false)))) ↔ (word ≡ codes "listing");
+  places : (result ≡ Some (Engine (Report (report.Listing true)))) ↔ (word ≡ codes "places");
   serial : (turns : ℕ) → (result ≡ Some (Engine (Report (report.Serial turns)))) ↔ IsSerial word turns;
   outcomes : (result ≡ Some (Engine (Report (report.Outcomes looking)))) ↔ (word ≡ codes "outcomes");
   simulate : (steps : Bor (List ℕ)) → result ≡ Some (Engine (Simulate steps)) → IsSimulate word steps.now;
@@ -44,14 +45,17 @@ named_check = search rules
 pub named_lists : Named (codes "lists") (Some (Engine (Report report.Check)))
 named_lists = search rules
 
-pub named_graph : Named (codes "graph") (Some (Engine (Report report.Order)))
+pub named_graph : Named (codes "graph") (Some (Engine Graph))
 named_graph = search rules
 
 pub named_outcomes : Named (codes "outcomes") (Some (Engine (Report (report.Outcomes looking))))
 named_outcomes = search rules
 
-pub named_listing : Named (codes "listing") (Some (Engine (Report report.Listing)))
+pub named_listing : Named (codes "listing") (Some (Engine (Report (report.Listing false))))
 named_listing = search rules
+
+pub named_places : Named (codes "places") (Some (Engine (Report (report.Listing true))))
+named_places = search rules
 
 pub named_tokens : Named (codes "tokens") (Some Tokens)
 named_tokens = search rules

@@ -1,6 +1,6 @@
 //! What is asked of a text.
 
-ghost use Rattle.std.specs.Prelude.{◌≡◌, ◌↔◌, List, Some, ℕ, codes};
+ghost use Rattle.std.specs.Prelude.{◌≡◌, ◌↔◌, List, Some, ℕ, codes, true, false};
 ghost use Rattle.std.specs.Borrow.{Bor};
 ghost use Rattle.test_files.specs.Asking.{IsSerial, IsSimulate};
 
@@ -20,8 +20,17 @@ pub enum Engine<'a> {
     Check,
     /// All that is told of its program.
     Report(Report),
+    /// The graph of its lock classes.
+    Graph,
     /// `simulate`: the world after these steps.
     Simulate(&'a str),
+}
+
+// The listing, with places or without.
+fn listing<'a>(places: bool) -> Asked<'a>
+    ensures { result ≡ Asked.Engine (Engine.Report (Report.Listing places)) }
+{
+    Asked::Engine(Engine::Report(Report::Listing { places }))
 }
 
 /// What is asked of a text.
@@ -50,8 +59,9 @@ impl Asked<'_> {
     pub fn named(word: &str) -> Option<Asked<'_>>
         ensures check { (result ≡ Some (Asked.Engine Engine.Check)) ↔ (word.now ≡ codes "check") }
         ensures lists { (result ≡ Some (Asked.Engine (Engine.Report Report.Check))) ↔ (word.now ≡ codes "lists") }
-        ensures graph { (result ≡ Some (Asked.Engine (Engine.Report Report.Order))) ↔ (word.now ≡ codes "graph") }
-        ensures listing { (result ≡ Some (Asked.Engine (Engine.Report Report.Listing))) ↔ (word.now ≡ codes "listing") }
+        ensures graph { (result ≡ Some (Asked.Engine Engine.Graph)) ↔ (word.now ≡ codes "graph") }
+        ensures listing { (result ≡ Some (Asked.Engine (Engine.Report (Report.Listing false)))) ↔ (word.now ≡ codes "listing") }
+        ensures places { (result ≡ Some (Asked.Engine (Engine.Report (Report.Listing true)))) ↔ (word.now ≡ codes "places") }
         ensures serial { (turns : ℕ) → (result ≡ Some (Asked.Engine (Engine.Report (Report.Serial turns)))) ↔ IsSerial word.now turns }
         ensures outcomes { (result ≡ Some (Asked.Engine (Engine.Report (Report.Outcomes (record { turns = 1000; count = 1000; seed = 0 }))))) ↔ (word.now ≡ codes "outcomes") }
         ensures simulate { (steps : Bor (List ℕ)) → result ≡ Some (Asked.Engine (Engine.Simulate steps)) → IsSimulate word.now steps.now }
@@ -76,8 +86,9 @@ impl Asked<'_> {
         match word {
             "check" => Some(Asked::Engine(Engine::Check)),
             "lists" => Some(Asked::Engine(Engine::Report(Report::Check))),
-            "graph" => Some(Asked::Engine(Engine::Report(Report::Order))),
-            "listing" => Some(Asked::Engine(Engine::Report(Report::Listing))),
+            "graph" => Some(Asked::Engine(Engine::Graph)),
+            "listing" => Some(listing(false)),
+            "places" => Some(listing(true)),
             "outcomes" => Some(Asked::Engine(Engine::Report(Report::Outcomes(LOOKING)))),
             "tokens" => Some(Asked::Tokens),
             "tree" => Some(Asked::Tree),

@@ -21,7 +21,6 @@ use Rattle.driver.specs.Answers.{IsRefused}
 use Rattle.driver.specs.Checks.{IsCheckReport}
 use Rattle.driver.specs.Explanations.{acceptance_told, fault_told}
 use Rattle.driver.specs.Listings.{IsListed}
-use Rattle.driver.specs.OrderGraphs.{IsOrderGraph}
 use Rattle.driver.specs.Outcomes.{IsLookedAt}
 use Rattle.driver.specs.Replays.{IsReplayed, verdict_status, judgement_text}
 use Rattle.driver.specs.Serial.{IsRun}

@@ -1,4 +1,5 @@
 use Rattle.std.proofs.lemmas.Result.{IfOk-weaker}
+use Rattle.lowering.specs.Working.Compiled.{program_of}
 use Rattle.driver.specs.Explanations.{cycle_explained}
 use Rattle.driver.proofs.explaining.cycle_explained.Goals as goal
 
@@ -8,13 +9,13 @@ returns c =
     (λ answer is. cycle_explained (record {
       fault = c.args.cyclic.now.fault;
       given = c.requires.first;
-      program = c.args.cyclic.now.written;
+      program = program_of c.args.cyclic.now.trees;
       meant = c.requires.program;
       of_order = c.requires.told;
       edges = c.args.cyclic.now.edges.items;
       cycle = c.requires.cycle;
       notes = _;
-      tell = rw (c.deref.ensures.value, ← c.deref-2.ensures.value) at c.in_ok-notes.ensures;
+      tell = rw (c.program.ensures, c.deref.ensures.value) at c.in_ok-notes.ensures;
       ended = is.0;
       written = is.1;
       told = is.2;

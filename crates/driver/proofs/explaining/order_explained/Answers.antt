@@ -1,13 +1,14 @@
 use Rattle.std.proofs.Common.{ap, ◌∙◌}
 use Rattle.rope.specs.Working.Ropes.{rope_text}
+use Rattle.lowering.specs.Working.Compiled.{program_of}
 use Rattle.driver.specs.Explanations.{faultless}
 use Rattle.driver.proofs.explaining.order_explained.Goals as goal
 
 pub returns : goal.returns
 returns c = faultless (record {
-  program = c.args.ordered.now.accepted;
+  program = c.args.ordered.now.trees.accepted;
   accepts = c.requires.accepts;
-  written_out = c.args.ordered.now.written;
+  written_out = program_of c.args.ordered.now.trees;
   expanded = c.requires.expanded;
   ranks = c.args.ordered.now.ranks.items;
   are_ranks = c.requires.ranks;

@@ -1,6 +1,6 @@
 use Rattle.std.proofs.Common.{◌≡◌, ◌++◌, List, ℕ, sym, ap, ◌∙◌}
 use Rattle.std.specs.Prelude.{codes}
-use Rattle.test_files.proofs.Words.{named_simulate, named_check, named_lists, named_graph, named_listing}
+use Rattle.test_files.proofs.Words.{named_simulate, named_check, named_lists, named_graph, named_listing, named_places}
 use Rattle.test_files.proofs.Words.{named_outcomes, named_tokens, named_tree, named_print, named_again, named_paths}
 use Rattle.test_files.proofs.Words.{named_points, named_order}
 use Rattle.test_files.proofs.asked.Asked.named.Goals as goal
@@ -18,7 +18,10 @@ pub returns-in-outcomes : goal.returns-in-outcomes
 returns-in-outcomes c = rw c.in-outcomes.is named_outcomes
 
 pub returns-in-listing : goal.returns-in-listing
-returns-in-listing c = rw c.in-listing.is named_listing
+returns-in-listing c = rw (c.in-listing.is, c.listing.ensures) named_listing
+
+pub returns-in-places : goal.returns-in-places
+returns-in-places c = rw (c.in-places.is, c.listing-2.ensures) named_places
 
 pub returns-in-tokens : goal.returns-in-tokens
 returns-in-tokens c = rw c.in-tokens.is named_tokens
