@@ -1,6 +1,7 @@
 #!/usr/bin/env bash
 # Times `check` of texts of shapes that were slow once, and `outcomes` of such programs, each beside a plain one of its size,
-# and prints for each the least of several runs, process and all, and the most memory that one held.
+# and prints for each the least of several runs, process and all, and the most memory that one held. Of those with many
+# pairs of lock classes it times `order` and `explain` too, which are to take at most twice the time of `check`.
 #
 #     bench/shapes/run.sh BIN [ROUNDS]
 set -euo pipefail
@@ -73,6 +74,27 @@ def aliases(length, size):
         i += 1
 
 
+def chained(chains, inside=("", "")):
+    """Sections that go from class to class, each with a use of one ahead of the binding of the next; before that, lines in
+    what is given."""
+    links = sorted({pair for chain in chains for pair in zip(chain, chain[1:])})
+    head = "lock G;\nglobal int n protected_by(G);\n"
+    for k in sorted({k for chain in chains for k in chain}):
+        refs = "".join(f" ref S{b} r{b} protected_by(l);" for a, b in links if a == k)
+        head += f"struct S{k} {{ lock l; int x protected_by(l);{refs} }}\n"
+    sections = []
+    for number, chain in enumerate(chains):
+        lines = [f"atomic f{number}(ref S{chain[0]} b0, int k) {{\n", *inside]
+        for at, k in enumerate(chain[1:], 1):
+            lines.append(f"b{at - 1}.x = 1;\nlet b{at}: ref S{k} = b{at - 1}.r{k};\n")
+        sections.append([*lines, f"b{len(chain) - 1}.x = 1;\n}}\n"])
+    left = SIZE - len(head) - sum(len(line) for lines in sections for line in lines)
+    line = "b0.x = 1;\n"
+    for lines in sections:
+        lines[1] += line * (left // len(sections) // len(line))
+    return head + "".join(line for lines in sections for line in lines)
+
+
 alike = (top / "alike.names").read_text().split()
 write("names_alike", names_used(alike))
 write("names_plain", names_used([f"aaaa{i:04}" for i in range(len(alike))]))
@@ -103,14 +125,24 @@ for name, branch in (("taken_often", "if (k > 0) { m.x = 1; }\n"), ("taken_once"
 for size in (262144, 524288, 1048000):
     write(f"chain_of_finals_{size // 1024}K", along(size // 8, size))
     write(f"chain_of_finals_by_62_names_{size // 1024}K", aliases(size // 8, size))
+nest = ("while (k > 0) {\n" * 60, "}\n" * 60)
+chains = [sorted({(7 * number + stride * k) % 61 for k in range(9)}) for number, stride in enumerate([*range(1, 31)] * 2)]
+write("ordered_many_sections", chained(chains))
+write("ordered_behind_loops_60_deep", chained([list(range(56))], nest))
+write("cycle_behind_loops_60_deep", chained([list(range(56)), [55, 0]], nest))
 for name, values in (("signs", (1, -1)), ("numbers", (1, 2)), ("powers", (1 << 32, 1 << 40)), ("halves", (-1 << 62, 1 << 62))):
     (top / f"outcomes_{name}.al").write_text(written(values, 9))
 PYTHON
 for text in $(ls -v "$texts"/*.al); do
-  command=check
-  case $(basename "$text") in outcomes_*) command="outcomes --count 1000000" ;; esac
-  printf '%-35s ' "$(basename "$text" .al)"
-  for _ in $(seq "$rounds"); do
-    { /usr/bin/time -f "%e %M" "$program" $command "$text" 2>&1 > /dev/null || true; } | tail -n 1
-  done | sort -n | head -n 1 | awk '{printf "%6.2f s %6.0f MiB\n", $1, $2 / 1024}'
+  commands=(check)
+  case $(basename "$text") in
+    outcomes_*) commands=("outcomes --count 1000000") ;;
+    ordered_*) commands=(check order explain) ;;
+  esac
+  for command in "${commands[@]}"; do
+    printf '%-35s %-8s ' "$(basename "$text" .al)" "${command%% *}"
+    for _ in $(seq "$rounds"); do
+      { /usr/bin/time -f "%e %M" "$program" $command "$text" 2>&1 > /dev/null || true; } | tail -n 1
+    done | sort -n | head -n 1 | awk '{printf "%6.2f s %6.0f MiB\n", $1, $2 / 1024}'
+  done
 done

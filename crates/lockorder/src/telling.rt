@@ -135,11 +135,7 @@ impl Telling {
     }
 
     /// Pairs of classes with the edges between them, which are known.
-    pub fn close(
-        &self,
-        alloc: Global,
-        pairs: &[(usize, usize)],
-    ) -> Result<Vec<ClassPair>, NoMemory>
+    pub fn close(&self, alloc: Global, pairs: &[(usize, usize)]) -> Result<Vec<ClassPair>, NoMemory>
         requires between { AreBetween self.now.classes pairs.now }
         requires all { AreAllTold self.now.told.items pairs.now }
         ensures { IfOk result (λ closed. AreClosed pairs.now (told_pair self.now.told.items) closed.items) }
@@ -147,10 +143,7 @@ impl Telling {
         let mut closed = Vec::with_capacity(alloc, pairs.len())?;
         for pair in pairs {
             match self.at(pair.0, pair.1) {
-                Some(edge) => closed.push(ClassPair {
-                    edge,
-                    next: pair.1,
-                })?,
+                Some(edge) => closed.push(ClassPair { edge, next: pair.1 })?,
                 None => unreachable!(),
             }
         }

@@ -16,5 +16,5 @@ use_told text program edge section ps before now behind here same named told =
     told ∙ ap (λ b. b ++ numbered_point text ps edge.used) named
     ∙ append_assoc before (string_bytes section.name ++ codes ":") (numbered_point text ps edge.used)
     ∙ ap (λ t. before ++ t)
-        (ap (λ l. string_bytes section.name ++ codes ":" ++ numbered_point text l edge.used) same
-        ∙ sym (ap (λ o. option_map_or (place_text text edge.used) o []) here))
+    (ap (λ l. string_bytes section.name ++ codes ":" ++ numbered_point text l edge.used) same
+    ∙ sym (ap (λ o. option_map_or (place_text text edge.used) o []) here))

@@ -6,8 +6,8 @@ ghost use Rattle.report_check.specs.Order.{class_text, class_texts};
 ghost use Rattle.report_check.specs.Working.OrderValues.{cyclic_order_text_of};
 
 use crate::edges::Edges;
-use crate::section_points::points_of_sections;
 use crate::positions::Positions;
+use crate::section_points::points_of_sections;
 use core_lang::typed::Typed;
 use lockorder::ranks::{ClassPair, Edge};
 use locks::text::push_class;

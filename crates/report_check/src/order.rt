@@ -6,9 +6,9 @@ ghost use Rattle.report_check.specs.Order.{label_text, node_text, node_texts};
 ghost use Rattle.report_check.specs.Working.OrderValues.{order_text_of};
 
 use crate::edges::Edges;
-use crate::section_points::points_of_sections;
 use crate::positions::Positions;
 use crate::push_ranked;
+use crate::section_points::points_of_sections;
 use core_lang::typed::Typed;
 use lockorder::ranks::ClassPair;
 use source::memory::NoMemory;

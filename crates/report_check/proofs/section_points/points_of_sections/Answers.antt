@@ -22,8 +22,7 @@ loop-section-preserved c =
 
 pub returns : goal.returns
 returns c =
-    let i = c.loop-section.invariant in
-    (
+    let i = c.loop-section.invariant in (
       omega (arith, i.long, c.loop-section-test.false, c.loop-section.auto.section-end, c.len-section-end.ensures, c.args.program.now.sections.ok.0),
       i.listed,
     )

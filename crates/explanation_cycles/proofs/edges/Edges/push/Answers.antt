@@ -1,8 +1,9 @@
-use Rattle.std.proofs.Common.{◌∙◌, sym, subst, refl, length}
+use Rattle.std.proofs.Common.{◌∙◌, ◌<◌, map, sym, ap, subst, refl, length, arith}
 use Rattle.std.proofs.lemmas.Option.{slice_get_read, slice_get_within, same_Some}
 use Rattle.explanation.specs.Notes.{note_of}
 use Rattle.lockorder.specs.Edges.{UsesClass, BindsClass}
 use Rattle.explanation_cycles.proofs.Cycles.{map_two}
+use Rattle.flow.specs.Working.PointList.{point_at}
 use Rattle.explanation_cycles.proofs.edges.Edges.push.Goals as goal
 
 pub use_note-requires-clause-paths : goal.use_note-requires-clause-paths
@@ -33,6 +34,20 @@ binding_note-requires-clause-paths c =
     c.requires.paths.each k c.index.result.now c.index-2.result.now
     (slice_get_read sections (length sections) k c.index.result.now refl lt c.index.ensures)
     (slice_get_read found (length sections) k c.index-2.result.now (sym c.requires.paths.sections) lt c.index-2.ensures)
+
+pub binding_note-requires-clause-listed : goal.binding_note-requires-clause-listed
+binding_note-requires-clause-listed c =
+    let sections = c.args.self.now.program.now.sections.items in
+    let each = c.args.self.now.points.now in
+    let list = c.index-self-edge.result in
+    let k = c.args.edge.section in
+    let m = c.requires.made.makes in
+    let lt = slice_get_within sections k m.section m.here in
+    let here = slice_get_read sections (length sections) k c.index.result.now refl lt c.index.ensures in
+    let within : k < length each = omega (arith, lt, c.requires.points.0) in
+    let there = slice_get_read each (length each) k list refl within c.index-self-edge.is in
+    ap (map point_at) (c.deref-2.ensures.value ∙ sym (ap (λ l. l.items) c.index-self-edge.is))
+    ∙ c.requires.points.1 k list there c.index.result.now here
 
 pub binding_note-requires-clause-binds : goal.binding_note-requires-clause-binds
 binding_note-requires-clause-binds c =

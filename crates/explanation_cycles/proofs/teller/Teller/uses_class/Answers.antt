@@ -1,4 +1,4 @@
-use Rattle.std.proofs.Common.{◌∙◌, sym, ◌<◌, ◌≤◌, true, length, refl, arith}
+use Rattle.std.proofs.Common.{◌∙◌, sym, ◌<◌, ◌≤◌, length, refl, arith}
 use Rattle.std.proofs.lemmas.Option.{slice_get_read}
 use Rattle.explanation_cycles.proofs.Found.{used_at, used_found}
 use Rattle.explanation_cycles.proofs.teller.Teller.uses_class.Goals as goal
