@@ -1,4 +1,5 @@
--- The line table of a section's code: where the code of each of its points begins, and so of which point each instruction is.
+-- The line table of a section's code: where the code of each of its points begins, and so of which point each
+-- instruction is.
 use Rattle.std.specs.Prelude.{ℕ, zero, suc, ◌+◌, leb, List, [], ◌∷◌, ◌++◌, length, slice_get, Option, Some, None}
 use Rattle.std.specs.Prelude.{option_and_then, option_map, codes}
 use Rattle.std.specs.List.{count_by}

@@ -9,9 +9,11 @@
 //! - [`Lister`]: the listing of a section, a line for each instruction; single instructions, as it has them.
 //!
 //! `specs/` says what an instruction does over any memory (`Machine`), which memories there are (`Memory`) and what is
-//! seen of them (`Seen`), which instructions a section is (`Lowering`), of which point each is (`LineTables`), how deep its operand stack grows (`Needs`), what it is for a code to behave as its section (`Alone`), what is ahead
-//! of a machine (`Ahead`), what the laws claim (`Laws`, `PointLaws`, `RunLaws`), and the text of a program's listing
-//! (`Listing`). `Safety` has lemmas for the crates above; `Naming` and `Sections` only say what the code has done.
+//! seen of them (`Seen`), which instructions a section is (`Lowering`), of which point each is (`LineTables`), how deep
+//! its operand stack grows (`Needs`), what it is for a code to behave as its section (`Alone`), what is ahead of a
+//! machine (`Ahead`), what the laws claim (`Laws`, `PointLaws`, `RunLaws`), and the text of a program's listing
+//! (`Listing`). `Safety` has lemmas for the crates above; `Naming`, `Asked`, `Places` and `Sections` only say what the
+//! code has done.
 #![tactic(auto)]
 
 pub mod instr;

@@ -71,14 +71,14 @@ impl Assembler {
     ghost use Rattle.code_emission.specs.Working.Assembly.{Adds, Lands, field_code, blank, places, closed, PointsToEnd};
     ghost use Rattle.code_emission.specs.Working.CodeLists.{conditions_need};
 
-    /// No instructions.
-    pub fn new(alloc: Global) -> Assembler
-        ensures { result.instructions.items ≡ [] }
+    /// No instructions, with room for so many.
+    pub fn new(alloc: Global, size: usize) -> Result<Assembler, NoMemory>
+        ensures { IfOk result (λ code. code.instructions.items ≡ []) }
     {
-        Assembler {
-            instructions: Vec::new(alloc),
+        Ok(Assembler {
+            instructions: Vec::with_capacity(alloc, size)?,
             alloc,
-        }
+        })
     }
 
     /// One more instruction.

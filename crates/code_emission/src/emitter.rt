@@ -39,19 +39,19 @@ impl<'a> Emitter<'a> {
     ghost use Rattle.code_emission.specs.Working.Emission.{set_field_piece, choice_piece, loop_piece, statement_piece};
     ghost use Rattle.code_emission.specs.Working.Emission.{sequence_piece};
 
-    /// Before the first point.
-    pub fn new(alloc: Global, lists: &'a [Vec<u8>]) -> Emitter<'a>
-        ensures lists { result.lists ≡ lists.entry }
-        ensures begins { result.begins.items ≡ [] }
-        ensures operands { result.operands ≡ 0 }
-        ensures code { result.code.instructions.items ≡ [] }
+    /// Before the first point, with room for so many instructions.
+    pub fn new(alloc: Global, lists: &'a [Vec<u8>], size: usize) -> Result<Emitter<'a>, NoMemory>
+        ensures lists { IfOk result (λ emitter. emitter.lists ≡ lists.entry) }
+        ensures begins { IfOk result (λ emitter. emitter.begins.items ≡ []) }
+        ensures operands { IfOk result (λ emitter. emitter.operands ≡ 0) }
+        ensures code { IfOk result (λ emitter. emitter.code.instructions.items ≡ []) }
     {
-        Emitter {
+        Ok(Emitter {
             lists,
             begins: Vec::new(alloc),
             operands: 0,
-            code: Assembler::new(alloc),
-        }
+            code: Assembler::new(alloc, size)?,
+        })
     }
 
     // The next point, with an instruction where its list has a path.

@@ -10,5 +10,6 @@
 mod assembler;
 mod emitter;
 mod section;
+mod sizes;
 
 pub use section::code_of;

@@ -7,6 +7,7 @@ ghost use Rattle.code.specs.Needs.{operand_need};
 ghost use Rattle.code.specs.Working.NumberLists.{number_lists};
 
 use crate::emitter::Emitter;
+use crate::sizes;
 use code::section_code::SectionCode;
 use core_lang::tree::Section;
 use source::memory::NoMemory;
@@ -23,7 +24,7 @@ pub fn code_of(alloc: Global, section: &Section, lists: &[Vec<u8>]) -> Result<Se
     ensures begins { IfOk result (λ made. made.begins.items ≡ section_begins (number_lists lists.now) section.now) }
     ensures operands { IfOk result (λ made. made.operands ≡ operand_need section.now) }
 {
-    let mut emitter = Emitter::new(alloc, lists);
+    let mut emitter = Emitter::new(alloc, lists, sizes::of_section(section))?;
     emitter.block(&section.body)?;
     emitter.end(&section.result)?;
     let Emitter {
