@@ -37,7 +37,8 @@ _autolock() {
         replay/-*) mapfile -t COMPREPLY < <(compgen -W "--turns --why -h --help" -- "$word") ;;
         trace/-*) mapfile -t COMPREPLY < <(compgen -W "--sections -h --help" -- "$word") ;;
         explain/-*) mapfile -t COMPREPLY < <(compgen -W "--json -h --help" -- "$word") ;;
-        check/-* | order/-* | listing/-* | simulate/-* | run/-*) mapfile -t COMPREPLY < <(compgen -W "-h --help" -- "$word") ;;
+        listing/-*) mapfile -t COMPREPLY < <(compgen -W "--places -h --help" -- "$word") ;;
+        check/-* | order/-* | simulate/-* | run/-*) mapfile -t COMPREPLY < <(compgen -W "-h --help" -- "$word") ;;
         simulate/* | trace/*) if [ $at -gt 0 ]; then _autolock_files "$word" .steps; else _autolock_files "$word" .al; fi ;;
         replay/*)
             if [ "$before" = --turns ]; then :; elif [ $at -gt 0 ]; then _autolock_files "$word" ''; else _autolock_files "$word" .al; fi

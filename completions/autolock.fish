@@ -26,6 +26,7 @@ complete -c autolock -n '__fish_seen_subcommand_from outcomes' -l count -x -d 'H
 complete -c autolock -n '__fish_seen_subcommand_from outcomes' -l seed -x -d 'Which orders to draw, where there are more'
 complete -c autolock -n '__fish_seen_subcommand_from replay' -l why -d 'Say what may stand where the history differs'
 complete -c autolock -n '__fish_seen_subcommand_from explain' -l json -d 'Tell it as a JSON object, in one line'
+complete -c autolock -n '__fish_seen_subcommand_from listing' -l places -d 'Tell where each instruction\'s statement starts'
 complete -c autolock -n '__fish_seen_subcommand_from trace' -l sections -d 'Leave the instructions out'
 complete -c autolock -n '__fish_seen_subcommand_from check explain order listing serial outcomes run' -k -a '(__fish_complete_suffix .al)'
 complete -c autolock -n '__fish_seen_subcommand_from simulate trace' -k -a '(__fish_complete_suffix .al; __fish_complete_suffix .steps)'

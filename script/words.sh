@@ -13,6 +13,7 @@ count=
 seed=
 why=
 sections=
+places=
 json=
 used=
 files=()
@@ -58,7 +59,7 @@ names_of() {
 }
 
 takes_options() { [ "$command" = serial ] || [ "$command" = outcomes ] || [ "$command" = replay ] || [ "$command" = trace ] ||
-    [ "$command" = explain ]; }
+    [ "$command" = explain ] || [ "$command" = listing ]; }
 
 # The options of a command whose value is a number.
 numbers_of() {
@@ -72,8 +73,8 @@ numbers_of() {
 usage_of() {
     local option=${2-}
     case $1 in
-        check | order | listing | run) echo "$1 ${option:+$option }<FILE>" ;;
-        serial | explain | outcomes) echo "$1 ${option:-[OPTIONS]} <FILE>" ;;
+        check | order | run) echo "$1 ${option:+$option }<FILE>" ;;
+        serial | explain | listing | outcomes) echo "$1 ${option:-[OPTIONS]} <FILE>" ;;
         replay) echo "replay ${option:-[OPTIONS]} <FILE> <HISTORY>" ;;
         trace) echo "trace ${option:-[OPTIONS]} <FILE> <STEPS>" ;;
         simulate) echo "simulate ${option:+$option }<FILE> <STEPS>" ;;
@@ -145,6 +146,7 @@ refuse_long() {
         outcomes) options=(count seed turns help) ;;
         replay) options=(turns why help) ;;
         trace) options=(sections help) ;;
+        listing) options=(places help) ;;
         explain) options=(json help) ;;
         '') options=(help version) ;;
     esac
@@ -165,7 +167,8 @@ refuse_long() {
     fi
     for word in "$@"; do
         case $word in
-            check | order | listing | simulate | run) near=$(similar "$name" help) ;;
+            check | order | simulate | run) near=$(similar "$name" help) ;;
+            listing) near=$(similar "$name" places help | tail -n 1) ;;
             serial) near=$(similar "$name" turns help | tail -n 1) ;;
             outcomes) near=$(similar "$name" count seed turns help | tail -n 1) ;;
             replay) near=$(similar "$name" turns why help | tail -n 1) ;;
@@ -252,6 +255,11 @@ judge_long() {
             refuse "unexpected value '${word#*=}' for '--sections' found; no more were expected" \
                 "$(usage_of trace --sections)"
             ;;
+        places)
+            [ "$command" = listing ] || refuse_long "$name" "$@"
+            refuse "unexpected value '${word#*=}' for '--places' found; no more were expected" \
+                "$(usage_of listing --places)"
+            ;;
         json)
             [ "$command" = explain ] || refuse_long "$name" "$@"
             refuse "unexpected value '${word#*=}' for '--json' found; no more were expected" "$(usage_of explain --json)"
@@ -299,6 +307,13 @@ judge_arguments() {
                 [ -z "$sections" ] || refuse "the argument '--sections' cannot be used multiple times" "$(usage_of trace)"
                 sections=1
                 used=$(used_with --sections)
+                shift
+                continue
+                ;;
+            0listing--places)
+                [ -z "$places" ] || refuse "the argument '--places' cannot be used multiple times" "$(usage_of listing)"
+                places=1
+                used=$(used_with --places)
                 shift
                 continue
                 ;;

@@ -25,6 +25,8 @@ echo 'wrong.al:2:12: E10 neither final nor protected' >fault
 echo 'cycle.al:3:3: E14 lock order cycle: Node.l -> Node.l' >circle
 printf 'accepted\nrank 0 G\nsection f\nat 3:14 take G\n' >checked
 printf 'digraph lock_order {\n  "G" [label="rank 0 G"];\n}\n' >ordered
+printf 'digraph lock_order {\n  "Node.l";\n  "Node.l" -> "Node.l" [label="walk:3:3", color="red"];\n}\n' >cyclic_order
+printf 'section f\n0 3:14 acquire G\n1 3:14 int 1\n2 3:14 store n\n3 3:14 end\n' >listed_places
 printf 'section f\n0 acquire G\n1 int 1\n2 store n\n3 end\n' >listed
 printf 'history 1\ncall 0 0 f() ends\ncells\nn 1\nend\n' >history
 printf 'orders 1 all\nstates 2\noutcome 1 after 0\ncells\nn 1\nend\n' >outcomes
@@ -95,6 +97,7 @@ run "explain" 0 accepted none explain right.al
 run "explain, as JSON" 0 accepted_json none explain --json right.al
 run "order" 0 ordered none order right.al
 run "listing" 0 listed none listing right.al
+run "listing, with places" 0 listed_places none listing --places right.al
 run "simulate" 0 simulated none simulate right.al two_steps
 run "trace" 0 traced none trace right.al two_steps
 run "trace, of sections" 0 traced_sections none trace --sections right.al two_steps
@@ -121,7 +124,7 @@ run "a fault, of order" 1 none fault order wrong.al
 run "a fault, of listing" 1 none fault listing wrong.al
 run "a lock order cycle" 1 none circle serial cycle.al
 run "a lock order cycle, of check" 1 none circle check cycle.al
-run "a lock order cycle, of order" 1 none circle order cycle.al
+run "a lock order cycle, of order" 1 cyclic_order circle order cycle.al
 run "a lock order cycle, of outcomes" 1 none circle outcomes cycle.al
 run "a lock order cycle, of listing" 1 none circle listing cycle.al
 run "no words" 2 none some

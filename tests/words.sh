@@ -150,6 +150,16 @@ same check --json right.al
 same --json explain right.al
 same --jso explain right.al
 same explain --json missing.al
+same listing --places
+same listing --places missing.al
+same listing missing.al --places
+same listing --places --places right.al
+same listing --places=x right.al
+same listing --place right.al
+same listing --places right.al --foo
+same listing --places a b
+same check --places right.al
+same --places listing right.al
 same trace --sections
 same trace --sections right.al
 same trace --sections right.al missing.al
@@ -245,7 +255,7 @@ same serial --turns 3 missing.al
 commands=$(sed -n '/^Commands:/,/^$/s/^  \([a-z]*\) .*/\1/p' "$top/script/help/autolock.txt")
 options=$(sed -n 's/^ *\(-[a-zA-Z], \)\{0,1\}--\([a-z]*\).*/\2/p' "$top"/script/help/*.txt | sort -u)
 [ "$(echo $commands)" = "check explain order listing serial outcomes simulate trace run replay help" ] || fail "the commands of the help: $commands"
-[ "$(echo $options)" = "count help json sections seed turns version why" ] || fail "the options of the help: $options"
+[ "$(echo $options)" = "count help json places sections seed turns version why" ] || fail "the options of the help: $options"
 for file in completions/autolock.bash completions/_autolock completions/autolock.fish docs/autolock.1; do
     for word in $commands $options; do
         sed 's/\\-/-/g' "$top/$file" | grep -qw -- "$word" || fail "$file lacks $word"
