@@ -126,8 +126,9 @@ for size in (262144, 524288, 1048000):
     write(f"chain_of_finals_{size // 1024}K", along(size // 8, size))
     write(f"chain_of_finals_by_62_names_{size // 1024}K", aliases(size // 8, size))
 nest = ("while (k > 0) {\n" * 60, "}\n" * 60)
+write("ordered_in_two_sections", chained([list(range(40)), list(range(21, 61))]))
 chains = [sorted({(7 * number + stride * k) % 61 for k in range(9)}) for number, stride in enumerate([*range(1, 31)] * 2)]
-write("ordered_many_sections", chained(chains))
+write("ordered_in_60_sections", chained(chains))
 write("ordered_behind_loops_60_deep", chained([list(range(56))], nest))
 write("cycle_behind_loops_60_deep", chained([list(range(56)), [55, 0]], nest))
 for name, values in (("signs", (1, -1)), ("numbers", (1, 2)), ("powers", (1 << 32, 1 << 40)), ("halves", (-1 << 62, 1 << 62))):
