@@ -23,6 +23,7 @@ BEGIN, END = "<!-- tests/believed.py writes from here -->\n", "<!-- to here -->\
 # The calls: a file and the names of its functions.
 HEADLINE = {"crates/interleavings/src/world.rt": ["run"], "crates/worlds/src/laws.rt": ["every_run"]}
 COMPILER = {"crates/compiler/src/passes.rt": ["compile"]}
+EMITTED = {"crates/c_groups/src/laws.rt": ["groups_do_alike", "runs_stand_alike", "sections_have_plans", "sections_behave_in_c"]}
 THREADS = {
     "crates/workers/src/shared.rt": ["open", "call", "agree", "close"],
     "crates/workers/src/threads.rt": ["run_threads"],
@@ -249,7 +250,7 @@ def others():
 
 def main():
     reading, failed, tables, counted = Reading(), 0, [], {}
-    groups = (("The headline", HEADLINE), ("The compiler", COMPILER), ("All engines", engines()), ("Real threads", THREADS))
+    groups = (("The headline", HEADLINE), ("The compiler", COMPILER), ("All engines", engines()), ("Real threads", THREADS), ("Sections in C", EMITTED))
     believed = {module for module, _ in reading.begin(others()).seen}
     for title, calls in groups:
         tables.append(reading.begin(calls).table(title))
