@@ -76,7 +76,7 @@ impl Answer {
 
     /// Why nothing is written: this message, which gets a line feed.
     pub fn refused(alloc: Global, status: Status, mut message: String) -> Result<Answer, NoMemory>
-        ensures { IfOk result (IsMessage status (line (string_bytes message.entry))) }
+        ensures { IfOk result (IsMessage status (line (string_bytes message))) }
     {
         message.push_str("\n")?;
         Ok(Answer {

@@ -1,5 +1,6 @@
 use Rattle.std.proofs.Common.{sym, subst, ◌∙◌, ◌≡◌, ◌+◌, ◌<◌, ◌^◌, ℕ, List, [], ◌∷◌, length, refl, take, arith}
-use Rattle.std.specs.Prelude.{IfSome}
+use Rattle.std.specs.Prelude.{IfSome, string_bytes}
+use Rattle.rope.specs.Working.Ropes.{rope_text}
 use Rattle.std.proofs.lemmas.Result.{IfOk-weaker}
 use Rattle.source.specs.Texts.{SOURCE_LIMIT}
 use Rattle.driver.specs.Answers.{OfTwo}
@@ -48,14 +49,16 @@ returns g c =
     (reading_of g.S.Read.remaining c.args.source.now c.read.new.source)
     (reading_of g.T.Read.remaining c.args.other.now c.read-2.new.source ∷ []))
     (λ answer is.
+    let named = rw (name_is, other_is) at is in
     let right = answers_of_whole (λ text. IsReportBeside c.args.request text (name_of c.args.other.now) items) (name_of c.args.source.now)
-    c.deref.result.now had _ _ _ bytes (rw (name_is, other_is) at is) in
+    c.deref.result.now had answer.status (rope_text answer.out) (string_bytes answer.err) bytes named in
     record {
       text = right.0;
       texts = items ∷ [];
       gave = (right.1, (other_whole, tt));
       answers = right.2;
-      answered = beside_is_answered c.args.request _ _ _ _ _ _ _ is;
+      answered = beside_is_answered c.args.request (name_of c.args.source.now) (name_of c.args.other.now) c.deref.result.now items answer.status
+          (rope_text answer.out) (string_bytes answer.err) named;
     })
     c.beside_answer-answer.ensures in
     given_served _ _ _ _ _ c.args.streams.now c.give.new.self c.give.result c.beside_answer-answer.result
