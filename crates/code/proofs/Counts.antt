@@ -1,5 +1,5 @@
 -- The point of partition counts what passes.
-use Rattle.std.proofs.Common.{◌≡◌, ℕ, zero, suc, Bool, true, false, ◌+◌, ◌<◌, ◌≤◌, List, [], ◌∷◌, length, refl, sym, ap, ◌∙◌}
+use Rattle.std.proofs.Common.{◌≡◌, ℕ, zero, suc, Bool, true, false, ◌+◌, ◌≤◌, List, [], ◌∷◌, length, refl, ap, ◌∙◌}
 use Rattle.std.proofs.Common.{arith, cond}
 use Rattle.std.specs.Prelude.{◌-◌, Option, Some, None}
 use Rattle.std.specs.Option.{SomeIff}

@@ -12,7 +12,6 @@ use Rattle.core_lang.specs.declared.tree.Action.{If', IfElse', While', Row_of-St
 use Rattle.core_lang.specs.declared.tree.Return.{Return as Result_of}
 use Rattle.core_lang.specs.declared.tree.Section.{Section}
 use Rattle.flow.specs.Points.{Point, points, start_of}
-use Rattle.code.specs.declared.instr.Instr.{Instr}
 use Rattle.code.specs.declared.instr.Instr.TheVariants.{Jump, JumpBack, JumpIfFalse}
 use Rattle.code.specs.declared.places.Position.{Position}
 use Rattle.code.specs.declared.places.SectionPlaces.{SectionPlaces}

@@ -16,8 +16,8 @@ use Rattle.lowering.specs.Working.Lowered.{IsLowered, IsCodeOf}
 use Rattle.report_trace.proofs.Tables.{told_by, untold, none_put}
 use Rattle.report_trace.proofs.teller.Teller.push_instruction.Goals as goal
 
-pub index-3-requires : goal.index-3-requires
-index-3-requires c =
+pub index-requires-3 : goal.index-requires-3
+index-requires-3 c =
     let x = c.args.self.now in
     let sections = c.expanded-typed.result.now.sections.items in
     let k = c.args.section in
@@ -43,8 +43,8 @@ index-requires c =
       c.code-code.result.now.sections.ok.0,
     )
 
-pub index-2-requires : goal.index-2-requires
-index-2-requires c =
+pub index-requires-2 : goal.index-requires-2
+index-requires-2 c =
     let sections = c.expanded-typed.result.now.sections.items in
     let k = c.args.section in
     let at = item_here sections c.deref.result.now k c.deref.ensures.value c.in-Some.found c.in-Some.ensures.lookup in
