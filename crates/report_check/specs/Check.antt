@@ -9,6 +9,7 @@ use Rattle.core_lang.specs.declared.tree.Section.{Section}
 use Rattle.core_lang.specs.declared.typed.Typed.{Typed}
 use Rattle.flow.specs.Points.{Point, points, start_of}
 use Rattle.locks.specs.Texts.{class_name}
+use Rattle.code.specs.LineTables.{position_text}
 use Rattle.code.specs.Listing.{line, paths_text}
 
 -- ---- the ranks
@@ -26,10 +27,6 @@ abbrev pub rank_texts : Typed → List ℕ → List ℕ
 rank_texts program ranks = flat_map (rank_text program ranks) (range_with_len 0 (length ranks))
 
 -- ---- a section
-
--- LINE:COL
-abbrev pub position_text : ℕ → ℕ → List ℕ
-position_text line column = decimal line ++ codes ":" ++ decimal column
 
 -- at LINE:COL take PATHS, where there are any
 abbrev pub take_text : List ℕ → Typed → Section → ℕ → List ℕ → List ℕ

@@ -14,7 +14,8 @@ use Rattle.lockorder.specs.declared.ranks.ClassPair.{ClassPair}
 use Rattle.lockorder.specs.declared.ranks.Edge.{Edge}
 use Rattle.lockorder.specs.ClassPairs.{classes_of_pair}
 use Rattle.lockorder.specs.Faults.{classes_of, second}
-use Rattle.report_check.specs.Check.{position_text, ranked_class}
+use Rattle.code.specs.LineTables.{position_text}
+use Rattle.report_check.specs.Check.{ranked_class}
 use Rattle.code.specs.Listing.{line}
 
 -- ---- the classes

@@ -7,7 +7,8 @@ use Rattle.core_lang.specs.declared.tree.Section.{Section}
 use Rattle.core_lang.specs.declared.typed.Typed.{Typed}
 use Rattle.rope.specs.Working.Ropes.{rope_text}
 use Rattle.code.specs.Listing.{paths_text}
-use Rattle.report_check.specs.Check.{position_text, take_text}
+use Rattle.code.specs.LineTables.{position_text}
+use Rattle.report_check.specs.Check.{take_text}
 use Rattle.report_check.proofs.section_text.SectionText.push_take.Goals as goal
 
 step : (old mid new p q : List ℕ) → mid ≡ old ++ p → new ≡ mid ++ q → new ≡ old ++ (p ++ q)
