@@ -85,16 +85,28 @@ fn trees(alloc: Global, accepted: Typed) -> Result<Trees, Refusal>
     })
 }
 
-// The fault of a cycle.
-fn cycle_fault(alloc: Global, program: &Typed, cycle: &Cycle) -> Result<Fault, Refusal>
-    requires { IsCycleOf program.now cycle.now.edges.items }
-    ensures fault { IfOk result (IsFaultAtFirst program.now) }
-    ensures cycle { IfOk result (λ _. IsCycleOf program.now cycle.now.edges.items) }
+// What is known of a program whose lock classes are on a cycle.
+fn with_cycle(alloc: Global, trees: Trees, paths: Paths, cycle: Cycle) -> Result<Cyclic, Refusal>
+    requires { IsCycleOf (program_of trees) cycle.edges.items }
+    ensures trees { IfOk result (λ found. found.trees ≡ trees) }
+    ensures paths { IfOk result (λ found. found.paths ≡ paths) }
+    ensures cycle { IfOk result (λ found. IsCycleOf (program_of trees) found.edges.items) }
+    ensures fault { IfOk result (λ found. IsFaultAtFirst (program_of trees) found.fault) }
     ensures memory { IfErr result IsForMemory }
 {
-    match cycle.fault(alloc, program) {
-        Ok(fault) => Ok(fault),
-        Err(NoMemory) => Err(Refusal::NoMemory),
+    match cycle.fault(alloc, trees.program()) {
+        Ok(fault) => Ok(Cyclic {
+            trees,
+            paths,
+            edges: cycle.edges,
+            fault,
+        }),
+        Err(NoMemory) => {
+            drop(trees);
+            drop(paths);
+            drop(cycle);
+            Err(Refusal::NoMemory)
+        }
     }
 }
 
@@ -123,16 +135,15 @@ pub fn examine(alloc: Global, text: &[u8]) -> Result<Result<Ordered, Cyclic>, Re
             paths: found,
             ranks,
         })),
-        Err(OrderRefusal::Cycle(cycle)) => {
-            let fault = cycle_fault(alloc, trees.program(), &cycle)?;
-            Ok(Err(Cyclic {
-                trees,
-                paths: found,
-                edges: cycle.edges,
-                fault,
-            }))
+        Err(OrderRefusal::Cycle(cycle)) => match with_cycle(alloc, trees, found, cycle) {
+            Ok(cyclic) => Ok(Err(cyclic)),
+            Err(refusal) => Err(refusal),
+        },
+        Err(OrderRefusal::NoMemory) => {
+            drop(trees);
+            drop(found);
+            Err(Refusal::NoMemory)
         }
-        Err(OrderRefusal::NoMemory) => Err(Refusal::NoMemory),
     }
 }
 

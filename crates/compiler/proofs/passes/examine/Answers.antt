@@ -1,4 +1,11 @@
+use Rattle.std.proofs.Common.{◌≡◌, ap, sym, subst}
 use Rattle.std.proofs.lemmas.Result.{err_from_is_err_and}
+use Rattle.core_lang.specs.WellFormed.{IsChecked}
+use Rattle.core_lang_expansion.specs.Data.{IsExpanded}
+use Rattle.lockorder.specs.Faults.{IsCycleOf, IsFaultAtFirst}
+use Rattle.lowering.specs.Working.Compiled.{program_of}
+use Rattle.resolution.specs.Resolved.{Resolves}
+use Rattle.compiler.specs.Cycles.{IsWrittenProgram}
 use Rattle.compiler.specs.Programs.{in_order}
 use Rattle.compiler.proofs.RefusalLemmas.{no_memory_refused, tokens_refused, tree_refused, paths_refused}
 use Rattle.compiler.proofs.FaultlessLemmas.{faultless, tokens_faultless}
@@ -33,36 +40,41 @@ returns-in_err-found-clause-fault c =
     rw (p.1, p.2)
     (paths_refused _ _ _ _ _ c.in_err-found.field-0.0 c.in_ok-tokens.ensures.refused c.in_ok-tokens.ensures.found
     (λ code start. tokens_faultless _ _ _ code start c.in_ok-tokens.ensures.found right placed) right c.in_ok-accepted.ensures.faultless
-    c.in_ok-accepted.ensures.resolves c.in_ok-trees.ensures.expanded c.in_err-found.ensures.fault c.in_err-found.ensures.least)
+    c.in_ok-accepted.ensures.resolves c.in_ok-trees.ensures.expanded (rw c.program.ensures at c.in_err-found.ensures.fault) (rw c.program.ensures at c.in_err-found.ensures.least))
 
 pub returns-in-Ok-clause-order : goal.returns-in-Ok-clause-order
 returns-in-Ok-clause-order c =
     let right = rw c.deref.ensures.value at c.in_ok-tree.ensures.found in
+    let stable = rw c.program.ensures at c.in_ok-found.ensures.faultless in
     record {
       accepts = record {
         tokens = _;
         tree = _;
         has_tokens = c.in_ok-tokens.ensures.found;
         has_tree = right;
-        resolves = c.in_ok-accepted.ensures.resolves;
+        resolves = subst (Resolves _) (sym c.in_ok-trees.ensures.accepted) c.in_ok-accepted.ensures.resolves;
         faultless = faultless _ _ _ _ _ c.in_ok-tokens.ensures.refused c.one_program.ensures
             c.in_ok-tokens.ensures.only c.in_ok-tokens.ensures.found right
             (rw c.deref.ensures.value at c.in_ok-tree.ensures.misplaced) (rw c.deref.ensures.value at c.in_ok-tree.ensures.only)
-            c.in_ok-accepted.ensures.faultless c.in_ok-accepted.ensures.resolves c.in_ok-trees.ensures.expanded c.in_ok-found.ensures.faultless c.in-Ok.ensures.faultless;
+            c.in_ok-accepted.ensures.faultless c.in_ok-accepted.ensures.resolves c.in_ok-trees.ensures.expanded stable
+            (rw c.program-2.ensures at c.in-Ok.ensures.faultless);
       };
-      expanded = c.in_ok-trees.ensures.expanded;
+      checked = subst IsChecked (sym c.in_ok-trees.ensures.accepted) c.in_ok-accepted.ensures.checked;
+      expanded = subst (λ accepted. IsExpanded accepted (program_of c.in_ok-trees.trees)) (sym c.in_ok-trees.ensures.accepted) c.in_ok-trees.ensures.expanded;
       well_formed = c.in_ok-trees.ensures.well_formed;
-      paths = c.in_ok-found.ensures.paths;
-      ranks = c.in-Ok.ensures.ranks;
-      rise = c.in-Ok.ensures.rise;
+      paths = rw c.program.ensures at c.in_ok-found.ensures.paths;
+      stable = stable;
+      ranks = rw c.program-2.ensures at c.in-Ok.ensures.ranks;
+      rise = rw c.program-2.ensures at c.in-Ok.ensures.rise;
     }
 
-pub returns-in-Err-Cycle-clause-cycle : goal.returns-in-Err-Cycle-clause-cycle
-returns-in-Err-Cycle-clause-cycle c =
+pub returns-in-Ok-with_cycle-clause-cycle : goal.returns-in-Ok-with_cycle-clause-cycle
+returns-in-Ok-with_cycle-clause-cycle c =
     let right = rw c.deref.ensures.value at c.in_ok-tree.ensures.found in
     let placed = rw c.deref.ensures.value at c.in_ok-tree.ensures.misplaced in
+    let same : program_of c.in-Ok-with_cycle.cyclic.trees ≡ program_of c.in_ok-trees.trees = ap program_of c.in-Ok-with_cycle.ensures.trees in
     record {
-      program = record {
+      program = subst (IsWrittenProgram c.args.text.now) (sym same) (record {
         tokens = _;
         tree = _;
         program = _;
@@ -70,11 +82,11 @@ returns-in-Err-Cycle-clause-cycle c =
         has_tree = right;
         resolves = c.in_ok-accepted.ensures.resolves;
         expanded = c.in_ok-trees.ensures.expanded;
-      };
-      paths = c.in_ok-found.ensures.paths;
-      cycle = c.in_ok-fault-in-Err-Cycle.ensures.cycle;
-      told = c.in_ok-fault-in-Err-Cycle.ensures.fault;
+      });
+      paths = rw (same, c.in-Ok-with_cycle.ensures.paths, ← c.program.ensures) c.in_ok-found.ensures.paths;
+      cycle = subst (λ p. IsCycleOf p c.in-Ok-with_cycle.cyclic.edges.items) (sym same) c.in-Ok-with_cycle.ensures.cycle;
+      told = subst (λ p. IsFaultAtFirst p c.in-Ok-with_cycle.cyclic.fault) (sym same) c.in-Ok-with_cycle.ensures.fault;
       first = in_order _ _ _ _ c.in_ok-tokens.ensures.refused c.in_ok-tokens.ensures.found
           (λ code start. tokens_faultless _ _ _ code start c.in_ok-tokens.ensures.found right placed) right c.in_ok-accepted.ensures.faultless
-          c.in_ok-accepted.ensures.resolves c.in_ok-trees.ensures.expanded c.in_ok-found.ensures.faultless c.in_ok-fault-in-Err-Cycle.ensures.fault;
+          c.in_ok-accepted.ensures.resolves c.in_ok-trees.ensures.expanded (rw c.program.ensures at c.in_ok-found.ensures.faultless) c.in-Ok-with_cycle.ensures.fault;
     }
