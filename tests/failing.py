@@ -78,7 +78,7 @@ def wrong_write(whole, ended, _names):
     if whole.stdout:
         is_right = ended.returncode == 3 and whole.stdout.startswith(ended.stdout) and ended.stderr == b"autolock: cannot write\n"
         return None if is_right else "a failed write is no status 3 with its line alone"
-    is_right = ended.returncode == whole.returncode and not ended.stdout
+    is_right = ended.returncode == whole.returncode and ended.stdout == whole.stdout
     return None if is_right else "a failing standard error changes the status"
 
 
