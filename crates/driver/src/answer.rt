@@ -125,12 +125,7 @@ fn checked(alloc: Global, text: &[u8], program: &Program) -> Result<Answer, NoMe
 }
 
 /// The listing of a program with this text, with places or without.
-fn listed(
-    alloc: Global,
-    places: bool,
-    text: &[u8],
-    program: &Program,
-) -> Result<Answer, NoMemory>
+fn listed(alloc: Global, places: bool, text: &[u8], program: &Program) -> Result<Answer, NoMemory>
     ensures { IfOk result (Meets (IsListed places text.now program.now)) }
 {
     if places {

@@ -107,7 +107,12 @@ fn order_explained(alloc: Global, asked: &Asked<'_>, ordered: &Ordered) -> Resul
     requires { IsOrdered asked.now.text.now ordered.now }
     ensures { IfOk result (Meets (ExplainAnswers asked.now.json asked.now.file.now asked.now.text.now)) }
 {
-    let notes = order_notes(alloc, ordered.trees.program(), &ordered.paths, &ordered.ranks)?;
+    let notes = order_notes(
+        alloc,
+        ordered.trees.program(),
+        &ordered.paths,
+        &ordered.ranks,
+    )?;
     let acceptance = Acceptance {
         file: asked.file,
         text: asked.text,
