@@ -1,6 +1,7 @@
 -- What is known of a text whose lock classes have no order.
 use Rattle.std.specs.Prelude.{◌≡◌, ℕ, List, [], string_bytes}
 use Rattle.core_lang.specs.declared.typed.Typed.{Typed}
+use Rattle.core_lang.specs.WellFormed.{IsWellFormed}
 use Rattle.core_lang_expansion.specs.Data.{IsExpanded}
 use Rattle.lockorder.specs.Faults.{IsCycleOf, IsFaultAtFirst}
 use Rattle.lockpaths.specs.Paths.{ArePaths}
@@ -33,6 +34,7 @@ pub record IsWrittenProgram (source : List ℕ) (written : Typed) : Type 0 where
 -- the text's fault is that of a cycle of its program's lock classes, of which these are the edges
 pub record IsCyclic (source : List ℕ) (cyclic : Cyclic) : Type 0 where
   pub program : IsWrittenProgram source (program_of cyclic.trees)
+  pub well_formed : IsWellFormed (program_of cyclic.trees)
   pub paths : ArePaths (program_of cyclic.trees) cyclic.paths
   pub cycle : IsCycleOf (program_of cyclic.trees) cyclic.edges.items
   pub told : IsFaultAtFirst (program_of cyclic.trees) cyclic.fault

@@ -1,9 +1,11 @@
 //! The engine of `order`.
 
 ghost use Rattle.std.specs.Prelude.{◌≡◌, [], false, IfOk, string_bytes};
+ghost use Rattle.code.specs.Listing.{line};
 ghost use Rattle.compiler.specs.Cycles.{IsCyclic};
 ghost use Rattle.compiler.specs.Programs.{IsOfFirstPass};
 ghost use Rattle.compiler.specs.Working.Orders.{IsOrdered};
+ghost use Rattle.source.specs.Faults.{fault_text};
 ghost use Rattle.driver.specs.Answers.{OfOne};
 ghost use Rattle.driver.specs.Engines.{Serves, reading_of};
 ghost use Rattle.driver.specs.OrderGraphs.{OrderAnswers};
@@ -43,6 +45,15 @@ fn ordered(alloc: Global, source: &Named<'_>, found: &Ordered) -> Result<Answer,
     Ok(Answer::done(alloc, Rope::of(alloc, order.text(alloc)?)))
 }
 
+/// The line of a fault, with a line feed.
+fn told_line(alloc: Global, source: &Named<'_>, fault: &Fault) -> Result<String, NoMemory>
+    ensures { IfOk result (λ told. string_bytes told ≡ line (fault_text source.now.file.now source.now.text.now fault.now)) }
+{
+    let mut told = fault_line(alloc, source.file, source.text, fault)?;
+    told.push_str("\n")?;
+    Ok(told)
+}
+
 /// What has to come before what, where there is no order.
 fn cyclic(alloc: Global, source: &Named<'_>, found: &Cyclic) -> Result<Answer, NoMemory>
     requires { IsCyclic source.now.text.now found.now }
@@ -56,8 +67,7 @@ fn cyclic(alloc: Global, source: &Named<'_>, found: &Cyclic) -> Result<Answer, N
         pairs: &pairs,
         cycle: &found.edges,
     };
-    let mut err = fault_line(alloc, source.file, source.text, &found.fault)?;
-    err.push_str("\n")?;
+    let err = told_line(alloc, source, &found.fault)?;
     Ok(Answer {
         status: Status::Refused,
         out: Rope::of(alloc, order.text(alloc)?),

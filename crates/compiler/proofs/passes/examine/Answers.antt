@@ -1,6 +1,6 @@
 use Rattle.std.proofs.Common.{◌≡◌, ap, sym, subst}
 use Rattle.std.proofs.lemmas.Result.{err_from_is_err_and}
-use Rattle.core_lang.specs.WellFormed.{IsChecked}
+use Rattle.core_lang.specs.WellFormed.{IsChecked, IsWellFormed}
 use Rattle.core_lang_expansion.specs.Data.{IsExpanded}
 use Rattle.lockorder.specs.Faults.{IsCycleOf, IsFaultAtFirst}
 use Rattle.lowering.specs.Working.Compiled.{program_of}
@@ -83,6 +83,7 @@ returns-in-Ok-with_cycle-clause-cycle c =
         resolves = c.in_ok-accepted.ensures.resolves;
         expanded = c.in_ok-trees.ensures.expanded;
       });
+      well_formed = subst IsWellFormed (sym same) c.in_ok-trees.ensures.well_formed;
       paths = rw (same, c.in-Ok-with_cycle.ensures.paths, ← c.program.ensures) c.in_ok-found.ensures.paths;
       cycle = subst (λ p. IsCycleOf p c.in-Ok-with_cycle.cyclic.edges.items) (sym same) c.in-Ok-with_cycle.ensures.cycle;
       told = subst (λ p. IsFaultAtFirst p c.in-Ok-with_cycle.cyclic.fault) (sym same) c.in-Ok-with_cycle.ensures.fault;

@@ -12,7 +12,7 @@ returns-in-Trace c =
     let is = rw c.in-Ok.is at c.in_ok-program.ensures in
     rw c.in-Trace.is (IfOk-weaker c.traced.result _ _ (λ answer answers. accepted c.in-Ok.program is.0 is.1 answers) c.traced.ensures)
 
-pub returns-in-Replay : goal.returns-in-Replay
-returns-in-Replay c =
+pub returns : goal.returns
+returns c =
     let is = rw c.in-Ok.is at c.in_ok-program.ensures in
     rw c.in-Replay.is (IfOk-weaker c.replayed.result _ _ (λ answer answers. accepted c.in-Ok.program is.0 is.1 answers) c.replayed.ensures)
