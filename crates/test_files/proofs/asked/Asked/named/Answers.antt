@@ -21,7 +21,7 @@ pub returns-in-listing : goal.returns-in-listing
 returns-in-listing c = rw (c.in-listing.is, c.listing.ensures) named_listing
 
 pub returns-in-places : goal.returns-in-places
-returns-in-places c = rw (c.in-places.is, c.listing-2.ensures) named_places
+returns-in-places c = rw (c.in-places.is, c.listing-in-places.ensures) named_places
 
 pub returns-in-tokens : goal.returns-in-tokens
 returns-in-tokens c = rw c.in-tokens.is named_tokens
