@@ -3,7 +3,8 @@
 # stands beside it, through `order`, `explain` and `outcomes` where NAME.order, NAME.explained and NAME.outcomes do, and through
 # `simulate` with the steps of NAME.steps where this stands beside it, and with these through `trace` where NAME.trace does, and
 # compares what they write with the files kept beside it, NAME.out, NAME.check, NAME.listing, NAME.order, NAME.explained,
-# NAME.outcomes, NAME.simulation and NAME.trace. Where NAME.refused stands beside it, all have to refuse it with that line. Its
+# NAME.outcomes, NAME.simulation and NAME.trace. Where NAME.refused stands beside it, all have to refuse it with that line;
+# `order` writes NAME.order then too, since these programs have a cycle of lock classes. Its
 # argument is the program to run, by default ./autolock at the top.
 set -u
 
@@ -37,7 +38,7 @@ for source in *.al; do
     if [ -e "$name.refused" ]; then
         judge serial "$name" 1 /dev/null "$name.refused"
         judge check "$name" 1 /dev/null "$name.refused"
-        judge order "$name" 1 /dev/null "$name.refused"
+        judge order "$name" 1 "$name.order" "$name.refused"
         judge listing "$name" 1 /dev/null "$name.refused"
         [ ! -e "$name.explained" ] || judge explain "$name" 1 "$name.explained" /dev/null
         judge outcomes "$name" 1 /dev/null "$name.refused"
