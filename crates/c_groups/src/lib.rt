@@ -9,5 +9,6 @@
 
 pub mod grouper;
 pub mod laws;
+pub mod numbers;
 mod operands;
 mod types;

@@ -1,6 +1,6 @@
 //! Where the instructions of a section stand in the program's text.
 
-ghost use Rattle.std.specs.Prelude.{◌≡◌, IfOk, OnOk};
+ghost use Rattle.std.specs.Prelude.{◌≡◌, IfOk, OnOk, slice_get};
 ghost use Rattle.std.specs.List.Sorted.{IsNonDecreasing};
 ghost use Rattle.locks.specs.Texts.{AddsText};
 
@@ -13,10 +13,11 @@ use std::alloc::{AllocError, Global};
 
 /// A line and a column of a text, both from 1.
 #[derive(Clone, Copy)]
-struct Position {
-    line: usize,
-    // In bytes.
-    column: usize,
+pub struct Position {
+    /// The line.
+    pub line: usize,
+    /// The column, in bytes.
+    pub column: usize,
 }
 
 /// Where the statements of a section's points start in the program's text.
@@ -27,7 +28,7 @@ pub struct SectionPlaces {
 }
 
 impl SectionPlaces {
-    ghost use Rattle.code.specs.Working.Places.{PlacesOf, table_text};
+    ghost use Rattle.code.specs.Working.Places.{PlacesOf, position_at, table_text};
 
     /// Of a section of the program with the cursor's text. The cursor stands anywhere in it.
     ///
@@ -54,15 +55,27 @@ impl SectionPlaces {
         Ok(SectionPlaces { positions })
     }
 
+    /// Where the statement of a point starts, if the section has that point.
+    pub fn of_point(&self, point: usize) -> Option<Position>
+        ensures { result ≡ slice_get self.now.positions.items point }
+    {
+        self.positions.get(point).copied()
+    }
+
+    /// Where the statement of the instruction at a place of the section's code starts; nothing where the section has no point.
+    pub fn at(&self, code: &SectionCode, place: usize) -> Option<Position>
+        requires { IsNonDecreasing code.now.begins.items }
+        ensures { result ≡ position_at self.now code.now.begins.items place }
+    {
+        self.of_point(code.point_at(place)?)
+    }
+
     /// Where the instruction at a place of the section's code stands in the text, and a space.
     pub fn push(&self, out: &mut String, code: &SectionCode, place: usize) -> Result<(), AllocError>
         requires { IsNonDecreasing code.now.begins.items }
         ensures { OnOk result (AddsText (table_text self.now code.now.begins.items place) out.old out.new) }
     {
-        let Some(point) = code.point_at(place) else {
-            return Ok(());
-        };
-        match self.positions.get(point) {
+        match self.at(code, place) {
             Some(position) => write!(out, "{}:{} ", position.line, position.column),
             None => Ok(()),
         }

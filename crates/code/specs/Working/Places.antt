@@ -1,5 +1,5 @@
 -- Where the instructions of a section stand in the text, of values of the code.
-use Rattle.std.specs.Prelude.{◌≡◌, ℕ, List, [], ◌++◌, map, slice_get, option_and_then, codes}
+use Rattle.std.specs.Prelude.{◌≡◌, ℕ, List, [], ◌++◌, map, slice_get, Option, option_and_then, codes}
 use Rattle.std.specs.Option.{option_map_or}
 use Rattle.source.specs.Faults.{line_of, column_of}
 use Rattle.core_lang.specs.declared.tree.Section.{Section}
@@ -16,8 +16,12 @@ position_in text point = record { line = line_of text (start_of point); column =
 abbrev pub PlacesOf : List ℕ → Section → SectionPlaces → Type 0
 PlacesOf text section places = places.positions.items ≡ map (position_in text) (points section)
 
--- what they say of the instruction at a place, where points begin at these
+-- that of the instruction at a place, where points begin at these
+abbrev pub position_at : SectionPlaces → List ℕ → ℕ → Option Position
+position_at places begins place = option_and_then (λ point. slice_get places.positions.items point) (point_at begins place)
+
+-- what they say of it
 abbrev pub table_text : SectionPlaces → List ℕ → ℕ → List ℕ
 table_text places begins place =
     option_map_or (λ (p : Position). position_text p.line p.column ++ codes " ")
-    (option_and_then (λ point. slice_get places.positions.items point) (point_at begins place)) []
+    (position_at places begins place) []
