@@ -106,7 +106,13 @@ module _ (start : DefaultHasher) where
       HaveSame entries (slice_set entries i other) n
   same_with_other entries i e other n is same h k within = (
     λ has. elim (replaced_at entries i other k has.0 has.1) [
-      | inl here ↦ (other, here.1, (let was : has.0 ≡ e = (let f : slice_get entries i ≡ Some has.0 = ap (slice_get entries) (sym here.0) ∙ has.1 in cc) in same ∙ ap (hash_of start) (sym was) ∙ has.2))
+      | inl here ↦ (
+        other,
+        here.1,
+        (let was : has.0 ≡ e =
+            (let f : slice_get entries i ≡ Some has.0 = ap (slice_get entries) (sym here.0) ∙ has.1 in cc) in same ∙ ap
+            (hash_of start) (sym was) ∙ has.2),
+      )
       | inr there ↦ (has.0, there, has.2)
     ],
     λ has. elim (set_at entries i other k has.0 has.1) [

@@ -45,7 +45,9 @@ adds_goes log v e old len pre false is =
 pub adds_moves : (v : List Commit) (e : Commit) (old : ℕ) → length v ≡ old
     → Moves IsKept shown (moved e) 0 (v, (no_nib, None)) (λ n. either (n == old) (old + 1) n) (Adds (step 0 old (old + 1) e) (v, (no_nib, None)))
 adds_moves v e old len cs log kept pre away =
-    let P : List Cell → Type 0 = λ c. (0 < length c) × ((cell c 0).1 ≡ true) × Goes IsKept shown (moved e) 0 (v, (no_nib, None)) (λ n. either (n == old) (old + 1) n) (Adds (step 0 old (old + 1) e) (v, (no_nib, None))) c log in
+    let P : List Cell → Type 0 = λ c. (0 < length c) × ((cell c 0).1 ≡ true) × Goes IsKept shown (moved e) 0
+    (v, (no_nib, None)) (λ n. either (n == old) (old + 1) n)
+    (Adds (step 0 old (old + 1) e) (v, (no_nib, None))) c log in
     subst P (sym kept.words) (omega arith, refl, adds_goes log v e old len pre (length log == old) refl)
 
 looks_goes : (log v : List Commit) (e : Commit) →

@@ -160,4 +160,5 @@ pub places_told : (text : List ℕ) (lists : List (List ℕ)) (section : Section
 places_told text lists section places begins are is place =
     ap (λ ps. option_map_or (λ (p : Position). position_text p.line p.column ++ codes " ") (option_and_then (λ point. slice_get ps point) (point_at begins place)) []) are
     ∙ position_there text (points section) (point_at begins place)
-    ∙ ap (λ bs. option_map_or (λ start. position_text (line_of text start) (column_of text start) ++ codes " ") (option_and_then (λ point. option_map start_of (slice_get (points section) point)) (point_at bs place)) []) is
+    ∙ ap (λ bs. option_map_or (λ start. position_text (line_of text start) (column_of text start) ++ codes " ")
+    (option_and_then (λ point. option_map start_of (slice_get (points section) point)) (point_at bs place)) []) is

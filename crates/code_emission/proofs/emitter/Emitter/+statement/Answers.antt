@@ -78,15 +78,21 @@ block-returns t c =
 
 pub statement-returns-in-SetField : goal.statement-returns-in-SetField
 statement-returns-in-SetField t c =
-    on_ok_weaker c.set_field.result (λ e. emits_as c.args.action.now (SetField c.in-SetField.base c.in-SetField.structure c.in-SetField.field c.in-SetField.value) c.args.self.now c.set_field.new.self c.in-SetField.is e) c.set_field.ensures
+    on_ok_weaker c.set_field.result
+    (λ e. emits_as c.args.action.now
+    (SetField c.in-SetField.base c.in-SetField.structure c.in-SetField.field c.in-SetField.value) c.args.self.now c.set_field.new.self c.in-SetField.is e) c.set_field.ensures
 
 pub statement-returns-in-SetGlobal : goal.statement-returns-in-SetGlobal
 statement-returns-in-SetGlobal t c =
-    on_ok_weaker c.evaluate-in-SetGlobal.result (λ e. emits_as c.args.action.now (SetGlobal c.in-SetGlobal.cell c.in-SetGlobal.value) c.args.self.now c.evaluate-in-SetGlobal.new.self c.in-SetGlobal.is e) c.evaluate-in-SetGlobal.ensures
+    on_ok_weaker c.evaluate-in-SetGlobal.result
+    (λ e. emits_as c.args.action.now
+    (SetGlobal c.in-SetGlobal.cell c.in-SetGlobal.value) c.args.self.now c.evaluate-in-SetGlobal.new.self c.in-SetGlobal.is e) c.evaluate-in-SetGlobal.ensures
 
 pub statement-returns-in-SetLocal : goal.statement-returns-in-SetLocal
 statement-returns-in-SetLocal t c =
-    on_ok_weaker c.evaluate-in-SetLocal.result (λ e. emits_as c.args.action.now (SetLocal c.in-SetLocal.local c.in-SetLocal.value) c.args.self.now c.evaluate-in-SetLocal.new.self c.in-SetLocal.is e) c.evaluate-in-SetLocal.ensures
+    on_ok_weaker c.evaluate-in-SetLocal.result
+    (λ e. emits_as c.args.action.now
+    (SetLocal c.in-SetLocal.local c.in-SetLocal.value) c.args.self.now c.evaluate-in-SetLocal.new.self c.in-SetLocal.is e) c.evaluate-in-SetLocal.ensures
 
 pub statement-returns-in-Bind : goal.statement-returns-in-Bind
 statement-returns-in-Bind t c =
@@ -98,7 +104,9 @@ statement-returns-in-Print t c =
 
 pub statement-returns-in-SetElement : goal.statement-returns-in-SetElement
 statement-returns-in-SetElement t c =
-    on_ok_weaker c.set_element.result (λ e. emits_as c.args.action.now (SetElement c.in-SetElement.array c.in-SetElement.index c.in-SetElement.value) c.args.self.now c.set_element.new.self c.in-SetElement.is e) c.set_element.ensures
+    on_ok_weaker c.set_element.result
+    (λ e. emits_as c.args.action.now
+    (SetElement c.in-SetElement.array c.in-SetElement.index c.in-SetElement.value) c.args.self.now c.set_element.new.self c.in-SetElement.is e) c.set_element.ensures
 
 pub statement-returns-in-Call : goal.statement-returns-in-Call
 statement-returns-in-Call t c =
