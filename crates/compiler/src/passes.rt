@@ -4,8 +4,10 @@ ghost use Rattle.std.specs.Prelude.{◌≡◌, IfOk, IfErr};
 ghost use Rattle.core_lang.specs.WellFormed.{IsChecked, IsWellFormed};
 ghost use Rattle.core_lang_expansion.specs.Data.{IsExpanded};
 ghost use Rattle.lockorder.specs.Faults.{IsCycleOf, IsFaultAtFirst};
+ghost use Rattle.lockpaths.specs.Paths.{ArePaths};
 ghost use Rattle.lowering.specs.Plans.{IsCompiled};
 ghost use Rattle.lowering.specs.Working.Compiled.{program_of};
+ghost use Rattle.points.specs.Working.Points.{AreAllPointsOf};
 ghost use Rattle.compiler.specs.Cycles.{IsBare, IsCyclic};
 ghost use Rattle.compiler.specs.Programs.{Accepts, IsForMemory, IsRefusal};
 ghost use Rattle.compiler.specs.Working.Orders.{IsOrdered};
@@ -14,12 +16,14 @@ use core_lang::typed::Typed;
 use core_lang_expansion::program::expand;
 use core_lang_laws::laws::a_program_without_helpers_is_its_own_expansion;
 use lexer::lex;
-use lockorder::order;
+use lockorder::order_by;
 use lockorder::ranks::{Cycle, Edge, OrderRefusal, Ranks};
 use lockpaths::paths;
 use lockpaths::table::Paths;
-use lowering::compiled::{Program, Trees};
+use lowering::compiled::{Found, Program, Trees};
 use parser::parse;
+use points::all_points;
+use points::table::Points;
 use resolution::laws::one_program;
 use source::fault::{Fault, Refusal};
 use source::memory::NoMemory;
@@ -33,6 +37,8 @@ pub struct Ordered {
     pub trees: Trees,
     /// Its lock paths.
     pub paths: Paths,
+    /// The points of each of its sections.
+    pub points: Vec<Points>,
     /// For each lock class its rank.
     pub ranks: Ranks,
 }
@@ -85,6 +91,18 @@ fn trees(alloc: Global, accepted: Typed) -> Result<Trees, Refusal>
     })
 }
 
+// The points of each of the program's sections.
+fn points_found(alloc: Global, program: &Typed, paths: &Paths) -> Result<Vec<Points>, Refusal>
+    requires { ArePaths program.now paths.now }
+    ensures points { IfOk result (λ points. AreAllPointsOf program.now points.items) }
+    ensures fault { IfErr result IsForMemory }
+{
+    match all_points(alloc, program, paths) {
+        Ok(points) => Ok(points),
+        Err(NoMemory) => Err(Refusal::NoMemory),
+    }
+}
+
 // What is known of a program whose lock classes are on a cycle.
 fn with_cycle(alloc: Global, trees: Trees, paths: Paths, cycle: Cycle) -> Result<Cyclic, Refusal>
     requires { IsCycleOf (program_of trees) cycle.edges.items }
@@ -129,19 +147,25 @@ pub fn examine(alloc: Global, text: &[u8]) -> Result<Result<Ordered, Cyclic>, Re
     drop(tree);
     let trees = trees(alloc, accepted)?;
     let found = paths(alloc, trees.program())?;
-    match order(alloc, trees.program(), &found) {
+    let points = points_found(alloc, trees.program(), &found)?;
+    match order_by(alloc, trees.program(), &points) {
         Ok(ranks) => Ok(Ok(Ordered {
             trees,
             paths: found,
+            points,
             ranks,
         })),
-        Err(OrderRefusal::Cycle(cycle)) => match with_cycle(alloc, trees, found, cycle) {
-            Ok(cyclic) => Ok(Err(cyclic)),
-            Err(refusal) => Err(refusal),
-        },
+        Err(OrderRefusal::Cycle(cycle)) => {
+            drop(points);
+            match with_cycle(alloc, trees, found, cycle) {
+                Ok(cyclic) => Ok(Err(cyclic)),
+                Err(refusal) => Err(refusal),
+            }
+        }
         Err(OrderRefusal::NoMemory) => {
             drop(trees);
             drop(found);
+            drop(points);
             Err(Refusal::NoMemory)
         }
     }
@@ -158,10 +182,17 @@ pub fn compile(alloc: Global, text: &[u8]) -> Result<Program, Refusal>
     ensures fault { IfErr result (IsRefusal text.now) }
 {
     match examine(alloc, text)? {
-        Ok(ordered) => match Program::of(alloc, ordered.trees, ordered.paths, ordered.ranks) {
-            Ok(program) => Ok(program),
-            Err(NoMemory) => Err(Refusal::NoMemory),
-        },
+        Ok(ordered) => {
+            let found = Found {
+                paths: ordered.paths,
+                points: ordered.points,
+                ranks: ordered.ranks,
+            };
+            match Program::of(alloc, ordered.trees, found) {
+                Ok(program) => Ok(program),
+                Err(NoMemory) => Err(Refusal::NoMemory),
+            }
+        }
         Err(cyclic) => Err(Refusal::Fault(cyclic.fault)),
     }
 }

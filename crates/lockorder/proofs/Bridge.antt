@@ -3,7 +3,7 @@ use Rattle.std.proofs.Common.{◌≡◌, ℕ, ◌<◌, List, length, get_or, Som
 use Rattle.std.specs.Prelude.{slice_get}
 use Rattle.std.specs.Option.{option_map}
 use Rattle.std.specs.List.{All, Contains}
-use Rattle.std.proofs.lemmas.Option.{same_Some, slice_get_within, slice_get-map, slice_get-get_or}
+use Rattle.std.proofs.lemmas.Option.{same_Some, slice_get_within, slice_get-map, slice_get-get_or, slice_get_read}
 use Rattle.std.proofs.lemmas.List.Elements.{All-contains_itself, All-weaker}
 use Rattle.core_lang.specs.declared.tree.Section.{Section}
 use Rattle.core_lang.specs.declared.typed.Typed.{Typed}
@@ -18,7 +18,7 @@ use Rattle.locks.specs.LockPaths.{LockPath, Uses, BindsRoot, lock_paths}
 use Rattle.locks.specs.Working.Laws.{UsedAreListed, PathsHaveClasses}
 use Rattle.locks.specs.Sets.{AreSets}
 use Rattle.points.specs.declared.table.Points.{Points}
-use Rattle.points.specs.Working.Points.{ArePoints}
+use Rattle.points.specs.Working.Points.{ArePoints, AreAllPointsOf}
 use Rattle.points.specs.Used.{IsUsedBefore}
 use Rattle.lockorder.specs.Edges.{Makes, Edge}
 use Rattle.lockorder.specs.Working.Sections.{set_at, no_paths, IsIn, IsOfClass, HasClass, BindsAt, UsesAt, MakesSomewhere}
@@ -31,6 +31,14 @@ use Rattle.core_lang.specs.Theory.Items.{contains_at, at_contained, map_some, ge
 -- the section of this number makes the edge
 abbrev pub MakesIn : Typed → ℕ → ℕ → ℕ → Type 0
 MakesIn program k c d = (used bound : ℕ) × Makes program k used bound c d
+
+-- the points that stand at a place are those of the section of that number
+pub section_at : (program : Typed) (all : List Points) → AreAllPointsOf program all → (k : ℕ) (x : Points) →
+    k < length all → x ≡ get_or all k x →
+    (section : Section) × (slice_get program.sections.items k ≡ Some section) × ArePoints program section x
+section_at program all are k x lt is =
+    let s = get_some program.sections.items k (omega (arith, lt, are.sections)) in
+    (s.0, s.1, are.each k x (slice_get_read all (length all) k x refl lt is) s.0 s.1)
 
 module _ (program : Typed) (well : IsWellFormed program) (listed : UsedAreListed) (classes : PathsHaveClasses)
     (k : ℕ) (section : Section) (here : slice_get program.sections.items k ≡ Some section) (x : Points) (are : ArePoints program section x) where

@@ -115,7 +115,11 @@ module _ (x : Points) (usage : Usage) (next classes : ℕ) (old : List (Option E
             (as_it_was (IsToldBy x usage c d) (c ≡ usage.class → d ≡ next → IsNotBehind x usage.point d) (told_at old c d) (λ n e f. absurd (ne (e, f))))
 
     pub pair_told : (new : List (Option Edge)) → new ≡ with_edge → TellsPair x usage next classes old new
-    pair_told new e = λ c d mc md. subst (λ l. IsToldOr (IsToldBy x usage c d) (c ≡ usage.class → d ≡ next → IsNotBehind x usage.point d) (told_at old c d) (told_at l c d)) (sym e) (one_told c d mc md)
+    pair_told new e =
+        λ c d mc md.
+        subst
+        (λ l. IsToldOr (IsToldBy x usage c d) (c ≡ usage.class → d ≡ next → IsNotBehind x usage.point d) (told_at old c d) (told_at l c d))
+        (sym e) (one_told c d mc md)
 
 -- ---- one path after another
 

@@ -4,6 +4,7 @@ ghost use Rattle.std.specs.Prelude.{◌≡◌, length, map, IfOk, IfErr, OnOk};
 ghost use Rattle.std.specs.List.{All};
 ghost use Rattle.core_lang.specs.WellFormed.{IsWellFormed};
 ghost use Rattle.lockpaths.specs.Paths.{ArePaths};
+ghost use Rattle.points.specs.Working.Points.{AreAllPointsOf};
 ghost use Rattle.lockorder.specs.ClassPairs.{classes_of_pair, IsMadeFirst, AreClassPairs};
 ghost use Rattle.lockorder.specs.Edges as program_edges;
 ghost use Rattle.lockorder.specs.Edges.{AreRanksOf, RiseIn};
@@ -19,14 +20,15 @@ use crate::table::Table;
 use crate::telling::Telling;
 use core_lang::typed::Typed;
 use lockpaths::table::Paths;
-use points::points;
+use points::all_points;
+use points::table::Points;
 use source::memory::NoMemory;
 use std::alloc::Global;
 
 // The edges that the sections make.
-fn table(alloc: Global, program: &Typed, paths: &Paths) -> Result<Table, NoMemory>
+fn table(alloc: Global, program: &Typed, points: &[Points]) -> Result<Table, NoMemory>
     requires program { IsWellFormed program.now }
-    requires paths { ArePaths program.now paths.now }
+    requires points { AreAllPointsOf program.now points.now }
     ensures classes { IfOk result (λ table. length table.before.items ≡ length program.now.classes.items) }
     ensures edges { IfOk result (λ table. HasEdgesOf table.before.items (program_edges.Edge program.now)) }
 {
@@ -34,9 +36,8 @@ fn table(alloc: Global, program: &Typed, paths: &Paths) -> Result<Table, NoMemor
     locks::laws::each_path_once();
     locks::laws::paths_have_classes();
     let mut table = Table::new(alloc, program.classes.len())?;
-    for section in 0..program.sections.len() {
-        let points = points(alloc, program, section, paths)?;
-        let edges = SectionEdges { points: &points };
+    for section in points {
+        let edges = SectionEdges { points: section };
         edges.add_to(&mut table);
     }
     Ok(table)
@@ -46,11 +47,11 @@ fn table(alloc: Global, program: &Typed, paths: &Paths) -> Result<Table, NoMemor
 fn told(
     alloc: Global,
     program: &Typed,
-    paths: &Paths,
+    points: &[Points],
     pairs: &[(usize, usize)],
 ) -> Result<Vec<ClassPair>, NoMemory>
     requires program { IsWellFormed program.now }
-    requires paths { ArePaths program.now paths.now }
+    requires points { AreAllPointsOf program.now points.now }
     requires pairs { AreEdges program.now pairs.now }
     ensures pairs { IfOk result (λ told. map classes_of_pair told.items ≡ pairs.now) }
     ensures made { IfOk result (λ told. All (IsMadeFirst program.now) told.items) }
@@ -58,9 +59,8 @@ fn told(
     locks::laws::each_path_once();
     locks::laws::paths_have_classes();
     let mut telling = Telling::open(alloc, program.classes.len())?;
-    for section in 0..program.sections.len() {
-        let points = points(alloc, program, section, paths)?;
-        telling.tell(alloc, section, &points)?;
+    for section in 0..points.len() {
+        telling.tell(alloc, section, &points[section])?;
     }
     let told = telling.close(alloc, pairs)?;
     Ok(told)
@@ -70,16 +70,16 @@ fn told(
 fn told_cycle(
     alloc: Global,
     program: &Typed,
-    paths: &Paths,
+    points: &[Points],
     cycle: &[usize],
 ) -> Result<Vec<Edge>, NoMemory>
     requires program { IsWellFormed program.now }
-    requires paths { ArePaths program.now paths.now }
+    requires points { AreAllPointsOf program.now points.now }
     requires cycle { IsCycle (program_edges.Edge program.now) cycle.now }
     ensures { IfOk result (λ edges. IsCycleOf program.now edges.items) }
 {
     let pairs = around(alloc, cycle)?;
-    let told = told(alloc, program, paths, &pairs)?;
+    let told = told(alloc, program, points, &pairs)?;
     let edges = edges_of(alloc, &told)?;
     Ok(edges)
 }
@@ -99,17 +99,22 @@ pub fn class_pairs(
     requires paths { ArePaths program.now paths.now }
     ensures { IfOk result (λ pairs. AreClassPairs program.now pairs.items) }
 {
-    let table = table(alloc, program, paths)?;
+    let points = all_points(alloc, program, paths)?;
+    let table = table(alloc, program, &points)?;
     let pairs = table.pairs(alloc)?;
-    let told = told(alloc, program, paths, &pairs)?;
+    let told = told(alloc, program, &points, &pairs)?;
     Ok(told)
 }
 
 /// The rank of each lock class; or a cycle of classes of which each has to come before the next.
 ///
-/// The cycle goes through the lowest-numbered class that is on any; it has the fewest edges, and of those with as few it
-/// is the first in the order of dictionaries. What makes an edge is told of the lowest section, there by the lowest use
-/// point, and for that by the lowest binding point.
+/// The cycle goes through the lowest-numbered class that is on any. It has the fewest edges, and of those with as few
+/// it is the first in the order of dictionaries. What makes an edge is told of the lowest section, there by the lowest
+/// use point, and for that by the lowest binding point.
+///
+/// # Errors
+///
+/// The cycle; or want of memory.
 pub fn order(alloc: Global, program: &Typed, paths: &Paths) -> Result<Ranks, OrderRefusal>
     requires program { IsWellFormed program.now }
     requires paths { ArePaths program.now paths.now }
@@ -122,14 +127,31 @@ pub fn order(alloc: Global, program: &Typed, paths: &Paths) -> Result<Ranks, Ord
     // The cycle is one of distinct classes, and what is told of each edge is the first that makes it.
     ensures cycle { IfErr result (IsRefusal program.now) }
 {
+    let points = all_points(alloc, program, paths)?;
+    order_by(alloc, program, &points)
+}
+
+/// The same as [`order`], by the points of all sections.
+///
+/// # Errors
+///
+/// The cycle; or want of memory.
+pub fn order_by(alloc: Global, program: &Typed, points: &[Points]) -> Result<Ranks, OrderRefusal>
+    requires program { IsWellFormed program.now }
+    requires points { AreAllPointsOf program.now points.now }
+    ensures ranks { IfOk result (λ ranks. AreRanksOf program.now ranks.items) }
+    ensures rise { IfOk result (λ ranks. RiseIn program.now ranks.items) }
+    ensures faultless { OnOk result (HasNoFault program.now) }
+    ensures cycle { IfErr result (IsRefusal program.now) }
+{
     // The law tells that each edge is one between classes of the program.
     locks::laws::paths_have_classes();
-    let table = table(alloc, program, paths)?;
+    let table = table(alloc, program, points)?;
     match table.ranks(alloc)? {
         Some(ranks) => Ok(ranks),
         None => {
             let cycle = table.cycle(alloc)?;
-            let edges = told_cycle(alloc, program, paths, &cycle)?;
+            let edges = told_cycle(alloc, program, points, &cycle)?;
             Err(OrderRefusal::Cycle(Cycle { edges }))
         }
     }

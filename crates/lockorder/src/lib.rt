@@ -1,6 +1,7 @@
 //! The order in which sections take locks.
 //!
 //! - [`order`]: the ranks of the lock classes, or a cycle of classes of which each has to come before the next.
+//! - [`order_by`]: the same, by the points of all sections.
 //! - [`class_pairs`]: each pair of classes of which the first has to come before the second, and what makes it so.
 //! - [`ranks::OrderRefusal`]: why there are no ranks.
 //! - [`ranks::Cycle::fault`]: the fault of a cycle.
@@ -26,4 +27,4 @@ mod table;
 mod telling;
 pub mod text;
 
-pub use class_order::{class_pairs, order};
+pub use class_order::{class_pairs, order, order_by};

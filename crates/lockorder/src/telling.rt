@@ -3,7 +3,8 @@
 ghost use Rattle.std.specs.Prelude.{◌≡◌, ◌<◌, ◌≤◌, ◌*◌, ◌+◌, ℕ, length, None, IfOk, OnOk};
 ghost use Rattle.std.specs.List.{All};
 ghost use Rattle.lockorder.specs.Working.Sections.{AreBindings, AreBoundOnce, UsesAt};
-ghost use Rattle.lockorder.specs.Working.Tellings.{told_at, told_pair, AreAllTold, AreBetween, AreClosed, AreToldMore, TellsClass, TellsPair, TellsPoint};
+ghost use Rattle.lockorder.specs.Working.Tellings.{told_at, told_pair, AreAllTold, AreBetween, AreClosed, AreToldMore};
+ghost use Rattle.lockorder.specs.Working.Tellings.{TellsClass, TellsPair, TellsPoint};
 
 use crate::bindings::Bindings;
 use crate::ranks::{ClassPair, Edge};
@@ -62,7 +63,8 @@ impl Telling {
         requires class { usage.class < self.old.classes }
         requires next { next < self.old.classes }
         ensures classes { self.new.classes ≡ self.old.classes }
-        ensures told { TellsPair bindings.now.points.now usage next self.old.classes self.old.told.items self.new.told.items }
+        ensures told { TellsPair bindings.now.points.now usage next self.old.classes
+            self.old.told.items self.new.told.items }
     {
         if self.at(usage.class, next).is_none() {
             if let Some(bound) = bindings.first(usage.point, next) {
@@ -84,7 +86,8 @@ impl Telling {
         requires point { usage.point < length bindings.now.points.now.bound.items }
         requires class { usage.class < self.old.classes }
         ensures classes { self.new.classes ≡ self.old.classes }
-        ensures told { TellsClass bindings.now.points.now usage self.old.classes self.old.told.items self.new.told.items }
+        ensures told { TellsClass bindings.now.points.now usage self.old.classes
+            self.old.told.items self.new.told.items }
     {
         let behind = bindings.behind(usage.point);
         for path in 0..bindings.points.classes.len() {
@@ -101,7 +104,8 @@ impl Telling {
         requires within { All (λ c. c < self.old.classes) bindings.now.points.now.classes.items }
         requires point { point < length bindings.now.points.now.bound.items }
         ensures classes { self.new.classes ≡ self.old.classes }
-        ensures told { TellsPoint bindings.now.points.now section point self.old.classes self.old.told.items self.new.told.items }
+        ensures told { TellsPoint bindings.now.points.now section point self.old.classes
+            self.old.told.items self.new.told.items }
     {
         let used = bindings.points.used[point];
         for path in 0..bindings.points.classes.len() {
@@ -119,13 +123,14 @@ impl Telling {
         }
     }
 
-    /// Tells what makes the edges that a section makes, and no earlier one. Its points come in the order of the text, so
-    /// the first that is found of an edge has the lowest use.
+    /// Tells what makes the edges that a section makes, and no earlier one. Its points come in the order of the text,
+    /// so the first that is found of an edge has the lowest use.
     pub fn tell(&mut self, alloc: Global, section: usize, points: &Points) -> Result<(), NoMemory>
         requires once { AreBoundOnce points.now }
         requires within { All (λ c. c < self.old.classes) points.now.classes.items }
         ensures classes { self.new.classes ≡ self.old.classes }
-        ensures told { OnOk result (AreToldMore points.now section self.old.classes self.old.told.items self.new.told.items) }
+        ensures told { OnOk result (AreToldMore points.now section self.old.classes
+            self.old.told.items self.new.told.items) }
     {
         let bindings = Bindings::of(alloc, points)?;
         for point in 0..points.used.len() {

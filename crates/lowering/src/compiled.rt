@@ -7,19 +7,21 @@ ghost use Rattle.inserter.specs.Placement.{all_lists};
 ghost use Rattle.lockorder.specs.Edges.{AreRanksOf, RiseIn};
 ghost use Rattle.lockpaths.specs.Paths.{ArePaths};
 ghost use Rattle.locks.specs.Faults.{HasNoFault};
+ghost use Rattle.points.specs.Working.Points.{AreAllPointsOf};
 ghost use Rattle.lowering.specs.Working.Compiled.{program_of, written_in};
 
 use crate::program_code::{lists_before, lower};
 use crate::program_rooms::rooms;
 use code::section_code::ProgramCode;
 use core_lang::typed::Typed;
-use inserter::place;
+use inserter::place_by;
 use inserter::placed::Placed;
 use layout::lay_out;
 use layout::room::Room;
 use layout::table::Layout;
 use lockorder::ranks::Ranks;
 use lockpaths::table::Paths;
+use points::table::Points;
 use source::memory::NoMemory;
 use std::alloc::Global;
 use std::marker::Model;
@@ -52,6 +54,17 @@ impl Trees {
     {
         running(&self.accepted, &self.written)
     }
+}
+
+/// What the passes before the lists find of a program.
+#[derive(Drop)]
+pub struct Found {
+    /// Its lock paths.
+    pub paths: Paths,
+    /// The points of each section, in the order of [`Typed::sections`].
+    pub points: Vec<Points>,
+    /// For each lock class its rank.
+    pub ranks: Ranks,
 }
 
 /// A program that is accepted, with all that the passes found of it. As a value it is its plan.
@@ -92,25 +105,33 @@ impl Program {
     ghost use Rattle.lowering.specs.Working.Lowered.{IsCodeOf};
     ghost use Rattle.lowering.specs.Working.Compiled.{IsRoomAt};
 
-    /// A program that is accepted, with its helpers written out and its lock paths and ranks, compiled.
+    /// A program that is accepted, with its helpers written out and what the passes found of that, compiled. The points
+    /// are let go as soon as the lists are made.
     ///
     /// # Errors
     ///
     /// Want of memory.
-    pub fn of(alloc: Global, trees: Trees, paths: Paths, ranks: Ranks) -> Result<Program, NoMemory>
+    pub fn of(alloc: Global, trees: Trees, found: Found) -> Result<Program, NoMemory>
         requires checked { IsChecked trees.accepted }
         requires expanded { IsExpanded trees.accepted (program_of trees) }
         requires program { IsWellFormed (program_of trees) }
-        requires paths { ArePaths (program_of trees) paths }
+        requires paths { ArePaths (program_of trees) found.paths }
         requires stable { HasNoFault (program_of trees) }
-        requires ranked { AreRanksOf (program_of trees) ranks.items }
-        requires rise { RiseIn (program_of trees) ranks.items }
+        requires points { AreAllPointsOf (program_of trees) found.points.items }
+        requires ranked { AreRanksOf (program_of trees) found.ranks.items }
+        requires rise { RiseIn (program_of trees) found.ranks.items }
         ensures accepted { IfOk result (λ made. made.accepted ≡ trees.accepted) }
         ensures program { IfOk result (λ made. made.program ≡ program_of trees) }
         ensures compiled { IfOk result IsCompiled }
     {
+        let Found {
+            paths,
+            points,
+            ranks,
+        } = found;
         let program = trees.program();
-        let placed = place(alloc, program, &paths, &ranks)?;
+        let placed = place_by(alloc, program, &points, &ranks)?;
+        drop(points);
         let layout = lay_out(alloc, program)?;
         let code = lower(alloc, program, &placed)?;
         let rooms = rooms(alloc, program, &code, &paths, &layout)?;

@@ -1,6 +1,7 @@
 //! What is used before the points of a section and later, and what is wanted and surely held at them.
 //!
 //! - [`points`]: the points of a section, and what each lock path is to each point.
+//! - [`all_points`]: the same of all sections of a program.
 //! - [`table::Points`]: what is answered; which point is followed by which; which roots are bound later; with the ranks of
 //!   the classes, which paths are wanted at each point, and which are surely held there.
 //!
@@ -16,11 +17,13 @@ mod dataflow;
 mod ends;
 mod later;
 mod pairs;
+mod program;
 mod ranking;
 mod roots;
 mod section;
 pub mod table;
 mod wanted;
 
+pub use program::all_points;
 pub use section::points;
 pub use wanted::{Held, Wanted};

@@ -5,11 +5,13 @@ use Rattle.core_lang_expansion.specs.Data.{IsExpanded}
 use Rattle.lockorder.specs.Edges.{AreRanksOf, RiseIn}
 use Rattle.lockpaths.specs.Paths.{ArePaths}
 use Rattle.locks.specs.Faults.{HasNoFault}
+use Rattle.points.specs.Working.Points.{AreAllPointsOf}
 use Rattle.lowering.specs.Working.Compiled.{program_of}
 use Rattle.compiler.specs.declared.passes.Ordered.{Ordered}
 use Rattle.compiler.specs.Programs.{Accepts}
 
--- the text is accepted; with its helpers written out its program has these lock paths, and its lock classes these ranks
+-- the text is accepted; with its helpers written out its program has these lock paths, its sections have these points, and its lock
+-- classes these ranks
 pub record IsOrdered (source : List ℕ) (ordered : Ordered) : Type 0 where
   pub accepts : Accepts source ordered.trees.accepted
   pub checked : IsChecked ordered.trees.accepted
@@ -17,5 +19,6 @@ pub record IsOrdered (source : List ℕ) (ordered : Ordered) : Type 0 where
   pub well_formed : IsWellFormed (program_of ordered.trees)
   pub paths : ArePaths (program_of ordered.trees) ordered.paths
   pub stable : HasNoFault (program_of ordered.trees)
+  pub points : AreAllPointsOf (program_of ordered.trees) ordered.points.items
   pub ranks : AreRanksOf (program_of ordered.trees) ordered.ranks.items
   pub rise : RiseIn (program_of ordered.trees) ordered.ranks.items

@@ -28,6 +28,11 @@ pub record ArePoints (program : Typed) (section : Section) (x : Points) : Type 0
 abbrev pub ArePointsOf : Typed → ℕ → Points → Type 0
 ArePointsOf program k x = (section : Section) → slice_get program.sections.items k ≡ Some section → ArePoints program section x
 
+-- the points of each section of a program, in the order of the sections
+pub record AreAllPointsOf (program : Typed) (all : List Points) : Type 0 where
+  pub sections : length all ≡ length program.sections.items
+  pub each : (k : ℕ) (x : Points) → slice_get all k ≡ Some x → ArePointsOf program k x
+
 -- in any section whose points these are, a pair is listed exactly if its first point is followed by its second
 abbrev pub ArePairs : Points → List (ℕ × ℕ) → Type 0
 ArePairs x list =

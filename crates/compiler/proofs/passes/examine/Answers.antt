@@ -42,6 +42,11 @@ returns-in_err-found-clause-fault c =
     (λ code start. tokens_faultless _ _ _ code start c.in_ok-tokens.ensures.found right placed) right c.in_ok-accepted.ensures.faultless
     c.in_ok-accepted.ensures.resolves c.in_ok-trees.ensures.expanded (rw c.program.ensures at c.in_err-found.ensures.fault) (rw c.program.ensures at c.in_err-found.ensures.least))
 
+pub returns-in_err-points-clause-fault : goal.returns-in_err-points-clause-fault
+returns-in_err-points-clause-fault c =
+    let p = err_from_is_err_and c.from_residual-in_err-points.result c.from_residual-in_err-points.ensures.1 in
+    rw (p.1, p.2) (no_memory_refused _ c.in_err-points.field-0.0 c.in_err-points.ensures.fault)
+
 pub returns-in-Ok-clause-order : goal.returns-in-Ok-clause-order
 returns-in-Ok-clause-order c =
     let right = rw c.deref.ensures.value at c.in_ok-tree.ensures.found in
@@ -57,15 +62,16 @@ returns-in-Ok-clause-order c =
             c.in_ok-tokens.ensures.only c.in_ok-tokens.ensures.found right
             (rw c.deref.ensures.value at c.in_ok-tree.ensures.misplaced) (rw c.deref.ensures.value at c.in_ok-tree.ensures.only)
             c.in_ok-accepted.ensures.faultless c.in_ok-accepted.ensures.resolves c.in_ok-trees.ensures.expanded stable
-            (rw c.program-2.ensures at c.in-Ok.ensures.faultless);
+            (rw c.program-3.ensures at c.in-Ok.ensures.faultless);
       };
       checked = subst IsChecked (sym c.in_ok-trees.ensures.accepted) c.in_ok-accepted.ensures.checked;
       expanded = subst (λ accepted. IsExpanded accepted (program_of c.in_ok-trees.trees)) (sym c.in_ok-trees.ensures.accepted) c.in_ok-trees.ensures.expanded;
       well_formed = c.in_ok-trees.ensures.well_formed;
       paths = rw c.program.ensures at c.in_ok-found.ensures.paths;
       stable = stable;
-      ranks = rw c.program-2.ensures at c.in-Ok.ensures.ranks;
-      rise = rw c.program-2.ensures at c.in-Ok.ensures.rise;
+      points = rw c.program-2.ensures at c.in_ok-points.ensures.points;
+      ranks = rw c.program-3.ensures at c.in-Ok.ensures.ranks;
+      rise = rw c.program-3.ensures at c.in-Ok.ensures.rise;
     }
 
 pub returns-in-Ok-with_cycle-clause-cycle : goal.returns-in-Ok-with_cycle-clause-cycle

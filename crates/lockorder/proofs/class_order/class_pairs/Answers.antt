@@ -6,11 +6,11 @@ use Rattle.lockorder.proofs.class_order.class_pairs.Goals as goal
 
 pub told-requires-clause-pairs : goal.told-requires-clause-pairs
 told-requires-clause-pairs c =
-    subst (AreEdges c.args.program.now) (sym c.deref.ensures.value) (λ k d lt. (c.in_ok-table.ensures.edges _ _).0 (c.in_ok-pairs.ensures.true k d lt))
+    subst (AreEdges c.args.program.now) (sym c.deref-3.ensures.value) (λ k d lt. (c.in_ok-table.ensures.edges _ _).0 (c.in_ok-pairs.ensures.true k d lt))
 
 pub returns : goal.returns
 returns c =
-    let same : c.in_ok-pairs.pairs.items ≡ _ = sym (c.in_ok-told.ensures.pairs ∙ c.deref.ensures.value) in
+    let same : c.in_ok-pairs.pairs.items ≡ _ = sym (c.in_ok-told.ensures.pairs ∙ c.deref-3.ensures.value) in
     record {
       made = c.in_ok-told.ensures.made;
       rising = subst (λ (l : List (ℕ × ℕ)). AllPairs Precedes l) same c.in_ok-pairs.ensures.rising;

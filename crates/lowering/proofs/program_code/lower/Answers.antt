@@ -29,7 +29,11 @@ loop-k-preserved c =
                 let same : section ≡ here =
                 same_Some section here (sym at ∙ ap (slice_get program.sections.items) k ∙ there) in
                 let done : IsLowered here (lists_at lists c.loop-k.k) new =
-                subst (λ ls. IsLowered here ls new) c.lists_before-lists.ensures (record { instructions = c.in_ok-code_of.ensures.instructions; begins = c.in_ok-code_of.ensures.begins; operands = c.in_ok-code_of.ensures.operands }) in
+                subst (λ ls. IsLowered here ls new) c.lists_before-lists.ensures (record {
+                  instructions = c.in_ok-code_of.ensures.instructions;
+                  begins = c.in_ok-code_of.ensures.begins;
+                  operands = c.in_ok-code_of.ensures.operands;
+                }) in
                 subst (λ m. IsLowered section (lists_at lists j) m) last.1
                 (subst (λ s. IsLowered s (lists_at lists j) new) (sym same)
                 (subst (λ i. IsLowered here (lists_at lists i) new) (sym k) done))

@@ -2,7 +2,7 @@ use Rattle.std.proofs.Common.{◌≡◌, ℕ, List, map, length, Some}
 use Rattle.std.specs.Prelude.{slice_get}
 use Rattle.core_lang.specs.declared.tree.Section.{Section}
 use Rattle.inserter.specs.Placement.{AreLists, lists_of}
-use Rattle.inserter.proofs.program_lists.place.Given as goal
+use Rattle.inserter.proofs.program_lists.place_by.Given as goal
 
 abbrev pub invariant-loop-section : goal.invariant-loop-section
 invariant-loop-section l = record {

@@ -5,8 +5,8 @@ use Rattle.lockorder.specs.Ranks.{AreRanks, IsCycle}
 use Rattle.lockorder.specs.Working.Tables.{InTable, AreRanksIn}
 use Rattle.lockorder.proofs.Rising.{ranks_by, cycle_by, ranks_rise}
 use Rattle.lockorder.proofs.Blame.{no_fault}
-use Rattle.lockorder.proofs.class_order.order.Goals as goal
-use Rattle.lockorder.proofs.class_order.order.Goals.{After-drop-table-in-Some}
+use Rattle.lockorder.proofs.class_order.order_by.Goals as goal
+use Rattle.lockorder.proofs.class_order.order_by.Goals.{After-drop-table-in-Some}
 
 are : (c : After-drop-table-in-Some) →
     AreRanks (Edge c.args.program.now) (length c.args.program.now.classes.items) c.in-Some.ranks.items
