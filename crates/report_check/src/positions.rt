@@ -3,18 +3,10 @@
 ghost use Rattle.std.specs.Prelude.{◌≡◌, IfOk};
 ghost use Rattle.report_check.specs.Working.Positions.{IsPositionOf, ArePositionsOf};
 
+use code::places::Position;
 use source::cursor::Cursor;
 use source::memory::NoMemory;
 use std::alloc::Global;
-
-/// A line and a column of a text, both from 1.
-#[derive(Clone, Copy)]
-pub struct Position {
-    /// The line.
-    pub line: usize,
-    /// The column, in bytes.
-    pub column: usize,
-}
 
 /// A text, with the line and column of each byte. So that many places in any order are found, the text is read once.
 #[derive(Drop)]

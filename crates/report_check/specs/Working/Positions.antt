@@ -1,7 +1,7 @@
 -- Lines and columns of bytes. Nobody has to believe these.
 use Rattle.std.specs.Prelude.{◌≡◌, ℕ, List, slice_get, Some}
 use Rattle.source.specs.Faults.{line_of, column_of}
-use Rattle.report_check.specs.declared.positions.Position.{Position}
+use Rattle.code.specs.declared.places.Position.{Position}
 
 -- line and column of a byte
 abbrev pub IsPositionOf : List ℕ → ℕ → Position → Type 0
