@@ -10,8 +10,8 @@ use Rattle.lowering.specs.Working.Compiled.{program_of}
 use Rattle.compiler.specs.declared.passes.Ordered.{Ordered}
 use Rattle.compiler.specs.Programs.{Accepts}
 
--- the text is accepted; with its helpers written out its program has these lock paths, its sections have these points, and its lock
--- classes these ranks
+-- the text is accepted; with its helpers written out its program has these lock paths, its sections these points, and
+-- its lock classes these ranks
 pub record IsOrdered (source : List ℕ) (ordered : Ordered) : Type 0 where
   pub accepts : Accepts source ordered.trees.accepted
   pub checked : IsChecked ordered.trees.accepted
