@@ -18,7 +18,7 @@ for script in "$here"/*/run.sh; do
   name=$(basename "$(dirname "$script")")
   echo "== $name, load $(cut -d ' ' -f 1 /proc/loadavg)"
   case $name in
-    replay | shapes) "$script" "$AUTOLOCK" ;;
+    replay | shapes | emit) "$script" "$AUTOLOCK" ;;
     *) "$script" ;;
   esac || { echo "$name ended with status $?"; failed=1; }
 done

@@ -2,7 +2,8 @@
 # ./autolock uses it where the program isn't built; tests/words.sh compares each answer with the program's.
 #
 #     judge_words WORDS..     answers and exits, or sets `command`, `turns`, `count` and `seed` (the N of --turns, --count and
-#                             --seed, or nothing), `why`, `sections` and `json` (each 1 or nothing), and `files`
+#                             --seed, or nothing), `prefix` (the NAME of --prefix, or nothing), `why`, `sections`, `places`,
+#                             `header` and `json` (each 1 or nothing), and `files`
 #
 # `top` is the folder of the repository.
 # shellcheck disable=SC2154,SC2016
@@ -14,9 +15,14 @@ seed=
 why=
 sections=
 places=
+header=
+prefix=
 json=
 used=
 files=()
+
+has_prefix=
+bad_prefix='--prefix takes a letter, then at most 31 letters and digits, and not AL or autolock'
 
 # Writes a text of script/help, and exits.
 show_help() {
@@ -59,13 +65,22 @@ names_of() {
 }
 
 takes_options() { [ "$command" = serial ] || [ "$command" = outcomes ] || [ "$command" = replay ] || [ "$command" = trace ] ||
-    [ "$command" = explain ] || [ "$command" = listing ]; }
+    [ "$command" = explain ] || [ "$command" = listing ] || [ "$command" = emit ]; }
 
-# The options of a command whose value is a number.
-numbers_of() {
+# The options of a command that have a value.
+valued_of() {
     case $1 in
         serial | replay) echo turns ;;
         outcomes) echo count seed turns ;;
+        emit) echo prefix ;;
+    esac
+}
+
+# Such an option, with what its value is called.
+with_value() {
+    case $1 in
+        prefix) echo '--prefix <NAME>' ;;
+        *) echo "--$1 <N>" ;;
     esac
 }
 
@@ -74,7 +89,7 @@ usage_of() {
     local option=${2-}
     case $1 in
         check | order | run) echo "$1 ${option:+$option }<FILE>" ;;
-        serial | explain | listing | outcomes) echo "$1 ${option:-[OPTIONS]} <FILE>" ;;
+        serial | explain | listing | emit | outcomes) echo "$1 ${option:-[OPTIONS]} <FILE>" ;;
         replay) echo "replay ${option:-[OPTIONS]} <FILE> <HISTORY>" ;;
         trace) echo "trace ${option:-[OPTIONS]} <FILE> <STEPS>" ;;
         simulate) echo "simulate ${option:+$option }<FILE> <STEPS>" ;;
@@ -125,7 +140,7 @@ similar() {
 
 refuse_command() {
     local names tip=
-    mapfile -t names < <(similar "$1" check explain order listing serial outcomes simulate trace run replay help)
+    mapfile -t names < <(similar "$1" check explain order listing emit serial outcomes simulate trace run replay help)
     case ${#names[@]} in
         0) ;;
         1) tip="a similar subcommand exists: '${names[0]}'" ;;
@@ -147,12 +162,13 @@ refuse_long() {
         replay) options=(turns why help) ;;
         trace) options=(sections help) ;;
         listing) options=(places help) ;;
+        emit) options=(header prefix help) ;;
         explain) options=(json help) ;;
         '') options=(help version) ;;
     esac
     near=$(similar "$name" "${options[@]}" | tail -n 1)
     case $near in
-        turns | count | seed) used=$(used_with "--$near <N>") ;;
+        turns | count | seed | prefix) used=$(used_with "$(with_value "$near")") ;;
         ?*) used=$(used_with "--$near") ;;
     esac
     if [ -n "$near" ]; then
@@ -169,6 +185,7 @@ refuse_long() {
         case $word in
             check | order | simulate | run) near=$(similar "$name" help) ;;
             listing) near=$(similar "$name" places help | tail -n 1) ;;
+            emit) near=$(similar "$name" header prefix help | tail -n 1) ;;
             serial) near=$(similar "$name" turns help | tail -n 1) ;;
             outcomes) near=$(similar "$name" count seed turns help | tail -n 1) ;;
             replay) near=$(similar "$name" turns why help | tail -n 1) ;;
@@ -185,7 +202,7 @@ judge_help() {
     local name=${1-autolock}
     case $name in
         autolock) [ $# -eq 0 ] || refuse "unrecognized subcommand '$1'" "$(usage_of '')" ;;
-        check | explain | order | listing | serial | outcomes | simulate | trace | run | replay | help) ;;
+        check | explain | order | listing | emit | serial | outcomes | simulate | trace | run | replay | help) ;;
         *) refuse "unrecognized subcommand '$1'" "$(usage_of '')" ;;
     esac
     [ $# -gt 1 ] || show_help "$name"
@@ -215,21 +232,38 @@ judge_number() {
     used=$(used_with "--$name <N>")
 }
 
-# The words from such an option on.
-judge_option_number() {
-    local name=${1#--} number
-    [ $# -gt 1 ] || refuse "a value is required for '--$name <N>' but none was supplied"
-    for number in $(numbers_of "$command"); do
+# The value of `--prefix`. Whether it is one is judged behind all words.
+judge_prefix() {
+    [ -z "$has_prefix" ] || refuse "the argument '--prefix <NAME>' cannot be used multiple times" \
+        "$(usage_of "$command")"
+    has_prefix=1
+    prefix=$1
+    used=$(used_with '--prefix <NAME>')
+}
+
+judge_value() {
+    case $1 in
+        prefix) judge_prefix "$2" ;;
+        *) judge_number "$1" "$2" ;;
+    esac
+}
+
+# The words from an option with a value on.
+judge_valued() {
+    local name=${1#--} valued none
+    none="a value is required for '$(with_value "$name")' but none was supplied"
+    [ $# -gt 1 ] || refuse "$none"
+    for valued in $(valued_of "$command"); do
         case $2 in
-            "--$number"*) refuse "a value is required for '--$name <N>' but none was supplied" ;;
+            "--$valued"*) refuse "$none" ;;
         esac
     done
     case $2 in
-        -- | -h* | --help) refuse "a value is required for '--$name <N>' but none was supplied" ;;
+        -- | -h* | --help) refuse "$none" ;;
         --?*) judge_long "${@:2}" ;;
         -?*) judge_short "$2" ;;
     esac
-    judge_number "$name" "$2"
+    judge_value "$name" "$2"
 }
 
 # An option `--NAME` or `--NAME=VALUE` of the command, and the words after it.
@@ -260,6 +294,10 @@ judge_long() {
             refuse "unexpected value '${word#*=}' for '--places' found; no more were expected" \
                 "$(usage_of listing --places)"
             ;;
+        header)
+            [ "$command" = emit ] || refuse_long "$name" "$@"
+            refuse "unexpected value '${word#*=}' for '--header' found; no more were expected" "$(usage_of emit --header)"
+            ;;
         json)
             [ "$command" = explain ] || refuse_long "$name" "$@"
             refuse "unexpected value '${word#*=}' for '--json' found; no more were expected" "$(usage_of explain --json)"
@@ -279,6 +317,14 @@ judge_short() {
         "${command:+to pass '-$letter' as a value, use '-- -$letter'}"
 }
 
+# Whether names of C may begin with it.
+is_prefix() {
+    case $1 in
+        AL | autolock) return 1 ;;
+    esac
+    [[ ${#1} -le 32 && $1 =~ ^[A-Za-z][A-Za-z0-9]*$ ]]
+}
+
 # The words after a command.
 judge_arguments() {
     local most=1 is_last=0 missing other option
@@ -291,8 +337,8 @@ judge_arguments() {
                 shift
                 continue
                 ;;
-            0serial--turns | 0replay--turns | 0outcomes--turns | 0outcomes--count | 0outcomes--seed)
-                judge_option_number "$@"
+            0serial--turns | 0replay--turns | 0outcomes--turns | 0outcomes--count | 0outcomes--seed | 0emit--prefix)
+                judge_valued "$@"
                 shift 2
                 continue
                 ;;
@@ -317,6 +363,13 @@ judge_arguments() {
                 shift
                 continue
                 ;;
+            0emit--header)
+                [ -z "$header" ] || refuse "the argument '--header' cannot be used multiple times" "$(usage_of emit)"
+                header=1
+                used=$(used_with --header)
+                shift
+                continue
+                ;;
             0explain--json)
                 [ -z "$json" ] || refuse "the argument '--json' cannot be used multiple times" "$(usage_of explain)"
                 json=1
@@ -324,9 +377,9 @@ judge_arguments() {
                 shift
                 continue
                 ;;
-            0serial--turns=* | 0replay--turns=* | 0outcomes--turns=* | 0outcomes--count=* | 0outcomes--seed=*)
+            0serial--turns=* | 0replay--turns=* | 0outcomes--turns=* | 0outcomes--count=* | 0outcomes--seed=* | 0emit--prefix=*)
                 option=${1%%=*}
-                judge_number "${option#--}" "${1#*=}"
+                judge_value "${option#--}" "${1#*=}"
                 shift
                 continue
                 ;;
@@ -342,7 +395,10 @@ judge_arguments() {
     missing=
     [ ${#files[@]} -gt 0 ] || missing+=$'\n  <FILE>'
     [ -z "$other" ] || [ ${#files[@]} -gt 1 ] || missing+=$'\n  '$other
-    [ -n "$missing" ] || return 0
+    if [ -z "$missing" ]; then
+        [ -z "$has_prefix" ] || is_prefix "$prefix" || refuse "$bad_prefix" "$(usage_of '')"
+        return 0
+    fi
     missing="the following required arguments were not provided:$missing"
     ! takes_options || [ -n "$used" ] || refuse "$missing" "$command $(names_of "$command")"
     refuse "$missing" "$(usage_of "$command" "$used")"
@@ -352,7 +408,7 @@ judge_words() {
     local is_last=0
     while [ $# -gt 0 ]; do
         case $is_last$1 in
-            0check | 0explain | 0order | 0listing | 0serial | 0outcomes | 0simulate | 0trace | 0run | 0replay)
+            0check | 0explain | 0order | 0listing | 0emit | 0serial | 0outcomes | 0simulate | 0trace | 0run | 0replay)
                 command=$1
                 shift
                 judge_arguments "$@"
@@ -365,7 +421,7 @@ judge_words() {
             0--) is_last=1 ;;
             0--?*) judge_long "$@" ;;
             0-?*) judge_short "$1" ;;
-            1check | 1explain | 1order | 1listing | 1serial | 1outcomes | 1simulate | 1trace | 1run | 1replay | 1help)
+            1check | 1explain | 1order | 1listing | 1emit | 1serial | 1outcomes | 1simulate | 1trace | 1run | 1replay | 1help)
                 refuse "unexpected argument '$1' found" "$(usage_of '')" \
                     "subcommand '$1' exists; to use it, remove the '--' before it"
                 ;;
@@ -374,5 +430,5 @@ judge_words() {
         shift
     done
     refuse $'\'autolock\' requires a subcommand but one was not provided
-  [subcommands: check, explain, order, listing, serial, outcomes, simulate, trace, run, replay, help]' "$(usage_of '')"
+  [subcommands: check, explain, order, listing, emit, serial, outcomes, simulate, trace, run, replay, help]' "$(usage_of '')"
 }

@@ -5,7 +5,7 @@
     tests/failing.py --cases [--program BIN] [--every N] [FILE..]
     tests/failing.py --unit-tests [--program BIN] [--every N] [--test NAME]
 
---commands      which of check, explain, order, listing, serial, outcomes, simulate, trace, run and replay, joined by commas; by
+--commands      which of check, explain, order, listing, emit, serial, outcomes, simulate, trace, run and replay, joined by commas; by
                 default all
 --turns N       of serial, outcomes and replay, by default 1000; outcomes looks at 5 orders at most
 --every N       only every N-th growth
@@ -181,7 +181,7 @@ def of_unit_tests(a):
 def main():
     p = argparse.ArgumentParser(formatter_class=argparse.RawDescriptionHelpFormatter, description=__doc__)
     p.add_argument("--program", type=pathlib.Path)
-    p.add_argument("--commands", default="check,explain,order,listing,serial,outcomes,simulate,trace,run,replay")
+    p.add_argument("--commands", default="check,explain,order,listing,emit,serial,outcomes,simulate,trace,run,replay")
     p.add_argument("--turns", type=int, default=1000)
     p.add_argument("--every", type=int, default=1)
     p.add_argument("--cases", action="store_true")

@@ -56,6 +56,7 @@ limit_memory() {
 limit_memory check "$work/large.al"
 limit_memory order "$work/large.al"
 limit_memory listing "$work/large.al"
+limit_memory emit "$work/large.al"
 limit_memory serial "$work/large.al"
 limit_memory outcomes "$work/large.al"
 limit_memory simulate "$work/large.al" "$work/large.steps"

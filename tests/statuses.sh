@@ -122,11 +122,13 @@ run "a fault, of explain" 1 explained none explain wrong.al
 run "a fault, of explain, as JSON" 1 explained_json none explain --json wrong.al
 run "a fault, of order" 1 none fault order wrong.al
 run "a fault, of listing" 1 none fault listing wrong.al
+run "a fault, of emit" 1 none fault emit wrong.al
 run "a lock order cycle" 1 none circle serial cycle.al
 run "a lock order cycle, of check" 1 none circle check cycle.al
 run "a lock order cycle, of order" 1 cyclic_order circle order cycle.al
 run "a lock order cycle, of outcomes" 1 none circle outcomes cycle.al
 run "a lock order cycle, of listing" 1 none circle listing cycle.al
+run "a lock order cycle, of emit" 1 none circle emit cycle.al
 run "no words" 2 none some
 run "another command" 2 none some walk right.al
 run "no file" 2 none some serial
@@ -134,6 +136,8 @@ run "no file, of check" 2 none some check
 run "no file, of explain" 2 none some explain
 run "no file, of order" 2 none some order
 run "no file, of listing" 2 none some listing
+run "no file, of emit" 2 none some emit
+run "a bad prefix, of emit" 2 none some emit --prefix a_b right.al
 run "no file, of outcomes" 2 none some outcomes
 run "no steps file" 2 none some simulate right.al
 run "no steps file, of trace" 2 none some trace right.al
@@ -153,7 +157,7 @@ run "too large a seed" 2 none some outcomes --seed 1000000001 right.al
 run "a count, of serial" 2 none some serial --count 3 right.al
 run "turns that are no number" 2 none some serial --turns many right.al
 run "help" 0 some none --help
-for command in check explain order listing serial outcomes simulate trace run replay; do
+for command in check explain order listing emit serial outcomes simulate trace run replay; do
     if grep -q "^  $command  " out; then
         echo "ok help lists $command"
     else
@@ -170,6 +174,7 @@ run "a file that is not there, of explain" 3 none no_missing.al explain missing.
 run "a file that is not there, of order" 3 none no_missing.al order missing.al
 run "a file that is not there, of outcomes" 3 none no_missing.al outcomes missing.al
 run "a file that is not there, of listing" 3 none no_missing.al listing missing.al
+run "a file that is not there, of emit" 3 none no_missing.al emit missing.al
 run "a file that is not there, of simulate" 3 none no_missing.al simulate missing.al two_steps
 run "a steps file that is not there" 3 none no_missing.al simulate right.al missing.al
 run "a steps file that is not there, and a fault" 3 none no_missing.al simulate wrong.al missing.al
@@ -191,7 +196,7 @@ head -c 209715200 /dev/zero >long.al
 for name in long.al /dev/zero; do echo "$name:1:1: E15 limit exceeded" >"too_long_${name##*/}"; done
 most=$(ulimit -S -v)
 ulimit -S -v 65536
-for command in check order listing serial run; do
+for command in check order listing emit serial run; do
     run "a file of 200 MB, of $command" 1 none too_long_long.al $command long.al
     run "a file without an end, of $command" 1 none too_long_zero $command /dev/zero
 done

@@ -57,7 +57,7 @@ same -V
 same -hV
 same -Vh
 same -hx
-for command in check explain order listing serial outcomes simulate trace run replay; do
+for command in check explain order listing emit serial outcomes simulate trace run replay; do
     same help "$command"
     same "$command" --help
     same "$command" -h
@@ -160,6 +160,39 @@ same listing --places right.al --foo
 same listing --places a b
 same check --places right.al
 same --places listing right.al
+same emit --header
+same emit --header missing.al
+same emit missing.al --header
+same emit --header --header right.al
+same emit --header=x right.al
+same emit --head right.al
+same emit --header right.al --foo
+same emit --header a b
+same emit --prefix
+same emit --prefix x
+same emit --prefix x missing.al
+same emit --prefix=x missing.al
+same emit --prefix x --prefix y right.al
+same emit --prefix --header right.al
+same emit --prefix -- right.al
+same emit --prefix -h right.al
+same emit --prefix -x right.al
+same emit --prefix= right.al
+same emit --prefix '' right.al
+same emit --prefix a_b right.al
+same emit --prefix 1a right.al
+same emit --prefix AL right.al
+same emit --prefix autolock right.al
+same emit --prefix abcdefghijklmnopqrstuvwxyzabcdef missing.al
+same emit --prefix abcdefghijklmnopqrstuvwxyzabcdefg missing.al
+same emit --prefix a_b
+same emit --prefi x right.al
+same emit --prefix x --foo right.al
+same emit --prefix x a b
+same check --header right.al
+same check --prefix x right.al
+same --header emit right.al
+same --prefix x emit right.al
 same trace --sections
 same trace --sections right.al
 same trace --sections right.al missing.al
@@ -254,8 +287,8 @@ same serial --turns 3 missing.al
 # The completions and the manual page name what the help names.
 commands=$(sed -n '/^Commands:/,/^$/s/^  \([a-z]*\) .*/\1/p' "$top/script/help/autolock.txt")
 options=$(sed -n 's/^ *\(-[a-zA-Z], \)\{0,1\}--\([a-z]*\).*/\2/p' "$top"/script/help/*.txt | sort -u)
-[ "$(echo $commands)" = "check explain order listing serial outcomes simulate trace run replay help" ] || fail "the commands of the help: $commands"
-[ "$(echo $options)" = "count help json places sections seed turns version why" ] || fail "the options of the help: $options"
+[ "$(echo $commands)" = "check explain order listing emit serial outcomes simulate trace run replay help" ] || fail "the commands of the help: $commands"
+[ "$(echo $options)" = "count header help json places prefix sections seed turns version why" ] || fail "the options of the help: $options"
 for file in completions/autolock.bash completions/_autolock completions/autolock.fish docs/autolock.1; do
     for word in $commands $options; do
         sed 's/\\-/-/g' "$top/$file" | grep -qw -- "$word" || fail "$file lacks $word"
@@ -282,12 +315,15 @@ completes() {
 }
 . "$top/completions/autolock.bash"
 : >x.steps
-completes "check explain help listing order outcomes replay run serial simulate trace" ''
+completes "check emit explain help listing order outcomes replay run serial simulate trace" ''
 completes "serial simulate" s
 completes "right.al" order r
 completes "--build --help --install --proved --uninstall --unproved --version -V -h" -
-completes "check explain help listing order outcomes replay run serial simulate trace" --unproved ''
+completes "check emit explain help listing order outcomes replay run serial simulate trace" --unproved ''
 completes "--turns" serial --t
+completes "--header" emit --hea
+completes "--prefix" emit --p
+completes "" emit --prefix ''
 completes "--why" replay --w
 completes "--json" explain --j
 completes "--count" outcomes --c

@@ -5,7 +5,7 @@ use Rattle.driver_words.specs.declared.line.Beside.TheVariants.{Simulate, Trace,
 use Rattle.driver_words.specs.declared.line.Alone.{Alone}
 use Rattle.driver_words.specs.declared.line.Alone.TheVariants.{Report as of_report, Order, Explain, Run}
 use Rattle.driver_words.specs.declared.line.Report.{Report}
-use Rattle.driver_words.specs.declared.line.Report.TheVariants.{Check, Listing, Serial, Outcomes}
+use Rattle.driver_words.specs.declared.line.Report.TheVariants.{Check, Listing, Serial, Outcomes, Emit}
 use Rattle.lowering.specs.Plans.{Plan}
 use Rattle.driver.specs.declared.status.Status.{Status}
 use Rattle.driver.specs.Answers.{accepted, refused}
@@ -32,6 +32,7 @@ of_program (Serial turns) text plan status out err (stopped is) = serving.unsett
 of_program (Outcomes looking) text plan status out err (outcomes.all_told is) = serving.done is.ended
 of_program (Outcomes looking) text plan status out err (outcomes.drawn_told is) = serving.done is.ended
 of_program (Outcomes looking) text plan status out err (outcomes.stopped is) = serving.unsettled is.ended
+of_program (Emit emission) text plan status out err is = serving.done is.ended
 
 pub alone_is_answered : (request : Alone) (file text : List ℕ) (status : Status) (out err : List ℕ) →
     AloneAnswers request file text status out err → IsAnswered status

@@ -3,6 +3,7 @@ pub mod Messages
 pub mod Answers
 pub mod Serial
 pub mod Checks
+pub mod Emissions
 pub mod Explanations
 pub mod Listings
 pub mod OrderGraphs

@@ -5,11 +5,12 @@ use Rattle.driver_words.specs.declared.line.Alone.TheVariants as alone
 use Rattle.driver_words.specs.declared.line.Beside.{Beside}
 use Rattle.driver_words.specs.declared.line.Beside.TheVariants.{Simulate, Trace, Replay}
 use Rattle.driver_words.specs.declared.line.Report.{Report}
-use Rattle.driver_words.specs.declared.line.Report.TheVariants.{Check, Listing, Serial, Outcomes}
+use Rattle.driver_words.specs.declared.line.Report.TheVariants.{Check, Listing, Serial, Outcomes, Emit}
 use Rattle.lowering.specs.Plans.{Plan}
 use Rattle.driver.specs.declared.status.Status.{Status}
 use Rattle.driver.specs.Answers.{TextAnswers}
 use Rattle.driver.specs.Checks.{IsCheckReport}
+use Rattle.driver.specs.Emissions.{IsEmitted}
 use Rattle.driver.specs.Explanations.{ExplainAnswers}
 use Rattle.driver.specs.Listings.{IsListed}
 use Rattle.driver.specs.OrderGraphs.{OrderAnswers}
@@ -26,6 +27,7 @@ IsReport Check text plan = IsCheckReport text plan
 IsReport (Listing places) text plan = IsListed places text plan
 IsReport (Serial turns) text plan = IsRun turns plan.accepted
 IsReport (Outcomes looking) text plan = IsLookedAt looking plan.accepted
+IsReport (Emit emission) text plan = IsEmitted emission plan
 
 -- and beside another file, of this name and text
 abbrev pub IsReportBeside : Beside → List ℕ → List ℕ → List ℕ → Plan → Status → List ℕ → List ℕ → Type 0

@@ -9,6 +9,7 @@ ghost use Rattle.driver.specs.Working.Answering.{Meets, IsAccepted, IsMessage};
 ghost use Rattle.driver.specs.Answers.{TextAnswers};
 ghost use Rattle.driver.specs.Requests.{BesideAnswers, IsReport};
 ghost use Rattle.driver.specs.Checks.{IsCheckReport};
+ghost use Rattle.driver.specs.Emissions.{IsEmitted, emitted_text};
 ghost use Rattle.driver.specs.Listings.{IsListed};
 ghost use Rattle.driver.specs.Serial.{IsRun};
 ghost use Rattle.driver.specs.ThreadRuns.{IsThreadsRun};
@@ -20,10 +21,12 @@ use crate::simulating::simulated;
 use crate::status::Status;
 use crate::threads_run::run_by_threads;
 use crate::tracing::traced;
+use c_text::meaning::sections_mean;
+use c_text::{file, header};
 use compiler::compile;
 use core_lang::laws;
 use core_lang::typed::Typed;
-use driver_words::{Beside, Report};
+use driver_words::{Beside, Emission, Report};
 use lowering::compiled::Program;
 use lowering::{listing, listing_with_places};
 use meaning_registers::prepared::Prepared;
@@ -134,6 +137,25 @@ fn listed(alloc: Global, places: bool, text: &[u8], program: &Program) -> Result
     Ok(Answer::done(alloc, listing(alloc, program)?))
 }
 
+/// The C text of a program, or its header.
+fn c_of(alloc: Global, emission: Emission<'_>, program: &Program) -> Result<String, NoMemory>
+    ensures { IfOk result (λ text. string_bytes text ≡ emitted_text emission program.now) }
+{
+    if emission.header {
+        return header(alloc, program, emission.prefix);
+    }
+    file(alloc, program, emission.prefix)
+}
+
+/// The answer to `emit`.
+fn emitted(alloc: Global, emission: Emission<'_>, program: &Program) -> Result<Answer, NoMemory>
+    ensures { IfOk result (Meets (IsEmitted emission program.now)) }
+{
+    sections_mean(program);
+    let text = c_of(alloc, emission, program)?;
+    Ok(Answer::done(alloc, Rope::of(alloc, text)))
+}
+
 /// The text of a program's run.
 fn ran(
     alloc: Global,
@@ -163,7 +185,7 @@ fn ran(
 /// What is told of a program with this text.
 fn reported(
     alloc: Global,
-    report: Report,
+    report: Report<'_>,
     text: &[u8],
     program: &Program,
 ) -> Result<Answer, NoMemory>
@@ -184,11 +206,16 @@ fn reported(
             };
             exploring.answer(alloc)
         }
+        Report::Emit(emission) => emitted(alloc, emission, program),
     }
 }
 
 /// What is answered for a text of which that is to be told.
-pub fn report_answer(alloc: Global, report: Report, source: &Named<'_>) -> Result<Answer, NoMemory>
+pub fn report_answer(
+    alloc: Global,
+    report: Report<'_>,
+    source: &Named<'_>,
+) -> Result<Answer, NoMemory>
     ensures { IfOk result (Meets (TextAnswers (IsReport report source.now.text.now) source.now.file.now source.now.text.now)) }
 {
     match accepted(alloc, source)? {

@@ -42,7 +42,7 @@ const ALL_BYTES: u64 = u64::MAX - 1;
 pub fn serve<R: Threads + Wait + Sync, S: Read, O: Write, E: Write>(
     threads: &R,
     alloc: Global,
-    request: Alone,
+    request: Alone<'_>,
     source: &mut SourceText<'_, S>,
     streams: &mut Streams<O, E>,
 ) -> Status
@@ -62,7 +62,7 @@ pub fn serve<R: Threads + Wait + Sync, S: Read, O: Write, E: Write>(
 /// Answers a request for what is told of the program that `source` gives, as [`serve`] does, and needs no threads.
 pub fn serve_report<S: Read, O: Write, E: Write>(
     alloc: Global,
-    report: Report,
+    report: Report<'_>,
     source: &mut SourceText<'_, S>,
     streams: &mut Streams<O, E>,
 ) -> Status

@@ -8,6 +8,7 @@
 //! - [`serve`]: answers each request that reads the program's file alone; [`serve_beside`]: each that reads another file too.
 //! - [`serve_report`]: what is told of an accepted program, without threads: in which order it takes its locks, and which ones
 //!   before each statement, also as [`check`] (`Checks`); the instructions of each section, also as [`listing`] (`Listings`);
+//!   its sections in C (`Emissions`);
 //!   all its calls one after another, also as [`serial`] (`Serial`); how its cells can end, over the orders of its calls
 //!   (`Outcomes`).
 //! - [`order_graph`]: which lock class has to come before which, as a graph (`OrderGraphs`).

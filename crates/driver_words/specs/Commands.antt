@@ -31,21 +31,17 @@ count_rule = number_rule (codes "count") (codes "100000")
 abbrev pub seed_rule : Rule
 seed_rule = number_rule (codes "seed") (codes "0")
 
--- --why
-abbrev pub why_rule : Rule
-why_rule = record (new_rule (codes "why")) { long = Some (codes "why"); action = Some SetTrue }
+-- a word that takes no value
+abbrev pub flag_rule : Text → Rule
+flag_rule id = record (new_rule id) { long = Some id; action = Some SetTrue }
 
--- --sections
-abbrev pub sections_rule : Rule
-sections_rule = record (new_rule (codes "sections")) { long = Some (codes "sections"); action = Some SetTrue }
-
--- --json
-abbrev pub json_rule : Rule
-json_rule = record (new_rule (codes "json")) { long = Some (codes "json"); action = Some SetTrue }
-
--- --places
-abbrev pub places_rule : Rule
-places_rule = record (new_rule (codes "places")) { long = Some (codes "places"); action = Some SetTrue }
+-- --prefix NAME, by default al
+abbrev pub prefix_rule : Rule
+prefix_rule = record (new_rule (codes "prefix")) {
+  long = Some (codes "prefix");
+  value_names = 1;
+  defaults = codes "al" ∷ [];
+}
 
 -- a command over one file
 abbrev pub with_file : Text → App
@@ -73,19 +69,27 @@ with_history app = with_rule app (file_rule (codes "HISTORY"))
 
 -- a command that takes --why besides
 abbrev pub with_why : App → App
-with_why app = with_rule app why_rule
+with_why app = with_rule app (flag_rule (codes "why"))
 
 -- a command that takes --sections besides
 abbrev pub with_sections : App → App
-with_sections app = with_rule app sections_rule
+with_sections app = with_rule app (flag_rule (codes "sections"))
 
 -- a command that takes --json besides
 abbrev pub with_json : App → App
-with_json app = with_rule app json_rule
+with_json app = with_rule app (flag_rule (codes "json"))
 
 -- a command that takes --places besides
 abbrev pub with_places : App → App
-with_places app = with_rule app places_rule
+with_places app = with_rule app (flag_rule (codes "places"))
+
+-- a command that takes --header besides
+abbrev pub with_header : App → App
+with_header app = with_rule app (flag_rule (codes "header"))
+
+-- a command that takes --prefix NAME besides
+abbrev pub with_prefix : App → App
+with_prefix app = with_rule app prefix_rule
 
 -- a command that must have a subcommand
 abbrev pub needs_subcommand : App → App
@@ -115,6 +119,10 @@ with_order app = with_subcommand app (with_file (codes "order")).top
 abbrev pub with_listing : App → App
 with_listing app = with_subcommand app (with_places (with_file (codes "listing"))).top
 
+-- autolock emit [--header] [--prefix NAME] FILE
+abbrev pub with_emit : App → App
+with_emit app = with_subcommand app (with_prefix (with_header (with_file (codes "emit")))).top
+
 -- autolock serial [--turns N] FILE
 abbrev pub with_serial : App → App
 with_serial app = with_subcommand app (with_turns (with_file (codes "serial"))).top
@@ -141,7 +149,9 @@ with_replay app = with_subcommand app (with_why (with_turns (with_history (with_
 
 -- the whole command line
 abbrev pub autolock : App
-autolock = with_replay (with_run (with_trace (with_simulate (with_outcomes (with_serial (with_listing (with_order (with_explain (with_check program)))))))))
+autolock =
+    with_replay (with_run (with_trace (with_simulate (with_outcomes (with_serial (with_emit (with_listing (with_order
+    (with_explain (with_check program))))))))))
 
 -- the command is that one, and has no global argument
 abbrev pub IsCommand : App → Command → Type 0

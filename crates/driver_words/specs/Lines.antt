@@ -1,17 +1,20 @@
 -- What a line says of the matches.
-use Rattle.std.specs.Prelude.{◌≡◌, ◌⊎◌, ℕ, ◌^◌, ◌<◌, Bool, true, false, List, [], Option, Some, None, codes, unwrap_or}
+use Rattle.std.specs.Prelude.{◌≡◌, ◌⊎◌, ℕ, ◌^◌, ◌<◌, leb, Bool, true, false, ◌&&◌, List, [], ◌∷◌, length, ⊤}
+use Rattle.std.specs.Prelude.{Option, Some, None, codes, unwrap_or}
+use Rattle.std.specs.Char.{is_ascii_alphabetic, is_ascii_alphanumeric}
+use Rattle.std.specs.List.{list_all}
 use Rattle.std.specs.Str.Parse.{IsNumeral, digits_value, without_leading_plus}
 use Rattle.clap.specs.Words.{HasKind, Row, Text, fault_of, first_of, one_of, subcommand_of}
 use Rattle.clap.specs.Values.{kind_of}
 use Rattle.clap.specs.declared.error.Error.{Error}
-use Rattle.clap.specs.declared.error.kind.ErrorKind.TheVariants.{MissingSubcommand}
+use Rattle.clap.specs.declared.error.kind.ErrorKind.TheVariants.{MissingSubcommand, ValueValidation}
 use Rattle.driver_words.specs.Commands.{autolock}
 use Rattle.driver_words.specs.declared.line.Alone.{Alone}
 use Rattle.driver_words.specs.declared.line.Alone.TheVariants.{Report, Order, Explain, Run}
 use Rattle.driver_words.specs.declared.line.Beside.{Beside}
 use Rattle.driver_words.specs.declared.line.Beside.TheVariants.{Simulate, Trace, Replay}
 use Rattle.driver_words.specs.declared.line.Line.{Line}
-use Rattle.driver_words.specs.declared.line.Report.TheVariants.{Check, Listing, Serial, Outcomes}
+use Rattle.driver_words.specs.declared.line.Report.TheVariants.{Check, Listing, Serial, Outcomes, Emit}
 use Rattle.driver_words.specs.declared.line.Request.{Request}
 use Rattle.driver_words.specs.declared.line.Request.TheVariants as request
 
@@ -43,6 +46,9 @@ IsAlone command rows (Report (Serial turns)) = (command ≡ codes "serial") × I
 IsAlone command rows (Report (Outcomes looking)) =
     (command ≡ codes "outcomes") × IsTurns rows looking.turns
     × IsNumber (codes "count") 100000 rows looking.count × IsNumber (codes "seed") 0 rows looking.seed
+IsAlone command rows (Report (Emit emission)) =
+    (command ≡ codes "emit") × IsFlag (codes "header") rows emission.header
+    × (emission.prefix.now ≡ name_in (codes "prefix") rows)
 IsAlone command rows Order = command ≡ codes "order"
 IsAlone command rows (Explain json) = (command ≡ codes "explain") × IsFlag (codes "json") rows json
 IsAlone command rows Run = command ≡ codes "run"
@@ -73,15 +79,47 @@ IsLineOf (Some (command, rows)) line = IsLine command rows line
 abbrev pub IsOwnName : Text → Type 0
 IsOwnName command =
     (command ≡ codes "check") ⊎ ((command ≡ codes "explain") ⊎ ((command ≡ codes "order") ⊎ ((command ≡ codes "listing")
-    ⊎ ((command ≡ codes "serial") ⊎ ((command ≡ codes "outcomes") ⊎ ((command ≡ codes "simulate") ⊎ ((command ≡ codes "trace")
-    ⊎ ((command ≡ codes "run") ⊎ (command ≡ codes "replay")))))))))
+    ⊎ ((command ≡ codes "emit") ⊎ ((command ≡ codes "serial") ⊎ ((command ≡ codes "outcomes") ⊎ ((command ≡ codes "simulate")
+    ⊎ ((command ≡ codes "trace") ⊎ ((command ≡ codes "run") ⊎ (command ≡ codes "replay"))))))))))
 
 -- the subcommand that was met is one of the program's own
 abbrev pub IsOwn : Option (Text × List Row) → Type 0
 IsOwn None = ⊥
 IsOwn (Some (command, rows)) = IsOwnName command
 
--- why words are refused: memory ran out, clap's definitions refuse them so, or they name no command of the program's own
+-- ---- what names of C begin with
+
+-- what the names that are the same in all C files begin with
+abbrev pub IsReserved : Text → Type 0
+IsReserved prefix = (prefix ≡ codes "AL") ⊎ (prefix ≡ codes "autolock")
+
+abbrev pub starts_with_letter : Text → Bool
+starts_with_letter [] = false
+starts_with_letter (c ∷ cs) = is_ascii_alphabetic c
+
+-- a letter, then letters and digits, at most 32 in all
+abbrev pub is_word : Text → Bool
+is_word prefix = starts_with_letter prefix && list_all is_ascii_alphanumeric prefix && leb (length prefix) 32
+
+abbrev pub IsPrefix : Text → Type 0
+IsPrefix prefix = (is_word prefix ≡ true) × (IsReserved prefix → ⊥)
+
+-- the prefix of a request is one, where it has one
+abbrev pub HasPrefix : Request → Type 0
+HasPrefix (request.Alone (Report (Emit emission))) = IsPrefix emission.prefix.now
+HasPrefix _ = ⊤
+
+-- ---- refusals
+
+-- the command that the words name has a prefix that is none
+pub record HasBadPrefix (words : List Text) : Type 0 where
+  pub line : Line
+  pub meant : IsLineOf (subcommand_of autolock words) line
+  pub bad : HasPrefix line.request → ⊥
+
+-- why words are refused: memory ran out, clap's definitions refuse them so, they name no command of the program's own, or their
+-- prefix is none
 abbrev pub IsRefused : List Text → Error → Type 0
 IsRefused words error = HasKind (fault_of autolock words) error
-    ⊎ ((kind_of error ≡ MissingSubcommand) × (IsOwn (subcommand_of autolock words) → ⊥))
+    ⊎ (((kind_of error ≡ MissingSubcommand) × (IsOwn (subcommand_of autolock words) → ⊥))
+    ⊎ ((kind_of error ≡ ValueValidation) × HasBadPrefix words))

@@ -2,7 +2,10 @@
 
 ghost use Rattle.std.specs.Prelude.{◌≡◌, IfOk, codes, false};
 ghost use Rattle.clap.specs.Words.{rule_of};
-ghost use Rattle.driver_words.specs.Commands.{IsCommand, file_rule, number_rule, turns_rule, count_rule, seed_rule, why_rule, sections_rule, json_rule, with_file, with_turns, with_count, with_seed, with_steps, with_history, with_why, with_sections, with_json, places_rule, with_places, Adds, AddsRule, autolock};
+ghost use Rattle.driver_words.specs.Commands.{Adds, AddsRule, IsCommand, autolock, with_file, with_steps, with_history};
+ghost use Rattle.driver_words.specs.Commands.{file_rule, flag_rule, number_rule, count_rule, prefix_rule, seed_rule, turns_rule};
+ghost use Rattle.driver_words.specs.Commands.{with_count, with_header, with_json, with_places, with_prefix, with_sections};
+ghost use Rattle.driver_words.specs.Commands.{with_seed, with_turns, with_why};
 
 use clap::builder::ValueParser;
 use clap::{Arg, ArgAction, Command};
@@ -57,48 +60,27 @@ fn seed_argument<'a>(alloc: Global) -> Arg<'a>
     number_argument(alloc, "seed", "0").help("Which orders to draw, where there are more")
 }
 
-/// `--why`.
-fn why_argument<'a>(alloc: Global) -> Arg<'a>
-    ensures rule { rule_of result ≡ why_rule }
+/// A word that takes no value, as `--json`.
+fn flag_argument<'a>(alloc: Global, id: &'a str, help: &'a str) -> Arg<'a>
+    ensures rule { rule_of result ≡ flag_rule id.entry.now }
     ensures local { result.global ≡ false }
 {
-    Arg::new(alloc, "why")
-        .long("why")
+    Arg::new(alloc, id)
+        .long(id)
         .action(ArgAction::SetTrue)
-        .help("Say what may stand where the history differs")
+        .help(help)
 }
 
-/// `--sections`.
-fn sections_argument<'a>(alloc: Global) -> Arg<'a>
-    ensures rule { rule_of result ≡ sections_rule }
+/// `--prefix NAME`.
+fn prefix_argument<'a>(alloc: Global) -> Arg<'a>
+    ensures rule { rule_of result ≡ prefix_rule }
     ensures local { result.global ≡ false }
 {
-    Arg::new(alloc, "sections")
-        .long("sections")
-        .action(ArgAction::SetTrue)
-        .help("Leave the instructions out")
-}
-
-/// `--json`.
-fn json_argument<'a>(alloc: Global) -> Arg<'a>
-    ensures rule { rule_of result ≡ json_rule }
-    ensures local { result.global ≡ false }
-{
-    Arg::new(alloc, "json")
-        .long("json")
-        .action(ArgAction::SetTrue)
-        .help("Tell it as a JSON object, in one line")
-}
-
-/// `--places`.
-fn places_argument<'a>(alloc: Global) -> Arg<'a>
-    ensures rule { rule_of result ≡ places_rule }
-    ensures local { result.global ≡ false }
-{
-    Arg::new(alloc, "places")
-        .long("places")
-        .action(ArgAction::SetTrue)
-        .help("Tell where each instruction's statement starts")
+    Arg::new(alloc, "prefix")
+        .long("prefix")
+        .value_name("NAME")
+        .default_value("al")
+        .help("What the names of C begin with")
 }
 
 /// A command over one file.
@@ -124,7 +106,8 @@ fn explain_command<'a>(alloc: Global) -> Result<Command<'a>, AllocError>
 {
     let about =
         "Tell the fault of a program, with its place in the source and what can be done about it";
-    file_command(alloc, "explain", about)?.arg(json_argument(alloc))
+    let help = "Tell it as a JSON object, in one line";
+    file_command(alloc, "explain", about)?.arg(flag_argument(alloc, "json", help))
 }
 
 /// `listing`.
@@ -132,7 +115,19 @@ fn listing_command<'a>(alloc: Global) -> Result<Command<'a>, AllocError>
     ensures { IfOk result (IsCommand (with_places (with_file (codes "listing")))) }
 {
     let about = "Write the instructions of each section";
-    file_command(alloc, "listing", about)?.arg(places_argument(alloc))
+    let help = "Tell where each instruction's statement starts";
+    file_command(alloc, "listing", about)?.arg(flag_argument(alloc, "places", help))
+}
+
+/// `emit`.
+fn emit_command<'a>(alloc: Global) -> Result<Command<'a>, AllocError>
+    ensures { IfOk result (IsCommand (with_prefix (with_header (with_file (codes "emit"))))) }
+{
+    let about = "Write the sections in C, with their locks placed";
+    let command = file_command(alloc, "emit", about);
+    let help = "Write the header of that C file";
+    let command = with_argument(command, flag_argument(alloc, "header", help));
+    with_argument(command, prefix_argument(alloc))
 }
 
 /// `serial`.
@@ -198,7 +193,8 @@ fn replay_command<'a>(alloc: Global) -> Result<Command<'a>, AllocError>
     let command = file_command(alloc, "replay", about);
     let command = with_argument(command, history_argument(alloc));
     let command = with_argument(command, turns_argument(alloc));
-    with_argument(command, why_argument(alloc))
+    let help = "Say what may stand where the history differs";
+    with_argument(command, flag_argument(alloc, "why", help))
 }
 
 /// `trace`.
@@ -209,7 +205,8 @@ fn trace_command<'a>(alloc: Global) -> Result<Command<'a>, AllocError>
         "Run the steps of a steps file, and write a line for each, then what simulate writes";
     let command = file_command(alloc, "trace", about);
     let command = with_argument(command, steps_argument(alloc));
-    with_argument(command, sections_argument(alloc))
+    let help = "Leave the instructions out";
+    with_argument(command, flag_argument(alloc, "sections", help))
 }
 
 /// A command line with one more command, where both could be made.
@@ -237,6 +234,7 @@ pub fn command<'a>(alloc: Global) -> Result<Command<'a>, AllocError>
         "Write the order of the lock classes as a graph in DOT: which has to come before which, and why";
     let line = with_command(line, file_command(alloc, "order", about));
     let line = with_command(line, listing_command(alloc));
+    let line = with_command(line, emit_command(alloc));
     let line = with_command(line, serial_command(alloc));
     let line = with_command(line, outcomes_command(alloc));
     let line = with_command(line, simulate_command(alloc));

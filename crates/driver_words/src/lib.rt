@@ -10,7 +10,7 @@ mod line;
 mod reading;
 
 pub use line::{
-    Alone, Beside, DEFAULT_COUNT, DEFAULT_SEED, DEFAULT_TURNS, Judging, Line, Looking, Report,
-    Request,
+    Alone, Beside, DEFAULT_COUNT, DEFAULT_SEED, DEFAULT_TURNS, Emission, Judging, Line, Looking,
+    Report, Request,
 };
 pub use reading::words;

@@ -22,16 +22,16 @@ pub struct Line<'a> {
 #[derive(Clone, Copy, Debug, PartialEq, Eq)]
 pub enum Request<'a> {
     /// A command that reads the program's file alone.
-    Alone(Alone),
+    Alone(Alone<'a>),
     /// A command that reads another file beside it, of this name, as it was given.
     Beside(Beside, &'a str),
 }
 
 /// What is asked of a program's file alone.
 #[derive(Clone, Copy, Debug, PartialEq, Eq)]
-pub enum Alone {
+pub enum Alone<'a> {
     /// What is told of the program, where it is accepted.
-    Report(Report),
+    Report(Report<'a>),
     /// `order`: the order of the program's lock classes, as a graph, also where they are on a cycle.
     Order,
     /// `explain`: tell the fault of the program, with its place in the source and what can be done about it.
@@ -45,7 +45,7 @@ pub enum Alone {
 
 /// What is told of a program that is accepted.
 #[derive(Clone, Copy, Debug, PartialEq, Eq)]
-pub enum Report {
+pub enum Report<'a> {
     /// `check`: in which order it takes its locks, and which ones before each statement.
     Check,
     /// `listing`: the instructions of its sections.
@@ -60,6 +60,17 @@ pub enum Report {
     },
     /// `outcomes`: how its cells can end, over the orders of its calls.
     Outcomes(Looking),
+    /// `emit`: its sections in C, with their locks placed.
+    Emit(Emission<'a>),
+}
+
+/// Which C text of a program is written.
+#[derive(Clone, Copy, Debug, PartialEq, Eq)]
+pub struct Emission<'a> {
+    /// Whether it is the header alone.
+    pub header: bool,
+    /// What the names of C begin with: a letter, then letters and digits; at most 32 bytes.
+    pub prefix: &'a str,
 }
 
 /// How the orders of a program's calls are looked at.

@@ -1,18 +1,25 @@
 //! From words to a line.
 
-ghost use Rattle.std.specs.Prelude.{◌≡◌, IfOk, IfErr, IfSome, OnOk, None, [], map};
+ghost use Rattle.std.specs.Prelude.{◌≡◌, ◌↔◌, IsTrue, IfOk, IfErr, IfSome, OnOk, None, [], map};
 ghost use Rattle.clap.specs.Words.{fault_of, found_of, rows_of, subcommand_of};
 ghost use Rattle.driver_words.specs.Commands.{autolock};
 ghost use Rattle.driver_words.specs.Lines.{name_in, IsNumber, IsTurns, IsFlag, IsLine, IsLineOf, IsOwnName, IsRefused, IsRequest};
+ghost use Rattle.driver_words.specs.Lines.{is_word, starts_with_letter, IsPrefix, HasPrefix};
+ghost use Rattle.std.specs.Char.{is_ascii_alphanumeric};
+ghost use Rattle.std.specs.List.{list_all};
 
 use crate::command::command;
 use crate::line::{
-    Alone, Beside, DEFAULT_COUNT, DEFAULT_SEED, DEFAULT_TURNS, Judging, Line, Looking, Report,
-    Request,
+    Alone, Beside, DEFAULT_COUNT, DEFAULT_SEED, DEFAULT_TURNS, Emission, Judging, Line, Looking,
+    Report, Request,
 };
 use clap::error::ErrorKind;
 use clap::{ArgMatches, Error};
 use std::alloc::Global;
+
+/// Why a prefix is refused.
+const BAD_PREFIX: &str =
+    "--prefix takes a letter, then at most 31 letters and digits, and not AL or autolock";
 
 /// The value of a name, or nothing where it has none.
 fn name<'a>(matches: &ArgMatches<'a>, id: &str) -> &'a str
@@ -64,6 +71,10 @@ fn request<'a>(command: &str, matches: &ArgMatches<'a>) -> Option<Request<'a>>
             count: number(matches, "count", DEFAULT_COUNT),
             seed: number(matches, "seed", DEFAULT_SEED),
         }))),
+        "emit" => Request::Alone(Alone::Report(Report::Emit(Emission {
+            header: flag(matches, "header"),
+            prefix: name(matches, "prefix"),
+        }))),
         "run" => Request::Alone(Alone::Run),
         "simulate" => Request::Beside(Beside::Simulate, name(matches, "STEPS")),
         "trace" => {
@@ -93,12 +104,62 @@ fn line<'a>(command: &str, matches: &ArgMatches<'a>) -> Option<Line<'a>>
     })
 }
 
+/// Whether a text begins with a letter.
+fn starts_with_letter(text: &[u8]) -> bool
+    ensures { result ≡ starts_with_letter text.now }
+{
+    match text {
+        [] => false,
+        [first, ..] => first.is_ascii_alphabetic(),
+    }
+}
+
+/// Whether a text is letters and digits.
+fn is_alphanumeric(text: &[u8]) -> bool
+    ensures { result ≡ list_all is_ascii_alphanumeric text.now }
+{
+    text.iter().all(
+        |byte: &u8| -> bool
+            ensures { result ≡ is_ascii_alphanumeric byte.now }
+        { byte.is_ascii_alphanumeric() },
+    )
+}
+
+/// Whether it is a letter, then letters and digits, at most 32 in all.
+fn is_word(prefix: &str) -> bool
+    ensures { result ≡ is_word prefix.now }
+{
+    let bytes = prefix.as_bytes();
+    starts_with_letter(bytes) && is_alphanumeric(bytes) && bytes.len() <= 32
+}
+
+/// Whether names of C may begin with it.
+fn is_prefix(prefix: &str) -> bool
+    ensures { IsTrue result ↔ IsPrefix prefix.now }
+{
+    match prefix {
+        "AL" | "autolock" => false,
+        _ => is_word(prefix),
+    }
+}
+
+/// Whether the prefix of a request is one, where it has one.
+fn has_prefix(request: &Request<'_>) -> bool
+    ensures { IsTrue result ↔ HasPrefix request.now }
+{
+    match request {
+        Request::Alone(Alone::Report(Report::Emit(emission))) => is_prefix(emission.prefix),
+        _ => true,
+    }
+}
+
 /// What the words of a command line ask for, of which the first is the program's name.
 ///
 /// An error is `clap`'s: its kind says whether help was asked for, memory was refused, or the words
 /// are no line; its text is what a user is to see.
 pub fn words<'a>(alloc: Global, words: &'a [&'a str]) -> Result<Line<'a>, Error>
     ensures line { IfOk result (IsLineOf (subcommand_of autolock (map (λ word. word.now) words.entry.now))) }
+    ensures prefix { IfOk result (λ line. HasPrefix line.request) }
     ensures accepted { OnOk result (fault_of autolock (map (λ word. word.now) words.entry.now) ≡ []) }
     ensures refused { IfErr result (IsRefused (map (λ word. word.now) words.entry.now)) }
 {
@@ -106,7 +167,10 @@ pub fn words<'a>(alloc: Global, words: &'a [&'a str]) -> Result<Line<'a>, Error>
     let matches = command.try_get_matches_from_mut(words)?;
     if let Some((name, inner)) = matches.subcommand() {
         if let Some(line) = line(name, inner) {
-            return Ok(line);
+            if has_prefix(&line.request) {
+                return Ok(line);
+            }
+            return Err(command.error(ErrorKind::ValueValidation, BAD_PREFIX)?);
         }
     }
     Err(command.error(ErrorKind::MissingSubcommand, "a command is missing")?)

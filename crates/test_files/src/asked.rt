@@ -19,7 +19,7 @@ pub enum Engine<'a> {
     /// `check`: whether it accepts the text, or its fault.
     Check,
     /// All that is told of its program.
-    Report(Report),
+    Report(Report<'a>),
     /// The graph of its lock classes.
     Graph,
     /// `simulate`: the world after these steps.

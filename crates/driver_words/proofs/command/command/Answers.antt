@@ -1,6 +1,6 @@
 use Rattle.std.proofs.Common.{rules}
 use Rattle.driver_words.specs.Commands.{IsCommand, program, with_check, with_explain, with_order, with_listing}
-use Rattle.driver_words.specs.Commands.{with_serial, with_outcomes, with_simulate, with_trace, with_run}
+use Rattle.driver_words.specs.Commands.{with_emit, with_serial, with_outcomes, with_simulate, with_trace, with_run}
 use Rattle.driver_words.proofs.command.command.Goals as goal
 
 pub returns : goal.returns
@@ -10,7 +10,8 @@ returns c =
     let explain = with_explain check in
     let order = with_order explain in
     let listing = with_listing order in
-    let serial = with_serial listing in
+    let emit = with_emit listing in
+    let serial = with_serial emit in
     let outcomes = with_outcomes serial in
     let simulate = with_simulate outcomes in
     let trace = with_trace simulate in
@@ -19,9 +20,10 @@ returns c =
     let second = c.with_command-line-2.ensures check _ first c.explain_command.ensures in
     let third = c.with_command-line-3.ensures explain _ second c.file_command-2.ensures in
     let fourth = c.with_command-line-4.ensures order _ third c.listing_command.ensures in
-    let fifth = c.with_command-line-5.ensures listing _ fourth c.serial_command.ensures in
-    let sixth = c.with_command-line-6.ensures serial _ fifth c.outcomes_command.ensures in
-    let seventh = c.with_command-line-7.ensures outcomes _ sixth c.simulate_command.ensures in
-    let eighth = c.with_command-line-8.ensures simulate _ seventh c.trace_command.ensures in
-    let ninth = c.with_command-line-9.ensures trace _ eighth c.run_command.ensures in
-    c.with_command.ensures run _ ninth c.replay_command.ensures
+    let fifth = c.with_command-line-5.ensures listing _ fourth c.emit_command.ensures in
+    let sixth = c.with_command-line-6.ensures emit _ fifth c.serial_command.ensures in
+    let seventh = c.with_command-line-7.ensures serial _ sixth c.outcomes_command.ensures in
+    let eighth = c.with_command-line-8.ensures outcomes _ seventh c.simulate_command.ensures in
+    let ninth = c.with_command-line-9.ensures simulate _ eighth c.trace_command.ensures in
+    let tenth = c.with_command-line-10.ensures trace _ ninth c.run_command.ensures in
+    c.with_command.ensures run _ tenth c.replay_command.ensures

@@ -11,4 +11,4 @@ returns c =
     let turns = subst (λ (r : Rule). IfOk c.with_argument-command-2.result (IsCommand (with_rule (with_history (with_file (codes "replay"))) r)))
     c.turns_argument.ensures.rule (c.with_argument-command-2.ensures (with_history (with_file (codes "replay"))) history) in
     subst (λ (r : Rule). IfOk c.with_argument.result (IsCommand (with_rule (with_turns (with_history (with_file (codes "replay")))) r)))
-    c.why_argument.ensures.rule (c.with_argument.ensures (with_turns (with_history (with_file (codes "replay")))) turns)
+    c.flag_argument.ensures.rule (c.with_argument.ensures (with_turns (with_history (with_file (codes "replay")))) turns)

@@ -9,4 +9,4 @@ returns c =
     let steps = subst (λ (r : Rule). IfOk c.with_argument-command.result (IsCommand (with_rule (with_file (codes "trace")) r)))
     c.steps_argument.ensures.rule (c.with_argument-command.ensures (with_file (codes "trace")) c.file_command-command.ensures) in
     subst (λ (r : Rule). IfOk c.with_argument.result (IsCommand (with_rule (with_steps (with_file (codes "trace"))) r)))
-    c.sections_argument.ensures.rule (c.with_argument.ensures (with_steps (with_file (codes "trace"))) steps)
+    c.flag_argument.ensures.rule (c.with_argument.ensures (with_steps (with_file (codes "trace"))) steps)

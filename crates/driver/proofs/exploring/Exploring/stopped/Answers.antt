@@ -34,7 +34,9 @@ returns c =
     rw c.deref-2.ensures.value ran.records in
     elim c.match-ran.branch [
       | in-Some w ↦ stops_inside c.settled_are_serial.ensures turns program order w.in-Some.place.0 w.in-Some.place.1 es _ _ _ c.requires.stops.made
-          (rw w.in-Some.is at ran.stop) records c.written.ensures.ended (c.written.ensures.written ∙ ap rope_text c.of.ensures ∙ subst (λ (p : Typed). string_bytes c.in_ok-out.out ≡ unsettled_of p es w.in-Some.place.0 w.in-Some.place.1)
+          (rw w.in-Some.is at ran.stop) records c.written.ensures.ended
+          (c.written.ensures.written ∙ ap rope_text c.of.ensures ∙ subst
+          (λ (p : Typed). string_bytes c.in_ok-out.out ≡ unsettled_of p es w.in-Some.place.0 w.in-Some.place.1)
           c.program-program.ensures (rw w.thread-is at c.in_ok-out.ensures)) c.written.ensures.told
       | in-None w ↦ (
           let done = rw c.program-program.ensures at c.in_ok-made.ensures.done in
@@ -42,6 +44,8 @@ returns c =
           c.program-program.ensures (rw w.thread-is at c.in_ok-out.ensures) in
           stops_behind c.settled_are_serial.ensures c.at_most_one_serial.ensures turns program order c.args.thread es _ _ _ c.requires.stops
           (rw w.in-None.is at ran.stop) records c.written.ensures.ended
-          (c.written.ensures.written ∙ ap rope_text c.of.ensures ∙ text ∙ ap (λ (k : ℕ). unsettled_of program es c.args.thread k) (w.done_of.ensures ∙ ap (λ (ds : List ℕ). get_or ds c.args.thread 0) done))
+          (c.written.ensures.written ∙ ap rope_text c.of.ensures ∙ text ∙ ap
+          (λ (k : ℕ). unsettled_of program es c.args.thread k)
+          (w.done_of.ensures ∙ ap (λ (ds : List ℕ). get_or ds c.args.thread 0) done))
           c.written.ensures.told)
     ]

@@ -1,0 +1,3 @@
+mod Chains
+mod Loops
+mod Lines

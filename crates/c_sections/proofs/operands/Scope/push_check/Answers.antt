@@ -1,0 +1,19 @@
+use Rattle.std.proofs.Common.{string_bytes, append_assoc}
+use Rattle.std.specs.Prelude.{codes}
+use Rattle.locks.specs.Theory.Written.{piece_added}
+use Rattle.c_sections.proofs.Chains.{then}
+use Rattle.c_sections.proofs.operands.Scope.push_check.Goals as goal
+
+pub returns : goal.returns
+returns c =
+    then c.push_str-2.result
+    (piece_added c.push_str-2.result (string_bytes c.push_str-2.new.self) (string_bytes c.push_temporary.new.out)
+    (codes "))) AL_TRAP(3);\n") c.push_str-2.ensures.bytes)
+    (λ e. simp append_assoc (simp (
+      c.in_ok-push_temporary.ensures,
+      c.in_ok-push_str.ensures.bytes,
+      c.in_ok-push_between.ensures,
+      c.in_ok-write.ensures.bytes,
+      c.checked_word-word.ensures,
+      append_assoc,
+    ) at e))

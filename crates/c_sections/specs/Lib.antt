@@ -1,0 +1,6 @@
+pub mod Names
+pub mod Statements
+pub mod Acquires
+pub mod Instructions
+pub mod Sections
+pub mod Working

@@ -1,0 +1,189 @@
+-- The C text of a section.
+use Rattle.std.specs.Prelude.{ℕ, ◌==◌, Bool, true, false, if◌then◌else◌, List, [], ◌++◌, length, take, drop}
+use Rattle.std.specs.Prelude.{Option, Some, None, codes, string_bytes}
+use Rattle.std.specs.List.{flat_map, list_any}
+use Rattle.std.specs.Fmt.{decimal}
+use Rattle.core_lang.specs.declared.tree.Local.{Local}
+use Rattle.core_lang.specs.declared.tree.Section.{Section}
+use Rattle.core_lang.specs.declared.typed.Typed.{Typed}
+use Rattle.core_lang.specs.declared.value.ValueType.{ValueType}
+use Rattle.core_lang.specs.declared.value.ValueType.TheVariants.{Integer, Reference}
+use Rattle.locks.specs.LockPaths.{LockPath, lock_paths}
+use Rattle.locks.specs.Texts.{struct_name}
+use Rattle.code.specs.declared.instr.Instr.{Instr}
+use Rattle.code.specs.Lowering.{section_code}
+use Rattle.c_language.specs.declared.statement.Temporary.{Temporary}
+use Rattle.c_sections.specs.Names.{named, own, type_text, zero_text, local_text, temporary_text}
+use Rattle.c_sections.specs.Statements.{line}
+use Rattle.c_sections.specs.Acquires.{numbered, downward, held}
+use Rattle.c_sections.specs.Instructions.{where_true, prints, temporaries, instrs_text}
+
+-- ---- parameters
+
+abbrev pub parameters : Section → List Local
+parameters section = take section.parameters section.locals.items
+
+-- the locals behind them
+abbrev pub others : Section → List Local
+others section = drop section.parameters section.locals.items
+
+abbrev pub is_reference : ValueType → Bool
+is_reference Integer = false
+is_reference (Reference s) = true
+
+abbrev pub has_reference : Local → Bool
+has_reference local = is_reference local.value_type
+
+-- ---- what only some sections have
+
+abbrev pub out_text : Bool → List ℕ
+out_text prints = where_true prints (codes ", struct autolock_prints *out")
+
+-- an array of pointers to locks, by its name, its length and what it holds at first
+abbrev pub locks_line : List ℕ → ℕ → List ℕ → List ℕ
+locks_line name count first =
+    line (codes "AL_MUTEX *" ++ name ++ codes "[" ++ decimal count ++ codes "]" ++ first ++ codes ";")
+
+abbrev pub has_locks : ℕ → Bool
+has_locks count = if count == 0 then false else true
+
+abbrev pub locks_lines : ℕ → List ℕ
+locks_lines count =
+    where_true (has_locks count)
+    (locks_line (codes "h") count (codes " = { NULL }") ++ locks_line (codes "m") count [])
+
+abbrev pub prints_line : Bool → List ℕ
+prints_line prints = where_true prints (line (codes "int prints = 0;"))
+
+-- ---- what may not be used, so that no compiler warns
+
+abbrev pub used_line : List ℕ → List ℕ
+used_line name = line (codes "(void)" ++ name ++ codes ";")
+
+abbrev pub used_local : ℕ → Local → List ℕ
+used_local k local = used_line (local_text k local)
+
+abbrev pub used_locals : Section → List ℕ
+used_locals section = numbered used_local 0 section.locals.items
+
+abbrev pub used_locks : ℕ → List ℕ
+used_locks count = where_true (has_locks count) (used_line (codes "h") ++ used_line (codes "m"))
+
+abbrev pub uses : Section → ℕ → List ℕ
+uses section count = used_line (codes "s") ++ used_locals section ++ used_locks count
+
+-- ---- the prototype
+
+module _ (prefix : List ℕ) (program : Typed) where
+  -- the struct of what a section gives back
+  abbrev pub result_struct : Option ValueType → List ℕ
+  result_struct None = codes "autolock_end"
+  result_struct (Some Integer) = codes "autolock_int"
+  result_struct (Some (Reference s)) = own prefix (codes "Ref_" ++ struct_name program s)
+
+  -- a local, with its type
+  abbrev pub declared : ℕ → Local → List ℕ
+  declared k local = type_text prefix program local.value_type ++ local_text k local
+
+  abbrev pub parameter_text : ℕ → Local → List ℕ
+  parameter_text k local = codes ", " ++ declared k local
+
+  abbrev pub parameters_text : Section → List ℕ
+  parameters_text section = numbered parameter_text 0 (parameters section)
+
+  -- the name of a section's function, behind the struct of what it gives back
+  abbrev pub head_text : Section → List ℕ
+  head_text section =
+      codes "struct " ++ result_struct section.result_type ++ codes " " ++ named prefix (string_bytes section.name)
+
+  abbrev pub prototype_text : Section → Bool → List ℕ
+  prototype_text section prints =
+      head_text section ++ codes "(struct " ++ own prefix (codes "State") ++ codes " *s"
+      ++ parameters_text section ++ out_text prints ++ codes ")"
+
+  -- ---- declarations
+
+  abbrev pub local_line : ℕ → Local → List ℕ
+  local_line k local = line (declared k local ++ codes " = " ++ zero_text local.value_type ++ codes ";")
+
+  abbrev pub temporary_line : Temporary → List ℕ
+  temporary_line t = line (type_text prefix program t.holds ++ temporary_text program t ++ codes ";")
+
+  abbrev pub value_line : Option ValueType → List ℕ
+  value_line None = []
+  value_line (Some t) = line (type_text prefix program t ++ codes "value = " ++ zero_text t ++ codes ";")
+
+  abbrev pub result_line : Option ValueType → List ℕ
+  result_line t = line (codes "struct " ++ result_struct t ++ codes " result;")
+
+  -- what isn't a local or a temporary, of a section with so many lock paths
+  abbrev pub further_lines : Section → Bool → ℕ → List ℕ
+  further_lines section prints count =
+      locks_lines count ++ line (codes "int trap = 0;") ++ prints_line prints ++ value_line section.result_type
+      ++ result_line section.result_type
+
+  abbrev pub locals_lines : Section → List ℕ
+  locals_lines section = numbered local_line section.parameters (others section)
+
+  -- of a section with a code and so many lock paths
+  abbrev pub declarations : Section → List Instr → ℕ → List ℕ
+  declarations section code count =
+      locals_lines section ++ flat_map temporary_line (temporaries program code)
+      ++ further_lines section (prints code) count
+
+  -- ---- a test that arguments are null or objects of their struct
+
+  abbrev pub reference_line : ℕ → Local → ℕ → List ℕ
+  reference_line k local s =
+      line (codes "if (AL_RARE(!" ++ own prefix (codes "Is_" ++ struct_name program s) ++ codes "(s, "
+      ++ local_text k local ++ codes "))) AL_TRAP(7);")
+
+  abbrev pub check_of : ℕ → Local → ValueType → List ℕ
+  check_of k local Integer = []
+  check_of k local (Reference s) = reference_line k local s
+
+  abbrev pub check_line : ℕ → Local → List ℕ
+  check_line k local = check_of k local local.value_type
+
+  abbrev pub check_lines : List Local → List ℕ
+  check_lines locals = codes "#ifdef AL_CHECK\n" ++ numbered check_line 0 locals ++ codes "#endif\n"
+
+  abbrev pub checks : Section → List ℕ
+  checks section = where_true (list_any has_reference (parameters section)) (check_lines (parameters section))
+
+-- ---- the end
+
+abbrev pub unlock_line : ℕ → List ℕ
+unlock_line k = line (codes "if (" ++ held k ++ codes " != NULL) AL_UNLOCK(" ++ held k ++ codes ");")
+
+abbrev pub count_line : Bool → List ℕ
+count_line prints = where_true prints (line (codes "if (out != NULL) out->count = prints;"))
+
+abbrev pub give_line : Option ValueType → List ℕ
+give_line None = []
+give_line (Some t) = line (codes "result.value = value;")
+
+-- every lock is given back, the last first
+abbrev pub end_text : Section → Bool → ℕ → List ℕ
+end_text section prints count =
+    codes "end:\n" ++ downward unlock_line count ++ count_line prints ++ line (codes "result.trap = trap;")
+    ++ give_line section.result_type ++ line (codes "return result;") ++ codes "}\n"
+
+-- ---- a section
+
+-- what stands ahead of its instructions
+abbrev pub front_text : List ℕ → Typed → Section → List Instr → ℕ → List ℕ
+front_text prefix program section code count =
+    prototype_text prefix program section (prints code) ++ codes "\n{\n"
+    ++ declarations prefix program section code count ++ uses section count ++ checks prefix program section
+
+-- with a code and its lock paths
+abbrev pub text_of : List ℕ → Typed → Section → List (List ℕ) → List Instr → List LockPath → List ℕ
+text_of prefix program section lists code paths =
+    front_text prefix program section code (length paths)
+    ++ instrs_text program section lists paths code
+    ++ end_text section (prints code) (length paths)
+
+abbrev pub section_text : List ℕ → Typed → Section → List (List ℕ) → List ℕ
+section_text prefix program section lists =
+    text_of prefix program section lists (section_code lists section) (lock_paths program section)

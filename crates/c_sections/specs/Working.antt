@@ -1,0 +1,5 @@
+pub mod Views
+pub mod Taken
+pub mod Codes
+pub mod Bodies
+pub mod Prototypes

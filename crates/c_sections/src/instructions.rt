@@ -1,0 +1,121 @@
+//! The instructions of a section as C text. The one error is a refused growth.
+
+ghost use Rattle.std.specs.Prelude.{◌<◌, ◌+◌, length, OnOk, IfOk};
+ghost use Rattle.locks.specs.Texts.{AddsText};
+ghost use Rattle.c_sections.specs.Instructions as text;
+
+use crate::acquires::Acquires;
+use crate::groups::Groups;
+use crate::operands::Scope;
+use crate::targets::jump_targets;
+use c_language::statement::Statement;
+use code::Listed;
+use code::instr::Instr;
+use core_lang::typed::Typed;
+use source::memory::NoMemory;
+use std::alloc::{AllocError, Global};
+
+/// What the text of a section's instructions is made from.
+#[derive(Drop)]
+pub struct InstructionLines<'a> {
+    scope: Scope<'a>,
+    listed: Listed<'a>,
+    // For each place, whether a jump leads there.
+    targets: Vec<bool>,
+}
+
+impl<'a> InstructionLines<'a> {
+    ghost use Rattle.c_sections.specs.Working.Bodies.{IsBodyOf, HasTargets, HasPlan, code_of};
+    ghost use Rattle.c_sections.specs.Working.Bodies.{IsAt, label_of, asked_of, group_of, instr_of, instrs_of};
+
+    /// Of a section of the program.
+    pub fn new(
+        alloc: Global,
+        program: &'a Typed,
+        listed: Listed<'a>,
+    ) -> Result<InstructionLines<'a>, NoMemory>
+        ensures body { IfOk result (λ lines. IsBodyOf program.now listed.entry lines) }
+        ensures targets { IfOk result HasTargets }
+    {
+        let targets = jump_targets(alloc, &listed.code.instructions)?;
+        Ok(InstructionLines {
+            scope: Scope {
+                program,
+                section: listed.section,
+            },
+            listed,
+            targets,
+        })
+    }
+
+    // A label, where a jump leads to this place.
+    fn push_label(&self, out: &mut String, place: usize) -> Result<(), AllocError>
+        requires targets { HasTargets self.now }
+        requires within { place < length (code_of self.now) }
+        ensures { OnOk result (AddsText (label_of self.now place) out.old out.new) }
+    {
+        if self.targets[place] {
+            return write!(out, "L{place}:\n");
+        }
+        Ok(())
+    }
+
+    // The locks that an instruction asks for.
+    fn push_asked(&self, alloc: Global, out: &mut String, instr: Instr) -> Result<(), NoMemory>
+        ensures { OnOk result (AddsText (asked_of self.now instr) out.old out.new) }
+    {
+        let acquires = Acquires {
+            scope: self.scope,
+            paths: self.listed.paths,
+        };
+        match instr {
+            Instr::Acquire(_) => acquires.push(alloc, out, self.listed.asked(instr)),
+            _ => Ok(()),
+        }
+    }
+
+    // The statements of an instruction.
+    fn push_group(&self, out: &mut String, group: &[Statement]) -> Result<(), AllocError>
+        ensures { OnOk result (AddsText (group_of self.now group.now) out.old out.new) }
+    {
+        for statement in group {
+            self.scope.push_statement(out, *statement)?;
+        }
+        Ok(())
+    }
+
+    // The next instruction.
+    fn push_next(
+        &self,
+        alloc: Global,
+        out: &mut String,
+        groups: &mut Groups<'_>,
+        place: usize,
+    ) -> Result<(), NoMemory>
+        requires targets { HasTargets self.now }
+        requires within { place < length (code_of self.now) }
+        requires plan { HasPlan self.now }
+        requires stands { IsAt self.now place groups.old }
+        ensures stands { OnOk result (IsAt self.now (place + 1) groups.new) }
+        ensures text { OnOk result (AddsText (instr_of self.now place) out.old out.new) }
+    {
+        self.push_label(out, place)?;
+        let instr = groups.pass(&self.listed.code.instructions, place)?;
+        self.push_asked(alloc, out, instr)?;
+        self.push_group(out, &groups.statements)?;
+        Ok(())
+    }
+
+    /// The instructions.
+    pub fn push(&self, alloc: Global, out: &mut String) -> Result<(), NoMemory>
+        requires targets { HasTargets self.now }
+        requires plan { HasPlan self.now }
+        ensures { OnOk result (AddsText (instrs_of self.now) out.old out.new) }
+    {
+        let mut groups = Groups::new(alloc, self.scope.program);
+        for place in 0..self.listed.code.instructions.len() {
+            self.push_next(alloc, out, &mut groups, place)?;
+        }
+        Ok(())
+    }
+}

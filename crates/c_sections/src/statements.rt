@@ -1,0 +1,291 @@
+//! The statements of a section as C text, a line each. The one error is a refused growth.
+
+ghost use Rattle.std.specs.Prelude.{◌≡◌, ◌++◌, OnOk, codes};
+ghost use Rattle.c_language.specs.declared.statement.Statement.TheVariants.{Set, Assign, Check, TrapIf, StoreGlobal};
+ghost use Rattle.c_language.specs.declared.statement.Statement.TheVariants.{StoreElement, StoreField, Print, GotoIf};
+ghost use Rattle.c_language.specs.declared.statement.Statement.TheVariants.{ReturnValue};
+ghost use Rattle.c_language.specs.declared.statement.Test.TheVariants.{IsNotOwned};
+ghost use Rattle.locks.specs.Texts.{AddsText};
+ghost use Rattle.c_sections.specs.Statements as text;
+
+use crate::names::push_temporary;
+use crate::operands::Scope;
+use c_language::statement::{
+    Checked, Operand, RightSide, Statement, StructMember, Temporary, Test,
+};
+use core_lang::value::Trap;
+use std::alloc::AllocError;
+
+/// The function that has the sum, the difference or the product.
+fn checked_word(checked: Checked) -> &'static str
+    ensures { result.now ≡ text.checked_text checked }
+{
+    match checked {
+        Checked::Sum => "autolock_add",
+        Checked::Difference => "autolock_sub",
+        Checked::Product => "autolock_mul",
+    }
+}
+
+/// How a jump begins that goes where a value is true, or false.
+fn on_word(on: bool) -> &'static str
+    ensures { result.now ≡ text.on_text on }
+{
+    if on { "if (" } else { "if (!" }
+}
+
+/// A jump to a label.
+fn push_goto(out: &mut String, place: usize) -> Result<(), AllocError>
+    ensures { OnOk result (AddsText (text.goto_text place) out.old out.new) }
+{
+    write!(out, "  goto L{place};\n")
+}
+
+/// Whether it is `NULL` where it stands.
+fn is_null(operand: Operand) -> bool
+    ensures { result ≡ text.is_null operand }
+{
+    matches!(operand, Operand::Null)
+}
+
+impl Scope<'_> {
+    ghost use Rattle.c_sections.specs.Working.Views.{operand_of, test_of, printed_of, statement_of};
+
+    // An operand, with words behind it.
+    fn push_tested(&self, out: &mut String, operand: Operand, words: &str) -> Result<(), AllocError>
+        ensures { OnOk result (AddsText (operand_of self.now operand ++ words.now) out.old out.new) }
+    {
+        self.push_operand(out, operand)?;
+        out.push_str(words)
+    }
+
+    // An index outside, but for the length.
+    fn push_outside(&self, out: &mut String, index: Operand) -> Result<(), AllocError>
+        ensures { OnOk result (AddsText (codes "(uint64_t)" ++ operand_of self.now index ++ codes " >= ")
+            out.old out.new) }
+    {
+        out.push_str("(uint64_t)")?;
+        self.push_tested(out, index, " >= ")
+    }
+
+    // A reference that has another owner than a local names. `NULL` has none, and can't be followed.
+    fn push_not_owned(
+        &self,
+        out: &mut String,
+        base: Operand,
+        member: StructMember,
+        local: usize,
+    ) -> Result<(), AllocError>
+        ensures { OnOk result (AddsText (test_of self.now (IsNotOwned base member local)) out.old out.new) }
+    {
+        if is_null(base) {
+            return out.push_str("0");
+        }
+        self.push_tested(out, base, " != NULL && ")?;
+        self.push_operand(out, base)?;
+        self.push_final(out, member)?;
+        out.push_str(" != ")?;
+        self.push_variable(out, local)
+    }
+
+    /// What an `if` before a trap tests.
+    pub fn push_test(&self, out: &mut String, test: Test) -> Result<(), AllocError>
+        ensures { OnOk result (AddsText (test_of self.now test) out.old out.new) }
+    {
+        match test {
+            Test::IsNull(value) => self.push_tested(out, value, " == NULL"),
+            Test::IsNoElement(array, index) => {
+                self.push_outside(out, index)?;
+                self.push_array_length(out, array)
+            }
+            Test::IsNoMember(pool, index) => {
+                self.push_outside(out, index)?;
+                self.push_pool_length(out, pool)
+            }
+            Test::IsZero(value) => self.push_tested(out, value, " == 0"),
+            Test::IsLeast(value) => self.push_tested(out, value, " == INT64_MIN"),
+            Test::IsLeastByMinusOne(left, right) => {
+                self.push_tested(out, left, " == INT64_MIN && ")?;
+                self.push_tested(out, right, " == -1")
+            }
+            Test::IsNotOwned(base, member, local) => self.push_not_owned(out, base, member, local),
+        }
+    }
+
+    // A temporary is set.
+    fn push_set(
+        &self,
+        out: &mut String,
+        temporary: Temporary,
+        value: RightSide,
+    ) -> Result<(), AllocError>
+        ensures { OnOk result (AddsText (statement_of self.now (Set temporary value)) out.old out.new) }
+    {
+        out.push_str("  ")?;
+        push_temporary(out, self.program, temporary)?;
+        out.push_str(" = ")?;
+        self.push_right(out, value)?;
+        out.push_str(";\n")
+    }
+
+    // What stands on the left is set to an operand.
+    fn push_assigned(&self, out: &mut String, value: Operand) -> Result<(), AllocError>
+        ensures { OnOk result (AddsText (codes " = " ++ operand_of self.now value ++ codes ";\n") out.old out.new) }
+    {
+        out.push_str(" = ")?;
+        self.push_operand(out, value)?;
+        out.push_str(";\n")
+    }
+
+    // A local is set.
+    fn push_assign(&self, out: &mut String, local: usize, value: Operand) -> Result<(), AllocError>
+        ensures { OnOk result (AddsText (statement_of self.now (Assign local value)) out.old out.new) }
+    {
+        out.push_str("  ")?;
+        self.push_variable(out, local)?;
+        self.push_assigned(out, value)
+    }
+
+    // A temporary is set, if 64 bits hold the result.
+    fn push_check(
+        &self,
+        out: &mut String,
+        checked: Checked,
+        temporary: Temporary,
+        operands: (Operand, Operand),
+    ) -> Result<(), AllocError>
+        ensures { OnOk result (AddsText (statement_of self.now (Check checked temporary operands.0 operands.1))
+            out.old out.new) }
+    {
+        let (left, right) = operands;
+        let word = checked_word(checked);
+        write!(out, "  if (AL_RARE({word}(")?;
+        self.push_between(out, left, ", ", right)?;
+        out.push_str(", &")?;
+        push_temporary(out, self.program, temporary)?;
+        out.push_str("))) AL_TRAP(3);\n")
+    }
+
+    // A trap.
+    fn push_trap(&self, out: &mut String, test: Test, trap: Trap) -> Result<(), AllocError>
+        ensures { OnOk result (AddsText (statement_of self.now (TrapIf test trap)) out.old out.new) }
+    {
+        out.push_str("  if (AL_RARE(")?;
+        self.push_test(out, test)?;
+        let number = trap.number();
+        write!(out, ")) AL_TRAP({number});\n")
+    }
+
+    // A global is set.
+    fn push_store_global(
+        &self,
+        out: &mut String,
+        cell: u32,
+        value: Operand,
+    ) -> Result<(), AllocError>
+        ensures { OnOk result (AddsText (statement_of self.now (StoreGlobal cell value)) out.old out.new) }
+    {
+        out.push_str("  ")?;
+        self.push_global(out, cell)?;
+        self.push_assigned(out, value)
+    }
+
+    // An element of an array is set.
+    fn push_store_element(
+        &self,
+        out: &mut String,
+        array: usize,
+        index: Operand,
+        value: Operand,
+    ) -> Result<(), AllocError>
+        ensures { OnOk result (AddsText (statement_of self.now (StoreElement array index value)) out.old out.new) }
+    {
+        out.push_str("  ")?;
+        self.push_element(out, array, index)?;
+        self.push_assigned(out, value)
+    }
+
+    // A field is set.
+    fn push_store_field(
+        &self,
+        out: &mut String,
+        base: Operand,
+        member: StructMember,
+        value: Operand,
+    ) -> Result<(), AllocError>
+        ensures { OnOk result (AddsText (statement_of self.now (StoreField base member value)) out.old out.new) }
+    {
+        out.push_str("  ")?;
+        self.push_operand(out, base)?;
+        self.push_field(out, member)?;
+        self.push_assigned(out, value)
+    }
+
+    // A number goes behind those that were printed, if the caller wants them.
+    fn push_printed(&self, out: &mut String, value: Operand) -> Result<(), AllocError>
+        ensures { OnOk result (AddsText (printed_of self.now value) out.old out.new) }
+    {
+        out.push_str("  if (out != NULL) out->value[prints]")?;
+        self.push_assigned(out, value)
+    }
+
+    // A number is printed.
+    fn push_print(&self, out: &mut String, value: Operand) -> Result<(), AllocError>
+        ensures { OnOk result (AddsText (statement_of self.now (Print value)) out.old out.new) }
+    {
+        out.push_str("  if (AL_RARE(prints == 256)) AL_TRAP(6);\n")?;
+        self.push_printed(out, value)?;
+        out.push_str("  prints++;\n")
+    }
+
+    // A jump where an operand is true, or false.
+    fn push_goto_if(
+        &self,
+        out: &mut String,
+        on: bool,
+        value: Operand,
+        place: usize,
+    ) -> Result<(), AllocError>
+        ensures { OnOk result (AddsText (statement_of self.now (GotoIf on value place)) out.old out.new) }
+    {
+        out.push_str("  ")?;
+        out.push_str(on_word(on))?;
+        self.push_operand(out, value)?;
+        write!(out, ") goto L{place};\n")
+    }
+
+    // The section's result is given.
+    fn push_return(&self, out: &mut String, value: Operand) -> Result<(), AllocError>
+        ensures { OnOk result (AddsText (statement_of self.now (ReturnValue value)) out.old out.new) }
+    {
+        out.push_str("  value")?;
+        self.push_assigned(out, value)?;
+        out.push_str("  goto end;\n")
+    }
+
+    /// A statement.
+    pub fn push_statement(&self, out: &mut String, statement: Statement) -> Result<(), AllocError>
+        ensures { OnOk result (AddsText (statement_of self.now statement) out.old out.new) }
+    {
+        match statement {
+            Statement::Set(temporary, value) => self.push_set(out, temporary, value),
+            Statement::Assign(local, value) => self.push_assign(out, local, value),
+            Statement::Check(checked, temporary, left, right) => {
+                self.push_check(out, checked, temporary, (left, right))
+            }
+            Statement::TrapIf(test, trap) => self.push_trap(out, test, trap),
+            Statement::StoreGlobal(cell, value) => self.push_store_global(out, cell, value),
+            Statement::StoreElement(array, index, value) => {
+                self.push_store_element(out, array, index, value)
+            }
+            Statement::StoreField(base, member, value) => {
+                self.push_store_field(out, base, member, value)
+            }
+            Statement::Print(value) => self.push_print(out, value),
+            Statement::Goto(place) => push_goto(out, place),
+            Statement::GotoIf(on, value, place) => self.push_goto_if(out, on, value, place),
+            Statement::ReturnValue(value) => self.push_return(out, value),
+            Statement::Finish => out.push_str("  goto end;\n"),
+        }
+    }
+}

@@ -1,0 +1,73 @@
+-- One section more.
+use Rattle.std.proofs.Common.{◌≡◌, ◌∙◌, ◌+◌, ◌<◌, ◌++◌, ◌∷◌, [], ℕ, zero, suc, List, Bool, Option, length, drop, refl, sym, ap, arith, add-one, append_assoc}
+use Rattle.std.specs.Prelude.{codes}
+use Rattle.std.specs.Option.{option_map_or}
+use Rattle.core_lang.specs.declared.tree.Section.{Section}
+use Rattle.core_lang.specs.declared.typed.Typed.{Typed}
+use Rattle.code.specs.declared.listed.Listed.{Listed}
+use Rattle.code.specs.Listing.{text_at}
+use Rattle.code.specs.Lowering.{section_code}
+use Rattle.code.specs.Working.Asked.{lists_of}
+use Rattle.c_sections.specs.Acquires.{numbered}
+use Rattle.c_sections.specs.Instructions.{prints}
+use Rattle.c_sections.specs.Sections.{prototype_text, section_text}
+use Rattle.c_text.specs.Mains.{case_text}
+use Rattle.c_text.specs.Files.{is_printing, prototype_of, section_of, case_of}
+use Rattle.c_text.specs.Working.Sections.{at_number, IsListed}
+
+numbered_at : (text : ℕ → Section → List ℕ) (xs : List Section) (k j : ℕ) → k < length xs →
+    numbered text j (drop k xs) ≡ text_at (text j) xs k ++ numbered text (j + 1) (drop (suc k) xs)
+numbered_at text [] k j lt = absurd (omega (arith, lt))
+numbered_at text (x ∷ xs) zero j lt = refl
+numbered_at text (x ∷ xs) (suc k) j lt = numbered_at text xs k j (omega (arith, lt))
+
+-- the text of a section, and then that of those behind it
+pub numbered_on : (text : ℕ → Section → List ℕ) (program : Typed) (k : ℕ) → k < length program.sections.items →
+    (old new : List ℕ) → new ≡ old ++ at_number text program k →
+    new ++ numbered text (k + 1) (drop (k + 1) program.sections.items) ≡ old ++ numbered text k (drop k program.sections.items)
+numbered_on text program k lt old new added =
+    let sections = program.sections.items in
+    let rest = numbered text (k + 1) (drop (k + 1) sections) in
+    let same : rest ≡ numbered text (k + 1) (drop (suc k) sections) = ap (λ (n : ℕ). numbered text (k + 1) (drop n sections)) (add-one k) in
+    ap (λ (t : List ℕ). t ++ rest) added ∙ append_assoc old (at_number text program k) rest
+    ∙ ap (λ (t : List ℕ). old ++ (at_number text program k ++ t)) same
+    ∙ ap (λ (t : List ℕ). old ++ t) (sym (numbered_at text sections k k lt))
+
+-- the section of a number, and what belongs to it
+module _ (program : Typed) (lists : List (List (List ℕ))) (k : ℕ) (listed : Listed) (is : IsListed program lists k listed) where
+  there : (text : ℕ → Section → List ℕ) → at_number text program k ≡ text k listed.section.now
+  there text = ap (λ (o : Option Section). option_map_or (text k) o []) is.section
+
+  printing : (b : Bool) → b ≡ prints listed.code.now.instructions.items → b ≡ is_printing lists k listed.section.now
+  printing b printed = printed ∙ ap prints (is.code ∙ ap (λ (ls : List (List ℕ)). section_code ls listed.section.now) is.own)
+
+  -- written with a prefix and a program that are these
+  module _ (prefix px : List ℕ) (p : Typed) (same_prefix : px ≡ prefix) (same_program : p ≡ program) where
+    pub prototype_is : (b : Bool) → b ≡ prints listed.code.now.instructions.items →
+        prototype_text px p listed.section.now b ++ codes ";\n" ≡ at_number (prototype_of prefix program lists) program k
+    unfolding prototype_of
+    prototype_is b printed =
+        let s = listed.section.now in
+        ap (λ (x : List ℕ). prototype_text x p s b ++ codes ";\n") same_prefix
+        ∙ ap (λ (q : Typed). prototype_text prefix q s b ++ codes ";\n") same_program
+        ∙ ap (λ (c : Bool). prototype_text prefix program s c ++ codes ";\n") (printing b printed)
+        ∙ sym (there (prototype_of prefix program lists))
+
+    pub section_is : section_text px p listed.section.now (lists_of listed) ≡ at_number (section_of prefix program lists) program k
+    unfolding section_of
+    section_is =
+        let s = listed.section.now in
+        ap (λ (x : List ℕ). section_text x p s (lists_of listed)) same_prefix
+        ∙ ap (λ (q : Typed). section_text prefix q s (lists_of listed)) same_program
+        ∙ ap (λ (ls : List (List ℕ)). section_text prefix program s ls) is.own
+        ∙ sym (there (section_of prefix program lists))
+
+    pub case_is : (b : Bool) → b ≡ prints listed.code.now.instructions.items →
+        case_text px p k listed.section.now b ≡ at_number (case_of prefix program lists) program k
+    unfolding case_of
+    case_is b printed =
+        let s = listed.section.now in
+        ap (λ (x : List ℕ). case_text x p k s b) same_prefix
+        ∙ ap (λ (q : Typed). case_text prefix q k s b) same_program
+        ∙ ap (λ (c : Bool). case_text prefix program k s c) (printing b printed)
+        ∙ sym (there (case_of prefix program lists))

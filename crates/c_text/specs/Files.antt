@@ -1,0 +1,74 @@
+-- The C text of a whole program: the header, which tells what another file can use, and the file, which begins with
+-- it.
+use Rattle.std.specs.Prelude.{ℕ, Bool, List, [], ◌∷◌, ◌++◌, codes}
+use Rattle.core_lang.specs.declared.tree.Section.{Section}
+use Rattle.core_lang.specs.declared.typed.Typed.{Typed}
+use Rattle.code.specs.Lowering.{section_code, lists_at}
+use Rattle.c_text.specs.Joined.{joined}
+use Rattle.c_sections.specs.Acquires.{numbered}
+use Rattle.c_sections.specs.Instructions.{prints}
+use Rattle.c_sections.specs.Sections.{prototype_text, section_text}
+use Rattle.c_text.specs.Fixed as fixed
+use Rattle.c_text.specs.Types.{types_text}
+use Rattle.c_text.specs.Openings.{openings_text}
+use Rattle.c_text.specs.Pools.{tests_text, objects_text}
+use Rattle.c_text.specs.Cells.{cells_text}
+use Rattle.c_text.specs.Mains.{scripts_text, case_text, call_start, call_end, run_all}
+
+-- whether the section of a number prints, by the lists of lock paths before its points
+abbrev pub is_printing : List (List (List ℕ)) → ℕ → Section → Bool
+is_printing lists k section = prints (section_code (lists_at lists k) section)
+
+-- the first lines of the header, which is read once, if it is included twice
+unfoldable pub head_text : List ℕ → List ℕ
+head_text prefix =
+    joined (codes "/* Sections with their locks placed, by autolock. */\n#ifndef " ∷ prefix ∷ codes "Header\n#define "
+    ∷ prefix
+    ∷ codes "Header\n" ∷ [])
+
+-- over the prefix, the program, and for each section the lists of lock paths before its points
+module _ (prefix : List ℕ) (program : Typed) (lists : List (List (List ℕ))) where
+  -- ---- what there is for the section of a number
+
+  unfoldable pub prototype_of : ℕ → Section → List ℕ
+  prototype_of k section = prototype_text prefix program section (is_printing lists k section) ++ codes ";\n"
+
+  unfoldable pub section_of : ℕ → Section → List ℕ
+  section_of k section = section_text prefix program section (lists_at lists k)
+
+  unfoldable pub case_of : ℕ → Section → List ℕ
+  case_of k section = case_text prefix program k section (is_printing lists k section)
+
+  abbrev pub prototypes_text : List ℕ
+  prototypes_text = numbered prototype_of 0 program.sections.items
+
+  abbrev pub sections_text : List ℕ
+  sections_text = numbered section_of 0 program.sections.items
+
+  abbrev pub cases_text : List ℕ
+  cases_text = numbered case_of 0 program.sections.items
+
+  -- ---- the header
+
+  unfoldable pub header_text : List ℕ
+  header_text =
+      head_text prefix ++ fixed.types_text ++ fixed.opened_text ++ types_text prefix program ++ prototypes_text
+      ++ fixed.closed_text
+
+  -- ---- the file
+
+  -- the functions
+  unfoldable pub functions_text : List ℕ
+  functions_text =
+      fixed.arithmetic_text ++ fixed.locking_text ++ tests_text prefix program ++ openings_text prefix program
+      ++ sections_text
+
+  -- the program that runs the threads
+  unfoldable pub main_text : List ℕ
+  main_text =
+      fixed.runs_text ++ objects_text prefix program ++ scripts_text prefix program.threads.items ++ call_start prefix
+      ++ cases_text
+      ++ call_end ++ cells_text prefix program ++ run_all prefix
+
+  unfoldable pub file_text : List ℕ
+  file_text = header_text ++ functions_text ++ main_text

@@ -1,0 +1,160 @@
+-- The parts of the C text that are the same in all programs, line by line.
+use Rattle.std.specs.Prelude.{ℕ, List, [], ◌∷◌, codes}
+use Rattle.std.specs.List.{flat_map}
+use Rattle.code.specs.Listing.{line}
+
+-- the types of all programs, and the words by which a lock is opened, closed, taken and given back. A reader
+-- checks that the words are those of POSIX threads, unless others were set before; that a result is a number of 64
+-- bits; and that there is room for 256 prints, as many as one run of a section can make
+unfoldable pub types_text : List ℕ
+types_text =
+    flat_map line
+    (codes "#include <stddef.h>"
+    ∷ codes "#include <stdint.h>"
+    ∷ codes "#ifndef AL_MUTEX                /* the kind of lock: replace all five together */"
+    ∷ codes "#include <pthread.h>"
+    ∷ codes "#define AL_MUTEX pthread_mutex_t"
+    ∷ codes "#define AL_MUTEX_OPEN(m) pthread_mutex_init((m), NULL)"
+    ∷ codes "#define AL_MUTEX_CLOSE(m) pthread_mutex_destroy(m)"
+    ∷ codes "#define AL_LOCK(m) pthread_mutex_lock(m)"
+    ∷ codes "#define AL_UNLOCK(m) pthread_mutex_unlock(m)"
+    ∷ codes "#endif"
+    ∷ codes "#ifndef AL_LINE                 /* each lock begins a cache line; 8 packs them */"
+    ∷ codes "#define AL_LINE 64"
+    ∷ codes "#endif"
+    ∷ codes "#ifndef AL_TYPES"
+    ∷ codes "#define AL_TYPES"
+    ∷ codes "#ifdef __cplusplus"
+    ∷ codes "#define AL_ALIGNED alignas(AL_LINE)"
+    ∷ codes "#else"
+    ∷ codes "#define AL_ALIGNED _Alignas(AL_LINE)"
+    ∷ codes "#endif"
+    ∷ codes "/* How a section ended: its trap, or 0; and its result. */"
+    ∷ codes "struct autolock_end { int trap; };"
+    ∷ codes "struct autolock_int { int trap; int64_t value; };"
+    ∷ codes "/* What a section printed. */"
+    ∷ codes "struct autolock_prints { int count; int64_t value[256]; };"
+    ∷ codes "struct autolock_history;"
+    ∷ codes "#endif"
+    ∷ [])
+
+-- C++ is told that the names are those of C
+unfoldable pub opened_text : List ℕ
+opened_text =
+    flat_map line
+    (codes "#ifdef __cplusplus"
+    ∷ codes "extern \"C\" {"
+    ∷ codes "#endif"
+    ∷ [])
+
+-- the end of that, and of the header
+unfoldable pub closed_text : List ℕ
+closed_text =
+    flat_map line
+    (codes "#ifdef __cplusplus"
+    ∷ codes "}"
+    ∷ codes "#endif"
+    ∷ codes "#endif"
+    ∷ [])
+
+-- sums, differences and products of 64 bits with a sign. A reader checks that each is 1 exactly where 64 bits do
+-- not hold the result, and else puts it at r, by the compiler's words and by tests that do not overflow; and that
+-- AL_TRAP sets `trap` and goes to `end`. The warnings that are turned off speak of tests that are always true, and
+-- of divisions behind a test of their divisor
+unfoldable pub arithmetic_text : List ℕ
+arithmetic_text =
+    flat_map line
+    (codes "#ifndef AL_HELPERS"
+    ∷ codes "#define AL_HELPERS"
+    ∷ codes "#ifdef __GNUC__"
+    ∷ codes "#pragma GCC diagnostic ignored \"-Wtautological-compare\""
+    ∷ codes "#pragma GCC diagnostic ignored \"-Wtype-limits\""
+    ∷ codes "#pragma GCC diagnostic ignored \"-Wdiv-by-zero\""
+    ∷ codes "#ifdef __clang__"
+    ∷ codes "#pragma GCC diagnostic ignored \"-Wself-assign\""
+    ∷ codes "#endif"
+    ∷ codes "#define AL_INLINE static inline __attribute__((unused))"
+    ∷ codes "#define AL_RARE(x) __builtin_expect(!!(x), 0)"
+    ∷ codes "#else"
+    ∷ codes "#define AL_INLINE static inline"
+    ∷ codes "#define AL_RARE(x) (x)"
+    ∷ codes "#endif"
+    ∷ codes "#define AL_TRAP(k) do { trap = (k); goto end; } while (0)"
+    ∷ codes "/* A sum, a difference and a product, by r; 1 where 64 bits do not hold it. */"
+    ∷ codes "#if defined(__GNUC__) && !defined(AL_PORTABLE)"
+    ∷ codes "AL_INLINE int autolock_add(int64_t a, int64_t b, int64_t *r) { return __builtin_add_overflow(a, b, r); }"
+    ∷ codes "AL_INLINE int autolock_sub(int64_t a, int64_t b, int64_t *r) { return __builtin_sub_overflow(a, b, r); }"
+    ∷ codes "AL_INLINE int autolock_mul(int64_t a, int64_t b, int64_t *r) { return __builtin_mul_overflow(a, b, r); }"
+    ∷ codes "#else"
+    ∷ codes "AL_INLINE int autolock_add(int64_t a, int64_t b, int64_t *r)"
+    ∷ codes "{"
+    ∷ codes "  if (b >= 0 ? a > INT64_MAX - b : a < INT64_MIN - b) return 1;"
+    ∷ codes "  *r = a + b;"
+    ∷ codes "  return 0;"
+    ∷ codes "}"
+    ∷ codes "AL_INLINE int autolock_sub(int64_t a, int64_t b, int64_t *r)"
+    ∷ codes "{"
+    ∷ codes "  if (b >= 0 ? a < INT64_MIN + b : a > INT64_MAX + b) return 1;"
+    ∷ codes "  *r = a - b;"
+    ∷ codes "  return 0;"
+    ∷ codes "}"
+    ∷ codes "AL_INLINE int autolock_mul(int64_t a, int64_t b, int64_t *r)"
+    ∷ codes "{"
+    ∷ codes "  if (a > 0 ? (b > 0 ? a > INT64_MAX / b : b < INT64_MIN / a)"
+    ∷ codes "            : (b > 0 ? a < INT64_MIN / b : a != 0 && b < INT64_MAX / a))"
+    ∷ codes "    return 1;"
+    ∷ codes "  *r = a * b;"
+    ∷ codes "  return 0;"
+    ∷ codes "}"
+    ∷ codes "#endif"
+    ∷ [])
+
+-- lists of locks, some of them NULL. A reader checks that AL_ORDER puts two in order of their addresses; that
+-- `autolock_drop` leaves of k locks none that is among the p held ones, and of equal ones the last; that
+-- `autolock_order` sorts, and `autolock_lock` takes each that is there
+unfoldable pub locking_text : List ℕ
+locking_text =
+    flat_map line
+    (codes "/* Puts the lesser address first. */"
+    ∷ codes "#define AL_ORDER(x, y) \\"
+    ∷ codes "  do { if ((uintptr_t)(y) < (uintptr_t)(x)) { AL_MUTEX *z_ = (x); (x) = (y); (y) = z_; } } while (0)"
+    ∷ codes "/* Of k locks, none is left that is among the p held ones, or that comes again. */"
+    ∷ codes "AL_INLINE void autolock_drop(AL_MUTEX **m, int k, AL_MUTEX *const *h, int p)"
+    ∷ codes "{"
+    ∷ codes "  int i, j;"
+    ∷ codes "  for (j = k - 1; j >= 0; j--) {"
+    ∷ codes "    for (i = 0; i < p; i++) if (m[j] == h[i]) m[j] = NULL;"
+    ∷ codes "    for (i = j + 1; i < k; i++) if (m[j] == m[i]) m[j] = NULL;"
+    ∷ codes "  }"
+    ∷ codes "}"
+    ∷ codes "AL_INLINE void autolock_order(AL_MUTEX **m, int k)"
+    ∷ codes "{"
+    ∷ codes "  int i, j;"
+    ∷ codes "  for (j = k - 2; j >= 0; j--)"
+    ∷ codes "    for (i = j; i <= k - 2; i++) AL_ORDER(m[i], m[i + 1]);"
+    ∷ codes "}"
+    ∷ codes "AL_INLINE void autolock_lock(AL_MUTEX **m, int k)"
+    ∷ codes "{"
+    ∷ codes "  int i;"
+    ∷ codes "  for (i = 0; i < k; i++) if (m[i] != NULL) AL_LOCK(m[i]);"
+    ∷ codes "}"
+    ∷ codes "#endif"
+    ∷ [])
+
+-- the start of a program that runs the threads. A reader checks that `autolock_write_prints` writes a line `print
+-- N` for each number
+unfoldable pub runs_text : List ℕ
+runs_text =
+    flat_map line
+    (codes "#ifdef AL_MAIN"
+    ∷ codes "#include <inttypes.h>"
+    ∷ codes "#include <pthread.h>"
+    ∷ codes "#include <stdio.h>"
+    ∷ codes "#include <string.h>"
+    ∷ codes "struct autolock_call { int section; int64_t a[8]; };"
+    ∷ codes "AL_INLINE void autolock_write_prints(FILE *f, const struct autolock_prints *out)"
+    ∷ codes "{"
+    ∷ codes "  int i;"
+    ∷ codes "  for (i = 0; i < out->count; i++) fprintf(f, \"print %\" PRId64 \"\\n\", out->value[i]);"
+    ∷ codes "}"
+    ∷ [])

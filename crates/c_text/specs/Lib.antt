@@ -1,0 +1,12 @@
+pub mod Joined
+pub mod Fixed
+pub mod Types
+pub mod Openings
+pub mod Pools
+pub mod Cells
+pub mod Mains
+pub mod Meanings
+pub mod Files
+pub mod Working
+-- what the public clauses cite
+pub use Rattle.c_text.specs.Files.{header_text, file_text}

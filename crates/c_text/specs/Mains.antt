@@ -1,0 +1,199 @@
+-- The program that runs the threads, which the C text has where AL_MAIN is defined. Run with the word `serial`, it
+-- makes the calls thread after thread and writes the history of them; else it makes those of each thread in a thread
+-- of its own, and writes the cells.
+use Rattle.std.specs.Prelude.{ℕ, ◌==◌, Bool, not, List, [], ◌∷◌, ◌++◌, codes, string_bytes, Option, Some, None}
+use Rattle.std.specs.List.{flat_map}
+use Rattle.std.specs.Fmt.{decimal}
+use Rattle.core_lang.specs.declared.tree.Local.{Local}
+use Rattle.core_lang.specs.declared.tree.Section.{Section}
+use Rattle.core_lang.specs.declared.typed.Call.{Call}
+use Rattle.core_lang.specs.declared.typed.Cell.{Cell}
+use Rattle.core_lang.specs.declared.typed.Thread.{Thread}
+use Rattle.core_lang.specs.declared.typed.Typed.{Typed}
+use Rattle.core_lang.specs.declared.value.Value.{Value}
+use Rattle.core_lang.specs.declared.value.Value.TheVariants.{Int, Ref}
+use Rattle.core_lang.specs.declared.value.ValueType.{ValueType}
+use Rattle.core_lang.specs.declared.value.ValueType.TheVariants.{Integer, Reference}
+use Rattle.locks.specs.Texts.{struct_name}
+use Rattle.report.specs.Pieces.{owner_text}
+use Rattle.c_text.specs.Joined.{joined}
+use Rattle.c_sections.specs.Acquires.{numbered}
+use Rattle.c_sections.specs.Instructions.{where_true}
+use Rattle.c_sections.specs.Names.{number_text}
+use Rattle.c_sections.specs.Sections.{parameters, result_struct}
+use Rattle.c_text.specs.Openings.{owner_place}
+use Rattle.c_text.specs.Pools.{state_pointer}
+
+-- ---- the threads' calls
+
+-- an argument: a number, or the number of an object, or -1 for null
+abbrev pub argument_text : Value → List ℕ
+argument_text (Int n) = number_text n
+argument_text (Ref None) = codes "-1"
+argument_text (Ref (Some object)) = decimal object
+
+-- C has no empty list of values
+abbrev pub arguments_text : List Value → List ℕ
+arguments_text [] = codes "0"
+arguments_text (value ∷ values) = argument_text value ++ flat_map (λ v. codes ", " ++ argument_text v) values
+
+unfoldable pub call_text : Call → List ℕ
+call_text call =
+    (codes "  { " ++ decimal call.section ++ codes ", { ") ++ arguments_text call.arguments.items ++ codes " } },\n"
+
+abbrev pub calls_text : List Call → List ℕ
+calls_text calls = flat_map call_text calls
+
+-- the calls of the thread of this number; a last one of section -1 ends them
+unfoldable pub script_text : List ℕ → ℕ → Thread → List ℕ
+script_text prefix k thread =
+    joined (codes "static const struct autolock_call " ∷ prefix ∷ codes "Script_" ∷ decimal k ∷ codes "[] = {\n" ∷ [])
+    ++ calls_text thread.calls.items ++ codes "  { -1, { 0 } }\n};\n"
+
+unfoldable pub script_name : List ℕ → ℕ → Thread → List ℕ
+script_name prefix k thread = joined (codes "  " ∷ prefix ∷ codes "Script_" ∷ decimal k ∷ codes ",\n" ∷ [])
+
+abbrev pub all_scripts : List ℕ → List Thread → List ℕ
+all_scripts prefix threads = numbered (script_text prefix) 0 threads
+
+abbrev pub script_names : List ℕ → List Thread → List ℕ
+script_names prefix threads = numbered (script_name prefix) 0 threads
+
+unfoldable pub scripts_text : List ℕ → List Thread → List ℕ
+scripts_text prefix threads =
+    all_scripts prefix threads ++ (codes "static const struct autolock_call *const " ++ prefix
+    ++ codes "Scripts[] = {\n")
+    ++ script_names prefix threads ++ codes "  NULL\n};\n"
+
+-- ---- a call, and its lines in the history
+
+-- a comma is ahead of each argument but the first
+unfoldable pub comma_text : ℕ → List ℕ
+comma_text j = where_true (not (j == 0)) (codes "    fputs(\", \", f);\n")
+
+-- where the section prints
+unfoldable pub prints_declared : Bool → List ℕ
+prints_declared prints = where_true prints (codes "    struct autolock_prints out;\n")
+
+unfoldable pub prints_passed : Bool → List ℕ
+prints_passed prints = where_true prints (codes ", &out")
+
+unfoldable pub prints_written : Bool → List ℕ
+prints_written prints = where_true prints (codes "    autolock_write_prints(f, &out);\n")
+
+module _ (prefix : List ℕ) (program : Typed) where
+  -- an argument, by its number and its type
+  abbrev pub passed_text : ℕ → ValueType → List ℕ
+  passed_text j Integer = codes "a[" ++ decimal j ++ codes "]"
+  passed_text j (Reference s) =
+      (prefix ++ codes "At_") ++ struct_name program s ++ (codes "(s, a[" ++ decimal j ++ codes "])")
+
+  abbrev pub passed_next : ℕ → Local → List ℕ
+  passed_next j local = codes ", " ++ passed_text j local.value_type
+
+  abbrev pub all_passed : List Local → List ℕ
+  all_passed locals = numbered passed_next 0 locals
+
+  -- what writes an object of a struct
+  unfoldable pub writer_text : ℕ → List ℕ
+  writer_text s = (prefix ++ codes "Write_") ++ struct_name program s ++ codes "(f, s, "
+
+  -- what writes an argument
+  unfoldable pub written_reference : ℕ → ℕ → List ℕ
+  written_reference j s = codes "    " ++ writer_text s ++ passed_text j (Reference s) ++ codes ");\n"
+
+  unfoldable pub written_text : ℕ → ValueType → List ℕ
+  written_text j Integer = codes "    fprintf(f, \"%\" PRId64, a[" ++ decimal j ++ codes "]);\n"
+  written_text j (Reference s) = written_reference j s
+
+  abbrev pub written_next : ℕ → Local → List ℕ
+  written_next j local = comma_text j ++ written_text j local.value_type
+
+  abbrev pub all_written : List Local → List ℕ
+  all_written locals = numbered written_next 0 locals
+
+  -- how the call ended, where no trap cut it short
+  unfoldable pub reference_ending : ℕ → List ℕ
+  reference_ending s =
+      codes "    else {\n      fputs(\") returns \", f);\n      " ++ writer_text s
+      ++ codes "r.value);\n      fputs(\"\\n\", f);\n    }\n"
+
+  unfoldable pub ending_text : Option ValueType → List ℕ
+  ending_text None = codes "    else fputs(\") ends\\n\", f);\n"
+  ending_text (Some Integer) = codes "    else fprintf(f, \") returns %\" PRId64 \"\\n\", r.value);\n"
+  ending_text (Some (Reference s)) = reference_ending s
+
+  -- the call of a section, which prints or not
+  unfoldable pub made_text : Section → Bool → List ℕ
+  made_text section prints =
+      prints_declared prints ++ codes "    struct " ++ result_struct prefix program section.result_type
+      ++ joined (codes " r = " ∷ prefix ∷ codes "_" ∷ string_bytes section.name ∷ codes "(s" ∷ [])
+      ++ all_passed (parameters section)
+      ++ prints_passed prints ++ codes ");\n"
+
+  -- what is written of it
+  unfoldable pub told_text : Section → Bool → List ℕ
+  told_text section prints =
+      (codes "    fprintf(f, \"call %d %\" PRId64 \" " ++ string_bytes section.name ++ codes "(\", t, k);\n")
+      ++ all_written (parameters section) ++ codes "    if (r.trap != 0) fprintf(f, \") traps %d\\n\", r.trap);\n"
+      ++ ending_text section.result_type ++ prints_written prints
+
+  unfoldable pub case_text : ℕ → Section → Bool → List ℕ
+  case_text k section prints =
+      (codes "  case " ++ decimal k ++ codes ": {\n") ++ made_text section prints
+      ++ codes "    if (f == NULL) break;\n"
+      ++ told_text section prints ++ codes "    break;\n  }\n"
+
+-- ---- what is around the cases of a call
+
+unfoldable pub call_start : List ℕ → List ℕ
+call_start prefix =
+    (codes "static void " ++ prefix ++ codes "Call(FILE *f, ") ++ state_pointer prefix
+    ++ codes ", int t, int64_t k, const struct autolock_call *c)\n{\n"
+    ++ codes "  const int64_t *a = c->a;\n  (void)f;\n  (void)s;\n  (void)t;\n"
+    ++ codes "  (void)k;\n  (void)a;\n  switch (c->section) {\n"
+
+unfoldable pub call_end : List ℕ
+call_end = codes "  default:\n    break;\n  }\n}\n"
+
+-- ---- the run
+
+-- a thread: the calls of its script. A reader checks that it begins at the start of the script and stops at section
+-- -1
+unfoldable pub run_text : List ℕ → List ℕ
+run_text prefix =
+    joined (codes "static struct " ∷ prefix ∷ codes "State " ∷ prefix ∷ codes "Main;\nstatic void *" ∷ prefix
+    ∷ codes "Run(void *start)\n{\n  const struct autolock_call *c = *(const struct autolock_call **)start;\n"
+    ∷ codes "  for (; c->section >= 0; c++) "
+    ∷ prefix ∷ codes "Call(NULL, &" ∷ prefix ∷ codes "Main, 0, 0, c);\n  return NULL;\n}\n" ∷ [])
+
+-- the calls of all scripts, thread after thread, each written with its thread and its number there
+unfoldable pub serial_text : List ℕ → List ℕ
+serial_text prefix =
+    joined (codes "static void " ∷ prefix
+    ∷ codes "Serial(FILE *f)\n{\n  int t;\n  int64_t k;\n  fputs(\"history 1\\n\", f);\n  for (t = 0; " ∷ prefix
+    ∷ codes "Scripts[t] != NULL; t++)\n" ∷ [])
+    ++ joined (codes "    for (k = 0; " ∷ prefix ∷ codes "Scripts[t][k].section >= 0; k++)\n      " ∷ prefix
+    ∷ codes "Call(f, &" ∷ prefix ∷ codes "Main, t, k, &" ∷ prefix ∷ codes "Scripts[t][k]);\n}\n" ∷ [])
+
+-- the run: the state is opened first; by the word `serial` the calls are made here
+unfoldable pub start_text : List ℕ → List ℕ
+start_text prefix =
+    joined (codes "int main(int argc, char **argv)\n{\n  static const struct autolock_call *starts[64];\n"
+    ∷ codes "  static pthread_t threads[64];\n  int t;\n  "
+    ∷ prefix ∷ codes "Open(&" ∷ prefix ∷ codes "Main);\n  if (argc > 1 && strcmp(argv[1], \"serial\") == 0) {\n    "
+    ∷ prefix ∷ codes "Serial(stdout);\n  } else {\n" ∷ [])
+
+-- else a thread is started for each script, and all are joined. At the end the cells are written, and the state is
+-- closed
+unfoldable pub threads_text : List ℕ → List ℕ
+threads_text prefix =
+    joined (codes "    for (t = 0; " ∷ prefix ∷ codes "Scripts[t] != NULL; t++) {\n      starts[t] = " ∷ prefix
+    ∷ codes "Scripts[t];\n      if (pthread_create(&threads[t], NULL, " ∷ prefix
+    ∷ codes "Run, &starts[t]) != 0) return 4;\n    }\n    while (t > 0) pthread_join(threads[--t], NULL);\n  }\n"
+    ∷ [])
+    ++ joined (codes "  " ∷ prefix ∷ codes "Cells(stdout, &" ∷ prefix ∷ codes "Main);\n  " ∷ prefix ∷ codes "Close(&"
+    ∷ prefix ∷ codes "Main);\n  return 0;\n}\n#endif\n" ∷ [])
+
+unfoldable pub run_all : List ℕ → List ℕ
+run_all prefix = run_text prefix ++ serial_text prefix ++ start_text prefix ++ threads_text prefix

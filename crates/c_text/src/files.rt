@@ -1,0 +1,298 @@
+//! The C text of a whole program.
+
+ghost use Rattle.std.specs.Prelude.{◌≡◌, ◌<◌, OnOk, IfOk, length, string_bytes};
+ghost use Rattle.locks.specs.Texts.{AddsText};
+ghost use Rattle.c_text.specs.Fixed as fixed;
+ghost use Rattle.c_text.specs.Files as text;
+ghost use Rattle.c_text.specs.Cells as cells;
+ghost use Rattle.c_text.specs.Mains as mains;
+ghost use Rattle.c_text.specs.Openings as openings;
+ghost use Rattle.c_text.specs.Pools as pools;
+ghost use Rattle.c_text.specs.Types as types;
+
+use crate::fixed::{
+    push_arithmetic, push_closed, push_locking, push_opened, push_runs,
+    push_types as push_fixed_types,
+};
+use crate::mains::push_call_end;
+use crate::writer::FileWriter;
+use c_sections::names::Writer;
+use c_sections::sections::prints;
+use code::Listed;
+use lowering::compiled::Program;
+use source::memory::NoMemory;
+use std::alloc::{AllocError, Global};
+
+/// A program whose text is written, and the prefix of its names.
+#[derive(Clone, Copy)]
+struct FileText<'a> {
+    program: &'a Program,
+    prefix: &'a str,
+}
+
+impl<'a> FileText<'a> {
+    ghost use Rattle.c_text.specs.Working.Sections.{at_number, IsListed};
+
+    // How many sections there are.
+    fn count(&self) -> usize
+        ensures { result ≡ length self.now.program.now.program.sections.items }
+    {
+        self.program.expanded().sections.len()
+    }
+
+    // The section of this number, with its code, its lists of lock paths and its lock paths.
+    fn listed(&self, number: usize) -> Listed<'a>
+        requires { number < length self.now.program.now.program.sections.items }
+        ensures { IsListed self.now.program.now.program self.now.program.now.lists number result }
+    {
+        Listed {
+            section: &self.program.expanded().sections[number],
+            code: &self.program.code().sections[number],
+            lists: self.program.lists_before(number),
+            paths: &self.program.paths().sections[number].paths,
+        }
+    }
+
+    // What writes its parts.
+    fn writer(&self) -> FileWriter<'a>
+        ensures program { result.names.program.now ≡ self.now.program.now.program }
+        ensures prefix { result.names.prefix.now ≡ self.now.prefix.now }
+    {
+        FileWriter {
+            names: Writer {
+                program: self.program.expanded(),
+                prefix: self.prefix,
+            },
+        }
+    }
+
+    // The prototype of the section of this number.
+    fn push_prototype(&self, out: &mut String, number: usize) -> Result<(), AllocError>
+        requires { number < length self.now.program.now.program.sections.items }
+        ensures { OnOk result (AddsText (at_number
+            (text.prototype_of self.now.prefix.now self.now.program.now.program self.now.program.now.lists)
+            self.now.program.now.program number) out.old out.new) }
+    {
+        let listed = self.listed(number);
+        let printing = prints(&listed.code.instructions);
+        self.writer()
+            .names
+            .push_prototype(out, listed.section, printing)?;
+        out.push_str(";\n")
+    }
+
+    // The section of this number.
+    fn push_section(&self, alloc: Global, out: &mut String, number: usize) -> Result<(), NoMemory>
+        requires { number < length self.now.program.now.program.sections.items }
+        ensures { OnOk result (AddsText (at_number
+            (text.section_of self.now.prefix.now self.now.program.now.program self.now.program.now.lists)
+            self.now.program.now.program number) out.old out.new) }
+    {
+        self.writer()
+            .names
+            .push_section(alloc, out, self.listed(number))
+    }
+
+    // The call of the section of this number.
+    fn push_case(&self, out: &mut String, number: usize) -> Result<(), AllocError>
+        requires { number < length self.now.program.now.program.sections.items }
+        ensures { OnOk result (AddsText (at_number
+            (text.case_of self.now.prefix.now self.now.program.now.program self.now.program.now.lists)
+            self.now.program.now.program number) out.old out.new) }
+    {
+        let listed = self.listed(number);
+        let printing = prints(&listed.code.instructions);
+        self.writer()
+            .push_case(out, number, listed.section, printing)
+    }
+
+    // The prototypes of all sections.
+    fn push_prototypes(&self, out: &mut String) -> Result<(), AllocError>
+        ensures { OnOk result (AddsText
+            (text.prototypes_text self.now.prefix.now self.now.program.now.program self.now.program.now.lists)
+            out.old out.new) }
+    {
+        for number in 0..self.count() {
+            self.push_prototype(out, number)?;
+        }
+        Ok(())
+    }
+
+    // All sections.
+    fn push_sections(&self, alloc: Global, out: &mut String) -> Result<(), NoMemory>
+        ensures { OnOk result (AddsText
+            (text.sections_text self.now.prefix.now self.now.program.now.program self.now.program.now.lists)
+            out.old out.new) }
+    {
+        for number in 0..self.count() {
+            self.push_section(alloc, out, number)?;
+        }
+        Ok(())
+    }
+
+    // The calls of all sections.
+    fn push_cases(&self, out: &mut String) -> Result<(), AllocError>
+        ensures { OnOk result (AddsText
+            (text.cases_text self.now.prefix.now self.now.program.now.program self.now.program.now.lists)
+            out.old out.new) }
+    {
+        for number in 0..self.count() {
+            self.push_case(out, number)?;
+        }
+        Ok(())
+    }
+
+    // The first lines.
+    #[tactic(auto, unfolding(crate::specs::Files::head_text))]
+    fn push_head(&self, out: &mut String) -> Result<(), AllocError>
+        ensures { OnOk result (AddsText (text.head_text self.now.prefix.now) out.old out.new) }
+    {
+        let prefix = self.prefix;
+        write!(
+            out,
+            "/* Sections with their locks placed, by autolock. */\n#ifndef {prefix}Header\n#define {prefix}Header\n"
+        )
+    }
+
+    // All types.
+    fn push_types(&self, out: &mut String) -> Result<(), AllocError>
+        ensures { OnOk result (AddsText
+            (types.types_text self.now.prefix.now self.now.program.now.program) out.old out.new) }
+    {
+        self.writer().push_types(out)
+    }
+
+    // The tests of pointers.
+    fn push_pointer_tests(&self, out: &mut String) -> Result<(), AllocError>
+        ensures { OnOk result (AddsText
+            (pools.tests_text self.now.prefix.now self.now.program.now.program) out.old out.new) }
+    {
+        self.writer().push_pointer_tests(out)
+    }
+
+    // How the state is opened and closed.
+    fn push_openings(&self, out: &mut String) -> Result<(), AllocError>
+        ensures { OnOk result (AddsText
+            (openings.openings_text self.now.prefix.now self.now.program.now.program) out.old out.new) }
+    {
+        self.writer().push_openings(out)
+    }
+
+    // What finds and writes objects.
+    fn push_objects(&self, out: &mut String) -> Result<(), AllocError>
+        ensures { OnOk result (AddsText
+            (pools.objects_text self.now.prefix.now self.now.program.now.program) out.old out.new) }
+    {
+        self.writer().push_objects(out)
+    }
+
+    // The calls of all threads.
+    fn push_scripts(&self, out: &mut String) -> Result<(), AllocError>
+        ensures { OnOk result (AddsText
+            (mains.scripts_text self.now.prefix.now self.now.program.now.program.threads.items) out.old out.new) }
+    {
+        self.writer().push_scripts(out)
+    }
+
+    // What stands ahead of the calls of sections.
+    fn push_call_start(&self, out: &mut String) -> Result<(), AllocError>
+        ensures { OnOk result (AddsText (mains.call_start self.now.prefix.now) out.old out.new) }
+    {
+        self.writer().push_call_start(out)
+    }
+
+    // What writes the cells.
+    fn push_cells(&self, out: &mut String) -> Result<(), AllocError>
+        ensures { OnOk result (AddsText
+            (cells.cells_text self.now.prefix.now self.now.program.now.program) out.old out.new) }
+    {
+        self.writer().push_cells(out)
+    }
+
+    // The run.
+    fn push_run(&self, out: &mut String) -> Result<(), AllocError>
+        ensures { OnOk result (AddsText (mains.run_all self.now.prefix.now) out.old out.new) }
+    {
+        self.writer().push_run_all(out)
+    }
+
+    // The header.
+    #[tactic(auto, unfolding(crate::specs::Files::header_text))]
+    fn push_header(&self, out: &mut String) -> Result<(), AllocError>
+        ensures { OnOk result (AddsText
+            (text.header_text self.now.prefix.now self.now.program.now.program self.now.program.now.lists)
+            out.old out.new) }
+    {
+        self.push_head(out)?;
+        push_fixed_types(out)?;
+        push_opened(out)?;
+        self.push_types(out)?;
+        self.push_prototypes(out)?;
+        push_closed(out)
+    }
+
+    // The functions.
+    #[tactic(auto, unfolding(crate::specs::Files::functions_text))]
+    fn push_functions(&self, alloc: Global, out: &mut String) -> Result<(), NoMemory>
+        ensures { OnOk result (AddsText
+            (text.functions_text self.now.prefix.now self.now.program.now.program self.now.program.now.lists)
+            out.old out.new) }
+    {
+        push_arithmetic(out)?;
+        push_locking(out)?;
+        self.push_pointer_tests(out)?;
+        self.push_openings(out)?;
+        self.push_sections(alloc, out)
+    }
+
+    // The program that runs the threads.
+    #[tactic(auto, unfolding(crate::specs::Files::main_text))]
+    fn push_main(&self, out: &mut String) -> Result<(), AllocError>
+        ensures { OnOk result (AddsText
+            (text.main_text self.now.prefix.now self.now.program.now.program self.now.program.now.lists)
+            out.old out.new) }
+    {
+        push_runs(out)?;
+        self.push_objects(out)?;
+        self.push_scripts(out)?;
+        self.push_call_start(out)?;
+        self.push_cases(out)?;
+        push_call_end(out)?;
+        self.push_cells(out)?;
+        self.push_run(out)
+    }
+}
+
+/// What another C or C++ file can use of a program: its types, the functions that open and close the state, and the
+/// prototypes of its sections. Each name begins with the prefix, a word of letters and digits.
+///
+/// # Errors
+///
+/// Want of memory.
+pub fn header(alloc: Global, program: &Program, prefix: &str) -> Result<String, NoMemory>
+    ensures { IfOk result (λ made. string_bytes made
+        ≡ text.header_text prefix.now program.now.program program.now.lists) }
+{
+    let mut out = String::new(alloc);
+    FileText { program, prefix }.push_header(&mut out)?;
+    Ok(out)
+}
+
+/// The C file of a program, which begins with the header: all functions, and a program that runs the threads, which is
+/// there where AL_MAIN is defined.
+///
+/// # Errors
+///
+/// Want of memory.
+#[tactic(auto, unfolding(crate::specs::Files::file_text))]
+pub fn file(alloc: Global, program: &Program, prefix: &str) -> Result<String, NoMemory>
+    ensures { IfOk result (λ made. string_bytes made
+        ≡ text.file_text prefix.now program.now.program program.now.lists) }
+{
+    let mut out = String::new(alloc);
+    let file = FileText { program, prefix };
+    file.push_header(&mut out)?;
+    file.push_functions(alloc, &mut out)?;
+    file.push_main(&mut out)?;
+    Ok(out)
+}

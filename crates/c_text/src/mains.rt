@@ -1,0 +1,544 @@
+//! The program that runs the threads. The one error is a refused growth.
+
+ghost use Rattle.std.specs.Prelude.{◌≡◌, OnOk};
+ghost use Rattle.locks.specs.Texts.{AddsText};
+ghost use Rattle.c_text.specs.Mains as text;
+ghost use Rattle.c_sections.specs.Sections as sections;
+
+use crate::writer::FileWriter;
+use c_sections::names::{push_number, push_struct};
+use core_lang::tree::{Local, Section};
+use core_lang::typed::{Call, Thread};
+use core_lang::value::{Value, ValueType};
+use std::alloc::AllocError;
+
+/// An argument: a number, or the number of an object, or -1 for null.
+fn push_argument(out: &mut String, value: Value) -> Result<(), AllocError>
+    ensures { OnOk result (AddsText (text.argument_text value) out.old out.new) }
+{
+    match value {
+        Value::Int(number) => push_number(out, number),
+        Value::Ref(None) => out.push_str("-1"),
+        Value::Ref(Some(object)) => write!(out, "{object}"),
+    }
+}
+
+/// The arguments of a call, with a comma and a space between; 0 where there is none.
+fn push_arguments(out: &mut String, values: &[Value]) -> Result<(), AllocError>
+    ensures { OnOk result (AddsText (text.arguments_text values.now) out.old out.new) }
+{
+    let Some((first, rest)) = values.split_first() else {
+        return out.push_str("0");
+    };
+    push_argument(out, *first)?;
+    for value in rest {
+        out.push_str(", ")?;
+        push_argument(out, *value)?;
+    }
+    Ok(())
+}
+
+/// Those of this call.
+fn push_arguments_of(out: &mut String, call: &Call) -> Result<(), AllocError>
+    ensures { OnOk result (AddsText (text.arguments_text call.now.arguments.items) out.old out.new) }
+{
+    push_arguments(out, &call.arguments)
+}
+
+/// A call.
+fn push_call(out: &mut String, call: &Call) -> Result<(), AllocError>
+    ensures { OnOk result (AddsText (text.call_text call.now) out.old out.new) }
+{
+    write!(out, "  {{ {}, {{ ", call.section)?;
+    push_arguments_of(out, call)?;
+    out.push_str(" } },\n")
+}
+
+/// The calls of a thread.
+fn push_calls(out: &mut String, thread: &Thread) -> Result<(), AllocError>
+    ensures { OnOk result (AddsText (text.calls_text thread.now.calls.items) out.old out.new) }
+{
+    for call in &thread.calls {
+        push_call(out, call)?;
+    }
+    Ok(())
+}
+
+/// A comma, ahead of each argument but the first.
+#[tactic(auto, unfolding(crate::specs::Mains::comma_text))]
+fn push_comma(out: &mut String, number: usize) -> Result<(), AllocError>
+    ensures { OnOk result (AddsText (text.comma_text number) out.old out.new) }
+{
+    if number == 0 {
+        return Ok(());
+    }
+    out.push_str("    fputs(\", \", f);\n")
+}
+
+/// What the section prints goes here, if it prints.
+#[tactic(auto, unfolding(crate::specs::Mains::prints_declared))]
+fn push_prints_declared(out: &mut String, prints: bool) -> Result<(), AllocError>
+    ensures { OnOk result (AddsText (text.prints_declared prints) out.old out.new) }
+{
+    if prints {
+        return out.push_str("    struct autolock_prints out;\n");
+    }
+    Ok(())
+}
+
+/// The section is told where.
+#[tactic(auto, unfolding(crate::specs::Mains::prints_passed))]
+fn push_prints_passed(out: &mut String, prints: bool) -> Result<(), AllocError>
+    ensures { OnOk result (AddsText (text.prints_passed prints) out.old out.new) }
+{
+    if prints {
+        return out.push_str(", &out");
+    }
+    Ok(())
+}
+
+/// What it printed is written.
+#[tactic(auto, unfolding(crate::specs::Mains::prints_written))]
+fn push_prints_written(out: &mut String, prints: bool) -> Result<(), AllocError>
+    ensures { OnOk result (AddsText (text.prints_written prints) out.old out.new) }
+{
+    if prints {
+        return out.push_str("    autolock_write_prints(f, &out);\n");
+    }
+    Ok(())
+}
+
+/// The parameters of a section.
+fn parameters(section: &Section) -> &[Local]
+    ensures { result.now ≡ sections.parameters section.now }
+{
+    let locals = section.locals.as_slice();
+    &locals[..section.parameters.min(locals.len())]
+}
+
+/// The end of the function that makes a call.
+#[tactic(auto, unfolding(crate::specs::Mains::call_end))]
+pub fn push_call_end(out: &mut String) -> Result<(), AllocError>
+    ensures { OnOk result (AddsText text.call_end out.old out.new) }
+{
+    out.push_str("  default:\n    break;\n  }\n}\n")
+}
+
+impl FileWriter<'_> {
+    // The calls of the thread of this number.
+    fn push_script(
+        &self,
+        out: &mut String,
+        number: usize,
+        thread: &Thread,
+    ) -> Result<(), AllocError>
+        ensures { OnOk result (AddsText
+            (text.script_text self.now.names.prefix.now number thread.now) out.old out.new) }
+    {
+        write!(
+            out,
+            "static const struct autolock_call {}Script_{number}[] = {{\n",
+            self.names.prefix
+        )?;
+        push_calls(out, thread)?;
+        out.push_str("  { -1, { 0 } }\n};\n")
+    }
+
+    // Its name.
+    #[tactic(auto, unfolding(crate::specs::Mains::script_name))]
+    fn push_script_name(
+        &self,
+        out: &mut String,
+        number: usize,
+        thread: &Thread,
+    ) -> Result<(), AllocError>
+        ensures { OnOk result (AddsText
+            (text.script_name self.now.names.prefix.now number thread.now) out.old out.new) }
+    {
+        let _thread = thread;
+        write!(out, "  {}Script_{number},\n", self.names.prefix)
+    }
+
+    // The calls of all threads.
+    fn push_all_scripts(&self, out: &mut String) -> Result<(), AllocError>
+        ensures { OnOk result (AddsText
+            (text.all_scripts self.now.names.prefix.now self.now.names.program.now.threads.items) out.old out.new) }
+    {
+        for (number, thread) in self.names.program.threads.iter().enumerate() {
+            self.push_script(out, number, thread)?;
+        }
+        Ok(())
+    }
+
+    // Their names.
+    fn push_script_names(&self, out: &mut String) -> Result<(), AllocError>
+        ensures { OnOk result (AddsText
+            (text.script_names self.now.names.prefix.now self.now.names.program.now.threads.items) out.old out.new) }
+    {
+        for (number, thread) in self.names.program.threads.iter().enumerate() {
+            self.push_script_name(out, number, thread)?;
+        }
+        Ok(())
+    }
+
+    /// The calls of all threads, and the list of them. The one error is a refused growth.
+    pub fn push_scripts(&self, out: &mut String) -> Result<(), AllocError>
+        ensures { OnOk result (AddsText
+            (text.scripts_text self.now.names.prefix.now self.now.names.program.now.threads.items) out.old out.new) }
+    {
+        self.push_all_scripts(out)?;
+        write!(
+            out,
+            "static const struct autolock_call *const {}Scripts[] = {{\n",
+            self.names.prefix
+        )?;
+        self.push_script_names(out)?;
+        out.push_str("  NULL\n};\n")
+    }
+
+    // An argument, by its number and its type.
+    fn push_passed(
+        &self,
+        out: &mut String,
+        number: usize,
+        value_type: ValueType,
+    ) -> Result<(), AllocError>
+        ensures { OnOk result (AddsText
+            (text.passed_text self.now.names.prefix.now self.now.names.program.now number value_type)
+            out.old out.new) }
+    {
+        match value_type {
+            ValueType::Integer => write!(out, "a[{number}]"),
+            ValueType::Reference(structure) => {
+                write!(out, "{}At_", self.names.prefix)?;
+                push_struct(out, self.names.program, structure)?;
+                write!(out, "(s, a[{number}])")
+            }
+        }
+    }
+
+    // An argument behind others.
+    fn push_passed_next(
+        &self,
+        out: &mut String,
+        number: usize,
+        local: &Local,
+    ) -> Result<(), AllocError>
+        ensures { OnOk result (AddsText
+            (text.passed_next self.now.names.prefix.now self.now.names.program.now number local.now)
+            out.old out.new) }
+    {
+        out.push_str(", ")?;
+        self.push_passed(out, number, local.value_type)
+    }
+
+    // The arguments of these parameters.
+    fn push_each_passed(&self, out: &mut String, locals: &[Local]) -> Result<(), AllocError>
+        ensures { OnOk result (AddsText
+            (text.all_passed self.now.names.prefix.now self.now.names.program.now locals.now) out.old out.new) }
+    {
+        for (number, local) in locals.iter().enumerate() {
+            self.push_passed_next(out, number, local)?;
+        }
+        Ok(())
+    }
+
+    // All arguments of a section.
+    fn push_all_passed(&self, out: &mut String, section: &Section) -> Result<(), AllocError>
+        ensures { OnOk result (AddsText
+            (text.all_passed self.now.names.prefix.now self.now.names.program.now (sections.parameters section.now))
+            out.old out.new) }
+    {
+        self.push_each_passed(out, parameters(section))
+    }
+
+    // The word that writes an object of a struct.
+    fn push_writer(&self, out: &mut String, structure: usize) -> Result<(), AllocError>
+        ensures { OnOk result (AddsText
+            (text.writer_text self.now.names.prefix.now self.now.names.program.now structure) out.old out.new) }
+    {
+        write!(out, "{}Write_", self.names.prefix)?;
+        push_struct(out, self.names.program, structure)?;
+        out.push_str("(f, s, ")
+    }
+
+    // What writes an argument that is a reference.
+    fn push_written_reference(
+        &self,
+        out: &mut String,
+        number: usize,
+        structure: usize,
+    ) -> Result<(), AllocError>
+        ensures { OnOk result (AddsText
+            (text.written_reference self.now.names.prefix.now self.now.names.program.now number structure)
+            out.old out.new) }
+    {
+        out.push_str("    ")?;
+        self.push_writer(out, structure)?;
+        self.push_passed(out, number, ValueType::Reference(structure))?;
+        out.push_str(");\n")
+    }
+
+    // What writes an argument.
+    #[tactic(auto, unfolding(crate::specs::Mains::written_text))]
+    fn push_written(
+        &self,
+        out: &mut String,
+        number: usize,
+        value_type: ValueType,
+    ) -> Result<(), AllocError>
+        ensures { OnOk result (AddsText
+            (text.written_text self.now.names.prefix.now self.now.names.program.now number value_type)
+            out.old out.new) }
+    {
+        match value_type {
+            ValueType::Integer => write!(out, "    fprintf(f, \"%\" PRId64, a[{number}]);\n"),
+            ValueType::Reference(structure) => self.push_written_reference(out, number, structure),
+        }
+    }
+
+    // The same, behind a comma.
+    fn push_written_next(
+        &self,
+        out: &mut String,
+        number: usize,
+        local: &Local,
+    ) -> Result<(), AllocError>
+        ensures { OnOk result (AddsText
+            (text.written_next self.now.names.prefix.now self.now.names.program.now number local.now)
+            out.old out.new) }
+    {
+        push_comma(out, number)?;
+        self.push_written(out, number, local.value_type)
+    }
+
+    // What writes those.
+    fn push_each_written(&self, out: &mut String, locals: &[Local]) -> Result<(), AllocError>
+        ensures { OnOk result (AddsText
+            (text.all_written self.now.names.prefix.now self.now.names.program.now locals.now) out.old out.new) }
+    {
+        for (number, local) in locals.iter().enumerate() {
+            self.push_written_next(out, number, local)?;
+        }
+        Ok(())
+    }
+
+    // What writes all arguments of a section.
+    fn push_all_written(&self, out: &mut String, section: &Section) -> Result<(), AllocError>
+        ensures { OnOk result (AddsText
+            (text.all_written self.now.names.prefix.now self.now.names.program.now (sections.parameters section.now))
+            out.old out.new) }
+    {
+        self.push_each_written(out, parameters(section))
+    }
+
+    // How a call with a reference as its result ended.
+    fn push_reference_ending(&self, out: &mut String, structure: usize) -> Result<(), AllocError>
+        ensures { OnOk result (AddsText
+            (text.reference_ending self.now.names.prefix.now self.now.names.program.now structure) out.old out.new) }
+    {
+        out.push_str("    else {\n      fputs(\") returns \", f);\n      ")?;
+        self.push_writer(out, structure)?;
+        out.push_str("r.value);\n      fputs(\"\\n\", f);\n    }\n")
+    }
+
+    // How a call ended, where no trap cut it short.
+    #[tactic(auto, unfolding(crate::specs::Mains::ending_text))]
+    fn push_ending(
+        &self,
+        out: &mut String,
+        result_type: Option<ValueType>,
+    ) -> Result<(), AllocError>
+        ensures { OnOk result (AddsText
+            (text.ending_text self.now.names.prefix.now self.now.names.program.now result_type) out.old out.new) }
+    {
+        match result_type {
+            None => out.push_str("    else fputs(\") ends\\n\", f);\n"),
+            Some(ValueType::Integer) => {
+                out.push_str("    else fprintf(f, \") returns %\" PRId64 \"\\n\", r.value);\n")
+            }
+            Some(ValueType::Reference(structure)) => self.push_reference_ending(out, structure),
+        }
+    }
+
+    // The struct of what a section gives back.
+    fn push_result_struct(
+        &self,
+        out: &mut String,
+        result_type: Option<ValueType>,
+    ) -> Result<(), AllocError>
+        ensures { OnOk result (AddsText
+            (sections.result_struct self.now.names.prefix.now self.now.names.program.now result_type)
+            out.old out.new) }
+    {
+        match result_type {
+            None => out.push_str("autolock_end"),
+            Some(ValueType::Integer) => out.push_str("autolock_int"),
+            Some(ValueType::Reference(structure)) => {
+                write!(out, "{}Ref_", self.names.prefix)?;
+                push_struct(out, self.names.program, structure)
+            }
+        }
+    }
+
+    // The call of a section.
+    fn push_made(&self, out: &mut String, section: &Section, prints: bool) -> Result<(), AllocError>
+        ensures { OnOk result (AddsText
+            (text.made_text self.now.names.prefix.now self.now.names.program.now section.now prints)
+            out.old out.new) }
+    {
+        push_prints_declared(out, prints)?;
+        out.push_str("    struct ")?;
+        self.push_result_struct(out, section.result_type)?;
+        write!(out, " r = {}_{}(s", self.names.prefix, section.name)?;
+        self.push_all_passed(out, section)?;
+        push_prints_passed(out, prints)?;
+        out.push_str(");\n")
+    }
+
+    // What is written of it.
+    fn push_told(&self, out: &mut String, section: &Section, prints: bool) -> Result<(), AllocError>
+        ensures { OnOk result (AddsText
+            (text.told_text self.now.names.prefix.now self.now.names.program.now section.now prints)
+            out.old out.new) }
+    {
+        write!(
+            out,
+            "    fprintf(f, \"call %d %\" PRId64 \" {}(\", t, k);\n",
+            section.name
+        )?;
+        self.push_all_written(out, section)?;
+        out.push_str("    if (r.trap != 0) fprintf(f, \") traps %d\\n\", r.trap);\n")?;
+        self.push_ending(out, section.result_type)?;
+        push_prints_written(out, prints)
+    }
+
+    /// The call of the section of this number, and what is written of it. The one error is a refused growth.
+    pub fn push_case(
+        &self,
+        out: &mut String,
+        number: usize,
+        section: &Section,
+        prints: bool,
+    ) -> Result<(), AllocError>
+        ensures { OnOk result (AddsText
+            (text.case_text self.now.names.prefix.now self.now.names.program.now number section.now prints)
+            out.old out.new) }
+    {
+        write!(out, "  case {number}: {{\n")?;
+        self.push_made(out, section, prints)?;
+        out.push_str("    if (f == NULL) break;\n")?;
+        self.push_told(out, section, prints)?;
+        out.push_str("    break;\n  }\n")
+    }
+
+    /// The start of the function that makes a call. The one error is a refused growth.
+    pub fn push_call_start(&self, out: &mut String) -> Result<(), AllocError>
+        ensures { OnOk result (AddsText (text.call_start self.now.names.prefix.now) out.old out.new) }
+    {
+        write!(out, "static void {}Call(FILE *f, ", self.names.prefix)?;
+        self.push_state_pointer(out)?;
+        out.push_str(", int t, int64_t k, const struct autolock_call *c)\n{\n")?;
+        out.push_str("  const int64_t *a = c->a;\n  (void)f;\n  (void)s;\n  (void)t;\n")?;
+        out.push_str("  (void)k;\n  (void)a;\n  switch (c->section) {\n")
+    }
+
+    // A thread.
+    fn push_run(&self, out: &mut String) -> Result<(), AllocError>
+        ensures { OnOk result (AddsText (text.run_text self.now.names.prefix.now) out.old out.new) }
+    {
+        let prefix = self.names.prefix;
+        write!(
+            out,
+            "static struct {prefix}State {prefix}Main;
+static void *{prefix}Run(void *start)
+{{
+  const struct autolock_call *c = *(const struct autolock_call **)start;
+  for (; c->section >= 0; c++) {prefix}Call(NULL, &{prefix}Main, 0, 0, c);
+  return NULL;
+}}
+"
+        )
+    }
+
+    // All calls, thread after thread.
+    fn push_serial(&self, out: &mut String) -> Result<(), AllocError>
+        ensures { OnOk result (AddsText (text.serial_text self.now.names.prefix.now) out.old out.new) }
+    {
+        let prefix = self.names.prefix;
+        write!(
+            out,
+            "static void {prefix}Serial(FILE *f)
+{{
+  int t;
+  int64_t k;
+  fputs(\"history 1\\n\", f);
+  for (t = 0; {prefix}Scripts[t] != NULL; t++)
+"
+        )?;
+        write!(
+            out,
+            "    for (k = 0; {prefix}Scripts[t][k].section >= 0; k++)
+      {prefix}Call(f, &{prefix}Main, t, k, &{prefix}Scripts[t][k]);
+}}
+"
+        )
+    }
+
+    // The start of the run.
+    fn push_start(&self, out: &mut String) -> Result<(), AllocError>
+        ensures { OnOk result (AddsText (text.start_text self.now.names.prefix.now) out.old out.new) }
+    {
+        let prefix = self.names.prefix;
+        write!(
+            out,
+            "int main(int argc, char **argv)
+{{
+  static const struct autolock_call *starts[64];
+  static pthread_t threads[64];
+  int t;
+  {prefix}Open(&{prefix}Main);
+  if (argc > 1 && strcmp(argv[1], \"serial\") == 0) {{
+    {prefix}Serial(stdout);
+  }} else {{
+"
+        )
+    }
+
+    // The threads, and the end of the run.
+    fn push_threads(&self, out: &mut String) -> Result<(), AllocError>
+        ensures { OnOk result (AddsText (text.threads_text self.now.names.prefix.now) out.old out.new) }
+    {
+        let prefix = self.names.prefix;
+        write!(
+            out,
+            "    for (t = 0; {prefix}Scripts[t] != NULL; t++) {{
+      starts[t] = {prefix}Scripts[t];
+      if (pthread_create(&threads[t], NULL, {prefix}Run, &starts[t]) != 0) return 4;
+    }}
+    while (t > 0) pthread_join(threads[--t], NULL);
+  }}
+"
+        )?;
+        write!(
+            out,
+            "  {prefix}Cells(stdout, &{prefix}Main);
+  {prefix}Close(&{prefix}Main);
+  return 0;
+}}
+#endif
+"
+        )
+    }
+
+    /// The run. The one error is a refused growth.
+    #[tactic(auto, unfolding(crate::specs::Mains::run_all))]
+    pub fn push_run_all(&self, out: &mut String) -> Result<(), AllocError>
+        ensures { OnOk result (AddsText (text.run_all self.now.names.prefix.now) out.old out.new) }
+    {
+        self.push_run(out)?;
+        self.push_serial(out)?;
+        self.push_start(out)?;
+        self.push_threads(out)
+    }
+}
