@@ -258,6 +258,9 @@ judge_valued() {
             "--$valued"*) refuse "$none" ;;
         esac
     done
+    case $command$2 in
+        replay--why | emit--header) refuse "$none" ;;
+    esac
     case $2 in
         -- | -h* | --help) refuse "$none" ;;
         --?*) judge_long "${@:2}" ;;

@@ -174,12 +174,18 @@ same emit --prefix x missing.al
 same emit --prefix=x missing.al
 same emit --prefix x --prefix y right.al
 same emit --prefix --header right.al
+same emit --prefix --header=x right.al
+same emit --prefix --headerx right.al
+same emit --prefix --help right.al
+same replay --turns --why right.al missing.al
+same replay --turns --why=x right.al missing.al
 same emit --prefix -- right.al
 same emit --prefix -h right.al
 same emit --prefix -x right.al
 same emit --prefix= right.al
 same emit --prefix '' right.al
 same emit --prefix a_b right.al
+same emit --prefix a-- right.al
 same emit --prefix 1a right.al
 same emit --prefix AL right.al
 same emit --prefix autolock right.al
