@@ -283,10 +283,56 @@ def programs_of(arguments):
     for file in sorted((TOP / "examples").glob("*.al")):
         yield f"examples/{file.name}", file.read_bytes(), list(WAYS)
     yield from rows()
+    for name, text in hard():
+        yield f"hard/{name}", text.encode(), list(WAYS)
     ways = [way for way in WAYS if way != FIRST]
     for seed in range(arguments.seed, arguments.seed + arguments.count):
         text = "\n".join(drawn(seed)).encode("latin-1")
         yield f"seed-{seed}", text, [FIRST, ways[seed % len(ways)]]
+
+
+def along(paths, members):
+    """A section with this many lock paths of one class, some of the same lock, and two threads that call it."""
+    lets = "".join(f"  let a{i}: ref S = p[{i * 37 % members}];\n" for i in range(paths))
+    adds = "".join(f"  a{i}.x = a{i}.x + k;\n" for i in range(paths))
+    return (
+        f"struct S {{ lock l; int x protected_by(l); }}\npool S p[{members}];\natomic f(int k) : int {{\n{lets}{adds}"
+        "  return a0.x;\n}\nthread t { repeat 200 { f(1); } }\nthread u { repeat 200 { f(2); } }\n"
+    )
+
+
+# Names that C and its library have, the longest name, and pools, arrays and structs without members.
+NAMES = f"""lock double;
+global int errno protected_by(double);
+global int arr[0] protected_by(double);
+global ref int64_t r protected_by(double);
+struct int64_t {{ lock unix; int stdin protected_by(unix); final ref int64_t NULL_; int {"n" * 64} protected_by(unix); }}
+pool int64_t INT64_C[2];
+init INT64_C[0].NULL_ = INT64_C[1];
+init INT64_C[1].NULL_ = INT64_C[0];
+struct none {{ }}
+pool none empty[0];
+atomic main(ref int64_t class, int template) : int {{
+  let this: ref int64_t = class.NULL_;
+  this.stdin = template;
+  this.{"n" * 64} = this.stdin + errno;
+  errno = errno + 1;
+  return this.{"n" * 64};
+}}
+atomic state() {{ errno = errno + 1; }}
+atomic refs(ref int64_t a) : ref int64_t {{ r = a; print 3; print 0 - 9223372036854775807 - 1; return r; }}
+thread t {{ main(INT64_C[0], 5); state(); refs(INT64_C[1]); refs(null); main(null, 2); }}
+"""
+
+
+def hard():
+    """What C compilers mind, and limits."""
+    yield "names", NAMES
+    yield "nothing", "atomic f() { }\n"
+    head = ", ".join(f"int a{i}" for i in range(8))
+    yield "eight parameters", f"atomic f({head}) : int {{ return a0 + a7; }}\nthread t {{ f(1, 2, 3, 4, 5, 6, 7, 8); }}\n"
+    for paths, members in ((2, 2), (8, 5), (9, 5), (63, 64)):
+        yield f"{paths} lock paths", along(paths, members)
 
 
 def rows():
