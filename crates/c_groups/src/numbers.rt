@@ -1,8 +1,14 @@
-//! The numbers that a code pushes.
+//! That numbers have 64 bits: those that a code pushes, and those that cells hold at first.
 
+ghost use Rattle.std.specs.List.{All};
+ghost use Rattle.core_lang.specs.Serial.{opening_heap};
+ghost use Rattle.c_groups.specs.Alike.{AreFitting, IsFitting};
 ghost use Rattle.c_groups.specs.InC.{AreShort, IsShort};
+ghost use Rattle.c_groups.specs.Working.Openings.{IsOpeningFitting};
 
 use code::instr::Instr;
+use core_lang::typed::{Cell, Typed};
+use core_lang::value::Value;
 
 // The number that it pushes, if it pushes one, has 64 bits, as it does in memory.
 fn is_short(instr: Instr)
@@ -21,4 +27,30 @@ pub fn are_short(code: &[Instr])
     for instr in code {
         is_short(*instr);
     }
+}
+
+// The number that it is, if it is one, has 64 bits, as it does in memory.
+fn is_fitting(value: Value)
+    ensures { IsFitting value }
+{
+    match value {
+        Value::Int(_) => {}
+        Value::Ref(_) => {}
+    }
+}
+
+// The numbers that cells hold at first have 64 bits.
+fn are_fitting(cells: &[Cell])
+    ensures { All IsOpeningFitting cells.now }
+{
+    for cell in cells {
+        is_fitting(cell.opening);
+    }
+}
+
+/// All numbers that a program's cells hold at first have 64 bits.
+pub fn openings_fit(program: &Typed)
+    ensures { AreFitting (opening_heap program.now) }
+{
+    are_fitting(&program.cells);
 }
