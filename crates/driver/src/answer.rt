@@ -139,7 +139,7 @@ fn listed(alloc: Global, places: bool, text: &[u8], program: &Program) -> Result
 
 /// The C text of a program, or its header.
 fn c_of(alloc: Global, emission: Emission<'_>, program: &Program) -> Result<String, NoMemory>
-    ensures { IfOk result (λ text. string_bytes text ≡ emitted_text emission program.now) }
+    ensures { IfOk result (λ text. string_bytes text ≡ emitted_text emission.entry program.now) }
 {
     if emission.header {
         return header(alloc, program, emission.prefix);
@@ -149,7 +149,7 @@ fn c_of(alloc: Global, emission: Emission<'_>, program: &Program) -> Result<Stri
 
 /// The answer to `emit`.
 fn emitted(alloc: Global, emission: Emission<'_>, program: &Program) -> Result<Answer, NoMemory>
-    ensures { IfOk result (Meets (IsEmitted emission program.now)) }
+    ensures { IfOk result (Meets (IsEmitted emission.entry program.now)) }
 {
     sections_mean(program);
     let text = c_of(alloc, emission, program)?;
@@ -189,7 +189,7 @@ fn reported(
     text: &[u8],
     program: &Program,
 ) -> Result<Answer, NoMemory>
-    ensures { IfOk result (Meets (IsReport report text.now program.now)) }
+    ensures { IfOk result (Meets (IsReport report.entry text.now program.now)) }
 {
     match report {
         Report::Check => checked(alloc, text, program),
@@ -216,7 +216,7 @@ pub fn report_answer(
     report: Report<'_>,
     source: &Named<'_>,
 ) -> Result<Answer, NoMemory>
-    ensures { IfOk result (Meets (TextAnswers (IsReport report source.now.text.now) source.now.file.now source.now.text.now)) }
+    ensures { IfOk result (Meets (TextAnswers (IsReport report.entry source.now.text.now) source.now.file.now source.now.text.now)) }
 {
     match accepted(alloc, source)? {
         Ok(program) => reported(alloc, report, source.text, &program),

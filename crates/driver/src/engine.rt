@@ -48,7 +48,7 @@ pub fn serve<R: Threads + Wait + Sync, S: Read, O: Write, E: Write>(
 ) -> Status
     requires readable { reading_failed source.old ≡ false }
     requires writable { writing_failed streams.old.out ≡ false }
-    ensures { Serves (OfOne (AloneAnswers request (name_of source.old))) (reading_of S.remaining source.old source.new) []
+    ensures { Serves (OfOne (AloneAnswers request.entry (name_of source.old))) (reading_of S.remaining source.old source.new) []
         O.contents E.contents streams.old streams.new result }
 {
     match request {
@@ -68,7 +68,7 @@ pub fn serve_report<S: Read, O: Write, E: Write>(
 ) -> Status
     requires readable { reading_failed source.old ≡ false }
     requires writable { writing_failed streams.old.out ≡ false }
-    ensures { Serves (OfOne (AloneAnswers (Alone.Report report) (name_of source.old))) (reading_of S.remaining source.old source.new) []
+    ensures { Serves (OfOne (AloneAnswers (Alone.Report report.entry) (name_of source.old))) (reading_of S.remaining source.old source.new) []
         O.contents E.contents streams.old streams.new result }
 {
     let text = match streams.read(alloc, source, MOST_BYTES) {
