@@ -37,7 +37,7 @@ _autolock() {
         replay/-*) mapfile -t COMPREPLY < <(compgen -W "--turns --why -h --help" -- "$word") ;;
         trace/-*) mapfile -t COMPREPLY < <(compgen -W "--sections -h --help" -- "$word") ;;
         explain/-*) mapfile -t COMPREPLY < <(compgen -W "--json -h --help" -- "$word") ;;
-        emit/-*) mapfile -t COMPREPLY < <(compgen -W "--header --prefix -h --help" -- "$word") ;;
+        emit/-*) mapfile -t COMPREPLY < <(compgen -W "--header --prefix --lines -h --help" -- "$word") ;;
         listing/-*) mapfile -t COMPREPLY < <(compgen -W "--places -h --help" -- "$word") ;;
         check/-* | order/-* | simulate/-* | run/-*) mapfile -t COMPREPLY < <(compgen -W "-h --help" -- "$word") ;;
         simulate/* | trace/*) if [ $at -gt 0 ]; then _autolock_files "$word" .steps; else _autolock_files "$word" .al; fi ;;

@@ -29,6 +29,7 @@ complete -c autolock -n '__fish_seen_subcommand_from replay' -l why -d 'Say what
 complete -c autolock -n '__fish_seen_subcommand_from explain' -l json -d 'Tell it as a JSON object, in one line'
 complete -c autolock -n '__fish_seen_subcommand_from listing' -l places -d 'Tell where each instruction\'s statement starts'
 complete -c autolock -n '__fish_seen_subcommand_from emit' -l header -d 'Write the header of that C file'
+complete -c autolock -n '__fish_seen_subcommand_from emit' -l lines -d 'Tell debuggers and sanitizers the lines of FILE'
 complete -c autolock -n '__fish_seen_subcommand_from emit' -l prefix -x -d 'What the names of C begin with'
 complete -c autolock -n '__fish_seen_subcommand_from trace' -l sections -d 'Leave the instructions out'
 complete -c autolock -n '__fish_seen_subcommand_from check explain order listing emit serial outcomes run' -k -a '(__fish_complete_suffix .al)'

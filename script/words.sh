@@ -3,7 +3,7 @@
 #
 #     judge_words WORDS..     answers and exits, or sets `command`, `turns`, `count` and `seed` (the N of --turns, --count and
 #                             --seed, or nothing), `prefix` (the NAME of --prefix, or nothing), `why`, `sections`, `places`,
-#                             `header` and `json` (each 1 or nothing), and `files`
+#                             `header`, `lines` and `json` (each 1 or nothing), and `files`
 #
 # `top` is the folder of the repository.
 # shellcheck disable=SC2154,SC2016
@@ -16,6 +16,7 @@ why=
 sections=
 places=
 header=
+lines=
 prefix=
 json=
 used=
@@ -73,6 +74,17 @@ valued_of() {
         serial | replay) echo turns ;;
         outcomes) echo count seed turns ;;
         emit) echo prefix ;;
+    esac
+}
+
+# The options of a command that take no value.
+flags_of() {
+    case $1 in
+        explain) echo json ;;
+        listing) echo places ;;
+        emit) echo header lines ;;
+        trace) echo sections ;;
+        replay) echo why ;;
     esac
 }
 
@@ -162,7 +174,7 @@ refuse_long() {
         replay) options=(turns why help) ;;
         trace) options=(sections help) ;;
         listing) options=(places help) ;;
-        emit) options=(header prefix help) ;;
+        emit) options=(header prefix lines help) ;;
         explain) options=(json help) ;;
         '') options=(help version) ;;
     esac
@@ -185,7 +197,7 @@ refuse_long() {
         case $word in
             check | order | simulate | run) near=$(similar "$name" help) ;;
             listing) near=$(similar "$name" places help | tail -n 1) ;;
-            emit) near=$(similar "$name" header prefix help | tail -n 1) ;;
+            emit) near=$(similar "$name" header prefix lines help | tail -n 1) ;;
             serial) near=$(similar "$name" turns help | tail -n 1) ;;
             outcomes) near=$(similar "$name" count seed turns help | tail -n 1) ;;
             replay) near=$(similar "$name" turns why help | tail -n 1) ;;
@@ -232,6 +244,21 @@ judge_number() {
     used=$(used_with "--$name <N>")
 }
 
+# Whether the command has this one.
+is_flag() {
+    local flag
+    for flag in $(flags_of "$command"); do
+        [ "$1" != "$flag" ] || return 0
+    done
+    return 1
+}
+
+judge_flag() {
+    [ -z "${!1}" ] || refuse "the argument '--$1' cannot be used multiple times" "$(usage_of "$command")"
+    printf -v "$1" 1
+    used=$(used_with "--$1")
+}
+
 # The value of `--prefix`. Whether it is one is judged behind all words.
 judge_prefix() {
     [ -z "$has_prefix" ] || refuse "the argument '--prefix <NAME>' cannot be used multiple times" \
@@ -258,9 +285,9 @@ judge_valued() {
             "--$valued"*) refuse "$none" ;;
         esac
     done
-    case $command$2 in
-        replay--why | emit--header) refuse "$none" ;;
-    esac
+    for valued in $(flags_of "$command"); do
+        [ "$2" != "--$valued" ] || refuse "$none"
+    done
     case $2 in
         -- | -h* | --help) refuse "$none" ;;
         --?*) judge_long "${@:2}" ;;
@@ -283,29 +310,11 @@ judge_long() {
             [ "$name" = help ] || show_version
             show_help "${command:-autolock}"
             ;;
-        why)
-            [ "$command" = replay ] || refuse_long "$name" "$@"
-            refuse "unexpected value '${word#*=}' for '--why' found; no more were expected" "$(usage_of replay --why)"
+        *)
+            is_flag "$name" || refuse_long "$name" "$@"
+            refuse "unexpected value '${word#*=}' for '--$name' found; no more were expected" \
+                "$(usage_of "$command" "--$name")"
             ;;
-        sections)
-            [ "$command" = trace ] || refuse_long "$name" "$@"
-            refuse "unexpected value '${word#*=}' for '--sections' found; no more were expected" \
-                "$(usage_of trace --sections)"
-            ;;
-        places)
-            [ "$command" = listing ] || refuse_long "$name" "$@"
-            refuse "unexpected value '${word#*=}' for '--places' found; no more were expected" \
-                "$(usage_of listing --places)"
-            ;;
-        header)
-            [ "$command" = emit ] || refuse_long "$name" "$@"
-            refuse "unexpected value '${word#*=}' for '--header' found; no more were expected" "$(usage_of emit --header)"
-            ;;
-        json)
-            [ "$command" = explain ] || refuse_long "$name" "$@"
-            refuse "unexpected value '${word#*=}' for '--json' found; no more were expected" "$(usage_of explain --json)"
-            ;;
-        *) refuse_long "$name" "$@" ;;
     esac
 }
 
@@ -334,6 +343,11 @@ judge_arguments() {
     other=$(other_of "$command")
     [ -z "$other" ] || most=2
     while [ $# -gt 0 ]; do
+        if [ "$is_last" = 0 ] && [[ $1 = --* ]] && is_flag "${1#--}"; then
+            judge_flag "${1#--}"
+            shift
+            continue
+        fi
         case $is_last$command$1 in
             "0$command--")
                 is_last=1
@@ -343,41 +357,6 @@ judge_arguments() {
             0serial--turns | 0replay--turns | 0outcomes--turns | 0outcomes--count | 0outcomes--seed | 0emit--prefix)
                 judge_valued "$@"
                 shift 2
-                continue
-                ;;
-            0replay--why)
-                [ -z "$why" ] || refuse "the argument '--why' cannot be used multiple times" "$(usage_of replay)"
-                why=1
-                used=$(used_with --why)
-                shift
-                continue
-                ;;
-            0trace--sections)
-                [ -z "$sections" ] || refuse "the argument '--sections' cannot be used multiple times" "$(usage_of trace)"
-                sections=1
-                used=$(used_with --sections)
-                shift
-                continue
-                ;;
-            0listing--places)
-                [ -z "$places" ] || refuse "the argument '--places' cannot be used multiple times" "$(usage_of listing)"
-                places=1
-                used=$(used_with --places)
-                shift
-                continue
-                ;;
-            0emit--header)
-                [ -z "$header" ] || refuse "the argument '--header' cannot be used multiple times" "$(usage_of emit)"
-                header=1
-                used=$(used_with --header)
-                shift
-                continue
-                ;;
-            0explain--json)
-                [ -z "$json" ] || refuse "the argument '--json' cannot be used multiple times" "$(usage_of explain)"
-                json=1
-                used=$(used_with --json)
-                shift
                 continue
                 ;;
             0serial--turns=* | 0replay--turns=* | 0outcomes--turns=* | 0outcomes--count=* | 0outcomes--seed=* | 0emit--prefix=*)

@@ -24,9 +24,16 @@ BEGIN, END = "<!-- tests/believed.py writes from here -->\n", "<!-- to here -->\
 HEADLINE = {"crates/interleavings/src/world.rt": ["run"], "crates/worlds/src/laws.rt": ["every_run"]}
 COMPILER = {"crates/compiler/src/passes.rt": ["compile"]}
 EMITTED = {
+    "crates/c_locks/src/laws.rt": [
+        "acquire_texts_are_of_statements",
+        "acquires_take_what_is_asked",
+        "ends_give_back_what_is_held",
+    ],
     "crates/c_groups/src/laws.rt": ["groups_do_alike", "runs_stand_alike", "sections_have_plans", "sections_behave_in_c"],
     "crates/c_text/src/files.rt": ["file", "header"],
+    "crates/c_threads/src/meaning.rt": ["sections_mean"],
 }
+IN_THREADS = {"crates/c_threads/src/laws.rt": None, "crates/c_threads/src/meaning.rt": ["threads_mean"]}
 # What `emit` answers counts there, and not among the engines.
 ANSWERED = ("driver.specs.Emissions", "IsEmitted")
 THREADS = {
@@ -122,7 +129,7 @@ def clauses_of(path, wanted):
     found = []
     # (a program's root has no public function)
     visible = r"(?:pub )?" if path.name == "main.rt" else r"pub(?:\([a-z]+\))? "
-    for match in re.finditer(rf"\n *{visible}fn (\w+)(.*?)\n *\{{\n", text, re.S):
+    for match in re.finditer(rf"\n *{visible}fn (\w+)(.*?)\n *\{{\}}?\n", text, re.S):
         name, head = match.groups()
         is_public = "pub(crate)" not in match.group(0).split("fn")[0]
         if is_public and (wanted is None or name in wanted):
@@ -142,7 +149,7 @@ class Reading:
 
     def begin(self, calls):
         self.seen, self.types, todo = {}, set(), []
-        if calls is EMITTED:
+        if calls is IN_THREADS:
             todo.append(ANSWERED)
         else:
             self.seen[ANSWERED] = 0
@@ -161,7 +168,7 @@ class Reading:
                 continue
             self.seen[module, name] = len(found.parts[name])
             todo += self.named("\n".join(found.parts[name]), found.imports, module)
-        if calls is not EMITTED:
+        if calls is not IN_THREADS:
             del self.seen[ANSWERED]
         return self
 
@@ -261,7 +268,7 @@ def others():
 
 def main():
     reading, failed, tables, counted = Reading(), 0, [], {}
-    groups = (("The headline", HEADLINE), ("The compiler", COMPILER), ("All engines", engines()), ("Real threads", THREADS), ("Sections in C", EMITTED))
+    groups = (("The headline", HEADLINE), ("The compiler", COMPILER), ("All engines", engines()), ("Real threads", THREADS), ("Sections in C", EMITTED), ("Threads in C", IN_THREADS))
     believed = {module for module, _ in reading.begin(others()).seen}
     for title, calls in groups:
         tables.append(reading.begin(calls).table(title))

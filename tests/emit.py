@@ -13,6 +13,7 @@ serial    the program with AL_MAIN, given the word `serial`, writes what `serial
           -fsanitize=undefined,address, AL_PORTABLE and AL_CHECK
 threads   it runs a thread for each script, under -fsanitize=thread, with no report
 labels    are the places to which the jumps of `listing` lead
+lines     with `--lines`, the C is told to be of the lines that `listing --places` has, also of files with hard names
 
 callers   those of examples/c, in C, C++, Python and, where rustc is there, Rust, come to the total of their accounts
 
@@ -22,6 +23,7 @@ changed C files have to be found out. A FILE of which something isn't as it shou
 """
 
 import argparse
+import itertools
 import multiprocessing
 import os
 import pathlib
@@ -52,6 +54,8 @@ WAYS = {
 FIRST = "gcc-O2"
 JUMP = re.compile(r"^\d+ (?:jump|jtrue|jfalse) (\d+)$", re.M)
 LABEL = re.compile(r"^L(\d+):$", re.M)
+PLACE = re.compile(r"^\d+ (\d+):\d+ ", re.M)
+LINE = re.compile(r'^#line (\d+) "(?:[^"]*)"$', re.M)
 
 
 class Differs(Exception):
@@ -130,14 +134,43 @@ class Emitted:
     def labels(self):
         # sections number their instructions from 0 on, each for itself
         sections = re.split(r"(?m)^section .*\n", self.listing[1].decode())[1:]
-        bodies = re.split(r"(?m)^end:$", self.emitted[1].decode())
-        if len(bodies) != len(sections) + 1:
-            raise Differs(f"labels: {len(bodies) - 1} sections but {len(sections)}")
+        bodies = re.split(r"(?m)^begin:$", self.emitted[1].decode())[1:]
+        if len(bodies) != len(sections):
+            raise Differs(f"labels: {len(bodies)} sections but {len(sections)}")
         for section, body in zip(sections, bodies):
             one = {int(place) for place in JUMP.findall(section)}
             other = {int(place) for place in LABEL.findall(body)}
             if one != other:
                 raise Differs(f"labels: {sorted(other)} but {sorted(one)}")
+
+    def lines(self, name=b"program.al", ran=False):
+        """Where each point's instructions begin, with `--lines` the C is told to be of the point's line."""
+        source = os.path.join(self.folder.encode(), name)
+        if name != b"program.al":
+            shutil.copy(self.source, source)
+        status, text, told = run([self.binary, "emit", "--lines", source])
+        if status != 0:
+            raise Differs(f"lines: ends with {status}: {told.decode()}")
+        path = self.write("lines.c", text)
+        status, _, told = run(["gcc", "-O0", "-g", "-c", *STRICT, *MAIN, "-o", self.path("lines.o"), path])
+        if status != 0:
+            raise Differs(f"lines: {told.decode(errors='replace')}")
+        if b"#line" in text.replace(b'#line 1 "emitted"', b"") and name not in pathlib.Path(self.path("lines.o")).read_bytes():
+            raise Differs(f"lines: {source!r} is not told")
+        places = run([self.binary, "listing", "--places", source])[1].decode()
+        sections = re.split(r"(?m)^section .*\n", places)[1:]
+        bodies = re.split(r"(?m)^begin:$", text.decode())[1:]
+        for section, body in zip(sections, bodies, strict=True):
+            # a call of a helper has several points at one place
+            wanted = [line for line, _ in itertools.groupby(PLACE.findall(section))]
+            found = LINE.findall(body.partition('\n#line 1 "emitted"\n}\n')[0])
+            if wanted != [line for line, _ in itertools.groupby(found)]:
+                raise Differs(f"lines: {found} but {wanted}")
+            # all C of a point is one line
+            if any("\n" in part.strip("\n") for part in LINE.split(body.partition('\n#line 1 "emitted"\n')[0])[2::2]):
+                raise Differs("lines: a point has several")
+        if ran:
+            self.serial(FIRST, "lines")
 
     def header(self):
         status, text, told = run([self.binary, "emit", "--header", self.source])
@@ -171,7 +204,8 @@ def try_one(part):
             if not emitted.accepted():
                 return name, 1, None
             emitted.labels()
-            tried = 2
+            emitted.lines(ran=len(ways) > 2)
+            tried = 3
             if len(ways) > 2:
                 emitted.header()
                 emitted.prefix()
@@ -195,7 +229,7 @@ CHANGES = [
     (r"  if \(m\[0\] == [^\n]*\) m\[0\] = NULL;\n", "", "doubled", "deadlock"),
     (r"  if \(h\[0\] != NULL\) AL_UNLOCK\(h\[0\]\);\n", "", "unlock", "deadlock"),
     (r"AL_LOCK\(m\[0\]\)", "(void)m[0]", "lock", "threads"),
-    (r"autolock_sub\(", "autolock_add(", "operator", "serial"),
+    (r"  AL_SUB\(", "  AL_ADD(", "operator", "serial"),
 ]
 CONTENDED = b"""struct Acc { lock l; int bal protected_by(l); }
 pool Acc p[2];
@@ -240,6 +274,20 @@ def tested_tests(binary):
             if count == 0 or not is_found(emitted, way):
                 missed.append(f"change {name}: {'made nowhere' if count == 0 else 'not found'}")
     return len(CHANGES) - len(missed), missed
+
+
+def named(binary):
+    """How many hard names of a file are told as they are, and those that aren't."""
+    wrong = []
+    names = [b'a"b.al', b"a\\b.al", b"a??(b.al", b"a b.al", b"a\nb.al", b"\xc3\xa4.al", b"%s%d.al", b"a\x01\x7f9.al"]
+    with tempfile.TemporaryDirectory() as folder:
+        emitted = Emitted(binary, folder, CONTENDED)
+        for name in names:
+            try:
+                emitted.lines(name)
+            except Differs as differs:
+                wrong.append(f"name {name!r}: {differs}")
+    return len(names) - len(wrong), wrong
 
 
 def called(binary):
@@ -364,7 +412,7 @@ def main():
                 failed += 1
                 print(f"{name}: {wrong}")
     if not arguments.files:
-        for found, missed in (tested_tests(binary), called(binary)):
+        for found, missed in (tested_tests(binary), named(binary), called(binary)):
             passed += found
             failed += len(missed)
             for line in missed:

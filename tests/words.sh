@@ -168,6 +168,17 @@ same emit --header=x right.al
 same emit --head right.al
 same emit --header right.al --foo
 same emit --header a b
+same emit --lines
+same emit --lines missing.al
+same emit missing.al --lines --header
+same emit --lines --lines right.al
+same emit --lines=x right.al
+same emit --line right.al
+same emit --lines right.al --foo
+same emit --prefix --lines right.al
+same emit --prefix --lines=x right.al
+same check --lines right.al
+same --lines emit right.al
 same emit --prefix
 same emit --prefix x
 same emit --prefix x missing.al
@@ -294,7 +305,7 @@ same serial --turns 3 missing.al
 commands=$(sed -n '/^Commands:/,/^$/s/^  \([a-z]*\) .*/\1/p' "$top/script/help/autolock.txt")
 options=$(sed -n 's/^ *\(-[a-zA-Z], \)\{0,1\}--\([a-z]*\).*/\2/p' "$top"/script/help/*.txt | sort -u)
 [ "$(echo $commands)" = "check explain order listing emit serial outcomes simulate trace run replay help" ] || fail "the commands of the help: $commands"
-[ "$(echo $options)" = "count header help json places prefix sections seed turns version why" ] || fail "the options of the help: $options"
+[ "$(echo $options)" = "count header help json lines places prefix sections seed turns version why" ] || fail "the options of the help: $options"
 for file in completions/autolock.bash completions/_autolock completions/autolock.fish docs/autolock.1; do
     for word in $commands $options; do
         sed 's/\\-/-/g' "$top/$file" | grep -qw -- "$word" || fail "$file lacks $word"
@@ -329,6 +340,7 @@ completes "check emit explain help listing order outcomes replay run serial simu
 completes "--turns" serial --t
 completes "--header" emit --hea
 completes "--prefix" emit --p
+completes "--lines" emit --l
 completes "" emit --prefix ''
 completes "--why" replay --w
 completes "--json" explain --j

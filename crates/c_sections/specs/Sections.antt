@@ -16,7 +16,7 @@ use Rattle.c_language.specs.declared.statement.Temporary.{Temporary}
 use Rattle.c_sections.specs.Names.{named, own, type_text, zero_text, local_text, temporary_text}
 use Rattle.c_sections.specs.Statements.{line}
 use Rattle.c_sections.specs.Acquires.{numbered, downward, held}
-use Rattle.c_sections.specs.Instructions.{where_true, prints, temporaries, instrs_text}
+use Rattle.c_sections.specs.Instructions.{where_true, prints, temporaries, body_text}
 
 -- ---- parameters
 
@@ -163,27 +163,34 @@ abbrev pub give_line : Option ValueType → List ℕ
 give_line None = []
 give_line (Some t) = line (codes "result.value = value;")
 
--- every lock is given back, the last first
+-- and the instructions begin
+abbrev pub return_text : List ℕ
+return_text = codes "  return result;\nbegin:\n"
+
+-- every lock is given back, the last first. The end stands ahead of the instructions: a compiler then knows the label to
+-- which each trap jumps, and need not keep the jumps until it is there
 abbrev pub end_text : Section → Bool → ℕ → List ℕ
 end_text section prints count =
-    codes "end:\n" ++ downward unlock_line count ++ count_line prints ++ line (codes "result.trap = trap;")
-    ++ give_line section.result_type ++ line (codes "return result;") ++ codes "}\n"
+    codes "  goto begin;\nend:\n" ++ downward unlock_line count ++ count_line prints ++ line (codes "result.trap = trap;")
+    ++ give_line section.result_type ++ return_text
 
 -- ---- a section
 
--- what stands ahead of its instructions
+-- what stands ahead of its end
 abbrev pub front_text : List ℕ → Typed → Section → List Instr → ℕ → List ℕ
 front_text prefix program section code count =
     prototype_text prefix program section (prints code) ++ codes "\n{\n"
-    ++ declarations prefix program section code count ++ uses section count ++ checks prefix program section
+    ++ declarations prefix program section code count ++ uses section count
 
--- with a code and its lock paths
-abbrev pub text_of : List ℕ → Typed → Section → List (List ℕ) → List Instr → List LockPath → List ℕ
-text_of prefix program section lists code paths =
+-- with a code and its lock paths, and texts ahead of its instructions, if there are such
+abbrev pub text_of : List ℕ → Typed → Section → List (List ℕ) → List Instr → List LockPath → Option (ℕ → List ℕ) → List ℕ
+text_of prefix program section lists code paths mark =
     front_text prefix program section code (length paths)
-    ++ instrs_text program section lists paths code
     ++ end_text section (prints code) (length paths)
+    ++ checks prefix program section
+    ++ body_text program section lists paths mark code
+    ++ codes "}\n"
 
-abbrev pub section_text : List ℕ → Typed → Section → List (List ℕ) → List ℕ
-section_text prefix program section lists =
-    text_of prefix program section lists (section_code lists section) (lock_paths program section)
+abbrev pub section_text : List ℕ → Typed → Section → List (List ℕ) → Option (ℕ → List ℕ) → List ℕ
+section_text prefix program section lists mark =
+    text_of prefix program section lists (section_code lists section) (lock_paths program section) mark

@@ -42,11 +42,11 @@ comparison_text LessOrEqual = codes " <= "
 comparison_text Greater = codes " > "
 comparison_text GreaterOrEqual = codes " >= "
 
--- the function that has the sum, the difference or the product, if 64 bits hold it
+-- the macro that sets a variable to the sum, the difference or the product, if 64 bits hold it
 abbrev pub checked_text : Checked → List ℕ
-checked_text Sum = codes "autolock_add"
-checked_text Difference = codes "autolock_sub"
-checked_text Product = codes "autolock_mul"
+checked_text Sum = codes "AL_ADD("
+checked_text Difference = codes "AL_SUB("
+checked_text Product = codes "AL_MUL("
 
 -- how a jump begins that goes where a value is true, or false
 abbrev pub on_text : Bool → List ℕ
@@ -61,6 +61,10 @@ goto_text place = line (codes "goto L" ++ decimal place ++ codes ";")
 abbrev pub is_null : Operand → Bool
 is_null Null = true
 is_null _ = false
+
+-- how a trap begins that is taken where a text is true
+abbrev pub rare_text : List ℕ → List ℕ
+rare_text tested = codes "if (AL_RARE(" ++ tested ++ codes ")) AL_TRAP("
 
 -- over a program and a section of it
 module _ (program : Typed) (section : Section) where
@@ -87,10 +91,6 @@ module _ (program : Typed) (section : Section) where
   right_text (Field a x) = operand_text a ++ field_text program x
   right_text (Final a x) = operand_text a ++ final_text program x
 
-  -- an index outside, also one below 0
-  abbrev pub outside_text : Operand → List ℕ → List ℕ
-  outside_text i length = codes "(uint64_t)" ++ operand_text i ++ codes " >= " ++ length
-
   -- another owner than a variable has. NULL has none, and can't be followed
   abbrev pub not_owned_text : Operand → StructMember → ℕ → List ℕ
   not_owned_text a x k =
@@ -98,20 +98,25 @@ module _ (program : Typed) (section : Section) where
       else operand_text a ++ codes " != NULL && " ++ operand_text a ++ final_text program x ++ codes " != "
       ++ variable_text section k
 
+  -- AL_OUT tests for an index outside, also one below 0
+  abbrev pub out_text : Operand → List ℕ → List ℕ
+  out_text i length = codes "AL_OUT(" ++ operand_text i ++ codes ", " ++ length ++ codes ", "
+
+  -- the test before a trap, up to the number of the trap
   abbrev pub test_text : Test → List ℕ
-  test_text (IsNull a) = operand_text a ++ codes " == NULL"
-  test_text (IsNoElement array i) = outside_text i (array_length program array)
-  test_text (IsNoMember pool i) = outside_text i (pool_length program pool)
-  test_text (IsZero a) = operand_text a ++ codes " == 0"
-  test_text (IsLeast a) = operand_text a ++ codes " == INT64_MIN"
-  test_text (IsLeastByMinusOne a b) = operand_text a ++ codes " == INT64_MIN && " ++ operand_text b ++ codes " == -1"
-  test_text (IsNotOwned a x k) = not_owned_text a x k
+  test_text (IsNull a) = codes "AL_NULL(" ++ operand_text a ++ codes ", "
+  test_text (IsNoElement array i) = out_text i (array_length program array)
+  test_text (IsNoMember pool i) = out_text i (pool_length program pool)
+  test_text (IsZero a) = rare_text (operand_text a ++ codes " == 0")
+  test_text (IsLeast a) = rare_text (operand_text a ++ codes " == INT64_MIN")
+  test_text (IsLeastByMinusOne a b) =
+      rare_text (operand_text a ++ codes " == INT64_MIN && " ++ operand_text b ++ codes " == -1")
+  test_text (IsNotOwned a x k) = rare_text (not_owned_text a x k)
 
   -- the result goes into a variable, if 64 bits hold it
   abbrev pub check_text : Checked → List ℕ → Operand → Operand → List ℕ
   check_text checked t a b =
-      line (codes "if (AL_RARE(" ++ checked_text checked ++ codes "(" ++ operand_text a ++ codes ", " ++ operand_text b
-      ++ codes ", &" ++ t ++ codes "))) AL_TRAP(3);")
+      line (checked_text checked ++ t ++ codes ", " ++ operand_text a ++ codes ", " ++ operand_text b ++ codes ");")
 
   -- a number goes behind those that were printed, if the caller wants them
   abbrev pub printed_text : Operand → List ℕ
@@ -126,8 +131,7 @@ module _ (program : Typed) (section : Section) where
   statement_text (Set t r) = assignment (temporary_text program t) (right_text r)
   statement_text (Assign k a) = assignment (variable_text section k) (operand_text a)
   statement_text (Check checked t a b) = check_text checked (temporary_text program t) a b
-  statement_text (TrapIf test trap) =
-      line (codes "if (AL_RARE(" ++ test_text test ++ codes ")) AL_TRAP(" ++ decimal (trap_number trap) ++ codes ");")
+  statement_text (TrapIf test trap) = line (test_text test ++ decimal (trap_number trap) ++ codes ");")
   statement_text (StoreGlobal cell a) = assignment (global_text program cell) (operand_text a)
   statement_text (StoreElement array i a) = assignment (indexed (array_text program array) i) (operand_text a)
   statement_text (StoreField p x a) = assignment (operand_text p ++ field_text program x) (operand_text a)

@@ -1,11 +1,13 @@
 //! The instructions of a section as C text. The one error is a refused growth.
 
 ghost use Rattle.std.specs.Prelude.{◌<◌, ◌+◌, length, OnOk, IfOk};
+ghost use Rattle.std.specs.List.Sorted.{IsNonDecreasing};
 ghost use Rattle.locks.specs.Texts.{AddsText};
 ghost use Rattle.c_sections.specs.Instructions as text;
 
 use crate::acquires::Acquires;
 use crate::groups::Groups;
+use crate::marks::{Marks, push_flat, push_unmarked};
 use crate::operands::Scope;
 use crate::targets::jump_targets;
 use c_language::statement::Statement;
@@ -27,6 +29,8 @@ pub struct InstructionLines<'a> {
 impl<'a> InstructionLines<'a> {
     ghost use Rattle.c_sections.specs.Working.Bodies.{IsBodyOf, HasTargets, HasPlan, code_of};
     ghost use Rattle.c_sections.specs.Working.Bodies.{IsAt, label_of, asked_of, group_of, instr_of, instrs_of};
+    ghost use Rattle.c_sections.specs.Working.Bodies.{begins_of, body_of};
+    ghost use Rattle.c_sections.specs.Working.Marked.{marks_of};
 
     /// Of a section of the program.
     pub fn new(
@@ -106,8 +110,8 @@ impl<'a> InstructionLines<'a> {
         Ok(())
     }
 
-    /// The instructions.
-    pub fn push(&self, alloc: Global, out: &mut String) -> Result<(), NoMemory>
+    // The instructions.
+    fn push_plain(&self, alloc: Global, out: &mut String) -> Result<(), NoMemory>
         requires targets { HasTargets self.now }
         requires plan { HasPlan self.now }
         ensures { OnOk result (AddsText (instrs_of self.now) out.old out.new) }
@@ -116,6 +120,78 @@ impl<'a> InstructionLines<'a> {
         for place in 0..self.listed.code.instructions.len() {
             self.push_next(alloc, out, &mut groups, place)?;
         }
+        Ok(())
+    }
+
+    /// The instructions; with marks, each point's in one line, which is told to be of a line of the program's file.
+    pub fn push(
+        &self,
+        alloc: Global,
+        out: &mut String,
+        marks: Option<Marks<'_>>,
+    ) -> Result<(), NoMemory>
+        requires targets { HasTargets self.now }
+        requires plan { HasPlan self.now }
+        requires rises { IsNonDecreasing (begins_of self.now) }
+        ensures { OnOk result (AddsText (body_of self.now (marks_of marks.entry self.now.listed.code.now)) out.old out.new) }
+    {
+        match marks {
+            None => self.push_plain(alloc, out),
+            Some(marks) => MarkedLines { lines: self, marks }.push(alloc, out),
+        }
+    }
+}
+
+/// The text of a section's instructions, each in one line, behind the lines of the program's file that they are of.
+#[derive(Clone, Copy)]
+struct MarkedLines<'a> {
+    lines: &'a InstructionLines<'a>,
+    marks: Marks<'a>,
+}
+
+impl MarkedLines<'_> {
+    ghost use Rattle.c_sections.specs.Working.Bodies.{HasTargets, HasPlan, IsAt, marked_of, all_marked, begins_of, code_of};
+    ghost use Rattle.c_sections.specs.Working.Marked.{mark_in};
+
+    // The next instruction.
+    fn push_next(
+        &self,
+        alloc: Global,
+        out: &mut String,
+        groups: &mut Groups<'_>,
+        place: usize,
+    ) -> Result<(), NoMemory>
+        requires targets { HasTargets self.now.lines.now }
+        requires within { place < length (code_of self.now.lines.now) }
+        requires plan { HasPlan self.now.lines.now }
+        requires rises { IsNonDecreasing (begins_of self.now.lines.now) }
+        requires stands { IsAt self.now.lines.now place groups.old }
+        ensures stands { OnOk result (IsAt self.now.lines.now (place + 1) groups.new) }
+        ensures text { OnOk result (AddsText
+            (marked_of self.now.lines.now (mark_in self.now.marks (begins_of self.now.lines.now)) place) out.old out.new) }
+    {
+        let lines = self.lines;
+        self.marks.push(out, lines.listed.code, place)?;
+        let mut line = String::new(alloc);
+        lines.push_next(alloc, &mut line, groups, place)?;
+        push_flat(out, &line)?;
+        Ok(())
+    }
+
+    // The instructions.
+    fn push(&self, alloc: Global, out: &mut String) -> Result<(), NoMemory>
+        requires targets { HasTargets self.now.lines.now }
+        requires plan { HasPlan self.now.lines.now }
+        requires rises { IsNonDecreasing (begins_of self.now.lines.now) }
+        ensures { OnOk result (AddsText
+            (all_marked self.now.lines.now (mark_in self.now.marks (begins_of self.now.lines.now))) out.old out.new) }
+    {
+        let lines = self.lines;
+        let mut groups = Groups::new(alloc, lines.scope.program);
+        for place in 0..lines.listed.code.instructions.len() {
+            self.push_next(alloc, out, &mut groups, place)?;
+        }
+        push_unmarked(out)?;
         Ok(())
     }
 }

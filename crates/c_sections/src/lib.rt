@@ -2,15 +2,17 @@
 //!
 //! - [`names::Writer`]: the names of a program, and whole sections, behind a prefix.
 //! - [`sections::prints`]: whether a section prints.
+//! - [`marks::Marks`]: the lines of the program's file that a section's C is told to be of.
 //!
 //! `specs/` says which text each has: names (`Names`), statements (`Statements`), where locks are taken (`Acquires`),
-//! the instructions of a code (`Instructions`), prototypes and whole sections (`Sections`). `Working` only says what
-//! the code has done.
+//! lines of the program's file (`Marks`), the instructions of a code (`Instructions`), prototypes and whole sections
+//! (`Sections`). `Working` only says what the code has done.
 #![tactic(auto)]
 
 mod acquires;
 mod groups;
 mod instructions;
+pub mod marks;
 pub mod names;
 mod operands;
 pub mod sections;

@@ -2,6 +2,7 @@
 
 ghost use Rattle.std.specs.Prelude.{◌≡◌, OnOk, map};
 ghost use Rattle.std.specs.List.{flat_map, list_any};
+ghost use Rattle.std.specs.List.Sorted.{IsNonDecreasing};
 ghost use Rattle.code.specs.Lowering.{section_code};
 ghost use Rattle.code.specs.Working.Asked.{lists_of};
 ghost use Rattle.locks.specs.LockPaths.{lock_path_of, lock_paths};
@@ -11,8 +12,10 @@ ghost use Rattle.c_sections.specs.Instructions.{is_print};
 ghost use Rattle.c_sections.specs.Instructions as instruction;
 ghost use Rattle.c_sections.specs.Sections as text;
 ghost use Rattle.c_sections.specs.Sections.{has_reference};
+ghost use Rattle.c_sections.specs.Working.Marked.{marks_of};
 
 use crate::instructions::InstructionLines;
+use crate::marks::Marks;
 use crate::names::{Writer, push_local, push_struct, push_temporary, push_zero};
 use crate::temporaries::temporaries_of;
 use c_groups::laws::sections_have_plans;
@@ -188,12 +191,12 @@ fn push_end(
 ) -> Result<(), AllocError>
     ensures { OnOk result (AddsText (text.end_text section.now prints count) out.old out.new) }
 {
-    out.push_str("end:\n")?;
+    out.push_str("  goto begin;\nend:\n")?;
     push_unlocks(out, count)?;
     push_count_line(out, prints)?;
     out.push_str("  result.trap = trap;\n")?;
     push_give_line(out, section.result_type)?;
-    out.push_str("  return result;\n}\n")
+    out.push_str("  return result;\nbegin:\n")
 }
 
 /// Behind the parameters: where the numbers go that are printed.
@@ -471,7 +474,7 @@ impl Writer<'_> {
         Ok(())
     }
 
-    // What stands ahead of a section's instructions.
+    // What stands ahead of a section's end.
     fn push_front(
         &self,
         alloc: Global,
@@ -485,11 +488,10 @@ impl Writer<'_> {
         out.push_str("\n{\n")?;
         self.push_declarations(alloc, out, listed)?;
         push_uses(out, listed.section, listed.paths.len())?;
-        self.push_checks(out, listed.section)?;
         Ok(())
     }
 
-    /// A section.
+    /// A section; with marks, its C is told to be of those lines of the program's file.
     ///
     /// # Errors
     ///
@@ -499,18 +501,23 @@ impl Writer<'_> {
         alloc: Global,
         out: &mut String,
         listed: Listed<'_>,
+        marks: Option<Marks<'_>>,
     ) -> Result<(), NoMemory>
         requires paths { map lock_path_of listed.paths.now ≡ lock_paths self.now.program.now listed.section.now }
         requires code { listed.code.now.instructions.items ≡ section_code (lists_of listed) listed.section.now }
+        requires rises { IsNonDecreasing listed.code.now.begins.items }
         ensures { OnOk result (AddsText (text.section_text self.now.prefix.now self.now.program.now
-            listed.entry.section.now (lists_of listed.entry)) out.old out.new) }
+            listed.entry.section.now (lists_of listed.entry) (marks_of marks.entry listed.entry.code.now))
+            out.old out.new) }
     {
         sections_have_plans::<usize>();
         let lines = InstructionLines::new(alloc, self.program, listed)?;
         self.push_front(alloc, out, listed)?;
-        lines.push(alloc, out)?;
         let printed = prints(&listed.code.instructions);
         push_end(out, listed.section, printed, listed.paths.len())?;
+        self.push_checks(out, listed.section)?;
+        lines.push(alloc, out, marks)?;
+        out.push_str("}\n")?;
         Ok(())
     }
 }

@@ -4,7 +4,6 @@ ghost use Rattle.std.specs.Prelude.{◌≡◌, ◌++◌, OnOk, codes};
 ghost use Rattle.c_language.specs.declared.statement.Statement.TheVariants.{Set, Assign, Check, TrapIf, StoreGlobal};
 ghost use Rattle.c_language.specs.declared.statement.Statement.TheVariants.{StoreElement, StoreField, Print, GotoIf};
 ghost use Rattle.c_language.specs.declared.statement.Statement.TheVariants.{ReturnValue};
-ghost use Rattle.c_language.specs.declared.statement.Test.TheVariants.{IsNotOwned};
 ghost use Rattle.locks.specs.Texts.{AddsText};
 ghost use Rattle.c_sections.specs.Statements as text;
 
@@ -16,14 +15,14 @@ use c_language::statement::{
 use core_lang::value::Trap;
 use std::alloc::AllocError;
 
-/// The function that has the sum, the difference or the product.
+/// The macro that sets a variable to the sum, the difference or the product.
 fn checked_word(checked: Checked) -> &'static str
     ensures { result.now ≡ text.checked_text checked }
 {
     match checked {
-        Checked::Sum => "autolock_add",
-        Checked::Difference => "autolock_sub",
-        Checked::Product => "autolock_mul",
+        Checked::Sum => "AL_ADD(",
+        Checked::Difference => "AL_SUB(",
+        Checked::Product => "AL_MUL(",
     }
 }
 
@@ -49,7 +48,7 @@ fn is_null(operand: Operand) -> bool
 }
 
 impl Scope<'_> {
-    ghost use Rattle.c_sections.specs.Working.Views.{operand_of, test_of, printed_of, statement_of};
+    ghost use Rattle.c_sections.specs.Working.Views.{operand_of, test_of, condition_of, not_owned_of, printed_of, statement_of};
 
     // An operand, with words behind it.
     fn push_tested(&self, out: &mut String, operand: Operand, words: &str) -> Result<(), AllocError>
@@ -61,11 +60,10 @@ impl Scope<'_> {
 
     // An index outside, but for the length.
     fn push_outside(&self, out: &mut String, index: Operand) -> Result<(), AllocError>
-        ensures { OnOk result (AddsText (codes "(uint64_t)" ++ operand_of self.now index ++ codes " >= ")
-            out.old out.new) }
+        ensures { OnOk result (AddsText (codes "AL_OUT(" ++ operand_of self.now index ++ codes ", ") out.old out.new) }
     {
-        out.push_str("(uint64_t)")?;
-        self.push_tested(out, index, " >= ")
+        out.push_str("AL_OUT(")?;
+        self.push_tested(out, index, ", ")
     }
 
     // A reference that has another owner than a local names. `NULL` has none, and can't be followed.
@@ -76,7 +74,7 @@ impl Scope<'_> {
         member: StructMember,
         local: usize,
     ) -> Result<(), AllocError>
-        ensures { OnOk result (AddsText (test_of self.now (IsNotOwned base member local)) out.old out.new) }
+        ensures { OnOk result (AddsText (not_owned_of self.now base member local) out.old out.new) }
     {
         if is_null(base) {
             return out.push_str("0");
@@ -88,20 +86,11 @@ impl Scope<'_> {
         self.push_variable(out, local)
     }
 
-    /// What an `if` before a trap tests.
-    pub fn push_test(&self, out: &mut String, test: Test) -> Result<(), AllocError>
-        ensures { OnOk result (AddsText (test_of self.now test) out.old out.new) }
+    // What an `if` before a trap tests.
+    fn push_condition(&self, out: &mut String, test: Test) -> Result<(), AllocError>
+        ensures { OnOk result (AddsText (condition_of self.now test) out.old out.new) }
     {
         match test {
-            Test::IsNull(value) => self.push_tested(out, value, " == NULL"),
-            Test::IsNoElement(array, index) => {
-                self.push_outside(out, index)?;
-                self.push_array_length(out, array)
-            }
-            Test::IsNoMember(pool, index) => {
-                self.push_outside(out, index)?;
-                self.push_pool_length(out, pool)
-            }
             Test::IsZero(value) => self.push_tested(out, value, " == 0"),
             Test::IsLeast(value) => self.push_tested(out, value, " == INT64_MIN"),
             Test::IsLeastByMinusOne(left, right) => {
@@ -109,6 +98,39 @@ impl Scope<'_> {
                 self.push_tested(out, right, " == -1")
             }
             Test::IsNotOwned(base, member, local) => self.push_not_owned(out, base, member, local),
+            Test::IsNull(_) | Test::IsNoElement(_, _) | Test::IsNoMember(_, _) => Ok(()),
+        }
+    }
+
+    // That `if`, up to the number of the trap.
+    fn push_rare(&self, out: &mut String, test: Test) -> Result<(), AllocError>
+        ensures { OnOk result (AddsText (text.rare_text (condition_of self.now test)) out.old out.new) }
+    {
+        out.push_str("if (AL_RARE(")?;
+        self.push_condition(out, test)?;
+        out.push_str(")) AL_TRAP(")
+    }
+
+    /// The test before a trap, up to the number of the trap.
+    pub fn push_test(&self, out: &mut String, test: Test) -> Result<(), AllocError>
+        ensures { OnOk result (AddsText (test_of self.now test) out.old out.new) }
+    {
+        match test {
+            Test::IsNull(value) => {
+                out.push_str("AL_NULL(")?;
+                self.push_tested(out, value, ", ")
+            }
+            Test::IsNoElement(array, index) => {
+                self.push_outside(out, index)?;
+                self.push_array_length(out, array)?;
+                out.push_str(", ")
+            }
+            Test::IsNoMember(pool, index) => {
+                self.push_outside(out, index)?;
+                self.push_pool_length(out, pool)?;
+                out.push_str(", ")
+            }
+            _ => self.push_rare(out, test),
         }
     }
 
@@ -158,22 +180,22 @@ impl Scope<'_> {
             out.old out.new) }
     {
         let (left, right) = operands;
-        let word = checked_word(checked);
-        write!(out, "  if (AL_RARE({word}(")?;
-        self.push_between(out, left, ", ", right)?;
-        out.push_str(", &")?;
+        out.push_str("  ")?;
+        out.push_str(checked_word(checked))?;
         push_temporary(out, self.program, temporary)?;
-        out.push_str("))) AL_TRAP(3);\n")
+        out.push_str(", ")?;
+        self.push_between(out, left, ", ", right)?;
+        out.push_str(");\n")
     }
 
     // A trap.
     fn push_trap(&self, out: &mut String, test: Test, trap: Trap) -> Result<(), AllocError>
         ensures { OnOk result (AddsText (statement_of self.now (TrapIf test trap)) out.old out.new) }
     {
-        out.push_str("  if (AL_RARE(")?;
+        out.push_str("  ")?;
         self.push_test(out, test)?;
         let number = trap.number();
-        write!(out, ")) AL_TRAP({number});\n")
+        write!(out, "{number});\n")
     }
 
     // A global is set.

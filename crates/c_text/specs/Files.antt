@@ -1,12 +1,15 @@
 -- The C text of a whole program: the header, which tells what another file can use, and the file, which begins with
 -- it.
-use Rattle.std.specs.Prelude.{ℕ, Bool, List, [], ◌∷◌, ◌++◌, codes}
+use Rattle.std.specs.Prelude.{ℕ, Bool, List, [], ◌∷◌, ◌++◌, Option, Some, None, option_map, codes}
 use Rattle.core_lang.specs.declared.tree.Section.{Section}
 use Rattle.core_lang.specs.declared.typed.Typed.{Typed}
+use Rattle.code.specs.LineTables.{section_begins}
 use Rattle.code.specs.Lowering.{section_code, lists_at}
 use Rattle.c_text.specs.Joined.{joined}
+use Rattle.c_text.specs.declared.files.SourceFile.{SourceFile}
 use Rattle.c_sections.specs.Acquires.{numbered}
 use Rattle.c_sections.specs.Instructions.{prints}
+use Rattle.c_sections.specs.Marks.{mark}
 use Rattle.c_sections.specs.Sections.{prototype_text, section_text}
 use Rattle.c_text.specs.Fixed as fixed
 use Rattle.c_text.specs.Types.{types_text}
@@ -14,6 +17,18 @@ use Rattle.c_text.specs.Openings.{openings_text}
 use Rattle.c_text.specs.Pools.{tests_text, objects_text}
 use Rattle.c_text.specs.Cells.{cells_text}
 use Rattle.c_text.specs.Mains.{scripts_text, case_text, call_start, call_end, run_all}
+
+-- the program's file: its name, and its text
+pub record Source : Type 0 where
+  pub name : List ℕ
+  pub text : List ℕ
+
+abbrev pub file_of : SourceFile → Source
+file_of x = record { name = x.name.now; text = x.text.now }
+
+-- if its lines are told
+abbrev pub source_of : Option SourceFile → Option Source
+source_of x = option_map file_of x
 
 -- whether the section of a number prints, by the lists of lock paths before its points
 abbrev pub is_printing : List (List (List ℕ)) → ℕ → Section → Bool
@@ -34,7 +49,13 @@ module _ (prefix : List ℕ) (program : Typed) (lists : List (List (List ℕ))) 
   prototype_of k section = prototype_text prefix program section (is_printing lists k section) ++ codes ";\n"
 
   unfoldable pub section_of : ℕ → Section → List ℕ
-  section_of k section = section_text prefix program section (lists_at lists k)
+  section_of k section = section_text prefix program section (lists_at lists k) None
+
+  -- where its C is told to be of the lines of the program's file
+  unfoldable pub marked_of : Source → ℕ → Section → List ℕ
+  marked_of source k section =
+      section_text prefix program section (lists_at lists k)
+      (Some (mark source.name source.text section (section_begins (lists_at lists k) section)))
 
   unfoldable pub case_of : ℕ → Section → List ℕ
   case_of k section = case_text prefix program k section (is_printing lists k section)
@@ -42,8 +63,9 @@ module _ (prefix : List ℕ) (program : Typed) (lists : List (List (List ℕ))) 
   abbrev pub prototypes_text : List ℕ
   prototypes_text = numbered prototype_of 0 program.sections.items
 
-  abbrev pub sections_text : List ℕ
-  sections_text = numbered section_of 0 program.sections.items
+  abbrev pub sections_text : Option Source → List ℕ
+  sections_text None = numbered section_of 0 program.sections.items
+  sections_text (Some source) = numbered (marked_of source) 0 program.sections.items
 
   abbrev pub cases_text : List ℕ
   cases_text = numbered case_of 0 program.sections.items
@@ -58,10 +80,10 @@ module _ (prefix : List ℕ) (program : Typed) (lists : List (List (List ℕ))) 
   -- ---- the file
 
   -- the functions
-  unfoldable pub functions_text : List ℕ
-  functions_text =
+  unfoldable pub functions_text : Option Source → List ℕ
+  functions_text source =
       fixed.arithmetic_text ++ fixed.locking_text ++ tests_text prefix program ++ openings_text prefix program
-      ++ sections_text
+      ++ sections_text source
 
   -- the program that runs the threads
   unfoldable pub main_text : List ℕ
@@ -70,5 +92,6 @@ module _ (prefix : List ℕ) (program : Typed) (lists : List (List (List ℕ))) 
       ++ cases_text
       ++ call_end ++ cells_text prefix program ++ run_all prefix
 
-  unfoldable pub file_text : List ℕ
-  file_text = header_text ++ functions_text ++ main_text
+  -- with the program's file, if its lines are told
+  unfoldable pub file_text : Option Source → List ℕ
+  file_text source = header_text ++ functions_text source ++ main_text

@@ -58,8 +58,8 @@ closed_text =
     ∷ [])
 
 -- sums, differences and products of 64 bits with a sign. A reader checks that each is 1 exactly where 64 bits do
--- not hold the result, and else puts it at r, by the compiler's words and by tests that do not overflow; and that
--- AL_TRAP sets `trap` and goes to `end`. The warnings that are turned off speak of tests that are always true, and
+-- not hold the result, and else puts it at r, by the compiler's words and by tests that do not overflow; that AL_TRAP
+-- sets `trap` and goes to `end`, and the words below it do so where their comments say. The warnings that are turned off speak of tests that are always true, and
 -- of divisions behind a test of their divisor
 unfoldable pub arithmetic_text : List ℕ
 arithmetic_text =
@@ -80,6 +80,13 @@ arithmetic_text =
     ∷ codes "#define AL_RARE(x) (x)"
     ∷ codes "#endif"
     ∷ codes "#define AL_TRAP(k) do { trap = (k); goto end; } while (0)"
+    ∷ codes "/* Trap k, where p is NULL, and where i is no index below n. */"
+    ∷ codes "#define AL_NULL(p, k) if (AL_RARE((p) == NULL)) AL_TRAP(k)"
+    ∷ codes "#define AL_OUT(i, n, k) if (AL_RARE((uint64_t)(i) >= (n))) AL_TRAP(k)"
+    ∷ codes "/* r is the sum, the difference, the product of a and b, or trap 3, where 64 bits do not hold it. */"
+    ∷ codes "#define AL_ADD(r, a, b) if (AL_RARE(autolock_add((a), (b), &(r)))) AL_TRAP(3)"
+    ∷ codes "#define AL_SUB(r, a, b) if (AL_RARE(autolock_sub((a), (b), &(r)))) AL_TRAP(3)"
+    ∷ codes "#define AL_MUL(r, a, b) if (AL_RARE(autolock_mul((a), (b), &(r)))) AL_TRAP(3)"
     ∷ codes "/* A sum, a difference and a product, by r; 1 where 64 bits do not hold it. */"
     ∷ codes "#if defined(__GNUC__) && !defined(AL_PORTABLE)"
     ∷ codes "AL_INLINE int autolock_add(int64_t a, int64_t b, int64_t *r) { return __builtin_add_overflow(a, b, r); }"

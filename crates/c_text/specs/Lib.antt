@@ -5,8 +5,7 @@ pub mod Openings
 pub mod Pools
 pub mod Cells
 pub mod Mains
-pub mod Meanings
 pub mod Files
 pub mod Working
 -- what the public clauses cite
-pub use Rattle.c_text.specs.Files.{header_text, file_text}
+pub use Rattle.c_text.specs.Files.{Source, source_of, header_text, file_text}

@@ -7,7 +7,6 @@ use Rattle.std.specs.Fmt.{decimal}
 use Rattle.core_lang.specs.declared.tree.Local.{Local}
 use Rattle.core_lang.specs.declared.tree.Section.{Section}
 use Rattle.core_lang.specs.declared.typed.Call.{Call}
-use Rattle.core_lang.specs.declared.typed.Cell.{Cell}
 use Rattle.core_lang.specs.declared.typed.Thread.{Thread}
 use Rattle.core_lang.specs.declared.typed.Typed.{Typed}
 use Rattle.core_lang.specs.declared.value.Value.{Value}
@@ -15,13 +14,11 @@ use Rattle.core_lang.specs.declared.value.Value.TheVariants.{Int, Ref}
 use Rattle.core_lang.specs.declared.value.ValueType.{ValueType}
 use Rattle.core_lang.specs.declared.value.ValueType.TheVariants.{Integer, Reference}
 use Rattle.locks.specs.Texts.{struct_name}
-use Rattle.report.specs.Pieces.{owner_text}
 use Rattle.c_text.specs.Joined.{joined}
 use Rattle.c_sections.specs.Acquires.{numbered}
 use Rattle.c_sections.specs.Instructions.{where_true}
 use Rattle.c_sections.specs.Names.{number_text}
 use Rattle.c_sections.specs.Sections.{parameters, result_struct}
-use Rattle.c_text.specs.Openings.{owner_place}
 use Rattle.c_text.specs.Pools.{state_pointer}
 
 -- ---- the threads' calls

@@ -1,6 +1,6 @@
 //! The C text of a whole program.
 
-ghost use Rattle.std.specs.Prelude.{◌≡◌, ◌<◌, OnOk, IfOk, length, string_bytes};
+ghost use Rattle.std.specs.Prelude.{◌≡◌, ◌<◌, OnOk, IfOk, Some, None, length, string_bytes};
 ghost use Rattle.locks.specs.Texts.{AddsText};
 ghost use Rattle.c_text.specs.Fixed as fixed;
 ghost use Rattle.c_text.specs.Files as text;
@@ -9,6 +9,7 @@ ghost use Rattle.c_text.specs.Mains as mains;
 ghost use Rattle.c_text.specs.Openings as openings;
 ghost use Rattle.c_text.specs.Pools as pools;
 ghost use Rattle.c_text.specs.Types as types;
+ghost use Rattle.c_text.specs.Files.{file_of, source_of};
 
 use crate::fixed::{
     push_arithmetic, push_closed, push_locking, push_opened, push_runs,
@@ -16,22 +17,43 @@ use crate::fixed::{
 };
 use crate::mains::push_call_end;
 use crate::writer::FileWriter;
+use c_sections::marks::Marks;
 use c_sections::names::Writer;
 use c_sections::sections::prints;
 use code::Listed;
+use code::places::SectionPlaces;
 use lowering::compiled::Program;
+use source::cursor::Cursor;
 use source::memory::NoMemory;
 use std::alloc::{AllocError, Global};
+
+/// The program's file.
+#[derive(Clone, Copy)]
+pub struct SourceFile<'a> {
+    /// Its name.
+    pub name: &'a str,
+    /// Its text.
+    pub text: &'a [u8],
+}
 
 /// A program whose text is written, and the prefix of its names.
 #[derive(Clone, Copy)]
 struct FileText<'a> {
     program: &'a Program,
     prefix: &'a str,
+    // The program's file, if its lines are told.
+    source: Option<SourceFile<'a>>,
+}
+
+/// Finds the lines of the program's file, section after section.
+#[derive(Drop)]
+struct Marker<'a> {
+    name: &'a str,
+    cursor: Cursor<'a>,
 }
 
 impl<'a> FileText<'a> {
-    ghost use Rattle.c_text.specs.Working.Sections.{at_number, IsListed};
+    ghost use Rattle.c_text.specs.Working.Sections.{at_number, IsListed, file_in};
 
     // How many sections there are.
     fn count(&self) -> usize
@@ -90,7 +112,32 @@ impl<'a> FileText<'a> {
     {
         self.writer()
             .names
-            .push_section(alloc, out, self.listed(number))
+            .push_section(alloc, out, self.listed(number), None)
+    }
+
+    // The same, with the lines of the program's file.
+    fn push_marked_section(
+        &self,
+        alloc: Global,
+        out: &mut String,
+        marker: &mut Marker<'_>,
+        number: usize,
+    ) -> Result<(), NoMemory>
+        requires { number < length self.now.program.now.program.sections.items }
+        ensures same { file_in marker.new ≡ file_in marker.old }
+        ensures text { OnOk result (AddsText (at_number
+            (text.marked_of self.now.prefix.now self.now.program.now.program self.now.program.now.lists
+            (file_in marker.old)) self.now.program.now.program number) out.old out.new) }
+    {
+        let listed = self.listed(number);
+        let places = SectionPlaces::of(alloc, &mut marker.cursor, listed.section)?;
+        let marks = Marks {
+            name: marker.name,
+            places: &places,
+        };
+        self.writer()
+            .names
+            .push_section(alloc, out, listed, Some(marks))
     }
 
     // The call of the section of this number.
@@ -119,15 +166,48 @@ impl<'a> FileText<'a> {
     }
 
     // All sections.
-    fn push_sections(&self, alloc: Global, out: &mut String) -> Result<(), NoMemory>
+    fn push_plain_sections(&self, alloc: Global, out: &mut String) -> Result<(), NoMemory>
         ensures { OnOk result (AddsText
-            (text.sections_text self.now.prefix.now self.now.program.now.program self.now.program.now.lists)
+            (text.sections_text self.now.prefix.now self.now.program.now.program self.now.program.now.lists None)
             out.old out.new) }
     {
         for number in 0..self.count() {
             self.push_section(alloc, out, number)?;
         }
         Ok(())
+    }
+
+    // The same, with the lines of the program's file.
+    fn push_marked_sections(
+        &self,
+        alloc: Global,
+        out: &mut String,
+        source: SourceFile<'_>,
+    ) -> Result<(), NoMemory>
+        ensures { OnOk result (AddsText
+            (text.sections_text self.now.prefix.now self.now.program.now.program self.now.program.now.lists
+            (Some (file_of source.entry))) out.old out.new) }
+    {
+        let mut marker = Marker {
+            name: source.name,
+            cursor: Cursor::new(source.text),
+        };
+        for number in 0..self.count() {
+            self.push_marked_section(alloc, out, &mut marker, number)?;
+        }
+        Ok(())
+    }
+
+    // All sections, with the lines of the program's file, if they are told.
+    fn push_sections(&self, alloc: Global, out: &mut String) -> Result<(), NoMemory>
+        ensures { OnOk result (AddsText
+            (text.sections_text self.now.prefix.now self.now.program.now.program self.now.program.now.lists
+            (source_of self.now.source)) out.old out.new) }
+    {
+        match self.source {
+            None => self.push_plain_sections(alloc, out),
+            Some(source) => self.push_marked_sections(alloc, out, source),
+        }
     }
 
     // The calls of all sections.
@@ -235,8 +315,8 @@ impl<'a> FileText<'a> {
     #[tactic(auto, unfolding(crate::specs::Files::functions_text))]
     fn push_functions(&self, alloc: Global, out: &mut String) -> Result<(), NoMemory>
         ensures { OnOk result (AddsText
-            (text.functions_text self.now.prefix.now self.now.program.now.program self.now.program.now.lists)
-            out.old out.new) }
+            (text.functions_text self.now.prefix.now self.now.program.now.program self.now.program.now.lists
+            (source_of self.now.source)) out.old out.new) }
     {
         push_arithmetic(out)?;
         push_locking(out)?;
@@ -269,28 +349,42 @@ impl<'a> FileText<'a> {
 /// # Errors
 ///
 /// Want of memory.
-pub fn header(alloc: Global, program: &Program, prefix: &str) -> Result<String, NoMemory>
+pub fn header<'a>(alloc: Global, program: &'a Program, prefix: &'a str) -> Result<String, NoMemory>
     ensures { IfOk result (λ made. string_bytes made
         ≡ text.header_text prefix.now program.now.program program.now.lists) }
 {
     let mut out = String::new(alloc);
-    FileText { program, prefix }.push_header(&mut out)?;
+    let file = FileText {
+        program,
+        prefix,
+        source: None,
+    };
+    file.push_header(&mut out)?;
     Ok(out)
 }
 
 /// The C file of a program, which begins with the header: all functions, and a program that runs the threads, which is
-/// there where AL_MAIN is defined.
+/// there where AL_MAIN is defined. With the program's file, the C of each statement is told to be of the statement's line.
 ///
 /// # Errors
 ///
 /// Want of memory.
 #[tactic(auto, unfolding(crate::specs::Files::file_text))]
-pub fn file(alloc: Global, program: &Program, prefix: &str) -> Result<String, NoMemory>
+pub fn file<'a>(
+    alloc: Global,
+    program: &'a Program,
+    prefix: &'a str,
+    source: Option<SourceFile<'a>>,
+) -> Result<String, NoMemory>
     ensures { IfOk result (λ made. string_bytes made
-        ≡ text.file_text prefix.now program.now.program program.now.lists) }
+        ≡ text.file_text prefix.now program.now.program program.now.lists (source_of source.entry)) }
 {
     let mut out = String::new(alloc);
-    let file = FileText { program, prefix };
+    let file = FileText {
+        program,
+        prefix,
+        source,
+    };
     file.push_header(&mut out)?;
     file.push_functions(alloc, &mut out)?;
     file.push_main(&mut out)?;

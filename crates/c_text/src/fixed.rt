@@ -92,6 +92,13 @@ pub fn push_arithmetic(out: &mut String) -> Result<(), AllocError>
 #define AL_RARE(x) (x)
 #endif
 #define AL_TRAP(k) do { trap = (k); goto end; } while (0)
+/* Trap k, where p is NULL, and where i is no index below n. */
+#define AL_NULL(p, k) if (AL_RARE((p) == NULL)) AL_TRAP(k)
+#define AL_OUT(i, n, k) if (AL_RARE((uint64_t)(i) >= (n))) AL_TRAP(k)
+/* r is the sum, the difference, the product of a and b, or trap 3, where 64 bits do not hold it. */
+#define AL_ADD(r, a, b) if (AL_RARE(autolock_add((a), (b), &(r)))) AL_TRAP(3)
+#define AL_SUB(r, a, b) if (AL_RARE(autolock_sub((a), (b), &(r)))) AL_TRAP(3)
+#define AL_MUL(r, a, b) if (AL_RARE(autolock_mul((a), (b), &(r)))) AL_TRAP(3)
 /* A sum, a difference and a product, by r; 1 where 64 bits do not hold it. */
 #if defined(__GNUC__) && !defined(AL_PORTABLE)
 AL_INLINE int autolock_add(int64_t a, int64_t b, int64_t *r) { return __builtin_add_overflow(a, b, r); }

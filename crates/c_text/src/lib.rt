@@ -1,7 +1,8 @@
 //! The C text of a program: a header, and a file that begins with it.
 //!
 //! - [`header`]: what another file can use: types, the functions that open and close the state, prototypes of sections.
-//! - [`file`]: all functions, and a program that runs the threads, which is there where AL_MAIN is defined.
+//! - [`file`]: all functions, and a program that runs the threads, which is there where AL_MAIN is defined; with the
+//!   [`SourceFile`], each statement's C is told to be of its line.
 //!
 //! `specs/Files.antt` defines both texts byte for byte, from the texts of sections that `c_sections` defines. `Fixed`
 //! has the parts that are the same in all programs, `Types` the structs and the state, `Openings` how the state is
@@ -13,11 +14,10 @@ mod cells;
 mod files;
 mod fixed;
 mod mains;
-pub mod meaning;
 mod openings;
 mod places;
 mod pools;
 mod types;
 mod writer;
 
-pub use files::{file, header};
+pub use files::{SourceFile, file, header};

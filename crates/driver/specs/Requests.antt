@@ -27,7 +27,7 @@ IsReport Check text plan = IsCheckReport text plan
 IsReport (Listing places) text plan = IsListed places text plan
 IsReport (Serial turns) text plan = IsRun turns plan.accepted
 IsReport (Outcomes looking) text plan = IsLookedAt looking plan.accepted
-IsReport (Emit emission) text plan = IsEmitted emission plan
+IsReport (Emit emission) text plan = IsEmitted emission text plan
 
 -- and beside another file, of this name and text
 abbrev pub IsReportBeside : Beside → List ℕ → List ℕ → List ℕ → Plan → Status → List ℕ → List ℕ → Type 0

@@ -9,6 +9,8 @@ ghost use Rattle.driver.specs.Working.Answering.{Meets, IsAccepted, IsMessage};
 ghost use Rattle.driver.specs.Answers.{TextAnswers};
 ghost use Rattle.driver.specs.Requests.{BesideAnswers, IsReport};
 ghost use Rattle.driver.specs.Checks.{IsCheckReport};
+ghost use Rattle.c_text.specs.Files.{source_of};
+ghost use Rattle.driver.specs.Emissions as emissions;
 ghost use Rattle.driver.specs.Emissions.{IsEmitted, emitted_text};
 ghost use Rattle.driver.specs.Listings.{IsListed};
 ghost use Rattle.driver.specs.Serial.{IsRun};
@@ -21,8 +23,8 @@ use crate::simulating::simulated;
 use crate::status::Status;
 use crate::threads_run::run_by_threads;
 use crate::tracing::traced;
-use c_text::meaning::sections_mean;
-use c_text::{file, header};
+use c_text::{SourceFile, file, header};
+use c_threads::meaning::{sections_mean, threads_mean};
 use compiler::compile;
 use core_lang::laws;
 use core_lang::typed::Typed;
@@ -137,23 +139,47 @@ fn listed(alloc: Global, places: bool, text: &[u8], program: &Program) -> Result
     Ok(Answer::done(alloc, listing(alloc, program)?))
 }
 
-/// The C text of a program, or its header.
-fn c_of(alloc: Global, emission: Emission<'_>, program: &Program) -> Result<String, NoMemory>
-    ensures { IfOk result (λ text. string_bytes text ≡ emitted_text emission.entry program.now) }
+/// The file of the program's text, if its lines are told.
+fn source_in<'a>(emission: Emission<'a>, text: &'a [u8]) -> Option<SourceFile<'a>>
+    ensures { source_of result ≡ emissions.source_in emission.entry text.entry.now }
+{
+    if !emission.lines {
+        return None;
+    }
+    Some(SourceFile {
+        name: emission.file,
+        text,
+    })
+}
+
+/// The C text of a program with this text, or its header.
+fn c_of(
+    alloc: Global,
+    emission: Emission<'_>,
+    text: &[u8],
+    program: &Program,
+) -> Result<String, NoMemory>
+    ensures { IfOk result (λ made. string_bytes made ≡ emitted_text emission.entry text.now program.now) }
 {
     if emission.header {
         return header(alloc, program, emission.prefix);
     }
-    file(alloc, program, emission.prefix)
+    file(alloc, program, emission.prefix, source_in(emission, text))
 }
 
 /// The answer to `emit`.
-fn emitted(alloc: Global, emission: Emission<'_>, program: &Program) -> Result<Answer, NoMemory>
-    ensures { IfOk result (Meets (IsEmitted emission.entry program.now)) }
+fn emitted(
+    alloc: Global,
+    emission: Emission<'_>,
+    text: &[u8],
+    program: &Program,
+) -> Result<Answer, NoMemory>
+    ensures { IfOk result (Meets (IsEmitted emission.entry text.now program.now)) }
 {
     sections_mean(program);
-    let text = c_of(alloc, emission, program)?;
-    Ok(Answer::done(alloc, Rope::of(alloc, text)))
+    threads_mean(program);
+    let made = c_of(alloc, emission, text, program)?;
+    Ok(Answer::done(alloc, Rope::of(alloc, made)))
 }
 
 /// The text of a program's run.
@@ -206,7 +232,7 @@ fn reported(
             };
             exploring.answer(alloc)
         }
-        Report::Emit(emission) => emitted(alloc, emission, program),
+        Report::Emit(emission) => emitted(alloc, emission, text, program),
     }
 }
 

@@ -91,6 +91,10 @@ with_header app = with_rule app (flag_rule (codes "header"))
 abbrev pub with_prefix : App → App
 with_prefix app = with_rule app prefix_rule
 
+-- a command that takes --lines besides
+abbrev pub with_lines : App → App
+with_lines app = with_rule app (flag_rule (codes "lines"))
+
 -- a command that must have a subcommand
 abbrev pub needs_subcommand : App → App
 needs_subcommand app = record app { top = record app.top { subcommand_required = true } }
@@ -119,9 +123,9 @@ with_order app = with_subcommand app (with_file (codes "order")).top
 abbrev pub with_listing : App → App
 with_listing app = with_subcommand app (with_places (with_file (codes "listing"))).top
 
--- autolock emit [--header] [--prefix NAME] FILE
+-- autolock emit [--header] [--prefix NAME] [--lines] FILE
 abbrev pub with_emit : App → App
-with_emit app = with_subcommand app (with_prefix (with_header (with_file (codes "emit")))).top
+with_emit app = with_subcommand app (with_lines (with_prefix (with_header (with_file (codes "emit"))))).top
 
 -- autolock serial [--turns N] FILE
 abbrev pub with_serial : App → App

@@ -49,6 +49,8 @@ IsAlone command rows (Report (Outcomes looking)) =
 IsAlone command rows (Report (Emit emission)) =
     (command ≡ codes "emit") × IsFlag (codes "header") rows emission.header
     × (emission.prefix.now ≡ name_in (codes "prefix") rows)
+    × IsFlag (codes "lines") rows emission.lines
+    × (emission.file.now ≡ name_in (codes "FILE") rows)
 IsAlone command rows Order = command ≡ codes "order"
 IsAlone command rows (Explain json) = (command ≡ codes "explain") × IsFlag (codes "json") rows json
 IsAlone command rows Run = command ≡ codes "run"

@@ -4,7 +4,7 @@ ghost use Rattle.std.specs.Prelude.{◌≡◌, IfOk, codes, false};
 ghost use Rattle.clap.specs.Words.{rule_of};
 ghost use Rattle.driver_words.specs.Commands.{Adds, AddsRule, IsCommand, autolock, with_file, with_steps, with_history};
 ghost use Rattle.driver_words.specs.Commands.{file_rule, flag_rule, number_rule, count_rule, prefix_rule, seed_rule, turns_rule};
-ghost use Rattle.driver_words.specs.Commands.{with_count, with_header, with_json, with_places, with_prefix, with_sections};
+ghost use Rattle.driver_words.specs.Commands.{with_count, with_header, with_json, with_lines, with_places, with_prefix, with_sections};
 ghost use Rattle.driver_words.specs.Commands.{with_seed, with_turns, with_why};
 
 use clap::builder::ValueParser;
@@ -121,13 +121,15 @@ fn listing_command<'a>(alloc: Global) -> Result<Command<'a>, AllocError>
 
 /// `emit`.
 fn emit_command<'a>(alloc: Global) -> Result<Command<'a>, AllocError>
-    ensures { IfOk result (IsCommand (with_prefix (with_header (with_file (codes "emit"))))) }
+    ensures { IfOk result (IsCommand (with_lines (with_prefix (with_header (with_file (codes "emit")))))) }
 {
     let about = "Write the sections in C, with their locks placed";
     let command = file_command(alloc, "emit", about);
     let help = "Write the header of that C file";
     let command = with_argument(command, flag_argument(alloc, "header", help));
-    with_argument(command, prefix_argument(alloc))
+    let command = with_argument(command, prefix_argument(alloc));
+    let help = "Tell debuggers and sanitizers the lines of FILE";
+    with_argument(command, flag_argument(alloc, "lines", help))
 }
 
 /// `serial`.

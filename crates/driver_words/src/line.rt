@@ -71,6 +71,10 @@ pub struct Emission<'a> {
     pub header: bool,
     /// What the names of C begin with: a letter, then letters and digits; at most 32 bytes.
     pub prefix: &'a str,
+    /// Whether the C of each statement is told to be of the statement's line, for debuggers and sanitizers.
+    pub lines: bool,
+    /// The name of the program's file, as it was given, which is told with its lines.
+    pub file: &'a str,
 }
 
 /// How the orders of a program's calls are looked at.

@@ -74,6 +74,8 @@ fn request<'a>(command: &str, matches: &ArgMatches<'a>) -> Option<Request<'a>>
         "emit" => Request::Alone(Alone::Report(Report::Emit(Emission {
             header: flag(matches, "header"),
             prefix: name(matches, "prefix"),
+            lines: flag(matches, "lines"),
+            file: name(matches, "FILE"),
         }))),
         "run" => Request::Alone(Alone::Run),
         "simulate" => Request::Beside(Beside::Simulate, name(matches, "STEPS")),
@@ -98,8 +100,9 @@ fn line<'a>(command: &str, matches: &ArgMatches<'a>) -> Option<Line<'a>>
     ensures line { IfSome result (IsLine command.now (rows_of (found_of matches.now))) }
     ensures none { result ≡ None → IsOwnName command.now → ⊥ }
 {
+    let file = name(matches, "FILE");
     Some(Line {
-        file: name(matches, "FILE"),
+        file,
         request: request(command, matches)?,
     })
 }

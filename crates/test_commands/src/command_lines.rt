@@ -50,8 +50,9 @@ autolock explain F --json => Line { file: \"F\", request: Alone(Explain { json: 
 autolock order F => Line { file: \"F\", request: Alone(Order) }
 autolock listing F => Line { file: \"F\", request: Alone(Report(Listing { places: false })) }
 autolock listing --places F => Line { file: \"F\", request: Alone(Report(Listing { places: true })) }
-autolock emit F => Line { file: \"F\", request: Alone(Report(Emit(Emission { header: false, prefix: \"al\" }))) }
-autolock emit --header --prefix bank F => Line { file: \"F\", request: Alone(Report(Emit(Emission { header: true, prefix: \"bank\" }))) }
+autolock emit F => Line { file: \"F\", request: Alone(Report(Emit(Emission { header: false, prefix: \"al\", lines: false, file: \"F\" }))) }
+autolock emit --header --prefix bank F => Line { file: \"F\", request: Alone(Report(Emit(Emission { header: true, prefix: \"bank\", lines: false, file: \"F\" }))) }
+autolock emit --lines F => Line { file: \"F\", request: Alone(Report(Emit(Emission { header: false, prefix: \"al\", lines: true, file: \"F\" }))) }
 autolock serial F => Line { file: \"F\", request: Alone(Report(Serial { turns: 1000000 })) }
 autolock serial --turns 7 F => Line { file: \"F\", request: Alone(Report(Serial { turns: 7 })) }
 autolock serial --turns=0 F => Line { file: \"F\", request: Alone(Report(Serial { turns: 0 })) }

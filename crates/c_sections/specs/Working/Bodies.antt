@@ -1,5 +1,5 @@
 -- The texts of instructions, of values of the code. Nobody has to believe these.
-use Rattle.std.specs.Prelude.{◌≡◌, ℕ, List, map}
+use Rattle.std.specs.Prelude.{◌≡◌, ℕ, List, map, Option}
 use Rattle.core_lang.specs.declared.typed.Typed.{Typed}
 use Rattle.locks.specs.LockPaths.{LockPath, lock_path_of}
 use Rattle.code.specs.declared.instr.Instr.{Instr}
@@ -57,3 +57,19 @@ instr_of x place =
 
 abbrev pub instrs_of : InstructionLines → List ℕ
 instrs_of x = text.instrs_text (program_of x) x.scope.section.now (lists_of x.listed) (paths_of x) (code_of x)
+
+-- with a text ahead of the instruction at each place
+abbrev pub marked_of : InstructionLines → (ℕ → List ℕ) → ℕ → List ℕ
+marked_of x mark place =
+    text_at (text.marked_instr (program_of x) x.scope.section.now (lists_of x.listed) (paths_of x) mark (code_of x) place)
+    (code_of x) place
+
+abbrev pub all_marked : InstructionLines → (ℕ → List ℕ) → List ℕ
+all_marked x mark = text.marked_text (program_of x) x.scope.section.now (lists_of x.listed) (paths_of x) mark (code_of x)
+
+abbrev pub body_of : InstructionLines → Option (ℕ → List ℕ) → List ℕ
+body_of x mark = text.body_text (program_of x) x.scope.section.now (lists_of x.listed) (paths_of x) mark (code_of x)
+
+-- where points begin
+abbrev pub begins_of : InstructionLines → List ℕ
+begins_of x = x.listed.code.now.begins.items

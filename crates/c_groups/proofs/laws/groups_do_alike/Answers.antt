@@ -7,3 +7,6 @@ returns-clause-alike g c = groups_do_alike
 
 pub returns-clause-leads : goal.returns-clause-leads
 returns-clause-leads g c = groups_lead_on
+
+pub returns-clause-on_held : goal.returns-clause-on_held
+returns-clause-on_held g c = groups_lead_on

@@ -1,4 +1,6 @@
-use Rattle.std.proofs.Common.{◌≡◌, ◌∙◌, ◌++◌, ℕ, List, map, length, string_bytes, sym, ap, subst}
+use Rattle.std.proofs.Common.{◌≡◌, ◌∙◌, ◌++◌, ℕ, List, Option, map, length, string_bytes, sym, ap, subst}
+use Rattle.std.specs.List.Sorted.{IsNonDecreasing}
+use Rattle.std.specs.Prelude.{codes}
 use Rattle.std.proofs.lemmas.List.{length-map}
 use Rattle.core_lang.specs.declared.typed.Typed.{Typed}
 use Rattle.core_lang.specs.declared.tree.Section.{Section}
@@ -9,9 +11,11 @@ use Rattle.code.specs.declared.instr.Instr.{Instr}
 use Rattle.code.specs.declared.listed.Listed.{Listed}
 use Rattle.c_groups.specs.Plans.{IsPlan, plan}
 use Rattle.c_sections.specs.declared.instructions.InstructionLines.{InstructionLines}
-use Rattle.c_sections.specs.Instructions.{prints, instrs_text}
-use Rattle.c_sections.specs.Sections.{front_text, end_text, text_of, section_text}
+use Rattle.c_sections.specs.declared.marks.Marks.{Marks}
+use Rattle.c_sections.specs.Instructions.{prints, body_text}
+use Rattle.c_sections.specs.Sections.{front_text, end_text, checks, text_of, section_text}
 use Rattle.c_sections.specs.Working.Bodies as body
+use Rattle.c_sections.specs.Working.Marked.{marks_of}
 use Rattle.c_sections.specs.Working.Prototypes.{front_of, code_of}
 use Rattle.c_sections.proofs.Chains.{more}
 use Rattle.c_sections.proofs.names.Writer.push_section.Goals as goal
@@ -26,22 +30,26 @@ lines_plan program listed x b law =
     subst (λ (p : Typed). IsPlan p (body.code_of x) (plan p (body.code_of x))) (sym b.program_is)
     (subst (λ (l : Listed). IsPlan program (code_of l) (plan program (code_of l))) (sym b.listed_is) law)
 
-lines_text : (program : Typed) (listed : Listed) (x : InstructionLines) → body.IsBodyOf program listed x →
-    body.instrs_of x ≡ instrs_text program listed.section.now (lists_of listed) (map lock_path_of listed.paths.now) (code_of listed)
-lines_text program listed x b =
-    ap (λ p. instrs_text p x.scope.section.now (lists_of x.listed) (map lock_path_of x.listed.paths.now) (code_of x.listed)) b.program_is
-    ∙ ap (λ s. instrs_text program s (lists_of x.listed) (map lock_path_of x.listed.paths.now) (code_of x.listed)) b.section_is
-    ∙ ap (λ (l : Listed). instrs_text program listed.section.now (lists_of l) (map lock_path_of l.paths.now) (code_of l)) b.listed_is
+lines_text : (marks : Option Marks) (program : Typed) (listed : Listed) (x : InstructionLines) → body.IsBodyOf program listed x →
+    body.body_of x (marks_of marks x.listed.code.now)
+    ≡ body_text program listed.section.now (lists_of listed) (map lock_path_of listed.paths.now) (marks_of marks listed.code.now) (code_of listed)
+lines_text marks program listed x b =
+    let written = λ (p : Typed) (s : Section) (l : Listed).
+    body_text p s (lists_of l) (map lock_path_of l.paths.now) (marks_of marks l.code.now) (code_of l) in
+    ap (λ p. written p x.scope.section.now x.listed) b.program_is
+    ∙ ap (λ s. written program s x.listed) b.section_is
+    ∙ ap (λ (l : Listed). written program listed.section.now l) b.listed_is
 
 -- the section's text, by its code and its lock paths
-is_text : (prefix : List ℕ) (program : Typed) (section : Section) (lists : List (List ℕ)) (code : List Instr) (paths : List LockPath) (n : ℕ) →
-    n ≡ length paths → code ≡ section_code lists section → paths ≡ lock_paths program section →
-    front_text prefix program section code n ++ instrs_text program section lists paths code ++ end_text section (prints code) n
-    ≡ section_text prefix program section lists
-is_text prefix program section lists code paths n count is all =
-    ap (λ k. front_text prefix program section code k ++ instrs_text program section lists paths code ++ end_text section (prints code) k) count
-    ∙ ap (λ c. text_of prefix program section lists c paths) is
-    ∙ ap (text_of prefix program section lists (section_code lists section)) all
+is_text : (prefix : List ℕ) (program : Typed) (section : Section) (lists : List (List ℕ)) (mark : Option (ℕ → List ℕ)) (code : List Instr)
+    (paths : List LockPath) (n : ℕ) → n ≡ length paths → code ≡ section_code lists section → paths ≡ lock_paths program section →
+    front_text prefix program section code n ++ end_text section (prints code) n ++ checks prefix program section
+    ++ body_text program section lists paths mark code ++ codes "}\n" ≡ section_text prefix program section lists mark
+is_text prefix program section lists mark code paths n count is all =
+    ap (λ k. front_text prefix program section code k ++ end_text section (prints code) k ++ checks prefix program section
+    ++ body_text program section lists paths mark code ++ codes "}\n") count
+    ∙ ap (λ c. text_of prefix program section lists c paths mark) is
+    ∙ ap (λ ps. text_of prefix program section lists (section_code lists section) ps mark) all
 
 pub push_front-requires : goal.push_front-requires
 push_front-requires c =
@@ -58,6 +66,10 @@ push-requires-clause-plan c =
     lines_plan program listed c.in_ok-lines.lines c.in_ok-lines.ensures.body
     (has_plan program (code_of listed) lists listed.section.now c.requires.code (c.sections_have_plans.ensures program lists listed.section.now))
 
+pub push-requires-clause-rises : goal.push-requires-clause-rises
+push-requires-clause-rises c =
+    subst (λ (l : Listed). IsNonDecreasing l.code.now.begins.items) (sym c.in_ok-lines.ensures.body.listed_is) c.requires.rises
+
 pub returns : goal.returns
 returns c =
     let x = c.args.self.now in
@@ -65,19 +77,28 @@ returns c =
     let listed = c.args.listed in
     let lines = c.in_ok-lines.lines in
     let n = length listed.paths.now in
+    let paths = map lock_path_of listed.paths.now in
+    let mark = marks_of c.args.marks listed.code.now in
     let old = string_bytes c.args.out.now in
     let a = front_of x listed in
-    let b = instrs_text program listed.section.now (lists_of listed) (map lock_path_of listed.paths.now) (code_of listed) in
     let z = end_text listed.section.now (prints (code_of listed)) n in
+    let t = checks x.prefix.now program listed.section.now in
+    let b = body_text program listed.section.now (lists_of listed) paths mark (code_of listed) in
     let m1 = string_bytes c.push_front.new.out in
-    let m2 = string_bytes c.push.new.out in
-    let new = string_bytes c.push_end.new.out in
-    let whole : new ≡ old ++ (a ++ b ++ z) =
-    more old (a ++ b) z m2 new
-    (more old a b m1 m2 c.in_ok-push_front.ensures
-    (c.in_ok-push.ensures ∙ ap (λ t. m1 ++ t) (lines_text program listed lines c.in_ok-lines.ensures.body)))
+    let m2 = string_bytes c.push_end.new.out in
+    let m3 = string_bytes c.push_checks.new.out in
+    let m4 = string_bytes c.push.new.out in
+    let new = string_bytes c.push_str.new.self in
+    let whole : new ≡ old ++ (a ++ z ++ t ++ b ++ codes "}\n") =
+    more old (a ++ z ++ t ++ b) (codes "}\n") m4 new
+    (more old (a ++ z ++ t) b m3 m4
+    (more old (a ++ z) t m2 m3
+    (more old a z m1 m2 c.in_ok-push_front.ensures
     (c.in_ok-push_end.ensures
-    ∙ ap (λ p. m2 ++ end_text listed.section.now p n) (c.prints-printed.ensures ∙ ap prints c.deref.ensures.value)) in
+    ∙ ap (λ p. m1 ++ end_text listed.section.now p n) (c.prints-printed.ensures ∙ ap prints c.deref.ensures.value)))
+    c.in_ok-push_checks.ensures)
+    (c.in_ok-push.ensures ∙ ap (λ t. m3 ++ t) (lines_text c.args.marks program listed lines c.in_ok-lines.ensures.body)))
+    c.in_ok-push_str.ensures.bytes in
     whole ∙ ap (λ t. old ++ t)
-    (is_text x.prefix.now program listed.section.now (lists_of listed) (code_of listed) (map lock_path_of listed.paths.now) n
+    (is_text x.prefix.now program listed.section.now (lists_of listed) mark (code_of listed) paths n
     (sym (length-map listed.paths.now lock_path_of)) c.requires.code c.requires.paths)

@@ -6,14 +6,15 @@ use Rattle.c_sections.proofs.operands.Scope.push_check.Goals as goal
 
 pub returns : goal.returns
 returns c =
-    then c.push_str-2.result
-    (piece_added c.push_str-2.result (string_bytes c.push_str-2.new.self) (string_bytes c.push_temporary.new.out)
-    (codes "))) AL_TRAP(3);\n") c.push_str-2.ensures.bytes)
+    then c.push_str-4.result
+    (piece_added c.push_str-4.result (string_bytes c.push_str-4.new.self) (string_bytes c.push_between.new.out)
+    (codes ");\n") c.push_str-4.ensures.bytes)
     (λ e. simp append_assoc (simp (
-      c.in_ok-push_temporary.ensures,
-      c.in_ok-push_str.ensures.bytes,
       c.in_ok-push_between.ensures,
-      c.in_ok-write.ensures.bytes,
-      c.checked_word-word.ensures,
+      c.in_ok-push_str-3.ensures.bytes,
+      c.in_ok-push_temporary.ensures,
+      c.in_ok-push_str-2.ensures.bytes,
+      c.in_ok-push_str.ensures.bytes,
+      c.checked_word.ensures,
       append_assoc,
     ) at e))

@@ -1,7 +1,14 @@
 use Rattle.std.proofs.Common.{◌∙◌, ◌++◌, List, ℕ, ap, string_bytes}
 use Rattle.std.proofs.lemmas.Result.{on_ok_weaker}
+use Rattle.code.specs.Lowering.{lists_at}
+use Rattle.code.specs.Theory.LineTables.{table_rises}
 use Rattle.c_text.proofs.Sections.{section_is}
 use Rattle.c_text.proofs.files.FileText.push_section.Goals as goal
+
+pub push_section-requires-clause-rises : goal.push_section-requires-clause-rises
+push_section-requires-clause-rises c =
+    let listed = c.listed.result in
+    table_rises (lists_at c.args.self.now.program.now.lists c.args.number) listed.section.now listed.code.now.begins.items c.listed.ensures.begins
 
 pub returns : goal.returns
 returns c =

@@ -1,0 +1,15 @@
+pub mod Texts
+pub mod Arrays
+pub mod Orders
+pub mod Loops
+pub mod Runs
+pub mod Noting
+pub mod ClassRuns
+pub mod Acquires
+pub mod Addresses
+pub mod Taking
+pub mod Giving
+pub mod Roots
+pub mod Calls
+pub mod Standing
+pub mod Examples

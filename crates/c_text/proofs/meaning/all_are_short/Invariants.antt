@@ -1,7 +1,0 @@
-use Rattle.std.proofs.Common.{take}
-use Rattle.std.specs.List.{All}
-use Rattle.c_text.specs.Working.Codes.{IsShortCode}
-use Rattle.c_text.proofs.meaning.all_are_short.Given as goal
-
-abbrev pub invariant-loop-made : goal.invariant-loop-made
-invariant-loop-made l = All IsShortCode (take l.made-index l.code.sections.items)

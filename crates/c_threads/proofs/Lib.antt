@@ -1,0 +1,17 @@
+mod Lists
+mod Shared
+mod Turns
+mod InOrder
+mod Worlds
+mod Giving
+mod Beside
+mod Numbers
+mod Stands
+mod Calls
+mod Steps
+mod Runs
+mod Covered
+mod Waiting
+mod Headline
+mod Outside
+mod Examples

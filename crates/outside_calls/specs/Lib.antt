@@ -1,0 +1,3 @@
+pub mod Outside
+-- what the public clauses cite
+pub use Rattle.outside_calls.specs.Outside.{CallsMayComeFromOutside}
