@@ -34,7 +34,7 @@ _autolock() {
         help/*) mapfile -t COMPREPLY < <(compgen -W "$commands" -- "$word") ;;
         serial/-*) mapfile -t COMPREPLY < <(compgen -W "--turns -h --help" -- "$word") ;;
         outcomes/-*) mapfile -t COMPREPLY < <(compgen -W "--count --seed --turns -h --help" -- "$word") ;;
-        replay/-*) mapfile -t COMPREPLY < <(compgen -W "--turns --why -h --help" -- "$word") ;;
+        replay/-*) mapfile -t COMPREPLY < <(compgen -W "--turns --why --open -h --help" -- "$word") ;;
         trace/-*) mapfile -t COMPREPLY < <(compgen -W "--sections -h --help" -- "$word") ;;
         explain/-*) mapfile -t COMPREPLY < <(compgen -W "--json -h --help" -- "$word") ;;
         emit/-*) mapfile -t COMPREPLY < <(compgen -W "--header --prefix --lines -h --help" -- "$word") ;;

@@ -26,6 +26,7 @@ complete -c autolock -n '__fish_seen_subcommand_from serial outcomes replay' -l 
 complete -c autolock -n '__fish_seen_subcommand_from outcomes' -l count -x -d 'How many orders to look at, at most'
 complete -c autolock -n '__fish_seen_subcommand_from outcomes' -l seed -x -d 'Which orders to draw, where there are more'
 complete -c autolock -n '__fish_seen_subcommand_from replay' -l why -d 'Say what may stand where the history differs'
+complete -c autolock -n '__fish_seen_subcommand_from replay' -l open -d 'Take calls from outside: any threads call any sections, whatever the scripts are'
 complete -c autolock -n '__fish_seen_subcommand_from explain' -l json -d 'Tell it as a JSON object, in one line'
 complete -c autolock -n '__fish_seen_subcommand_from listing' -l places -d 'Tell where each instruction\'s statement starts'
 complete -c autolock -n '__fish_seen_subcommand_from emit' -l header -d 'Write the header of that C file'

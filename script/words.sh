@@ -13,6 +13,7 @@ turns=
 count=
 seed=
 why=
+open=
 sections=
 places=
 header=
@@ -20,6 +21,7 @@ lines=
 prefix=
 json=
 used=
+settled=
 files=()
 
 has_prefix=
@@ -84,7 +86,7 @@ flags_of() {
         listing) echo places ;;
         emit) echo header lines ;;
         trace) echo sections ;;
-        replay) echo why ;;
+        replay) echo why open ;;
     esac
 }
 
@@ -109,7 +111,8 @@ usage_of() {
     esac
 }
 
-# The options that were used with one more, in the order in which they came.
+# The options that were used with one more, in the order in which they came. `settled` are those before the last word or
+# option with its value.
 used_with() {
     case " $used " in
         *" $1 "*) echo "$used" ;;
@@ -171,7 +174,7 @@ refuse_long() {
     case $command in
         serial) options=(turns help) ;;
         outcomes) options=(count seed turns help) ;;
-        replay) options=(turns why help) ;;
+        replay) options=(turns why open help) ;;
         trace) options=(sections help) ;;
         listing) options=(places help) ;;
         emit) options=(header prefix lines help) ;;
@@ -200,7 +203,7 @@ refuse_long() {
             emit) near=$(similar "$name" header prefix lines help | tail -n 1) ;;
             serial) near=$(similar "$name" turns help | tail -n 1) ;;
             outcomes) near=$(similar "$name" count seed turns help | tail -n 1) ;;
-            replay) near=$(similar "$name" turns why help | tail -n 1) ;;
+            replay) near=$(similar "$name" turns why open help | tail -n 1) ;;
             trace) near=$(similar "$name" sections help | tail -n 1) ;;
             explain) near=$(similar "$name" json help | tail -n 1) ;;
         esac
@@ -372,6 +375,7 @@ judge_arguments() {
         esac
         [ ${#files[@]} -lt $most ] || refuse "unexpected argument '$1' found" "$(usage_of "$command")"
         files+=("$1")
+        settled=$used
         shift
     done
     missing=

@@ -52,6 +52,7 @@ for script in examples language statuses words limited_memory; do
 done
 try tests/rows.py "$program"
 try tests/rows.py "$program" --cuts
+try tests/open.py "$program" examples/*.al
 try tests/runs.py "$program" --times 5 --transfers 200
 tests/rows.py --write "$room"
 try tests/failing.py --program "$program" --commands run --every 7 \

@@ -55,6 +55,9 @@ echo '0*2' >two_steps
 { printf '0 began f()\n'; cat simulated; } >traced_sections
 printf 'history 2\ncall 0 0 0 f() ends\ncells\nn 1\nend\n' >history_2
 printf 'history 1\ncall 0 0 f() ends\ncells\nn 2\nend\n' >other_history
+printf 'history 1\ncall 4294967295 0 f() ends\ncall 7 0 f() ends\ncells\nn 1\nend\n' >open_history
+printf 'history 1\ncall 7 0 f() ends\ncall 7 0 f() ends\ncells\nn 1\nend\n' >other_open_history
+printf 'differs at line 3\nwanted: K 1\nfound: call 7 0 f() ends\n' >differs_open
 printf 'history 1\ncall 0 0 f() ends\ncells\nn 01\nend\n' >bad_history
 printf 'lock G;\nglobal int n protected_by(G);\natomic f() { while (n < 3) { n = n + 1; } }\nthread t { f(); }\n' >loop.al
 printf 'history 1\ncall 0 0 f() ends\ncells\nn 3\nend\n' >loop_history
@@ -105,6 +108,8 @@ run "run" 0 history_2 none run right.al
 run "replay" 0 same none replay right.al history
 run "replay, of the second format" 0 same none replay right.al history_2
 run "replay, with turns enough" 0 same none replay --turns 3 loop.al loop_history
+run "replay, of calls from outside" 0 same none replay --open right.al open_history
+run "replay, of calls from outside that differ" 5 differs_open none replay --open --why right.al other_open_history
 run "another history" 5 differs none replay right.al other_history
 run "a fault of the history" 6 none history_fault replay right.al bad_history
 run "a call past its turns" 7 unsettled none replay --turns 2 loop.al loop_history

@@ -135,6 +135,30 @@ same replay --why --turn right.al missing.al
 same replay --why right.al --foo
 same replay --why --hel
 same replay --why a b c
+same replay --open
+same replay --open right.al
+same replay --open right.al missing.al
+same replay --turns 3 --open right.al
+same replay --open --why right.al
+same replay --why --open --turns 3 right.al
+same replay --open --open right.al missing.al
+same replay --open=x right.al missing.al
+same replay --why --open=x right.al missing.al
+same replay --open --why=x right.al missing.al
+same replay --turns 3 --open=x right.al missing.al
+same replay --turns 3 --why --open=x right.al missing.al
+same replay --why --turns 3 --open=x right.al missing.al
+same replay --turns 3 right.al --open=x missing.al
+same replay --open --open=x right.al missing.al
+same replay --open --why --foo right.al missing.al
+same replay --opn right.al missing.al
+same replay --turns 3 --op right.al missing.al
+same replay --open right.al --foo
+same replay --open a b c
+same replay --turns --open right.al missing.al
+same replay --turns --open=x right.al missing.al
+same serial --open right.al
+same --open replay right.al
 same serial --why right.al
 same explain --json
 same explain --json right.al --foo
@@ -305,7 +329,7 @@ same serial --turns 3 missing.al
 commands=$(sed -n '/^Commands:/,/^$/s/^  \([a-z]*\) .*/\1/p' "$top/script/help/autolock.txt")
 options=$(sed -n 's/^ *\(-[a-zA-Z], \)\{0,1\}--\([a-z]*\).*/\2/p' "$top"/script/help/*.txt | sort -u)
 [ "$(echo $commands)" = "check explain order listing emit serial outcomes simulate trace run replay help" ] || fail "the commands of the help: $commands"
-[ "$(echo $options)" = "count header help json lines places prefix sections seed turns version why" ] || fail "the options of the help: $options"
+[ "$(echo $options)" = "count header help json lines open places prefix sections seed turns version why" ] || fail "the options of the help: $options"
 for file in completions/autolock.bash completions/_autolock completions/autolock.fish docs/autolock.1; do
     for word in $commands $options; do
         sed 's/\\-/-/g' "$top/$file" | grep -qw -- "$word" || fail "$file lacks $word"

@@ -11,3 +11,4 @@ pub mod LongOrders
 pub mod ServingLemmas
 pub mod AnswerLemmas
 pub mod AloneLemmas
+pub mod AddedTexts

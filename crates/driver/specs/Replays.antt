@@ -8,11 +8,16 @@ use Rattle.std.specs.Str.Lossy.{utf8_lossy}
 use Rattle.code.specs.Listing.{line}
 use Rattle.lowering.specs.Plans.{Plan}
 use Rattle.source_histories.specs.declared.format.Format.{Format}
+use Rattle.source_histories.specs.declared.format.Format.TheVariants.{One, Two}
 use Rattle.source_histories.specs.declared.refusal.HistoryFault.{HistoryFault}
 use Rattle.source_histories.specs.Histories.{history_in}
 use Rattle.source_histories.specs.Refusals.{history_fault_text}
+use Rattle.replay.specs.declared.callers.Callers.{Callers}
+use Rattle.replay.specs.declared.callers.Callers.TheVariants.{Scripts, Anyone}
 use Rattle.replay.specs.declared.verdict.Verdict.{Verdict}
 use Rattle.replay.specs.declared.verdict.Verdict.TheVariants as verdict
+use Rattle.replay.specs.declared.wanted.Lack.{Lack}
+use Rattle.replay.specs.declared.wanted.Lack.TheVariants as lack
 use Rattle.replay.specs.declared.wanted.Wanted.{Wanted}
 use Rattle.replay.specs.declared.wanted.Wanted.TheVariants as wanted
 use Rattle.replay.specs.Verdicts.{Holds}
@@ -20,6 +25,10 @@ use Rattle.replay.specs.Wanted.{Explains}
 use Rattle.driver_words.specs.declared.line.Judging.{Judging}
 use Rattle.driver.specs.declared.status.Status.{Status}
 use Rattle.driver.specs.declared.status.Status.TheVariants.{Done, Differs, BadInput, Unsettled}
+
+-- who calls: the scripts, or, with --open, anyone
+abbrev pub callers_of : Bool → Callers
+callers_of anyone = if anyone then Anyone else Scripts
 
 -- what is written of a verdict
 abbrev pub verdict_text : Verdict → List ℕ
@@ -36,11 +45,34 @@ verdict_status (verdict.Unsettled number) = Unsettled
 abbrev pub call_wanted : List ℕ → List ℕ
 call_wanted head = line (codes "wanted: " ++ head ++ codes "..")
 
--- what may come at a line: the line, or for each call that may come the line up to its end
+-- words that say what may come
+abbrev pub wanted_line : List ℕ → List ℕ
+wanted_line words = line (codes "wanted: " ++ words)
+
+-- the form of a call's line
+abbrev pub form_text : Format → List ℕ
+form_text One = codes "call T K NAME(ARGUMENTS) .."
+form_text Two = codes "call T K B NAME(ARGUMENTS) .."
+
+-- from where to where a begin may be
+abbrev pub begins_text : ℕ → ℕ → List ℕ
+begins_text least most = (codes "wanted: B from " ++ decimal least) ++ line (codes " to " ++ decimal most)
+
+-- what a line lacks to be a call's, where anyone may call
+abbrev pub lack_text : Lack → List ℕ
+lack_text (lack.Form format) = wanted_line (form_text format) ++ wanted_line (codes "cells")
+lack_text lack.Thread = wanted_line (codes "T from 0 to 4294967295")
+lack_text (lack.Number number) = wanted_line (codes "K " ++ decimal number)
+lack_text (lack.Begin least most) = begins_text least most
+lack_text lack.Section = wanted_line (codes "a section of the program")
+lack_text lack.Arguments = wanted_line (codes "arguments that fit the section")
+
+-- what may come at a line: the line, or for each call that may come the line up to its end, or what the line lacks
 abbrev pub wanted_text : Wanted → List ℕ
-wanted_text (wanted.Line text) = line (codes "wanted: " ++ string_bytes text)
+wanted_text (wanted.Line text) = wanted_line (string_bytes text)
 wanted_text (wanted.Calls heads) = flat_map (λ head. call_wanted (string_bytes head)) heads.items
-wanted_text wanted.Nothing = line (codes "wanted: no line")
+wanted_text (wanted.Open missing) = lack_text missing
+wanted_text wanted.Nothing = wanted_line (codes "no line")
 
 -- what stands at the line with this number of a file, of which these are the lines after the first; in place of bytes that
 -- are no text the sign for such
@@ -64,9 +96,9 @@ pub record IsJudged (judging : Judging) (text : List ℕ) (plan : Plan) (status 
   pub lines : List (List ℕ)
   pub said : history_in text ≡ Ok (format, lines)
   pub verdict : Verdict
-  pub holds : Holds judging.turns format plan.accepted lines verdict
+  pub holds : Holds judging.turns (callers_of judging.open) format plan.accepted lines verdict
   pub wanted : Option Wanted
-  pub explains : Explains judging.turns format plan.accepted lines verdict wanted
+  pub explains : Explains judging.turns (callers_of judging.open) format plan.accepted lines verdict wanted
   pub ended : status ≡ verdict_status verdict
   pub written : out ≡ judgement_text judging.why verdict wanted lines
   pub told : err ≡ []

@@ -4,7 +4,7 @@ ghost use Rattle.std.specs.Prelude.{◌≡◌, IfOk, string_bytes};
 ghost use Rattle.code.specs.Listing.{line};
 ghost use Rattle.source_histories.specs.Histories.{recorded_lines};
 ghost use Rattle.driver.specs.Working.Answering.{Meets, IsJudgementAnswer};
-ghost use Rattle.driver.specs.Replays.{IsReplayed, verdict_status, verdict_text};
+ghost use Rattle.driver.specs.Replays.{IsReplayed, callers_of, verdict_status, verdict_text};
 
 use crate::answer::{Answer, Named};
 use crate::running::prepared;
@@ -12,10 +12,9 @@ use crate::status::Status;
 use crate::why::push_why;
 use driver_words::Judging;
 use lowering::compiled::Program;
-use replay::{Judgement, Verdict, judge};
+use replay::{Callers, Judgement, Terms, Verdict, judge};
 use rope::Rope;
 use source::memory::NoMemory;
-use source_histories::refusal::HistoryRefusal;
 use source_histories::{Recorded, history_fault_line, read_history};
 use std::alloc::{AllocError, Global};
 
@@ -58,6 +57,22 @@ fn judged(
     Ok(Answer::written(alloc, status, Rope::of(alloc, out)))
 }
 
+/// On what terms a history is judged.
+fn terms(judging: Judging) -> Terms
+    ensures turns { result.turns ≡ judging.turns }
+    ensures callers { result.callers ≡ callers_of judging.open }
+{
+    let callers = if judging.open {
+        Callers::Anyone
+    } else {
+        Callers::Scripts
+    };
+    Terms {
+        callers,
+        turns: judging.turns,
+    }
+}
+
 /// The verdict on a history file, or the line of its fault.
 pub fn replayed(
     alloc: Global,
@@ -67,15 +82,14 @@ pub fn replayed(
 ) -> Result<Answer, NoMemory>
     ensures { IfOk result (Meets (IsReplayed judging history.now.file.now history.now.text.now program.now)) }
 {
-    let recorded = match read_history(alloc, history.text) {
+    let recorded = match read_history(history.text) {
         Ok(recorded) => recorded,
-        Err(HistoryRefusal::Fault(fault)) => {
+        Err(fault) => {
             let line = history_fault_line(alloc, history.file, fault)?;
             return Answer::refused(alloc, Status::BadInput, line);
         }
-        Err(HistoryRefusal::NoMemory) => return Err(NoMemory),
     };
     let prepared = prepared(alloc, program)?;
-    let judgement = judge(alloc, prepared, &recorded, judging.turns)?;
+    let judgement = judge(alloc, prepared, &recorded, terms(judging))?;
     judged(alloc, judging.why, &judgement, &recorded)
 }

@@ -1,13 +1,15 @@
 //! Why a recorded history differs.
 
-ghost use Rattle.std.specs.Prelude.{OnOk, string_bytes};
+ghost use Rattle.std.specs.Prelude.{◌++◌, OnOk, codes, string_bytes};
+ghost use Rattle.std.specs.Fmt.{decimal};
 ghost use Rattle.std.specs.List.{flat_map};
+ghost use Rattle.code.specs.Listing.{line};
 ghost use Rattle.locks.specs.Texts.{AddsText};
 ghost use Rattle.source_histories.specs.Histories.{recorded_lines};
-ghost use Rattle.driver.specs.Replays.{call_wanted, found_text, wanted_text, why_text};
+ghost use Rattle.driver.specs.Replays.{begins_text, call_wanted, form_text, found_text, lack_text, wanted_line, wanted_text, why_text};
 
-use replay::{Judgement, Verdict, Wanted};
-use source_histories::Recorded;
+use replay::{Judgement, Lack, Verdict, Wanted};
+use source_histories::{Format, Recorded};
 use std::alloc::{AllocError, Global};
 
 /// Puts the lines of calls up to their ends.
@@ -20,14 +22,76 @@ fn push_calls(out: &mut String, heads: &[String]) -> Result<(), AllocError>
     Ok(())
 }
 
+/// Puts words that say what may come.
+fn push_words(out: &mut String, words: &str) -> Result<(), AllocError>
+    ensures { OnOk result (AddsText (wanted_line words.now) out.old out.new) }
+{
+    writeln!(out, "wanted: {words}")
+}
+
+/// Puts the form of a call's line.
+fn push_form(out: &mut String, format: Format) -> Result<(), AllocError>
+    ensures { OnOk result (AddsText (wanted_line (form_text format)) out.old out.new) }
+{
+    match format {
+        Format::One => push_words(out, "call T K NAME(ARGUMENTS) .."),
+        Format::Two => push_words(out, "call T K B NAME(ARGUMENTS) .."),
+    }
+}
+
+/// Puts that a call may come, and `cells`.
+fn push_open(out: &mut String, format: Format) -> Result<(), AllocError>
+    ensures { OnOk result (AddsText (wanted_line (form_text format) ++ wanted_line (codes "cells")) out.old out.new) }
+{
+    push_form(out, format)?;
+    push_words(out, "cells")
+}
+
+/// Puts from where on a begin may be.
+fn push_least(out: &mut String, least: usize) -> Result<(), AllocError>
+    ensures { OnOk result (AddsText (codes "wanted: B from " ++ decimal least) out.old out.new) }
+{
+    write!(out, "wanted: B from {least}")
+}
+
+/// Puts up to where it may be.
+fn push_most(out: &mut String, most: usize) -> Result<(), AllocError>
+    ensures { OnOk result (AddsText (line (codes " to " ++ decimal most)) out.old out.new) }
+{
+    writeln!(out, " to {most}")
+}
+
+/// Puts from where to where a begin may be.
+fn push_begins(out: &mut String, least: usize, most: usize) -> Result<(), AllocError>
+    ensures { OnOk result (AddsText (begins_text least most) out.old out.new) }
+{
+    push_least(out, least)?;
+    push_most(out, most)
+}
+
+/// Puts what a line lacks to be a call's.
+fn push_lack(out: &mut String, lack: Lack) -> Result<(), AllocError>
+    ensures { OnOk result (AddsText (lack_text lack) out.old out.new) }
+{
+    match lack {
+        Lack::Form(format) => push_open(out, format),
+        Lack::Thread => push_words(out, "T from 0 to 4294967295"),
+        Lack::Number(number) => writeln!(out, "wanted: K {number}"),
+        Lack::Begin { least, most } => push_begins(out, least, most),
+        Lack::Section => push_words(out, "a section of the program"),
+        Lack::Arguments => push_words(out, "arguments that fit the section"),
+    }
+}
+
 /// Puts what may come.
 fn push_wanted(out: &mut String, wanted: &Wanted) -> Result<(), AllocError>
     ensures { OnOk result (AddsText (wanted_text wanted.now) out.old out.new) }
 {
     match wanted {
-        Wanted::Line(text) => writeln!(out, "wanted: {text}"),
+        Wanted::Line(text) => push_words(out, text.as_str()),
         Wanted::Calls(heads) => push_calls(out, heads),
-        Wanted::Nothing => out.push_str("wanted: no line\n"),
+        Wanted::Open(lack) => push_lack(out, *lack),
+        Wanted::Nothing => push_words(out, "no line"),
     }
 }
 
@@ -40,7 +104,7 @@ fn push_found(
 ) -> Result<(), AllocError>
     ensures { OnOk result (AddsText (found_text (recorded_lines recorded.now) number) out.old out.new) }
 {
-    let found = match recorded.lines.get(number.saturating_sub(2)) {
+    let found = match recorded.line(number.saturating_sub(2)) {
         Some(line) => String::from_utf8_lossy(alloc, line)?,
         None => String::from_str(alloc, "no line")?,
     };

@@ -71,6 +71,10 @@ with_history app = with_rule app (file_rule (codes "HISTORY"))
 abbrev pub with_why : App → App
 with_why app = with_rule app (flag_rule (codes "why"))
 
+-- a command that takes --open besides
+abbrev pub with_open : App → App
+with_open app = with_rule app (flag_rule (codes "open"))
+
 -- a command that takes --sections besides
 abbrev pub with_sections : App → App
 with_sections app = with_rule app (flag_rule (codes "sections"))
@@ -147,9 +151,9 @@ with_trace app = with_subcommand app (with_sections (with_steps (with_file (code
 abbrev pub with_run : App → App
 with_run app = with_subcommand app (with_file (codes "run")).top
 
--- autolock replay [--turns N] [--why] FILE HISTORY
+-- autolock replay [--turns N] [--why] [--open] FILE HISTORY
 abbrev pub with_replay : App → App
-with_replay app = with_subcommand app (with_why (with_turns (with_history (with_file (codes "replay"))))).top
+with_replay app = with_subcommand app (with_open (with_why (with_turns (with_history (with_file (codes "replay")))))).top
 
 -- the whole command line
 abbrev pub autolock : App

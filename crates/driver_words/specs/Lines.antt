@@ -62,7 +62,7 @@ IsBeside command rows (Trace sections) other =
     (command ≡ codes "trace") × (other ≡ name_in (codes "STEPS") rows) × IsFlag (codes "sections") rows sections
 IsBeside command rows (Replay judging) other =
     (command ≡ codes "replay") × (other ≡ name_in (codes "HISTORY") rows)
-    × IsTurns rows judging.turns × IsFlag (codes "why") rows judging.why
+    × IsTurns rows judging.turns × IsFlag (codes "why") rows judging.why × IsFlag (codes "open") rows judging.open
 
 abbrev pub IsRequest : Text → List Row → Request → Type 0
 IsRequest command rows (request.Alone alone) = IsAlone command rows alone

@@ -4,7 +4,8 @@ ghost use Rattle.std.specs.Prelude.{◌≡◌, IfOk, codes, false};
 ghost use Rattle.clap.specs.Words.{rule_of};
 ghost use Rattle.driver_words.specs.Commands.{Adds, AddsRule, IsCommand, autolock, with_file, with_steps, with_history};
 ghost use Rattle.driver_words.specs.Commands.{file_rule, flag_rule, number_rule, count_rule, prefix_rule, seed_rule, turns_rule};
-ghost use Rattle.driver_words.specs.Commands.{with_count, with_header, with_json, with_lines, with_places, with_prefix, with_sections};
+ghost use Rattle.driver_words.specs.Commands.{with_count, with_header, with_json, with_lines, with_open, with_places, with_prefix};
+ghost use Rattle.driver_words.specs.Commands.{with_sections};
 ghost use Rattle.driver_words.specs.Commands.{with_seed, with_turns, with_why};
 
 use clap::builder::ValueParser;
@@ -189,14 +190,16 @@ fn outcomes_command<'a>(alloc: Global) -> Result<Command<'a>, AllocError>
 
 /// `replay`.
 fn replay_command<'a>(alloc: Global) -> Result<Command<'a>, AllocError>
-    ensures { IfOk result (IsCommand (with_why (with_turns (with_history (with_file (codes "replay")))))) }
+    ensures { IfOk result (IsCommand (with_open (with_why (with_turns (with_history (with_file (codes "replay"))))))) }
 {
     let about = "Compare a recorded history with what its calls answer, one after another";
     let command = file_command(alloc, "replay", about);
     let command = with_argument(command, history_argument(alloc));
     let command = with_argument(command, turns_argument(alloc));
     let help = "Say what may stand where the history differs";
-    with_argument(command, flag_argument(alloc, "why", help))
+    let command = with_argument(command, flag_argument(alloc, "why", help));
+    let help = "Take calls from outside: any threads call any sections, whatever the scripts are";
+    with_argument(command, flag_argument(alloc, "open", help))
 }
 
 /// `trace`.

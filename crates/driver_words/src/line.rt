@@ -109,4 +109,6 @@ pub struct Judging {
     pub turns: u64,
     /// Whether what may come at a line that differs is told.
     pub why: bool,
+    /// Whether its calls may be anyone's, and not those of the program's scripts.
+    pub open: bool,
 }

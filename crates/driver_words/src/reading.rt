@@ -87,6 +87,7 @@ fn request<'a>(command: &str, matches: &ArgMatches<'a>) -> Option<Request<'a>>
             let judging = Judging {
                 turns: turns(matches),
                 why: flag(matches, "why"),
+                open: flag(matches, "open"),
             };
             Request::Beside(Beside::Replay(judging), name(matches, "HISTORY"))
         }

@@ -20,15 +20,15 @@ said_ends [] = refl
 said_ends (c ∷ cs) = ap (λ xs. answer_of c ∷ xs) (said_ends cs)
 
 pub entries_same : MoreTurnsChangeNothing → LegalIsSerial → EntriesAreSame
-entries_same more law format program commits legal true_commits scripts begins =
+entries_same more law callers format program commits legal true_commits calls begins =
     let heap = committed (opening_heap program) commits in
     let entries = map entry_of_commit commits in
     let serial = law program (opening_heap program) commits (length-map program.cells.items (λ (cell : Cell). cell.opening)) legal true_commits in
-    history_same more format program entries heap (history_lines format program entries heap)
+    history_same more callers format program entries heap (history_lines format program entries heap)
     (record {
-      scripts = scripts;
+      calls = calls;
       begins = begins;
-      serial = subst (λ calls. SerialFromOpening program calls (map ended_in entries) heap) (said_calls commits)
+      serial = subst (λ cs. SerialFromOpening program cs (map ended_in entries) heap) (said_calls commits)
           (subst (λ ends. SerialFromOpening program (map call_of commits) ends heap) (said_ends commits) serial);
       told = refl;
     })

@@ -1,5 +1,5 @@
 -- What the head of a call's line tells.
-use Rattle.std.proofs.Common.{◌≡◌, ◌∙◌, ◌<◌, ◌^◌, ℕ, List, [], ◌∷◌, ◌++◌, drop, Some, ap, refl, append_assoc, true}
+use Rattle.std.proofs.Common.{◌≡◌, ◌∙◌, ◌<◌, ◌^◌, ℕ, List, [], ◌∷◌, ◌++◌, drop, Option, Some, ap, refl, append_assoc, true}
 use Rattle.std.proofs.Common.{false, get_or}
 use Rattle.std.specs.Prelude.{codes, ◌==◌}
 use Rattle.std.specs.Bool.{⊤}
@@ -13,7 +13,9 @@ use Rattle.source_histories.specs.Pieces.{before, behind, count_in}
 use Rattle.source_histories.specs.Theory.Counts.{count_in-decimal, before-count, behind-count}
 use Rattle.report.specs.Pieces.{invocation_text}
 use Rattle.report.specs.History.{begun_text, call_head}
-use Rattle.replay.specs.Working.Told.{begun_in, both, told_after, told_in}
+use Rattle.core_lang.specs.Typing.{lookup}
+use Rattle.replay.specs.declared.told.Told.{Told}
+use Rattle.replay.specs.Told.{begun_in, told_after, told_in, invoked_text}
 
 -- what comes after the numbers of a call
 abbrev pub invoked : Typed → Scheduled → List ℕ → List ℕ
@@ -42,25 +44,59 @@ begun_read Two begun rest short =
     ap (λ text. count_in (before 32 text)) (append_assoc (decimal begun) (32 ∷ []) rest)
     ∙ ap count_in (before-count begun rest short) ∙ count_in-decimal begun short
 
-told_words : (format : Format) (thread step begun : ℕ) (rest : List ℕ) → thread < 2 ^ 63 → step < 2 ^ 63 →
-    IsShort format begun →
-    told_after format (decimal thread ++ 32 ∷ (decimal step ++ 32 ∷ (begun_text format begun ++ rest)))
-    ≡ Some (record { thread = thread; begun = shown format begun })
-told_words format thread step begun rest small few short =
-    let more = begun_text format begun ++ rest in
-    let t = ap count_in (before-count thread (decimal step ++ 32 ∷ more) small) ∙ count_in-decimal thread small in
-    let past = ap (behind 32) (behind-count thread (decimal step ++ 32 ∷ more) small) ∙ behind-count step more few in
-    ap (λ x. both x (begun_in format (behind 32 (behind 32 (decimal thread ++ 32 ∷ (decimal step ++ 32 ∷ more)))))) t
-    ∙ ap (λ x. both (Some thread) x) (ap (begun_in format) past ∙ begun_read format begun rest short)
+-- numbers that are told, if all are
+abbrev numbers : Option ℕ → Option ℕ → Option ℕ → Option Told
+numbers thread step begun =
+    lookup thread (λ t. lookup step (λ k. lookup begun (λ b. Some (record { thread = t; step = k; begun = b }))))
 
--- a call's line tells its thread and its begin
+module _ (format : Format) (thread step begun : ℕ) (rest : List ℕ) (small : thread < 2 ^ 63) (few : step < 2 ^ 63) where
+  abbrev more : List ℕ
+  more = begun_text format begun ++ rest
+
+  abbrev line : List ℕ
+  line = decimal thread ++ 32 ∷ (decimal step ++ 32 ∷ more)
+
+  behind_thread : behind 32 line ≡ decimal step ++ 32 ∷ more
+  behind_thread = behind-count thread (decimal step ++ 32 ∷ more) small
+
+  pub behind_step : behind 32 (behind 32 line) ≡ more
+  behind_step = ap (behind 32) behind_thread ∙ behind-count step more few
+
+  told_words : IsShort format begun → told_after format line ≡ Some (record { thread = thread; step = step; begun = shown format begun })
+  told_words short =
+      let t : count_in (before 32 line) ≡ Some thread =
+      ap count_in (before-count thread (decimal step ++ 32 ∷ more) small) ∙ count_in-decimal thread small in
+      let k : count_in (before 32 (behind 32 line)) ≡ Some step =
+      ap (λ text. count_in (before 32 text)) behind_thread ∙ ap count_in (before-count step more few) ∙ count_in-decimal step few in
+      let b : begun_in format (behind 32 (behind 32 line)) ≡ Some (shown format begun) =
+      ap (begun_in format) behind_step ∙ begun_read format begun rest short in
+      ap (λ x. numbers x (count_in (before 32 (behind 32 line))) (begun_in format (behind 32 (behind 32 line)))) t
+      ∙ ap (λ x. numbers (Some thread) x (begun_in format (behind 32 (behind 32 line)))) k
+      ∙ ap (numbers (Some thread) (Some step)) b
+
+-- a call's line tells its thread, its number and its begin
 pub told_head : (format : Format) (program : Typed) (s : Scheduled) (begun : ℕ) (end : List ℕ) → s.thread < 2 ^ 63 →
     s.step < 2 ^ 63 →
     IsShort format begun →
-    told_in format (call_head format program s begun ++ end) ≡ Some (record { thread = s.thread; begun = shown format begun })
+    told_in format (call_head format program s begun ++ end)
+    ≡ Some (record { thread = s.thread; step = s.step; begun = shown format begun })
 told_head format program s begun end small few short =
     ap (told_in format) (head_words format program s begun end)
     ∙ told_words format s.thread s.step begun (invoked program s end) small few short
+
+-- and what is called
+pub invoked_head : (format : Format) (program : Typed) (s : Scheduled) (begun : ℕ) (end : List ℕ) → s.thread < 2 ^ 63 →
+    s.step < 2 ^ 63 →
+    IsShort format begun →
+    invoked_text format (call_head format program s begun ++ end) ≡ invoked program s end
+invoked_head One program s begun end small few short =
+    ap (invoked_text One) (head_words One program s begun end)
+    ∙ behind_step One s.thread s.step begun (invoked program s end) small few
+invoked_head Two program s begun end small few short =
+    ap (invoked_text Two) (head_words Two program s begun end)
+    ∙ ap (behind 32) (behind_step Two s.thread s.step begun (invoked program s end) small few
+    ∙ append_assoc (decimal begun) (32 ∷ []) (invoked program s end))
+    ∙ behind-count begun (invoked program s end) short
 
 -- the thread alone
 pub thread_head : (format : Format) (program : Typed) (s : Scheduled) (begun : ℕ) (end : List ℕ) → s.thread < 2 ^ 63 →

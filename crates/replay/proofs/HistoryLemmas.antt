@@ -13,10 +13,11 @@ use Rattle.report.specs.Entry.{Entry}
 use Rattle.report.specs.History.{call_line}
 use Rattle.replay.specs.Readers.{Reader, opened, due, call, cells, Come, finished_as, print_lines, closing_lines}
 use Rattle.replay.specs.Verdicts.{HasEnded, IsSame}
-use Rattle.replay.specs.Working.Histories.{invocation_in, ended_in, entry_lines, history_lines, FollowScripts}
+use Rattle.replay.specs.declared.callers.Callers.{Callers}
+use Rattle.replay.specs.Working.Histories.{invocation_in, ended_in, entry_lines, history_lines, AreCalls}
 use Rattle.replay.specs.Working.Histories.{BeginAsTheyMay}
 use Rattle.replay.specs.Working.Laws.{SameIsHistory, HistoryIsSame}
-use Rattle.replay.proofs.Following.{Follow, follow_scripts, follow_begins, scripts_follow}
+use Rattle.replay.proofs.Following.{Follow, follow_calls, follow_begins, calls_follow}
 
 -- ---- runs
 
@@ -86,7 +87,7 @@ enough_turns law program heap last (e ∷ es) serial =
 
 -- ---- lines
 
-module _ (turns : ℕ) (format : Format) (program : Typed) where
+module _ (turns : ℕ) (callers : Callers) (format : Format) (program : Typed) where
   -- lines that are left
   abbrev lines_left : List Entry → List Value → List (List ℕ)
   lines_left es last = flat_map (entry_lines format program) es ++ codes "cells" ∷ closing_lines program last
@@ -96,11 +97,11 @@ module _ (turns : ℕ) (format : Format) (program : Typed) where
     entries : List Entry
     last : List Value
     settled : Settled turns program reader.heap entries last
-    follow : Follow format program reader.order entries
+    follow : Follow callers format program reader.order entries
     told : lines ≡ reader.due ++ lines_left entries last
 
   closed_lines : (lines : List (List ℕ)) (reader final : Reader) → reader.closed ≡ true →
-      Come turns format program reader lines final →
+      Come turns callers format program reader lines final →
       HasEnded final → lines ≡ reader.due
   closed_lines [] reader final closed came ended = sym (ap (λ (r : Reader). r.due) came ∙ ended.none_due)
   closed_lines (text ∷ more) reader final closed came ended = elim came.1 [
@@ -112,14 +113,14 @@ module _ (turns : ℕ) (format : Format) (program : Typed) where
   ]
 
   open_lines : (lines : List (List ℕ)) (reader final : Reader) → reader.closed ≡ false →
-      Come turns format program reader lines final →
+      Come turns callers format program reader lines final →
       HasEnded final → AreLeft reader lines
   open_lines [] reader final unclosed came ended =
       absurd (let e = sym unclosed ∙ ap (λ (r : Reader). r.closed) came ∙ ended.closed in cc)
   open_lines (text ∷ more) reader final unclosed came ended = elim came.1 [
     | due d ↦
         let next : Reader = record reader { due = d.more } in
-        let left = open_lines more next final unclosed (subst (λ r. Come turns format program r more final) d.leads came.2) ended in
+        let left = open_lines more next final unclosed (subst (λ r. Come turns callers format program r more final) d.leads came.2) ended in
         record {
           entries = left.entries;
           last = left.last;
@@ -129,18 +130,18 @@ module _ (turns : ℕ) (format : Format) (program : Typed) where
         }
     | call c ↦
         let next : Reader = record { order = reader.order ++ c.entry.thread ∷ []; heap = c.heap; due = print_lines c.entry.prints; closed = false } in
-        let left = open_lines more next final refl (subst (λ r. Come turns format program r more final) c.leads came.2) ended in
+        let left = open_lines more next final refl (subst (λ r. Come turns callers format program r more final) c.leads came.2) ended in
         record {
           entries = c.entry ∷ left.entries;
           last = left.last;
           settled = (c.heap, c.settled, left.settled);
-          follow = (c.next.scripted, c.next.begins, left.follow);
+          follow = (c.next.next, c.next.begins, left.follow);
           told = ap (λ x. x ∷ more) c.next.told ∙ ap (λ xs. call_line format program c.entry ∷ xs) (left.told ∙ sym (append_assoc (print_lines c.entry.prints) (flat_map (entry_lines format program) left.entries) (codes "cells" ∷ closing_lines program left.last)))
               ∙ ap (λ xs. xs ++ lines_left (c.entry ∷ left.entries) left.last) (sym c.among.none_due);
         }
     | cells c ↦
         let next : Reader = record reader { due = closing_lines program reader.heap; closed = true } in
-        let rest = closed_lines more next final refl (subst (λ r. Come turns format program r more final) c.leads came.2) ended in
+        let rest = closed_lines more next final refl (subst (λ r. Come turns callers format program r more final) c.leads came.2) ended in
         record {
           entries = [];
           last = reader.heap;
@@ -155,11 +156,11 @@ module _ (turns : ℕ) (format : Format) (program : Typed) where
 
   -- lines that are due come
   due_come : (dues more : List (List ℕ)) (reader final : Reader) → reader.due ≡ dues →
-      Come turns format program (record reader { due = [] }) more final →
-      Come turns format program reader (dues ++ more) final
+      Come turns callers format program (record reader { due = [] }) more final →
+      Come turns callers format program reader (dues ++ more) final
   due_come [] more reader final is came =
       let same : record reader { due = [] } ≡ reader = ap (λ d. record reader { due = d }) (sym is) in
-      subst (λ r. Come turns format program r more final) same came
+      subst (λ r. Come turns callers format program r more final) same came
   due_come (text ∷ dues) more reader final is came = (
     record reader { due = dues },
     due (record { more = dues; is_due = is; leads = refl }),
@@ -168,18 +169,18 @@ module _ (turns : ℕ) (format : Format) (program : Typed) where
 
   record ComeToEnd (reader : Reader) (lines : List (List ℕ)) : Type 0 where
     final : Reader
-    came : Come turns format program reader lines final
+    came : Come turns callers format program reader lines final
     ended : HasEnded final
 
-  come_to_end : (es : List Entry) (order : List ℕ) (heap last : List Value) → Follow format program order es →
+  come_to_end : (es : List Entry) (order : List ℕ) (heap last : List Value) → Follow callers format program order es →
       Settled turns program heap es last →
       ComeToEnd (record { order = order; heap = heap; due = []; closed = false }) (lines_left es last)
   come_to_end [] order heap last follow settled =
       let before : Reader = record { order = order; heap = heap; due = []; closed = false } in
       let middle : Reader = record { order = order; heap = heap; due = closing_lines program heap; closed = true } in
       let final : Reader = record { order = order; heap = heap; due = []; closed = true } in
-      let rest : Come turns format program middle (closing_lines program heap) final =
-      subst (λ xs. Come turns format program middle xs final) (append-nil (closing_lines program heap))
+      let rest : Come turns callers format program middle (closing_lines program heap) final =
+      subst (λ xs. Come turns callers format program middle xs final) (append-nil (closing_lines program heap))
       (due_come (closing_lines program heap) [] middle final refl refl) in
       subst (λ l. ComeToEnd before (codes "cells" ∷ closing_lines program l)) settled
       (record {
@@ -199,41 +200,41 @@ module _ (turns : ℕ) (format : Format) (program : Typed) where
             among = record { none_due = refl; still_open = refl };
             entry = e;
             heap = settled.0;
-            next = record { scripted = follow.0; begins = follow.1; told = refl };
+            next = record { next = follow.0; begins = follow.1; told = refl };
             settled = settled.1;
             leads = refl;
           }),
-          subst (λ xs. Come turns format program middle xs rest.final) (sym (append_assoc (print_lines e.prints) (flat_map (entry_lines format program) es) (codes "cells" ∷ closing_lines program last))) prints,
+          subst (λ xs. Come turns callers format program middle xs rest.final) (sym (append_assoc (print_lines e.prints) (flat_map (entry_lines format program) es) (codes "cells" ∷ closing_lines program last))) prints,
         );
         ended = rest.ended;
       }
 
   -- lines of calls that follow one another, and that the turns settle, are the same
-  pub settled_same : (es : List Entry) (last : List Value) → FollowScripts program es → BeginAsTheyMay format es →
-      Settled turns program (opening_heap program) es last → IsSame turns format program (history_lines format program es last)
-  settled_same es last scripts begins settled =
-      let end = come_to_end es [] (opening_heap program) last (scripts_follow format program es scripts begins) settled in
+  pub settled_same : (es : List Entry) (last : List Value) → AreCalls callers program es → BeginAsTheyMay format es →
+      Settled turns program (opening_heap program) es last → IsSame turns callers format program (history_lines format program es last)
+  settled_same es last calls begins settled =
+      let end = come_to_end es [] (opening_heap program) last (calls_follow callers format program es calls begins) settled in
       record { reader = end.final; came = end.came; ended = end.ended }
 
 -- ---- the laws
 
 pub same_history : OverIsWhole → SameIsHistory
-same_history law turns format program lines same =
-    let left = open_lines turns format program lines (opened program) same.reader refl same.came same.ended in (
+same_history law turns callers format program lines same =
+    let left = open_lines turns callers format program lines (opened program) same.reader refl same.came same.ended in (
       left.entries,
       left.last,
       record {
-        scripts = follow_scripts format program left.entries left.follow;
-        begins = follow_begins format program left.entries left.follow;
+        calls = follow_calls callers format program left.entries left.follow;
+        begins = follow_begins callers format program left.entries left.follow;
         serial = settled_serial turns program law (opening_heap program) left.last left.entries left.settled;
         told = left.told;
       },
     )
 
 pub history_same : MoreTurnsChangeNothing → HistoryIsSame
-history_same law format program entries heap lines history =
+history_same law callers format program entries heap lines history =
     let enough = enough_turns law program (opening_heap program) heap entries history.serial in (
       enough.0,
-      λ turns most. subst (IsSame turns format program) (sym history.told)
-          (settled_same turns format program entries heap history.scripts history.begins (enough.1 turns most)),
+      λ turns most. subst (IsSame turns callers format program) (sym history.told)
+          (settled_same turns callers format program entries heap history.calls history.begins (enough.1 turns most)),
     )

@@ -1,5 +1,7 @@
 pub mod Scripts
 pub mod Heads
+pub mod Cutting
+pub mod Nexts
 pub mod Seating
 pub mod Candidates
 pub mod Findings
@@ -13,3 +15,8 @@ pub mod NextHeads
 pub mod Naming
 pub mod Replays
 pub mod EntryHistories
+pub mod OpenHistories
+pub mod Members
+pub mod Numbering
+pub mod Lacking
+pub mod PlainCalls

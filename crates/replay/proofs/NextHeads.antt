@@ -14,19 +14,19 @@ use Rattle.replay.specs.Wanted.{next_head}
 use Rattle.replay.proofs.Scripts.{scheduled_at, next_call_in}
 
 module _ (format : Format) (program : Typed) (at : Progress) (reader : Reader) (is : IsAt program at reader) (t : ℕ) where
-  counted : (found : Option Call) → call_in program t (called_at at.seats.items t) ≡ found →
-      next_call program reader.order t ≡ option_map (scheduled_at t (called_at at.seats.items t)) found
+  counted : (found : Option Call) → call_in program t (called_at at.seats t) ≡ found →
+      next_call program reader.order t ≡ option_map (scheduled_at t (called_at at.seats t)) found
   counted found here =
       next_call_in program reader.order t
       ∙ ap (λ n. option_map (scheduled_at t n) (call_in program t n)) (sym (is.seats.called t))
-      ∙ ap (option_map (scheduled_at t (called_at at.seats.items t))) here
+      ∙ ap (option_map (scheduled_at t (called_at at.seats t))) here
 
-  pub no_next : call_in program t (called_at at.seats.items t) ≡ None → next_head format program reader.order t ≡ []
+  pub no_next : call_in program t (called_at at.seats t) ≡ None → next_head format program reader.order t ≡ []
   no_next here =
       ap (λ found. option_map_or (λ (call : Scheduled). call_head format program call (length reader.order) ∷ []) found []) (counted None here)
 
-  pub some_next : (call : Call) → call_in program t (called_at at.seats.items t) ≡ Some call →
-      next_head format program reader.order t ≡ call_head format program (scheduled_at t (called_at at.seats.items t) call) at.position ∷ []
+  pub some_next : (call : Call) → call_in program t (called_at at.seats t) ≡ Some call →
+      next_head format program reader.order t ≡ call_head format program (scheduled_at t (called_at at.seats t) call) at.position ∷ []
   some_next call here =
       ap (λ found. option_map_or (λ (s : Scheduled). call_head format program s (length reader.order) ∷ []) found []) (counted (Some call) here)
-      ∙ ap (λ n. call_head format program (scheduled_at t (called_at at.seats.items t) call) n ∷ []) (sym is.position)
+      ∙ ap (λ n. call_head format program (scheduled_at t (called_at at.seats t) call) n ∷ []) (sym is.position)

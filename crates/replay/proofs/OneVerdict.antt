@@ -10,32 +10,53 @@ use Rattle.source_histories.specs.Pieces.{before, count_in}
 use Rattle.report.specs.Entry.{scheduled_in}
 use Rattle.replay.specs.declared.verdict.Verdict.TheVariants.{Same, Differs, Unsettled}
 use Rattle.replay.specs.Readers.{Reader, opened, Comes, due, call, cells, Come, CallComes, IsNextCall, IsUnsettled}
-use Rattle.replay.specs.Readers.{next_call, finished_as, print_lines}
+use Rattle.replay.specs.Readers.{calls_by, next_call, finished_as, print_lines}
+use Rattle.replay.specs.declared.callers.Callers.{Callers}
+use Rattle.replay.specs.declared.callers.Callers.TheVariants.{Scripts, Anyone}
+use Rattle.replay.proofs.Nexts.{next_thread, call_told}
 use Rattle.replay.specs.Verdicts.{HasEnded, Stops, IsSame, IsDiffering, IsBeyond}
 use Rattle.replay.specs.Working.Laws.{AtMostOneVerdict}
 use Rattle.replay.proofs.Heads.{thread_head, head_not_cells}
-use Rattle.replay.proofs.Scripts.{next_bounds}
 
-module _ (turns : ℕ) (format : Format) (program : Typed) (well : IsChecked program) where
+-- two next calls of one thread whose lines read so are the same
+same_next : (callers : Callers) (format : Format) (program : Typed) (order text : _) (s t : Scheduled) (begun other : ℕ) (end tail : List ℕ) →
+    IsNextCall callers format program order text s begun end → IsNextCall callers format program order text t other tail →
+    s.thread ≡ t.thread → s ≡ t
+same_next Scripts format program order text s t begun other end tail p q thread =
+    let same : Some s ≡ Some t = sym p.next ∙ ap (next_call program order) thread ∙ q.next in
+    cc
+same_next Anyone format program order text s t begun other end tail p q thread =
+    let told : Some s.call ≡ Some t.call = sym (call_told format program order text s begun end p) ∙ call_told format program order text t other tail q in
+    let call : s.call ≡ t.call = cc in
+    let step : s.step ≡ t.step = p.next.counted ∙ ap (λ u. calls_by u order) thread ∙ sym q.next.counted in
+    ap (λ u. record { thread = u; step = s.step; call = s.call }) thread
+    ∙ ap (λ k. record { thread = t.thread; step = k; call = s.call }) step
+    ∙ ap (λ c. record { thread = t.thread; step = t.step; call = c }) call
+
+module _ (turns : ℕ) (callers : Callers) (format : Format) (program : Typed) (well : IsChecked program) where
   thread_told : (order text : _) (s : Scheduled) (begun : ℕ) (end : List ℕ) →
-      IsNextCall format program order text s begun end →
+      IsNextCall callers format program order text s begun end →
       count_in (before 32 (drop 5 text)) ≡ Some s.thread
   thread_told order text s begun end next =
-      let few = (next_bounds program order s.thread s next.scripted well).0 in
-      ap (λ x. count_in (before 32 (drop 5 x))) next.told ∙ thread_head format program s begun end (omega (arith, few))
+      let few = next_thread callers program order s well next.next in
+      ap (λ x. count_in (before 32 (drop 5 x))) next.told ∙ thread_head format program s begun end few
+
+  same_thread : (order text : _) (s t : Scheduled) (begun other : ℕ) (end tail : List ℕ) →
+      IsNextCall callers format program order text s begun end →
+      IsNextCall callers format program order text t other tail → s.thread ≡ t.thread
+  same_thread order text s t begun other end tail p q =
+      let e : Some s.thread ≡ Some t.thread = sym (thread_told order text s begun end p) ∙ thread_told order text t other tail q in
+      cc
 
   -- a line is of one call
   same_call : (order text : _) (s t : Scheduled) (begun other : ℕ) (end tail : List ℕ) →
-      IsNextCall format program order text s begun end →
-      IsNextCall format program order text t other tail → s ≡ t
+      IsNextCall callers format program order text s begun end →
+      IsNextCall callers format program order text t other tail → s ≡ t
   same_call order text s t begun other end tail p q =
-      let e : Some s.thread ≡ Some t.thread = sym (thread_told order text s begun end p) ∙ thread_told order text t other tail q in
-      let thread : s.thread ≡ t.thread = cc in
-      let same : Some s ≡ Some t = sym p.scripted ∙ ap (next_call program order) thread ∙ q.scripted in
-      cc
+      same_next callers format program order text s t begun other end tail p q (same_thread order text s t begun other end tail p q)
 
-  calls_are_one : (reader a b : Reader) (text : List ℕ) → CallComes turns format program reader a text →
-      CallComes turns format program reader b text → a ≡ b
+  calls_are_one : (reader a b : Reader) (text : List ℕ) → CallComes turns callers format program reader a text →
+      CallComes turns callers format program reader b text → a ≡ b
   calls_are_one reader a b text p q =
       let same = same_call reader.order text (scheduled_in p.entry) (scheduled_in q.entry) p.entry.begun q.entry.begun _ _ p.next q.next in
       let e : Over (finished_as p.entry p.heap) ≡ Over (finished_as q.entry q.heap) =
@@ -49,8 +70,8 @@ module _ (turns : ℕ) (format : Format) (program : Typed) (well : IsChecked pro
       both : {A B : Type 0} {a a' : A} {b b' : B} → a ≡ a' → b ≡ b' → ◌≡◌ {A = A × B} (a, b) (a', b')
       both {A} {B} {a} {a'} {b} {b'} e f = ap (λ x. (x, b)) e ∙ ap (λ y. (a', y)) f
 
-  pub comes_is_one : (reader a b : Reader) (text : List ℕ) → Comes turns format program reader a text →
-      Comes turns format program reader b text → a ≡ b
+  pub comes_is_one : (reader a b : Reader) (text : List ℕ) → Comes turns callers format program reader a text →
+      Comes turns callers format program reader b text → a ≡ b
   comes_is_one reader a b text (due p) (due q) =
       let e = sym p.is_due ∙ q.is_due in
       let same : p.more ≡ q.more = cc in
@@ -67,8 +88,8 @@ module _ (turns : ℕ) (format : Format) (program : Typed) (well : IsChecked pro
   comes_is_one reader a b text (cells p) (cells q) = p.leads ∙ sym q.leads
 
   -- a line that may come is of no call that is not settled
-  pub unsettled_comes : (reader after : Reader) (text : List ℕ) → IsUnsettled turns format program reader text →
-      Comes turns format program reader after text → ⊥
+  pub unsettled_comes : (reader after : Reader) (text : List ℕ) → IsUnsettled turns callers format program reader text →
+      Comes turns callers format program reader after text → ⊥
   unsettled_comes reader after text u (due p) = let e = sym u.among.none_due ∙ p.is_due in absurd (cc)
   unsettled_comes reader after text u (cells p) = head_not_cells format program u.this u.begun u.end (sym p.is_cells ∙ u.next.told)
   unsettled_comes reader after text u (call p) =
@@ -82,11 +103,11 @@ module _ (turns : ℕ) (format : Format) (program : Typed) (well : IsChecked pro
   -- no line may come of those that are left
   abbrev IsBlocked : Reader → List (List ℕ) → Type 0
   IsBlocked reader [] = Unit {0}
-  IsBlocked reader (text ∷ more) = (after : Reader) → Comes turns format program reader after text → ⊥
+  IsBlocked reader (text ∷ more) = (after : Reader) → Comes turns callers format program reader after text → ⊥
 
   one_stop : (start : Reader) (lines first other rest tail : List (List ℕ)) (x y : Reader) → lines ≡ first ++ rest →
       lines ≡ other ++ tail →
-      Come turns format program start first x → Come turns format program start other y → IsBlocked x rest → IsBlocked y tail →
+      Come turns callers format program start first x → Come turns callers format program start other y → IsBlocked x rest → IsBlocked y tail →
       (length first ≡ length other) × (x ≡ y) × (rest ≡ tail)
   one_stop start lines [] [] rest tail x y p q came there blocked stuck = (refl, sym came ∙ there, sym p ∙ q)
   one_stop start lines [] (text ∷ other) rest tail x y p q came there blocked stuck =
@@ -99,20 +120,20 @@ module _ (turns : ℕ) (format : Format) (program : Typed) (well : IsChecked pro
       let e = sym p ∙ q in
       let same : text ≡ word = cc in
       let more : first ++ rest ≡ other ++ tail = cc in
-      let middle = comes_is_one start came.0 there.0 text came.1 (subst (λ w. Comes turns format program start there.0 w) (sym same) there.1) in
+      let middle = comes_is_one start came.0 there.0 text came.1 (subst (λ w. Comes turns callers format program start there.0 w) (sym same) there.1) in
       let found = one_stop there.0 (first ++ rest) first other rest tail x y refl more
-      (subst (λ r. Come turns format program r first x) middle came.2) there.2 blocked stuck in
+      (subst (λ r. Come turns callers format program r first x) middle came.2) there.2 blocked stuck in
       (ap suc found.0, found.1, found.2)
 
-  other_blocks : (reader : Reader) (rest : List (List ℕ)) → Stops turns format program reader rest →
+  other_blocks : (reader : Reader) (rest : List (List ℕ)) → Stops turns callers format program reader rest →
       IsBlocked reader rest
   other_blocks reader [] stops = tt
   other_blocks reader (text ∷ more) stops = stops.not_coming
 
   -- ---- verdicts
 
-  differ_once : (lines : List (List ℕ)) (m n : ℕ) → IsDiffering turns format program lines m →
-      IsDiffering turns format program lines n → m ≡ n
+  differ_once : (lines : List (List ℕ)) (m n : ℕ) → IsDiffering turns callers format program lines m →
+      IsDiffering turns callers format program lines n → m ≡ n
   differ_once lines m n p q =
       let one = one_stop (opened program) lines p.reached.first q.reached.first p.rest q.rest p.reader q.reader p.reached.parts q.reached.parts
       p.reached.came q.reached.came (other_blocks p.reader p.rest p.stops) (other_blocks q.reader q.rest q.stops) in
@@ -121,8 +142,8 @@ module _ (turns : ℕ) (format : Format) (program : Typed) (well : IsChecked pro
       let there = q.reached.numbered in
       omega (arith, long, here, there)
 
-  beyond_once : (lines : List (List ℕ)) (m n : ℕ) → IsBeyond turns format program lines m →
-      IsBeyond turns format program lines n → m ≡ n
+  beyond_once : (lines : List (List ℕ)) (m n : ℕ) → IsBeyond turns callers format program lines m →
+      IsBeyond turns callers format program lines n → m ≡ n
   beyond_once lines m n p q =
       let one = one_stop (opened program) lines p.reached.first q.reached.first (p.text ∷ p.more) (q.text ∷ q.more) p.reader q.reader p.reached.parts q.reached.parts
       p.reached.came q.reached.came (λ after. unsettled_comes p.reader after p.text p.unsettled) (λ after. unsettled_comes q.reader after q.text q.unsettled) in
@@ -131,38 +152,38 @@ module _ (turns : ℕ) (format : Format) (program : Typed) (well : IsChecked pro
       let there = q.reached.numbered in
       omega (arith, long, here, there)
 
-  differs_or_beyond : (lines : List (List ℕ)) (m n : ℕ) → IsDiffering turns format program lines m →
-      IsBeyond turns format program lines n → ⊥
+  differs_or_beyond : (lines : List (List ℕ)) (m n : ℕ) → IsDiffering turns callers format program lines m →
+      IsBeyond turns callers format program lines n → ⊥
   differs_or_beyond lines m n p q =
       let one = one_stop (opened program) lines p.reached.first q.reached.first p.rest (q.text ∷ q.more) p.reader q.reader p.reached.parts q.reached.parts
       p.reached.came q.reached.came (other_blocks p.reader p.rest p.stops) (λ after. unsettled_comes q.reader after q.text q.unsettled) in
-      let stops : Stops turns format program q.reader (q.text ∷ q.more) =
-      subst (λ r. Stops turns format program r (q.text ∷ q.more)) one.1 (subst (Stops turns format program p.reader) one.2 p.stops) in
+      let stops : Stops turns callers format program q.reader (q.text ∷ q.more) =
+      subst (λ r. Stops turns callers format program r (q.text ∷ q.more)) one.1 (subst (Stops turns callers format program p.reader) one.2 p.stops) in
       stops.not_unsettled q.unsettled
 
-  same_or_differs : (lines : List (List ℕ)) (n : ℕ) → IsSame turns format program lines →
-      IsDiffering turns format program lines n → ⊥
+  same_or_differs : (lines : List (List ℕ)) (n : ℕ) → IsSame turns callers format program lines →
+      IsDiffering turns callers format program lines n → ⊥
   same_or_differs lines n p q =
       let one = one_stop (opened program) lines lines q.reached.first [] q.rest p.reader q.reader (sym (append-nil lines)) q.reached.parts
       p.came q.reached.came tt (other_blocks q.reader q.rest q.stops) in
       let stops : HasEnded p.reader → ⊥ =
-      subst (λ r. Stops turns format program r []) (sym one.1) (subst (Stops turns format program q.reader) (sym one.2) q.stops) in
+      subst (λ r. Stops turns callers format program r []) (sym one.1) (subst (Stops turns callers format program q.reader) (sym one.2) q.stops) in
       stops p.ended
 
-  same_or_beyond : (lines : List (List ℕ)) (n : ℕ) → IsSame turns format program lines →
-      IsBeyond turns format program lines n → ⊥
+  same_or_beyond : (lines : List (List ℕ)) (n : ℕ) → IsSame turns callers format program lines →
+      IsBeyond turns callers format program lines n → ⊥
   same_or_beyond lines n p q =
       let one = one_stop (opened program) lines lines q.reached.first [] (q.text ∷ q.more) p.reader q.reader (sym (append-nil lines)) q.reached.parts
       p.came q.reached.came tt (λ after. unsettled_comes q.reader after q.text q.unsettled) in
       let e = one.2 in absurd (cc)
 
 pub one_verdict : AtMostOneVerdict
-one_verdict turns format program lines Same Same well p q = refl
-one_verdict turns format program lines Same (Differs n) well p q = absurd (same_or_differs turns format program well lines n p q)
-one_verdict turns format program lines Same (Unsettled n) well p q = absurd (same_or_beyond turns format program well lines n p q)
-one_verdict turns format program lines (Differs m) Same well p q = absurd (same_or_differs turns format program well lines m q p)
-one_verdict turns format program lines (Differs m) (Differs n) well p q = ap Differs (differ_once turns format program well lines m n p q)
-one_verdict turns format program lines (Differs m) (Unsettled n) well p q = absurd (differs_or_beyond turns format program well lines m n p q)
-one_verdict turns format program lines (Unsettled m) Same well p q = absurd (same_or_beyond turns format program well lines m q p)
-one_verdict turns format program lines (Unsettled m) (Differs n) well p q = absurd (differs_or_beyond turns format program well lines n m q p)
-one_verdict turns format program lines (Unsettled m) (Unsettled n) well p q = ap Unsettled (beyond_once turns format program well lines m n p q)
+one_verdict turns callers format program lines Same Same well p q = refl
+one_verdict turns callers format program lines Same (Differs n) well p q = absurd (same_or_differs turns callers format program well lines n p q)
+one_verdict turns callers format program lines Same (Unsettled n) well p q = absurd (same_or_beyond turns callers format program well lines n p q)
+one_verdict turns callers format program lines (Differs m) Same well p q = absurd (same_or_differs turns callers format program well lines m q p)
+one_verdict turns callers format program lines (Differs m) (Differs n) well p q = ap Differs (differ_once turns callers format program well lines m n p q)
+one_verdict turns callers format program lines (Differs m) (Unsettled n) well p q = absurd (differs_or_beyond turns callers format program well lines m n p q)
+one_verdict turns callers format program lines (Unsettled m) Same well p q = absurd (same_or_beyond turns callers format program well lines m q p)
+one_verdict turns callers format program lines (Unsettled m) (Differs n) well p q = absurd (differs_or_beyond turns callers format program well lines n m q p)
+one_verdict turns callers format program lines (Unsettled m) (Unsettled n) well p q = ap Unsettled (beyond_once turns callers format program well lines m n p q)

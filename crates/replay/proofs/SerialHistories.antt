@@ -13,6 +13,7 @@ use Rattle.core_lang.specs.Serial.{opening_heap, serial_with, SerialFromOpening}
 use Rattle.core_lang.specs.Laws.{HaveAtMostOneSerial}
 use Rattle.source_histories.specs.declared.format.Format.TheVariants.{One}
 use Rattle.report.specs.Entry.{Entry, scheduled_in}
+use Rattle.replay.specs.declared.callers.Callers.TheVariants.{Scripts}
 use Rattle.replay.specs.Readers.{script_of}
 use Rattle.replay.specs.Working.Histories.{invocation_in, ended_in, of_thread, history_lines}
 use Rattle.replay.specs.Working.Laws.{SerialIsSame, OneOrderOneHistory}
@@ -87,7 +88,7 @@ serial_same turns program es none calls ends =
     let run = λ (xs : List Invocation). serial_with program turns (opening_heap program) xs in
     let settled = serial_settled turns program es (opening_heap program)
     (subst (λ xs. (run xs).unsettled ≡ []) invoked none) (subst (λ xs. map ended_in es ≡ (run xs).ends) invoked ends) in
-    settled_same turns One program es (run (map (λ (s : Scheduled). s.call) (all_calls program))).heap
+    settled_same turns Scripts One program es (run (map (λ (s : Scheduled). s.call) (all_calls program))).heap
     (λ t. scheduled_filter t es ∙ ap (filter (by t)) calls ∙ of_all program t) (λ k e is. tt)
     (subst (λ xs. Settled turns program (opening_heap program) es (run xs).heap) (sym invoked) settled)
 
@@ -119,7 +120,7 @@ entries_alike (x ∷ xs) (y ∷ ys) calls begins ends =
     ap (λ e. e ∷ xs) first ∙ ap (λ es. y ∷ es) rest
 
 pub one_history : HaveAtMostOneSerial → OneOrderOneHistory
-one_history law format program xs ys heap other lines more p q calls begins =
+one_history law callers format program xs ys heap other lines more p q calls begins =
     let invoked : map invocation_in ys ≡ map invocation_in xs =
     sym (called ys) ∙ ap (map (λ (s : Scheduled). s.call)) (sym calls) ∙ called xs in
     let serial : SerialFromOpening program (map invocation_in xs) (map ended_in ys) other =

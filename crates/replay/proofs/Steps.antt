@@ -1,7 +1,8 @@
 -- A line further: what is due, and where a reader then is.
 use Rattle.std.proofs.Common.{◌≡◌, ◌∙◌, ◌<◌, ◌≤◌, ◌+◌, ℕ, ℤ, true, false, List, [], ◌∷◌, ◌++◌, length, drop, get_or}
 use Rattle.std.proofs.Common.{arith, sym, ap, refl, inl, inr}
-use Rattle.std.specs.Prelude.{codes, slice_set}
+use Rattle.std.specs.Prelude.{codes}
+use Rattle.std.specs.BTreeMap.{BTreeMap}
 use Rattle.std.specs.Option.{option_map_or}
 use Rattle.std.specs.Str.{bytes_eq}
 use Rattle.std.proofs.lemmas.Bool.{cases_lt, false≢true}
@@ -26,9 +27,13 @@ use Rattle.replay.specs.declared.progress.Seat.{Seat}
 use Rattle.replay.specs.declared.progress.Stage.{Stage}
 use Rattle.replay.specs.declared.progress.Stage.TheVariants.{Calls, Cells, Ended}
 use Rattle.replay.specs.Readers.{Reader, Comes, call, cells, IsUnsettled, script_of, print_lines, cell_lines}
-use Rattle.replay.specs.Readers.{closing_lines}
+use Rattle.replay.specs.Readers.{AllCalled, closing_lines}
 use Rattle.replay.specs.Verdicts.{IsOther}
-use Rattle.replay.specs.Working.Reading.{IsAt, IsOnlyCall, IsHead, due_lines, has_closed, called_at, SeatsAreFull}
+use Rattle.replay.specs.declared.callers.Callers.{Callers}
+use Rattle.replay.specs.declared.callers.Callers.TheVariants.{Scripts, Anyone}
+use Rattle.replay.specs.Working.Reading.{IsAt, IsOnlyCall, IsHead, due_lines, has_closed, called_at, AreSeats, AreThreads}
+use Rattle.replay.specs.Working.Reading.{SeatsAreAll, SeatsAreFull}
+use Rattle.replay.specs.Working.Seats.{IsWithSeat}
 use Rattle.replay.proofs.Heads.{head_not_cells}
 use Rattle.replay.proofs.Scripts.{length-script_of}
 use Rattle.replay.proofs.Seating.{seats_next}
@@ -93,12 +98,25 @@ module _ (program : Typed) (at : Progress) (reader : Reader) (is : IsAt program 
       at_stage (Cells number) stage
       ∙ ap (λ cs. cell_lines program cs (drop number at.heap) ++ codes "end" ∷ []) (drop_all number program.cells.items past)
 
+-- ---- all calls
+
+-- the seats count all that must come, where all came
+pub all_called : (callers : Callers) (program : Typed) (seats : BTreeMap ℕ Seat) (order : List ℕ) → AreSeats seats order →
+    SeatsAreAll callers program seats → AllCalled callers program order
+all_called Scripts program seats order are full = λ t. sym (are.called t) ∙ full t
+all_called Anyone program seats order are full = tt
+
+pub all_counted : (callers : Callers) (program : Typed) (seats : BTreeMap ℕ Seat) (order : List ℕ) → AreSeats seats order →
+    AllCalled callers program order → SeatsAreAll callers program seats
+all_counted Scripts program seats order are all = λ t. are.called t ∙ all t
+all_counted Anyone program seats order are all = tt
+
 -- ---- a line further
 
-module _ (turns : ℕ) (format : Format) (program : Typed) where
+module _ (turns : ℕ) (callers : Callers) (format : Format) (program : Typed) where
   -- what was found: the line may come, and the progress after it
   abbrev pub Further : Reader → List ℕ → Progress → Type 0
-  Further reader text after = (next : Reader) × Comes turns format program reader next text × IsAt program after next
+  Further reader text after = (next : Reader) × Comes turns callers format program reader next text × IsAt program after next
 
   pub print_came : (at : Progress) (reader : Reader) (number : ℤ) (text : List ℕ) → IsAt program at reader →
       at.stage ≡ Calls →
@@ -107,7 +125,7 @@ module _ (turns : ℕ) (format : Format) (program : Typed) where
   print_came at reader number text is stage less here same =
       let more = print_lines (drop (at.told + 1) at.prints.items) in (
         record reader { due = more },
-        due_comes turns format program reader text more (print_due program at reader is number stage less here ∙ ap (λ x. x ∷ more) (sym same)),
+        due_comes turns callers format program reader text more (print_due program at reader is number stage less here ∙ ap (λ x. x ∷ more) (sym same)),
         record {
           heap = is.heap;
           position = is.position;
@@ -125,7 +143,7 @@ module _ (turns : ℕ) (format : Format) (program : Typed) where
   cell_came at reader number cell value text is stage less long cell_is value_is same =
       let more = cell_lines program (drop (number + 1) program.cells.items) (drop (number + 1) at.heap) ++ codes "end" ∷ [] in (
         record reader { due = more },
-        due_comes turns format program reader text more
+        due_comes turns callers format program reader text more
             (cell_due program at reader is number cell value stage less long cell_is value_is ∙ ap (λ x. x ∷ more) (sym same)),
         record {
           heap = is.heap;
@@ -141,7 +159,7 @@ module _ (turns : ℕ) (format : Format) (program : Typed) where
       length program.cells.items ≤ number → text ≡ codes "end" → Further reader text (record at { stage = Ended })
   last_came at reader number text is stage past same = (
     record reader { due = [] },
-    due_comes turns format program reader text [] (last_due program at reader is number stage past ∙ ap (λ x. x ∷ []) (sym same)),
+    due_comes turns callers format program reader text [] (last_due program at reader is number stage past ∙ ap (λ x. x ∷ []) (sym same)),
     record {
       heap = is.heap;
       position = is.position;
@@ -153,12 +171,12 @@ module _ (turns : ℕ) (format : Format) (program : Typed) where
 
   pub cells_came : (at : Progress) (reader : Reader) → IsAt program at reader → at.stage ≡ Calls →
       at.told ≡ length at.prints.items →
-      SeatsAreFull program at.seats.items → Further reader (codes "cells") (record at { stage = Cells 0 })
+      SeatsAreAll callers program at.seats → Further reader (codes "cells") (record at { stage = Cells 0 })
   cells_came at reader is stage all full = (
     record reader { due = closing_lines program reader.heap; closed = true },
     cells (record {
       among = record { none_due = none_due program at reader is stage all; still_open = closed_at program at reader is Calls stage };
-      all = λ t. sym (is.seats.called t) ∙ full t;
+      all = all_called callers program at.seats reader.order is.seats full;
       is_cells = refl;
       leads = refl;
     }),
@@ -173,14 +191,15 @@ module _ (turns : ℕ) (format : Format) (program : Typed) where
 
   pub cells_otherwise : (at : Progress) (reader : Reader) → IsAt program at reader → at.stage ≡ Calls →
       at.told ≡ length at.prints.items →
-      (SeatsAreFull program at.seats.items → ⊥) → IsOther turns format program reader (codes "cells")
+      (SeatsAreAll callers program at.seats → ⊥) → IsOther turns callers format program reader (codes "cells")
   cells_otherwise at reader is stage all short =
-      cells_early turns format program reader (none_due program at reader is stage all) (λ called. short (λ t. is.seats.called t ∙ called t))
+      cells_early turns callers format program reader (none_due program at reader is stage all)
+      (λ called. short (all_counted callers program at.seats reader.order is.seats called))
 
   -- ---- a call
 
   -- up to its end the line is that of the call
-  head_told : (text written : List ℕ) (this : Called) → IsHead format program text written this →
+  pub head_told : (text written : List ℕ) (this : Called) → IsHead format program text written this →
       (rest : List ℕ) × (text ≡ call_head format program (scheduled_called this) this.begun ++ rest)
   head_told text written this head =
       let so = begins_so written text head.begins in
@@ -188,8 +207,8 @@ module _ (turns : ℕ) (format : Format) (program : Typed) where
 
   pub call_beyond : (at : Progress) (reader : Reader) (text written : List ℕ) (this : Called) →
       IsAt program at reader → at.stage ≡ Calls →
-      at.told ≡ length at.prints.items → IsOnlyCall format program at text this → IsHead format program text written this →
-      run_call program turns (scheduled_called this).call at.heap ≡ Beyond_turns → IsUnsettled turns format program reader text
+      at.told ≡ length at.prints.items → IsOnlyCall callers format program at text this → IsHead format program text written this →
+      run_call program turns (scheduled_called this).call at.heap ≡ Beyond_turns → IsUnsettled turns callers format program reader text
   call_beyond at reader text written this is stage all only head beyond =
       let told = head_told text written this head in
       record {
@@ -197,19 +216,19 @@ module _ (turns : ℕ) (format : Format) (program : Typed) where
         this = scheduled_called this;
         begun = this.begun;
         end = told.0;
-        next = record { scripted = only.scripted reader is; begins = only.begins reader is; told = told.1 };
+        next = record { next = only.next reader told.0 is told.1; begins = only.begins reader is; told = told.1 };
         beyond = ap (run_call program turns (scheduled_called this).call) (sym is.heap) ∙ beyond;
       }
 
   pub call_otherwise : (at : Progress) (reader : Reader) (text written : List ℕ) (this : Called) (end : End) (heap : List Value) →
-      IsAt program at reader → at.stage ≡ Calls → at.told ≡ length at.prints.items → IsOnlyCall format program at text this →
+      IsAt program at reader → at.stage ≡ Calls → at.told ≡ length at.prints.items → IsOnlyCall callers format program at text this →
       IsHead format program text written this →
       run_call program turns (scheduled_called this).call at.heap ≡ Over (record { outcome = end.outcome; prints = end.prints.items; heap = heap }) →
       (text ≡ call_head format program (scheduled_called this) this.begun ++ outcome_text program.shape end.outcome → ⊥) →
-      IsOther turns format program reader text
+      IsOther turns callers format program reader text
   call_otherwise at reader text written this end heap is stage all only head over never =
       let told = head_told text written this head in
-      other_end turns format program reader text (scheduled_called this) (call_head format program (scheduled_called this) this.begun)
+      other_end turns callers format program reader text (scheduled_called this) (call_head format program (scheduled_called this) this.begun)
       (record { outcome = end.outcome; prints = end.prints.items; heap = heap }) (none_due program at reader is stage all)
       (λ cells_are. head_not_cells format program (scheduled_called this) this.begun told.0 (sym cells_are ∙ told.1))
       (λ other begun tail next. only.only reader other begun tail is next)
@@ -217,12 +236,13 @@ module _ (turns : ℕ) (format : Format) (program : Typed) where
 
   -- the line of the only call that a line can be of, with the end that the call has, may come
   pub call_comes : (at : Progress) (reader : Reader) (line text : List ℕ) (this : Called) (end : End) (heap : List Value) →
-      IsAt program at reader → at.stage ≡ Calls → at.told ≡ length at.prints.items → IsOnlyCall format program at line this →
+      IsAt program at reader → at.stage ≡ Calls → at.told ≡ length at.prints.items → IsOnlyCall callers format program at line this →
+      (rest : List ℕ) → line ≡ call_head format program (scheduled_called this) this.begun ++ rest →
       run_call program turns (scheduled_called this).call at.heap ≡ Over (record { outcome = end.outcome; prints = end.prints.items; heap = heap }) →
       text ≡ call_head format program (scheduled_called this) this.begun ++ outcome_text program.shape end.outcome →
-      Comes turns format program reader
+      Comes turns callers format program reader
       (record { order = reader.order ++ this.thread ∷ []; heap = heap; due = print_lines end.prints.items; closed = false }) text
-  call_comes at reader line text this end heap is stage all only over told =
+  call_comes at reader line text this end heap is stage all only rest head over told =
       let entry : Entry = record {
         thread = this.thread;
         step = this.step;
@@ -236,16 +256,16 @@ module _ (turns : ℕ) (format : Format) (program : Typed) where
         among = record { none_due = none_due program at reader is stage all; still_open = closed_at program at reader is Calls stage };
         entry = entry;
         heap = heap;
-        next = record { scripted = only.scripted reader is; begins = only.begins reader is; told = told };
+        next = record { next = only.next reader rest is head; begins = only.begins reader is; told = told };
         settled = ap (run_call program turns (scheduled_called this).call) (sym is.heap) ∙ over;
         leads = refl;
       })
 
   pub call_came : (at : Progress) (reader : Reader) (text : List ℕ) (this : Called) (end : End) (after : Progress) →
-      IsAt program at reader → at.stage ≡ Calls → at.told ≡ length at.prints.items → IsOnlyCall format program at text this →
+      IsAt program at reader → at.stage ≡ Calls → at.told ≡ length at.prints.items → IsOnlyCall callers format program at text this →
       run_call program turns (scheduled_called this).call at.heap ≡ Over (record { outcome = end.outcome; prints = end.prints.items; heap = after.heap }) →
       text ≡ call_head format program (scheduled_called this) this.begun ++ outcome_text program.shape end.outcome →
-      after.seats.items ≡ slice_set at.seats.items this.thread (record { called = this.step + 1; least = at.position + 1 }) →
+      IsWithSeat this.thread (record { called = this.step + 1; least = at.position + 1 }) at.seats after.seats →
       after.position ≡ at.position + 1 → after.prints.items ≡ end.prints.items → after.told ≡ 0 → after.stage ≡ Calls →
       Further reader text after
   call_came at reader text this end after is stage all only over told seats position prints none same_stage =
@@ -253,28 +273,26 @@ module _ (turns : ℕ) (format : Format) (program : Typed) where
       let long = is.position in
       let pushed = length_push reader.order this.thread in (
         record { order = reader.order ++ this.thread ∷ []; heap = after.heap; due = print_lines end.prints.items; closed = false },
-        call_comes at reader text text this end after.heap is stage all only over told,
+        call_comes at reader text text this end after.heap is stage all only _ told over told,
         record {
           heap = refl;
           position = omega (arith, position, long, pushed);
-          seats = rw seats (seats_next at.seats.items reader.order this.thread (record { called = this.step + 1; least = at.position + 1 }) is.seats only.seated
-              (omega (arith, counted)) (omega (arith, long)));
+          seats = seats_next at.seats after.seats reader.order this.thread (record { called = this.step + 1; least = at.position + 1 }) is.seats seats
+              (omega (arith, counted)) (omega (arith, long));
           due = ap (λ s. due_lines program s after) same_stage ∙ ap (λ n. print_lines (drop n after.prints.items)) none ∙ ap print_lines prints;
           closed = ap has_closed same_stage;
         },
       )
 
--- ---- all calls
+-- ---- scripts
 
--- the seats of all threads of which there are so many are full
-pub full_seats : (program : Typed) (seats : List Seat) → length seats ≡ length program.threads.items →
+-- the seats of all threads are full, where those of the program's are
+pub full_seats : (program : Typed) (seats : BTreeMap ℕ Seat) → AreThreads Scripts program seats →
     ((t : ℕ) → t < length program.threads.items → called_at seats t ≡ length (script_of program t)) → SeatsAreFull program seats
-full_seats program seats all full t = elim (cases_lt t (length program.threads.items)) [
+full_seats program seats none full t = elim (cases_lt t (length program.threads.items)) [
   | inl less ↦ full t less
   | inr past ↦
-      let no_seat : called_at seats t ≡ 0 =
-      ap (λ found. option_map_or (λ (s : Seat). s.called) found 0) (slice_get_past seats t (omega (arith, all, past))) in
       let no_script : length (script_of program t) ≡ 0 =
       length-script_of program t ∙ ap (λ found. option_map_or (λ (x : Thread). length x.calls.items) found 0) (slice_get_past program.threads.items t past) in
-      no_seat ∙ sym no_script
+      none t past ∙ sym no_script
 ]

@@ -1,3 +1,4 @@
+pub mod Told
 pub mod Readers
 pub mod Verdicts
 pub mod Wanted
@@ -7,4 +8,5 @@ pub use Rattle.replay.specs.Verdicts.{IsSame, IsDiffering, IsBeyond, Holds}
 pub use Rattle.replay.specs.Wanted.{MayCome, IsWanted, IsWantedAt, Explains}
 pub use Rattle.replay.specs.Working.Histories.{IsHistory, history_lines, text_of}
 pub use Rattle.replay.specs.Working.Laws.{AtMostOneVerdict, SameIsHistory, HistoryIsSame, TextIsOfLines, SerialIsSame}
-pub use Rattle.replay.specs.Working.Laws.{EntriesAreSame, OneOrderOneHistory}
+pub use Rattle.replay.specs.Working.Laws.{EntriesAreSame, ScriptsAreOpen, OneOrderOneHistory}
+pub use Rattle.replay.specs.Working.Laws.{HasPlainNames, PlainCallsAreTold}

@@ -1,18 +1,23 @@
--- Which line may come next where a history is read, given a program and how many turns each execution of a loop may make.
-use Rattle.std.specs.Prelude.{◌≡◌, ◌≤◌, ◌<◌, ℕ, ℤ, ◌==◌, Bool, true, false, List, [], ◌∷◌, ◌++◌, length, map}
+-- Which line may come next where a history is read, given a program, who calls, and how many turns each execution of a loop
+-- may make.
+use Rattle.std.specs.Prelude.{◌≡◌, ◌≤◌, ◌<◌, ◌^◌, ℕ, ℤ, ◌==◌, Bool, true, false, List, [], ◌∷◌, ◌++◌, length, map}
 use Rattle.std.specs.Prelude.{count_by, slice_get, codes, Option, Some, ⊤}
 use Rattle.std.specs.Option.{option_map_or}
 use Rattle.core_lang.specs.declared.value.Value.{Value}
 use Rattle.core_lang.specs.declared.typed.Cell.{Cell}
 use Rattle.core_lang.specs.declared.typed.Thread.{Thread}
 use Rattle.core_lang.specs.declared.typed.Typed.{Typed}
+use Rattle.core_lang.specs.WellFormed.{CanCall}
 use Rattle.core_lang.specs.Whole.{Finished, Over, Beyond_turns}
 use Rattle.core_lang.specs.Serial.{Scheduled, opening_heap, script_from, run_call}
 use Rattle.source_histories.specs.declared.format.Format.{Format}
 use Rattle.source_histories.specs.declared.format.Format.TheVariants.{One, Two}
-use Rattle.report.specs.Pieces.{outcome_text}
+use Rattle.report.specs.Pieces.{invocation_text, outcome_text}
 use Rattle.report.specs.Entry.{Entry, scheduled_in}
 use Rattle.report.specs.History.{call_head, print_line, cell_line}
+use Rattle.replay.specs.declared.callers.Callers.{Callers}
+use Rattle.replay.specs.declared.callers.Callers.TheVariants.{Scripts, Anyone}
+use Rattle.replay.specs.Told.{invocation_in}
 
 -- ---- lines
 
@@ -58,6 +63,21 @@ calls_by t order = count_by (λ u. u == t) order
 abbrev pub next_call : Typed → List ℕ → ℕ → Option Scheduled
 next_call program order t = slice_get (script_of program t) (calls_by t order)
 
+-- a call from outside: of a thread with a number of 32 bits, which counts its calls from 0; its section is there, its
+-- arguments fit, and its text tells it
+pub record IsOpenCall (program : Typed) (order : List ℕ) (call : Scheduled) : Type 0 where
+  pub thread : call.thread < 2 ^ 32
+  pub counted : call.step ≡ calls_by call.thread order
+  pub fits : CanCall program call.call.section call.call.arguments
+  pub told : invocation_in program (invocation_text program call.call.section call.call.arguments) ≡ Some call.call
+  -- there were no more calls than 63 bits count
+  pub few : length order < 2 ^ 63
+
+-- the call may be its thread's next one: the next of its script; or, where anyone may call, any call from outside
+abbrev pub IsNext : Callers → Typed → List ℕ → Scheduled → Type 0
+IsNext Scripts program order call = next_call program order call.thread ≡ Some call
+IsNext Anyone program order call = IsOpenCall program order call
+
 -- a number greater than the position of each call of a thread
 abbrev pub IsAfter : List ℕ → ℕ → ℕ → Type 0
 IsAfter order t begun = (k : ℕ) → slice_get order k ≡ Some t → k < begun
@@ -68,8 +88,8 @@ MayBegin One order t begun = ⊤
 MayBegin Two order t begun = (begun ≤ length order) × IsAfter order t begun
 
 -- up to its end, the line is that of a thread's next call
-pub record IsNextCall (format : Format) (program : Typed) (order : List ℕ) (text : List ℕ) (call : Scheduled) (begun : ℕ) (end : List ℕ) : Type 0 where
-  pub scripted : next_call program order call.thread ≡ Some call
+pub record IsNextCall (callers : Callers) (format : Format) (program : Typed) (order : List ℕ) (text : List ℕ) (call : Scheduled) (begun : ℕ) (end : List ℕ) : Type 0 where
+  pub next : IsNext callers program order call
   pub begins : MayBegin format order call.thread begun
   pub told : text ≡ call_head format program call begun ++ end
 
@@ -91,42 +111,43 @@ pub record DueComes (before after : Reader) (text : List ℕ) : Type 0 where
   pub leads : after ≡ record before { due = more }
 
 -- the line of a thread's next call, as the turns settle it; then a line is due for each of its prints
-pub record CallComes (turns : ℕ) (format : Format) (program : Typed) (before after : Reader) (text : List ℕ) : Type 0 where
+pub record CallComes (turns : ℕ) (callers : Callers) (format : Format) (program : Typed) (before after : Reader) (text : List ℕ) : Type 0 where
   pub among : IsAmongCalls before
   pub entry : Entry
   pub heap : List Value
-  pub next : IsNextCall format program before.order text (scheduled_in entry) entry.begun (outcome_text program.shape entry.outcome)
+  pub next : IsNextCall callers format program before.order text (scheduled_in entry) entry.begun (outcome_text program.shape entry.outcome)
   pub settled : run_call program turns (scheduled_in entry).call before.heap ≡ Over (finished_as entry heap)
   pub leads : after ≡ record { order = before.order ++ entry.thread ∷ []; heap = heap; due = print_lines entry.prints; closed = false }
 
--- all calls of all scripts have come
-abbrev pub AllCalled : Typed → List ℕ → Type 0
-AllCalled program order = (t : ℕ) → calls_by t order ≡ length (script_of program t)
+-- all calls of all scripts have come; where anyone may call, any number of calls is all
+abbrev pub AllCalled : Callers → Typed → List ℕ → Type 0
+AllCalled Scripts program order = (t : ℕ) → calls_by t order ≡ length (script_of program t)
+AllCalled Anyone program order = ⊤
 
 -- the line `cells`, after all calls; then the cells and the last line are due
-pub record CellsCome (program : Typed) (before after : Reader) (text : List ℕ) : Type 0 where
+pub record CellsCome (callers : Callers) (program : Typed) (before after : Reader) (text : List ℕ) : Type 0 where
   pub among : IsAmongCalls before
-  pub all : AllCalled program before.order
+  pub all : AllCalled callers program before.order
   pub is_cells : text ≡ codes "cells"
   pub leads : after ≡ record before { due = closing_lines program before.heap; closed = true }
 
 -- a line that may come, and where it leads
-pub data Comes (turns : ℕ) (format : Format) (program : Typed) (before after : Reader) (text : List ℕ) : Type 0 where
-  due : DueComes before after text → Comes turns format program before after text
-  call : CallComes turns format program before after text → Comes turns format program before after text
-  cells : CellsCome program before after text → Comes turns format program before after text
+pub data Comes (turns : ℕ) (callers : Callers) (format : Format) (program : Typed) (before after : Reader) (text : List ℕ) : Type 0 where
+  due : DueComes before after text → Comes turns callers format program before after text
+  call : CallComes turns callers format program before after text → Comes turns callers format program before after text
+  cells : CellsCome callers program before after text → Comes turns callers format program before after text
 
 -- lines that come one after another
-abbrev pub Come : ℕ → Format → Typed → Reader → List (List ℕ) → Reader → Type 0
-Come turns format program before [] after = before ≡ after
-Come turns format program before (text ∷ more) after =
-    (middle : Reader) × Comes turns format program before middle text × Come turns format program middle more after
+abbrev pub Come : ℕ → Callers → Format → Typed → Reader → List (List ℕ) → Reader → Type 0
+Come turns callers format program before [] after = before ≡ after
+Come turns callers format program before (text ∷ more) after =
+    (middle : Reader) × Comes turns callers format program before middle text × Come turns callers format program middle more after
 
 -- up to its end, the line is that of a thread's next call, which the turns don't settle
-pub record IsUnsettled (turns : ℕ) (format : Format) (program : Typed) (reader : Reader) (text : List ℕ) : Type 0 where
+pub record IsUnsettled (turns : ℕ) (callers : Callers) (format : Format) (program : Typed) (reader : Reader) (text : List ℕ) : Type 0 where
   pub among : IsAmongCalls reader
   pub this : Scheduled
   pub begun : ℕ
   pub end : List ℕ
-  pub next : IsNextCall format program reader.order text this begun end
+  pub next : IsNextCall callers format program reader.order text this begun end
   pub beyond : run_call program turns this.call reader.heap ≡ Beyond_turns

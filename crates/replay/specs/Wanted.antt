@@ -1,20 +1,29 @@
 -- What may come where a history differs.
-use Rattle.std.specs.Prelude.{◌≡◌, ℕ, zero, suc, List, [], ◌∷◌, ◌++◌, length, map, string_bytes, Option, Some, None}
+use Rattle.std.specs.Prelude.{◌≡◌, ◌≢◌, ◌≤◌, ◌<◌, ◌^◌, ◌↔◌, ℕ, zero, suc, List, [], ◌∷◌, ◌++◌, length, map, string_bytes}
+use Rattle.std.specs.Prelude.{Option, Some, None}
 use Rattle.std.specs.Option.{option_map_or}
 use Rattle.core_lang.specs.declared.typed.Typed.{Typed}
 use Rattle.core_lang.specs.Serial.{Scheduled}
 use Rattle.source_histories.specs.declared.format.Format.{Format}
+use Rattle.source_histories.specs.declared.format.Format.TheVariants.{Two}
+use Rattle.source_histories.specs.Pieces.{before}
 use Rattle.report.specs.History.{call_head}
+use Rattle.replay.specs.declared.callers.Callers.{Callers}
+use Rattle.replay.specs.declared.callers.Callers.TheVariants.{Anyone}
+use Rattle.replay.specs.declared.told.Told.{Told}
 use Rattle.replay.specs.declared.verdict.Verdict.{Verdict}
 use Rattle.replay.specs.declared.verdict.Verdict.TheVariants.{Same, Differs, Unsettled}
 use Rattle.replay.specs.declared.wanted.Wanted.{Wanted}
-use Rattle.replay.specs.declared.wanted.Wanted.TheVariants.{Line, Calls, Nothing}
-use Rattle.replay.specs.Readers.{Reader, Comes, next_call, IsNextCall, IsAmongCalls, AllCalled}
+use Rattle.replay.specs.declared.wanted.Wanted.TheVariants.{Line, Calls, Open, Nothing}
+use Rattle.replay.specs.declared.wanted.Lack.{Lack}
+use Rattle.replay.specs.declared.wanted.Lack.TheVariants as lack
+use Rattle.replay.specs.Readers.{Reader, Comes, next_call, calls_by, IsNextCall, IsAmongCalls, AllCalled, MayBegin}
+use Rattle.replay.specs.Told.{told_in, invoked_text, section_named}
 use Rattle.replay.specs.Verdicts.{HasEnded, Reaches}
 
 -- the line may come
-abbrev pub MayCome : ℕ → Format → Typed → Reader → List ℕ → Type 0
-MayCome turns format program reader text = (after : Reader) × Comes turns format program reader after text
+abbrev pub MayCome : ℕ → Callers → Format → Typed → Reader → List ℕ → Type 0
+MayCome turns callers format program reader text = (after : Reader) × Comes turns callers format program reader after text
 
 -- the line of a thread's next call up to its end, if it has one, as if it had begun just now
 abbrev pub next_head : Format → Typed → List ℕ → ℕ → List (List ℕ)
@@ -27,41 +36,82 @@ next_heads format program order zero = []
 next_heads format program order (suc t) = next_heads format program order t ++ next_head format program order t
 
 -- up to its end, the first of the lines is that of a next call
-abbrev pub Names : Format → Typed → Reader → List (List ℕ) → Scheduled → ℕ → Type 0
-Names format program reader [] call begun = ⊥
-Names format program reader (text ∷ more) call begun =
-    IsAmongCalls reader × (end : List ℕ) × IsNextCall format program reader.order text call begun end
+abbrev pub Names : Callers → Format → Typed → Reader → List (List ℕ) → Scheduled → ℕ → Type 0
+Names callers format program reader [] call begun = ⊥
+Names callers format program reader (text ∷ more) call begun =
+    IsAmongCalls reader × (end : List ℕ) × IsNextCall callers format program reader.order text call begun end
 
 -- it is that of none
-abbrev pub NamesNone : Format → Typed → Reader → List (List ℕ) → Type 0
-NamesNone format program reader lines = (call : Scheduled) (begun : ℕ) → Names format program reader lines call begun → ⊥
+abbrev pub NamesNone : Callers → Format → Typed → Reader → List (List ℕ) → Type 0
+NamesNone callers format program reader lines = (call : Scheduled) (begun : ℕ) → Names callers format program reader lines call begun → ⊥
 
 -- a line has, up to its end, the call that the first of the lines has, if that is of one
-abbrev pub KeepsCall : Format → Typed → Reader → List (List ℕ) → List ℕ → Type 0
-KeepsCall format program reader lines text = (call : Scheduled) (begun : ℕ) → Names format program reader lines call begun →
+abbrev pub KeepsCall : Callers → Format → Typed → Reader → List (List ℕ) → List ℕ → Type 0
+KeepsCall callers format program reader lines text = (call : Scheduled) (begun : ℕ) → Names callers format program reader lines call begun →
     (end : List ℕ) × (text ≡ call_head format program call begun ++ end)
 
+-- ---- calls from outside
+
+-- after these calls one of the thread may begin from the first of these lengths of the history to the other
+abbrev pub MayBeginWithin : List ℕ → ℕ → ℕ → ℕ → Type 0
+MayBeginWithin order thread least most = (begun : ℕ) → MayBegin Two order thread begun ↔ ((least ≤ begun) × (begun ≤ most))
+
+-- what the numbers of a line lack
+abbrev pub LacksNumber : Format → List ℕ → Told → Lack → Type 0
+LacksNumber format order told lack.Thread = 2 ^ 32 ≤ told.thread
+LacksNumber format order told (lack.Number number) = (calls_by told.thread order ≡ number) × (told.step ≢ number)
+LacksNumber format order told (lack.Begin least most) =
+    (format ≡ Two) × MayBeginWithin order told.thread least most × ((least ≤ told.begun) × (told.begun ≤ most) → ⊥)
+LacksNumber format order told other = ⊥
+
+-- the numbers are those that a next call of the thread may have
+pub record AreInTurn (format : Format) (order : List ℕ) (told : Told) : Type 0 where
+  pub thread : told.thread < 2 ^ 32
+  pub counted : told.step ≡ calls_by told.thread order
+  pub begins : MayBegin format order told.thread told.begun
+
+-- what a line that is none of an open call up to its end lacks: it is no call's line; or one of its numbers is out of turn; or
+-- there is no such section; or all of that is right, so that its arguments are at fault
+abbrev pub LacksSo : Format → Typed → List ℕ → List ℕ → Lack → Type 0
+LacksSo format program order text (lack.Form of) = (of ≡ format) × (told_in format text ≡ None)
+LacksSo format program order text lack.Section =
+    (told : Told) × (told_in format text ≡ Some told) × (section_named program (before 40 (invoked_text format text)) ≡ None)
+LacksSo format program order text lack.Arguments =
+    (told : Told) × (told_in format text ≡ Some told) × AreInTurn format order told
+    × ((section : ℕ) × (section_named program (before 40 (invoked_text format text)) ≡ Some section))
+LacksSo format program order text number = (told : Told) × (told_in format text ≡ Some told) × LacksNumber format order told number
+
+-- what the first of the lines lacks; where there is none, a line of this form
+abbrev pub Lacks : Format → Typed → List ℕ → List (List ℕ) → Lack → Type 0
+Lacks format program order [] missing = missing ≡ lack.Form format
+Lacks format program order (text ∷ more) missing = LacksSo format program order text missing
+
+-- ---- what is wanted
+
 -- what may come where these lines are left: this line, which is of the call that the first of them names, if it names one;
--- or, where it names none and calls are left, the next one of any thread, of which these are the lines up to their ends; or
--- no line
-abbrev pub IsWanted : ℕ → Format → Typed → Reader → List (List ℕ) → Wanted → Type 0
-IsWanted turns format program reader lines (Line text) =
-    MayCome turns format program reader (string_bytes text) × KeepsCall format program reader lines (string_bytes text)
-IsWanted turns format program reader lines (Calls heads) =
-    IsAmongCalls reader × (AllCalled program reader.order → ⊥) × NamesNone format program reader lines
+-- or, where it names none and calls are left, the next one of any thread, of which these are the lines up to their ends, or,
+-- where anyone may call, any call, and this is what the first of the lines lacks; or no line
+abbrev pub IsWanted : ℕ → Callers → Format → Typed → Reader → List (List ℕ) → Wanted → Type 0
+IsWanted turns callers format program reader lines (Line text) =
+    MayCome turns callers format program reader (string_bytes text) × KeepsCall callers format program reader lines (string_bytes text)
+IsWanted turns callers format program reader lines (Calls heads) =
+    IsAmongCalls reader × (AllCalled callers program reader.order → ⊥) × NamesNone callers format program reader lines
     × (map (λ head. string_bytes head) heads.items ≡ next_heads format program reader.order (length program.threads.items))
-IsWanted turns format program reader lines Nothing = HasEnded reader
+IsWanted turns callers format program reader lines (Open missing) =
+    (callers ≡ Anyone) × IsAmongCalls reader × NamesNone callers format program reader lines
+    × Lacks format program reader.order lines missing
+IsWanted turns callers format program reader lines Nothing = HasEnded reader
 
 -- the lines before the one with this number came, and this may come there
-pub record IsWantedAt (turns : ℕ) (format : Format) (program : Typed) (lines : List (List ℕ)) (number : ℕ) (wanted : Wanted) : Type 0 where
+pub record IsWantedAt (turns : ℕ) (callers : Callers) (format : Format) (program : Typed) (lines : List (List ℕ)) (number : ℕ) (wanted : Wanted) : Type 0 where
   pub reader : Reader
   pub rest : List (List ℕ)
-  pub reached : Reaches turns format program lines number reader rest
-  pub may_come : IsWanted turns format program reader rest wanted
+  pub reached : Reaches turns callers format program lines number reader rest
+  pub may_come : IsWanted turns callers format program reader rest wanted
 
 -- where the lines differ it is told what may come there, and else nothing
-abbrev pub Explains : ℕ → Format → Typed → List (List ℕ) → Verdict → Option Wanted → Type 0
-Explains turns format program lines (Differs number) (Some wanted) = IsWantedAt turns format program lines number wanted
-Explains turns format program lines (Differs number) None = ⊥
-Explains turns format program lines Same wanted = wanted ≡ None
-Explains turns format program lines (Unsettled number) wanted = wanted ≡ None
+abbrev pub Explains : ℕ → Callers → Format → Typed → List (List ℕ) → Verdict → Option Wanted → Type 0
+Explains turns callers format program lines (Differs number) (Some wanted) = IsWantedAt turns callers format program lines number wanted
+Explains turns callers format program lines (Differs number) None = ⊥
+Explains turns callers format program lines Same wanted = wanted ≡ None
+Explains turns callers format program lines (Unsettled number) wanted = wanted ≡ None

@@ -2,5 +2,6 @@
 -- cites them.
 pub mod Histories
 pub mod Laws
-pub mod Told
+pub mod Names
+pub mod Seats
 pub mod Reading

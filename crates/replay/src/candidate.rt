@@ -1,11 +1,17 @@
 //! The call that a line can be of.
 
-ghost use Rattle.std.specs.Prelude.{◌≡◌, ◌<◌, ◌^◌, IfOk, slice_get, string_bytes};
-ghost use Rattle.std.specs.Option.{option_copied};
-ghost use Rattle.replay.specs.Working.Reading.{IsReady, IsSound, IsCandidate, begins_at, call_in, IsHeadOf};
+ghost use Rattle.std.specs.Prelude.{◌≡◌, ◌<◌, ◌^◌, IfOk, string_bytes};
+ghost use Rattle.std.specs.Option.{option_copied, option_map};
+ghost use Rattle.replay.specs.Told.{invocation_in, invoked_text};
+ghost use Rattle.replay.specs.declared.callers.Callers.TheVariants.{Scripts, Anyone};
+ghost use Rattle.replay.specs.Working.Reading.{IsReady, IsSound, IsCandidate, begins_at, call_in, invocation_at, IsHeadOf};
 
-use crate::progress::{Progress, Seat};
-use crate::told::told_by;
+use crate::callers::Callers;
+use crate::calls::Invoked;
+use crate::names::Numbers;
+use crate::progress::Progress;
+use crate::told::{Told, invoked_by, told_by};
+use core_lang::calls::can_call;
 use core_lang::typed::{Call, Typed};
 use meaning_registers::prepared::Prepared;
 use report::lines::push_call_head;
@@ -21,27 +27,26 @@ pub(crate) struct Replay<'a> {
     pub alloc: Global,
     pub program: &'a Typed,
     pub prepared: Prepared<'a>,
+    /// Whose calls a history has.
+    pub callers: Callers,
     /// What a call's line tells.
     pub format: Format,
     /// The most turns that each execution of a loop may make.
     pub turns: u64,
+    /// The numbers of the sections' names.
+    pub sections: Numbers<'a>,
+    /// The numbers of the pools' names.
+    pub pools: Numbers<'a>,
 }
 
-// Whether a thread's next call may tell this begin.
-fn may_begin(format: Format, least: usize, position: usize, begun: usize) -> bool
+/// Whether a thread's next call may tell this begin.
+pub(crate) fn may_begin(format: Format, least: usize, position: usize, begun: usize) -> bool
     ensures { result ≡ begins_at format least position begun }
 {
     match format {
         Format::One => true,
         Format::Two => least <= begun && begun <= position,
     }
-}
-
-// The seat of a thread.
-fn seat_at(at: &Progress, thread: usize) -> Option<Seat>
-    ensures { result ≡ slice_get at.now.seats.items thread }
-{
-    at.seats.get(thread).copied()
 }
 
 impl<'a> Replay<'a> {
@@ -56,21 +61,19 @@ impl<'a> Replay<'a> {
         }
     }
 
-    // The only call whose line may read so.
-    fn candidate(&self, at: &Progress, line: &[u8]) -> Option<Called<'a>>
+    // The only call of the scripts whose line may read so.
+    fn scripted(&self, at: &Progress, line: &[u8]) -> Option<Called<'a>>
         requires ready { IsReady self.now }
-        requires sound { IsSound self.now.program.now at.now }
+        requires sound { IsSound Scripts self.now.program.now at.now }
         requires short { at.now.position < 2 ^ 63 }
-        ensures { IsCandidate self.now.format self.now.program.now at.now line.now result }
+        ensures { IsCandidate Scripts self.now.format self.now.program.now at.now line.now result }
     {
         let Some(told) = told_by(self.format, line) else {
             return None;
         };
         let thread = told.thread as usize;
         let begun = told.begun as usize;
-        let Some(seat) = seat_at(at, thread) else {
-            return None;
-        };
+        let seat = at.seat(thread);
         let Some(call) = self.call_in(thread, seat.called) else {
             return None;
         };
@@ -86,20 +89,99 @@ impl<'a> Replay<'a> {
         })
     }
 
+    // The only call from outside whose line may read so, where this is the call that it tells.
+    fn outside<'b>(
+        &self,
+        at: &Progress,
+        line: &[u8],
+        invoked: &'b Option<Invoked>,
+    ) -> Option<Called<'b>>
+        requires ready { IsReady self.now }
+        requires sound { IsSound Anyone self.now.program.now at.now }
+        requires short { at.now.position < 2 ^ 63 }
+        requires told { invocation_at invoked.now ≡ invocation_in self.now.program.now (invoked_text self.now.format line.now) }
+        ensures { IsCandidate Anyone self.now.format self.now.program.now at.now line.now result }
+    {
+        let Some(told) = told_by(self.format, line) else {
+            return None;
+        };
+        let Some(invoked) = invoked else {
+            return None;
+        };
+        if told.thread > u64::from(u32::MAX) {
+            return None;
+        }
+        let thread = told.thread as usize;
+        let begun = told.begun as usize;
+        let seat = at.seat(thread);
+        if !may_begin(self.format, seat.least, at.position, begun) {
+            return None;
+        }
+        if !can_call(self.program, invoked.section, &invoked.arguments) {
+            return None;
+        }
+        Some(Called {
+            thread,
+            step: seat.called,
+            begun,
+            section: invoked.section,
+            arguments: &invoked.arguments,
+        })
+    }
+
+    /// What is called in a line, where anyone may call.
+    pub(crate) fn invoked_at(&self, line: &[u8]) -> Result<Option<Invoked>, NoMemory>
+        requires { IsReady self.now }
+        ensures { self.now.callers ≡ Anyone → IfOk result (λ invoked. invocation_at invoked
+            ≡ invocation_in self.now.program.now (invoked_text self.now.format line.now)) }
+    {
+        match self.callers {
+            Callers::Scripts => Ok(None),
+            Callers::Anyone => self.invoked_in(invoked_by(self.format, line)),
+        }
+    }
+
+    // The only call whose line may read so.
+    fn candidate<'b>(
+        &self,
+        at: &Progress,
+        line: &[u8],
+        invoked: &'b Option<Invoked>,
+    ) -> Option<Called<'b>>
+    where
+        'a: 'b,
+        requires ready { IsReady self.now }
+        requires sound { IsSound self.now.callers self.now.program.now at.now }
+        requires short { at.now.position < 2 ^ 63 }
+        requires told { self.now.callers ≡ Anyone →
+            invocation_at invoked.now ≡ invocation_in self.now.program.now (invoked_text self.now.format line.now) }
+        ensures { IsCandidate self.now.callers self.now.format self.now.program.now at.now line.now result }
+    {
+        match self.callers {
+            Callers::Scripts => self.scripted(at, line),
+            Callers::Anyone => self.outside(at, line, invoked),
+        }
+    }
+
     /// The only call whose line may read so, if up to its end the line reads so. Its line up to its end is put into `text`.
-    pub(crate) fn call_of(
+    pub(crate) fn call_of<'b>(
         &self,
         at: &Progress,
         text: &mut String,
         line: &[u8],
-    ) -> Result<Option<Called<'a>>, NoMemory>
+        invoked: &'b Option<Invoked>,
+    ) -> Result<Option<Called<'b>>, NoMemory>
+    where
+        'a: 'b,
         requires ready { IsReady self.now }
-        requires sound { IsSound self.now.program.now at.now }
+        requires sound { IsSound self.now.callers self.now.program.now at.now }
         requires short { at.now.position < 2 ^ 63 }
-        ensures only { IfOk result (IsCandidate self.now.format self.now.program.now at.now line.now) }
+        requires told { self.now.callers ≡ Anyone →
+            invocation_at invoked.now ≡ invocation_in self.now.program.now (invoked_text self.now.format line.now) }
+        ensures only { IfOk result (IsCandidate self.now.callers self.now.format self.now.program.now at.now line.now) }
         ensures head { IfOk result (IsHeadOf self.now.format self.now.program.now line.now (string_bytes text.new)) }
     {
-        let Some(call) = self.candidate(at, line) else {
+        let Some(call) = self.candidate(at, line, invoked) else {
             return Ok(None);
         };
         text.clear();

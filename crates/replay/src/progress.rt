@@ -1,6 +1,11 @@
 //! How far a history was read.
 
+ghost use Rattle.std.specs.Prelude.{◌≡◌, ◌∷◌, OnOk, IfSome};
+ghost use Rattle.replay.specs.Working.Seats.{seat_in, IsWithSeat};
+
 use meaning_trees::heap::Heap;
+use source::memory::NoMemory;
+use std::collections::BTreeMap;
 
 /// What came of a thread.
 #[derive(Clone, Copy, Debug)]
@@ -27,8 +32,8 @@ pub(crate) enum Stage {
 pub(crate) struct Progress {
     /// The values of all cells after the calls that came.
     pub heap: Heap,
-    /// What came of each thread.
-    pub seats: Vec<Seat>,
+    /// What came of each thread that called, by its number.
+    pub seats: BTreeMap<usize, Seat>,
     /// How many calls came.
     pub position: usize,
     /// What the last call printed.
@@ -37,6 +42,33 @@ pub(crate) struct Progress {
     pub told: usize,
     /// Which lines may come.
     pub stage: Stage,
+}
+
+impl Progress {
+    /// What came of a thread.
+    pub(crate) fn seat(&self, thread: usize) -> Seat
+        ensures { result ≡ seat_in self.now.seats thread }
+    {
+        match self.seats.get(&thread) {
+            Some(seat) => *seat,
+            None => Seat {
+                called: 0,
+                least: 0,
+            },
+        }
+    }
+}
+
+/// Sets what came of a thread.
+pub(crate) fn set_seat(
+    seats: &mut BTreeMap<usize, Seat>,
+    thread: usize,
+    seat: Seat,
+) -> Result<(), NoMemory>
+    ensures { OnOk result (IsWithSeat thread seat seats.old seats.new) }
+{
+    seats.insert(thread, seat)?;
+    Ok(())
 }
 
 /// What is found of a line.

@@ -4,26 +4,20 @@ ghost use Rattle.std.specs.Prelude.{◌≡◌, ◌+◌, ◌<◌, ◌≤◌, ◌^
 ghost use Rattle.std.specs.Bool.{Decides};
 ghost use Rattle.replay.specs.declared.progress.Stage.TheVariants.{Calls, Cells};
 ghost use Rattle.replay.specs.Readers.{script_of};
-ghost use Rattle.replay.specs.Working.Reading.{IsReady, IsSound, Reads, Leaves, IsOnlyCall, IsHead, SeatsAreFull, called_at};
+ghost use Rattle.replay.specs.declared.callers.Callers.TheVariants.{Scripts, Anyone};
+ghost use Rattle.replay.specs.Told.{invocation_in, invoked_text};
+ghost use Rattle.replay.specs.Working.Reading.{invocation_at, IsReady, IsSound, Reads, Leaves, IsOnlyCall, IsHead, SeatsAreAll, SeatsAreFull};
 
+use crate::callers::Callers;
+use crate::calls::Invoked;
 use crate::candidate::Replay;
-use crate::progress::{Finding, Progress, Seat, Stage};
+use crate::progress::{Finding, Progress, Seat, Stage, set_seat};
 use meaning::run::End;
 use report::lines::{push_cell, push_print};
 use report::pieces::push_outcome;
 use report::record::Called;
 use source::memory::NoMemory;
 use source_histories::piece::is;
-
-/// How many calls of a thread came.
-pub(crate) fn called(at: &Progress, thread: usize) -> usize
-    ensures { result ≡ called_at at.now.seats.items thread }
-{
-    match at.seats.get(thread) {
-        Some(seat) => seat.called,
-        None => 0,
-    }
-}
 
 impl<'a> Replay<'a> {
     // A line where a print is due.
@@ -33,14 +27,14 @@ impl<'a> Replay<'a> {
         text: &mut String,
         line: &[u8],
     ) -> Result<Finding, NoMemory>
-        requires sound { IsSound self.now.program.now at.old }
+        requires sound { IsSound self.now.callers self.now.program.now at.old }
         requires stage { at.old.stage ≡ Calls }
         requires due { at.old.told < length at.old.prints.items }
-        ensures reads { IfOk result (Reads self.now.turns self.now.format self.now.program.now line.now at.old at.new) }
-        ensures sound { OnOk result (IsSound self.now.program.now at.new) }
+        ensures reads { IfOk result (Reads self.now.turns self.now.callers self.now.format self.now.program.now line.now at.old at.new) }
+        ensures sound { OnOk result (IsSound self.now.callers self.now.program.now at.new) }
         ensures position { at.new.position ≡ at.old.position }
         ensures leaves { IfOk result
-            (Leaves self.now.turns self.now.format self.now.program.now line.now at.old at.new (string_bytes text.new)) }
+            (Leaves self.now.turns self.now.callers self.now.format self.now.program.now line.now at.old at.new (string_bytes text.new)) }
     {
         text.clear();
         push_print(text, at.prints[at.told])?;
@@ -54,14 +48,14 @@ impl<'a> Replay<'a> {
 
     // The line after the last cell.
     fn read_last(&self, at: &mut Progress, number: usize, line: &[u8]) -> Finding
-        requires sound { IsSound self.now.program.now at.old }
+        requires sound { IsSound self.now.callers self.now.program.now at.old }
         requires stage { at.old.stage ≡ Cells number }
         requires past { length self.now.program.now.cells.items ≤ number }
-        ensures reads { Reads self.now.turns self.now.format self.now.program.now line.now at.old at.new result }
-        ensures sound { IsSound self.now.program.now at.new }
+        ensures reads { Reads self.now.turns self.now.callers self.now.format self.now.program.now line.now at.old at.new result }
+        ensures sound { IsSound self.now.callers self.now.program.now at.new }
         ensures position { at.new.position ≡ at.old.position }
         ensures leaves { (written : List ℕ) →
-            Leaves self.now.turns self.now.format self.now.program.now line.now at.old at.new written result }
+            Leaves self.now.turns self.now.callers self.now.format self.now.program.now line.now at.old at.new written result }
     {
         if !is(line, "end") {
             return Finding::Other;
@@ -78,13 +72,13 @@ impl<'a> Replay<'a> {
         text: &mut String,
         line: &[u8],
     ) -> Result<Finding, NoMemory>
-        requires sound { IsSound self.now.program.now at.old }
+        requires sound { IsSound self.now.callers self.now.program.now at.old }
         requires stage { at.old.stage ≡ Cells number }
-        ensures reads { IfOk result (Reads self.now.turns self.now.format self.now.program.now line.now at.old at.new) }
-        ensures sound { OnOk result (IsSound self.now.program.now at.new) }
+        ensures reads { IfOk result (Reads self.now.turns self.now.callers self.now.format self.now.program.now line.now at.old at.new) }
+        ensures sound { OnOk result (IsSound self.now.callers self.now.program.now at.new) }
         ensures position { at.new.position ≡ at.old.position }
         ensures leaves { IfOk result
-            (Leaves self.now.turns self.now.format self.now.program.now line.now at.old at.new (string_bytes text.new)) }
+            (Leaves self.now.turns self.now.callers self.now.format self.now.program.now line.now at.old at.new (string_bytes text.new)) }
     {
         if number >= self.program.cells.len() {
             return Ok(self.read_last(at, number, line));
@@ -114,29 +108,41 @@ impl<'a> Replay<'a> {
         }
     }
 
-    /// Whether all calls of all scripts came.
-    pub(crate) fn all_called(&self, at: &Progress) -> bool
-        requires { IsSound self.now.program.now at.now }
-        ensures { Decides result (SeatsAreFull self.now.program.now at.now.seats.items) }
+    // Whether all calls of all scripts came.
+    fn scripts_called(&self, at: &Progress) -> bool
+        requires sound { IsSound self.now.callers self.now.program.now at.now }
+        requires scripts { self.now.callers ≡ Scripts }
+        ensures { Decides result (SeatsAreFull self.now.program.now at.now.seats) }
     {
         for thread in 0..self.program.threads.len() {
-            if called(at, thread) != self.script_len(thread) {
+            if at.seat(thread).called != self.script_len(thread) {
                 return false;
             }
         }
         true
     }
 
+    /// Whether all calls came, as far as there are any that must come.
+    pub(crate) fn all_called(&self, at: &Progress) -> bool
+        requires { IsSound self.now.callers self.now.program.now at.now }
+        ensures { Decides result (SeatsAreAll self.now.callers self.now.program.now at.now.seats) }
+    {
+        match self.callers {
+            Callers::Scripts => self.scripts_called(at),
+            Callers::Anyone => true,
+        }
+    }
+
     // The line `cells`.
     fn read_cells(&self, at: &mut Progress) -> Finding
-        requires sound { IsSound self.now.program.now at.old }
+        requires sound { IsSound self.now.callers self.now.program.now at.old }
         requires stage { at.old.stage ≡ Calls }
         requires none_due { at.old.told ≡ length at.old.prints.items }
-        ensures reads { Reads self.now.turns self.now.format self.now.program.now (codes "cells") at.old at.new result }
-        ensures sound { IsSound self.now.program.now at.new }
+        ensures reads { Reads self.now.turns self.now.callers self.now.format self.now.program.now (codes "cells") at.old at.new result }
+        ensures sound { IsSound self.now.callers self.now.program.now at.new }
         ensures position { at.new.position ≡ at.old.position }
         ensures leaves { (written : List ℕ) →
-            Leaves self.now.turns self.now.format self.now.program.now (codes "cells") at.old at.new written result }
+            Leaves self.now.turns self.now.callers self.now.format self.now.program.now (codes "cells") at.old at.new written result }
     {
         if !self.all_called(at) {
             return Finding::Other;
@@ -149,22 +155,22 @@ impl<'a> Replay<'a> {
     fn read_end(
         &self,
         at: &mut Progress,
-        call: Called<'a>,
+        call: Called<'_>,
         text: &mut String,
         line: &[u8],
     ) -> Result<Finding, NoMemory>
         requires ready { IsReady self.now }
-        requires sound { IsSound self.now.program.now at.old }
+        requires sound { IsSound self.now.callers self.now.program.now at.old }
         requires stage { at.old.stage ≡ Calls }
         requires none_due { at.old.told ≡ length at.old.prints.items }
         requires short { at.old.position < 2 ^ 63 }
-        requires only { IsOnlyCall self.now.format self.now.program.now at.old line.now call }
+        requires only { IsOnlyCall self.now.callers self.now.format self.now.program.now at.old line.now call }
         requires head { IsHead self.now.format self.now.program.now line.now (string_bytes text.old) call }
-        ensures reads { IfOk result (Reads self.now.turns self.now.format self.now.program.now line.now at.old at.new) }
-        ensures sound { OnOk result (IsSound self.now.program.now at.new) }
+        ensures reads { IfOk result (Reads self.now.turns self.now.callers self.now.format self.now.program.now line.now at.old at.new) }
+        ensures sound { OnOk result (IsSound self.now.callers self.now.program.now at.new) }
         ensures position { at.new.position ≤ at.old.position + 1 }
         ensures leaves { IfOk result
-            (Leaves self.now.turns self.now.format self.now.program.now line.now at.old at.new (string_bytes text.new)) }
+            (Leaves self.now.turns self.now.callers self.now.format self.now.program.now line.now at.old at.new (string_bytes text.new)) }
     {
         let run = self.prepared.run_whole(
             self.alloc,
@@ -183,13 +189,42 @@ impl<'a> Replay<'a> {
             return Ok(Finding::EndsOtherwise);
         }
         at.position += 1;
-        at.seats[call.thread] = Seat {
+        let seat = Seat {
             called: call.step + 1,
             least: at.position,
         };
+        set_seat(&mut at.seats, call.thread, seat)?;
         at.prints = prints;
         at.told = 0;
         Ok(Finding::Came)
+    }
+
+    // A line that is not `cells`, where no print is due, before `cells`; this is the call that it tells.
+    fn read_told(
+        &self,
+        at: &mut Progress,
+        text: &mut String,
+        line: &[u8],
+        invoked: &Option<Invoked>,
+    ) -> Result<Finding, NoMemory>
+        requires ready { IsReady self.now }
+        requires sound { IsSound self.now.callers self.now.program.now at.old }
+        requires stage { at.old.stage ≡ Calls }
+        requires none_due { at.old.told ≡ length at.old.prints.items }
+        requires short { at.old.position < 2 ^ 63 }
+        requires not_cells { line.now ≡ codes "cells" → ⊥ }
+        requires told { self.now.callers ≡ Anyone →
+            invocation_at invoked.now ≡ invocation_in self.now.program.now (invoked_text self.now.format line.now) }
+        ensures reads { IfOk result (Reads self.now.turns self.now.callers self.now.format self.now.program.now line.now at.old at.new) }
+        ensures sound { OnOk result (IsSound self.now.callers self.now.program.now at.new) }
+        ensures position { at.new.position ≤ at.old.position + 1 }
+        ensures leaves { IfOk result
+            (Leaves self.now.turns self.now.callers self.now.format self.now.program.now line.now at.old at.new (string_bytes text.new)) }
+    {
+        match self.call_of(at, text, line, invoked)? {
+            Some(call) => self.read_end(at, call, text, line),
+            None => Ok(Finding::Other),
+        }
     }
 
     // A line where no print is due, before `cells`.
@@ -200,23 +235,21 @@ impl<'a> Replay<'a> {
         line: &[u8],
     ) -> Result<Finding, NoMemory>
         requires ready { IsReady self.now }
-        requires sound { IsSound self.now.program.now at.old }
+        requires sound { IsSound self.now.callers self.now.program.now at.old }
         requires stage { at.old.stage ≡ Calls }
         requires none_due { at.old.told ≡ length at.old.prints.items }
         requires short { at.old.position < 2 ^ 63 }
-        ensures reads { IfOk result (Reads self.now.turns self.now.format self.now.program.now line.now at.old at.new) }
-        ensures sound { OnOk result (IsSound self.now.program.now at.new) }
+        ensures reads { IfOk result (Reads self.now.turns self.now.callers self.now.format self.now.program.now line.now at.old at.new) }
+        ensures sound { OnOk result (IsSound self.now.callers self.now.program.now at.new) }
         ensures position { at.new.position ≤ at.old.position + 1 }
         ensures leaves { IfOk result
-            (Leaves self.now.turns self.now.format self.now.program.now line.now at.old at.new (string_bytes text.new)) }
+            (Leaves self.now.turns self.now.callers self.now.format self.now.program.now line.now at.old at.new (string_bytes text.new)) }
     {
         if is(line, "cells") {
             return Ok(self.read_cells(at));
         }
-        match self.call_of(at, text, line)? {
-            Some(call) => self.read_end(at, call, text, line),
-            None => Ok(Finding::Other),
-        }
+        let invoked = self.invoked_at(line)?;
+        self.read_told(at, text, line, &invoked)
     }
 
     /// The next line. `text` holds lines to compare with.
@@ -227,13 +260,13 @@ impl<'a> Replay<'a> {
         line: &[u8],
     ) -> Result<Finding, NoMemory>
         requires ready { IsReady self.now }
-        requires sound { IsSound self.now.program.now at.old }
+        requires sound { IsSound self.now.callers self.now.program.now at.old }
         requires short { at.old.position < 2 ^ 63 }
-        ensures reads { IfOk result (Reads self.now.turns self.now.format self.now.program.now line.now at.old at.new) }
-        ensures sound { OnOk result (IsSound self.now.program.now at.new) }
+        ensures reads { IfOk result (Reads self.now.turns self.now.callers self.now.format self.now.program.now line.now at.old at.new) }
+        ensures sound { OnOk result (IsSound self.now.callers self.now.program.now at.new) }
         ensures position { at.new.position ≤ at.old.position + 1 }
         ensures leaves { IfOk result
-            (Leaves self.now.turns self.now.format self.now.program.now line.now at.old at.new (string_bytes text.new)) }
+            (Leaves self.now.turns self.now.callers self.now.format self.now.program.now line.now at.old at.new (string_bytes text.new)) }
     {
         match at.stage {
             Stage::Calls if at.told < at.prints.len() => self.read_print(at, text, line),

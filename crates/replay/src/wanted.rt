@@ -1,17 +1,22 @@
 //! What may come where a history differs.
 
-ghost use Rattle.std.specs.Prelude.{◌≡◌, ◌<◌, ◌++◌, IfOk, OnOk, length, map, string_bytes};
+ghost use Rattle.std.specs.Prelude.{◌≡◌, ◌<◌, ◌++◌, IfOk, IfSome, OnOk, None, length, map, string_bytes};
+ghost use Rattle.std.specs.Option.{option_map};
+ghost use Rattle.replay.specs.declared.callers.Callers.TheVariants.{Anyone};
 ghost use Rattle.replay.specs.Readers.{Reader};
 ghost use Rattle.replay.specs.declared.progress.Stage.TheVariants.{Calls, Cells};
-ghost use Rattle.replay.specs.Working.Reading.{IsAt, IsSound, Suggests};
-ghost use Rattle.replay.specs.Wanted.{next_head, next_heads};
+ghost use Rattle.replay.specs.Working.Reading.{IsAt, IsReady, IsSound, Suggests, SuggestsFor, LacksAt, AreInTurnAt};
+ghost use Rattle.replay.specs.Wanted.{LacksSo, next_head, next_heads};
 
-use crate::candidate::Replay;
+use crate::callers::Callers;
+use crate::candidate::{Replay, may_begin};
 use crate::progress::{Progress, Stage};
-use crate::reading::called;
+use crate::told::{Told, invoked_by, told_by};
 use report::lines::{push_call_head, push_cell, push_print};
 use report::record::Called;
 use source::memory::NoMemory;
+use source_histories::Format;
+use source_histories::piece::cut;
 
 /// What may stand where a history differs.
 #[derive(Debug, Drop)]
@@ -20,8 +25,32 @@ pub enum Wanted {
     Line(String),
     /// A call: the next one of any thread. These are the lines of such calls up to their ends, by rising thread.
     Calls(Vec<String>),
+    /// Any call, or `cells`: anyone may call. This is what the line lacks to be a call's.
+    Open(Lack),
     /// No line: the history has ended.
     Nothing,
+}
+
+/// What a line lacks to be that of a call from outside, up to its end.
+#[derive(Clone, Copy, PartialEq, Eq, Debug)]
+pub enum Lack {
+    /// It is no call's line, as this format has it.
+    Form(Format),
+    /// Its thread is to have a number of 32 bits.
+    Thread,
+    /// It is to have this number among its thread's calls, counted from 0.
+    Number(usize),
+    /// Its begin is to be one of these.
+    Begin {
+        /// The least: one more than the position of its thread's last call, or 0.
+        least: usize,
+        /// The greatest: how many calls came.
+        most: usize,
+    },
+    /// Its section is to be one of the program.
+    Section,
+    /// Its arguments are to fit its section: all else is right.
+    Arguments,
 }
 
 impl<'a> Replay<'a> {
@@ -32,13 +61,13 @@ impl<'a> Replay<'a> {
         thread: usize,
         heads: &mut Vec<String>,
     ) -> Result<(), NoMemory>
-        requires sound { IsSound self.now.program.now at.now }
+        requires sound { IsSound self.now.callers self.now.program.now at.now }
         requires thread { thread < length self.now.program.now.threads.items }
         ensures { OnOk result ((reader : Reader) → IsAt self.now.program.now at.now reader →
             map (λ head. string_bytes head) heads.new.items
             ≡ map (λ head. string_bytes head) heads.old.items ++ next_head self.now.format self.now.program.now reader.order thread) }
     {
-        let step = called(at, thread);
+        let step = at.seat(thread).called;
         let Some(call) = self.call_in(thread, step) else {
             return Ok(());
         };
@@ -57,7 +86,7 @@ impl<'a> Replay<'a> {
 
     // The lines of all threads' next calls up to their ends.
     fn next_heads(&self, at: &Progress) -> Result<Vec<String>, NoMemory>
-        requires { IsSound self.now.program.now at.now }
+        requires { IsSound self.now.callers self.now.program.now at.now }
         ensures { IfOk result (λ heads. (reader : Reader) → IsAt self.now.program.now at.now reader →
             map (λ head. string_bytes head) heads.items
             ≡ next_heads self.now.format self.now.program.now reader.order (length self.now.program.now.threads.items)) }
@@ -69,13 +98,71 @@ impl<'a> Replay<'a> {
         Ok(heads)
     }
 
-    // What may come where no print is due, before `cells`.
-    fn wanted_call(&self, at: &Progress) -> Result<Wanted, NoMemory>
-        requires sound { IsSound self.now.program.now at.now }
+    // What the numbers of a call's line lack.
+    fn number_lack(&self, at: &Progress, told: &Told) -> Option<Lack>
+        ensures lack { IfSome result (LacksAt self.now.format at.now told.now) }
+        ensures none { result ≡ None → AreInTurnAt self.now.format at.now told.now }
+    {
+        if told.thread > u64::from(u32::MAX) {
+            return Some(Lack::Thread);
+        }
+        let seat = at.seat(told.thread as usize);
+        if told.step != seat.called as u64 {
+            return Some(Lack::Number(seat.called));
+        }
+        if !may_begin(self.format, seat.least, at.position, told.begun as usize) {
+            return Some(Lack::Begin {
+                least: seat.least,
+                most: at.position,
+            });
+        }
+        None
+    }
+
+    // What a line lacks to be a call's.
+    fn lack(&self, at: &Progress, line: &[u8]) -> Lack
+        requires { IsReady self.now }
+        ensures { (reader : Reader) → IsAt self.now.program.now at.now reader →
+            LacksSo self.now.format self.now.program.now reader.order line.now result }
+    {
+        let Some(told) = told_by(self.format, line) else {
+            return Lack::Form(self.format);
+        };
+        if let Some(lack) = self.number_lack(at, &told) {
+            return lack;
+        }
+        let (name, _) = cut(invoked_by(self.format, line), b'(');
+        match self.sections.find(name) {
+            Some(_) => Lack::Arguments,
+            None => Lack::Section,
+        }
+    }
+
+    // What may come where anyone may call, no print is due, and `cells` has not come.
+    fn wanted_open(&self, at: &Progress, line: Option<&[u8]>) -> Wanted
+        requires ready { IsReady self.now }
+        requires anyone { self.now.callers ≡ Anyone }
         requires stage { at.now.stage ≡ Calls }
         requires none_due { at.now.told ≡ length at.now.prints.items }
-        ensures { IfOk result (Suggests self.now.turns self.now.format self.now.program.now at.now) }
+        ensures { Suggests self.now.turns self.now.callers self.now.format self.now.program.now at.now (option_map (λ text. text.now) line.entry) result }
     {
+        match line {
+            Some(line) => Wanted::Open(self.lack(at, line)),
+            None => Wanted::Open(Lack::Form(self.format)),
+        }
+    }
+
+    // What may come where no print is due, before `cells`.
+    fn wanted_call(&self, at: &Progress, line: Option<&[u8]>) -> Result<Wanted, NoMemory>
+        requires ready { IsReady self.now }
+        requires sound { IsSound self.now.callers self.now.program.now at.now }
+        requires stage { at.now.stage ≡ Calls }
+        requires none_due { at.now.told ≡ length at.now.prints.items }
+        ensures { IfOk result (Suggests self.now.turns self.now.callers self.now.format self.now.program.now at.now (option_map (λ text. text.now) line.entry)) }
+    {
+        if let Callers::Anyone = self.callers {
+            return Ok(self.wanted_open(at, line));
+        }
         if self.all_called(at) {
             return Ok(Wanted::Line(String::from_str(self.alloc, "cells")?));
         }
@@ -84,9 +171,9 @@ impl<'a> Replay<'a> {
 
     // What may come after `cells` and so many cells.
     fn wanted_cell(&self, at: &Progress, number: usize) -> Result<Wanted, NoMemory>
-        requires sound { IsSound self.now.program.now at.now }
+        requires sound { IsSound self.now.callers self.now.program.now at.now }
         requires stage { at.now.stage ≡ Cells number }
-        ensures { IfOk result (Suggests self.now.turns self.now.format self.now.program.now at.now) }
+        ensures { IfOk result (SuggestsFor self.now.turns self.now.callers self.now.format self.now.program.now at.now) }
     {
         if number >= self.program.cells.len() {
             return Ok(Wanted::Line(String::from_str(self.alloc, "end")?));
@@ -105,21 +192,22 @@ impl<'a> Replay<'a> {
     fn wanted_print(&self, at: &Progress) -> Result<Wanted, NoMemory>
         requires stage { at.now.stage ≡ Calls }
         requires due { at.now.told < length at.now.prints.items }
-        ensures { IfOk result (Suggests self.now.turns self.now.format self.now.program.now at.now) }
+        ensures { IfOk result (SuggestsFor self.now.turns self.now.callers self.now.format self.now.program.now at.now) }
     {
         let mut line = String::new(self.alloc);
         push_print(&mut line, at.prints[at.told])?;
         Ok(Wanted::Line(line))
     }
 
-    /// What may come at the progress.
-    pub(crate) fn wanted(&self, at: &Progress) -> Result<Wanted, NoMemory>
-        requires { IsSound self.now.program.now at.now }
-        ensures { IfOk result (Suggests self.now.turns self.now.format self.now.program.now at.now) }
+    /// What may come at the progress, where this is the next line, if there is one.
+    pub(crate) fn wanted(&self, at: &Progress, line: Option<&[u8]>) -> Result<Wanted, NoMemory>
+        requires ready { IsReady self.now }
+        requires sound { IsSound self.now.callers self.now.program.now at.now }
+        ensures { IfOk result (Suggests self.now.turns self.now.callers self.now.format self.now.program.now at.now (option_map (λ text. text.now) line.entry)) }
     {
         match at.stage {
             Stage::Calls if at.told < at.prints.len() => self.wanted_print(at),
-            Stage::Calls => self.wanted_call(at),
+            Stage::Calls => self.wanted_call(at, line),
             Stage::Cells(number) => self.wanted_cell(at, number),
             Stage::Ended => Ok(Wanted::Nothing),
         }

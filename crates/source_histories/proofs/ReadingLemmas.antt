@@ -1,44 +1,29 @@
 -- One line of a history at a time.
-use Rattle.std.proofs.Common.{◌≡◌, ◌∙◌, ◌<◌, ◌≤◌, ◌+◌, ℕ, List, [], ◌∷◌, ◌++◌, ap, sym, refl, inl, inr, arith, Result}
-use Rattle.std.proofs.Common.{Ok, Err, Some, None, append_assoc, length, take, drop}
+use Rattle.std.proofs.Common.{◌≡◌, ◌∙◌, ◌<◌, ◌≤◌, ◌+◌, ℕ, zero, suc, List, [], ◌∷◌, ap, sym, refl, inl, inr, arith, Result}
+use Rattle.std.proofs.Common.{Ok, Err, Some, None, length, take, drop, slice_get}
 use Rattle.std.proofs.lemmas.Bool.{le-ltb, lt-ltb, cases_lt}
-use Rattle.std.proofs.lemmas.List.{append-nil, length-take-le}
+use Rattle.std.proofs.lemmas.List.{length-take-le}
 use Rattle.std.proofs.lemmas.List.Splits.{length-slice_split}
-use Rattle.std.specs.Prelude.{◌==◌, Bool}
+use Rattle.std.specs.Prelude.{◌==◌, Bool, OnOk, IfErr}
 use Rattle.std.specs.List.{slice_split, position_or_len}
 use Rattle.source_histories.specs.declared.format.Format.{Format}
 use Rattle.source_histories.specs.declared.reading.Reader.{Reader}
-use Rattle.source_histories.specs.declared.reading.Recorded.{Recorded}
 use Rattle.source_histories.specs.declared.refusal.HistoryCode.TheVariants.{BadHeader, MissingEnd, LongLine}
-use Rattle.source_histories.specs.declared.refusal.HistoryRefusal.{HistoryRefusal}
-use Rattle.source_histories.specs.declared.refusal.HistoryRefusal.TheVariants.{Fault, NoMemory}
+use Rattle.source_histories.specs.declared.refusal.HistoryFault.{HistoryFault}
 use Rattle.source_histories.specs.declared.stage.Stage.{Stage}
 use Rattle.source_histories.specs.declared.stage.Stage.TheVariants.{Opening}
 use Rattle.source_histories.specs.Lines.{after, format_of}
-use Rattle.source_histories.specs.Histories.{History, Lines, Answers, Continues, IfFault, IsEnd, IsFaultOfEnd}
-use Rattle.source_histories.specs.Histories.{IsFaultOfLine, TakesLine, fault_at, history_in, history_left}
-use Rattle.source_histories.specs.Histories.{history_of_pieces, in_front, lines_from, lines_read, most_bytes}
-use Rattle.source_histories.specs.Histories.{recorded_lines, with_format}
+use Rattle.source_histories.specs.Histories.{History, Lines, all_but_last, fault_at, history_in, history_of_pieces}
+use Rattle.source_histories.specs.Histories.{in_front, lines_from, lines_in, most_bytes, with_format}
+use Rattle.source_histories.specs.Working.Reading.{IsEnd, IsFaultOfEnd, IsFaultOfLine, Judges, TakesLine, lines_at}
 use Rattle.source_histories.proofs.Cuts.{split_more, split_last}
 
--- nothing in front
-pub in_front-nil : (said : Lines) → in_front [] said ≡ said
-in_front-nil (Ok more) = refl
-in_front-nil (Err fault) = refl
-
--- lines in front of lines
-pub in_front-both : (xs ys : List (List ℕ)) (said : Lines) → in_front xs (in_front ys said) ≡ in_front (xs ++ ys) said
-in_front-both xs ys (Ok more) = ap Ok (sym (append_assoc xs ys more))
-in_front-both xs ys (Err fault) = refl
-
 -- a line that is allowed, and what follows it
-pub line_taken : (format : Format) (stage stage' : Stage) (number : ℕ) (old new : List (List ℕ)) (line next : List ℕ)
-    (more : List (List ℕ)) → length line ≤ most_bytes → after format stage line ≡ Some stage' → new ≡ old ++ line ∷ [] →
-    in_front new (lines_from format stage' (number + 1) (next ∷ more))
-    ≡ in_front old (lines_from format stage number (line ∷ next ∷ more))
-line_taken format stage stage' number old new line next more short allowed is =
-    rw (is, le-ltb most_bytes (length line) short, allowed)
-    (sym (in_front-both old (line ∷ []) (lines_from format stage' (number + 1) (next ∷ more))))
+pub line_taken : (format : Format) (stage stage' : Stage) (number : ℕ) (line next : List ℕ) (more : List (List ℕ)) →
+    length line ≤ most_bytes → after format stage line ≡ Some stage' →
+    lines_from format stage number (line ∷ next ∷ more)
+    ≡ in_front (line ∷ []) (lines_from format stage' (number + 1) (next ∷ more))
+line_taken format stage stage' number line next more short allowed = rw (le-ltb most_bytes (length line) short, allowed) refl
 
 -- ---- the first piece
 
@@ -94,48 +79,90 @@ module _ (text : List ℕ) (place : ℕ) (is : place ≡ position_or_len feed te
       ∙ rw (le-ltb most_bytes (length (take place text)) (omega (arith, length-take-le place text (omega arith), short)), some, first.3) refl
 
 -- the lines behind the first, as the history
-pub first_answers : (said : History) (rest : Lines) (format : Format) (result : Result Recorded HistoryRefusal) →
-    said ≡ with_format format rest → Continues rest format result → Answers result said
-first_answers said rest format (Ok recorded) is goes =
-    is ∙ ap (with_format format) goes.0 ∙ ap (λ (f : Format). Ok (f, recorded_lines recorded)) (sym goes.1)
-first_answers said rest format (Err (Fault fault)) is goes = is ∙ ap (with_format format) goes
-first_answers said rest format (Err NoMemory) is goes = tt
+pub first_refused : (said : History) (rest : Lines) (format : Format) (fault : HistoryFault) →
+    said ≡ with_format format rest → rest ≡ Err fault → said ≡ Err fault
+first_refused said rest format fault is wrong = is ∙ ap (with_format format) wrong
+
+pub first_answers : (said : History) (rest : Lines) (format : Format) (lines : List (List ℕ)) →
+    said ≡ with_format format rest → rest ≡ Ok lines → said ≡ Ok (format, lines)
+first_answers said rest format lines is right = is ∙ ap (with_format format) right
+
+-- ---- the lines of a text
+
+module _ (text : List ℕ) (place : ℕ) (is : place ≡ position_or_len feed text) where
+  -- the first line
+  pub line_first : place < length text → lines_in text ≡ take place text ∷ lines_in (drop (place + 1) text)
+  line_first less =
+      let first = first_of_more text place is less in
+      ap all_but_last first.2 ∙ ap (λ pieces. take place text ∷ all_but_last pieces) (sym first.3)
+
+  -- a text without line feeds has none
+  pub line_none : length text ≤ place → lines_in text ≡ []
+  line_none all = ap all_but_last (split_last feed text (omega (arith, is, all)))
+
+-- the rest of lines, a line further
+pub rest_further : (lines : List (List ℕ)) (i : ℕ) (line : List ℕ) (rest : List (List ℕ)) → drop i lines ≡ line ∷ rest →
+    drop (suc i) lines ≡ rest
+rest_further [] zero line rest is = absurd (cc)
+rest_further [] (suc i) line rest is = absurd (cc)
+rest_further (x ∷ lines) zero line rest is = cc
+rest_further (x ∷ lines) (suc i) line rest is = rest_further lines i line rest is
+
+-- what is at a place, behind those before it
+pub at_rest : (lines : List (List ℕ)) (i : ℕ) → slice_get lines i ≡ slice_get (drop i lines) 0
+at_rest [] zero = refl
+at_rest [] (suc i) = refl
+at_rest (x ∷ lines) zero = refl
+at_rest (x ∷ lines) (suc i) = at_rest lines i
+
+-- none is left, however many more are passed
+pub none_further : (lines : List (List ℕ)) (i n : ℕ) → drop i lines ≡ [] → i ≤ n → None ≡ slice_get lines n
+none_further [] i zero is most = refl
+none_further [] i (suc n) is most = refl
+none_further (x ∷ lines) zero n is most = absurd (cc)
+none_further (x ∷ lines) (suc i) zero is most = absurd (omega arith)
+none_further (x ∷ lines) (suc i) (suc n) is most = none_further lines i n is (omega arith)
 
 -- ---- the pieces behind the first
 
-module _ (reader : Reader) (rest : List ℕ) (place : ℕ) (said : Lines) (is : place ≡ position_or_len feed rest)
-    (left : history_left reader rest ≡ said) where
-  last_alone : place ≡ length rest → slice_split feed rest ≡ rest ∷ []
-  last_alone all = split_last feed rest (omega (arith, is, all))
+-- whatever is said of the pieces that are left, is said of all
+pub record Follows (said now : Lines) (lines left : List (List ℕ)) : Type 0 where
+  pub right : now ≡ Ok left → said ≡ Ok lines
+  pub wrong : (fault : HistoryFault) → now ≡ Err fault → said ≡ Err fault
 
+module _ (reader : Reader) (rest : List ℕ) (place : ℕ) (said : Lines) (lines : List (List ℕ)) (is : place ≡ position_or_len feed rest)
+    (left : Follows said (lines_at reader (slice_split feed rest)) lines (lines_in rest)) where
   -- behind the last line feed there is nothing
-  pub end_reached : place ≡ length rest → IsEnd reader rest → said ≡ Ok (lines_read reader)
+  pub end_reached : place ≡ length rest → IsEnd reader rest → said ≡ Ok lines
   end_reached all end =
-      sym left ∙ ap (λ l. in_front (lines_read reader) (lines_from reader.format reader.stage reader.number l)) (last_alone all)
-      ∙ ap (in_front (lines_read reader)) end ∙ ap Ok (append-nil (lines_read reader))
+      left.right (ap (lines_at reader) (split_last feed rest (omega (arith, is, all))) ∙ end
+      ∙ ap Ok (sym (line_none rest place is (omega (arith, all)))))
 
   -- or a fault
-  pub end_refused : (refusal : HistoryRefusal) → place ≡ length rest →
-      IfFault {T = Unit {0}} (Err refusal) (IsFaultOfEnd reader rest) → (format : Format) → Continues said format (Err refusal)
-  end_refused (Fault fault) all end format =
-      sym left ∙ ap (λ l. in_front (lines_read reader) (lines_from reader.format reader.stage reader.number l)) (last_alone all)
-      ∙ ap (in_front (lines_read reader)) end
-  end_refused NoMemory all end format = tt
+  pub end_refused : place ≡ length rest → (fault : HistoryFault) → IsFaultOfEnd reader rest fault → said ≡ Err fault
+  end_refused all fault wrong =
+      left.wrong fault (ap (lines_at reader) (split_last feed rest (omega (arith, is, all))) ∙ wrong)
+
+  pub end_judged : {T : Type 0} (result : Result T HistoryFault) → place ≡ length rest → OnOk result (IsEnd reader rest) →
+      IfErr result (IsFaultOfEnd reader rest) → Judges said lines result
+  end_judged (Ok nothing) all end wrong = end_reached all end
+  end_judged (Err fault) all end wrong = end_refused all fault wrong
 
   -- a line at fault
-  pub line_refused : (refusal : HistoryRefusal) → place < length rest →
-      IfFault {T = Unit {0}} (Err refusal) (IsFaultOfLine reader (take place rest)) → (format : Format) → Continues said format (Err refusal)
-  line_refused (Fault fault) less wrong format =
+  pub line_refused : place < length rest → (fault : HistoryFault) → IsFaultOfLine reader (take place rest) fault → said ≡ Err fault
+  line_refused less fault wrong =
       let first = first_of_more rest place is less in
-      sym left ∙ ap (λ l. in_front (lines_read reader) (lines_from reader.format reader.stage reader.number l)) first.2
-      ∙ ap (in_front (lines_read reader)) (wrong first.0 first.1)
-  line_refused NoMemory less wrong format = tt
+      left.wrong fault (ap (lines_at reader) first.2 ∙ wrong first.0 first.1)
 
   -- a line that is taken
   pub line_more : (reader' : Reader) → place < length rest → TakesLine reader reader' (take place rest) →
-      history_left reader' (drop (place + 1) rest) ≡ said
+      Follows said (lines_at reader' (slice_split feed (drop (place + 1) rest))) lines (lines_in (drop (place + 1) rest))
   line_more reader' less takes =
       let first = first_of_more rest place is less in
-      ap (λ l. in_front (lines_read reader') (lines_from reader'.format reader'.stage reader'.number l)) first.3
-      ∙ takes first.0 first.1
-      ∙ ap (λ l. in_front (lines_read reader) (lines_from reader.format reader.stage reader.number l)) (sym first.2) ∙ left
+      let now : lines_at reader (slice_split feed rest) ≡ in_front (take place rest ∷ []) (lines_at reader' (slice_split feed (drop (place + 1) rest))) =
+      ap (lines_at reader) first.2 ∙ takes first.0 first.1
+      ∙ ap (λ pieces. in_front (take place rest ∷ []) (lines_at reader' pieces)) (sym first.3) in
+      record {
+        right = λ good. left.right (now ∙ ap (in_front (take place rest ∷ [])) good ∙ ap Ok (sym (line_first rest place is less)));
+        wrong = λ fault bad. left.wrong fault (now ∙ ap (in_front (take place rest ∷ [])) bad);
+      }

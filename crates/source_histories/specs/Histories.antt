@@ -1,22 +1,28 @@
 -- What a history file says.
-use Rattle.std.specs.Prelude.{◌≡◌, ℕ, ◌+◌, ◌==◌, nat_lt, List, [], ◌∷◌, ◌++◌, length, map, ⊤, Option, Some, None}
+use Rattle.std.specs.Prelude.{◌≡◌, ℕ, ◌+◌, ◌==◌, nat_lt, List, [], ◌∷◌, ◌++◌, length, Option, Some, None}
 use Rattle.std.specs.Prelude.{Result, Ok, Err, if◌then◌else◌}
 use Rattle.std.specs.List.{slice_split}
 use Rattle.source_histories.specs.declared.format.Format.{Format}
 use Rattle.source_histories.specs.declared.stage.Stage.{Stage}
 use Rattle.source_histories.specs.declared.stage.Stage.TheVariants.{Opening, Called, Cells, Ended}
 use Rattle.source_histories.specs.declared.reading.Recorded.{Recorded}
-use Rattle.source_histories.specs.declared.reading.Reader.{Reader}
 use Rattle.source_histories.specs.declared.refusal.HistoryCode.{HistoryCode}
 use Rattle.source_histories.specs.declared.refusal.HistoryCode.TheVariants.{BadHeader, BadLine, MissingEnd, LongLine}
 use Rattle.source_histories.specs.declared.refusal.HistoryFault.{HistoryFault}
-use Rattle.source_histories.specs.declared.refusal.HistoryRefusal.{HistoryRefusal}
-use Rattle.source_histories.specs.declared.refusal.HistoryRefusal.TheVariants.{Fault, NoMemory}
 use Rattle.source_histories.specs.Lines.{format_of, after}
 
 -- how many bytes a line may have, without its line feed
 abbrev pub most_bytes : ℕ
 most_bytes = 1024
+
+-- the lines of a text: what stands before each line feed
+abbrev pub all_but_last : List (List ℕ) → List (List ℕ)
+all_but_last [] = []
+all_but_last (piece ∷ []) = []
+all_but_last (piece ∷ next ∷ more) = piece ∷ all_but_last (next ∷ more)
+
+abbrev pub lines_in : List ℕ → List (List ℕ)
+lines_in text = all_but_last (slice_split (λ b. b == 10) text)
 
 -- lines, or the first fault
 abbrev pub Lines : Type 0
@@ -78,51 +84,11 @@ history_of_pieces (line ∷ next ∷ more) =
 abbrev pub history_in : List ℕ → History
 history_in text = history_of_pieces (slice_split (λ b. b == 10) text)
 
--- the bytes of the lines that were read
+-- the lines that were read
 abbrev pub recorded_lines : Recorded → List (List ℕ)
-recorded_lines recorded = map (λ line. line.now) recorded.lines.items
+recorded_lines recorded = lines_in recorded.text.now
 
-abbrev pub lines_read : Reader → List (List ℕ)
-lines_read reader = map (λ line. line.now) reader.lines.items
-
--- the history was read, or the fault was found, or memory ran out
-abbrev pub Answers : Result Recorded HistoryRefusal → History → Type 0
+-- the history was read, or the fault was found
+abbrev pub Answers : Result Recorded HistoryFault → History → Type 0
 Answers (Ok recorded) said = said ≡ Ok (recorded.format, recorded_lines recorded)
-Answers (Err (Fault fault)) said = said ≡ Err fault
-Answers (Err NoMemory) said = ⊤
-
--- a line was taken: whatever pieces follow, the history is as it was with the line still to come
-abbrev pub TakesLine : Reader → Reader → List ℕ → Type 0
-TakesLine old new line = (next : List ℕ) (more : List (List ℕ)) →
-    in_front (lines_read new) (lines_from new.format new.stage new.number (next ∷ more))
-    ≡ in_front (lines_read old) (lines_from old.format old.stage old.number (line ∷ next ∷ more))
-
--- the fault of a line, whatever pieces follow
-abbrev pub IsFaultOfLine : Reader → List ℕ → HistoryFault → Type 0
-IsFaultOfLine reader line fault = (next : List ℕ) (more : List (List ℕ)) →
-    lines_from reader.format reader.stage reader.number (line ∷ next ∷ more) ≡ Err fault
-
--- P holds of the fault, where there is one
-abbrev pub IfFault : {T : Type 0} → Result T HistoryRefusal → (HistoryFault → Type 0) → Type 0
-IfFault (Ok x) P = ⊤
-IfFault (Err (Fault fault)) P = P fault
-IfFault (Err NoMemory) P = ⊤
-
--- the history has ended, behind which this piece stands
-abbrev pub IsEnd : Reader → List ℕ → Type 0
-IsEnd reader piece = unless_long piece reader.number (last_piece reader.stage reader.number piece) ≡ Ok []
-
--- or the piece is at fault
-abbrev pub IsFaultOfEnd : Reader → List ℕ → HistoryFault → Type 0
-IsFaultOfEnd reader piece fault = unless_long piece reader.number (last_piece reader.stage reader.number piece) ≡ Err fault
-
--- of the pieces that are left, behind the lines that were read
-abbrev pub history_left : Reader → List ℕ → Lines
-history_left reader rest =
-    in_front (lines_read reader) (lines_from reader.format reader.stage reader.number (slice_split (λ b. b == 10) rest))
-
--- the lines that are left were read, or a fault was found, or memory ran out
-abbrev pub Continues : Lines → Format → Result Recorded HistoryRefusal → Type 0
-Continues said format (Ok recorded) = (said ≡ Ok (recorded_lines recorded)) × (recorded.format ≡ format)
-Continues said format (Err (Fault fault)) = said ≡ Err fault
-Continues said format (Err NoMemory) = ⊤
+Answers (Err fault) said = said ≡ Err fault

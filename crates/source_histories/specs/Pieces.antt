@@ -1,6 +1,6 @@
 -- The pieces of a history's lines: what stands before and behind a byte, names, numbers, values.
-use Rattle.std.specs.Prelude.{ℕ, ◌^◌, Bool, true, false, ◌==◌, ◌&&◌, ◌||◌, not, nat_lt, nat_le, List, [], ◌∷◌, length}
-use Rattle.std.specs.Prelude.{drop, codes, Option, Some, None, ◌+◌, if◌then◌else◌}
+use Rattle.std.specs.Prelude.{ℕ, ℤ, pos, negsuc, ◌-◌, ◌^◌, Bool, false, ◌==◌, ◌&&◌, ◌||◌, not, nat_lt, nat_le, List, [], ◌∷◌, length}
+use Rattle.std.specs.Prelude.{codes, Option, Some, None, ◌+◌, if◌then◌else◌}
 use Rattle.std.specs.List.{list_all, before_first, after_first, slice_split, starts_with}
 use Rattle.std.specs.Str.{bytes_eq}
 use Rattle.source.specs.Texts.{is_letter, is_name_byte, is_digit, value_of}
@@ -60,6 +60,14 @@ is_negative digits = is_numeral digits && (nat_lt 0 (value_of digits) && nat_le 
 abbrev pub is_number : List ℕ → Bool
 is_number [] = false
 is_number (first ∷ rest) = if first == 45 then is_negative rest else is_count (first ∷ rest)
+
+-- the number that a text writes, which is one in 64 bits with a sign
+abbrev pub signed_value : List ℕ → ℤ
+signed_value [] = pos 0
+signed_value (first ∷ rest) = if first == 45 then negsuc (value_of rest - 1) else pos (value_of (first ∷ rest))
+
+abbrev pub number_in : List ℕ → Option ℤ
+number_in text = if is_number text then Some (signed_value text) else None
 
 -- ---- values
 

@@ -1,7 +1,7 @@
 //! Recorded histories: the lines of a history file.
 //!
 //! - [`read_history`]: a file's format and lines, or the fault of its first faulty line.
-//! - [`Recorded`]: what was read.
+//! - [`Recorded`]: what was read: the text itself, whose lines [`next_line`] cuts off one by one, so that none is kept.
 //! - [`history_fault_line`]: the line that reports a fault.
 //! - [`Format`]: the two formats.
 //!
@@ -18,5 +18,5 @@ mod stage;
 mod telling;
 
 pub use format::Format;
-pub use reading::{Recorded, read_history};
+pub use reading::{Recorded, next_line, read_history};
 pub use telling::history_fault_line;

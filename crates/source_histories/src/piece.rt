@@ -4,7 +4,7 @@ ghost use Rattle.std.specs.Prelude.{◌≡◌, ◌≤◌, ◌+◌, ◌==◌, ◌
 ghost use Rattle.std.specs.List.{position_or_len, list_all, slice_split};
 ghost use Rattle.std.specs.Str.{bytes_eq};
 ghost use Rattle.source.specs.Texts.{is_letter, is_name_byte, is_digit, value_of};
-ghost use Rattle.source_histories.specs.Pieces.{before, behind, begins, is_keyword, is_name, is_numeral, count_in, is_count, is_number, is_index, is_member, is_value, is_next_value, are_values, are_arguments, is_negative};
+ghost use Rattle.source_histories.specs.Pieces.{before, behind, begins, is_keyword, is_name, is_numeral, count_in, is_count, is_number, number_in, is_index, is_member, is_value, is_next_value, are_values, are_arguments, is_negative};
 
 // A number over all that lines may have.
 const CAP: u64 = 9_223_372_036_854_775_809;
@@ -211,6 +211,24 @@ pub fn is_number(text: &[u8]) -> bool
     match text {
         [b'-', digits @ ..] => is_negative(digits),
         _ => is_count(text),
+    }
+}
+
+/// The number that a text writes, if it is one in 64 bits with a sign, without leading zeros.
+pub fn number(text: &[u8]) -> Option<i64>
+    ensures { result ≡ number_in text.now }
+{
+    match text {
+        [b'-', digits @ ..] => {
+            if !is_negative(digits) {
+                return None;
+            }
+            Some(-1 - (capped(digits) - 1) as i64)
+        }
+        _ => match count(text) {
+            Some(value) => Some(value as i64),
+            None => None,
+        },
     }
 }
 

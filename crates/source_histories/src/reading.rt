@@ -1,51 +1,83 @@
 //! The whole file.
 
-ghost use Rattle.std.specs.Prelude.{◌≡◌, ◌==◌, ◌<◌, ◌+◌, ◌^◌, length, OnOk};
+ghost use Rattle.std.specs.Prelude.{◌≡◌, ◌∷◌, ◌==◌, ◌<◌, ◌+◌, ◌^◌, length, slice_get, None, [], IfErr, IfSome, OnOk};
+ghost use Rattle.std.specs.Option.{option_map};
 ghost use Rattle.std.specs.List.{slice_split};
-ghost use Rattle.source_histories.specs.Histories.{history_in, lines_from, TakesLine, IsFaultOfLine, IsEnd, IsFaultOfEnd, IfFault, Continues, Answers};
+ghost use Rattle.source_histories.specs.Histories.{history_in, lines_from, lines_in, recorded_lines, Answers};
+ghost use Rattle.source_histories.specs.Working.Reading.{TakesLine, IsFaultOfLine, IsEnd, IsFaultOfEnd, Judges};
 
 use crate::format::Format;
 use crate::line::{after, format_of};
 use crate::piece::{behind, place_of};
-use crate::refusal::{HistoryCode, HistoryFault, HistoryRefusal};
+use crate::refusal::{HistoryCode, HistoryFault};
 use crate::stage::Stage;
-use std::alloc::Global;
 
 // How many bytes a line may have, without its line feed.
 const MOST_BYTES: usize = 1024;
 
 /// A history, as a file tells it.
-#[derive(Drop)]
+#[derive(Clone, Copy, Debug)]
 pub struct Recorded<'a> {
     /// What its calls' lines say.
     pub format: Format,
-    /// Its lines behind the first, each without its line feed.
-    pub lines: Vec<&'a [u8]>,
+    /// Its lines behind the first, each with its line feed.
+    pub text: &'a [u8],
 }
 
-/// Lines that are read.
+/// How far lines are read.
 #[derive(Drop)]
-struct Reader<'a> {
+struct Reader {
     format: Format,
     stage: Stage,
     number: usize,
-    lines: Vec<&'a [u8]>,
 }
 
-fn fault(code: HistoryCode, line: usize) -> HistoryRefusal
-    ensures { result ≡ HistoryRefusal.Fault (record { code = code; line = line }) }
+fn fault(code: HistoryCode, line: usize) -> HistoryFault
+    ensures { result ≡ record { code = code; line = line } }
 {
-    HistoryRefusal::Fault(HistoryFault { code, line })
+    HistoryFault { code, line }
 }
 
-impl<'a> Reader<'a> {
+/// The first line of a text, without its line feed, and what stands behind that; nothing where the text has no line feed.
+pub fn next_line(text: &[u8]) -> Option<(&[u8], &[u8])>
+    ensures some { IfSome result (λ cut. lines_in text.now ≡ cut.0.now ∷ lines_in cut.1.now) }
+    ensures shorter { IfSome result (λ cut. length cut.1.now < length text.now) }
+    ensures none { result ≡ None → lines_in text.now ≡ [] }
+{
+    let place = place_of(text, b'\n');
+    if place < text.len() {
+        Some((&text[..place], behind(text, place)))
+    } else {
+        None
+    }
+}
+
+impl<'a> Recorded<'a> {
+    /// One of the lines behind the first, by its number among these, from 0. It is looked for from the first one on.
+    pub fn line(&self, number: usize) -> Option<&'a [u8]>
+        ensures { option_map (λ line. line.now) result ≡ slice_get (recorded_lines self.now) number }
+    {
+        let mut rest = self.text;
+        for _passed in 0..number {
+            match next_line(rest) {
+                Some((_, more)) => rest = more,
+                None => return None,
+            }
+        }
+        match next_line(rest) {
+            Some((line, _)) => Some(line),
+            None => None,
+        }
+    }
+}
+
+impl Reader {
     // The next line.
-    fn read(&mut self, line: &'a [u8]) -> Result<(), HistoryRefusal>
+    fn read(&mut self, line: &[u8]) -> Result<(), HistoryFault>
         requires { self.old.number + 1 < 2 ^ 64 }
         ensures ok { OnOk result (TakesLine self.old self.new line.now) }
         ensures number { OnOk result (self.new.number ≡ self.old.number + 1) }
-        ensures format { self.new.format ≡ self.old.format }
-        ensures fault { IfFault result (IsFaultOfLine self.old line.now) }
+        ensures fault { IfErr result (IsFaultOfLine self.old line.now) }
     {
         if line.len() > MOST_BYTES {
             return Err(fault(HistoryCode::LongLine, self.number));
@@ -53,16 +85,15 @@ impl<'a> Reader<'a> {
         let Some(stage) = after(self.format, self.stage, line) else {
             return Err(fault(HistoryCode::BadLine, self.number));
         };
-        self.lines.push(line)?;
         self.stage = stage;
         self.number += 1;
         Ok(())
     }
 
     // What stands behind the last line feed.
-    fn end(&self, piece: &[u8]) -> Result<(), HistoryRefusal>
+    fn end(&self, piece: &[u8]) -> Result<(), HistoryFault>
         ensures ok { OnOk result (IsEnd self.now piece.now) }
-        ensures fault { IfFault result (IsFaultOfEnd self.now piece.now) }
+        ensures fault { IfErr result (IsFaultOfEnd self.now piece.now) }
     {
         if piece.len() > MOST_BYTES {
             return Err(fault(HistoryCode::LongLine, self.number));
@@ -77,42 +108,36 @@ impl<'a> Reader<'a> {
     }
 }
 
-/// The lines of these bytes, behind the first line of a history.
-fn lines<'a>(alloc: Global, format: Format, text: &'a [u8]) -> Result<Recorded<'a>, HistoryRefusal>
+/// Judges the form of the lines of these bytes, behind the first line of a history.
+fn judge_lines(format: Format, text: &[u8]) -> Result<(), HistoryFault>
     requires { length text.now + 3 < 2 ^ 64 }
-    ensures { Continues (lines_from format Stage.Opening 2 (slice_split (λ b. b == 10) text.now)) format result }
+    ensures { Judges (lines_from format Stage.Opening 2 (slice_split (λ b. b == 10) text.now)) (lines_in text.now) result }
 {
     let mut reader = Reader {
         format,
         stage: Stage::Opening,
         number: 2,
-        lines: Vec::new(alloc),
     };
     let mut rest = text;
     'lines: loop {
         let place = place_of(rest, b'\n');
         if place == rest.len() {
-            match reader.end(rest) {
-                Ok(()) => {}
-                Err(refusal) => return Err(refusal),
-            }
-            let Reader { format, lines, .. } = reader;
-            return Ok(Recorded { format, lines });
+            return reader.end(rest);
         }
         match reader.read(&rest[..place]) {
             Ok(()) => {}
-            Err(refusal) => return Err(refusal),
+            Err(fault) => return Err(fault),
         }
         rest = behind(rest, place);
     }
 }
 
-/// The history that a file tells: its format, and its lines behind the first.
+/// The history that a file tells: its format, and its lines behind the first. Takes no memory.
 ///
 /// # Errors
 ///
-/// The fault of the first faulty line, or want of memory.
-pub fn read_history<'a>(alloc: Global, text: &'a [u8]) -> Result<Recorded<'a>, HistoryRefusal>
+/// The fault of the first faulty line.
+pub fn read_history(text: &[u8]) -> Result<Recorded<'_>, HistoryFault>
     ensures { Answers result (history_in text.now) }
 {
     let place = place_of(text, b'\n');
@@ -125,5 +150,9 @@ pub fn read_history<'a>(alloc: Global, text: &'a [u8]) -> Result<Recorded<'a>, H
     let Some(format) = format_of(&text[..place]) else {
         return Err(fault(HistoryCode::BadHeader, 1));
     };
-    lines(alloc, format, behind(text, place))
+    let text = behind(text, place);
+    match judge_lines(format, text) {
+        Ok(()) => Ok(Recorded { format, text }),
+        Err(fault) => Err(fault),
+    }
 }

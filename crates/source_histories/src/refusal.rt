@@ -1,10 +1,8 @@
-//! Why a file gives no history.
+//! What is wrong with a history file.
 
 ghost use Rattle.std.specs.Prelude.{◌≡◌};
-ghost use Rattle.source_histories.specs.declared.refusal.HistoryRefusal.TheVariants.{NoMemory};
 ghost use Rattle.source_histories.specs.Refusals.{code_name, code_text};
 
-use std::alloc::{AllocError, AllocFailed};
 use thiserror::Error;
 
 /// What is wrong with a line. The documents call each by its printed name, `H1` to `H4`.
@@ -47,37 +45,11 @@ impl HistoryCode {
 }
 
 /// A faulty line.
-#[derive(Clone, Copy, Debug, PartialEq, Eq)]
+#[derive(Clone, Copy, Debug, PartialEq, Eq, Error)]
+#[error("{} {} at line {}", .code.name(), .code.text(), .line)]
 pub struct HistoryFault {
     /// What is wrong with it.
     pub code: HistoryCode,
     /// Its number, from 1.
     pub line: usize,
-}
-
-/// Why a file gives no history.
-#[derive(Clone, Copy, Debug, PartialEq, Eq, Error)]
-pub enum HistoryRefusal {
-    /// A line is faulty.
-    #[error("{} {} at line {}", .0.code.name(), .0.code.text(), .0.line)]
-    Fault(HistoryFault),
-    /// A growth was refused.
-    #[error("no memory")]
-    NoMemory,
-}
-
-impl From<AllocError> for HistoryRefusal {
-    ghost from_gives = { λ _ e. e ≡ NoMemory };
-
-    fn from(_e: AllocError) -> HistoryRefusal {
-        HistoryRefusal::NoMemory
-    }
-}
-
-impl<T: Drop> From<AllocFailed<T>> for HistoryRefusal {
-    ghost from_gives = { λ _ e. e ≡ NoMemory };
-
-    fn from(_e: AllocFailed<T>) -> HistoryRefusal {
-        HistoryRefusal::NoMemory
-    }
 }

@@ -64,9 +64,10 @@ autolock simulate F S => Line { file: \"F\", request: Beside(Simulate, \"S\") }
 autolock trace F S => Line { file: \"F\", request: Beside(Trace { sections: false }, \"S\") }
 autolock trace F --sections S => Line { file: \"F\", request: Beside(Trace { sections: true }, \"S\") }
 autolock run F => Line { file: \"F\", request: Alone(Run) }
-autolock replay F H => Line { file: \"F\", request: Beside(Replay(Judging { turns: 1000000, why: false }), \"H\") }
-autolock replay F --turns 7 H => Line { file: \"F\", request: Beside(Replay(Judging { turns: 7, why: false }), \"H\") }
-autolock replay --why F H => Line { file: \"F\", request: Beside(Replay(Judging { turns: 1000000, why: true }), \"H\") }
+autolock replay F H => Line { file: \"F\", request: Beside(Replay(Judging { turns: 1000000, why: false, open: false }), \"H\") }
+autolock replay F --turns 7 H => Line { file: \"F\", request: Beside(Replay(Judging { turns: 7, why: false, open: false }), \"H\") }
+autolock replay --why F H => Line { file: \"F\", request: Beside(Replay(Judging { turns: 1000000, why: true, open: false }), \"H\") }
+autolock replay --open F H => Line { file: \"F\", request: Beside(Replay(Judging { turns: 1000000, why: false, open: true }), \"H\") }
 ",
     )
 }

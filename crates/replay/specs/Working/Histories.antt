@@ -8,7 +8,9 @@ use Rattle.code.specs.Listing.{line}
 use Rattle.source_histories.specs.declared.format.Format.{Format}
 use Rattle.report.specs.Entry.{Entry, scheduled_in}
 use Rattle.report.specs.History.{call_line}
-use Rattle.replay.specs.Readers.{script_of, MayBegin, print_lines, closing_lines}
+use Rattle.replay.specs.declared.callers.Callers.{Callers}
+use Rattle.replay.specs.declared.callers.Callers.TheVariants.{Scripts, Anyone}
+use Rattle.replay.specs.Readers.{script_of, IsOpenCall, MayBegin, print_lines, closing_lines}
 
 -- ---- calls
 
@@ -32,6 +34,12 @@ of_thread t entries = filter (λ (e : Entry). e.thread == t) entries
 abbrev pub FollowScripts : Typed → List Entry → Type 0
 FollowScripts program entries = (t : ℕ) → map scheduled_in (of_thread t entries) ≡ script_of program t
 
+-- the calls are those of the scripts; or, where anyone may call, each is a call from outside after those before it
+abbrev pub AreCalls : Callers → Typed → List Entry → Type 0
+AreCalls Scripts program entries = FollowScripts program entries
+AreCalls Anyone program entries = (k : ℕ) (e : Entry) → slice_get entries k ≡ Some e →
+    IsOpenCall program (order_of (take k entries)) (scheduled_in e)
+
 -- each may say that it began when the history was as long as it says
 abbrev pub BeginAsTheyMay : Format → List Entry → Type 0
 BeginAsTheyMay format entries = (k : ℕ) (e : Entry) → slice_get entries k ≡ Some e →
@@ -54,10 +62,10 @@ text_of lines = flat_map line lines
 
 -- ---- histories
 
--- the lines of calls that run whole, one after another, from the opening cells, and of the heap that they leave; each
--- thread's are its script's, in order
-pub record IsHistory (format : Format) (program : Typed) (entries : List Entry) (heap : List Value) (lines : List (List ℕ)) : Type 0 where
-  pub scripts : FollowScripts program entries
+-- the lines of calls that run whole, one after another, from the opening cells, and of the heap that they leave; they
+-- are those of the scripts, each thread's in order, or from outside
+pub record IsHistory (callers : Callers) (format : Format) (program : Typed) (entries : List Entry) (heap : List Value) (lines : List (List ℕ)) : Type 0 where
+  pub calls : AreCalls callers program entries
   pub begins : BeginAsTheyMay format entries
   pub serial : SerialFromOpening program (map invocation_in entries) (map ended_in entries) heap
   pub told : lines ≡ history_lines format program entries heap

@@ -1,9 +1,9 @@
 -- What `decimal` writes is a count. Only proofs need it.
-use Rattle.std.proofs.Common.{◌≡◌, ◌≢◌, ◌∙◌, ◌<◌, ◌≤◌, ◌+◌, ◌*◌, ◌-◌, ◌/◌, ◌%◌, ◌^◌, ℕ, Bool, true, false, List, []}
-use Rattle.std.proofs.Common.{◌∷◌, ◌++◌, length, take, drop, get_or, arith, sym, ap, refl, subst, inl, inr, Option}
+use Rattle.std.proofs.Common.{◌≡◌, ◌∙◌, ◌<◌, ◌≤◌, ◌+◌, ◌*◌, ◌-◌, ◌/◌, ◌%◌, ◌^◌, ℕ, true, false, List, []}
+use Rattle.std.proofs.Common.{◌∷◌, ◌++◌, length, take, drop, get_or, arith, sym, ap, refl, inl, inr}
 use Rattle.std.proofs.Common.{Some, length-append, append_assoc}
-use Rattle.std.specs.Prelude.{◌==◌, ◌&&◌, ◌||◌, not, zero, suc}
-use Rattle.std.specs.List.{list_all, position_or_len, before_first, after_first}
+use Rattle.std.specs.Prelude.{◌==◌, zero, suc}
+use Rattle.std.specs.List.{list_all, position_or_len}
 use Rattle.std.specs.Fmt.{decimal}
 use Rattle.std.proofs.Math.Bool.{or-true}
 use Rattle.std.proofs.lemmas.Bool.{lt-ltb, cases_lt}
@@ -14,7 +14,7 @@ use Rattle.std.proofs.lemmas.List.{take_at, drop_at, get_or_append_left, get_or_
 use Rattle.std.proofs.lemmas.List.Folds.{list_all-append}
 use Rattle.std.proofs.lemmas.List.Sums.{fold-append, position_or_len_is}
 use Rattle.source.specs.Texts.{is_digit, value_of}
-use Rattle.source_histories.specs.Pieces.{before, behind, is_numeral, is_count, count_in}
+use Rattle.source_histories.specs.Pieces.{before, behind, is_numeral, count_in}
 
 -- ---- the digits of a number
 

@@ -1,5 +1,6 @@
 use Rattle.std.proofs.Common.{◌∙◌, sym, arith}
-use Rattle.source_histories.proofs.ReadingLemmas.{first_long, first_alone, first_bad, first_good, first_answers}
+use Rattle.source_histories.proofs.ReadingLemmas.{first_long, first_alone, first_bad, first_good, first_refused}
+use Rattle.source_histories.proofs.ReadingLemmas.{first_answers}
 use Rattle.source_histories.proofs.reading.read_history.Goals as goal
 
 pub returns-then-place-gt-MOST_BYTES : goal.returns-then-place-gt-MOST_BYTES
@@ -15,8 +16,14 @@ returns-in_default c =
     rw c.fault-in_default.ensures
     (first_bad c.args.text.now c.place_of-place.result c.place_of-place.ensures.place (omega arith) (omega arith) (sym c.format_of.ensures ∙ c.in_default.is))
 
-pub returns : goal.returns
-returns c =
-    first_answers _ _ c.in-Some.format c.lines.result
+pub returns-in-Err : goal.returns-in-Err
+returns-in-Err c =
+    first_refused _ _ c.in-Some.format c.in-Err.fault
     (first_good c.args.text.now c.place_of-place.result c.place_of-place.ensures.place c.in-Some.format (omega arith) (omega arith) (sym c.format_of.ensures ∙ c.in-Some.is))
-    (rw c.behind.ensures at c.lines.ensures)
+    (rw c.behind-text.ensures at c.in-Err.ensures)
+
+pub returns-in-Ok : goal.returns-in-Ok
+returns-in-Ok c =
+    rw c.behind-text.ensures (first_answers _ _ c.in-Some.format _
+    (first_good c.args.text.now c.place_of-place.result c.place_of-place.ensures.place c.in-Some.format (omega arith) (omega arith) (sym c.format_of.ensures ∙ c.in-Some.is))
+    (rw c.behind-text.ensures at c.in-Ok.ensures))

@@ -14,4 +14,4 @@ returns-else-begins-clause-only c =
     c.in_ok-push_call_head.ensures ∙ ap (λ (b : List ℕ). b ++ head) c.clear.ensures.bytes in
     let never : begins (string_bytes c.push_call_head.new.out) c.args.line.now ≡ false =
     ap (λ (word : List ℕ). begins word c.args.line.now) (sym c.as_str.ensures.value) ∙ sym c.begins.ensures.value ∙ c.if-begins.false in
-    no_head format program c.args.at.now c.args.line.now (string_bytes c.push_call_head.new.out) c.in-Some.call c.in-Some.ensures written never
+    no_head c.args.self.now.callers format program c.args.at.now c.args.line.now (string_bytes c.push_call_head.new.out) c.in-Some.call c.in-Some.ensures written never

@@ -1,113 +1,51 @@
-use Rattle.std.proofs.Common.{◌≡◌, ◌+◌, [], ◌∷◌, length, map, drop, get_or, arith, ap, sym, subst}
-use Rattle.std.proofs.lemmas.List.{length-map}
-use Rattle.replay.specs.Verdicts.{Holds, IsDiffering}
-use Rattle.replay.specs.declared.wanted.Wanted.TheVariants.{Line}
+use Rattle.std.proofs.Common.{◌∷◌, List, ℕ, arith, refl, subst, sym}
+use Rattle.source_histories.specs.Histories.{lines_in, recorded_lines}
 use Rattle.replay.specs.Working.Reading.{IsAt}
-use Rattle.replay.specs.Wanted.{IsWantedAt}
-use Rattle.replay.proofs.Replays.{read_more, read_other, read_beyond, read_same, read_short, wanted_here}
-use Rattle.replay.proofs.Replays.{wanted_short, explained}
+use Rattle.replay.proofs.Replays.{HasRead, read_start, read_more, ended_holds, ended_explains, explained, wanted_at}
 use Rattle.replay.proofs.candidate.Replay.judgement.Goals as goal
 
-pub returns-in-Other-clause-holds : goal.returns-in-Other-clause-holds
-returns-in-Other-clause-holds c =
-    let same = c.deref-line-items.ensures.value in
-    let less = rw same at c.loop-i-test.true in
-    subst (Holds c.args.self.now.turns c.args.self.now.format c.args.self.now.program.now (map (λ line. line.now) c.args.recorded.now.lines.items)) (sym c.differing.ensures.verdict)
-    (read_other c.args.self.now.turns c.args.self.now.format c.args.self.now.program.now (λ line. line.now) c.args.recorded.now.lines.items c.loop-i.i
-    (record { ref_ptr = (0, 0); now = [] }) less c.loop-i.at c.loop-i.invariant
-    (rw (same, c.in-Other.is) at c.in_ok-read.ensures.reads c.loop-i.invariant.reader c.loop-i.invariant.is))
+pub lines-init : goal.lines-init
+lines-init c = record {
+  read = read_start c.args.self.now.turns c.args.self.now.callers c.args.self.now.format c.args.self.now.program.now (recorded_lines c.args.recorded.now)
+      c.in_ok-at.at c.in_ok-at.ensures.at (c.in_ok-at.ensures.sound c.args.self.now.callers) c.in_ok-at.ensures.position;
+  number = omega arith;
+}
+
+pub returns-in_default-clause-holds : goal.returns-in_default-clause-holds
+returns-in_default-clause-holds c =
+    ended_holds c.args.self.now.turns c.args.self.now.callers c.args.self.now.format c.args.self.now.program.now (recorded_lines c.args.recorded.now) c.lines.number c.lines.at
+    (subst (λ (rest : List (List ℕ)). HasRead c.args.self.now.turns c.args.self.now.callers c.args.self.now.format c.args.self.now.program.now (recorded_lines c.args.recorded.now) c.lines.number rest c.lines.at)
+    (c.in_default.ensures.none refl) c.lines.invariant.read) c.at_end.result c.at_end.ensures.holds
+
+pub returns-in_default-clause-why : goal.returns-in_default-clause-why
+returns-in_default-clause-why c =
+    ended_explains c.args.self.now.turns c.args.self.now.callers c.args.self.now.format c.args.self.now.program.now (recorded_lines c.args.recorded.now) c.lines.number c.lines.at
+    (subst (λ (rest : List (List ℕ)). HasRead c.args.self.now.turns c.args.self.now.callers c.args.self.now.format c.args.self.now.program.now (recorded_lines c.args.recorded.now) c.lines.number rest c.lines.at)
+    (c.in_default.ensures.none refl) c.lines.invariant.read) c.at_end.result c.at_end.ensures.holds
 
 pub returns-in-Other-clause-why : goal.returns-in-Other-clause-why
 returns-in-Other-clause-why c =
-    let same = c.deref-line-items.ensures.value in
-    let less = rw same at c.loop-i-test.true in
-    let reader = c.loop-i.invariant.reader in
-    let left = rw (same, c.in-Other.is) at c.in_ok-read.ensures.leaves in
-    let items = c.args.recorded.now.lines.items in
-    let rest = (get_or items c.loop-i.i (record { ref_ptr = (0, 0); now = [] })).now ∷ drop (c.loop-i.i + 1) (map (λ line. line.now) items) in
-    let is = subst (λ at. IsAt c.args.self.now.program.now at reader) (sym left.same) c.loop-i.invariant.is in
-    explained c.args.self.now.turns c.args.self.now.format c.args.self.now.program.now (map (λ line. line.now) c.args.recorded.now.lines.items) (c.loop-i.i + 2)
+    let rest = c.in-Some.line.now ∷ lines_in c.in-Some.more.now in
+    let lines = recorded_lines c.args.recorded.now in
+    let read = subst (λ (rest : List (List ℕ)). HasRead c.args.self.now.turns c.args.self.now.callers c.args.self.now.format c.args.self.now.program.now lines c.lines.number rest c.lines.at)
+    c.in-Some.ensures.some c.lines.invariant.read in
+    let left = rw c.in-Other.is at c.in_ok-read.ensures.leaves in
+    let is = subst (λ at. IsAt c.args.self.now.program.now at read.reader) (sym left.same) read.is in
+    explained c.args.self.now.turns c.args.self.now.callers c.args.self.now.format c.args.self.now.program.now lines c.lines.number
     c.in_ok-wanted-in-Other.wanted _ _ c.differing.ensures.verdict c.differing.ensures.wanted
-    (wanted_here c.args.self.now.turns c.args.self.now.format c.args.self.now.program.now (λ line. line.now) c.args.recorded.now.lines.items c.loop-i.i
-    (record { ref_ptr = (0, 0); now = [] }) less c.loop-i.at c.loop-i.invariant
-    c.in_ok-wanted-in-Other.wanted (c.in_ok-wanted-in-Other.ensures reader rest is (left.names reader c.loop-i.invariant.is)))
+    (wanted_at c.args.self.now.turns c.args.self.now.callers c.args.self.now.format c.args.self.now.program.now lines rest c.lines.number read.reader
+    c.in_ok-wanted-in-Other.wanted read.reached
+    (c.in_ok-wanted-in-Other.ensures read.reader rest refl is (left.names read.reader read.is)))
 
-pub returns-in-EndsOtherwise-clause-holds : goal.returns-in-EndsOtherwise-clause-holds
-returns-in-EndsOtherwise-clause-holds c =
-    let same = c.deref-line-items.ensures.value in
-    let less = rw same at c.loop-i-test.true in
-    subst (Holds c.args.self.now.turns c.args.self.now.format c.args.self.now.program.now (map (λ line. line.now) c.args.recorded.now.lines.items)) (sym c.differing-in-EndsOtherwise.ensures.verdict)
-    (read_other c.args.self.now.turns c.args.self.now.format c.args.self.now.program.now (λ line. line.now) c.args.recorded.now.lines.items c.loop-i.i
-    (record { ref_ptr = (0, 0); now = [] }) less c.loop-i.at c.loop-i.invariant
-    (rw (same, c.in-EndsOtherwise.is) at c.in_ok-read.ensures.reads c.loop-i.invariant.reader c.loop-i.invariant.is))
-
-pub returns-in-EndsOtherwise-clause-why : goal.returns-in-EndsOtherwise-clause-why
-returns-in-EndsOtherwise-clause-why c =
-    let same = c.deref-line-items.ensures.value in
-    let less = rw same at c.loop-i-test.true in
-    let left = rw (same, c.in-EndsOtherwise.is) at c.in_ok-read.ensures.leaves in
-    explained c.args.self.now.turns c.args.self.now.format c.args.self.now.program.now (map (λ line. line.now) c.args.recorded.now.lines.items) (c.loop-i.i + 2)
-    (Line c.read.new.text) _ _ c.differing-in-EndsOtherwise.ensures.verdict c.differing-in-EndsOtherwise.ensures.wanted
-    (wanted_here c.args.self.now.turns c.args.self.now.format c.args.self.now.program.now (λ line. line.now) c.args.recorded.now.lines.items c.loop-i.i
-    (record { ref_ptr = (0, 0); now = [] }) less c.loop-i.at c.loop-i.invariant
-    (Line c.read.new.text) (left c.loop-i.invariant.reader c.loop-i.invariant.is))
-
-pub returns-in-Beyond-clause-holds : goal.returns-in-Beyond-clause-holds
-returns-in-Beyond-clause-holds c =
-    let same = c.deref-line-items.ensures.value in
-    let less = rw same at c.loop-i-test.true in
-    subst (Holds c.args.self.now.turns c.args.self.now.format c.args.self.now.program.now (map (λ line. line.now) c.args.recorded.now.lines.items)) (sym c.settled.ensures.verdict)
-    (read_beyond c.args.self.now.turns c.args.self.now.format c.args.self.now.program.now (λ line. line.now) c.args.recorded.now.lines.items c.loop-i.i
-    (record { ref_ptr = (0, 0); now = [] }) less c.loop-i.at c.loop-i.invariant c.read.new.at (rw (same, c.in-Beyond.is) at c.in_ok-read.ensures.reads))
-
-pub loop-i-preserved : goal.loop-i-preserved
-loop-i-preserved c =
-    let same = c.deref-line-items.ensures.value in
-    let less = rw same at c.loop-i-test.true in
-    read_more c.args.self.now.turns c.args.self.now.format c.args.self.now.program.now (λ line. line.now) c.args.recorded.now.lines.items c.loop-i.i
-    (record { ref_ptr = (0, 0); now = [] }) less c.loop-i.at c.loop-i.invariant c.read.new.at (rw (same, c.in-Came.is) at c.in_ok-read.ensures.reads)
-    c.in_ok-read.ensures.sound c.in_ok-read.ensures.position
-
-pub returns-clause-holds : goal.returns-clause-holds
-returns-clause-holds c =
-    let items = c.args.recorded.now.lines.items in
-    let same = ap length c.deref-line-items.ensures.value in
-    let long = length-map items (λ line. line.now) in
-    let count = c.len.ensures in
-    let len = c.args.recorded.now.lines.ok.0 in
-    let most = c.loop-i.auto.i-end in
-    let least = c.loop-i-test.false in
-    let number : length (map (λ line. line.now) items) + 2 ≡ c.len.result + 2 = omega (arith, long, count, len) in
-    subst (Holds c.args.self.now.turns c.args.self.now.format c.args.self.now.program.now (map (λ line. line.now) items)) (sym c.differing-in_default.ensures.verdict)
-    (subst (IsDiffering c.args.self.now.turns c.args.self.now.format c.args.self.now.program.now (map (λ line. line.now) items)) number
-    (read_short c.args.self.now.turns c.args.self.now.format c.args.self.now.program.now (map (λ line. line.now) items) c.loop-i.i c.loop-i.at c.loop-i.invariant
-    (omega (arith, same, long, most, least)) c.in_default.not-Ended))
-
-pub returns-clause-why : goal.returns-clause-why
-returns-clause-why c =
-    let items = c.args.recorded.now.lines.items in
-    let same = ap length c.deref-line-items.ensures.value in
-    let long = length-map items (λ line. line.now) in
-    let count = c.len.ensures in
-    let len = c.args.recorded.now.lines.ok.0 in
-    let most = c.loop-i.auto.i-end in
-    let least = c.loop-i-test.false in
-    let number : length (map (λ line. line.now) items) + 2 ≡ c.len.result + 2 = omega (arith, long, count, len) in
-    let wanted = c.in_ok-wanted-in_default.wanted in
-    explained c.args.self.now.turns c.args.self.now.format c.args.self.now.program.now (map (λ line. line.now) items) (c.len.result + 2)
-    wanted _ _ c.differing-in_default.ensures.verdict c.differing-in_default.ensures.wanted
-    (subst (λ n. IsWantedAt c.args.self.now.turns c.args.self.now.format c.args.self.now.program.now (map (λ line. line.now) items) n wanted) number
-    (wanted_short c.args.self.now.turns c.args.self.now.format c.args.self.now.program.now (map (λ line. line.now) items) c.loop-i.i c.loop-i.at c.loop-i.invariant
-    (omega (arith, same, long, most, least)) wanted
-    (c.in_ok-wanted-in_default.ensures c.loop-i.invariant.reader [] c.loop-i.invariant.is (λ call begun none. none))))
-
-pub returns-in-Ended-clause-holds : goal.returns-in-Ended-clause-holds
-returns-in-Ended-clause-holds c =
-    let items = c.args.recorded.now.lines.items in
-    let same = ap length c.deref-line-items.ensures.value in
-    let long = length-map items (λ line. line.now) in
-    let most = c.loop-i.auto.i-end in
-    let least = c.loop-i-test.false in
-    subst (Holds c.args.self.now.turns c.args.self.now.format c.args.self.now.program.now (map (λ line. line.now) items)) (sym c.settled-in-Ended.ensures.verdict)
-    (read_same c.args.self.now.turns c.args.self.now.format c.args.self.now.program.now (map (λ line. line.now) items) c.loop-i.i c.loop-i.at c.loop-i.invariant
-    (omega (arith, same, long, most, least)) c.in-Ended.is)
+pub lines-preserved : goal.lines-preserved
+lines-preserved c =
+    let lines = recorded_lines c.args.recorded.now in
+    let read = subst (λ (rest : List (List ℕ)). HasRead c.args.self.now.turns c.args.self.now.callers c.args.self.now.format c.args.self.now.program.now lines c.lines.number rest c.lines.at)
+    c.in-Some.ensures.some c.lines.invariant.read in
+    let shorter = c.in-Some.ensures.shorter in
+    let number = c.lines.invariant.number in
+    record {
+      read = read_more c.args.self.now.turns c.args.self.now.callers c.args.self.now.format c.args.self.now.program.now lines c.lines.number c.in-Some.line.now (lines_in c.in-Some.more.now)
+          c.lines.at read c.read.new.at (rw c.in-Came.is at c.in_ok-read.ensures.reads) c.in_ok-read.ensures.sound c.in_ok-read.ensures.position;
+      number = omega (arith, shorter, number);
+    }

@@ -13,7 +13,7 @@ returns-then-not-is_print-clause-reads c reader is =
     let word : c.as_str.result.now ≡ print_line number =
     c.as_str.ensures.value ∙ c.in_ok-push_print.ensures ∙ ap (λ (b : List ℕ). b ++ print_line (to_z w64 (of_z w64 number))) c.clear.ensures.bytes
     ∙ ap print_line same in
-    other_due c.args.self.now.turns c.args.self.now.format c.args.self.now.program.now reader c.args.line.now (print_line number) _
+    other_due c.args.self.now.turns c.args.self.now.callers c.args.self.now.format c.args.self.now.program.now reader c.args.line.now (print_line number) _
     (print_due c.args.self.now.program.now c.args.at.now reader is number c.requires.stage c.requires.due c.index.ensures)
     (λ same_line. reads_otherwise c.args.line.now c.as_str.result.now (sym c.is-is_print.ensures ∙ c.if-not-is_print.true) (same_line ∙ sym word))
 
@@ -24,13 +24,13 @@ returns-clause-reads c reader is =
     let word : c.as_str.result.now ≡ print_line number =
     c.as_str.ensures.value ∙ c.in_ok-push_print.ensures ∙ ap (λ (b : List ℕ). b ++ print_line (to_z w64 (of_z w64 number))) c.clear.ensures.bytes
     ∙ ap print_line same in
-    print_came c.args.self.now.turns c.args.self.now.format c.args.self.now.program.now c.args.at.now reader number c.args.line.now is c.requires.stage c.requires.due c.index.ensures
+    print_came c.args.self.now.turns c.args.self.now.callers c.args.self.now.format c.args.self.now.program.now c.args.at.now reader number c.args.line.now is c.requires.stage c.requires.due c.index.ensures
     (reads_so c.args.line.now c.as_str.result.now (sym c.is-is_print.ensures ∙ c.if-not-is_print.false) ∙ word)
 
 pub returns-then-not-is_print-clause-leaves : goal.returns-then-not-is_print-clause-leaves
 returns-then-not-is_print-clause-leaves c = record {
   same = refl;
   names = λ reader is.
-      due_names_none c.args.self.now.format c.args.self.now.program.now reader c.args.line.now (print_line c.index.result.now) _
+      due_names_none c.args.self.now.callers c.args.self.now.format c.args.self.now.program.now reader c.args.line.now (print_line c.index.result.now) _
       (print_due c.args.self.now.program.now c.args.at.now reader is c.index.result.now c.requires.stage c.requires.due c.index.ensures);
 }

@@ -8,7 +8,7 @@ use Rattle.replay.proofs.Steps.{print_due}
 use Rattle.replay.proofs.candidate.Replay.wanted_print.Goals as goal
 
 pub returns : goal.returns
-returns c reader lines is none =
+returns c line reader lines first is none =
     let number = c.index.result.now in
     let same : to_z w64 (of_z w64 number) ≡ number = first_of (search (rules, ints, to_z-of_z), grind (arith, ints, to_z-of_z)) in
     let word : string_bytes c.push_print.new.out ≡ print_line number =
@@ -17,7 +17,7 @@ returns c reader lines is none =
     let due = print_due c.args.self.now.program.now c.args.at.now reader is number c.requires.stage c.requires.due c.index.ensures in (
       (
         _,
-        due_comes c.args.self.now.turns c.args.self.now.format c.args.self.now.program.now reader (string_bytes c.push_print.new.out) more
+        due_comes c.args.self.now.turns c.args.self.now.callers c.args.self.now.format c.args.self.now.program.now reader (string_bytes c.push_print.new.out) more
             (due ∙ ap (λ (text : List ℕ). text ∷ more) (sym word)),
       ),
       λ call begun names. absurd (none call begun names),
