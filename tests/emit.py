@@ -12,9 +12,13 @@ compiled  gcc and clang, -O0 and -O2, -std=c11 -Wall -Wextra -Werror -pedantic, 
 serial    the program with AL_MAIN, given the word `serial`, writes what `serial` does, byte for byte; also with
           -fsanitize=undefined,address, AL_PORTABLE and AL_CHECK
 threads   it runs a thread for each script, under -fsanitize=thread, with no report
+history   with AL_HISTORY too it writes the history of that run, three times, also under -fsanitize=thread; `replay` says
+          `same` of it, and something else where a result in it is changed
 labels    are the places to which the jumps of `listing` lead
 lines     with `--lines`, the C is told to be of the lines that `listing --places` has, also of files with hard names
 
+recorder  where memory is refused it, nothing is written and the status is 4; calls of a caller's own threads are in order;
+          calls that wait for a lock have begun before the call that had it ended
 callers   those of examples/c, in C, C++, Python and, where rustc is there, Rust, come to the total of their accounts
 
 Random programs are compiled by one compiler with warnings, and one more way each, in turn. At the end the tests are tested:
@@ -49,12 +53,16 @@ WAYS = {
     "undefined": ["gcc", "-O1", "-g", "-fsanitize=undefined,address", "-fno-sanitize-recover=all", *STRICT, *MAIN]
     + ["-DAL_PORTABLE", "-DAL_CHECK"],
     "threads": ["clang", "-O1", "-g", "-fsanitize=thread", *STRICT, *MAIN],
+    "history": ["gcc", "-O2", *STRICT, *MAIN, "-DAL_HISTORY"],
+    "history-threads": ["clang", "-O1", "-g", "-fsanitize=thread", *STRICT, *MAIN, "-DAL_HISTORY", "-DAL_CHECK"],
 }
 # The other ways, which random programs take in turn beside the first.
 FIRST = "gcc-O2"
 JUMP = re.compile(r"^\d+ (?:jump|jtrue|jfalse) (\d+)$", re.M)
 LABEL = re.compile(r"^L(\d+):$", re.M)
 PLACE = re.compile(r"^\d+ (\d+):\d+ ", re.M)
+CALL = re.compile(rb"^call (\d+) (\d+) (\d+) ", re.M)
+RESULT = re.compile(rb"(?<=\) returns )-?\d+$", re.M)
 LINE = re.compile(r'^#line (\d+) "(?:[^"]*)"$', re.M)
 
 
@@ -125,9 +133,63 @@ class Emitted:
         if not out.endswith(b"end\n"):
             raise Differs(f"threads: writes\n{out.decode()}")
 
+    def settles(self):
+        return run([self.binary, "serial", "--turns", "100000", self.source])[0] == 0
+
+    def replayed(self, history, name="replayed"):
+        """What `replay` says of a history."""
+        return run([self.binary, "replay", self.source, self.write(f"{name}.history", history)])[:2]
+
+    def history(self, way="history", name="program", runs=3):
+        """What threads write is a history that can be."""
+        program = self.compiled(way, name)
+        if not self.settles():
+            return
+        for _ in range(runs):
+            status, out, told = run([program])
+            if status != 0 or told:
+                raise Differs(f"{way}: ends with {status}\n{told.decode()}")
+            in_order(out)
+            said = self.replayed(out)
+            if said != (0, b"same\n"):
+                raise Differs(f"{way}: replay says {said}\n{out.decode()}")
+        changed, count = RESULT.subn(lambda found: b"%d" % ((int(found[0]) + 1) % 2**63), out, count=1)
+        if count and self.replayed(changed) == said:
+            raise Differs(f"{way}: replay says the same of a changed result\n{changed.decode()}")
+
+    def overlaps(self, name="program"):
+        """Many calls began before the one ahead of them ended; where a call notes the length at its end, some at most do."""
+        program = self.compiled("history", name)
+        for _ in range(20):
+            calls = CALL.findall(run([program])[1])
+            if sum(int(begun) < place for place, (_, _, begun) in enumerate(calls)) > 10:
+                return
+        raise Differs("overlaps: hardly a call began before the one ahead of it ended")
+
+    def refused(self):
+        """Where memory is refused, no history is written."""
+        refuse = self.write(
+            "refuse.h",
+            b"#include <stdlib.h>\nstatic _Atomic int given;\n"
+            b"static void *refuse(size_t n) { return given++ < GIVEN ? malloc(n) : NULL; }\n",
+        )
+        macros = ["-include", refuse, "-DAL_MALLOC=refuse", "-DAL_FREE=free"]
+        for given in (0, 1, 2, 3, 4, 5, 6, 12, 30, 1000):
+            program = self.path(f"refused-{given}")
+            words = [*WAYS["history"], *macros, f"-DGIVEN={given}", "-o", program, self.path("program.c")]
+            status, _, told = run(words)
+            if status != 0:
+                raise Differs(f"refused: {told.decode()}")
+            status, out, _ = run([program])
+            whole = given == 1000
+            if (status, bool(out)) != ((0, True) if whole else (4, False)):
+                raise Differs(f"refused: {given} times memory was given, but it ends with {status}\n{out.decode()}")
+
     def way(self, way):
         if way == "threads":
             self.threads()
+        elif way.startswith("history"):
+            self.history(way)
         else:
             self.serial(way)
 
@@ -179,9 +241,10 @@ class Emitted:
         path = self.write("program.h", text)
         user = self.write("user.cpp", b'#include "program.h"\n#include "program.h"\nint main() { return alSize() == 0; }\n')
         strict = ["-std=c++17", "-Wall", "-Wextra", "-Werror", "-pedantic", "-fsyntax-only"]
-        status, _, told = run(["g++", *strict, "-I", self.folder, user])
-        if status != 0:
-            raise Differs(f"{path}: {told.decode()}")
+        for more in ([], ["-DAL_HISTORY"]):
+            status, _, told = run(["g++", *strict, *more, "-I", self.folder, user])
+            if status != 0:
+                raise Differs(f"{path}: {told.decode()}")
 
     def prefix(self):
         """Two programs are linked together where their prefixes differ."""
@@ -190,9 +253,22 @@ class Emitted:
             path = self.write(f"{prefix}.c", run([self.binary, "emit", "--prefix", prefix, self.source])[1])
             objects.append(path)
         user = self.write("both.c", b"int main(void) { return 0; }\n")
-        status, _, told = run(["gcc", *STRICT, "-pthread", "-o", self.path("both"), user, *objects])
-        if status != 0:
-            raise Differs(f"prefixes: {told.decode()}")
+        together = self.write("together.c", b'#include "one.c"\n#include "two.c"\nint main(void) { return 0; }\n')
+        for files in ([user, *objects], [together]):
+            status, _, told = run(["gcc", *STRICT, "-DAL_HISTORY", "-pthread", "-o", self.path("both"), *files])
+            if status != 0:
+                raise Differs(f"prefixes: {told.decode()}")
+
+
+def in_order(history):
+    """Each call began behind its thread's call before it and has the number behind that."""
+    last = {}
+    for place, (thread, number, begun) in enumerate(CALL.findall(history)):
+        number_before, place_before = last.get(thread, (-1, -1))
+        if int(number) != number_before + 1 or not place_before < int(begun) <= place:
+            raise Differs(f"history: call {place}: {thread.decode()} {number.decode()} {begun.decode()}")
+        last[thread] = (int(number), place)
+    return last
 
 
 def try_one(part):
@@ -223,6 +299,7 @@ def try_one(part):
             return name, tried, str(wrong)
 
 
+ENDED = r"(#ifdef AL_HISTORY\n  autolock_ended.*\n#endif\n)"
 # Changes of a C file that a test has to find: what is changed, into what, of which file, and by which way.
 CHANGES = [
     (r"  AL_ORDER\(m\[0\], m\[1\]\);\n", "", "order", "deadlock"),
@@ -230,6 +307,11 @@ CHANGES = [
     (r"  if \(h\[0\] != NULL\) AL_UNLOCK\(h\[0\]\);\n", "", "unlock", "deadlock"),
     (r"AL_LOCK\(m\[0\]\)", "(void)m[0]", "lock", "threads"),
     (r"  AL_SUB\(", "  AL_ADD(", "operator", "serial"),
+    (ENDED + r"(  if \(h.*\n)", r"\2\1", "entry behind an unlock", "history"),
+    (ENDED, r"#ifdef AL_HISTORY\n  if (trap == 0) autolock_ended(seat, trap, value, 0, NULL);\n#endif\n", "traps", "history"),
+    (r"  e->place = ", r"  e->begun = seat->history->length;\n  e->place = ", "length noted at the end", "overlaps"),
+    (r"  e->begun = .*\n", r"  e->begun = 0;\n", "length not noted", "history"),
+    (r"(?<=PRId64, )a\[2\]", "a[2] + 1", "argument", "history"),
 ]
 CONTENDED = b"""struct Acc { lock l; int bal protected_by(l); }
 pool Acc p[2];
@@ -240,8 +322,13 @@ atomic transfer(ref Acc a, ref Acc b, int k) : int {
   b.bal = b.bal + k;
   return b.bal;
 }
-thread t { repeat 20000 { transfer(p[0], p[1], 5); } transfer(p[0], p[0], 1); }
+atomic add(ref Acc a, int k) : int {
+  a.bal = a.bal + k;
+  return a.bal;
+}
+thread t { repeat 20000 { transfer(p[0], p[1], 5); } transfer(p[0], p[0], 1); transfer(null, p[0], 1); add(p[0], 1); }
 thread u { repeat 20000 { transfer(p[1], p[0], 7); } }
+thread v { repeat 20000 { add(p[0], 1); add(p[1], 2); } }
 """
 
 
@@ -252,6 +339,10 @@ def is_found(emitted, way):
             emitted.serial(FIRST, "changed")
         elif way == "threads":
             emitted.threads("changed")
+        elif way == "history":
+            emitted.history(name="changed", runs=20)
+        elif way == "overlaps":
+            emitted.overlaps("changed")
         else:
             program = emitted.compiled(FIRST, "changed")
             for _ in range(20):
@@ -274,6 +365,82 @@ def tested_tests(binary):
             if count == 0 or not is_found(emitted, way):
                 missed.append(f"change {name}: {'made nowhere' if count == 0 else 'not found'}")
     return len(CHANGES) - len(missed), missed
+
+
+# A caller with more threads than `replay` takes, with a bad argument, and with two states in turn.
+OWN = b"""#include <pthread.h>
+#include <stdio.h>
+#include "program.h"
+static struct alState state, other;
+static int64_t seats[70];
+static void *work(void *own)
+{
+  int i;
+  for (i = 0; i < 3000; i++) al_transfer(&state, al_p(&state, i & 1), al_p(&state, ~i & 1), 1);
+  *(int64_t *)own = alSeat(&state);
+  return NULL;
+}
+int main(void)
+{
+  pthread_t threads[70];
+  int i;
+  alOpen(&state);
+  if (alSeat(&state) != -1 || alHistoryWrite(stdout, &state) == 0) return 5;
+  for (i = 0; i < 2; i++) al_transfer(&state, NULL, NULL, 1);
+  if (alHistoryOpen(&state) != 0) return 6;
+#ifdef AL_CHECK
+  if (al_transfer(&state, al_p(&other, 0), NULL, 1).trap != 7) return 12;
+#endif
+  for (i = 0; i < 70; i++) if (pthread_create(&threads[i], NULL, work, &seats[i]) != 0) return 7;
+  for (i = 0; i < 70; i++) pthread_join(threads[i], NULL);
+  for (i = 0; i < 70; i++) if (seats[i] < 0) return 8;
+  if (alHistoryWrite(stdout, &state) != 0) return 9;
+  alHistoryClose(&state);
+  if (alHistoryOpen(&state) != 0) return 10;
+  work(&seats[0]);
+  if (seats[0] != 0) return 11;
+  alOpen(&other);
+  if (alHistoryOpen(&other) != 0) return 13;
+  for (i = 0; i < 100; i++) al_transfer(i & 1 ? &state : &other, NULL, NULL, 1);
+  if (alSeat(&other) != 0 || alSeat(&state) != 0) return 14;
+  alHistoryClose(&other);
+  alHistoryClose(&state);
+  alClose(&other);
+  alClose(&state);
+  return 0;
+}
+"""
+
+
+def owned(emitted):
+    """The calls of a caller's own threads are in order."""
+    emitted.write("program.h", run([emitted.binary, "emit", "--header", emitted.source])[1])
+    emitted.write("own.c", OWN)
+    for way in ("history", "history-threads"):
+        words = [word for word in WAYS[way] if word != "-DAL_MAIN"]
+        status, _, told = run([*words, "-o", emitted.path("own"), emitted.path("own.c"), emitted.path("program.c")])
+        if status != 0:
+            raise Differs(f"own threads: {told.decode()}")
+        status, out, told = run([emitted.path("own")])
+        if status != 0 or told:
+            raise Differs(f"own threads: ends with {status}\n{told.decode()}")
+        last = in_order(out)
+        if sum(number + 1 for number, _ in last.values()) != 70 * 3000 or not out.endswith(b"end\n"):
+            raise Differs(f"own threads: {len(last)} threads, {last}")
+
+
+def recorded(binary):
+    """How many things hold of the recorder, and those that don't."""
+    wrong = []
+    with tempfile.TemporaryDirectory() as folder:
+        emitted = Emitted(binary, folder, CONTENDED)
+        tests = [emitted.accepted, emitted.overlaps, emitted.refused, emitted.history, lambda: owned(emitted)]
+        for test in tests:
+            try:
+                test()
+            except Differs as differs:
+                wrong.append(f"recorder: {differs}")
+    return len(tests) - len(wrong), wrong
 
 
 def named(binary):
@@ -388,7 +555,7 @@ def rows():
     with tempfile.TemporaryDirectory() as folder:
         subprocess.run([str(TOP / "tests" / "rows.py"), "--write", folder], check=True, capture_output=True)
         for file in sorted(pathlib.Path(folder).glob("*.al")):
-            yield f"rows/{file.name}", file.read_bytes(), [FIRST, "clang-O2", "undefined", "threads"]
+            yield f"rows/{file.name}", file.read_bytes(), [FIRST, "clang-O2", "undefined", "threads", "history"]
 
 
 def main():
@@ -412,7 +579,7 @@ def main():
                 failed += 1
                 print(f"{name}: {wrong}")
     if not arguments.files:
-        for found, missed in (tested_tests(binary), named(binary), called(binary)):
+        for found, missed in (tested_tests(binary), recorded(binary), named(binary), called(binary)):
             passed += found
             failed += len(missed)
             for line in missed:

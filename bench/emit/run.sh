@@ -4,7 +4,7 @@
 #     bench/emit/run.sh BIN [ROUNDS] [CALLS]
 #
 # Transfers between two accounts on 1, 2 and 4 threads, beside C++ with two std::mutexes in order, std::scoped_lock, one global
-# mutex and GCC's transactions; loops beside C with and without the same tests, by gcc and by clang: times of rounds in turn,
+# mutex and GCC's transactions; with a history, beside two std::mutexes in order with one; loops beside C with and without the same tests, by gcc and by clang: times of rounds in turn,
 # and instructions by callgrind, where valgrind is there. Then the time of `emit` beside that of `listing`, and the lengths of
 # both texts, over the shapes of bench/compile.
 set -eu
@@ -25,9 +25,10 @@ renamed() { for name in alOpen alClose alSize al_p al_transfer; do printf ' -D%s
 {
     gcc $optimize -std=c11 -DKIND=line $(renamed line) -c emitted.c -o line.o
     gcc $optimize -std=c11 -DKIND=packed -DAL_LINE=8 $(renamed packed) -c emitted.c -o packed.o
-    g++ $optimize -std=c++17 -c hand.cpp
+    gcc $optimize -std=c11 -DAL_HISTORY $(renamed recorded) -c recorded.c
+    g++ $optimize -std=c++17 -c hand.cpp noted.cpp
     g++ $optimize -std=c++17 -fgnu-tm -c transaction.cpp
-    g++ $optimize -std=c++17 transfers.cpp line.o packed.o hand.o transaction.o -litm -pthread -o transfers
+    g++ $optimize -std=c++17 transfers.cpp line.o packed.o recorded.o hand.o noted.o transaction.o -litm -pthread -o transfers
 }
 ./transfers "$rounds" "$calls"
 for compiler in gcc clang; do

@@ -33,31 +33,47 @@ static double nanoseconds(Transfer transfer, int threads, int calls, bool disjoi
   return seconds / (double(threads) * calls) * 1e9;
 }
 
+static void none() {}
+
 int main(int argc, char **argv)
 {
   int rounds = argc > 1 ? std::atoi(argv[1]) : 15, calls = argc > 2 ? std::atoi(argv[2]) : 1000000;
   open_line();
   open_packed();
+  open_recorded();
   struct {
     const char *name;
     Transfer transfer;
-  } peers[] = {{"emitted", emitted_line}, {"packed", emitted_packed}, {"ordered", hand_ordered},
-               {"scoped", hand_scoped},   {"global", hand_global},    {"libitm", hand_transaction}};
+    void (*begin)();
+    void (*drop)();
+  } peers[] = {{"emitted", emitted_line, none, none},
+               {"packed", emitted_packed, none, none},
+               {"ordered", hand_ordered, none, none},
+               {"scoped", hand_scoped, none, none},
+               {"global", hand_global, none, none},
+               {"libitm", hand_transaction, none, none},
+               {"recorded", emitted_recorded, begin_recorded, drop_recorded},
+               {"noted", hand_noted, none, drop_noted}};
   std::printf("%-20s", "ns, least (middle)");
   for (auto &peer : peers) std::printf("%18s", peer.name);
-  std::puts("   emitted/ordered");
+  std::puts("   emitted/ordered   recorded/noted");
   for (int threads : {1, 2, 4})
     for (bool disjoint : {false, true}) {
       std::vector<std::vector<double>> times(std::size(peers));
       for (int round = 0; round < rounds; round++)
-        for (size_t i = 0; i < std::size(peers); i++)
+        for (size_t i = 0; i < std::size(peers); i++) {
+          peers[i].begin();
           times[i].push_back(nanoseconds(peers[i].transfer, threads, calls / threads, disjoint));
+          peers[i].drop();
+        }
       std::printf("%d threads, %-9s", threads, disjoint ? "disjoint" : "same");
       for (auto &of : times) {
         std::sort(of.begin(), of.end());
         std::printf("%9.1f (%6.1f)", of.front(), of[of.size() / 2]);
       }
-      std::printf("   %.2f (%.2f)\n", times[0].front() / times[2].front(),
-                  times[0][rounds / 2] / times[2][rounds / 2]);
+      for (auto [one, other] : {std::pair(0, 2), std::pair(6, 7)})
+        std::printf("   %.2f (%.2f)   ", times[one].front() / times[other].front(),
+                    times[one][rounds / 2] / times[other][rounds / 2]);
+      std::puts("");
     }
 }

@@ -10,7 +10,7 @@ use Rattle.core_lang.specs.declared.tree.Section.{Section}
 use Rattle.core_lang.specs.declared.typed.Typed.{Typed}
 use Rattle.locks.specs.LockPaths.{LockPath}
 use Rattle.c_sections.specs.Acquires as written
-use Rattle.c_sections.specs.Sections.{unlock_line, count_line, give_line, return_text}
+use Rattle.c_sections.specs.Sections.{ended_text, unlock_line, count_line, give_line, return_text}
 use Rattle.c_sections.specs.Statements.{line}
 use Rattle.c_locks.specs.Locking.{LockStatement, Ask, Drop, Note, Exchange, Take, TakeAlone, DropAll}
 use Rattle.c_locks.specs.Locking.{OrderAll, TakeAll, Unlock, up, down, in_turn, few, many, run_among, run_statements}
@@ -118,6 +118,6 @@ acquire_texts program section paths list =
 
 pub end_texts : EndTextsAreOfStatements
 end_texts section prints count =
-    ap (λ t. codes "  goto begin;\nend:\n" ++ t ++ count_line prints ++ line (codes "result.trap = trap;") ++ give_line section.result_type
+    ap (λ t. codes "  goto begin;\nend:\n" ++ ended_text section prints ++ t ++ count_line prints ++ line (codes "result.trap = trap;") ++ give_line section.result_type
     ++ return_text)
     (sym (mapped unlock_statement_text Unlock (down count) ∙ downwards unlock_line count))

@@ -20,7 +20,7 @@ use Rattle.worlds.specs.Working.InTurn.{RiseBehind}
 use Rattle.worlds.specs.Working.InOrder.{IsInOrder}
 use Rattle.c_sections.specs.Statements.{line}
 use Rattle.c_sections.specs.Acquires.{take_text, acquire_text}
-use Rattle.c_sections.specs.Sections.{count_line, give_line, return_text, end_text}
+use Rattle.c_sections.specs.Sections.{ended_text, count_line, give_line, return_text, end_text}
 use Rattle.c_locks.specs.Locking.{lock_statement_text, statements, unlock_statement_text, unlocks, Acquired, acquired}
 use Rattle.c_locks.specs.Locking.{NotesAre, given_back}
 
@@ -34,13 +34,14 @@ AcquireTextsAreOfStatements =
     ≡ take_text program section paths list
     ++ flat_map (lock_statement_text program section paths) (statements paths list)
 
--- and behind the label of the end stands that of the unlock statements, ahead of what gives the result; the section
--- begins behind it
+-- and behind the label of the end, and what adds the call's entry where there is a history, stands that of the unlock
+-- statements, ahead of what gives the result; the section begins behind it
 abbrev pub EndTextsAreOfStatements : Type 0
 EndTextsAreOfStatements =
     (section : Section) (prints : Bool) (count : ℕ) →
     end_text section prints count
-    ≡ codes "  goto begin;\nend:\n" ++ flat_map unlock_statement_text (unlocks count) ++ count_line prints
+    ≡ codes "  goto begin;\nend:\n" ++ ended_text section prints ++ flat_map unlock_statement_text (unlocks count)
+    ++ count_line prints
     ++ line (codes "result.trap = trap;") ++ give_line section.result_type ++ return_text
 
 -- ---- an acquire

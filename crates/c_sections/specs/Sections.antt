@@ -72,6 +72,49 @@ used_locks count = where_true (has_locks count) (used_line (codes "h") ++ used_l
 abbrev pub uses : Section → ℕ → List ℕ
 uses section count = used_line (codes "s") ++ used_locals section ++ used_locks count
 
+-- ---- the history, where AL_HISTORY is defined
+
+-- ahead of a value that is told as a number: a reference is told by its address
+abbrev pub cast_text : ValueType → List ℕ
+cast_text Integer = []
+cast_text (Reference s) = codes "(int64_t)(uintptr_t)"
+
+abbrev pub argument_text : ℕ → Local → List ℕ
+argument_text k local = cast_text local.value_type ++ local_text k local ++ codes ", "
+
+abbrev pub arguments_text : List Local → List ℕ
+arguments_text locals = numbered argument_text 0 locals
+
+-- what is printed is kept, also where the caller does not ask for it
+abbrev pub kept_line : Bool → List ℕ
+kept_line prints = where_true prints (line (codes "if (seat != NULL && out == NULL) out = &seat->prints;"))
+
+-- the section's number
+abbrev pub section_name : List ℕ → Section → List ℕ
+section_name prefix section = own prefix (codes "Section_") ++ string_bytes section.name
+
+-- a call begins, with these arguments
+abbrev pub begun_text : List ℕ → Section → Bool → List ℕ
+begun_text prefix section prints =
+    codes "#ifdef AL_HISTORY\n  struct autolock_seat *seat = autolock_begin(s->history, "
+    ++ section_name prefix section
+    ++ (codes ", " ++ decimal (length (parameters section)) ++ codes ", (const int64_t[]) { ")
+    ++ arguments_text (parameters section) ++ codes "0 });\n" ++ kept_line prints ++ codes "#endif\n"
+
+abbrev pub value_word : Option ValueType → List ℕ
+value_word None = codes "0"
+value_word (Some t) = cast_text t ++ codes "value"
+
+abbrev pub printed_words : Bool → List ℕ
+printed_words true = codes ", prints, out"
+printed_words false = codes ", 0, NULL"
+
+-- it ends, in this way, and has all its locks
+abbrev pub ended_text : Section → Bool → List ℕ
+ended_text section prints =
+    codes "#ifdef AL_HISTORY\n  autolock_ended(seat, trap, " ++ value_word section.result_type
+    ++ printed_words prints ++ codes ");\n#endif\n"
+
 -- ---- the prototype
 
 module _ (prefix : List ℕ) (program : Typed) where
@@ -167,12 +210,12 @@ give_line (Some t) = line (codes "result.value = value;")
 abbrev pub return_text : List ℕ
 return_text = codes "  return result;\nbegin:\n"
 
--- every lock is given back, the last first. The end stands ahead of the instructions: a compiler then knows the label to
--- which each trap jumps, and need not keep the jumps until it is there
+-- the call's entry comes into the history; then every lock is given back, the last first. The end stands ahead of the
+-- instructions: a compiler then knows the label to which each trap jumps, and need not keep the jumps until it is there
 abbrev pub end_text : Section → Bool → ℕ → List ℕ
 end_text section prints count =
-    codes "  goto begin;\nend:\n" ++ downward unlock_line count ++ count_line prints ++ line (codes "result.trap = trap;")
-    ++ give_line section.result_type ++ return_text
+    codes "  goto begin;\nend:\n" ++ ended_text section prints ++ downward unlock_line count ++ count_line prints
+    ++ line (codes "result.trap = trap;") ++ give_line section.result_type ++ return_text
 
 -- ---- a section
 
@@ -181,6 +224,7 @@ abbrev pub front_text : List ℕ → Typed → Section → List Instr → ℕ �
 front_text prefix program section code count =
     prototype_text prefix program section (prints code) ++ codes "\n{\n"
     ++ declarations prefix program section code count ++ uses section count
+    ++ begun_text prefix section (prints code)
 
 -- with a code and its lock paths, and texts ahead of its instructions, if there are such
 abbrev pub text_of : List ℕ → Typed → Section → List (List ℕ) → List Instr → List LockPath → Option (ℕ → List ℕ) → List ℕ

@@ -182,6 +182,76 @@ fn push_give_line(out: &mut String, result_type: Option<ValueType>) -> Result<()
     }
 }
 
+/// What stands ahead of a value that is told as a number.
+pub fn push_cast(out: &mut String, value_type: ValueType) -> Result<(), AllocError>
+    ensures { OnOk result (AddsText (text.cast_text value_type) out.old out.new) }
+{
+    match value_type {
+        ValueType::Integer => Ok(()),
+        ValueType::Reference(_) => out.push_str("(int64_t)(uintptr_t)"),
+    }
+}
+
+/// An argument as a number, ahead of others.
+fn push_argument(out: &mut String, number: usize, local: &Local) -> Result<(), AllocError>
+    ensures { OnOk result (AddsText (text.argument_text number local.now) out.old out.new) }
+{
+    push_cast(out, local.value_type)?;
+    push_local(out, number, local)?;
+    out.push_str(", ")
+}
+
+/// The arguments as numbers.
+fn push_arguments(out: &mut String, list: &[Local]) -> Result<(), AllocError>
+    ensures { OnOk result (AddsText (text.arguments_text list.now) out.old out.new) }
+{
+    for (number, local) in list.iter().enumerate() {
+        push_argument(out, number, local)?;
+    }
+    Ok(())
+}
+
+/// What is printed is kept.
+fn push_kept(out: &mut String, prints: bool) -> Result<(), AllocError>
+    ensures { OnOk result (AddsText (text.kept_line prints) out.old out.new) }
+{
+    if prints {
+        return out.push_str("  if (seat != NULL && out == NULL) out = &seat->prints;\n");
+    }
+    Ok(())
+}
+
+/// The section's result as a number.
+fn push_value_word(out: &mut String, result_type: Option<ValueType>) -> Result<(), AllocError>
+    ensures { OnOk result (AddsText (text.value_word result_type) out.old out.new) }
+{
+    match result_type {
+        None => out.push_str("0"),
+        Some(ValueType::Integer) => out.push_str("value"),
+        Some(ValueType::Reference(_)) => out.push_str("(int64_t)(uintptr_t)value"),
+    }
+}
+
+/// What was printed.
+fn push_printed(out: &mut String, prints: bool) -> Result<(), AllocError>
+    ensures { OnOk result (AddsText (text.printed_words prints) out.old out.new) }
+{
+    if prints {
+        return out.push_str(", prints, out");
+    }
+    out.push_str(", 0, NULL")
+}
+
+/// The call's entry in the history.
+fn push_ended(out: &mut String, section: &Section, prints: bool) -> Result<(), AllocError>
+    ensures { OnOk result (AddsText (text.ended_text section.now prints) out.old out.new) }
+{
+    out.push_str("#ifdef AL_HISTORY\n  autolock_ended(seat, trap, ")?;
+    push_value_word(out, section.result_type)?;
+    push_printed(out, prints)?;
+    out.push_str(");\n#endif\n")
+}
+
 /// The end of a section with so many lock paths.
 fn push_end(
     out: &mut String,
@@ -192,6 +262,7 @@ fn push_end(
     ensures { OnOk result (AddsText (text.end_text section.now prints count) out.old out.new) }
 {
     out.push_str("  goto begin;\nend:\n")?;
+    push_ended(out, section, prints)?;
     push_unlocks(out, count)?;
     push_count_line(out, prints)?;
     out.push_str("  result.trap = trap;\n")?;
@@ -214,6 +285,7 @@ impl Writer<'_> {
     ghost use Rattle.c_sections.specs.Working.Prototypes.{local_of, locals_of, temporary_of, value_of, result_line_of};
     ghost use Rattle.c_sections.specs.Working.Prototypes.{declarations_of, reference_of, check_line_of, guarded_of, checks_of};
     ghost use Rattle.c_sections.specs.Working.Prototypes.{head_of, further_of, front_of, code_of, HasPlan};
+    ghost use Rattle.c_sections.specs.Working.Prototypes.{section_name_of, begun_of};
 
     // The struct of what a section gives back.
     fn push_result_struct(
@@ -474,6 +546,35 @@ impl Writer<'_> {
         Ok(())
     }
 
+    // The section's number.
+    fn push_section_name(&self, out: &mut String, section: &Section) -> Result<(), AllocError>
+        ensures { OnOk result (AddsText (section_name_of self.now section.now) out.old out.new) }
+    {
+        self.push_own(out, "Section_")?;
+        out.push_str(section.name.as_str())
+    }
+
+    // A call begins.
+    fn push_begun(
+        &self,
+        out: &mut String,
+        section: &Section,
+        prints: bool,
+    ) -> Result<(), AllocError>
+        ensures { OnOk result (AddsText (begun_of self.now section.now prints) out.old out.new) }
+    {
+        let list = parameters(section);
+        out.push_str(
+            "#ifdef AL_HISTORY\n  struct autolock_seat *seat = autolock_begin(s->history, ",
+        )?;
+        self.push_section_name(out, section)?;
+        write!(out, ", {}, (const int64_t[]) {{ ", list.len())?;
+        push_arguments(out, list)?;
+        out.push_str("0 });\n")?;
+        push_kept(out, prints)?;
+        out.push_str("#endif\n")
+    }
+
     // What stands ahead of a section's end.
     fn push_front(
         &self,
@@ -484,10 +585,12 @@ impl Writer<'_> {
         requires { HasPlan self.now listed }
         ensures { OnOk result (AddsText (front_of self.now listed.entry) out.old out.new) }
     {
-        self.push_prototype(out, listed.section, prints(&listed.code.instructions))?;
+        let printed = prints(&listed.code.instructions);
+        self.push_prototype(out, listed.section, printed)?;
         out.push_str("\n{\n")?;
         self.push_declarations(alloc, out, listed)?;
         push_uses(out, listed.section, listed.paths.len())?;
+        self.push_begun(out, listed.section, printed)?;
         Ok(())
     }
 

@@ -14,9 +14,10 @@ use Rattle.c_sections.specs.Sections.{prototype_text, section_text}
 use Rattle.c_text.specs.Fixed as fixed
 use Rattle.c_text.specs.Types.{types_text}
 use Rattle.c_text.specs.Openings.{openings_text}
-use Rattle.c_text.specs.Pools.{tests_text, objects_text}
-use Rattle.c_text.specs.Cells.{cells_text}
-use Rattle.c_text.specs.Mains.{scripts_text, case_text, call_start, call_end, run_all}
+use Rattle.c_text.specs.Pools.{tests_text}
+use Rattle.c_text.specs.Recording.{recorder_text}
+use Rattle.c_text.specs.Histories.{numbers_text, shown_text, histories_text, cases_end}
+use Rattle.c_text.specs.Mains.{scripts_text, case_text, call_start, run_all}
 
 -- the program's file: its name, and its text
 pub record Source : Type 0 where
@@ -82,16 +83,16 @@ module _ (prefix : List ℕ) (program : Typed) (lists : List (List (List ℕ))) 
   -- the functions
   unfoldable pub functions_text : Option Source → List ℕ
   functions_text source =
-      fixed.arithmetic_text ++ fixed.locking_text ++ tests_text prefix program ++ openings_text prefix program
-      ++ sections_text source
+      fixed.arithmetic_text ++ fixed.locking_text ++ recorder_text ++ tests_text prefix program
+      ++ openings_text prefix program ++ numbers_text prefix program.sections.items ++ sections_text source
 
   -- the program that runs the threads
   unfoldable pub main_text : List ℕ
   main_text =
-      fixed.runs_text ++ objects_text prefix program ++ scripts_text prefix program.threads.items ++ call_start prefix
-      ++ cases_text
-      ++ call_end ++ cells_text prefix program ++ run_all prefix
+      fixed.runs_text ++ scripts_text prefix program.threads.items ++ call_start prefix ++ cases_text ++ cases_end
+      ++ run_all prefix
 
   -- with the program's file, if its lines are told
   unfoldable pub file_text : Option Source → List ℕ
-  file_text source = header_text ++ functions_text source ++ main_text
+  file_text source =
+      header_text ++ functions_text source ++ shown_text prefix program ++ histories_text prefix ++ main_text

@@ -11,6 +11,9 @@ types_text =
     flat_map line
     (codes "#include <stddef.h>"
     ∷ codes "#include <stdint.h>"
+    ∷ codes "#ifdef AL_HISTORY"
+    ∷ codes "#include <stdio.h>"
+    ∷ codes "#endif"
     ∷ codes "#ifndef AL_MUTEX                /* the kind of lock: replace all five together */"
     ∷ codes "#include <pthread.h>"
     ∷ codes "#define AL_MUTEX pthread_mutex_t"
@@ -145,23 +148,14 @@ locking_text =
     ∷ codes "  int i;"
     ∷ codes "  for (i = 0; i < k; i++) if (m[i] != NULL) AL_LOCK(m[i]);"
     ∷ codes "}"
-    ∷ codes "#endif"
     ∷ [])
 
--- the start of a program that runs the threads. A reader checks that `autolock_write_prints` writes a line `print
--- N` for each number
+-- the start of a program that runs the threads
 unfoldable pub runs_text : List ℕ
 runs_text =
     flat_map line
     (codes "#ifdef AL_MAIN"
-    ∷ codes "#include <inttypes.h>"
     ∷ codes "#include <pthread.h>"
-    ∷ codes "#include <stdio.h>"
     ∷ codes "#include <string.h>"
     ∷ codes "struct autolock_call { int section; int64_t a[8]; };"
-    ∷ codes "AL_INLINE void autolock_write_prints(FILE *f, const struct autolock_prints *out)"
-    ∷ codes "{"
-    ∷ codes "  int i;"
-    ∷ codes "  for (i = 0; i < out->count; i++) fprintf(f, \"print %\" PRId64 \"\\n\", out->value[i]);"
-    ∷ codes "}"
     ∷ [])

@@ -1,9 +1,11 @@
 pub mod Joined
 pub mod Fixed
+pub mod Recording
 pub mod Types
 pub mod Openings
 pub mod Pools
 pub mod Cells
+pub mod Histories
 pub mod Mains
 pub mod Files
 pub mod Working

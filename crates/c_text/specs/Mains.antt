@@ -1,7 +1,7 @@
 -- The program that runs the threads, which the C text has where AL_MAIN is defined. Run with the word `serial`, it
 -- makes the calls thread after thread and writes the history of them; else it makes those of each thread in a thread
--- of its own, and writes the cells.
-use Rattle.std.specs.Prelude.{ℕ, ◌==◌, Bool, not, List, [], ◌∷◌, ◌++◌, codes, string_bytes, Option, Some, None}
+-- of its own, and writes the cells; where AL_HISTORY is defined too, the history.
+use Rattle.std.specs.Prelude.{ℕ, Bool, List, [], ◌∷◌, ◌++◌, codes, string_bytes, Option, Some, None}
 use Rattle.std.specs.List.{flat_map}
 use Rattle.std.specs.Fmt.{decimal}
 use Rattle.core_lang.specs.declared.tree.Local.{Local}
@@ -18,7 +18,7 @@ use Rattle.c_text.specs.Joined.{joined}
 use Rattle.c_sections.specs.Acquires.{numbered}
 use Rattle.c_sections.specs.Instructions.{where_true}
 use Rattle.c_sections.specs.Names.{number_text}
-use Rattle.c_sections.specs.Sections.{parameters, result_struct}
+use Rattle.c_sections.specs.Sections.{parameters, result_struct, cast_text}
 use Rattle.c_text.specs.Pools.{state_pointer}
 
 -- ---- the threads' calls
@@ -64,10 +64,6 @@ scripts_text prefix threads =
 
 -- ---- a call, and its lines in the history
 
--- a comma is ahead of each argument but the first
-unfoldable pub comma_text : ℕ → List ℕ
-comma_text j = where_true (not (j == 0)) (codes "    fputs(\", \", f);\n")
-
 -- where the section prints
 unfoldable pub prints_declared : Bool → List ℕ
 prints_declared prints = where_true prints (codes "    struct autolock_prints out;\n")
@@ -76,7 +72,12 @@ unfoldable pub prints_passed : Bool → List ℕ
 prints_passed prints = where_true prints (codes ", &out")
 
 unfoldable pub prints_written : Bool → List ℕ
-prints_written prints = where_true prints (codes "    autolock_write_prints(f, &out);\n")
+prints_written prints = where_true prints (codes "    autolock_write_prints(f, out.count, out.value);\n")
+
+-- the result as a number
+abbrev pub result_word : Option ValueType → List ℕ
+result_word None = codes "0"
+result_word (Some t) = cast_text t ++ codes "r.value"
 
 module _ (prefix : List ℕ) (program : Typed) where
   -- an argument, by its number and its type
@@ -91,35 +92,6 @@ module _ (prefix : List ℕ) (program : Typed) where
   abbrev pub all_passed : List Local → List ℕ
   all_passed locals = numbered passed_next 0 locals
 
-  -- what writes an object of a struct
-  unfoldable pub writer_text : ℕ → List ℕ
-  writer_text s = (prefix ++ codes "Write_") ++ struct_name program s ++ codes "(f, s, "
-
-  -- what writes an argument
-  unfoldable pub written_reference : ℕ → ℕ → List ℕ
-  written_reference j s = codes "    " ++ writer_text s ++ passed_text j (Reference s) ++ codes ");\n"
-
-  unfoldable pub written_text : ℕ → ValueType → List ℕ
-  written_text j Integer = codes "    fprintf(f, \"%\" PRId64, a[" ++ decimal j ++ codes "]);\n"
-  written_text j (Reference s) = written_reference j s
-
-  abbrev pub written_next : ℕ → Local → List ℕ
-  written_next j local = comma_text j ++ written_text j local.value_type
-
-  abbrev pub all_written : List Local → List ℕ
-  all_written locals = numbered written_next 0 locals
-
-  -- how the call ended, where no trap cut it short
-  unfoldable pub reference_ending : ℕ → List ℕ
-  reference_ending s =
-      codes "    else {\n      fputs(\") returns \", f);\n      " ++ writer_text s
-      ++ codes "r.value);\n      fputs(\"\\n\", f);\n    }\n"
-
-  unfoldable pub ending_text : Option ValueType → List ℕ
-  ending_text None = codes "    else fputs(\") ends\\n\", f);\n"
-  ending_text (Some Integer) = codes "    else fprintf(f, \") returns %\" PRId64 \"\\n\", r.value);\n"
-  ending_text (Some (Reference s)) = reference_ending s
-
   -- the call of a section, which prints or not
   unfoldable pub made_text : Section → Bool → List ℕ
   made_text section prints =
@@ -128,12 +100,20 @@ module _ (prefix : List ℕ) (program : Typed) where
       ++ all_passed (parameters section)
       ++ prints_passed prints ++ codes ");\n"
 
-  -- what is written of it
+  -- an argument as a number, and the text to the next
+  unfoldable pub word_next : ℕ → Local → List ℕ
+  word_next j local = cast_text local.value_type ++ passed_text j local.value_type ++ codes ", "
+
+  abbrev pub all_words : List Local → List ℕ
+  all_words locals = numbered word_next 0 locals
+
+  -- what is written of it. There are at most 8 arguments
   unfoldable pub told_text : Section → Bool → List ℕ
   told_text section prints =
-      (codes "    fprintf(f, \"call %d %\" PRId64 \" " ++ string_bytes section.name ++ codes "(\", t, k);\n")
-      ++ all_written (parameters section) ++ codes "    if (r.trap != 0) fprintf(f, \") traps %d\\n\", r.trap);\n"
-      ++ ending_text section.result_type ++ prints_written prints
+      (codes "    fprintf(f, \"call %d %\" PRId64, t, k);\n    " ++ prefix
+      ++ codes "Tell(f, s, c->section, (const int64_t[9]) { ")
+      ++ all_words (parameters section) ++ codes "0 }, r.trap, " ++ result_word section.result_type ++ codes ");\n"
+      ++ prints_written prints
 
   unfoldable pub case_text : ℕ → Section → Bool → List ℕ
   case_text k section prints =
@@ -150,19 +130,19 @@ call_start prefix =
     ++ codes "  const int64_t *a = c->a;\n  (void)f;\n  (void)s;\n  (void)t;\n"
     ++ codes "  (void)k;\n  (void)a;\n  switch (c->section) {\n"
 
-unfoldable pub call_end : List ℕ
-call_end = codes "  default:\n    break;\n  }\n}\n"
-
 -- ---- the run
 
--- a thread: the calls of its script. A reader checks that it begins at the start of the script and stops at section
--- -1
+-- a thread: the calls of its script; with a history it has the script's number. A reader checks that it begins at the
+-- start of the script and stops at section -1
 unfoldable pub run_text : List ℕ → List ℕ
 run_text prefix =
-    joined (codes "static struct " ∷ prefix ∷ codes "State " ∷ prefix ∷ codes "Main;\nstatic void *" ∷ prefix
-    ∷ codes "Run(void *start)\n{\n  const struct autolock_call *c = *(const struct autolock_call **)start;\n"
-    ∷ codes "  for (; c->section >= 0; c++) "
-    ∷ prefix ∷ codes "Call(NULL, &" ∷ prefix ∷ codes "Main, 0, 0, c);\n  return NULL;\n}\n" ∷ [])
+    joined (codes "static struct " ∷ prefix ∷ codes "State " ∷ prefix
+    ∷ codes "Main;\nstatic const struct autolock_call *" ∷ prefix ∷ codes "Starts[64];\nstatic void *" ∷ prefix
+    ∷ codes "Run(void *start)\n{\n  const struct autolock_call **from = (const struct autolock_call **)start;\n" ∷ [])
+    ++ joined (codes "  const struct autolock_call *c;\n#ifdef AL_HISTORY\n  autolock_sit(" ∷ prefix
+    ∷ codes "Main.history, from - " ∷ prefix ∷ codes "Starts);\n#endif\n" ∷ [])
+    ++ joined (codes "  for (c = *from; c->section >= 0; c++) " ∷ prefix ∷ codes "Call(NULL, &" ∷ prefix
+    ∷ codes "Main, 0, 0, c);\n  return NULL;\n}\n" ∷ [])
 
 -- the calls of all scripts, thread after thread, each written with its thread and its number there
 unfoldable pub serial_text : List ℕ → List ℕ
@@ -176,21 +156,30 @@ serial_text prefix =
 -- the run: the state is opened first; by the word `serial` the calls are made here
 unfoldable pub start_text : List ℕ → List ℕ
 start_text prefix =
-    joined (codes "int main(int argc, char **argv)\n{\n  static const struct autolock_call *starts[64];\n"
-    ∷ codes "  static pthread_t threads[64];\n  int t;\n  "
+    joined (codes "int main(int argc, char **argv)\n{\n  static pthread_t threads[64];\n  int t;\n  "
     ∷ prefix ∷ codes "Open(&" ∷ prefix ∷ codes "Main);\n  if (argc > 1 && strcmp(argv[1], \"serial\") == 0) {\n    "
-    ∷ prefix ∷ codes "Serial(stdout);\n  } else {\n" ∷ [])
+    ∷ prefix ∷ codes "Serial(stdout);\n  } else {\n#ifdef AL_HISTORY\n    if (" ∷ prefix ∷ codes "HistoryOpen(&"
+    ∷ prefix ∷ codes "Main) != 0) return 4;\n#endif\n" ∷ [])
 
--- else a thread is started for each script, and all are joined. At the end the cells are written, and the state is
--- closed
+-- else a thread is started for each script, and all are joined
 unfoldable pub threads_text : List ℕ → List ℕ
 threads_text prefix =
-    joined (codes "    for (t = 0; " ∷ prefix ∷ codes "Scripts[t] != NULL; t++) {\n      starts[t] = " ∷ prefix
-    ∷ codes "Scripts[t];\n      if (pthread_create(&threads[t], NULL, " ∷ prefix
-    ∷ codes "Run, &starts[t]) != 0) return 4;\n    }\n    while (t > 0) pthread_join(threads[--t], NULL);\n  }\n"
-    ∷ [])
+    joined (codes "    for (t = 0; " ∷ prefix ∷ codes "Scripts[t] != NULL; t++) {\n      " ∷ prefix
+    ∷ codes "Starts[t] = " ∷ prefix ∷ codes "Scripts[t];\n      if (pthread_create(&threads[t], NULL, " ∷ prefix
+    ∷ codes "Run, &" ∷ prefix
+    ∷ codes "Starts[t]) != 0) return 4;\n    }\n    while (t > 0) pthread_join(threads[--t], NULL);\n" ∷ [])
+
+-- with a history it is written, and status 4 says that it is not whole; else the cells are written. At the end the state
+-- is closed
+unfoldable pub end_text : List ℕ → List ℕ
+end_text prefix =
+    joined (codes "#ifdef AL_HISTORY\n    t = " ∷ prefix ∷ codes "HistoryWrite(stdout, &" ∷ prefix
+    ∷ codes "Main);\n    " ∷ prefix ∷ codes "HistoryClose(&" ∷ prefix ∷ codes "Main);\n" ∷ [])
+    ++ joined (codes "    " ∷ prefix ∷ codes "Close(&" ∷ prefix
+    ∷ codes "Main);\n    return t == 0 ? 0 : 4;\n#endif\n  }\n" ∷ [])
     ++ joined (codes "  " ∷ prefix ∷ codes "Cells(stdout, &" ∷ prefix ∷ codes "Main);\n  " ∷ prefix ∷ codes "Close(&"
     ∷ prefix ∷ codes "Main);\n  return 0;\n}\n#endif\n" ∷ [])
 
 unfoldable pub run_all : List ℕ → List ℕ
-run_all prefix = run_text prefix ++ serial_text prefix ++ start_text prefix ++ threads_text prefix
+run_all prefix =
+    run_text prefix ++ serial_text prefix ++ start_text prefix ++ threads_text prefix ++ end_text prefix

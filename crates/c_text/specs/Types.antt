@@ -147,11 +147,19 @@ module _ (prefix : List ℕ) (program : Typed) where
   abbrev pub members_declared : List ℕ
   members_declared = flat_map member_declared program.shape.pools.items
 
+  -- those of a history
+  unfoldable pub histories_declared : List ℕ
+  histories_declared =
+      joined (codes "#ifdef AL_HISTORY\nint " ∷ prefix ∷ codes "HistoryOpen(struct " ∷ prefix ∷ codes "State *s);\n" ∷ [])
+      ++ joined (codes "int64_t " ∷ prefix ∷ codes "Seat(struct " ∷ prefix ∷ codes "State *s);\n" ∷ [])
+      ++ joined (codes "int " ∷ prefix ∷ codes "HistoryWrite(FILE *f, struct " ∷ prefix ∷ codes "State *s);\n" ∷ [])
+      ++ joined (codes "void " ∷ prefix ∷ codes "HistoryClose(struct " ∷ prefix ∷ codes "State *s);\n#endif\n" ∷ [])
+
   abbrev pub functions_text : List ℕ
   functions_text =
       joined (codes "void " ∷ prefix ∷ codes "Open(struct " ∷ prefix ∷ codes "State *s);\n" ∷ [])
       ++ joined (codes "void " ∷ prefix ∷ codes "Close(struct " ∷ prefix ∷ codes "State *s);\n" ∷ [])
-      ++ (codes "size_t " ++ prefix ++ codes "Size(void);\n") ++ members_declared
+      ++ (codes "size_t " ++ prefix ++ codes "Size(void);\n") ++ histories_declared ++ members_declared
 
   -- all types, and these functions
   unfoldable pub types_text : List ℕ

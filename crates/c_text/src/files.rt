@@ -4,7 +4,7 @@ ghost use Rattle.std.specs.Prelude.{◌≡◌, ◌<◌, OnOk, IfOk, Some, None, 
 ghost use Rattle.locks.specs.Texts.{AddsText};
 ghost use Rattle.c_text.specs.Fixed as fixed;
 ghost use Rattle.c_text.specs.Files as text;
-ghost use Rattle.c_text.specs.Cells as cells;
+ghost use Rattle.c_text.specs.Histories as histories;
 ghost use Rattle.c_text.specs.Mains as mains;
 ghost use Rattle.c_text.specs.Openings as openings;
 ghost use Rattle.c_text.specs.Pools as pools;
@@ -15,7 +15,8 @@ use crate::fixed::{
     push_arithmetic, push_closed, push_locking, push_opened, push_runs,
     push_types as push_fixed_types,
 };
-use crate::mains::push_call_end;
+use crate::histories::push_cases_end;
+use crate::recording::push_recorder;
 use crate::writer::FileWriter;
 use c_sections::marks::Marks;
 use c_sections::names::Writer;
@@ -258,12 +259,28 @@ impl<'a> FileText<'a> {
         self.writer().push_openings(out)
     }
 
-    // What finds and writes objects.
-    fn push_objects(&self, out: &mut String) -> Result<(), AllocError>
+    // The numbers of the sections.
+    fn push_numbers(&self, out: &mut String) -> Result<(), AllocError>
         ensures { OnOk result (AddsText
-            (pools.objects_text self.now.prefix.now self.now.program.now.program) out.old out.new) }
+            (histories.numbers_text self.now.prefix.now self.now.program.now.program.sections.items)
+            out.old out.new) }
     {
-        self.writer().push_objects(out)
+        self.writer().push_numbers_of_sections(out)
+    }
+
+    // What writes calls and cells.
+    fn push_shown(&self, out: &mut String) -> Result<(), AllocError>
+        ensures { OnOk result (AddsText
+            (histories.shown_text self.now.prefix.now self.now.program.now.program) out.old out.new) }
+    {
+        self.writer().push_shown(out)
+    }
+
+    // What a caller asks the recorder for.
+    fn push_histories(&self, out: &mut String) -> Result<(), AllocError>
+        ensures { OnOk result (AddsText (histories.histories_text self.now.prefix.now) out.old out.new) }
+    {
+        self.writer().push_histories(out)
     }
 
     // The calls of all threads.
@@ -279,14 +296,6 @@ impl<'a> FileText<'a> {
         ensures { OnOk result (AddsText (mains.call_start self.now.prefix.now) out.old out.new) }
     {
         self.writer().push_call_start(out)
-    }
-
-    // What writes the cells.
-    fn push_cells(&self, out: &mut String) -> Result<(), AllocError>
-        ensures { OnOk result (AddsText
-            (cells.cells_text self.now.prefix.now self.now.program.now.program) out.old out.new) }
-    {
-        self.writer().push_cells(out)
     }
 
     // The run.
@@ -320,8 +329,10 @@ impl<'a> FileText<'a> {
     {
         push_arithmetic(out)?;
         push_locking(out)?;
+        push_recorder(out)?;
         self.push_pointer_tests(out)?;
         self.push_openings(out)?;
+        self.push_numbers(out)?;
         self.push_sections(alloc, out)
     }
 
@@ -333,12 +344,10 @@ impl<'a> FileText<'a> {
             out.old out.new) }
     {
         push_runs(out)?;
-        self.push_objects(out)?;
         self.push_scripts(out)?;
         self.push_call_start(out)?;
         self.push_cases(out)?;
-        push_call_end(out)?;
-        self.push_cells(out)?;
+        push_cases_end(out)?;
         self.push_run(out)
     }
 }
@@ -363,8 +372,8 @@ pub fn header<'a>(alloc: Global, program: &'a Program, prefix: &'a str) -> Resul
     Ok(out)
 }
 
-/// The C file of a program, which begins with the header: all functions, and a program that runs the threads, which is
-/// there where AL_MAIN is defined. With the program's file, the C of each statement is told to be of the statement's line.
+/// The C file of a program, which begins with the header: all functions; where AL_HISTORY is defined, what keeps a history
+/// of the calls; where AL_MAIN is defined, a program that runs the threads. With the program's file, the C of each statement is told to be of the statement's line.
 ///
 /// # Errors
 ///
@@ -387,6 +396,8 @@ pub fn file<'a>(
     };
     file.push_header(&mut out)?;
     file.push_functions(alloc, &mut out)?;
+    file.push_shown(&mut out)?;
+    file.push_histories(&mut out)?;
     file.push_main(&mut out)?;
     Ok(out)
 }

@@ -14,6 +14,9 @@ pub fn push_types(out: &mut String) -> Result<(), AllocError>
     out.push_str(
         r#"#include <stddef.h>
 #include <stdint.h>
+#ifdef AL_HISTORY
+#include <stdio.h>
+#endif
 #ifndef AL_MUTEX                /* the kind of lock: replace all five together */
 #include <pthread.h>
 #define AL_MUTEX pthread_mutex_t
@@ -159,7 +162,6 @@ AL_INLINE void autolock_lock(AL_MUTEX **m, int k)
   int i;
   for (i = 0; i < k; i++) if (m[i] != NULL) AL_LOCK(m[i]);
 }
-#endif
 "#,
     )
 }
@@ -171,16 +173,9 @@ pub fn push_runs(out: &mut String) -> Result<(), AllocError>
 {
     out.push_str(
         r#"#ifdef AL_MAIN
-#include <inttypes.h>
 #include <pthread.h>
-#include <stdio.h>
 #include <string.h>
 struct autolock_call { int section; int64_t a[8]; };
-AL_INLINE void autolock_write_prints(FILE *f, const struct autolock_prints *out)
-{
-  int i;
-  for (i = 0; i < out->count; i++) fprintf(f, "print %" PRId64 "\n", out->value[i]);
-}
 "#,
     )
 }

@@ -5,8 +5,10 @@ ghost use Rattle.locks.specs.Texts.{AddsText};
 ghost use Rattle.c_text.specs.Mains as text;
 ghost use Rattle.c_sections.specs.Sections as sections;
 
+use crate::histories::parameters;
 use crate::writer::FileWriter;
 use c_sections::names::{push_number, push_struct};
+use c_sections::sections::push_cast;
 use core_lang::tree::{Local, Section};
 use core_lang::typed::{Call, Thread};
 use core_lang::value::{Value, ValueType};
@@ -64,17 +66,6 @@ fn push_calls(out: &mut String, thread: &Thread) -> Result<(), AllocError>
     Ok(())
 }
 
-/// A comma, ahead of each argument but the first.
-#[tactic(auto, unfolding(crate::specs::Mains::comma_text))]
-fn push_comma(out: &mut String, number: usize) -> Result<(), AllocError>
-    ensures { OnOk result (AddsText (text.comma_text number) out.old out.new) }
-{
-    if number == 0 {
-        return Ok(());
-    }
-    out.push_str("    fputs(\", \", f);\n")
-}
-
 /// What the section prints goes here, if it prints.
 #[tactic(auto, unfolding(crate::specs::Mains::prints_declared))]
 fn push_prints_declared(out: &mut String, prints: bool) -> Result<(), AllocError>
@@ -103,25 +94,20 @@ fn push_prints_written(out: &mut String, prints: bool) -> Result<(), AllocError>
     ensures { OnOk result (AddsText (text.prints_written prints) out.old out.new) }
 {
     if prints {
-        return out.push_str("    autolock_write_prints(f, &out);\n");
+        return out.push_str("    autolock_write_prints(f, out.count, out.value);\n");
     }
     Ok(())
 }
 
-/// The parameters of a section.
-fn parameters(section: &Section) -> &[Local]
-    ensures { result.now ≡ sections.parameters section.now }
+/// The result as a number.
+fn push_result_word(out: &mut String, result_type: Option<ValueType>) -> Result<(), AllocError>
+    ensures { OnOk result (AddsText (text.result_word result_type) out.old out.new) }
 {
-    let locals = section.locals.as_slice();
-    &locals[..section.parameters.min(locals.len())]
-}
-
-/// The end of the function that makes a call.
-#[tactic(auto, unfolding(crate::specs::Mains::call_end))]
-pub fn push_call_end(out: &mut String) -> Result<(), AllocError>
-    ensures { OnOk result (AddsText text.call_end out.old out.new) }
-{
-    out.push_str("  default:\n    break;\n  }\n}\n")
+    match result_type {
+        None => out.push_str("0"),
+        Some(ValueType::Integer) => out.push_str("r.value"),
+        Some(ValueType::Reference(_)) => out.push_str("(int64_t)(uintptr_t)r.value"),
+    }
 }
 
 impl FileWriter<'_> {
@@ -252,115 +238,6 @@ impl FileWriter<'_> {
         self.push_each_passed(out, parameters(section))
     }
 
-    // The word that writes an object of a struct.
-    fn push_writer(&self, out: &mut String, structure: usize) -> Result<(), AllocError>
-        ensures { OnOk result (AddsText
-            (text.writer_text self.now.names.prefix.now self.now.names.program.now structure) out.old out.new) }
-    {
-        write!(out, "{}Write_", self.names.prefix)?;
-        push_struct(out, self.names.program, structure)?;
-        out.push_str("(f, s, ")
-    }
-
-    // What writes an argument that is a reference.
-    fn push_written_reference(
-        &self,
-        out: &mut String,
-        number: usize,
-        structure: usize,
-    ) -> Result<(), AllocError>
-        ensures { OnOk result (AddsText
-            (text.written_reference self.now.names.prefix.now self.now.names.program.now number structure)
-            out.old out.new) }
-    {
-        out.push_str("    ")?;
-        self.push_writer(out, structure)?;
-        self.push_passed(out, number, ValueType::Reference(structure))?;
-        out.push_str(");\n")
-    }
-
-    // What writes an argument.
-    #[tactic(auto, unfolding(crate::specs::Mains::written_text))]
-    fn push_written(
-        &self,
-        out: &mut String,
-        number: usize,
-        value_type: ValueType,
-    ) -> Result<(), AllocError>
-        ensures { OnOk result (AddsText
-            (text.written_text self.now.names.prefix.now self.now.names.program.now number value_type)
-            out.old out.new) }
-    {
-        match value_type {
-            ValueType::Integer => write!(out, "    fprintf(f, \"%\" PRId64, a[{number}]);\n"),
-            ValueType::Reference(structure) => self.push_written_reference(out, number, structure),
-        }
-    }
-
-    // The same, behind a comma.
-    fn push_written_next(
-        &self,
-        out: &mut String,
-        number: usize,
-        local: &Local,
-    ) -> Result<(), AllocError>
-        ensures { OnOk result (AddsText
-            (text.written_next self.now.names.prefix.now self.now.names.program.now number local.now)
-            out.old out.new) }
-    {
-        push_comma(out, number)?;
-        self.push_written(out, number, local.value_type)
-    }
-
-    // What writes those.
-    fn push_each_written(&self, out: &mut String, locals: &[Local]) -> Result<(), AllocError>
-        ensures { OnOk result (AddsText
-            (text.all_written self.now.names.prefix.now self.now.names.program.now locals.now) out.old out.new) }
-    {
-        for (number, local) in locals.iter().enumerate() {
-            self.push_written_next(out, number, local)?;
-        }
-        Ok(())
-    }
-
-    // What writes all arguments of a section.
-    fn push_all_written(&self, out: &mut String, section: &Section) -> Result<(), AllocError>
-        ensures { OnOk result (AddsText
-            (text.all_written self.now.names.prefix.now self.now.names.program.now (sections.parameters section.now))
-            out.old out.new) }
-    {
-        self.push_each_written(out, parameters(section))
-    }
-
-    // How a call with a reference as its result ended.
-    fn push_reference_ending(&self, out: &mut String, structure: usize) -> Result<(), AllocError>
-        ensures { OnOk result (AddsText
-            (text.reference_ending self.now.names.prefix.now self.now.names.program.now structure) out.old out.new) }
-    {
-        out.push_str("    else {\n      fputs(\") returns \", f);\n      ")?;
-        self.push_writer(out, structure)?;
-        out.push_str("r.value);\n      fputs(\"\\n\", f);\n    }\n")
-    }
-
-    // How a call ended, where no trap cut it short.
-    #[tactic(auto, unfolding(crate::specs::Mains::ending_text))]
-    fn push_ending(
-        &self,
-        out: &mut String,
-        result_type: Option<ValueType>,
-    ) -> Result<(), AllocError>
-        ensures { OnOk result (AddsText
-            (text.ending_text self.now.names.prefix.now self.now.names.program.now result_type) out.old out.new) }
-    {
-        match result_type {
-            None => out.push_str("    else fputs(\") ends\\n\", f);\n"),
-            Some(ValueType::Integer) => {
-                out.push_str("    else fprintf(f, \") returns %\" PRId64 \"\\n\", r.value);\n")
-            }
-            Some(ValueType::Reference(structure)) => self.push_reference_ending(out, structure),
-        }
-    }
-
     // The struct of what a section gives back.
     fn push_result_struct(
         &self,
@@ -396,6 +273,42 @@ impl FileWriter<'_> {
         out.push_str(");\n")
     }
 
+    // An argument as a number.
+    fn push_word_next(
+        &self,
+        out: &mut String,
+        number: usize,
+        local: &Local,
+    ) -> Result<(), AllocError>
+        ensures { OnOk result (AddsText
+            (text.word_next self.now.names.prefix.now self.now.names.program.now number local.now)
+            out.old out.new) }
+    {
+        push_cast(out, local.value_type)?;
+        self.push_passed(out, number, local.value_type)?;
+        out.push_str(", ")
+    }
+
+    // The arguments of these parameters as numbers.
+    fn push_each_word(&self, out: &mut String, locals: &[Local]) -> Result<(), AllocError>
+        ensures { OnOk result (AddsText
+            (text.all_words self.now.names.prefix.now self.now.names.program.now locals.now) out.old out.new) }
+    {
+        for (number, local) in locals.iter().enumerate() {
+            self.push_word_next(out, number, local)?;
+        }
+        Ok(())
+    }
+
+    // All arguments of a section as numbers.
+    fn push_all_words(&self, out: &mut String, section: &Section) -> Result<(), AllocError>
+        ensures { OnOk result (AddsText
+            (text.all_words self.now.names.prefix.now self.now.names.program.now (sections.parameters section.now))
+            out.old out.new) }
+    {
+        self.push_each_word(out, parameters(section))
+    }
+
     // What is written of it.
     fn push_told(&self, out: &mut String, section: &Section, prints: bool) -> Result<(), AllocError>
         ensures { OnOk result (AddsText
@@ -404,12 +317,13 @@ impl FileWriter<'_> {
     {
         write!(
             out,
-            "    fprintf(f, \"call %d %\" PRId64 \" {}(\", t, k);\n",
-            section.name
+            "    fprintf(f, \"call %d %\" PRId64, t, k);\n    {}Tell(f, s, c->section, (const int64_t[9]) {{ ",
+            self.names.prefix
         )?;
-        self.push_all_written(out, section)?;
-        out.push_str("    if (r.trap != 0) fprintf(f, \") traps %d\\n\", r.trap);\n")?;
-        self.push_ending(out, section.result_type)?;
+        self.push_all_words(out, section)?;
+        out.push_str("0 }, r.trap, ")?;
+        push_result_word(out, section.result_type)?;
+        out.push_str(");\n")?;
         push_prints_written(out, prints)
     }
 
@@ -451,10 +365,23 @@ impl FileWriter<'_> {
         write!(
             out,
             "static struct {prefix}State {prefix}Main;
+static const struct autolock_call *{prefix}Starts[64];
 static void *{prefix}Run(void *start)
 {{
-  const struct autolock_call *c = *(const struct autolock_call **)start;
-  for (; c->section >= 0; c++) {prefix}Call(NULL, &{prefix}Main, 0, 0, c);
+  const struct autolock_call **from = (const struct autolock_call **)start;
+"
+        )?;
+        write!(
+            out,
+            "  const struct autolock_call *c;
+#ifdef AL_HISTORY
+  autolock_sit({prefix}Main.history, from - {prefix}Starts);
+#endif
+"
+        )?;
+        write!(
+            out,
+            "  for (c = *from; c->section >= 0; c++) {prefix}Call(NULL, &{prefix}Main, 0, 0, c);
   return NULL;
 }}
 "
@@ -494,18 +421,20 @@ static void *{prefix}Run(void *start)
             out,
             "int main(int argc, char **argv)
 {{
-  static const struct autolock_call *starts[64];
   static pthread_t threads[64];
   int t;
   {prefix}Open(&{prefix}Main);
   if (argc > 1 && strcmp(argv[1], \"serial\") == 0) {{
     {prefix}Serial(stdout);
   }} else {{
+#ifdef AL_HISTORY
+    if ({prefix}HistoryOpen(&{prefix}Main) != 0) return 4;
+#endif
 "
         )
     }
 
-    // The threads, and the end of the run.
+    // The threads.
     fn push_threads(&self, out: &mut String) -> Result<(), AllocError>
         ensures { OnOk result (AddsText (text.threads_text self.now.names.prefix.now) out.old out.new) }
     {
@@ -513,10 +442,31 @@ static void *{prefix}Run(void *start)
         write!(
             out,
             "    for (t = 0; {prefix}Scripts[t] != NULL; t++) {{
-      starts[t] = {prefix}Scripts[t];
-      if (pthread_create(&threads[t], NULL, {prefix}Run, &starts[t]) != 0) return 4;
+      {prefix}Starts[t] = {prefix}Scripts[t];
+      if (pthread_create(&threads[t], NULL, {prefix}Run, &{prefix}Starts[t]) != 0) return 4;
     }}
     while (t > 0) pthread_join(threads[--t], NULL);
+"
+        )
+    }
+
+    // The end of the run.
+    fn push_end(&self, out: &mut String) -> Result<(), AllocError>
+        ensures { OnOk result (AddsText (text.end_text self.now.names.prefix.now) out.old out.new) }
+    {
+        let prefix = self.names.prefix;
+        write!(
+            out,
+            "#ifdef AL_HISTORY
+    t = {prefix}HistoryWrite(stdout, &{prefix}Main);
+    {prefix}HistoryClose(&{prefix}Main);
+"
+        )?;
+        write!(
+            out,
+            "    {prefix}Close(&{prefix}Main);
+    return t == 0 ? 0 : 4;
+#endif
   }}
 "
         )?;
@@ -539,6 +489,7 @@ static void *{prefix}Run(void *start)
         self.push_run(out)?;
         self.push_serial(out)?;
         self.push_start(out)?;
-        self.push_threads(out)
+        self.push_threads(out)?;
+        self.push_end(out)
     }
 }

@@ -333,6 +333,27 @@ impl FileWriter<'_> {
         Ok(())
     }
 
+    // The functions of a history.
+    fn push_histories_declared(&self, out: &mut String) -> Result<(), AllocError>
+        ensures { OnOk result (AddsText
+            (text.histories_declared self.now.names.prefix.now self.now.names.program.now) out.old out.new) }
+    {
+        let prefix = self.names.prefix;
+        write!(
+            out,
+            "#ifdef AL_HISTORY\nint {prefix}HistoryOpen(struct {prefix}State *s);\n"
+        )?;
+        write!(out, "int64_t {prefix}Seat(struct {prefix}State *s);\n")?;
+        write!(
+            out,
+            "int {prefix}HistoryWrite(FILE *f, struct {prefix}State *s);\n"
+        )?;
+        write!(
+            out,
+            "void {prefix}HistoryClose(struct {prefix}State *s);\n#endif\n"
+        )
+    }
+
     // What the file offers beside the sections.
     fn push_functions(&self, out: &mut String) -> Result<(), AllocError>
         ensures { OnOk result (AddsText
@@ -342,6 +363,7 @@ impl FileWriter<'_> {
         write!(out, "void {prefix}Open(struct {prefix}State *s);\n")?;
         write!(out, "void {prefix}Close(struct {prefix}State *s);\n")?;
         write!(out, "size_t {prefix}Size(void);\n")?;
+        self.push_histories_declared(out)?;
         self.push_members_declared(out)
     }
 

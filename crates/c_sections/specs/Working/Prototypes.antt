@@ -66,6 +66,12 @@ check_line_of x k local = text.check_line x.prefix.now x.program.now k local
 abbrev pub checks_of : Writer → Section → List ℕ
 checks_of x section = text.checks x.prefix.now x.program.now section
 
+abbrev pub section_name_of : Writer → Section → List ℕ
+section_name_of x section = text.section_name x.prefix.now section
+
+abbrev pub begun_of : Writer → Section → Bool → List ℕ
+begun_of x section prints = text.begun_text x.prefix.now section prints
+
 abbrev pub front_of : Writer → Listed → List ℕ
 front_of x listed =
     text.front_text x.prefix.now x.program.now listed.section.now (code_of listed) (length listed.paths.now)

@@ -7,4 +7,5 @@ returns c =
     let old = string_bytes c.args.out.now in
     let t2 = both old _ _ _ _ c.in_ok-write.ensures.bytes c.in_ok-write-2.ensures.bytes in
     let t3 = both old _ _ _ _ t2 c.in_ok-write-3.ensures.bytes in
-    after _ old _ _ _ _ t3 c.push_members_declared.ensures
+    let t4 = both old _ _ _ _ t3 c.in_ok-push_histories_declared.ensures in
+    after _ old _ _ _ _ t4 c.push_members_declared.ensures

@@ -1,7 +1,7 @@
 use Rattle.locks.specs.Theory.Written.{piece_added}
 use Rattle.std.specs.Prelude.{codes, string_bytes}
 use Rattle.c_text.proofs.Steps.{after, both}
-use Rattle.c_text.specs.Mains.{reference_ending}
+use Rattle.c_text.specs.Histories.{reference_ending}
 use Rattle.c_text.proofs.writer.FileWriter.push_reference_ending.Goals as goal
 
 pub returns : goal.returns
@@ -9,5 +9,5 @@ unfolding reference_ending
 returns c =
     let old = string_bytes c.args.out.now in
     let t2 = both old _ _ _ _ c.in_ok-push_str.ensures.bytes c.in_ok-push_writer.ensures in
-    let last = piece_added c.push_str-2.result _ (string_bytes c.push_writer.new.out) (codes "r.value);\n      fputs(\"\\n\", f);\n    }\n") c.push_str-2.ensures.bytes in
+    let last = piece_added c.push_str-2.result _ (string_bytes c.push_writer.new.out) (codes "value);\n      fputs(\"\\n\", f);\n    }\n") c.push_str-2.ensures.bytes in
     after _ old _ _ _ _ t2 last

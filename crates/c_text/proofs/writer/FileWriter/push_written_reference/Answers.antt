@@ -1,7 +1,6 @@
-use Rattle.locks.specs.Theory.Written.{piece_added}
-use Rattle.std.specs.Prelude.{codes, string_bytes}
+use Rattle.std.specs.Prelude.{string_bytes}
 use Rattle.c_text.proofs.Steps.{after, both}
-use Rattle.c_text.specs.Mains.{written_reference}
+use Rattle.c_text.specs.Histories.{written_reference}
 use Rattle.c_text.proofs.writer.FileWriter.push_written_reference.Goals as goal
 
 pub returns : goal.returns
@@ -9,6 +8,4 @@ unfolding written_reference
 returns c =
     let old = string_bytes c.args.out.now in
     let t2 = both old _ _ _ _ c.in_ok-push_str.ensures.bytes c.in_ok-push_writer.ensures in
-    let t3 = both old _ _ _ _ t2 c.in_ok-push_passed.ensures in
-    let last = piece_added c.push_str-2.result _ (string_bytes c.push_passed.new.out) (codes ");\n") c.push_str-2.ensures.bytes in
-    after _ old _ _ _ _ t3 last
+    after _ old _ _ _ _ t2 c.write.ensures.bytes
