@@ -260,6 +260,7 @@ judge_flag() {
     [ -z "${!1}" ] || refuse "the argument '--$1' cannot be used multiple times" "$(usage_of "$command")"
     printf -v "$1" 1
     used=$(used_with "--$1")
+    settled=$used
 }
 
 # The value of `--prefix`. Whether it is one is judged behind all words.
@@ -315,8 +316,9 @@ judge_long() {
             ;;
         *)
             is_flag "$name" || refuse_long "$name" "$@"
+            used=$settled
             refuse "unexpected value '${word#*=}' for '--$name' found; no more were expected" \
-                "$(usage_of "$command" "--$name")"
+                "$(usage_of "$command" "$(used_with "--$name")")"
             ;;
     esac
 }

@@ -59,6 +59,7 @@ try tests/failing.py --program "$program" --commands run --every 7 \
     "$room"/{lost_update,transfer,null_reference,countdown,shared_owner}.al
 try tests/fans.py "$program"
 try tests/emit.py "$program"
+try tests/pictures.py "$program"
 try tests/tutorial.py "$program"
 try tests/pages.py "$program"
 for script in believed promises editors; do

@@ -53,7 +53,7 @@ for source in *.al; do
         [ ! -e "$name.trace" ] || judge trace "$name" 0 "$name.trace" /dev/null "$name.steps"
     fi
 done
-if "$top/tools/msc.py" lost_update.trace 2>&1 | cmp -s - "$top/docs/trace.svg"; then
+if "$top/tools/msc.py" lost_update.trace lost_update.al 2>&1 | cmp -s - "$top/docs/trace.svg"; then
     echo "ok the picture of lost_update"
 else
     echo "FAILED the picture of lost_update: docs/trace.svg is not what tools/msc.py draws of lost_update.trace"
