@@ -44,6 +44,7 @@ TOP = pathlib.Path(__file__).resolve().parent.parent
 STRICT = ["-std=c11", "-Wall", "-Wextra", "-Werror", "-pedantic"]
 MAIN = ["-DAL_MAIN", "-pthread"]
 SECONDS = 10
+PROCESSORS = len(os.sched_getaffinity(0))
 WAYS = {
     "gcc-O0": ["gcc", "-O0", *STRICT, *MAIN],
     "gcc-O2": ["gcc", "-O2", *STRICT, *MAIN],
@@ -158,7 +159,8 @@ class Emitted:
             raise Differs(f"{way}: replay says the same of a changed result\n{changed.decode()}")
 
     def overlaps(self, name="program"):
-        """Many calls began before the one ahead of them ended; where a call notes the length at its end, some at most do."""
+        """Many calls began before the one ahead of them ended, where there are processors for that; where a call notes the
+        length at its end, some at most do."""
         program = self.compiled("history", name)
         for _ in range(20):
             calls = CALL.findall(run([program])[1])
@@ -359,12 +361,13 @@ def tested_tests(binary):
         emitted = Emitted(binary, folder, CONTENDED)
         if not emitted.accepted():
             return 0, ["the contended program is refused"]
-        for old, new, name, way in CHANGES:
+        changes = [change for change in CHANGES if PROCESSORS > 1 or change[3] != "overlaps"]
+        for old, new, name, way in changes:
             text, count = re.subn(old, new, emitted.emitted[1].decode())
             emitted.write("changed.c", text.encode())
             if count == 0 or not is_found(emitted, way):
                 missed.append(f"change {name}: {'made nowhere' if count == 0 else 'not found'}")
-    return len(CHANGES) - len(missed), missed
+    return len(changes) - len(missed), missed
 
 
 # A caller with more threads than `replay` takes, with a bad argument, and with two states in turn.
@@ -434,7 +437,8 @@ def recorded(binary):
     wrong = []
     with tempfile.TemporaryDirectory() as folder:
         emitted = Emitted(binary, folder, CONTENDED)
-        tests = [emitted.accepted, emitted.overlaps, emitted.refused, emitted.history, lambda: owned(emitted)]
+        tests = [emitted.accepted, emitted.refused, emitted.history, lambda: owned(emitted)]
+        tests += [emitted.overlaps] * (PROCESSORS > 1)
         for test in tests:
             try:
                 test()

@@ -169,8 +169,8 @@ threads_text prefix =
     ∷ codes "Run, &" ∷ prefix
     ∷ codes "Starts[t]) != 0) return 4;\n    }\n    while (t > 0) pthread_join(threads[--t], NULL);\n" ∷ [])
 
--- with a history it is written, and status 4 says that it is not whole; else the cells are written. At the end the state
--- is closed
+-- with a history it is written, and status 4 says that it is not whole; else the cells are written. At the end the
+-- state is closed
 unfoldable pub end_text : List ℕ → List ℕ
 end_text prefix =
     joined (codes "#ifdef AL_HISTORY\n    t = " ∷ prefix ∷ codes "HistoryWrite(stdout, &" ∷ prefix

@@ -150,7 +150,8 @@ module _ (prefix : List ℕ) (program : Typed) where
   -- those of a history
   unfoldable pub histories_declared : List ℕ
   histories_declared =
-      joined (codes "#ifdef AL_HISTORY\nint " ∷ prefix ∷ codes "HistoryOpen(struct " ∷ prefix ∷ codes "State *s);\n" ∷ [])
+      joined (codes "#ifdef AL_HISTORY\nint " ∷ prefix ∷ codes "HistoryOpen(struct " ∷ prefix
+      ∷ codes "State *s);\n" ∷ [])
       ++ joined (codes "int64_t " ∷ prefix ∷ codes "Seat(struct " ∷ prefix ∷ codes "State *s);\n" ∷ [])
       ++ joined (codes "int " ∷ prefix ∷ codes "HistoryWrite(FILE *f, struct " ∷ prefix ∷ codes "State *s);\n" ∷ [])
       ++ joined (codes "void " ∷ prefix ∷ codes "HistoryClose(struct " ∷ prefix ∷ codes "State *s);\n#endif\n" ∷ [])

@@ -372,8 +372,9 @@ pub fn header<'a>(alloc: Global, program: &'a Program, prefix: &'a str) -> Resul
     Ok(out)
 }
 
-/// The C file of a program, which begins with the header: all functions; where AL_HISTORY is defined, what keeps a history
-/// of the calls; where AL_MAIN is defined, a program that runs the threads. With the program's file, the C of each statement is told to be of the statement's line.
+/// The C file of a program, which begins with the header: all functions; where AL_HISTORY is defined, what keeps a
+/// history of the calls; where AL_MAIN is defined, a program that runs the threads. With the program's file, the C of
+/// each statement is told to be of the statement's line.
 ///
 /// # Errors
 ///
