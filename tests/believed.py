@@ -42,7 +42,7 @@ THREADS = {
     "crates/workers/src/closed.rt": None,
     "crates/workers/src/seat.rt": ["keeps_its_rules"],
 }
-USE = re.compile(r"^(?:ghost |pub )*use Rattle\.([\w.]+?)(?:\.\{(.*?)\}| as (\S+))?;?$", re.M | re.S)
+USE = re.compile(r"^(?:ghost |pub )*use Rattle\.([\w.]+?)(?:\.\{(.*?)\}| as ([^\s;]+))?;?$", re.M | re.S)
 WORD = re.compile(r"[^\s(){},;]+")
 NOT_NAMES = {"use", "module", "let", "in", "where", "|", "--", "→", "×", "λ", "if", "else", "then", "}", ")", "]", "unfolding"}
 
