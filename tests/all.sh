@@ -61,6 +61,7 @@ try tests/fans.py "$program"
 try tests/emit.py "$program"
 try tests/pictures.py "$program"
 try tests/tutorial.py "$program"
+try tests/stress.py "$program"
 try tests/pages.py "$program"
 for script in believed promises editors; do
     try "tests/$script.py"
