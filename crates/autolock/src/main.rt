@@ -7,6 +7,8 @@
 //! it had left; `--help` and `--version` exit with 0.
 #![tactic(auto)]
 
+mod watch;
+
 ghost use Rattle.std.specs.Prelude.{◌≡◌, ◌≢◌, ◌⊎◌, false, IfOk, map, string_bytes};
 ghost use Rattle.autolock.specs.Asked.{files_of, NamesOneOf, IsAsked};
 ghost use Rattle.clap.specs.Values.{kind_of};
@@ -18,11 +20,12 @@ use driver::{Sink, SourceText, Status, Streams, serve, serve_beside};
 use driver_words::{Line, Request, words};
 use std::alloc::{AllocError, Global};
 use std::fs::File;
-use std::io::{Read, Write};
+use std::io::{IsTerminal, Read, Write};
 use std::process::ExitCode;
 use std::sync::Wait;
-use std::thread::Threads;
+use std::thread::{Threads, join};
 use std::{env, fs, io};
+use watch::Work;
 
 /// The file of this name, which can be read where it can be opened.
 fn source_text<'a>(rt: &HostRuntime, file: &'a str) -> SourceText<'a, File>
@@ -140,10 +143,28 @@ fn run_words<R: Threads + Wait + Sync, O: Write, E: Write>(
     }
 }
 
-fn main(rt: HostRuntime) -> ExitCode {
+/// Does what the words ask for, over the streams of the process. Answers the status.
+fn work<R: Threads + Wait + Sync>(rt: &HostRuntime, threads: &R) -> u8 {
     let mut streams = Streams {
         out: Sink::new(rt.stdout()),
         err: Sink::new(rt.stderr()),
     };
-    ExitCode::from(run_words(&rt, &rt, &mut streams).code())
+    run_words(rt, threads, &mut streams).code()
+}
+
+fn main(rt: HostRuntime) -> ExitCode {
+    if !rt.stderr().is_terminal() {
+        return ExitCode::from(work(&rt, &rt));
+    }
+    let going_on = Work::new();
+    let (code, _) = join(
+        &rt,
+        || -> u8 {
+            let code = work(&rt, &rt);
+            going_on.end();
+            code
+        },
+        || going_on.watch(&rt, &mut rt.stderr()),
+    );
+    ExitCode::from(code)
 }
