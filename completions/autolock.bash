@@ -21,7 +21,7 @@ _autolock() {
             esac
         else
             case ${COMP_WORDS[i]} in
-                --turns | --count | --seed | --prefix) i=$((i + 1)) ;;
+                --turns | --count | --seed | --prefix | --cells) i=$((i + 1)) ;;
                 -*) ;;
                 *) at=$((at + 1)) ;;
             esac
@@ -33,7 +33,7 @@ _autolock() {
         /*) mapfile -t COMPREPLY < <(compgen -W "$commands" -- "$word") ;;
         help/*) mapfile -t COMPREPLY < <(compgen -W "$commands" -- "$word") ;;
         serial/-*) mapfile -t COMPREPLY < <(compgen -W "--turns -h --help" -- "$word") ;;
-        outcomes/-*) mapfile -t COMPREPLY < <(compgen -W "--count --seed --turns -h --help" -- "$word") ;;
+        outcomes/-*) mapfile -t COMPREPLY < <(compgen -W "--count --seed --turns --cells --answers --full -h --help" -- "$word") ;;
         replay/-*) mapfile -t COMPREPLY < <(compgen -W "--turns --why --open -h --help" -- "$word") ;;
         trace/-*) mapfile -t COMPREPLY < <(compgen -W "--sections -h --help" -- "$word") ;;
         explain/-*) mapfile -t COMPREPLY < <(compgen -W "--json -h --help" -- "$word") ;;
@@ -45,7 +45,7 @@ _autolock() {
             if [ "$before" = --turns ]; then :; elif [ $at -gt 0 ]; then _autolock_files "$word" ''; else _autolock_files "$word" .al; fi
             ;;
         check/* | explain/* | order/* | listing/* | emit/* | serial/* | outcomes/* | run/*)
-            case $before in --turns | --count | --seed | --prefix) ;; *) _autolock_files "$word" .al ;; esac
+            case $before in --turns | --count | --seed | --prefix | --cells) ;; *) _autolock_files "$word" .al ;; esac
             ;;
     esac
 }

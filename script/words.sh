@@ -2,8 +2,9 @@
 # ./autolock uses it where the program isn't built; tests/words.sh compares each answer with the program's.
 #
 #     judge_words WORDS..     answers and exits, or sets `command`, `turns`, `count` and `seed` (the N of --turns, --count and
-#                             --seed, or nothing), `prefix` (the NAME of --prefix, or nothing), `why`, `sections`, `places`,
-#                             `header`, `lines` and `json` (each 1 or nothing), and `files`
+#                             --seed, or nothing), `prefix` and `cells` (the value of --prefix and --cells, or nothing), `why`,
+#                             `sections`, `places`, `header`, `lines`, `answers`, `full` and `json` (each 1 or nothing), and
+#                             `files`
 #
 # `top` is the folder of the repository.
 # shellcheck disable=SC2154,SC2016
@@ -19,12 +20,16 @@ places=
 header=
 lines=
 prefix=
+cells=
+answers=
+full=
 json=
 used=
 settled=
 files=()
 
 has_prefix=
+has_cells=
 bad_prefix='--prefix takes a letter, then at most 31 letters and digits, and not AL or autolock'
 
 # Writes a text of script/help, and exits.
@@ -74,7 +79,7 @@ takes_options() { [ "$command" = serial ] || [ "$command" = outcomes ] || [ "$co
 valued_of() {
     case $1 in
         serial | replay) echo turns ;;
-        outcomes) echo count seed turns ;;
+        outcomes) echo count seed turns cells ;;
         emit) echo prefix ;;
     esac
 }
@@ -87,6 +92,7 @@ flags_of() {
         emit) echo header lines ;;
         trace) echo sections ;;
         replay) echo why open ;;
+        outcomes) echo answers full ;;
     esac
 }
 
@@ -94,6 +100,7 @@ flags_of() {
 with_value() {
     case $1 in
         prefix) echo '--prefix <NAME>' ;;
+        cells) echo '--cells <NAMES>' ;;
         *) echo "--$1 <N>" ;;
     esac
 }
@@ -173,7 +180,7 @@ refuse_long() {
     shift
     case $command in
         serial) options=(turns help) ;;
-        outcomes) options=(count seed turns help) ;;
+        outcomes) options=(count seed turns cells answers full help) ;;
         replay) options=(turns why open help) ;;
         trace) options=(sections help) ;;
         listing) options=(places help) ;;
@@ -183,7 +190,7 @@ refuse_long() {
     esac
     near=$(similar "$name" "${options[@]}" | tail -n 1)
     case $near in
-        turns | count | seed | prefix) used=$(used_with "$(with_value "$near")") ;;
+        turns | count | seed | prefix | cells) used=$(used_with "$(with_value "$near")") ;;
         ?*) used=$(used_with "--$near") ;;
     esac
     if [ -n "$near" ]; then
@@ -202,7 +209,7 @@ refuse_long() {
             listing) near=$(similar "$name" places help | tail -n 1) ;;
             emit) near=$(similar "$name" header prefix lines help | tail -n 1) ;;
             serial) near=$(similar "$name" turns help | tail -n 1) ;;
-            outcomes) near=$(similar "$name" count seed turns help | tail -n 1) ;;
+            outcomes) near=$(similar "$name" count seed turns cells answers full help | tail -n 1) ;;
             replay) near=$(similar "$name" turns why open help | tail -n 1) ;;
             trace) near=$(similar "$name" sections help | tail -n 1) ;;
             explain) near=$(similar "$name" json help | tail -n 1) ;;
@@ -272,9 +279,19 @@ judge_prefix() {
     used=$(used_with '--prefix <NAME>')
 }
 
+# The value of `--cells`. Whether cells have these names is judged by the program.
+judge_cells() {
+    [ -z "$has_cells" ] || refuse "the argument '--cells <NAMES>' cannot be used multiple times" \
+        "$(usage_of "$command")"
+    has_cells=1
+    cells=$1
+    used=$(used_with '--cells <NAMES>')
+}
+
 judge_value() {
     case $1 in
         prefix) judge_prefix "$2" ;;
+        cells) judge_cells "$2" ;;
         *) judge_number "$1" "$2" ;;
     esac
 }
@@ -359,12 +376,12 @@ judge_arguments() {
                 shift
                 continue
                 ;;
-            0serial--turns | 0replay--turns | 0outcomes--turns | 0outcomes--count | 0outcomes--seed | 0emit--prefix)
+            0serial--turns | 0replay--turns | 0outcomes--turns | 0outcomes--count | 0outcomes--seed | 0outcomes--cells | 0emit--prefix)
                 judge_valued "$@"
                 shift 2
                 continue
                 ;;
-            0serial--turns=* | 0replay--turns=* | 0outcomes--turns=* | 0outcomes--count=* | 0outcomes--seed=* | 0emit--prefix=*)
+            0serial--turns=* | 0replay--turns=* | 0outcomes--turns=* | 0outcomes--count=* | 0outcomes--seed=* | 0outcomes--cells=* | 0emit--prefix=*)
                 option=${1%%=*}
                 judge_value "${option#--}" "${1#*=}"
                 shift

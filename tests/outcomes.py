@@ -106,7 +106,7 @@ class Judge:
         return tuple(order.count(thread) for thread in range(len(self.scripts))), self.cells(order)
 
     def outcomes(self, count):
-        return self.run("outcomes", "--turns", str(TURNS), "--count", str(count), "--seed", "3", self.path)
+        return self.run("outcomes", "--full", "--turns", str(TURNS), "--count", str(count), "--seed", "3", self.path)
 
     def told(self, lines):
         """The first line's number and word, and of each outcome its count, its order and its cells."""

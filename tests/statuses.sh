@@ -30,11 +30,12 @@ printf 'section f\n0 3:14 acquire G\n1 3:14 int 1\n2 3:14 store n\n3 3:14 end\n'
 printf 'section f\n0 acquire G\n1 int 1\n2 store n\n3 end\n' >listed
 printf 'history 1\ncall 0 0 f() ends\ncells\nn 1\nend\n' >history
 printf 'orders 1 all\nstates 2\noutcome 1 after 0\ncells\nn 1\nend\n' >outcomes
+printf 'autolock: no cell is named m\n' >no_cell
 printf 'orders 0 drawn\n' >drawn
 printf 'history 1\nunsettled 0 0\n' >unsettled_call
 for name in missing.al folder; do echo "autolock: cannot read $name" >"no_$name"; done
 printf 'accepted\nnote: rank 0 G\n' >accepted
-echo '{"accepted":true,"file":"right.al","notes":[{"text":"rank 0 G"}]}' >accepted_json
+echo '{"accepted":true,"file":"right.al","notes":[{"text":"rank 0 G"}],"warnings":[]}' >accepted_json
 cat >explained <<'end'
 wrong.al:2:12: E10 neither final nor protected
   global int n;
@@ -94,6 +95,8 @@ run() {
 run "done" 0 history none serial right.al
 run "turns" 0 history none serial --turns 0 right.al
 run "outcomes" 0 outcomes none outcomes right.al
+run "outcomes, of a cell" 0 outcomes none outcomes --cells n --full right.al
+run "outcomes, of a cell that is not there" 6 none no_cell outcomes --cells n,m right.al
 run "outcomes, with more orders than are looked at" 0 drawn none outcomes --count 0 right.al
 run "check" 0 checked none check right.al
 run "explain" 0 accepted none explain right.al

@@ -305,6 +305,21 @@ same outcomes --count 3 --seed 4 --turns 5 missing.al
 same outcomes --turns 5 --seed 4 --count 3
 same outcomes --turns 5 --seed 4 --coun 3
 same outcomes --seed 4 --why right.al
+same outcomes --cells n --answers --full missing.al
+same outcomes --cells=n,m missing.al
+same outcomes --cells
+same outcomes --cells n
+same outcomes --cells n --cells m right.al
+same outcomes --cells --full right.al
+same outcomes --cells -x right.al
+same outcomes --cells= missing.al
+same outcomes --cells '' missing.al
+same outcomes --answers --answers right.al
+same outcomes --full=x right.al
+same outcomes --ful right.al
+same outcomes --cell n right.al
+same serial --cells n right.al
+same serial --full right.al
 same -- outcomes right.al
 
 # Files that can't be read.
@@ -329,7 +344,7 @@ same serial --turns 3 missing.al
 commands=$(sed -n '/^Commands:/,/^$/s/^  \([a-z]*\) .*/\1/p' "$top/script/help/autolock.txt")
 options=$(sed -n 's/^ *\(-[a-zA-Z], \)\{0,1\}--\([a-z]*\).*/\2/p' "$top"/script/help/*.txt | sort -u)
 [ "$(echo $commands)" = "check explain order listing emit serial outcomes simulate trace run replay help" ] || fail "the commands of the help: $commands"
-[ "$(echo $options)" = "count header help json lines open places prefix sections seed turns version why" ] || fail "the options of the help: $options"
+[ "$(echo $options)" = "answers cells count full header help json lines open places prefix sections seed turns version why" ] || fail "the options of the help: $options"
 for file in completions/autolock.bash completions/_autolock completions/autolock.fish docs/autolock.1; do
     for word in $commands $options; do
         sed 's/\\-/-/g' "$top/$file" | grep -qw -- "$word" || fail "$file lacks $word"
@@ -368,11 +383,14 @@ completes "--lines" emit --l
 completes "" emit --prefix ''
 completes "--why" replay --w
 completes "--json" explain --j
-completes "--count" outcomes --c
+completes "--cells --count" outcomes --c
+completes "--answers" outcomes --a
+completes "--full" outcomes --f
 completes "--seed" outcomes --s
 completes "right.al" outcomes r
 completes "folder right.al" outcomes --count 3 ''
 completes "" outcomes --seed ''
+completes "" outcomes --cells ''
 completes "folder right.al" check ''
 completes "right.al" check r
 completes "folder x.steps" simulate right.al ''

@@ -31,6 +31,7 @@ of_program (Serial turns) text plan status out err (all_settled is) = serving.do
 of_program (Serial turns) text plan status out err (stopped is) = serving.unsettled is.ended
 of_program (Outcomes looking) text plan status out err (outcomes.all_told is) = serving.done is.ended
 of_program (Outcomes looking) text plan status out err (outcomes.drawn_told is) = serving.done is.ended
+of_program (Outcomes looking) text plan status out err (outcomes.unknown_named is) = serving.bad_input is.ended
 of_program (Outcomes looking) text plan status out err (outcomes.stopped is) = serving.unsettled is.ended
 of_program (Emit emission) text plan status out err is = serving.done is.ended
 

@@ -15,6 +15,7 @@ use Rattle.explanation_json.specs.Json.{fault_json}
 use Rattle.explanation_json.specs.Working.Laws.{FaultByFirstBytes}
 use Rattle.explanation.specs.Notes.{Note, note_text, told_text}
 use Rattle.explanation_faults.specs.TextNotes.{IsTextLimit, source, a_name, IsTrueTextNote, of_tree, of_tokens}
+use Rattle.explanation_faults.specs.TextNotes.{of_advice, of_mark}
 use Rattle.explanation_faults.specs.TextNotes.{of_limit as of_text_limit, AreTextNotes}
 use Rattle.core_lang.specs.declared.typed.Typed.{Typed}
 use Rattle.lockorder.specs.Faults.{IsFaultAtFirst, at_first}
@@ -76,6 +77,8 @@ of_whole : {text : List ℕ} {code : Code} {at : ℕ} {note : Note} → IsLong t
     note.start ≡ None
 of_whole long (of_tree few has is) = absurd (omega arith)
 of_whole long (of_tokens few has is) = absurd (omega arith)
+of_whole long (of_advice few has is) = absurd (omega arith)
+of_whole long (of_mark mark said) = absurd (omega (arith, mark.few))
 of_whole long (of_text_limit is limit said) = ap (λ (note : Note). note.start) said
 
 -- they pass the same limit
@@ -87,6 +90,8 @@ true_alike : {t u : List ℕ} {code : Code} {at : ℕ} {note : Note} → IsLong 
     IsTrueTextNote t code at note → IsTrueTextNote u code at note
 true_alike long longer (of_tree few has is) = absurd (omega arith)
 true_alike long longer (of_tokens few has is) = absurd (omega arith)
+true_alike long longer (of_advice few has is) = absurd (omega arith)
+true_alike long longer (of_mark mark said) = absurd (omega (arith, mark.few))
 true_alike long longer (of_text_limit is limit said) = of_text_limit is (limit_alike long longer limit) said
 
 tell_alike : (t u : List ℕ) (code : Code) (at : ℕ) (notes : List Note) → IsLong t → IsLong u →
@@ -95,6 +100,8 @@ tell_alike t u code at notes long longer are = record {
   are_true = All-weaker (IsTrueTextNote t code at) (IsTrueTextNote u code at) (λ note is. true_alike long longer is) notes are.are_true;
   told = λ tokens decls few has told. absurd (omega arith);
   expected = λ tokens few has unexpected told. absurd (omega arith);
+  advised = λ tokens note few has unexpected first. absurd (omega arith);
+  marked = λ mark. absurd (omega (arith, mark.few));
   limited = λ words is limit. are.limited words is (limit_alike longer long limit);
 }
 

@@ -8,8 +8,10 @@ use Rattle.explanation_cycles.specs.OrderNotes.{AreOrderNotes}
 use Rattle.core_lang_expansion.specs.Data.{IsExpanded}
 use Rattle.explanation.specs.Explanation.{accepted_text, explanation_text}
 use Rattle.explanation.specs.Notes.{Note}
+use Rattle.explanation.specs.Warnings.{Warning}
 use Rattle.explanation_json.specs.Json.{accepted_json, fault_json}
 use Rattle.explanation_faults.specs.TextNotes.{AreTextNotes}
+use Rattle.explanation_warnings.specs.TextWarnings.{AreTextWarnings}
 use Rattle.lockorder.specs.declared.ranks.Edge.{Edge}
 use Rattle.lockorder.specs.Edges.{AreRanksOf}
 use Rattle.lockorder.specs.Faults.{IsCycleOf, IsFaultAtFirst}
@@ -21,8 +23,9 @@ use Rattle.driver.specs.declared.status.Status.TheVariants.{Done, Refused}
 abbrev pub fault_told : Bool → List ℕ → List ℕ → Fault → List Note → List ℕ
 fault_told json file text fault notes = if json then fault_json file text fault notes else explanation_text file text fault notes
 
-abbrev pub acceptance_told : Bool → List ℕ → List ℕ → List Note → List ℕ
-acceptance_told json file text notes = if json then accepted_json file text notes else accepted_text file text notes
+abbrev pub acceptance_told : Bool → List ℕ → List ℕ → List Note → List Warning → List ℕ
+acceptance_told json file text notes warnings =
+    if json then accepted_json file text notes warnings else accepted_text file text notes warnings
 
 -- a true fault of the first pass that has one, with no detail: out explains it, with true notes on it; err is empty
 pub record IsExplained (json : Bool) (file text : List ℕ) (status : Status) (out err : List ℕ) : Type 0 where
@@ -50,8 +53,8 @@ pub record IsCycleExplained (json : Bool) (file text : List ℕ) (status : Statu
   pub written : out ≡ fault_told json file text fault notes
   pub told : err ≡ []
 
--- the text is accepted: out says that, and the order of the lock classes of its program with helpers written out, with what makes each
--- pair of them; err is empty
+-- the text is accepted: out says that, the order of the lock classes of its program with helpers written out, with what makes each
+-- pair of them, and the warnings of its tree; err is empty
 pub record IsFaultless (json : Bool) (file text : List ℕ) (status : Status) (out err : List ℕ) : Type 0 where
   pub program : Typed
   pub accepts : Accepts text program
@@ -61,8 +64,10 @@ pub record IsFaultless (json : Bool) (file text : List ℕ) (status : Status) (o
   pub are_ranks : AreRanksOf written_out ranks
   pub notes : List Note
   pub tell : AreOrderNotes written_out ranks notes
+  pub warnings : List Warning
+  pub warned : AreTextWarnings text warnings
   pub ended : status ≡ Done
-  pub written : out ≡ acceptance_told json file text notes
+  pub written : out ≡ acceptance_told json file text notes warnings
   pub told : err ≡ []
 
 -- what `explain` answers for a text

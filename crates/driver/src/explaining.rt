@@ -22,6 +22,7 @@ use explanation::{Acceptance, Explanation};
 use explanation_cycles::{cycle_notes, order_notes};
 use explanation_faults::fault_notes;
 use explanation_json::{accepted_json, fault_json};
+use explanation_warnings::text_warnings;
 use rope::Rope;
 use source::fault::{Fault, Refusal};
 use source::memory::NoMemory;
@@ -113,10 +114,12 @@ fn order_explained(alloc: Global, asked: &Asked<'_>, ordered: &Ordered) -> Resul
         &ordered.paths,
         &ordered.ranks,
     )?;
+    let warnings = text_warnings(alloc, asked.text)?;
     let acceptance = Acceptance {
         file: asked.file,
         text: asked.text,
         notes: &notes,
+        warnings: &warnings,
     };
     let out = acceptance_told(alloc, asked.json, &acceptance)?;
     Ok(Answer::done(alloc, Rope::of(alloc, out)))
@@ -140,7 +143,7 @@ fn explain_answer(alloc: Global, asked: &Asked<'_>) -> Result<Answer, NoMemory>
 ///
 /// - `Refused`: the program has a fault, and that was written to `out`; `err` gets nothing.
 /// - `Done`: the program has none. The line `accepted` was written to `out`, and the order of its lock classes: the class of
-///   each rank, and of each pair of classes of which the first has to come before the second what makes it so.
+///   each rank, and of each pair of classes of which the first has to come before the second what makes it so; then its warnings.
 pub fn explain<S: Read, O: Write, E: Write>(
     alloc: Global,
     json: bool,

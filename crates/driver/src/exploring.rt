@@ -4,8 +4,9 @@ ghost use Rattle.std.specs.Prelude.{IfOk, map};
 ghost use Rattle.core_lang.specs.Expansion.{IsExpansion};
 ghost use Rattle.core_lang.specs.WellFormed.{IsChecked};
 ghost use Rattle.outcomes.specs.Ends.{Finds, StopsAfter, told_of};
-ghost use Rattle.driver.specs.Working.Answering.{Meets, IsToldAnswer};
-ghost use Rattle.driver.specs.Outcomes.{IsLookedAt, StopsInOrder};
+ghost use Rattle.code.specs.Listing.{line};
+ghost use Rattle.driver.specs.Working.Answering.{Meets, IsMessage, IsToldAnswer};
+ghost use Rattle.driver.specs.Outcomes.{IsLookedAt, StopsInOrder, unknown_cell};
 
 use crate::answer::Answer;
 use crate::order_calls::order_calls;
@@ -15,30 +16,22 @@ use core_lang::laws;
 use core_lang::typed::Typed;
 use driver_words::Looking;
 use meaning_registers::prepared::Prepared;
-use outcomes::outcome::{Found, Outcome};
+use outcomes::outcome::{Asked, Found, Outcome};
 use outcomes::search::Search;
 use report::unsettled_text;
-use report_outcomes::Ends;
+use report_outcomes::{Ends, asked_cells};
 use rope::Rope;
 use source::keyed::KeyedState;
 use source::memory::NoMemory;
 use std::alloc::Global;
 
-/// The text of ends; where all orders were looked at, with how many states they come by.
-fn told(
-    alloc: Global,
-    program: &Typed,
-    states: Option<usize>,
-    ends: &[Outcome],
-) -> Result<Answer, NoMemory>
-    ensures { IfOk result (IsToldAnswer program.now states (map told_of ends.now)) }
+/// What is told of a name that no cell has.
+fn unknown_cell(alloc: Global, name: &str) -> Result<Answer, NoMemory>
+    ensures { IfOk result (IsMessage Status.BadInput (line (unknown_cell name.now))) }
 {
-    let ends = Ends {
-        program,
-        states,
-        ends,
-    };
-    Ok(Answer::done(alloc, Rope::of(alloc, ends.text(alloc)?)))
+    let mut message = String::from_str(alloc, "autolock: no cell is named ")?;
+    message.push_str(name)?;
+    Answer::refused(alloc, Status::BadInput, message)
 }
 
 /// What is looked at: the orders of a program's calls.
@@ -47,23 +40,45 @@ pub struct Exploring<'a> {
     /// The program, prepared for its calls.
     pub prepared: &'a Prepared<'a>,
     /// How its orders are looked at.
-    pub looking: Looking,
+    pub looking: Looking<'a>,
     /// How states are hashed: keyed by the program's text.
     pub hashing: KeyedState,
 }
 
 impl Exploring<'_> {
+    /// The text of ends; where all orders were looked at, with how many states they come by.
+    fn told(
+        &self,
+        alloc: Global,
+        asked: &Asked,
+        states: Option<usize>,
+        ends: &[Outcome],
+    ) -> Result<Answer, NoMemory>
+        ensures { IfOk result (IsToldAnswer self.now.prepared.now.program.now asked.now self.now.looking.full states (map told_of ends.now)) }
+    {
+        let ends = Ends {
+            program: self.prepared.program(),
+            asked,
+            full: self.looking.full,
+            states,
+            ends,
+        };
+        let text = ends.text(alloc)?;
+        Ok(Answer::done(alloc, Rope::of(alloc, text)))
+    }
+
     /// What is found.
-    fn found(&self, alloc: Global) -> Result<Found, NoMemory>
+    fn found(&self, alloc: Global, asked: &Asked) -> Result<Found, NoMemory>
         requires checked { IsChecked self.now.prepared.now.program.now }
         requires expansion { IsExpansion self.now.prepared.now.program.now self.now.prepared.now.written.now }
-        ensures { IfOk result (Finds self.now.prepared.now.program.now self.now.looking.turns self.now.looking.count) }
+        ensures { IfOk result (Finds self.now.prepared.now.program.now self.now.looking.turns self.now.looking.count asked.now) }
     {
         let search = Search {
             program: self.prepared.program(),
             prepared: self.prepared,
             turns: self.looking.turns,
             most: self.looking.count,
+            asked,
             hashing: self.hashing,
         };
         let found = search.ends(alloc, self.looking.seed);
@@ -72,6 +87,7 @@ impl Exploring<'_> {
             prepared: _prepared,
             turns: _turns,
             most: _most,
+            asked: _asked,
             hashing: _hashing,
         } = search;
         found
@@ -97,19 +113,27 @@ impl Exploring<'_> {
         Ok(Answer::written(alloc, Status::Unsettled, Rope::of(alloc, out)))
     }
 
-    /// How the cells can end, over the orders that are looked at.
+    /// How the cells, and if asked the calls, can end, over the orders that are looked at.
     pub fn answer(&self, alloc: Global) -> Result<Answer, NoMemory>
         requires checked { IsChecked self.now.prepared.now.program.now }
         requires expansion { IsExpansion self.now.prepared.now.program.now self.now.prepared.now.written.now }
         ensures { IfOk result (Meets (IsLookedAt self.now.looking self.now.prepared.now.program.now)) }
     {
         let program = self.prepared.program();
-        match self.found(alloc)? {
+        let cells = match asked_cells(alloc, program, self.looking.cells)? {
+            Ok(cells) => cells,
+            Err(name) => return unknown_cell(alloc, name),
+        };
+        let asked = Asked {
+            cells,
+            answers: self.looking.answers,
+        };
+        match self.found(alloc, &asked)? {
             Found::All {
                 ends,
                 configurations,
-            } => told(alloc, program, Some(configurations), &ends),
-            Found::Drawn(ends) => told(alloc, program, None, &ends),
+            } => self.told(alloc, &asked, Some(configurations), &ends),
+            Found::Drawn(ends) => self.told(alloc, &asked, None, &ends),
             Found::Unsettled { order, thread } => self.stopped(alloc, &order, thread),
         }
     }

@@ -18,7 +18,7 @@ pub enum Status {
     OutOfMemory,
     /// 5: a line of the recorded history is another than may come there.
     Differs,
-    /// 6: the steps file or the history file has a fault, which standard error names.
+    /// 6: the steps file or the history file has a fault, or no cell has a name of `--cells`, which standard error names.
     BadInput,
     /// 7: a call is not settled by the turns that were given.
     Unsettled,

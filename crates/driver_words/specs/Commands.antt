@@ -43,6 +43,10 @@ prefix_rule = record (new_rule (codes "prefix")) {
   defaults = codes "al" ∷ [];
 }
 
+-- --cells NAMES
+abbrev pub cells_rule : Rule
+cells_rule = record (new_rule (codes "cells")) { long = Some (codes "cells"); value_names = 1 }
+
 -- a command over one file
 abbrev pub with_file : Text → App
 with_file name = with_rule (new_app name) (file_rule (codes "FILE"))
@@ -58,6 +62,18 @@ with_count app = with_rule app count_rule
 -- a command that takes --seed N besides
 abbrev pub with_seed : App → App
 with_seed app = with_rule app seed_rule
+
+-- a command that takes --cells NAMES besides
+abbrev pub with_cells : App → App
+with_cells app = with_rule app cells_rule
+
+-- a command that takes --answers besides
+abbrev pub with_answers : App → App
+with_answers app = with_rule app (flag_rule (codes "answers"))
+
+-- a command that takes --full besides
+abbrev pub with_full : App → App
+with_full app = with_rule app (flag_rule (codes "full"))
 
 -- a command that takes a steps file besides
 abbrev pub with_steps : App → App
@@ -135,9 +151,11 @@ with_emit app = with_subcommand app (with_lines (with_prefix (with_header (with_
 abbrev pub with_serial : App → App
 with_serial app = with_subcommand app (with_turns (with_file (codes "serial"))).top
 
--- autolock outcomes [--count N] [--seed N] [--turns N] FILE
+-- autolock outcomes [--count N] [--seed N] [--turns N] [--cells NAMES] [--answers] [--full] FILE
 abbrev pub with_outcomes : App → App
-with_outcomes app = with_subcommand app (with_turns (with_seed (with_count (with_file (codes "outcomes"))))).top
+with_outcomes app =
+    with_subcommand app
+    (with_full (with_answers (with_cells (with_turns (with_seed (with_count (with_file (codes "outcomes")))))))).top
 
 -- autolock simulate FILE STEPS
 abbrev pub with_simulate : App → App

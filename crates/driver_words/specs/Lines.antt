@@ -1,6 +1,6 @@
 -- What a line says of the matches.
 use Rattle.std.specs.Prelude.{◌≡◌, ◌⊎◌, ℕ, ◌^◌, ◌<◌, leb, Bool, true, false, ◌&&◌, List, [], ◌∷◌, length, ⊤}
-use Rattle.std.specs.Prelude.{Option, Some, None, codes, unwrap_or}
+use Rattle.std.specs.Prelude.{Option, Some, None, codes, unwrap_or, option_map}
 use Rattle.std.specs.Char.{is_ascii_alphabetic, is_ascii_alphanumeric}
 use Rattle.std.specs.List.{list_all}
 use Rattle.std.specs.Str.Parse.{IsNumeral, digits_value, without_leading_plus}
@@ -14,6 +14,7 @@ use Rattle.driver_words.specs.declared.line.Alone.TheVariants.{Report, Order, Ex
 use Rattle.driver_words.specs.declared.line.Beside.{Beside}
 use Rattle.driver_words.specs.declared.line.Beside.TheVariants.{Simulate, Trace, Replay}
 use Rattle.driver_words.specs.declared.line.Line.{Line}
+use Rattle.driver_words.specs.declared.line.Looking.{Looking}
 use Rattle.driver_words.specs.declared.line.Report.TheVariants.{Check, Listing, Serial, Outcomes, Emit}
 use Rattle.driver_words.specs.declared.line.Request.{Request}
 use Rattle.driver_words.specs.declared.line.Request.TheVariants as request
@@ -38,14 +39,22 @@ pub record IsFlag (id : Text) (rows : List Row) (is : Bool) : Type 0 where
   pub withheld : one_of id rows ≡ Some (codes "false") → is ≡ false
   pub default : one_of id rows ≡ None → is ≡ false
 
+-- the values of the options of `outcomes`
+pub record IsLooking (rows : List Row) (looking : Looking) : Type 0 where
+  pub turns : IsTurns rows looking.turns
+  pub count : IsNumber (codes "count") 100000 rows looking.count
+  pub seed : IsNumber (codes "seed") 0 rows looking.seed
+  pub cells : option_map (λ names. names.now) looking.cells ≡ first_of (codes "cells") rows
+  pub answers : IsFlag (codes "answers") rows looking.answers
+  pub full : IsFlag (codes "full") rows looking.full
+
 -- what is asked of the program's file alone is that command, with the values of its options
 abbrev pub IsAlone : Text → List Row → Alone → Type 0
 IsAlone command rows (Report Check) = command ≡ codes "check"
 IsAlone command rows (Report (Listing places)) = (command ≡ codes "listing") × IsFlag (codes "places") rows places
 IsAlone command rows (Report (Serial turns)) = (command ≡ codes "serial") × IsTurns rows turns
 IsAlone command rows (Report (Outcomes looking)) =
-    (command ≡ codes "outcomes") × IsTurns rows looking.turns
-    × IsNumber (codes "count") 100000 rows looking.count × IsNumber (codes "seed") 0 rows looking.seed
+    (command ≡ codes "outcomes") × IsLooking rows looking
 IsAlone command rows (Report (Emit emission)) =
     (command ≡ codes "emit") × IsFlag (codes "header") rows emission.header
     × (emission.prefix.now ≡ name_in (codes "prefix") rows)

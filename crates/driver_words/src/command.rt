@@ -7,6 +7,7 @@ ghost use Rattle.driver_words.specs.Commands.{file_rule, flag_rule, number_rule,
 ghost use Rattle.driver_words.specs.Commands.{with_count, with_header, with_json, with_lines, with_open, with_places, with_prefix};
 ghost use Rattle.driver_words.specs.Commands.{with_sections};
 ghost use Rattle.driver_words.specs.Commands.{with_seed, with_turns, with_why};
+ghost use Rattle.driver_words.specs.Commands.{cells_rule, with_answers, with_cells, with_full};
 
 use clap::builder::ValueParser;
 use clap::{Arg, ArgAction, Command};
@@ -82,6 +83,17 @@ fn prefix_argument<'a>(alloc: Global) -> Arg<'a>
         .value_name("NAME")
         .default_value("al")
         .help("What the names of C begin with")
+}
+
+/// `--cells NAME,..`.
+fn cells_argument<'a>(alloc: Global) -> Arg<'a>
+    ensures rule { rule_of result ≡ cells_rule }
+    ensures local { result.global ≡ false }
+{
+    Arg::new(alloc, "cells")
+        .long("cells")
+        .value_name("NAMES")
+        .help("Which cells ends are told apart by, as n,a,a[0],p[1].x")
 }
 
 /// A command over one file.
@@ -178,14 +190,19 @@ fn with_argument<'a>(
 
 /// `outcomes`.
 fn outcomes_command<'a>(alloc: Global) -> Result<Command<'a>, AllocError>
-    ensures { IfOk result (IsCommand (with_turns (with_seed (with_count (with_file (codes "outcomes")))))) }
+    ensures { IfOk result (IsCommand (with_full (with_answers (with_cells (with_turns (with_seed (with_count (with_file (codes "outcomes"))))))))) }
 {
     let about =
         "Run all calls one after another in all orders, or in some, and write each way the cells end";
     let command = file_command(alloc, "outcomes", about);
     let command = with_argument(command, count_argument(alloc));
     let command = with_argument(command, seed_argument(alloc));
-    with_argument(command, turns_argument(alloc))
+    let command = with_argument(command, turns_argument(alloc));
+    let command = with_argument(command, cells_argument(alloc));
+    let help = "Tell ends apart also by how the calls ended";
+    let command = with_argument(command, flag_argument(alloc, "answers", help));
+    let help = "Write all of each end, and not only what differs from the first";
+    with_argument(command, flag_argument(alloc, "full", help))
 }
 
 /// `replay`.

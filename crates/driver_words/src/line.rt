@@ -59,7 +59,7 @@ pub enum Report<'a> {
         turns: u64,
     },
     /// `outcomes`: how its cells can end, over the orders of its calls.
-    Outcomes(Looking),
+    Outcomes(Looking<'a>),
     /// `emit`: its sections in C, with their locks placed.
     Emit(Emission<'a>),
 }
@@ -77,15 +77,21 @@ pub struct Emission<'a> {
     pub file: &'a str,
 }
 
-/// How the orders of a program's calls are looked at.
+/// How the orders of a program's calls are looked at, and what is told of their ends.
 #[derive(Clone, Copy, Debug, PartialEq, Eq)]
-pub struct Looking {
+pub struct Looking<'a> {
     /// The most turns that each execution of a loop may make.
     pub turns: u64,
     /// The most orders that are looked at.
     pub count: u64,
     /// Which orders are drawn, where there are more.
     pub seed: u64,
+    /// The names of the cells that ends are told apart by, with a comma between; all cells, where none are given.
+    pub cells: Option<&'a str>,
+    /// Whether ends are also told apart by how the calls ended.
+    pub answers: bool,
+    /// Whether all of each end is told, and not only what differs from the first one.
+    pub full: bool,
 }
 
 /// What is told of a program that is accepted, and of another file.

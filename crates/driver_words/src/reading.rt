@@ -1,9 +1,9 @@
 //! From words to a line.
 
-ghost use Rattle.std.specs.Prelude.{◌≡◌, ◌↔◌, IsTrue, IfOk, IfErr, IfSome, OnOk, None, [], map};
-ghost use Rattle.clap.specs.Words.{fault_of, found_of, rows_of, subcommand_of};
+ghost use Rattle.std.specs.Prelude.{◌≡◌, ◌↔◌, IsTrue, IfOk, IfErr, IfSome, OnOk, None, [], map, option_map};
+ghost use Rattle.clap.specs.Words.{fault_of, first_of, found_of, rows_of, subcommand_of};
 ghost use Rattle.driver_words.specs.Commands.{autolock};
-ghost use Rattle.driver_words.specs.Lines.{name_in, IsNumber, IsTurns, IsFlag, IsLine, IsLineOf, IsOwnName, IsRefused, IsRequest};
+ghost use Rattle.driver_words.specs.Lines.{name_in, IsNumber, IsTurns, IsFlag, IsLooking, IsLine, IsLineOf, IsOwnName, IsRefused, IsRequest};
 ghost use Rattle.driver_words.specs.Lines.{is_word, starts_with_letter, IsPrefix, HasPrefix};
 ghost use Rattle.std.specs.Char.{is_ascii_alphanumeric};
 ghost use Rattle.std.specs.List.{list_all};
@@ -28,6 +28,13 @@ fn name<'a>(matches: &ArgMatches<'a>, id: &str) -> &'a str
     matches.get_str(id).unwrap_or("")
 }
 
+/// The value of a name, if it has one.
+fn text<'a>(matches: &ArgMatches<'a>, id: &str) -> Option<&'a str>
+    ensures { option_map (λ text. text.now) result ≡ first_of id.now (rows_of (found_of matches.now)) }
+{
+    matches.get_str(id)
+}
+
 /// The number of a name, or this one where it has none.
 fn number(matches: &ArgMatches<'_>, id: &str, otherwise: u64) -> u64
     ensures { IsNumber id.now otherwise (rows_of (found_of matches.now)) result }
@@ -49,6 +56,20 @@ fn flag(matches: &ArgMatches<'_>, id: &str) -> bool
     matches.get_flag(id)
 }
 
+/// The options of `outcomes`.
+fn looking<'a>(matches: &ArgMatches<'a>) -> Looking<'a>
+    ensures { IsLooking (rows_of (found_of matches.now)) result }
+{
+    Looking {
+        turns: turns(matches),
+        count: number(matches, "count", DEFAULT_COUNT),
+        seed: number(matches, "seed", DEFAULT_SEED),
+        cells: text(matches, "cells"),
+        answers: flag(matches, "answers"),
+        full: flag(matches, "full"),
+    }
+}
+
 /// What a command asks of the program, or `None` where there is no such command.
 fn request<'a>(command: &str, matches: &ArgMatches<'a>) -> Option<Request<'a>>
     ensures request { IfSome result (IsRequest command.now (rows_of (found_of matches.now))) }
@@ -66,11 +87,7 @@ fn request<'a>(command: &str, matches: &ArgMatches<'a>) -> Option<Request<'a>>
         "serial" => Request::Alone(Alone::Report(Report::Serial {
             turns: turns(matches),
         })),
-        "outcomes" => Request::Alone(Alone::Report(Report::Outcomes(Looking {
-            turns: turns(matches),
-            count: number(matches, "count", DEFAULT_COUNT),
-            seed: number(matches, "seed", DEFAULT_SEED),
-        }))),
+        "outcomes" => Request::Alone(Alone::Report(Report::Outcomes(looking(matches)))),
         "emit" => Request::Alone(Alone::Report(Report::Emit(Emission {
             header: flag(matches, "header"),
             prefix: name(matches, "prefix"),

@@ -7,12 +7,14 @@ use Rattle.source.specs.Faults.{fault_text}
 use Rattle.explanation.specs.Notes.{Note, note_text}
 use Rattle.explanation.specs.Remedies.{remedy_text}
 use Rattle.explanation.specs.Shown.{shown_place}
+use Rattle.explanation.specs.Warnings.{Warning, warning_text}
 
 -- the line of the fault, its place in the source, what is told beyond that, and what can be done about it
 abbrev pub explanation_text : List ℕ → List ℕ → Fault → List Note → List ℕ
 explanation_text file text fault notes =
     line (fault_text file text fault) ++ shown_place text fault.start ++ flat_map (note_text file text) notes ++ remedy_text fault.code
 
--- of a program without a fault: that it is accepted, and what is told beyond that
-abbrev pub accepted_text : List ℕ → List ℕ → List Note → List ℕ
-accepted_text file text notes = line (codes "accepted") ++ flat_map (note_text file text) notes
+-- of a program without a fault: that it is accepted, and what is told beyond that; then its warnings
+abbrev pub accepted_text : List ℕ → List ℕ → List Note → List Warning → List ℕ
+accepted_text file text notes warnings =
+    line (codes "accepted") ++ flat_map (note_text file text) notes ++ flat_map (warning_text file text) warnings

@@ -14,9 +14,13 @@ pub record Note : Type 0 where
 abbrev pub note_of : written.Note → Note
 note_of note = record { start = note.start; words = string_bytes note.words }
 
+-- FILE:LINE:COL: LABEL WORDS, and the place
+abbrev pub labelled_text : List ℕ → List ℕ → List ℕ → ℕ → List ℕ → List ℕ
+labelled_text label file text start words = line (place_text file text start label words) ++ shown_place text start
+
 -- FILE:LINE:COL: note: WORDS, and the place
 abbrev pub placed_text : List ℕ → List ℕ → ℕ → List ℕ → List ℕ
-placed_text file text start words = line (place_text file text start (codes "note:") words) ++ shown_place text start
+placed_text file text start words = labelled_text (codes "note:") file text start words
 
 -- note: WORDS
 abbrev pub said_text : List ℕ → List ℕ

@@ -2,4 +2,5 @@
 -- cites them.
 pub mod Laws
 pub mod Values
+pub mod Lines
 pub mod Marks

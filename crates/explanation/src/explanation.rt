@@ -3,9 +3,10 @@
 ghost use Rattle.std.specs.Prelude.{◌≡◌, IfOk, string_bytes};
 
 use crate::note::Note;
-use crate::notes::Notes;
+use crate::notes::Places;
 use crate::remedy::push_remedy;
 use crate::shown::push_place;
+use crate::warning::Warning;
 use source::fault::Fault;
 use source::line::fault_line;
 use source::memory::NoMemory;
@@ -40,12 +41,8 @@ impl Explanation<'_> {
         let mut out = fault_line(alloc, self.file, self.text, self.fault)?;
         out.push_str("\n")?;
         push_place(&mut out, self.text, self.fault.start)?;
-        let notes = Notes {
-            file: self.file,
-            text: self.text,
-            notes: self.notes,
-        };
-        notes.push(alloc, &mut out)?;
+        let places = Places::of(alloc, self.file, self.text)?;
+        places.push_notes(&mut out, self.notes)?;
         push_remedy(&mut out, self.fault.code)?;
         Ok(out)
     }
@@ -60,12 +57,15 @@ pub struct Acceptance<'a> {
     pub text: &'a [u8],
     /// What is told beyond that it is accepted.
     pub notes: &'a [Note],
+    /// What may not be as it was meant.
+    pub warnings: &'a [Warning],
 }
 
 impl Acceptance<'_> {
     ghost use Rattle.explanation.specs.Working.Values.{accepted_text_of};
 
-    /// The line `accepted`; and for each note what [`Explanation::text`] writes of one.
+    /// The line `accepted`; for each note what [`Explanation::text`] writes of one; and for each warning the same, with the
+    /// word `warning` in the place of `note`.
     ///
     /// # Errors
     ///
@@ -74,12 +74,9 @@ impl Acceptance<'_> {
         ensures { IfOk result (λ text. string_bytes text ≡ accepted_text_of self.now) }
     {
         let mut out = String::from_str(alloc, "accepted\n")?;
-        let told = Notes {
-            file: self.file,
-            text: self.text,
-            notes: self.notes,
-        };
-        told.push(alloc, &mut out)?;
+        let places = Places::of(alloc, self.file, self.text)?;
+        places.push_notes(&mut out, self.notes)?;
+        places.push_warnings(&mut out, self.warnings)?;
         Ok(out)
     }
 }

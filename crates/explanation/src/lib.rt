@@ -3,7 +3,8 @@
 //!
 //! - [`Explanation`], [`Acceptance`]: those texts, as `specs/Explanation.antt` defines them byte for byte.
 //! - [`laws`]: what holds of every shown place.
-//! - [`Note`]: what is told of a further place, or of the text as a whole.
+//! - [`Note`]: what is told of a further place, or of the text as a whole. [`Warning`]: what is told of an accepted program that may
+//!   not be as it was meant; `specs/Warnings.antt` has its words.
 //! - `specs/Shown.antt`: how a line of the source is shown. `specs/Remedies.antt`: what is said of each code.
 #![tactic(auto)]
 
@@ -14,8 +15,10 @@ mod note;
 mod notes;
 mod remedy;
 mod shown;
+mod warning;
 
 pub use explanation::{Acceptance, Explanation};
 pub use marks::Marks;
 pub use note::Note;
 pub use remedy::remedy_of;
+pub use warning::{Warned, Warning};

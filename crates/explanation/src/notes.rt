@@ -1,14 +1,17 @@
-//! The lines of notes, and their places.
+//! The lines of notes and of warnings, and their places.
 
-ghost use Rattle.std.specs.Prelude.{◌≡◌, IfOk, OnOk, codes, map, string_bytes};
+ghost use Rattle.std.specs.Prelude.{◌≡◌, IfOk, OnOk, map, string_bytes};
 ghost use Rattle.source.specs.Faults.{place_text};
-ghost use Rattle.explanation.specs.Working.Values.{noted_words};
+ghost use Rattle.explanation.specs.Working.Lines.{told_words};
 ghost use Rattle.locks.specs.Texts.{AddsText};
 ghost use Rattle.explanation.specs.Notes.{note_of, said_text};
+ghost use Rattle.explanation.specs.Warnings.{warning_of};
 
 use crate::marks::Marks;
 use crate::note::Note;
 use crate::shown::push_place;
+use crate::warning::Warning;
+use source::cursor::Cursor;
 use source::memory::NoMemory;
 use std::alloc::{AllocError, Global};
 
@@ -21,80 +24,109 @@ fn push_said(out: &mut String, words: &str) -> Result<(), AllocError>
     out.push_str("\n")
 }
 
-/// FILE:LINE:COL: note: WORDS
+/// FILE:LINE:COL: LABEL WORDS
 fn line_at(
     alloc: Global,
     file: &str,
-    line: usize,
-    column: usize,
+    at: Cursor<'_>,
+    label: &str,
     words: &str,
 ) -> Result<String, AllocError>
-    ensures { IfOk result (λ told. string_bytes told ≡ noted_words file.now line column words.now) }
+    ensures { IfOk result (λ told. string_bytes told ≡ told_words file.now at.entry.line at.entry.column label.now words.now) }
 {
+    let (line, column) = (at.line, at.column);
     let mut told = String::from_str(alloc, file)?;
     write!(told, ":{line}:{column}: ")?;
-    told.push_str("note:")?;
+    told.push_str(label)?;
     told.push_str(" ")?;
     told.push_str(words)?;
     Ok(told)
 }
 
-/// Notes on a text.
+/// A text and the name of its file, with marks in the text.
 #[derive(Drop)]
-pub struct Notes<'a> {
-    /// The name of the text's file.
-    pub file: &'a str,
-    /// The text.
-    pub text: &'a [u8],
-    /// The notes.
-    pub notes: &'a [Note],
+pub struct Places<'a> {
+    alloc: Global,
+    file: &'a str,
+    text: &'a [u8],
+    marks: Marks<'a>,
+    ghost same: { marks.text.now ≡ text.now },
 }
 
-impl Notes<'_> {
-    ghost use Rattle.explanation.specs.Working.Values.{note_text_of, note_texts_of};
+impl<'a> Places<'a> {
+    ghost use Rattle.explanation.specs.Working.Values.{labelled_text_of, note_text_of, note_texts_of, warning_text_of, warning_texts_of};
 
-    // The line of a note on this place.
-    fn placed(
-        &self,
-        alloc: Global,
-        marks: &Marks<'_>,
-        start: usize,
-        words: &str,
-    ) -> Result<String, AllocError>
-        requires { marks.now.text.now ≡ self.now.text.now }
-        ensures { IfOk result (λ told. string_bytes told ≡ place_text self.now.file.now self.now.text.now start (codes "note:") words.now) }
+    /// Of a text.
+    pub fn of(alloc: Global, file: &'a str, text: &'a [u8]) -> Result<Places<'a>, NoMemory>
+        ensures file { IfOk result (λ places. places.file.now ≡ file.entry.now) }
+        ensures text { IfOk result (λ places. places.text.now ≡ text.entry.now) }
     {
-        let at = marks.at(start);
-        line_at(alloc, self.file, at.line, at.column, words)
+        Ok(Places {
+            alloc,
+            file,
+            text,
+            marks: Marks::of(alloc, text)?,
+        })
+    }
+
+    // The line of this place.
+    fn line(&self, start: usize, label: &str, words: &str) -> Result<String, AllocError>
+        ensures { IfOk result (λ told. string_bytes told ≡ place_text self.now.file.now self.now.text.now start label.now words.now) }
+    {
+        let at = self.marks.at(start);
+        line_at(self.alloc, self.file, at, label, words)
+    }
+
+    // The line, and the place.
+    fn push_placed(
+        &self,
+        out: &mut String,
+        start: usize,
+        label: &str,
+        words: &str,
+    ) -> Result<(), AllocError>
+        ensures { OnOk result (AddsText (labelled_text_of self.now start label.now words.now) out.old out.new) }
+    {
+        let line = self.line(start, label, words)?;
+        out.push_str(line.as_str())?;
+        out.push_str("\n")?;
+        push_place(out, self.text, start)
     }
 
     // The line of a note, and its place, if it has one.
-    fn push_note(
-        &self,
-        alloc: Global,
-        out: &mut String,
-        marks: &Marks<'_>,
-        note: &Note,
-    ) -> Result<(), AllocError>
-        requires { marks.now.text.now ≡ self.now.text.now }
+    fn push_note(&self, out: &mut String, note: &Note) -> Result<(), AllocError>
         ensures { OnOk result (AddsText (note_text_of self.now (note_of note.now)) out.old out.new) }
     {
-        if let Some(start) = note.start {
-            let line = self.placed(alloc, marks, start, note.words.as_str())?;
-            out.push_str(line.as_str())?;
-            out.push_str("\n")?;
-            return push_place(out, self.text, start);
+        match note.start {
+            Some(start) => self.push_placed(out, start, "note:", note.words.as_str()),
+            None => push_said(out, note.words.as_str()),
         }
-        push_said(out, note.words.as_str())
     }
 
-    /// All of them, one after another.
-    pub fn push(&self, alloc: Global, out: &mut String) -> Result<(), NoMemory>
-        ensures { OnOk result (AddsText (note_texts_of self.now (map note_of self.now.notes.now)) out.old out.new) }
+    // The line of a warning, and its place.
+    fn push_warning(&self, out: &mut String, warning: &Warning) -> Result<(), AllocError>
+        ensures { OnOk result (AddsText (warning_text_of self.now (warning_of warning.now)) out.old out.new) }
     {
-        let marks = Marks::of(alloc, self.text)?;
-        for note in self.notes {
-            self.push_note(alloc, out, &marks, note)?;
+        let words = warning.what.words(self.alloc)?;
+        self.push_placed(out, warning.start, "warning:", words.as_str())
+    }
+
+    /// Notes, one after another.
+    pub fn push_notes(&self, out: &mut String, notes: &[Note]) -> Result<(), AllocError>
+        ensures { OnOk result (AddsText (note_texts_of self.now (map note_of notes.now)) out.old out.new) }
+    {
+        for note in notes {
+            self.push_note(out, note)?;
+        }
+        Ok(())
+    }
+
+    /// Warnings, one after another.
+    pub fn push_warnings(&self, out: &mut String, warnings: &[Warning]) -> Result<(), AllocError>
+        ensures { OnOk result (AddsText (warning_texts_of self.now (map warning_of warnings.now)) out.old out.new) }
+    {
+        for warning in warnings {
+            self.push_warning(out, warning)?;
         }
         Ok(())
     }

@@ -1,6 +1,6 @@
 -- What is told of a cycle of lock classes: of each edge where a lock of its class is used, where the root of a path of the next class is
 -- bound, and whether this binding uses a lock of the edge's class itself.
-use Rattle.std.specs.Prelude.{◌≡◌, ℕ, List, [], ◌∷◌, ◌++◌, slice_get, Some, None, codes, string_bytes}
+use Rattle.std.specs.Prelude.{◌≡◌, ◌<◌, ◌≤◌, ℕ, List, [], ◌∷◌, ◌++◌, slice_get, Some, None, codes, string_bytes}
 use Rattle.core_lang.specs.declared.tree.Section.{Section}
 use Rattle.core_lang.specs.declared.typed.Typed.{Typed}
 use Rattle.flow.specs.Points.{Point, points, start_of}
@@ -59,6 +59,12 @@ apart_words program class =
     codes "this binding uses no lock of class " ++ class_name program class
     ++ codes " itself: put it before that use, where what it names is known there"
 
+-- the same, where the binding stands before that use in the text, so that it comes after it by a loop
+abbrev pub around_words : Typed → ℕ → List ℕ
+around_words program class =
+    codes "this binding stands before that use, and comes after it by a loop, while a lock of class " ++ class_name program class
+    ++ codes " is held: bind each object by a let before the loop, or take one global lock, or a common owner by where"
+
 -- this binding uses a lock of class CLASS: ..
 abbrev pub within_words : Typed → ℕ → List ℕ
 within_words program class =
@@ -68,18 +74,21 @@ within_words program class =
 abbrev pub on_no_place : List ℕ → Note
 on_no_place words = record { start = None; words = words }
 
--- of a section's point of this number that binds, the note says whether it uses a lock of the class, with a way out for either
-pub data TellsWay (program : Typed) (section : Section) (p class : ℕ) (note : Note) : Type 0 where
-  apart : (UsesClass program section p class → ⊥) → note ≡ on_no_place (apart_words program class) →
-      TellsWay program section p class note
+-- of a use of the class at a section's point of number u, and of its point of number p that binds, the note says whether the latter uses
+-- a lock of the class, and else whether it stands before the use, with a way out for each
+pub data TellsWay (program : Typed) (section : Section) (u p class : ℕ) (note : Note) : Type 0 where
+  apart : (UsesClass program section p class → ⊥) → u ≤ p → note ≡ on_no_place (apart_words program class) →
+      TellsWay program section u p class note
+  around : (UsesClass program section p class → ⊥) → p < u → note ≡ on_no_place (around_words program class) →
+      TellsWay program section u p class note
   within : UsesClass program section p class → note ≡ on_no_place (within_words program class) →
-      TellsWay program section p class note
+      TellsWay program section u p class note
 
 -- of an edge, in its section
 pub record TellsWayOut (program : Typed) (e : Edge) (way : Note) : Type 0 where
   pub section : Section
   pub here : slice_get program.sections.items e.section ≡ Some section
-  pub tells : TellsWay program section e.bound e.class way
+  pub tells : TellsWay program section e.used e.bound e.class way
 
 -- ---- cycles
 

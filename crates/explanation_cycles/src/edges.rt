@@ -84,7 +84,7 @@ impl Edges<'_, '_> {
             section: &self.program.sections[edge.section],
             found: &self.paths.sections[edge.section],
         };
-        notes.push(teller.way_note(alloc, edge.bound, edge.class)?)?;
+        notes.push(teller.way_note(alloc, edge.used, edge.bound, edge.class)?)?;
         Ok(())
     }
 }

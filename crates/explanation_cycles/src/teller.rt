@@ -9,7 +9,7 @@ ghost use Rattle.flow.specs.Working.PointList.{point_at};
 ghost use Rattle.locks.specs.LockPaths.{lock_path_of};
 ghost use Rattle.lockpaths.specs.Paths.{AreSectionPaths};
 ghost use Rattle.lockorder.specs.Edges.{UsesClass, BindsClass};
-ghost use Rattle.explanation_cycles.specs.CycleNotes.{TellsUse, TellsBinding, TellsWay, apart_words, within_words};
+ghost use Rattle.explanation_cycles.specs.CycleNotes.{TellsUse, TellsBinding, TellsWay, apart_words, around_words, within_words};
 ghost use Rattle.explanation_cycles.specs.Working.Tellers.{HasClass, BeginsAt, IsUsedPath, IsBoundPath, begins, said_of};
 
 use core_lang::tree::{Action, Section};
@@ -110,6 +110,21 @@ impl Teller<'_> {
         Ok(said)
     }
 
+    // The same, where the binding stands before that use.
+    fn around(&self, alloc: Global, class: usize) -> Result<String, NoMemory>
+        ensures { IfOk result (λ said. string_bytes said ≡ around_words self.now.program.now class) }
+    {
+        let mut said = String::from_str(
+            alloc,
+            "this binding stands before that use, and comes after it by a loop, while a lock of class ",
+        )?;
+        push_class(&mut said, self.program, class)?;
+        said.push_str(
+            " is held: bind each object by a let before the loop, or take one global lock, or a common owner by where",
+        )?;
+        Ok(said)
+    }
+
     // This binding uses a lock of class CLASS itself, and what can be done then.
     fn within(&self, alloc: Global, class: usize) -> Result<String, NoMemory>
         ensures { IfOk result (λ said. string_bytes said ≡ within_words self.now.program.now class) }
@@ -122,14 +137,23 @@ impl Teller<'_> {
         Ok(said)
     }
 
-    /// Whether the point of this number, which binds, uses a path of the class, and a way out: the note that says so.
-    pub fn way_note(&self, alloc: Global, point: usize, class: usize) -> Result<Note, NoMemory>
+    /// Whether the point of this number, which binds, uses a path of the class, and else whether it stands before the point that
+    /// is told to, and a way out: the note that says so.
+    pub fn way_note(
+        &self,
+        alloc: Global,
+        used: usize,
+        point: usize,
+        class: usize,
+    ) -> Result<Note, NoMemory>
         requires paths { AreSectionPaths self.now.program.now self.now.section.now self.now.found.now }
         requires point { point < length (all_points self.now.section.now) }
-        ensures { IfOk result (λ note. TellsWay self.now.program.now self.now.section.now point class (note_of note)) }
+        ensures { IfOk result (λ note. TellsWay self.now.program.now self.now.section.now used point class (note_of note)) }
     {
         let words = if self.uses_class(point, class) {
             self.within(alloc, class)?
+        } else if point < used {
+            self.around(alloc, class)?
         } else {
             self.apart(alloc, class)?
         };

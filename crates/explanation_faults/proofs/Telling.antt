@@ -6,14 +6,13 @@ use Rattle.std.proofs.lemmas.Result.{IfOk-weaker}
 use Rattle.explanation.specs.Notes.{Note, note_of}
 use Rattle.explanation.specs.declared.note.Note as written
 use Rattle.source.specs.declared.fault.Code.{Code}
-use Rattle.source.specs.declared.fault.Code.TheVariants.{UnstableBase}
+use Rattle.source.specs.declared.fault.Code.TheVariants.{WrongType, WrongArgumentCount, NotAssignable, UnstableBase}
 use Rattle.source.specs.declared.memory.NoMemory.{NoMemory}
 use Rattle.resolution.specs.Faults.{IsDeclaredTwice, PassesNonFinal}
 use Rattle.source.specs.Tokens.{Tok}
 use Rattle.syntax.specs.Trees.{Decl}
-use Rattle.explanation_types.specs.TypeNotes.{IsTypeNote}
 use Rattle.explanation_faults.specs.declared.tree_notes.Faulty.{Faulty}
-use Rattle.explanation_faults.specs.FaultNotes.{IsTrueNote, IsTold, IsDeclaredNote, HasTypeNote, IsLockNote}
+use Rattle.explanation_faults.specs.FaultNotes.{IsTrueNote, IsTold, IsDeclaredNote, IsLockNote}
 use Rattle.explanation_faults.specs.FaultNotes.{IsLockWanted, IsPassedNote, IsGivenNote, IsGivenAgain, IsLimitTold}
 use Rattle.explanation_faults.specs.FaultNotes.{count_told, amount_told, finals_told, helpers_told, paths_told}
 use Rattle.explanation_faults.specs.FaultNotes.{declared_note, lock_note, passed_note, given_note}
@@ -22,7 +21,7 @@ use Rattle.explanation_faults.specs.HelperLimits.{IsFirstOfHelpers}
 use Rattle.explanation_faults.specs.LimitsPassed.{AreFinalsPassed, IsCountPassed}
 use Rattle.explanation_faults.specs.PathsPassed.{ArePathsFirst}
 use Rattle.explanation_faults.specs.Working.VarsFound.{var_noted}
-use Rattle.explanation_faults.specs.Working.Values.{decls_of, tokens_of, FoundNote, IsNoteIfTold}
+use Rattle.explanation_faults.specs.Working.Values.{decls_of, tokens_of, FoundNote, IsNoteIfTold, IsReasonIfTold}
 use Rattle.explanation_faults.proofs.Given.{first_of_given}
 use Rattle.explanation_faults.proofs.PassedMembers.{passed_some}
 use Rattle.explanation_faults.proofs.Twice.{first_of_twice}
@@ -58,9 +57,6 @@ module _ (decls : List Decl) (at : ℕ) where
   twice_told twice =
       let f = first_of_twice decls at twice in
       (declared_note f.0, record { name = f.0; declared = f.1; said = refl })
-
-  pub type_told : HasTypeNote decls at → (note : Note) × IsTypeNote decls at note
-  type_told said = (said.note, said.is_true)
 
   pub lock_told : IsLockWanted decls at → (note : Note) × IsLockNote decls at note
   lock_told wanted = (lock_note wanted.name, record { name = wanted.name; at_hand = wanted.at_hand; said = refl })
@@ -98,3 +94,27 @@ var_if x None e = λ told. no_var_there (tokens_of x) (decls_of x) x.at (sym e) 
 pub var_told : (x : Faulty) (r : Result (Option written.Note) NoMemory) →
     IfOk r (λ o. option_map note_of o ≡ var_noted (tokens_of x) (decls_of x) x.at) → IfOk r (IsNoteIfTold x UnstableBase)
 var_told x r found = IfOk-weaker r _ _ (var_if x) found
+
+-- ---- why the fault is one
+
+type_if : (x : Faulty) (o : Option written.Note) → IsReasonIfTold x WrongType o → IsNoteIfTold x WrongType o
+type_if x (Some note) is = is
+type_if x None none = none
+
+count_if : (x : Faulty) (o : Option written.Note) → IsReasonIfTold x WrongArgumentCount o → IsNoteIfTold x WrongArgumentCount o
+count_if x (Some note) is = is
+count_if x None none = none
+
+target_if : (x : Faulty) (o : Option written.Note) → IsReasonIfTold x NotAssignable o → IsNoteIfTold x NotAssignable o
+target_if x (Some note) is = is
+target_if x None none = none
+
+module _ (x : Faulty) (r : Result (Option written.Note) NoMemory) where
+  pub type_told : IfOk r (IsReasonIfTold x WrongType) → IfOk r (IsNoteIfTold x WrongType)
+  type_told found = IfOk-weaker r _ _ (type_if x) found
+
+  pub count_told_of : IfOk r (IsReasonIfTold x WrongArgumentCount) → IfOk r (IsNoteIfTold x WrongArgumentCount)
+  count_told_of found = IfOk-weaker r _ _ (count_if x) found
+
+  pub target_told : IfOk r (IsReasonIfTold x NotAssignable) → IfOk r (IsNoteIfTold x NotAssignable)
+  target_told found = IfOk-weaker r _ _ (target_if x) found

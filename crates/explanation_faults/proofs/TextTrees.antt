@@ -1,11 +1,12 @@
 -- The tokens of a text and their tree, and what these tell.
-use Rattle.std.proofs.Common.{◌≡◌, ℕ, zero, suc, ◌<◌, ◌≤◌, List, [], ◌∷◌, length, refl, sym, subst, arith, ⊎_elim}
+use Rattle.std.proofs.Common.{◌≡◌, ℕ, zero, suc, ◌<◌, ◌≤◌, List, [], ◌∷◌, ◌++◌, ◌∙◌, ap, length, slice_get}
+use Rattle.std.proofs.Common.{Option, Some, option_to_list, refl, sym, subst, arith, ⊎_elim, length-append}
 use Rattle.std.specs.Prelude.{All, codes}
 use Rattle.std.proofs.lemmas.Bool.{cases_lt}
-use Rattle.std.proofs.lemmas.List.Elements.{All-weaker}
+use Rattle.std.proofs.lemmas.List.Elements.{All-append, All-weaker}
 use Rattle.explanation.specs.Notes.{Note}
 use Rattle.source.specs.declared.fault.Code.{Code}
-use Rattle.source.specs.declared.fault.Code.TheVariants.{LimitExceeded}
+use Rattle.source.specs.declared.fault.Code.TheVariants.{BadCharacter, LimitExceeded, UnexpectedToken}
 use Rattle.source.specs.declared.fault.Fault.{Fault}
 use Rattle.source.specs.declared.fault.Refusal.TheVariants as refusal
 use Rattle.source.specs.Faults.{IsFaultAt}
@@ -16,10 +17,12 @@ use Rattle.syntax.specs.Grammar.{HasTree, Spells}
 use Rattle.syntax.specs.Trees.{Decl}
 use Rattle.explanation_faults.specs.FaultNotes.{IsTrueNote, IsTold, AreNotes}
 use Rattle.explanation_faults.specs.TextNotes.{HasTextTree, IsTextLimit, source, a_name, IsTrueTextNote, of_tree}
-use Rattle.explanation_faults.specs.TextNotes.{of_tokens, of_limit, AreTextNotes}
+use Rattle.explanation_faults.specs.TextNotes.{AreTextNotes, AreTrueTextNotes, IsMarkFault, mark_words, of_advice}
+use Rattle.explanation_faults.specs.TextNotes.{of_limit, of_mark, of_tokens}
 use Rattle.explanation_faults.specs.Working.Values.{IsItsFault, IsLimitAt}
 use Rattle.explanation_faults.specs.Words.{note_of_all}
-use Rattle.explanation_tokens.specs.Expected.{AreTokenNotes, IsTokenTold, IsTrueTokenNote}
+use Rattle.explanation_tokens.specs.Expected.{AreInOrder, IsTokenTold, IsTrueTokenNote}
+use Rattle.explanation_tokens.specs.Told.{AreNotesOnTokens, IsAdvice}
 use Rattle.explanation_faults.proofs.InOrder.{are_in_order}
 
 -- a text has no other tokens
@@ -68,12 +71,14 @@ no_limit text found fault is other words limited limit =
     let same = is.1 LimitExceeded fault.start (fault_of limit) in other (sym same.0, sym same.1) (limited, same.1)
 
 module _ (text : List ℕ) (found : Fault) (is : IsItsFault text found) (code : Code) (at : ℕ) where
-  pub without_limit : ((words : List ℕ) → code ≡ LimitExceeded → IsTextLimit text at words → ⊥) →
+  pub without_limit : (IsMarkFault text code at → ⊥) → ((words : List ℕ) → code ≡ LimitExceeded → IsTextLimit text at words → ⊥) →
       AreTextNotes text code at []
-  without_limit none = record {
+  without_limit other none = record {
     are_true = λ k d lt. absurd (omega arith);
     told = λ ts ds short h told. absurd (is.2 ts short h.has_tokens);
     expected = λ us short have unexpected told. absurd (is.2 us short have);
+    advised = λ us note short have unexpected first. absurd (is.2 us short have);
+    marked = λ mark. absurd (other mark);
     limited = λ words limited limit. absurd (none words limited limit);
   }
 
@@ -83,6 +88,8 @@ module _ (text : List ℕ) (found : Fault) (is : IsItsFault text found) (code : 
     are_true = alone (IsTrueTextNote text code at) (note_of_all words) (of_limit limited limit refl);
     told = λ ts ds short h told. omega arith;
     expected = λ us short have unexpected told. omega arith;
+    advised = λ us note short have unexpected first. absurd (is.2 us short have);
+    marked = λ mark. omega arith;
     limited = λ words limited limit. omega arith;
   }
 
@@ -97,17 +104,38 @@ within_limit text none =
     ⊎_elim (λ (long : SOURCE_LIMIT < length text). absurd (none LimitExceeded 0 (too_big long))) (λ (few : length text ≤ SOURCE_LIMIT). few)
     (cases_lt SOURCE_LIMIT (length text))
 
+-- what is told of tokens of the text is told of the text
+all_of_tokens : (text : List ℕ) (ts : List Tok) (code : Code) (at : ℕ) (notes : List Note) → length text ≤ SOURCE_LIMIT →
+    HasTokens text ts → AreNotesOnTokens ts code at notes → AreTrueTextNotes text code at notes
+all_of_tokens text ts code at notes few has are =
+    subst (All (IsTrueTextNote text code at)) (sym are.parts)
+    (All-append (IsTrueTextNote text code at) are.advice are.expected
+    (All-weaker (IsAdvice ts code at) (IsTrueTextNote text code at) (λ note is. of_advice few has is) are.advice are.advised.are_advice)
+    (All-weaker (IsTrueTokenNote ts code at) (IsTrueTextNote text code at) (λ note is. of_tokens few has is) are.expected are.are_expected.are_true))
+
+-- what is advised comes first
+advice_first : (ts : List Tok) (code : Code) (at : ℕ) (notes : List Note) → AreNotesOnTokens ts code at notes → AreInOrder ts at →
+    (note : Note) → IsAdvice ts code at note → slice_get notes 0 ≡ Some note
+advice_first ts code at notes are order note is =
+    let told : are.advice ≡ note ∷ [] = are.advised.told order is.unexpected is.before is.place ∙ ap (λ (o : Option Note). option_to_list o) is.first in
+    ap (λ (l : List Note). slice_get l 0) (are.parts ∙ ap (λ (l : List Note). l ++ are.expected) told)
+
 -- what has no tree tells what its tokens do
 pub without_tree : (text : List ℕ) (ts : List Tok) (code : Code) (at : ℕ) (notes : List Note) → IsFaultless text →
-    HasTokens text ts →
-    Only text ts → ((ds : List Decl) → HasTree ts ds → ⊥) → AreTokenNotes ts code at notes → AreTextNotes text code at notes
-without_tree text ts code at notes no_fault has only none are = let few = within_limit text no_fault in record {
-  are_true = All-weaker (IsTrueTokenNote ts code at) (IsTrueTextNote text code at) (λ note is. of_tokens few has is) notes are.are_true;
+    (IsMarkFault text code at → ⊥) → HasTokens text ts →
+    Only text ts → ((ds : List Decl) → HasTree ts ds → ⊥) → AreNotesOnTokens ts code at notes → AreTextNotes text code at notes
+without_tree text ts code at notes no_fault other has only none are = let few = within_limit text no_fault in record {
+  are_true = all_of_tokens text ts code at notes few has are;
   told = λ us ds short h told. absurd (none ds (subst (λ (l : List Tok). HasTree l ds) (only us short h.has_tokens) h.has_tree));
   expected = λ us short have unexpected told.
       let same = only us short have in
       let there = subst (λ (l : List Tok). IsTokenTold l code at) same told in
-      are.told (are_in_order text ts at there.before few has there.place) there;
+      let many = are.are_expected.told (are_in_order text ts at there.before few has there.place) there in
+      omega (arith, many, ap (λ (l : List Note). length l) are.parts, length-append are.advice are.expected);
+  advised = λ us note short have unexpected first.
+      let there = subst (λ (l : List Tok). IsAdvice l code at note) (only us short have) first in
+      advice_first ts code at notes are (are_in_order text ts at there.before few has there.place) note there;
+  marked = λ mark. absurd (other mark);
   limited = λ words is limit. absurd (no_fault LimitExceeded at (fault_of limit));
 }
 
@@ -123,9 +151,9 @@ no_unexpected : (ts : List Tok) (ds : List Decl) (at : ℕ) → HasTree ts ds �
 no_unexpected ts ds at tree fault = fault.no_program ds fault.after (subst (Spells ds) fault.parts tree.0)
 
 pub with_tree : (text : List ℕ) (ts : List Tok) (ds : List Decl) (code : Code) (at : ℕ) (notes : List Note) →
-    ((us : List Tok) (a b : List Decl) → HasTree us a → HasTree us b → a ≡ b) → IsFaultless text → HasTokens text ts →
-    Only text ts → HasTree ts ds → AreNotes ts ds code at notes → AreTextNotes text code at notes
-with_tree text ts ds code at notes one no_fault has only tree are = let few = within_limit text no_fault in record {
+    ((us : List Tok) (a b : List Decl) → HasTree us a → HasTree us b → a ≡ b) → IsFaultless text →
+    (IsMarkFault text code at → ⊥) → HasTokens text ts → Only text ts → HasTree ts ds → AreNotes ts ds code at notes → AreTextNotes text code at notes
+with_tree text ts ds code at notes one no_fault other has only tree are = let few = within_limit text no_fault in record {
   are_true = all_of_tree text ts ds code at notes few (record { has_tokens = has; has_tree = tree }) are.are_true;
   told = λ us es short h told.
       let same = only us short h.has_tokens in
@@ -133,5 +161,20 @@ with_tree text ts ds code at notes one no_fault has only tree are = let few = wi
       are.told (subst (λ (l : List Tok). IsTold l ds code at) same (subst (λ (d : List Decl). IsTold us d code at) alike told));
   expected = λ us short have unexpected told.
       absurd (no_unexpected ts ds at tree (subst (λ (l : List Tok). IsUnexpected l at) (only us short have) unexpected));
+  advised = λ us note short have unexpected first.
+      absurd (no_unexpected ts ds at tree (subst (λ (l : List Tok). IsUnexpected l at) (only us short have) unexpected));
+  marked = λ mark. absurd (other mark);
   limited = λ words is limit. absurd (no_fault LimitExceeded at (fault_of limit));
+}
+
+-- what is told of a byte order mark
+pub of_its_mark : (text : List ℕ) (code : Code) (at : ℕ) → IsMarkFault text code at →
+    AreTextNotes text code at (note_of_all mark_words ∷ [])
+of_its_mark text code at mark = record {
+  are_true = alone (IsTrueTextNote text code at) (note_of_all mark_words) (of_mark mark refl);
+  told = λ ts ds short h told. omega arith;
+  expected = λ us short have unexpected told. omega arith;
+  advised = λ us note short have unexpected first. absurd (let no : BadCharacter ≡ UnexpectedToken = sym mark.bad ∙ first.unexpected in cc);
+  marked = λ mark. omega arith;
+  limited = λ words limited limit. omega arith;
 }

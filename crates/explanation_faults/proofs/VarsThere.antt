@@ -64,7 +64,7 @@ module _ (at : ℕ) where
       ap (λ (o : Option Section). o >>= λ (t : Section). if encloses at t then Some t else None) body
       ∙ ap (λ (b : Bool). if b then Some s else None) (inside_so s is)
 
-  is_in : (decls : List Decl) (s : Section) → section_there decls at ≡ Some s → IsIn decls at s
+  pub is_in : (decls : List Decl) (s : Section) → section_there decls at ≡ Some s → IsIn decls at s
   is_in decls s is =
       let g = given_by (section_if at) decls s is in
       let found = section_of g.x s g.gives in
@@ -78,7 +78,7 @@ module _ (at : ℕ) where
         none = λ d t has body inside. not_none (section_if at d) t (section_so d t body inside) (g.none d has);
       }
 
-  in_there : (decls : List Decl) (s : Section) → IsIn decls at s → section_there decls at ≡ Some s
+  pub in_there : (decls : List Decl) (s : Section) → IsIn decls at s → section_there decls at ≡ Some s
   in_there decls s is =
       ap (first_by (section_if at)) is.parts
       ∙ given_back (section_if at) is.before is.decl is.behind s (section_so is.decl s is.body is.encloses)

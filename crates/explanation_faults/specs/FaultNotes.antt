@@ -1,19 +1,21 @@
 -- What is told of a fault beyond its line.
 use Rattle.std.specs.Fmt.{decimal}
-use Rattle.std.specs.Prelude.{◌≡◌, ◌≤◌, ℕ, List, ◌∷◌, ◌++◌, Some, All, codes, length}
+use Rattle.std.specs.Prelude.{◌≡◌, ◌≤◌, ℕ, List, ◌∷◌, ◌++◌, Some, None, All, false, codes, length}
 use Rattle.explanation.specs.Notes.{Note}
 use Rattle.resolution.specs.Constants.{init_target_of, giver}
-use Rattle.resolution.specs.Faults.{IsDeclaredTwice, PassesNonFinal, IsFinalMissing}
+use Rattle.resolution.specs.Faults.{IsFault, IsDeclaredTwice, PassesNonFinal, IsFinalMissing}
 use Rattle.resolution.specs.Scopes.{member_name}
 use Rattle.resolution.specs.declared.init_target.InitTarget.{InitTarget}
 use Rattle.source.specs.declared.fault.Code.{Code}
+use Rattle.source.specs.Mistakes.{goes_before}
 use Rattle.source.specs.declared.fault.Code.TheVariants.{DeclaredTwice, UnknownName, WrongType}
+use Rattle.source.specs.declared.fault.Code.TheVariants.{WrongArgumentCount, NotAssignable}
 use Rattle.source.specs.declared.fault.Code.TheVariants.{NeitherFinalNorProtected, ProtectedByPassesNonFinal}
 use Rattle.source.specs.declared.fault.Code.TheVariants.{UnstableBase, LimitExceeded, FinalWithoutOpeningValue}
 use Rattle.source.specs.declared.fault.Code.TheVariants.{InitOutOfRangeOrRepeated, MisplacedReturn}
 use Rattle.source.specs.Tokens.{Tok}
-use Rattle.syntax.specs.Trees.{Ident, Final, Init, Member, Pool, Decl, lock, init}
-use Rattle.explanation_types.specs.TypeNotes.{IsTypeNote}
+use Rattle.syntax.specs.Trees.{Ident, Final, Init, Member, Pool, Section, Decl, lock, init}
+use Rattle.explanation_faults.specs.ReasonNotes.{IsReasonNote}
 use Rattle.explanation_names.specs.NearNames.{CouldStand, IsNear, IsNearestOf}
 use Rattle.explanation_faults.specs.Inits.{IsGivenFirst}
 use Rattle.explanation_faults.specs.AmountsPassed.{IsAmountPassed}
@@ -26,7 +28,7 @@ use Rattle.explanation_faults.specs.NameSpaces.{IsDeclaredAs}
 use Rattle.explanation_faults.specs.PassedMembers.{passed_at}
 use Rattle.explanation_faults.specs.PathsPassed.{ArePathsFirst, ArePathsPast}
 use Rattle.explanation_faults.specs.TokensThere.{name_there}
-use Rattle.explanation_faults.specs.Vars.{IsVarNote, IsVarThere}
+use Rattle.explanation_faults.specs.Vars.{IsIn, IsVarNote, IsVarThere}
 use Rattle.explanation_faults.specs.Words.{name_note, note_on, note_of_all}
 
 -- ---- words
@@ -61,6 +63,9 @@ given_note i = note_on i.start.start (i.field.text ++ codes " is given here")
 
 abbrev pub missing_note : Ident → Note
 missing_note x = name_note x (codes " has a result, and its body does not end in a return")
+
+abbrev pub typeless_note : Ident → Note
+typeless_note x = name_note x (codes " has no result type: write one after its parameters, as : int")
 
 abbrev pub misplaced_note : Note
 misplaced_note = note_of_all (codes "this return is not the last statement of a body with a result")
@@ -123,16 +128,22 @@ pub record IsGivenNote (decls : List Decl) (at : ℕ) (note : Note) : Type 0 whe
   pub given : IsGivenFirst decls at first
   pub said : note ≡ given_note first
 
--- E18: a section or a helper whose return is missing; or that no return is missing there, so that the one there is misplaced
+-- E18: a section or a helper whose return is missing; or, where none is missing there, the one that the place is in, if that has no result
+-- type, else that the return there is misplaced
 pub data IsReturnNote (decls : List Decl) (at : ℕ) : Note → Type 0 where
   missing : {x : Ident} → IsLacking decls at x → IsReturnNote decls at (missing_note x)
-  misplaced : ((x : Ident) → IsLacking decls at x → ⊥) → IsReturnNote decls at misplaced_note
+  typeless : {s : Section} → ((x : Ident) → IsLacking decls at x → ⊥) → IsIn decls at s → s.result ≡ None →
+      IsReturnNote decls at (typeless_note s.name)
+  misplaced : ((x : Ident) → IsLacking decls at x → ⊥) → ((s : Section) → IsIn decls at s → s.result ≡ None → ⊥) →
+      IsReturnNote decls at misplaced_note
 
 -- of a fault of this code at this byte of the tokens and their tree, the note says what is so
 abbrev pub IsTrueNote : List Tok → List Decl → Code → ℕ → Note → Type 0
 IsTrueNote tokens decls DeclaredTwice at note = IsDeclaredNote decls at note
 IsTrueNote tokens decls UnknownName at note = IsNearNote tokens decls at note
-IsTrueNote tokens decls WrongType at note = IsTypeNote decls at note
+IsTrueNote tokens decls WrongType at note = IsReasonNote decls WrongType at note
+IsTrueNote tokens decls WrongArgumentCount at note = IsReasonNote decls WrongArgumentCount at note
+IsTrueNote tokens decls NotAssignable at note = IsReasonNote decls NotAssignable at note
 IsTrueNote tokens decls NeitherFinalNorProtected at note = IsLockNote decls at note
 IsTrueNote tokens decls ProtectedByPassesNonFinal at note = IsPassedNote decls at note
 IsTrueNote tokens decls UnstableBase at note = IsVarNote tokens decls at note
@@ -152,10 +163,11 @@ pub record HasNearName (tokens : List Tok) (decls : List Decl) (at : ℕ) : Type
   pub could : CouldStand decls at name
   pub near : IsNear unknown name.text
 
--- something can be said of types there
-pub record HasTypeNote (decls : List Decl) (at : ℕ) : Type 0 where
-  pub note : Note
-  pub is_true : IsTypeNote decls at note
+-- a fault of this code stands there, and none of the program goes before it
+pub record IsFirstFault (decls : List Decl) (code : Code) (at : ℕ) : Type 0 where
+  pub is_fault : IsFault decls code at
+  pub first : (other : Code) (p : ℕ) → IsFault decls other p →
+      goes_before (record { code = other; start = p }) (record { code = code; start = at }) ≡ false
 
 -- something there lacks an annotation, and a lock could protect it
 pub record IsLockWanted (decls : List Decl) (at : ℕ) : Type 0 where
@@ -179,7 +191,9 @@ pub data IsLimitTold (tokens : List Tok) (decls : List Decl) (at : ℕ) : Type 0
 abbrev pub IsTold : List Tok → List Decl → Code → ℕ → Type 0
 IsTold tokens decls DeclaredTwice at = IsDeclaredTwice decls at
 IsTold tokens decls UnknownName at = HasNearName tokens decls at
-IsTold tokens decls WrongType at = HasTypeNote decls at
+IsTold tokens decls WrongType at = IsFirstFault decls WrongType at
+IsTold tokens decls WrongArgumentCount at = IsFirstFault decls WrongArgumentCount at
+IsTold tokens decls NotAssignable at = IsFirstFault decls NotAssignable at
 IsTold tokens decls NeitherFinalNorProtected at = IsLockWanted decls at
 IsTold tokens decls ProtectedByPassesNonFinal at = PassesNonFinal decls at
 IsTold tokens decls UnstableBase at = (x : Ident) × IsVarThere tokens decls at x

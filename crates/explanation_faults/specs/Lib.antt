@@ -9,6 +9,7 @@ pub mod PathsPassed
 pub mod TokensThere
 pub mod Vars
 pub mod Words
+pub mod ReasonNotes
 pub mod LocksAtHand
 pub mod PassedMembers
 pub mod MissingInits

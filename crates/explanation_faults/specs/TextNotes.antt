@@ -1,13 +1,15 @@
 -- What is told of a fault of a text beyond its line.
-use Rattle.std.specs.Prelude.{◌≡◌, ◌<◌, ◌≤◌, ℕ, List, All, codes, length}
+use Rattle.std.specs.List.{starts_with}
+use Rattle.std.specs.Prelude.{◌≡◌, ◌<◌, ◌≤◌, ℕ, Bool, true, ◌||◌, nat_eq, List, [], ◌∷◌, All, codes, length, slice_get, Some}
 use Rattle.explanation.specs.Notes.{Note}
 use Rattle.source.specs.declared.fault.Code.{Code}
-use Rattle.source.specs.declared.fault.Code.TheVariants.{LimitExceeded}
+use Rattle.source.specs.declared.fault.Code.TheVariants.{BadCharacter, LimitExceeded}
 use Rattle.source.specs.Texts.{HasTokens, IsOver, SOURCE_LIMIT}
 use Rattle.source.specs.Tokens.{Tok, name}
 use Rattle.syntax.specs.Faults.{IsUnexpected}
 use Rattle.syntax.specs.Grammar.{HasTree}
 use Rattle.explanation_tokens.specs.Expected.{IsTrueTokenNote, IsTokenTold}
+use Rattle.explanation_tokens.specs.Told.{IsAdvice}
 use Rattle.syntax.specs.Trees.{Decl}
 use Rattle.explanation_faults.specs.FaultNotes.{IsTrueNote, IsTold}
 use Rattle.explanation_faults.specs.Words.{note_of_all}
@@ -23,12 +25,30 @@ pub data IsTextLimit (text : List ℕ) : ℕ → List ℕ → Type 0 where
   a_name : {at : ℕ} (x : List ℕ) →
       length text ≤ SOURCE_LIMIT → IsOver (length text) text at (name x) → IsTextLimit text at (codes "a name has at most 64 bytes")
 
+-- the text begins with a byte order mark: that of UTF-8, or one of UTF-16
+abbrev pub has_mark : List ℕ → Bool
+has_mark text =
+    starts_with nat_eq text (239 ∷ 187 ∷ 191 ∷ []) || starts_with nat_eq text (254 ∷ 255 ∷ []) || starts_with nat_eq text (255 ∷ 254 ∷ [])
+
+-- a fault of this code at this byte is that mark
+pub record IsMarkFault (text : List ℕ) (code : Code) (at : ℕ) : Type 0 where
+  pub few : length text ≤ SOURCE_LIMIT
+  pub bad : code ≡ BadCharacter
+  pub first : at ≡ 0
+  pub marked : has_mark text ≡ true
+
+abbrev pub mark_words : List ℕ
+mark_words = codes "the file begins with a byte order mark: save it as ASCII or UTF-8 without one"
+
 -- of a fault of this code at this byte of the text, the note says what is so; of a text that is too long only that is said
 pub data IsTrueTextNote (text : List ℕ) (code : Code) (at : ℕ) (note : Note) : Type 0 where
   of_tree : {tokens : List Tok} {decls : List Decl} →
       length text ≤ SOURCE_LIMIT → HasTextTree text tokens decls → IsTrueNote tokens decls code at note → IsTrueTextNote text code at note
   of_tokens : {tokens : List Tok} →
       length text ≤ SOURCE_LIMIT → HasTokens text tokens → IsTrueTokenNote tokens code at note → IsTrueTextNote text code at note
+  of_advice : {tokens : List Tok} →
+      length text ≤ SOURCE_LIMIT → HasTokens text tokens → IsAdvice tokens code at note → IsTrueTextNote text code at note
+  of_mark : IsMarkFault text code at → note ≡ note_of_all mark_words → IsTrueTextNote text code at note
   of_limit : {words : List ℕ} →
       code ≡ LimitExceeded → IsTextLimit text at words → note ≡ note_of_all words → IsTrueTextNote text code at note
 
@@ -40,6 +60,12 @@ abbrev pub IsExpectedTold : List ℕ → Code → ℕ → List Note → Type 0
 IsExpectedTold text code at notes =
     (tokens : List Tok) → length text ≤ SOURCE_LIMIT → HasTokens text tokens → IsUnexpected tokens at → IsTokenTold tokens code at → 1 ≤ length notes
 
+-- and what is advised on it, if anything is, is the first note
+abbrev pub IsAdviceTold : List ℕ → Code → ℕ → List Note → Type 0
+IsAdviceTold text code at notes =
+    (tokens : List Tok) (note : Note) → length text ≤ SOURCE_LIMIT → HasTokens text tokens → IsUnexpected tokens at →
+    IsAdvice tokens code at note → slice_get notes 0 ≡ Some note
+
 -- the notes are true, and there is one where there must be
 pub record AreTextNotes (text : List ℕ) (code : Code) (at : ℕ) (notes : List Note) : Type 0 where
   pub are_true : AreTrueTextNotes text code at notes
@@ -47,4 +73,6 @@ pub record AreTextNotes (text : List ℕ) (code : Code) (at : ℕ) (notes : List
       IsTold tokens decls code at →
       1 ≤ length notes
   pub expected : IsExpectedTold text code at notes
+  pub advised : IsAdviceTold text code at notes
+  pub marked : IsMarkFault text code at → 1 ≤ length notes
   pub limited : (words : List ℕ) → code ≡ LimitExceeded → IsTextLimit text at words → 1 ≤ length notes

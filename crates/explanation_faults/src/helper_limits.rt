@@ -17,7 +17,7 @@ use source::memory::NoMemory;
 use source::mistake::Mistake;
 use std::alloc::Global;
 use syntax::tree::Decl;
-use types_calls::program::note_calls;
+use types_calls::program::judge_calls;
 use types_calls::walk::Reader;
 use types_symbols::table::SymbolTable;
 
@@ -62,7 +62,7 @@ fn is_first_there(alloc: Global, symbols: &SymbolTable, at: usize) -> Result<boo
         code: Code::RecursiveHelper,
         start: at,
     });
-    note_calls(alloc, symbols, &mut least)?;
+    judge_calls(alloc, symbols, &mut least)?;
     match least {
         Some(found) => Ok(found.code == Code::LimitExceeded && found.start == at),
         None => Ok(false),

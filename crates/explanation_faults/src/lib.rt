@@ -2,7 +2,7 @@
 //!
 //! - [`fault_notes`]: the notes on a fault: `specs/TextNotes.antt` and `specs/FaultNotes.antt` say which are true, and where there
 //!   must be one.
-//! - `specs/NameSpaces.antt`: which names must differ, and which of two is the first. `specs/LocksAtHand.antt`: a lock for what
+//! - `specs/ReasonNotes.antt`: why a fault is one, in words. `specs/NameSpaces.antt`: which names must differ, and which of two is the first. `specs/LocksAtHand.antt`: a lock for what
 //!   has none. `specs/PassedMembers.antt`: what an annotation passes. `specs/MissingInits.antt`: which `init` is missing.
 //!   `specs/Vars.antt`: which `var` a name is. `specs/LimitsPassed.antt`, `AmountsPassed.antt`, `HelperLimits.antt`
 //!   and `PathsPassed.antt`: which limit is passed. `specs/Inits.antt`: the first `init` of a field.
@@ -22,6 +22,7 @@ mod missing_returns;
 mod name_spaces;
 mod noted;
 mod passed_members;
+mod reasons;
 mod same_names;
 mod text_notes;
 mod tokens_there;

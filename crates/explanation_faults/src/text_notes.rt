@@ -1,12 +1,14 @@
 //! What a text tells of its fault.
 
-ghost use Rattle.std.specs.Prelude.{IfOk, map};
+ghost use Rattle.std.specs.Prelude.{◌≡◌, [], ◌∷◌, IfOk, IsTrue, map};
 ghost use Rattle.explanation.specs.Notes.{note_of};
-ghost use Rattle.explanation_faults.specs.TextNotes.{AreTextNotes};
+ghost use Rattle.explanation_faults.specs.TextNotes.{AreTextNotes, IsMarkFault, has_mark, mark_words};
 ghost use Rattle.explanation_faults.specs.Working.Values.{FoundTextLimit, IsItsFault};
+ghost use Rattle.explanation_faults.specs.Words.{note_of_all};
 
 use crate::lock_paths::is_limit_at;
-use crate::tree_notes::{return_notes, tree_notes};
+use crate::reasons::reason_of;
+use crate::tree_notes::{Known, return_notes, tree_notes};
 use explanation::Note;
 use explanation_tokens::token_notes;
 use lexer::lex;
@@ -19,6 +21,9 @@ use types_symbols::table::SymbolTable;
 
 /// How many bytes a source may have.
 const MOST_BYTES: usize = 1_048_576;
+
+/// What is said of a byte order mark.
+const MARK: &str = "the file begins with a byte order mark: save it as ASCII or UTF-8 without one";
 
 /// What is said of the limit of a text itself that this fault passes, if the one that is found is that.
 fn text_limit(text: &[u8], found: &Fault, fault: &Fault) -> Option<&'static str>
@@ -41,7 +46,8 @@ fn limit_notes(
     found: &Fault,
     fault: &Fault,
 ) -> Result<Vec<Note>, NoMemory>
-    requires { IsItsFault text.now found.now }
+    requires its { IsItsFault text.now found.now }
+    requires other { IsMarkFault text.now fault.now.code fault.now.start → ⊥ }
     ensures { IfOk result (λ notes. AreTextNotes text.now fault.now.code fault.now.start (map note_of notes.items)) }
 {
     let mut notes = Vec::new(alloc);
@@ -55,16 +61,41 @@ fn limit_notes(
     Ok(notes)
 }
 
-/// What is told of this fault of the text, beyond its line: all that could come in the place of an unexpected token, where a name is
-/// declared first, which declared name could be meant by an unknown one, which type is wanted and which is there, a lock that could
-/// protect it, which member an annotation passes, which `var` a name is, which limit is passed, which `init` is missing or the first,
-/// which `return` is missing. Only an unexpected token and a fault of names, types, annotations, bases, limits, `init`s or returns has
-/// such notes.
-///
-/// # Errors
-///
-/// Want of memory.
-pub fn fault_notes(alloc: Global, text: &[u8], fault: &Fault) -> Result<Vec<Note>, NoMemory>
+/// Whether the text begins with a byte order mark.
+fn has_mark(text: &[u8]) -> bool
+    ensures { result ≡ has_mark text.now }
+{
+    text.starts_with(&[0xEF, 0xBB, 0xBF])
+        || text.starts_with(&[0xFE, 0xFF])
+        || text.starts_with(&[0xFF, 0xFE])
+}
+
+/// Whether the fault is the byte order mark with which the text begins.
+fn is_mark(text: &[u8], fault: &Fault) -> bool
+    ensures mark { IsTrue result → IsMarkFault text.now fault.now.code fault.now.start }
+    ensures no_mark { IsMarkFault text.now fault.now.code fault.now.start → IsTrue result }
+{
+    match fault.code {
+        Code::BadCharacter => { fault.start == 0 && text.len() <= MOST_BYTES && has_mark(text) }
+        _ => false,
+    }
+}
+
+/// What is told of a byte order mark.
+fn mark_notes(alloc: Global) -> Result<Vec<Note>, NoMemory>
+    ensures { IfOk result (λ notes. map note_of notes.items ≡ note_of_all mark_words ∷ []) }
+{
+    let mut notes = Vec::new(alloc);
+    notes.push(Note {
+        start: None,
+        words: String::from_str(alloc, MARK)?,
+    })?;
+    Ok(notes)
+}
+
+/// What is told of a fault that is no byte order mark.
+fn other_notes(alloc: Global, text: &[u8], fault: &Fault) -> Result<Vec<Note>, NoMemory>
+    requires { IsMarkFault text.now fault.now.code fault.now.start → ⊥ }
     ensures { IfOk result (λ notes. AreTextNotes text.now fault.now.code fault.now.start (map note_of notes.items)) }
 {
     one_tree();
@@ -81,11 +112,31 @@ pub fn fault_notes(alloc: Global, text: &[u8], fault: &Fault) -> Result<Vec<Note
     if let Code::MisplacedReturn = fault.code {
         return return_notes(alloc, &tree.decls, fault.start);
     }
+    let why = reason_of(alloc, &tree, fault)?;
     let mut least = None;
     let maker = TableMaker {
         alloc,
         hashing: tree.hashing,
     };
     let symbols = SymbolTable::new(maker, &tree.decls, &mut least)?;
-    tree_notes(alloc, &tokens, &symbols, fault)
+    tree_notes(alloc, &tokens, &symbols, Known { fault, why })
+}
+
+/// What is told of this fault of the text, beyond its line: what is advised on an unexpected token, and all that could come in its
+/// place; that the text begins with a byte order mark; where a name is declared first; which declared name could be meant by an
+/// unknown one; why it has the wrong type or count, or can't be assigned to; a lock that could protect it; which member an
+/// annotation passes; which `var` a name is; which limit is passed; which `init` is missing or the first; which `return` is missing.
+/// Only an unexpected token, a byte order mark and a fault of names, types, counts, annotations, bases, limits, `init`s or returns
+/// has such notes.
+///
+/// # Errors
+///
+/// Want of memory.
+pub fn fault_notes(alloc: Global, text: &[u8], fault: &Fault) -> Result<Vec<Note>, NoMemory>
+    ensures { IfOk result (λ notes. AreTextNotes text.now fault.now.code fault.now.start (map note_of notes.items)) }
+{
+    if is_mark(text, fault) {
+        return mark_notes(alloc);
+    }
+    other_notes(alloc, text, fault)
 }

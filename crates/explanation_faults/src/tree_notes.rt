@@ -1,18 +1,17 @@
 //! What a tree tells of its fault.
 
-ghost use Rattle.std.specs.Prelude.{◌≡◌, IfOk, map};
+ghost use Rattle.std.specs.Prelude.{◌≡◌, Decides, IfOk, None, map};
 ghost use Rattle.std.specs.Option.{option_map};
 ghost use Rattle.explanation.specs.Notes.{note_of};
 ghost use Rattle.source.specs.declared.fault.Code.TheVariants.{FinalWithoutOpeningValue, LimitExceeded, UnknownName};
 ghost use Rattle.source.specs.Tokens.{seen};
+ghost use Rattle.syntax.specs.Views.{decl_of, section_of};
 ghost use Rattle.types_symbols.specs.{decls_of as decls_in};
-ghost use Rattle.syntax.specs.Views.{decl_of};
 ghost use Rattle.resolution.specs.Scopes.{has_body};
-ghost use Rattle.explanation_types.specs.TypeNotes.{IsTypeNote};
 ghost use Rattle.explanation_faults.specs.FaultNotes.{AreNotes, IsDeclaredNote, IsGivenNote, IsLockNote, IsPassedNote, IsReturnNote};
 ghost use Rattle.explanation_faults.specs.NameSpaces.{IsDeclaredAs, IsDeclaredIn};
 ghost use Rattle.explanation_faults.specs.Working.VarsFound.{note_of_var, var_noted};
-ghost use Rattle.explanation_faults.specs.Working.Values.{AreReturnNotes, FoundName, FoundNote, IsLimitIfTold, IsNoteIfTold, decls_of, idents, stmt_at, tokens_of};
+ghost use Rattle.explanation_faults.specs.Working.Values.{AreNotesOn, AreReturnNotes, IsKnownOf, LacksNone, FoundName, FoundNote, FoundReason, FoundWhy, IsReasonIfTold, IsLimitIfTold, IsNoteIfTold, decls_of, idents, stmt_at, tokens_of};
 
 use crate::amounts_passed::amount_passed;
 use crate::first_inits::first_given;
@@ -25,17 +24,18 @@ use crate::missing_returns::lacking;
 use crate::name_spaces::{inner_names_of, member_name, top_names_of};
 use crate::noted::{gap_note, init_note, lock_note, name_note};
 use crate::passed_members::{Sought, passed_member};
+use crate::reasons::reason_note;
 use crate::same_names::{first_of_others, first_of_same};
 use crate::tokens_there::{has_two_fields, name_of, name_there, token_at, token_of};
 use crate::vars::{all_of, section_there, some_assigns, var_named};
 use explanation::Note;
 use explanation_names::near_name;
-use explanation_types::type_note;
+use resolution::why::Why;
 use source::fault::{Code, Fault};
 use source::memory::NoMemory;
 use source::token::Token;
 use std::alloc::Global;
-use syntax::tree::{Decl, Name, Stmt};
+use syntax::tree::{Decl, Name, Section, Stmt};
 use types_symbols::table::SymbolTable;
 
 /// Whether a declaration is a section or a helper.
@@ -66,16 +66,37 @@ fn note_of_var(
     Ok(Some(note))
 }
 
-/// Which `return` is missing, or that none is.
+/// Whether a section or a helper has no result type.
+fn is_typeless(section: &Section) -> bool
+    ensures { Decides result ((section_of section.now).result ≡ None) }
+{
+    section.result.is_none()
+}
+
+/// That what the place is in has no result type, or that the `return` there is misplaced, where none is missing.
+fn note_of_misplaced(alloc: Global, decls: &[Decl], at: usize) -> Result<Note, NoMemory>
+    requires { LacksNone (map decl_of decls.now) at }
+    ensures { IfOk result (λ note. IsReturnNote (map decl_of decls.now) at (note_of note)) }
+{
+    if let Some(section) = section_there(decls, at) {
+        if is_typeless(section) {
+            let words = " has no result type: write one after its parameters, as : int";
+            return name_note(alloc, &section.name, words);
+        }
+    }
+    let words = "this return is not the last statement of a body with a result";
+    Ok(Note {
+        start: None,
+        words: String::from_str(alloc, words)?,
+    })
+}
+
+/// Which `return` is missing, or what else is wrong with the one there.
 fn note_of_return(alloc: Global, decls: &[Decl], at: usize) -> Result<Note, NoMemory>
     ensures { IfOk result (λ note. IsReturnNote (map decl_of decls.now) at (note_of note)) }
 {
     let Some(name) = lacking(decls, at) else {
-        let words = "this return is not the last statement of a body with a result";
-        return Ok(Note {
-            start: None,
-            words: String::from_str(alloc, words)?,
-        });
+        return note_of_misplaced(alloc, decls, at);
     };
     name_note(
         alloc,
@@ -94,7 +115,7 @@ pub fn return_notes(alloc: Global, decls: &[Decl], at: usize) -> Result<Vec<Note
     Ok(notes)
 }
 
-/// Tokens with the declarations of their tree, and the place of its fault.
+/// Tokens with the declarations of their tree, and the place of its fault, with its reason.
 #[derive(Drop)]
 pub struct Faulty<'a> {
     /// The tokens.
@@ -103,6 +124,8 @@ pub struct Faulty<'a> {
     pub symbols: &'a SymbolTable<'a>,
     /// The byte at which the fault stands.
     pub at: usize,
+    /// Its reason, if its code doesn't say all and it is the first of its tree.
+    pub why: Option<Why>,
 }
 
 impl<'a> Faulty<'a> {
@@ -190,12 +213,16 @@ impl<'a> Faulty<'a> {
         Ok(Some(note))
     }
 
-    // Which type is wanted, and which is there.
-    fn type_note(&self, alloc: Global) -> Result<Option<Note>, NoMemory>
-        ensures { IfOk result (FoundNote (IsTypeNote (decls_of self.now) self.now.at)) }
+    // Why the fault of this code is one.
+    fn reason_note(&self, alloc: Global, code: Code) -> Result<Option<Note>, NoMemory>
+        requires { FoundReason (decls_of self.now) code self.now.at self.now.why }
+        ensures { IfOk result (IsReasonIfTold self.now code) }
     {
-        let note = type_note(alloc, self.symbols, self.at)?;
-        Ok(note)
+        let Some(why) = self.why else {
+            return Ok(None);
+        };
+        let note = reason_note(alloc, self.symbols, why)?;
+        Ok(Some(note))
     }
 
     // NAME is a `var`, and whether a `let` would do.
@@ -286,12 +313,15 @@ impl<'a> Faulty<'a> {
 
     // What is told, if anything is.
     fn note(&self, alloc: Global, code: Code) -> Result<Option<Note>, NoMemory>
+        requires { FoundWhy (decls_of self.now) code self.now.at self.now.why }
         ensures { IfOk result (IsNoteIfTold self.now code) }
     {
         match code {
             Code::DeclaredTwice => self.declared_note(alloc),
             Code::UnknownName => self.near_note(alloc),
-            Code::WrongType => self.type_note(alloc),
+            Code::WrongType => self.reason_note(alloc, Code::WrongType),
+            Code::WrongArgumentCount => self.reason_note(alloc, Code::WrongArgumentCount),
+            Code::NotAssignable => self.reason_note(alloc, Code::NotAssignable),
             Code::NeitherFinalNorProtected => self.lock_note(alloc),
             Code::ProtectedByPassesNonFinal => self.passed_note(alloc),
             Code::UnstableBase => self.var_note(alloc),
@@ -307,22 +337,33 @@ impl<'a> Faulty<'a> {
     }
 }
 
+/// A fault, and why it is one, if its code doesn't say all and it is the first of its tree.
+#[derive(Clone, Copy)]
+pub struct Known<'a> {
+    /// The fault.
+    pub fault: &'a Fault,
+    /// Why it is one.
+    pub why: Option<Why>,
+}
+
 /// What is told of this fault by tokens and the declarations of their tree.
 pub fn tree_notes(
     alloc: Global,
     tokens: &[Token],
     symbols: &SymbolTable<'_>,
-    fault: &Fault,
+    known: Known<'_>,
 ) -> Result<Vec<Note>, NoMemory>
-    ensures { IfOk result (λ notes. AreNotes (seen tokens.now) (decls_in symbols.now) fault.now.code fault.now.start (map note_of notes.items)) }
+    requires { IsKnownOf (decls_in symbols.now) known }
+    ensures { IfOk result (λ notes. AreNotesOn (seen tokens.now) (decls_in symbols.now) known.entry (map note_of notes.items)) }
 {
     let faulty = Faulty {
         tokens,
         symbols,
-        at: fault.start,
+        at: known.fault.start,
+        why: known.why,
     };
     let mut notes = Vec::new(alloc);
-    if let Some(note) = faulty.note(alloc, fault.code)? {
+    if let Some(note) = faulty.note(alloc, known.fault.code)? {
         notes.push(note)?;
     }
     Ok(notes)

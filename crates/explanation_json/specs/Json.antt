@@ -1,11 +1,12 @@
 -- The JSON of a fault that is explained, and of a program without one. `compact_text` is `serde_json`'s: the text of data without a space, with
 -- the members of each object by their keys, and strings in quotes with the shortest escapes.
-use Rattle.std.specs.Prelude.{ℕ, ◌+◌, ◌-◌, List, ◌++◌, Option, Some, None, true, false, length, max, min, map, take}
+use Rattle.std.specs.Prelude.{ℕ, ◌+◌, List, ◌++◌, Option, Some, None, true, false, length, max, min, map, take}
 use Rattle.std.specs.Prelude.{drop, codes, string_bytes}
 use Rattle.std.specs.List.{prefix_len}
 use Rattle.code.specs.Listing.{line}
 use Rattle.explanation.specs.Notes.{Note}
 use Rattle.explanation.specs.Remedies.{remedy}
+use Rattle.explanation.specs.Warnings.{Warning}
 use Rattle.serde_json.specs.Data.{Data, array, boolean, number, object, string, unsigned, member, no_members}
 use Rattle.serde_json.specs.View.{items_of}
 use Rattle.serde_json.specs.Written.{compact_text}
@@ -48,6 +49,15 @@ note_data text note = told_data text note.start note.words
 abbrev pub notes_data : List ℕ → List Note → Data
 notes_data text notes = array (items_of (map (note_data text) notes))
 
+-- ---- warnings
+
+-- {"end":POSITION,"start":POSITION,"text":WORDS}
+abbrev pub warning_data : List ℕ → Warning → Data
+warning_data text warning = told_data text (Some warning.start) warning.words
+
+abbrev pub warnings_data : List ℕ → List Warning → Data
+warnings_data text warnings = array (items_of (map (warning_data text) warnings))
+
 -- ---- the objects
 
 -- of a fault
@@ -63,13 +73,16 @@ fault_data file text fault notes =
     (member (codes "text") (string (code_text fault.code ++ detail_text (string_bytes fault.detail))) no_members))))))))
 
 -- of a program without one
-abbrev pub accepted_data : List ℕ → List ℕ → List Note → Data
-accepted_data file text notes =
-    object (member (codes "accepted") (boolean true) (member (codes "file") (string file) (member (codes "notes") (notes_data text notes) no_members)))
+abbrev pub accepted_data : List ℕ → List ℕ → List Note → List Warning → Data
+accepted_data file text notes warnings =
+    object (member (codes "accepted") (boolean true)
+    (member (codes "file") (string file)
+    (member (codes "notes") (notes_data text notes)
+    (member (codes "warnings") (warnings_data text warnings) no_members))))
 
 -- ---- the lines
 abbrev pub fault_json : List ℕ → List ℕ → Fault → List Note → List ℕ
 fault_json file text fault notes = line (compact_text (fault_data file text fault notes))
 
-abbrev pub accepted_json : List ℕ → List ℕ → List Note → List ℕ
-accepted_json file text notes = line (compact_text (accepted_data file text notes))
+abbrev pub accepted_json : List ℕ → List ℕ → List Note → List Warning → List ℕ
+accepted_json file text notes warnings = line (compact_text (accepted_data file text notes warnings))

@@ -2,12 +2,13 @@
 
 ghost use Rattle.std.specs.Prelude.{◌≡◌, IfOk, map, string_bytes};
 ghost use Rattle.explanation.specs.Notes.{note_of};
+ghost use Rattle.explanation.specs.Warnings.{warning_of};
 ghost use Rattle.serde_json.specs.View.{view, members_view};
 ghost use Rattle.explanation_json.specs.Json as object;
 ghost use Rattle.explanation_json.specs.Working.Values.{accepted_data_of, accepted_json_of, fault_data_of, fault_json_of, fault_members_of, fault_words_of};
 
 use crate::places::Places;
-use explanation::{Acceptance, Explanation, Note, remedy_of};
+use explanation::{Acceptance, Explanation, Note, Warning, remedy_of};
 use serde_json::{Map, Value, json, put};
 use source::fault::Fault;
 use source::memory::NoMemory;
@@ -31,6 +32,30 @@ fn note_values(alloc: Global, places: &Places<'_>, notes: &[Note]) -> Result<Val
     let mut values = Vec::new(alloc);
     for note in notes {
         values.push(note_value(alloc, places, note)?)?;
+    }
+    Ok(Value::Array(values))
+}
+
+/// A warning.
+fn warning_value(alloc: Global, places: &Places<'_>, warning: &Warning) -> Result<Value, AllocError>
+    ensures { IfOk result (λ value. view value ≡ object.warning_data places.now.text.now (warning_of warning.now)) }
+{
+    let words = warning.what.words(alloc)?;
+    let range = places.range(alloc, warning.start)?;
+    json!(in alloc; {"end": range.end, "start": range.start, "text": words.as_str()})
+}
+
+/// Warnings.
+fn warning_values(
+    alloc: Global,
+    places: &Places<'_>,
+    warnings: &[Warning],
+) -> Result<Value, AllocError>
+    ensures { IfOk result (λ value. view value ≡ object.warnings_data places.now.text.now (map warning_of warnings.now)) }
+{
+    let mut values = Vec::new(alloc);
+    for warning in warnings {
+        values.push(warning_value(alloc, places, warning)?)?;
     }
     Ok(Value::Array(values))
 }
@@ -96,7 +121,18 @@ fn accepted_value(alloc: Global, acceptance: &Acceptance<'_>) -> Result<Value, N
 {
     let places = Places::of(alloc, acceptance.text)?;
     let notes = note_values(alloc, &places, acceptance.notes)?;
-    Ok(json!(in alloc; {"accepted": true, "file": acceptance.file, "notes": notes})?)
+    let warnings = warning_values(alloc, &places, acceptance.warnings)?;
+    let mut map = Map::new(alloc);
+    put(&mut map, alloc, "accepted", Value::Bool(true))?;
+    put(
+        &mut map,
+        alloc,
+        "file",
+        Value::try_from_str(alloc, acceptance.file)?,
+    )?;
+    put(&mut map, alloc, "notes", notes)?;
+    put(&mut map, alloc, "warnings", warnings)?;
+    Ok(Value::Object(map))
 }
 
 /// The object of a fault, in one line: its code and text, the file's name, where it begins and ends, each with line and column, the
@@ -114,7 +150,7 @@ pub fn fault_json(alloc: Global, explanation: &Explanation<'_>) -> Result<String
     Ok(json)
 }
 
-/// The same of a program without a fault: the file's name and the notes with their places.
+/// The same of a program without a fault: the file's name, the notes and the warnings with their places.
 ///
 /// # Errors
 ///

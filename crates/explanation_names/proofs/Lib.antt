@@ -1,4 +1,3 @@
-pub mod Aligned
 pub mod Turned
 pub mod Table
 pub mod Lists

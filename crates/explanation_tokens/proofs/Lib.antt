@@ -1,3 +1,5 @@
 mod Tried
 mod Spots
 mod Told
+mod Firsts
+mod Advised

@@ -99,14 +99,20 @@ split_at [] n t is = cc
 split_at (x ∷ ts) zero t is = (ts, let same : x ≡ t = cc in ap (λ (y : Tok). y ∷ ts) same)
 split_at (x ∷ ts) (suc n) t is = let rest = split_at ts n t is in (rest.0, ap (λ (l : List Tok). x ∷ l) rest.1)
 
+-- it is behind those before it
+pub behind_place : (tokens : List Token) (start : ℕ) (place : Spot) → IsPlace tokens start place →
+    IsBehind (seen tokens) start (before_in place tokens)
+behind_place tokens start place at =
+    let parts = split_at (seen tokens) place.number at.token at.there in
+    record { token = at.token; after = parts.0; parts = parts.1; place = at.starts }
+
 pub are_expected : (tokens : List Token) (start : ℕ) (place : Spot) (list : List Candidate) →
     IsPlace tokens start place →
     AreThose (CanCome (before_in place tokens) place.span.start) all_candidates list → AreExpected (seen tokens) start list
 are_expected tokens start place list at those =
-    let parts = split_at (seen tokens) place.number at.token at.there in
     record {
       before = before_in place tokens;
-      place = record { token = at.token; after = parts.0; parts = parts.1; place = at.starts };
+      place = behind_place tokens start place at;
       those = subst (λ (k : ℕ). AreThose (CanCome (before_in place tokens) k) all_candidates list) at.same those;
     }
 

@@ -1,8 +1,9 @@
 -- What is told of the ones that can come.
 use Rattle.std.proofs.Common.{◌≡◌, ℕ, ◌+◌, ◌<◌, ◌≤◌, zero, suc, List, [], ◌∷◌, ◌++◌, length, take, get_or, slice_get}
-use Rattle.std.proofs.Common.{Some, sym, subst, refl, arith}
+use Rattle.std.proofs.Common.{Some, ap, sym, subst, refl, arith}
 use Rattle.std.specs.List.{All}
 use Rattle.std.proofs.lemmas.List.{take_more}
+use Rattle.explanation.specs.Notes.{Note}
 use Rattle.source.specs.declared.fault.Code.{Code}
 use Rattle.source.specs.declared.fault.Code.TheVariants.{UnexpectedToken}
 use Rattle.source.specs.declared.token.Keyword.TheVariants as keyword
@@ -11,7 +12,7 @@ use Rattle.source.specs.Tokens.{Tok}
 use Rattle.explanation_tokens.specs.declared.candidate.Candidate.{Candidate}
 use Rattle.explanation_tokens.specs.declared.candidate.Candidate.TheVariants.{Name, Number, Word, Mark}
 use Rattle.explanation_tokens.specs.Expected.{AreExpected, AreThose, no_more, it_is, it_is_not, IsTrueTokenNote}
-use Rattle.explanation_tokens.specs.Expected.{all_candidates}
+use Rattle.explanation_tokens.specs.Expected.{AreInOrder, AreTokenNotes, IsTokenTold, all_candidates}
 use Rattle.explanation_tokens.specs.Working.Trials.{notes_on}
 
 -- ---- those of a list that are so
@@ -115,3 +116,16 @@ pub true_notes : (ts : List Tok) (code : Code) (start : ℕ) (list : List Candid
 true_notes ts code start [] is are k d within = absurd (omega arith)
 true_notes ts code start (first ∷ others) is are zero d within = record { unexpected = is; first = first; others = others; expected = are; said = refl }
 true_notes ts code start (first ∷ others) is are (suc k) d within = absurd (omega arith)
+
+-- where nothing must be told, nothing is
+pub none_expected : (ts : List Tok) (code : Code) (start : ℕ) → (AreInOrder ts start → IsTokenTold ts code start → ⊥) →
+    AreTokenNotes ts code start []
+none_expected ts code start none = record {
+  are_true = λ k d within. absurd (omega arith);
+  few = omega arith;
+  told = λ order told. absurd (none order told);
+}
+
+pub append_nothing : (notes : List Note) → notes ++ [] ≡ notes
+append_nothing [] = refl
+append_nothing (x ∷ notes) = ap (λ (l : List Note). x ∷ l) (append_nothing notes)

@@ -1,4 +1,8 @@
+pub mod Advice
+pub mod Around
 pub mod Expected
+pub mod Patterns
+pub mod Told
 pub mod Working
 -- what the public clauses cite
 pub use Rattle.explanation_tokens.specs.Expected.{AreExpected, AreThose, AreTokenNotes, CanCome, IsTokenTold}

@@ -1,12 +1,14 @@
 -- Orders that are drawn.
-use Rattle.std.proofs.Common.{◌≡◌, ◌∙◌, ℕ, ◌+◌, ◌-◌, ◌<◌, ◌≤◌, zero, suc, List, [], ◌∷◌, ◌++◌, length, map, drop}
-use Rattle.std.proofs.Common.{get_or, slice_get, Some, inl, inr, ap, sym, subst, refl, arith, length-append}
+use Rattle.std.proofs.Common.{◌≡◌, ◌∙◌, ℕ, ◌+◌, ◌-◌, ◌<◌, ◌≤◌, zero, suc, List, [], ◌∷◌, ◌++◌, length, map, take, drop}
+use Rattle.std.proofs.Common.{get_or, slice_get, slice_set, Some, inl, inr, ap, sym, subst, refl, arith, length-append}
 use Rattle.std.proofs.lemmas.List.Sums.{sum_by_push, sum_by-set}
 use Rattle.std.proofs.Math.ListN.{get_or-append}
 use Rattle.core_lang.specs.declared.value.Value.{Value}
+use Rattle.core_lang.specs.declared.value.Outcome.{Outcome}
 use Rattle.core_lang.specs.declared.typed.Thread.{Thread}
+use Rattle.core_lang.specs.declared.typed.Typed.{Typed}
 use Rattle.core_lang.specs.Laws.{OverIsWhole}
-use Rattle.core_lang.specs.Serial.{Invocation, opening_heap, run_call}
+use Rattle.core_lang.specs.Serial.{Invocation, run_call}
 use Rattle.core_lang.specs.Typing.{HasCells, IsHeap}
 use Rattle.core_lang.specs.Whole.{Beyond_turns}
 use Rattle.core_lang.specs.WellFormed.{calls_together}
@@ -14,15 +16,17 @@ use Rattle.outcomes.specs.declared.search.Search.{Search}
 use Rattle.outcomes.specs.declared.drawing.Walk.{Walk}
 use Rattle.outcomes.specs.declared.drawing.Drawing.{Drawing}
 use Rattle.outcomes.specs.Orders.{next_call, one_more, none_done, orders}
-use Rattle.outcomes.specs.Ends.{Told, AreDrawnEnds}
+use Rattle.outcomes.specs.Ends.{Left, Told, AreDrawnEnds, answered, seen}
+use Rattle.outcomes.specs.declared.outcome.Cells.{Cells}
 use Rattle.outcomes.specs.Working.States.{Reached, at, nowhere, with_more, orders_to}
 use Rattle.outcomes.specs.Working.Trails.{IsBegun, IsLonger}
-use Rattle.outcomes.specs.Working.Searching.{Leads, IsGood, AreGood, IsFound, as_told}
-use Rattle.outcomes.specs.Working.Drawing.{IsWalk, HasCallLeft, calls_of_thread, Notes, IsNewEnd, AreEndsOf}
-use Rattle.outcomes.specs.Working.Steps.{IsOver, IsBeyond}
-use Rattle.outcomes.proofs.Leading.{leads_further, all_longer, good_found, push_good}
-use Rattle.outcomes.proofs.Full.{Within, fits, call_left}
-use Rattle.outcomes.proofs.Whole.{all_end, ends_apart, sum_told}
+use Rattle.outcomes.specs.Working.Searching.{Leads, left_after, IsFound, as_told}
+use Rattle.outcomes.specs.Working.Drawing.{left_of, IsWalk, HasCallLeft, calls_of_thread, Notes, IsNewEnd, AreEndsOf}
+use Rattle.outcomes.specs.Working.Steps.{IsOver, IsBeyond, IsEnd, AreEnds, start_of}
+use Rattle.outcomes.proofs.Leading.{leads_further, set_apart, push_apart}
+use Rattle.outcomes.proofs.SeenEnds.{end_longer, end_more}
+use Rattle.outcomes.proofs.Full.{Within, fits, call_left, some_call}
+use Rattle.outcomes.proofs.Whole.{all_end, ends_apart, sum_told, both_left}
 use Rattle.outcomes.specs.Theory.Done.{sums-lengths, length-lengths, sums, lengths}
 
 -- ---- the thread of a call
@@ -32,7 +36,7 @@ pub walk_fits : (search : Search) (walk : Walk) → IsWalk search walk →
     (length walk.done.items ≡ length search.program.now.threads.items) × Within walk.done.items (lengths search.program.now.threads.items)
     × (sums walk.done.items ≡ length walk.order.items)
 walk_fits search walk is =
-    fits search.program.now search.turns (opening_heap search.program.now) walk.order.items walk.done.items walk.heap is.leads
+    fits search.program.now search.turns (start_of search) walk.order.items walk.done.items (left_of walk) is.leads
 
 sums_from : (xs : List ℕ) (k : ℕ) → k < length xs → sums (drop k xs) ≡ get_or xs k 0 + sums (drop (suc k) xs)
 sums_from [] k within = absurd (omega arith)
@@ -56,6 +60,27 @@ pub calls_at : (ts : List Thread) (k : ℕ) → calls_of_thread ts k ≡ get_or 
 calls_at [] k = refl
 calls_at (t ∷ ts) zero = refl
 calls_at (t ∷ ts) (suc k) = calls_at ts k
+
+-- a thread that has a call left has more than are done
+pub more_calls : (program : Typed) (done : List ℕ) (thread : ℕ) (call : Invocation) →
+    next_call program done thread ≡ Some call → get_or done thread 0 < calls_of_thread program.threads.items thread
+more_calls program done thread call next =
+    let less = some_call program.threads.items done thread call next in
+    let same = calls_at program.threads.items thread in
+    omega (arith, less, same)
+
+-- the calls of the threads before one, and its own, are no more than all
+pub calls_before : (ts : List Thread) (k : ℕ) → calls_together (take k ts) + calls_of_thread ts k ≤ calls_together ts
+calls_before [] zero = omega arith
+calls_before [] (suc k) = omega arith
+calls_before (t ∷ ts) zero = omega arith
+calls_before (t ∷ ts) (suc k) = let rest = calls_before ts k in omega (arith, rest)
+
+pub calls_from : (ts : List Thread) (k : ℕ) (t : Thread) → k < length ts → t ≡ get_or ts k t →
+    length t.calls.items ≤ calls_together (drop k ts)
+calls_from [] k t within is = absurd (omega arith)
+calls_from (x ∷ ts) zero t within is = let same : length t.calls.items ≡ length x.calls.items = ap (λ (y : Thread). length y.calls.items) is in omega (arith, same)
+calls_from (x ∷ ts) (suc k) t within is = calls_from ts k t (omega arith) is
 
 -- the call of this number is one of a thread from `thread` on
 abbrev pub IsFrom : List Thread → List ℕ → ℕ → ℕ → Type 0
@@ -115,15 +140,21 @@ is_left search walk thread number left is of few =
 
 -- ---- one call more
 
-pub walks_further : (search : Search) (old new : Walk) (thread : ℕ) (call : Invocation) (heap : List Value) →
+pub walks_further : (search : Search) (old new : Walk) (thread : ℕ) (call : Invocation) (cells : List Value) (outcome : Outcome) →
     IsWalk search old →
-    next_call search.program.now old.done.items thread ≡ Some call → IsOver search.program.now search.turns call old.heap heap →
-    new.heap ≡ heap → new.done.items ≡ one_more old.done.items thread → new.order.items ≡ old.order.items ++ thread ∷ [] →
+    next_call search.program.now old.done.items thread ≡ Some call →
+    IsOver search.program.now search.turns call old.heap cells outcome →
+    new.heap ≡ cells → new.done.items ≡ one_more old.done.items thread →
+    new.answers.items ≡ answered search.program.now old.done.items thread outcome old.answers.items →
+    new.order.items ≡ old.order.items ++ thread ∷ [] →
     IsWalk search new × (length new.order.items ≡ suc (length old.order.items))
-walks_further search old new thread call heap is next over heap_is done order =
+walks_further search old new thread call cells outcome is next over heap_is done answers order =
     let program = search.program.now in
-    let left : new.heap ≡ over.finished.heap = heap_is ∙ over.heap_is in
-    let leads = leads_further program search.turns (none_done program) (opening_heap program) old.order.items old.done.items old.heap thread call over.finished is.leads next over.over in
+    let after = left_after program old.done.items thread over.finished (left_of old) in
+    let outcomes : answered program old.done.items thread outcome old.answers.items ≡ after.answers =
+    ap (λ (o : Outcome). answered program old.done.items thread o old.answers.items) over.outcome_is in
+    let left : left_of new ≡ after = both_left (left_of new) after (heap_is ∙ over.heap_is) (answers ∙ outcomes) in
+    let leads = leads_further program search.turns (none_done program) (start_of search) old.order.items old.done.items (left_of old) thread call over.finished is.leads next over.over in
     let long : length (old.order.items ++ thread ∷ []) ≡ length old.order.items + 1 = length-append old.order.items (thread ∷ []) in (
       record {
         cells = subst (HasCells program) (sym heap_is) over.there;
@@ -135,52 +166,66 @@ walks_further search old new thread call heap is next over heap_is done order =
 
 pub goes_beyond : (search : Search) (walk : Walk) (thread : ℕ) (call : Invocation) → IsWalk search walk →
     next_call search.program.now walk.done.items thread ≡ Some call → run_call search.program.now search.turns call walk.heap ≡ Beyond_turns →
-    IsBeyond search.program.now search.turns walk.order.items thread
+    IsBeyond search.program.now search.turns (start_of search) walk.order.items thread
 goes_beyond search walk thread call is next beyond =
-    record { done = walk.done.items; cells = walk.heap; call = call; leads = is.leads; next = next; beyond = beyond }
+    record { done = walk.done.items; left = left_of walk; call = call; leads = is.leads; next = next; beyond = beyond }
 
 -- ---- the ends
 
--- where a walk led is as good a state as each
-good_walk : (search : Search) (old new : Drawing) (end : IsNewEnd old new) → IsWalk search old.walk →
+-- where a walk led, as it is seen, is an end
+end_of_walk : (search : Search) (old new : Drawing) (end : IsNewEnd search.asked.now.cells old new) → IsWalk search old.walk →
     length old.walk.order.items ≡ calls_together search.program.now.threads.items →
-    IsGood search.program.now search.turns (calls_together search.program.now.threads.items) new.trail
-    (record { done = old.walk.done.items; cells = old.walk.heap; orders = 1; first = end.first })
-good_walk search old new end is long =
+    IsEnd search new.trail
+    (record { done = old.walk.done.items; left = seen search.asked.now.cells (left_of old.walk); orders = 1; first = end.first })
+end_of_walk search old new end is long =
     let program = search.program.now in
     record {
-      threads = (walk_fits search old.walk is).0;
-      cells = is.cells;
-      typed = is.typed;
-      first = end.within;
-      long = ap length end.order ∙ long;
-      leads = subst (λ (o : List ℕ). Leads program search.turns (none_done program) (opening_heap program) o old.walk.done.items old.walk.heap)
-          (sym end.order) is.leads;
+      left = left_of old.walk;
+      good = record {
+        threads = (walk_fits search old.walk is).0;
+        cells = is.cells;
+        typed = is.typed;
+        first = end.within;
+        long = ap length end.order ∙ long;
+        leads = subst (λ (o : List ℕ). Leads program search.turns (none_done program) (start_of search) o old.walk.done.items (left_of old.walk))
+            (sym end.order) is.leads;
+      };
+      seen_is = refl;
     }
 
-count_found : (old new : List Reached) (trail trail' : List (List ℕ)) (done : List ℕ) (heap : List Value) (k : ℕ) →
-    IsFound old new trail trail' done heap 1 → orders_to old ≡ k → orders_to new ≡ k + 1
-count_found old new trail trail' done heap k found is =
+count_found : (old new : List Reached) (trail trail' : List (List ℕ)) (done : List ℕ) (left : Left) (k : ℕ) →
+    IsFound old new trail trail' done left 1 → orders_to old ≡ k → orders_to new ≡ k + 1
+count_found old new trail trail' done left k found is =
     let s = at old found.number in
     let sums = sum_by-set (λ (r : Reached). r.orders) old found.number (with_more s 1) nowhere found.within in
     ap orders_to found.states ∙ omega (arith, sums, is)
 
-count_new : (old new : Drawing) (k : ℕ) → IsNewEnd old new → orders_to old.ends ≡ k → orders_to new.ends ≡ k + 1
-count_new old new k end is =
+count_new : (cells : Cells) (old new : Drawing) (k : ℕ) → IsNewEnd cells old new → orders_to old.ends ≡ k → orders_to new.ends ≡ k + 1
+count_new cells old new k end is =
     let sums = sum_by_push (λ (r : Reached). r.orders) old.ends
-    (record { done = old.walk.done.items; cells = old.walk.heap; orders = 1; first = end.first }) in
+    (record { done = old.walk.done.items; left = seen cells (left_of old.walk); orders = 1; first = end.first }) in
     ap orders_to end.ends ∙ omega (arith, sums, is)
 
-good_new : (search : Search) (old new : Drawing) → IsNewEnd old new → IsWalk search old.walk →
+ends_longer : (search : Search) (trail trail' : List (List ℕ)) (ends : List Reached) → IsLonger trail trail' →
+    AreEnds search trail ends → AreEnds search trail' ends
+ends_longer search trail trail' ends longer are =
+    record { each = λ k within. end_longer search trail trail' (at ends k) longer (are.each k within); apart = are.apart }
+
+ends_new : (search : Search) (old new : Drawing) → IsNewEnd search.asked.now.cells old new → IsWalk search old.walk →
     length old.walk.order.items ≡ calls_together search.program.now.threads.items →
-    AreGood search.program.now search.turns (calls_together search.program.now.threads.items) old.trail old.ends →
-    AreGood search.program.now search.turns (calls_together search.program.now.threads.items) new.trail new.ends
-good_new search old new end is long good =
-    let program = search.program.now in
-    let calls = calls_together program.threads.items in
-    subst (AreGood program search.turns calls new.trail) (sym end.ends)
-    (push_good program search.turns calls new.trail old.ends (record { done = old.walk.done.items; cells = old.walk.heap; orders = 1; first = end.first })
-    end.none (good_walk search old new end is long) (all_longer program search.turns calls old.trail new.trail old.ends end.longer good))
+    AreEnds search old.trail old.ends → AreEnds search new.trail new.ends
+ends_new search old new end is long are =
+    subst (AreEnds search new.trail) (sym end.ends)
+    (push_apart (IsEnd search new.trail) old.ends
+    (record { done = old.walk.done.items; left = seen search.asked.now.cells (left_of old.walk); orders = 1; first = end.first })
+    end.none (end_of_walk search old new end is long) (ends_longer search old.trail new.trail old.ends end.longer are))
+
+ends_found : (search : Search) (trail trail' : List (List ℕ)) (old new : List Reached) (done : List ℕ) (left : Left) →
+    IsFound old new trail trail' done left 1 → AreEnds search trail old → AreEnds search trail' new
+ends_found search trail trail' old new done left found are =
+    subst (AreEnds search trail') (sym found.states)
+    (subst (λ (t : List (List ℕ)). AreEnds search t (slice_set old found.number (with_more (at old found.number) 1))) (sym found.trail_is)
+    (set_apart (IsEnd search trail) old found.number 1 (end_more search trail) are))
 
 begun_longer : (old new : List (List ℕ)) → IsLonger old new → IsBegun old → IsBegun new
 begun_longer old new longer begun =
@@ -191,20 +236,21 @@ begun_longer old new longer begun =
 
 pub ends_more : (search : Search) (old new : Drawing) (k : ℕ) → IsWalk search old.walk →
     length old.walk.order.items ≡ calls_together search.program.now.threads.items →
-    AreGood search.program.now search.turns (calls_together search.program.now.threads.items) old.trail old.ends →
-    orders_to old.ends ≡ k → IsBegun old.trail → Notes old new → AreEndsOf search new (k + 1)
-ends_more search old new k is long good count begun notes =
+    AreEnds search old.trail old.ends →
+    orders_to old.ends ≡ k → IsBegun old.trail → Notes search.asked.now.cells old new → AreEndsOf search new (k + 1)
+ends_more search old new k is long are count begun notes =
     let program = search.program.now in
-    let calls = calls_together program.threads.items in
+    let cells = search.asked.now.cells in
+    let left = seen cells (left_of old.walk) in
     record {
       heap = subst (λ (w : Walk). HasCells program w.heap) (sym notes.0) is.cells;
       ends = elim notes.1 [
-        | inl found ↦ good_found program search.turns calls old.trail new.trail old.ends new.ends old.walk.done.items old.walk.heap 1 found good
-        | inr end ↦ good_new search old new end is long good
+        | inl found ↦ ends_found search old.trail new.trail old.ends new.ends old.walk.done.items left found are
+        | inr end ↦ ends_new search old new end is long are
       ];
       count = elim notes.1 [
-        | inl found ↦ count_found old.ends new.ends old.trail new.trail old.walk.done.items old.walk.heap k found count
-        | inr end ↦ count_new old new k end count
+        | inl found ↦ count_found old.ends new.ends old.trail new.trail old.walk.done.items left k found count
+        | inr end ↦ count_new cells old new k end count
       ];
       begun = elim notes.1 [
         | inl found ↦ subst IsBegun (sym found.trail_is) begun
@@ -214,13 +260,11 @@ ends_more search old new k is long good count begun notes =
 
 pub are_drawn_ends : OverIsWhole → (search : Search) (drawing : Drawing) (count : ℕ) (told : List Told) →
     search.most < length (orders search.program.now) → AreEndsOf search drawing count → count ≡ search.most →
-    told ≡ map (as_told drawing.trail) drawing.ends → AreDrawnEnds search.program.now search.most told
+    told ≡ map (as_told drawing.trail) drawing.ends → AreDrawnEnds search.program.now search.most search.asked.now told
 are_drawn_ends law search drawing count told more ends all is =
-    let program = search.program.now in
-    let calls = calls_together program.threads.items in
-    subst (AreDrawnEnds program search.most) (sym is) (record {
+    subst (AreDrawnEnds search.program.now search.most search.asked.now) (sym is) (record {
       more = more;
-      each = all_end law program search.turns calls drawing.trail drawing.ends refl ends.ends;
-      apart = ends_apart program search.turns calls drawing.trail drawing.ends refl ends.ends;
+      each = all_end law search drawing.trail drawing.ends ends.ends;
+      apart = ends_apart search drawing.trail drawing.ends ends.ends;
       counts = sym (sum_told (λ (s : Reached). s.orders) (λ (e : Told). e.count) drawing.trail drawing.ends (λ s. refl)) ∙ ends.count ∙ all;
     })

@@ -6,7 +6,6 @@ use Rattle.std.specs.Prelude.{option_map, option_to_list}
 use Rattle.std.specs.List.{Contains}
 use Rattle.std.proofs.lemmas.Bool.{cases_eq}
 use Rattle.std.proofs.lemmas.List.{length-replicate}
-use Rattle.core_lang.specs.declared.value.Value.{Value}
 use Rattle.core_lang.specs.declared.typed.Call.{Call}
 use Rattle.core_lang.specs.declared.typed.Thread.{Thread}
 use Rattle.core_lang.specs.declared.typed.Typed.{Typed}
@@ -15,8 +14,8 @@ use Rattle.core_lang.specs.Typing.{lookup}
 use Rattle.core_lang.specs.WellFormed.{calls_together}
 use Rattle.std.proofs.Math.ListN.{length-set}
 use Rattle.outcomes.specs.Orders.{next_call, one_more, none_done, orders_of, calls_of, calls_in}
-use Rattle.outcomes.specs.Ends.{done_after}
-use Rattle.outcomes.specs.Working.Searching.{Leads}
+use Rattle.outcomes.specs.Ends.{Left, done_after}
+use Rattle.outcomes.specs.Working.Searching.{left_after, Leads}
 use Rattle.outcomes.proofs.Leading.{next_within, leads_made}
 use Rattle.outcomes.specs.Theory.Done.{sums-lengths, length-lengths, sums_set, sums_zero, zero_at, sums, lengths}
 use Rattle.outcomes.specs.Theory.Done.{among_begun}
@@ -53,7 +52,7 @@ call_within (c ∷ calls) zero call is = omega arith
 call_within (c ∷ calls) (suc k) call is = let rest = call_within calls k call is in omega arith
 
 -- a thread that has a call left has more than are done
-some_call : (ts : List Thread) (done : List ℕ) (k : ℕ) (call : Invocation) →
+pub some_call : (ts : List Thread) (done : List ℕ) (k : ℕ) (call : Invocation) →
     lookup (slice_get ts k) (λ (thread : Thread). option_map invocation (slice_get thread.calls.items (get_or done k 0))) ≡ Some call →
     get_or done k 0 < get_or (lengths ts) k 0
 some_call [] done k call is = cc
@@ -144,12 +143,12 @@ made_few program order made =
     let sum : sums (lengths program.threads.items) ≡ calls_together program.threads.items = sums-lengths program.threads.items in
     omega (arith, all.2, most, sum)
 
-pub leads_done : (program : Typed) (n : ℕ) (done : List ℕ) (heap : List Value) (order done' : List ℕ) (heap' : List Value) →
+pub leads_done : (program : Typed) (n : ℕ) (done : List ℕ) (heap : Left) (order done' : List ℕ) (heap' : Left) →
     Leads program n done heap order done' heap' → done_after done order ≡ done'
 leads_done program n done heap [] done' heap' there = there.0
-leads_done program n done heap (t ∷ order) done' heap' there = leads_done program n (one_more done t) there.1.heap order done' heap' there.4
+leads_done program n done heap (t ∷ order) done' heap' there = leads_done program n (one_more done t) (left_after program done t there.1 heap) order done' heap' there.4
 
-pub fits : (program : Typed) (n : ℕ) (heap : List Value) (order done' : List ℕ) (heap' : List Value) →
+pub fits : (program : Typed) (n : ℕ) (heap : Left) (order done' : List ℕ) (heap' : Left) →
     Leads program n (none_done program) heap order done' heap' →
     (length done' ≡ length program.threads.items) × Within done' (lengths program.threads.items) × (sums done' ≡ length order)
 fits program n heap order done' heap' there =
@@ -158,7 +157,7 @@ fits program n heap order done' heap' there =
     (fits_made program order (leads_made program n (none_done program) heap order done' heap' there))
 
 -- where all calls are done, each thread's are
-pub full : (program : Typed) (n : ℕ) (heap : List Value) (order done' : List ℕ) (heap' : List Value) →
+pub full : (program : Typed) (n : ℕ) (heap : Left) (order done' : List ℕ) (heap' : Left) →
     Leads program n (none_done program) heap order done' heap' →
     length order ≡ calls_together program.threads.items → done' ≡ lengths program.threads.items
 full program n heap order done' heap' there long =
@@ -216,7 +215,7 @@ some_order program (suc left) done long few sum =
     )
 
 -- so each state has one
-pub has_order : (program : Typed) (n left : ℕ) (heap : List Value) (order done' : List ℕ) (heap' : List Value) →
+pub has_order : (program : Typed) (n left : ℕ) (heap : Left) (order done' : List ℕ) (heap' : Left) →
     Leads program n (none_done program) heap order done' heap' →
     length order + left ≡ calls_together program.threads.items → (o : List ℕ) × Contains (orders_of program left done') o
 has_order program n left heap order done' heap' there long =

@@ -4,8 +4,9 @@ use Rattle.std.proofs.Common.{None, inl, inr, sum_by, ap, sym, subst, refl, arit
 use Rattle.std.proofs.Math.ListN.{length-set}
 use Rattle.std.proofs.lemmas.List.Sums.{sum_by_more, sum_by-cons, sum_by-take-le, get_or-le-sum_by}
 use Rattle.core_lang.specs.declared.value.Value.{Value}
+use Rattle.core_lang.specs.declared.value.Outcome.{Outcome}
 use Rattle.core_lang.specs.declared.typed.Typed.{Typed}
-use Rattle.core_lang.specs.Serial.{Invocation, opening_heap}
+use Rattle.core_lang.specs.Serial.{Invocation}
 use Rattle.core_lang.specs.Typing.{HasCells, IsHeap}
 use Rattle.core_lang.specs.WellFormed.{calls_together}
 use Rattle.outcomes.specs.declared.search.Search.{Search}
@@ -14,11 +15,12 @@ use Rattle.outcomes.specs.declared.search.EarlyEnd.TheVariants.{TooMany, Beyond}
 use Rattle.outcomes.specs.declared.search.Work.{Work}
 use Rattle.outcomes.specs.declared.state.State.{State}
 use Rattle.outcomes.specs.Orders.{next_call, one_more, orders_of}
-use Rattle.outcomes.specs.Working.States.{Reached, at, nowhere, reached_of, with_more, orders_to}
+use Rattle.outcomes.specs.Ends.{Left, answered}
+use Rattle.outcomes.specs.Working.States.{Reached, left_with, at, nowhere, reached_of, with_more, orders_to}
 use Rattle.outcomes.specs.Working.Trails.{longer}
-use Rattle.outcomes.specs.Working.Searching.{order_at, IsGood, AreGood, weight, total, Summand, IsFound, IsAdded}
+use Rattle.outcomes.specs.Working.Searching.{left_after, order_at, IsGood, AreGood, weight, total, Summand, IsFound, IsAdded}
 use Rattle.outcomes.specs.Working.Steps.{IsOver, Puts, IsAtWork, IsReached, Growth, made_by, made_below, made_from}
-use Rattle.outcomes.specs.Working.Steps.{made_from_all, GoesOn, IsStop, HasTooMany, one}
+use Rattle.outcomes.specs.Working.Steps.{made_from_all, GoesOn, IsStop, HasTooMany, one, start_of}
 use Rattle.outcomes.proofs.Sums.{sum_with, sum_without, sum_more, total_found, total_added}
 use Rattle.outcomes.proofs.Full.{has_order}
 use Rattle.outcomes.proofs.Leading.{good_longer, longer_again, good_child, good_found, good_added}
@@ -63,10 +65,10 @@ goes_nowhere search a g work none =
 pub reached_still : (search : Search) (a b : Work) (g : Growth) (from : State) → GoesOn search a b g →
     IsReached search a from → IsReached search b from
 reached_still search a b g from goes reached =
-    subst (λ (d : ℕ). IsGood search.program.now search.turns d b.trail (reached_of from)) (sym goes.depth)
-    (good_longer search.program.now search.turns a.depth a.trail b.trail (reached_of from) goes.longer reached)
+    subst (λ (d : ℕ). IsGood search.program.now search.turns d (start_of search) b.trail (reached_of from)) (sym goes.depth)
+    (good_longer search.program.now search.turns a.depth (start_of search) a.trail b.trail (reached_of from) goes.longer reached)
 
-grown_found : (old new : List Reached) (trail trail' : List (List ℕ)) (done : List ℕ) (heap : List Value) (more : ℕ) →
+grown_found : (old new : List Reached) (trail trail' : List (List ℕ)) (done : List ℕ) (heap : Left) (more : ℕ) →
     IsFound old new trail trail' done heap more →
     length trail' + length old ≡ length trail + length new
 grown_found old new trail trail' done heap more found =
@@ -74,39 +76,45 @@ grown_found old new trail trail' done heap more found =
     let orders : length trail' ≡ length trail = ap length found.trail_is in
     omega arith
 
-grown_added : (old new : List Reached) (trail trail' : List (List ℕ)) (done : List ℕ) (heap : List Value) (more from thread : ℕ) →
+grown_added : (old new : List Reached) (trail trail' : List (List ℕ)) (done : List ℕ) (heap : Left) (more from thread : ℕ) →
     IsAdded old new trail trail' done heap more from thread → length trail' + length old ≡ length trail + length new
 grown_added old new trail trail' done heap more from thread added =
-    let s : Reached = record { done = done; cells = heap; orders = more; first = length trail } in
+    let s : Reached = record { done = done; left = heap; orders = more; first = length trail } in
     let states : length new ≡ length old + 1 = ap length added.states ∙ length-append old (s ∷ []) in
     let orders : length trail' ≡ length trail + 1 = ap length added.trail_is ∙ length-append trail (longer trail from thread ∷ []) in
     omega arith
 
 -- where a call is over, and where it leads is put among the states
-pub goes_step : (search : Search) (old new : Work) (heap : List Value) (from : State) (t : ℕ) (call : Invocation) →
+pub goes_step : (search : Search) (old new : Work) (cells : List Value) (from : State) (t : ℕ) (call : Invocation) (outcome : Outcome) →
     IsAtWork search old → IsReached search old from → next_call search.program.now from.done.items t ≡ Some call →
-    IsOver search.program.now search.turns call from.cells.items heap →
-    Puts (record { heap = heap; next = old.next; trail = old.trail; depth = old.depth }) new from t → GoesOn search old new (made_by search from t)
-goes_step search old new heap from t call work reached next over puts =
+    IsOver search.program.now search.turns call from.cells.items cells outcome →
+    Puts (record { heap = cells; next = old.next; trail = old.trail; depth = old.depth }) new from t
+    (answered search.program.now from.done.items t outcome from.answers.items) → GoesOn search old new (made_by search from t)
+goes_step search old new cells from t call outcome work reached next over puts =
     let program = search.program.now in
     let n = search.turns in
-    let made : Reached = record { done = one_more from.done.items t; cells = heap; orders = from.orders; first = length old.trail } in
-    let child : (trail' : List (List ℕ)) → trail' ≡ old.trail ++ longer old.trail from.first t ∷ [] → IsGood program n (suc old.depth) trail' made =
-    λ trail' is. subst (λ (h : List Value). IsGood program n (suc old.depth) trail' (record { done = one_more from.done.items t; cells = h; orders = from.orders; first = length old.trail })) (sym over.heap_is)
-    (good_child program n old.depth old.trail trail' (reached_of from) t call over.finished from.orders reached next over.over
+    let start = start_of search in
+    let heap : Left = left_with cells (answered program from.done.items t outcome from.answers.items) in
+    let heap_is : heap ≡ left_after program from.done.items t over.finished (reached_of from).left =
+    ap (λ (c : List Value). left_with c (answered program from.done.items t outcome from.answers.items)) over.heap_is
+    ∙ ap (λ (o : Outcome). left_with over.finished.heap (answered program from.done.items t o from.answers.items)) over.outcome_is in
+    let made : Reached = record { done = one_more from.done.items t; left = heap; orders = from.orders; first = length old.trail } in
+    let child : (trail' : List (List ℕ)) → trail' ≡ old.trail ++ longer old.trail from.first t ∷ [] → IsGood program n (suc old.depth) start trail' made =
+    λ trail' is. subst (λ (h : Left). IsGood program n (suc old.depth) start trail' (record { done = one_more from.done.items t; left = h; orders = from.orders; first = length old.trail })) (sym heap_is)
+    (good_child program n old.depth start old.trail trail' (reached_of from) t call over.finished from.orders reached next over.over
     (subst (HasCells program) over.heap_is over.there) (subst (IsHeap program) over.heap_is over.typed) is) in
     let leads : (f : Summand) (left : ℕ) →
     from.orders * weight program n f left (one_more from.done.items t) heap ≡ made_by search from t f left =
     λ f left. ap (λ (x : ℕ). from.orders * x)
-    (ap (weight program n f left (one_more from.done.items t)) over.heap_is
-    ∙ sym (sum_with program n left f from.done.items from.cells.items t call over.finished next over.over)) in
+    (ap (weight program n f left (one_more from.done.items t)) heap_is
+    ∙ sym (sum_with program n left f from.done.items (reached_of from).left t call over.finished next over.over)) in
     record {
       depth = puts.1;
       work = record {
         heap = subst (HasCells program) (sym puts.0) over.there;
-        states = subst (λ (d : ℕ). AreGood program n (suc d) new.trail new.next) (sym puts.1) (elim puts.2 [
-          | inl found ↦ good_found program n (suc old.depth) old.trail new.trail old.next new.next (one_more from.done.items t) heap from.orders found work.states
-          | inr added ↦ good_added program n (suc old.depth) old.trail new.trail old.next new.next (one_more from.done.items t) heap from.orders from.first t added
+        states = subst (λ (d : ℕ). AreGood program n (suc d) start new.trail new.next) (sym puts.1) (elim puts.2 [
+          | inl found ↦ good_found program n (suc old.depth) start old.trail new.trail old.next new.next (one_more from.done.items t) heap from.orders found work.states
+          | inr added ↦ good_added program n (suc old.depth) start old.trail new.trail old.next new.next (one_more from.done.items t) heap from.orders from.first t added
               (child new.trail added.trail_is) work.states
         ]);
       };
@@ -132,14 +140,14 @@ pub goes_past : (search : Search) (work : Work) (from : State) (t : ℕ) → IsA
     GoesOn search work work (made_by search from t)
 goes_past search work from t at_work none =
     goes_nowhere search work (made_by search from t) at_work
-    (λ f left. times_none from.orders _ (sum_without search.program.now search.turns left f from.done.items from.cells.items t none))
+    (λ f left. times_none from.orders _ (sum_without search.program.now search.turns left f from.done.items (reached_of from).left t none))
 
 -- one thread further
 pub below_more : (search : Search) (from : State) (t : ℕ) (f : Summand) (left : ℕ) →
     made_below search from (t + 1) f left ≡ made_below search from t f left + made_by search from t f left
 below_more search from t f left =
     ap (λ (c : ℕ). made_below search from c f left) (add-one t)
-    ∙ times_both from.orders _ _ _ (sum_more search.program.now search.turns left f from.done.items from.cells.items t)
+    ∙ times_both from.orders _ _ _ (sum_more search.program.now search.turns left f from.done.items (reached_of from).left t)
 
 -- one state further
 pub all_more : (search : Search) (states : List Reached) (k : ℕ) (from : State) → k < length states →
@@ -147,7 +155,7 @@ pub all_more : (search : Search) (states : List Reached) (k : ℕ) (from : State
     (f : Summand) (left : ℕ) →
     made_from_all search (take (k + 1) states) f left ≡ made_from_all search (take k states) f left + made_from search from f left
 all_more search states k from within is f left =
-    let g : Reached → ℕ = λ s. s.orders * weight search.program.now search.turns f (suc left) s.done s.cells in
+    let g : Reached → ℕ = λ s. s.orders * weight search.program.now search.turns f (suc left) s.done s.left in
     sum_by_more g states k nowhere within ∙ ap (λ (s : Reached). sum_by g (take k states) + g s) is
 
 -- ---- more orders than are looked at
@@ -157,11 +165,11 @@ times_least a zero some = absurd (omega arith)
 times_least a (suc w) some = omega arith
 
 -- of a good state there is an order
-weighs : (program : Typed) (n depth left : ℕ) (trail : List (List ℕ)) (s : Reached) → IsGood program n depth trail s →
+weighs : (program : Typed) (n depth left : ℕ) (start : Left) (trail : List (List ℕ)) (s : Reached) → IsGood program n depth start trail s →
     depth + left ≡ calls_together program.threads.items →
-    1 ≤ weight program n one left s.done s.cells
-weighs program n depth left trail s good all =
-    let there = has_order program n left (opening_heap program) (order_at trail s.first) s.done s.cells good.leads (ap (λ (k : ℕ). k + left) good.long ∙ all) in
+    1 ≤ weight program n one left s.done s.left
+weighs program n depth left start trail s good all =
+    let there = has_order program n left start (order_at trail s.first) s.done s.left good.leads (ap (λ (k : ℕ). k + left) good.long ∙ all) in
     get_or-le-sum_by (λ (o : List ℕ). 1) (orders_of program left s.done) there.1.0 there.0 there.1.1
 
 both_least : (a b c d : ℕ) → a ≤ b → c ≤ d → a + c ≤ b + d
@@ -177,22 +185,23 @@ sum_least w (s ∷ states) each =
 in_parts : (m a b x y z : ℕ) → m < a + b → a ≤ x → b ≤ y → z ≡ y → m < x + z
 in_parts m a b x y z many first second same = omega arith
 
-pub many_at_step : (search : Search) (old : Work) (heap : List Value) (from : State) (t : ℕ) (call : Invocation) →
+pub many_at_step : (search : Search) (old : Work) (cells : List Value) (from : State) (t : ℕ) (call : Invocation) (outcome : Outcome) →
     IsAtWork search old → IsReached search old from → next_call search.program.now from.done.items t ≡ Some call →
-    IsOver search.program.now search.turns call from.cells.items heap → search.most < orders_to old.next + from.orders → HasTooMany search old (made_by search from t)
-many_at_step search old heap from t call work reached next over many left all =
+    IsOver search.program.now search.turns call from.cells.items cells outcome → search.most < orders_to old.next + from.orders → HasTooMany search old (made_by search from t)
+many_at_step search old cells from t call outcome work reached next over many left all =
     let program = search.program.now in
     let n = search.turns in
     let trail' = old.trail ++ longer old.trail from.first t ∷ [] in
-    let child = good_child program n old.depth old.trail trail' (reached_of from) t call over.finished from.orders reached next over.over
+    let start = start_of search in
+    let child = good_child program n old.depth start old.trail trail' (reached_of from) t call over.finished from.orders reached next over.over
     (subst (HasCells program) over.heap_is over.there) (subst (IsHeap program) over.heap_is over.typed) refl in
-    let here : 1 ≤ weight program n one left (one_more from.done.items t) over.finished.heap = weighs program n (suc old.depth) left trail' _ child all in
-    let leads : made_by search from t one left ≡ from.orders * weight program n one left (one_more from.done.items t) over.finished.heap =
-    ap (λ (x : ℕ). from.orders * x) (sum_with program n left one from.done.items from.cells.items t call over.finished next over.over) in
-    let own : from.orders ≤ from.orders * weight program n one left (one_more from.done.items t) over.finished.heap = times_least from.orders _ here in
+    let here : 1 ≤ weight program n one left (one_more from.done.items t) (left_after program from.done.items t over.finished (reached_of from).left) = weighs program n (suc old.depth) left start trail' _ child all in
+    let leads : made_by search from t one left ≡ from.orders * weight program n one left (one_more from.done.items t) (left_after program from.done.items t over.finished (reached_of from).left) =
+    ap (λ (x : ℕ). from.orders * x) (sum_with program n left one from.done.items (reached_of from).left t call over.finished next over.over) in
+    let own : from.orders ≤ from.orders * weight program n one left (one_more from.done.items t) (left_after program from.done.items t over.finished (reached_of from).left) = times_least from.orders _ here in
     let others : orders_to old.next ≤ total program n one left old.next =
-    sum_least (λ (s : Reached). weight program n one left s.done s.cells) old.next
-    (λ k within. weighs program n (suc old.depth) left old.trail (at old.next k) (work.states.each k within) all) in
+    sum_least (λ (s : Reached). weight program n one left s.done s.left) old.next
+    (λ k within. weighs program n (suc old.depth) left start old.trail (at old.next k) (work.states.each k within) all) in
     in_parts _ _ _ _ _ _ many others own leads
 
 in_whole : (m a b c g w : ℕ) → m < a + g → a ≡ b + c → c + g ≤ w → m < b + w
@@ -236,5 +245,5 @@ pub states_all : (search : Search) (states : List Reached) (k : ℕ) (from : Sta
     made_from_all search (take k states) one left + made_from search from one left ≤ made_from_all search states one left
 states_all search states k from left within is =
     let next = all_more search states k from within is one left in
-    let few = sum_by-take-le (λ (s : Reached). s.orders * weight search.program.now search.turns one (suc left) s.done s.cells) states (k + 1) in
+    let few = sum_by-take-le (λ (s : Reached). s.orders * weight search.program.now search.turns one (suc left) s.done s.left) states (k + 1) in
     omega (arith, next, few)

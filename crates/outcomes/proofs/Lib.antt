@@ -8,3 +8,4 @@ pub mod Going
 pub mod Whole
 pub mod Drawn
 pub mod Configurations
+pub mod SeenEnds

@@ -2,22 +2,21 @@
 use Rattle.std.proofs.Common.{◌≡◌, ◌∙◌, ℕ, ◌+◌, ◌*◌, suc, List, [], ◌∷◌, ◌++◌, length, map, Option, Some, None}
 use Rattle.std.proofs.Common.{sum_by, ap, sym, refl, arith}
 use Rattle.std.proofs.lemmas.List.Sums.{sum_by-append, sum_by_push, sum_by-cons, sum_by-set}
-use Rattle.core_lang.specs.declared.value.Value.{Value}
 use Rattle.core_lang.specs.declared.typed.Typed.{Typed}
 use Rattle.core_lang.specs.Serial.{Invocation, go_on, run_call, serial_with}
 use Rattle.core_lang.specs.Whole.{Finished, Run, Over}
 use Rattle.outcomes.specs.Orders.{next_call, one_more, orders_of, begun_with, begun_by, calls_of}
-use Rattle.outcomes.specs.Ends.{heap_left, end_from, done_after}
+use Rattle.outcomes.specs.Ends.{Left, left_by, end_from, done_after}
 use Rattle.outcomes.specs.Working.States.{Reached, at, nowhere, with_more}
-use Rattle.outcomes.specs.Working.Searching.{sum_over, weight, IsFound, IsAdded, Summand}
+use Rattle.outcomes.specs.Working.Searching.{left_after, sum_over, weight, IsFound, IsAdded, Summand}
 
 -- where a call is over, an order that begins with it ends as the others end from there
-end_behind : (program : Typed) (n : ℕ) (done : List ℕ) (heap : List Value) (t : ℕ) (call : Invocation) (finished : Finished) (order : List ℕ) →
-    next_call program done t ≡ Some call → run_call program n call heap ≡ Over finished →
-    end_from program n done heap (t ∷ order) ≡ end_from program n (one_more done t) finished.heap order
+end_behind : (program : Typed) (n : ℕ) (done : List ℕ) (heap : Left) (t : ℕ) (call : Invocation) (finished : Finished) (order : List ℕ) →
+    next_call program done t ≡ Some call → run_call program n call heap.cells ≡ Over finished →
+    end_from program n done heap (t ∷ order) ≡ end_from program n (one_more done t) (left_after program done t finished heap) order
 end_behind program n done heap t call finished order next over =
-    ap (λ (c : Option Invocation). heap_left (serial_with program n heap (Rattle.std.specs.Option.option_to_list c ++ calls_of program (one_more done t) order))) next
-    ∙ ap (λ (r : Run). heap_left (go_on r heap (call ∷ calls_of program (one_more done t) order) (λ h. serial_with program n h (calls_of program (one_more done t) order)))) over
+    ap (λ (c : Option Invocation). left_by program done (t ∷ order) heap.answers (serial_with program n heap.cells (Rattle.std.specs.Option.option_to_list c ++ calls_of program (one_more done t) order))) next
+    ∙ ap (λ (r : Run). left_by program done (t ∷ order) heap.answers (go_on r heap.cells (call ∷ calls_of program (one_more done t) order) (λ h. serial_with program n h (calls_of program (one_more done t) order)))) over
 
 -- a sum over orders that all begin with one thread
 sum_behind : (f g : List ℕ → ℕ) (t : ℕ) (orders : List (List ℕ)) → ((order : List ℕ) → f (t ∷ order) ≡ g order) →
@@ -29,24 +28,24 @@ sum_behind f g t (o ∷ os) same =
     ∙ ap (λ (x : ℕ). g o + x) (sum_behind f g t os same) ∙ sym (sum_by-cons g o os)
 
 -- the orders that begin with a thread are those from where its call leads
-pub sum_with : (program : Typed) (n left : ℕ) (f : Summand) (done : List ℕ) (heap : List Value) (t : ℕ) (call : Invocation) (finished : Finished) →
-    next_call program done t ≡ Some call → run_call program n call heap ≡ Over finished →
+pub sum_with : (program : Typed) (n left : ℕ) (f : Summand) (done : List ℕ) (heap : Left) (t : ℕ) (call : Invocation) (finished : Finished) →
+    next_call program done t ≡ Some call → run_call program n call heap.cells ≡ Over finished →
     sum_over program n f done heap (begun_with (next_call program done t) t (orders_of program left (one_more done t)))
-    ≡ weight program n f left (one_more done t) finished.heap
+    ≡ weight program n f left (one_more done t) (left_after program done t finished heap)
 sum_with program n left f done heap t call finished next over =
     ap (λ (c : Option Invocation). sum_over program n f done heap (begun_with c t (orders_of program left (one_more done t)))) next
-    ∙ sum_behind (λ (o : List ℕ). f (done_after done o) (end_from program n done heap o)) (λ (o : List ℕ). f (done_after (one_more done t) o) (end_from program n (one_more done t) finished.heap o)) t
+    ∙ sum_behind (λ (o : List ℕ). f (done_after done o) (end_from program n done heap o)) (λ (o : List ℕ). f (done_after (one_more done t) o) (end_from program n (one_more done t) (left_after program done t finished heap) o)) t
     (orders_of program left (one_more done t)) (λ o. ap (f (done_after (one_more done t) o)) (end_behind program n done heap t call finished o next over))
 
 -- and there are none, where it has no call left
-pub sum_without : (program : Typed) (n left : ℕ) (f : Summand) (done : List ℕ) (heap : List Value) (t : ℕ) →
+pub sum_without : (program : Typed) (n left : ℕ) (f : Summand) (done : List ℕ) (heap : Left) (t : ℕ) →
     next_call program done t ≡ None →
     sum_over program n f done heap (begun_with (next_call program done t) t (orders_of program left (one_more done t))) ≡ 0
 sum_without program n left f done heap t none =
     ap (λ (c : Option Invocation). sum_over program n f done heap (begun_with c t (orders_of program left (one_more done t)))) none
 
 -- one thread further
-pub sum_more : (program : Typed) (n left : ℕ) (f : Summand) (done : List ℕ) (heap : List Value) (t : ℕ) →
+pub sum_more : (program : Typed) (n left : ℕ) (f : Summand) (done : List ℕ) (heap : Left) (t : ℕ) →
     sum_over program n f done heap (begun_by program (orders_of program left) done (suc t))
     ≡ sum_over program n f done heap (begun_by program (orders_of program left) done t)
     + sum_over program n f done heap (begun_with (next_call program done t) t (orders_of program left (one_more done t)))
@@ -63,24 +62,24 @@ after : (a b c d x y : ℕ) → a + b ≡ c + d → d ≡ b + x → x ≡ y → 
 after a b c d x y p q r = omega arith
 
 -- orders that lead to a state that is there
-pub total_found : (w : List ℕ → List Value →
-    ℕ) (old new : List Reached) (trail trail' : List (List ℕ)) (done : List ℕ) (heap : List Value) (more : ℕ) →
+pub total_found : (w : List ℕ → Left →
+    ℕ) (old new : List Reached) (trail trail' : List (List ℕ)) (done : List ℕ) (heap : Left) (more : ℕ) →
     IsFound old new trail trail' done heap more →
-    sum_by (λ (s : Reached). s.orders * w s.done s.cells) new ≡ sum_by (λ (s : Reached). s.orders * w s.done s.cells) old + more * w done heap
+    sum_by (λ (s : Reached). s.orders * w s.done s.left) new ≡ sum_by (λ (s : Reached). s.orders * w s.done s.left) old + more * w done heap
 total_found w old new trail trail' done heap more found =
-    let g : Reached → ℕ = λ s. s.orders * w s.done s.cells in
+    let g : Reached → ℕ = λ s. s.orders * w s.done s.left in
     let s = at old found.number in
     let sums = sum_by-set g old found.number (with_more s more) nowhere found.within in
-    let same : w s.done s.cells ≡ w done heap = ap (λ (d : List ℕ). w d s.cells) found.alike.0 ∙ ap (w done) found.alike.1 in
-    let more_is : g (with_more s more) ≡ g s + more * w s.done s.cells = times_more s.orders more (w s.done s.cells) in
-    let times : more * w s.done s.cells ≡ more * w done heap = ap (λ (x : ℕ). more * x) same in
+    let same : w s.done s.left ≡ w done heap = ap (λ (d : List ℕ). w d s.left) found.alike.0 ∙ ap (w done) found.alike.1 in
+    let more_is : g (with_more s more) ≡ g s + more * w s.done s.left = times_more s.orders more (w s.done s.left) in
+    let times : more * w s.done s.left ≡ more * w done heap = ap (λ (x : ℕ). more * x) same in
     ap (sum_by g) found.states ∙ after _ _ _ _ _ _ sums more_is times
 
 -- and to a new one
-pub total_added : (w : List ℕ → List Value →
-    ℕ) (old new : List Reached) (trail trail' : List (List ℕ)) (done : List ℕ) (heap : List Value) (more from thread : ℕ) →
+pub total_added : (w : List ℕ → Left →
+    ℕ) (old new : List Reached) (trail trail' : List (List ℕ)) (done : List ℕ) (heap : Left) (more from thread : ℕ) →
     IsAdded old new trail trail' done heap more from thread →
-    sum_by (λ (s : Reached). s.orders * w s.done s.cells) new ≡ sum_by (λ (s : Reached). s.orders * w s.done s.cells) old + more * w done heap
+    sum_by (λ (s : Reached). s.orders * w s.done s.left) new ≡ sum_by (λ (s : Reached). s.orders * w s.done s.left) old + more * w done heap
 total_added w old new trail trail' done heap more from thread added =
-    let g : Reached → ℕ = λ s. s.orders * w s.done s.cells in
-    ap (sum_by g) added.states ∙ sum_by_push g old (record { done = done; cells = heap; orders = more; first = length trail })
+    let g : Reached → ℕ = λ s. s.orders * w s.done s.left in
+    ap (sum_by g) added.states ∙ sum_by_push g old (record { done = done; left = heap; orders = more; first = length trail })

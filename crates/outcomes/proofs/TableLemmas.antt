@@ -11,9 +11,9 @@ use Rattle.std.specs.HashMap.{HashMap, get}
 use Rattle.std.specs.declared.hash.DefaultHasher.{DefaultHasher}
 use Rattle.std.specs.declared.hash.FoldHasher.{FoldHasher}
 use Rattle.std.specs.declared.hash.BuildHasherDefault.{BuildHasherDefault}
-use Rattle.core_lang.specs.declared.value.Value.{Value}
+use Rattle.outcomes.specs.Ends.{Left}
 use Rattle.outcomes.specs.declared.layer.Entry.{Entry}
-use Rattle.outcomes.specs.Working.Hashes.{hash}
+use Rattle.outcomes.specs.Working.Hashes.{hash_left}
 use Rattle.outcomes.specs.Working.States.{Reached, IsAlike, entry_state, orders_to, at, nowhere, NoneIsAlike}
 use Rattle.outcomes.specs.Working.Tables.{hash_of, HasHash, IsLast, IsTable, HasAlike, IsLeft, left_count}
 use Rattle.outcomes.proofs.Lists.{set_at, replaced_at}
@@ -155,32 +155,32 @@ module _ (start : DefaultHasher) where
   -- ---- finding
 
   -- what is such a state has the hash
-  has_hash : (entries : List Entry) (done : List ℕ) (cells : List Value) (k : ℕ) → HasAlike entries done cells k →
-      HasHash start entries (hash start done cells) k
-  has_hash entries done cells k has = (has.0, has.1, ap (λ d. hash start d has.0.state.cells.items) has.2.0 ∙ ap (hash start done) has.2.1)
+  has_hash : (entries : List Entry) (done : List ℕ) (cells : Left) (k : ℕ) → HasAlike entries done cells k →
+      HasHash start entries (hash_left start done cells) k
+  has_hash entries done cells k has = (has.0, has.1, ap (λ (d : List ℕ). hash_left start d (entry_state has.0).left) has.2.0 ∙ ap (hash_left start done) has.2.1)
 
   -- where such states stand below n, the last with the hash is next
-  pub left_from : (entries : List Entry) (done : List ℕ) (cells : List Value) (n : ℕ) (o : Option ℕ) →
-      ((k : ℕ) → HasAlike entries done cells k → k < n) → IsLast start entries (hash start done cells) n o → IsLeft start entries done cells o
+  pub left_from : (entries : List Entry) (done : List ℕ) (cells : Left) (n : ℕ) (o : Option ℕ) →
+      ((k : ℕ) → HasAlike entries done cells k → k < n) → IsLast start entries (hash_left start done cells) n o → IsLeft start entries done cells o
   left_from entries done cells n None below none = λ k has. none k (below k has) (has_hash entries done cells k has)
   left_from entries done cells n (Some last) below is =
       (is.1, λ k above has. is.2 k above (below k has) (has_hash entries done cells k has))
 
-  pub left_at_first : (entries : List Entry) (places : HashMap ℕ ℕ (BuildHasherDefault FoldHasher)) (total : ℕ) (done : List ℕ) (cells : List Value) (o : Option ℕ) →
-      IsTable start entries places total → get nat_eq places (hash start done cells) ≡ o → IsLeft start entries done cells o
+  pub left_at_first : (entries : List Entry) (places : HashMap ℕ ℕ (BuildHasherDefault FoldHasher)) (total : ℕ) (done : List ℕ) (cells : Left) (o : Option ℕ) →
+      IsTable start entries places total → get nat_eq places (hash_left start done cells) ≡ o → IsLeft start entries done cells o
   left_at_first entries places total done cells o is found =
       left_from entries done cells (length entries) o (λ k has. slice_get_within entries k has.0 has.1)
-      (subst (IsLast start entries (hash start done cells) (length entries)) found (is.last (hash start done cells)))
+      (subst (IsLast start entries (hash_left start done cells) (length entries)) found (is.last (hash_left start done cells)))
 
   below_unless_above : (j k : ℕ) → (j ≡ k → ⊥) → (k < j → ⊥) → j < k
   below_unless_above j k apart low = omega arith
 
-  pub left_next : (entries : List Entry) (places : HashMap ℕ ℕ (BuildHasherDefault FoldHasher)) (total : ℕ) (done : List ℕ) (cells : List Value) (k : ℕ) (e : Entry) →
+  pub left_next : (entries : List Entry) (places : HashMap ℕ ℕ (BuildHasherDefault FoldHasher)) (total : ℕ) (done : List ℕ) (cells : Left) (k : ℕ) (e : Entry) →
       IsTable start entries places total → IsLeft start entries done cells (Some k) → slice_get entries k ≡ Some e → (IsAlike done cells (entry_state e) → ⊥) →
       IsLeft start entries done cells e.before
   left_next entries places total done cells k e is left here not =
       let same : e ≡ left.0.0 = cc in
-      let h : hash_of start e ≡ hash start done cells = ap (hash_of start) same ∙ left.0.2 in
+      let h : hash_of start e ≡ hash_left start done cells = ap (hash_of start) same ∙ left.0.2 in
       left_from entries done cells k e.before
       (λ j has. elim (cases_eq j k) [
         | inl at ↦ absurd (let x : e ≡ has.0 = (let f : slice_get entries k ≡ Some has.0 = ap (slice_get entries) (sym at) ∙ has.1 in cc) in
@@ -201,7 +201,7 @@ module _ (start : DefaultHasher) where
       get_or-map entry_state entries k e nowhere (slice_get_within entries k e is) ∙ ap entry_state (get_or_from_slice_get entries k e e is)
 
   -- a number that is left is one of a state
-  pub left_within : (entries : List Entry) (done : List ℕ) (cells : List Value) (o : Option ℕ) (k : ℕ) →
+  pub left_within : (entries : List Entry) (done : List ℕ) (cells : Left) (o : Option ℕ) (k : ℕ) →
       IsLeft start entries done cells o → o ≡ Some k →
       k < length (map entry_state entries)
   left_within entries done cells o k left is =
@@ -216,7 +216,7 @@ module _ (start : DefaultHasher) where
   left_smaller entries places total k e is here = count_below entries (hash_of start e) k e.before (is.before k e here)
 
   -- where nothing is left, there is no such state
-  pub none_alike : (entries : List Entry) (done : List ℕ) (cells : List Value) (o : Option ℕ) →
+  pub none_alike : (entries : List Entry) (done : List ℕ) (cells : Left) (o : Option ℕ) →
       IsLeft start entries done cells o → o ≡ None →
       NoneIsAlike done cells (map entry_state entries)
   none_alike entries done cells o left is k within alike =

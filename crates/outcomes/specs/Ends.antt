@@ -1,71 +1,121 @@
--- How the cells can end.
-use Rattle.std.specs.Prelude.{◌≡◌, ◌≢◌, ℕ, ◌<◌, Bool, List, [], ◌∷◌, if◌then◌else◌, length, map, All, AllPairs, Any}
-use Rattle.std.specs.Prelude.{Contains, count_by, sum_by, Option, Some, None}
+-- How the cells and the calls can end.
+use Rattle.std.specs.Prelude.{◌≡◌, ◌≢◌, ℕ, ◌<◌, Bool, true, false, List, [], ◌∷◌, if◌then◌else◌, length, map, replicate}
+use Rattle.std.specs.Prelude.{All, AllPairs, Any, Contains, count_by, sum_by, Option, Some, None, option_map, slice_set}
+use Rattle.std.specs.Prelude.{slice_index, slice_index_or}
 use Rattle.core_lang.specs.declared.value.Value.{Value}
+use Rattle.core_lang.specs.declared.value.Value.TheVariants.{Ref}
+use Rattle.core_lang.specs.declared.value.Outcome as ended
 use Rattle.core_lang.specs.declared.typed.Typed.{Typed}
 use Rattle.core_lang.specs.Serial.{Invocation, Ended, Progress, SerialFromOpening, opening_heap, run_call, serial_with}
 use Rattle.core_lang.specs.Whole.{Beyond_turns}
+use Rattle.core_lang.specs.WellFormed.{calls_together}
+use Rattle.outcomes.specs.declared.outcome.Asked.{Asked}
+use Rattle.outcomes.specs.declared.outcome.Cells.{Cells}
+use Rattle.outcomes.specs.declared.outcome.Cells.TheVariants.{Every, These}
 use Rattle.outcomes.specs.declared.outcome.Outcome.{Outcome}
 use Rattle.outcomes.specs.declared.outcome.Found.{Found}
 use Rattle.outcomes.specs.declared.outcome.Found.TheVariants as found
-use Rattle.outcomes.specs.Orders.{orders, next_call, one_more, none_done, calls_of, calls_in}
+use Rattle.outcomes.specs.Orders.{orders, next_call, one_more, none_done, call_number, calls_of, calls_in}
 
--- the calls of an order of all calls, run whole one after another from the opening heap, leave this heap
-pub record EndsIn (program : Typed) (order : List ℕ) (heap : List Value) : Type 0 where
+-- what calls leave: what the cells hold; and, if that is asked, how each call of all threads ended, thread 0's first, None of
+-- one that was not made
+pub record Left : Type 0 where
+  pub cells : List Value
+  pub answers : List (Option ended.Outcome)
+
+-- before the first call
+abbrev pub no_answers : Bool → Typed → List (Option ended.Outcome)
+no_answers false program = []
+no_answers true program = replicate (calls_together program.threads.items) None
+
+abbrev pub opening_left : Typed → Bool → Left
+opening_left program answers = record { cells = opening_heap program; answers = no_answers answers program }
+
+-- where so many calls of each thread are done, with how the next one of a thread ended; nothing, if that isn't asked
+abbrev pub answered : Typed → List ℕ → ℕ → ended.Outcome → List (Option ended.Outcome) → List (Option ended.Outcome)
+answered program done t outcome answers = slice_set answers (call_number program t (slice_index done t)) (Some outcome)
+
+-- with how the calls of an order ended
+abbrev pub answers_after : Typed → List ℕ → List ℕ → List Ended → List (Option ended.Outcome) → List (Option ended.Outcome)
+answers_after program done [] ends answers = answers
+answers_after program done (t ∷ order) [] answers = answers
+answers_after program done (t ∷ order) (e ∷ ends) answers =
+    answers_after program (one_more done t) order ends (answered program done t e.outcome answers)
+
+-- the calls of an order of all calls, run whole one after another from the opening heap, leave this
+pub record EndsIn (program : Typed) (answers : Bool) (order : List ℕ) (left : Left) : Type 0 where
   pub is_order : Contains (orders program) order
   pub ends : List Ended
-  pub serial : SerialFromOpening program (calls_in program order) ends heap
+  pub serial : SerialFromOpening program (calls_in program order) ends left.cells
+  pub answered : left.answers ≡ answers_after program (none_done program) order ends (no_answers answers program)
 
--- the heap, if no call is left
-abbrev pub heap_if_settled : List Invocation → List Value → Option (List Value)
-heap_if_settled [] heap = Some heap
-heap_if_settled (call ∷ calls) heap = None
+-- what is left, if no call is left
+abbrev pub left_if_settled : List Invocation → Left → Option Left
+left_if_settled [] left = Some left
+left_if_settled (call ∷ calls) left = None
 
--- the heap that calls leave, if the turns settle them all
-abbrev pub heap_left : Progress → Option (List Value)
-heap_left p = heap_if_settled p.unsettled p.heap
+-- what the calls of an order leave, if the turns settle them all
+abbrev pub left_by : Typed → List ℕ → List ℕ → List (Option ended.Outcome) → Progress → Option Left
+left_by program done order answers p =
+    left_if_settled p.unsettled (record { cells = p.heap; answers = answers_after program done order p.ends answers })
 
--- the heap that the calls of an order leave, if n turns settle them all
-abbrev pub end_from : Typed → ℕ → List ℕ → List Value → List ℕ → Option (List Value)
-end_from program n done heap order = heap_left (serial_with program n heap (calls_of program done order))
+-- the same with n turns
+abbrev pub end_from : Typed → ℕ → List ℕ → Left → List ℕ → Option Left
+end_from program n done left order =
+    left_by program done order left.answers (serial_with program n left.cells (calls_of program done order))
 
-abbrev pub end_in : Typed → ℕ → List ℕ → Option (List Value)
-end_in program n order = end_from program n (none_done program) (opening_heap program) order
+abbrev pub end_in : Typed → ℕ → Bool → List ℕ → Option Left
+end_in program n answers order = end_from program n (none_done program) (opening_left program answers) order
 
 -- ---- what is told
 
--- an end: what the cells hold, after how many orders, and one of these
+-- what these cells hold
+abbrev pub seen_cells : Cells → List Value → List Value
+seen_cells Every cells = cells
+seen_cells (These numbers) cells = map (λ (k : ℕ). slice_index_or cells k (Ref None)) numbers.items
+
+-- by what ends are told apart: what the cells hold that are asked for, and the answers
+abbrev pub seen : Cells → Left → Left
+seen cells left = record { cells = seen_cells cells left.cells; answers = left.answers }
+
+-- an end: that, after how many orders, and one of these
 pub record Told : Type 0 where
-  pub cells : List Value
+  pub left : Left
   pub count : ℕ
   pub order : List ℕ
 
 abbrev pub told_of : Outcome → Told
-told_of o = record { cells = o.cells.items; count = o.count; order = o.order.items }
+told_of o = record { left = record { cells = o.cells.items; answers = o.answers.items }; count = o.count; order = o.order.items }
 
--- so often it is told of ends whose cells pass a test
-abbrev pub told_count : (Option (List Value) → Bool) → List Told → ℕ
-told_count test told = sum_by (λ (e : Told). if test (Some e.cells) then e.count else 0) told
+-- so often it is told of ends that pass a test
+abbrev pub told_count : (Option Left → Bool) → List Told → ℕ
+told_count test told = sum_by (λ (e : Told). if test (Some e.left) then e.count else 0) told
+
+-- the order that is told ends so
+abbrev pub IsEndOf : Typed → Asked → Told → Type 0
+IsEndOf program asked e = (left : Left) × EndsIn program asked.answers e.order left × (e.left ≡ seen asked.cells left)
 
 -- the ends of all orders, each once, and after how many orders
-pub record AreAllEnds (program : Typed) (n : ℕ) (told : List Told) : Type 0 where
+pub record AreAllEnds (program : Typed) (n : ℕ) (asked : Asked) (told : List Told) : Type 0 where
   -- each is the end of the order that is told with it
-  pub each : All (λ (e : Told). EndsIn program e.order e.cells) told
-  -- no two have the same cells
-  pub apart : AllPairs (λ (a b : Told). a.cells ≢ b.cells) told
-  -- of all orders, as many end in cells that pass a test as is told
-  pub counts : (test : Option (List Value) → Bool) →
-      count_by (λ (order : List ℕ). test (end_in program n order)) (orders program) ≡ told_count test told
+  pub each : All (IsEndOf program asked) told
+  -- no two are alike
+  pub apart : AllPairs (λ (a b : Told). a.left ≢ b.left) told
+  -- of all orders, as many have an end that passes a test as is told
+  pub counts : (test : Option Left → Bool) →
+      count_by (λ (order : List ℕ). test (option_map (seen asked.cells) (end_in program n asked.answers order))) (orders program)
+      ≡ told_count test told
   -- and whatever order the calls are run in, its end is among them
-  pub all : (order : List ℕ) (heap : List Value) → EndsIn program order heap → Any (λ (e : Told). e.cells ≡ heap) told
+  pub all : (order : List ℕ) (left : Left) → EndsIn program asked.answers order left →
+      Any (λ (e : Told). e.left ≡ seen asked.cells left) told
 
 -- the ends of orders that were drawn, where there are more than are looked at
-pub record AreDrawnEnds (program : Typed) (most : ℕ) (told : List Told) : Type 0 where
+pub record AreDrawnEnds (program : Typed) (most : ℕ) (asked : Asked) (told : List Told) : Type 0 where
   pub more : most < length (orders program)
   -- each is the end of the order that is told with it
-  pub each : All (λ (e : Told). EndsIn program e.order e.cells) told
-  -- no two have the same cells
-  pub apart : AllPairs (λ (a b : Told). a.cells ≢ b.cells) told
+  pub each : All (IsEndOf program asked) told
+  -- no two are alike
+  pub apart : AllPairs (λ (a b : Told). a.left ≢ b.left) told
   -- as many orders were drawn as are looked at
   pub counts : sum_by (λ (e : Told). e.count) told ≡ most
 
@@ -87,31 +137,34 @@ pub record StopsAfter (program : Typed) (n : ℕ) (order : List ℕ) (thread : �
 
 -- ---- states
 
--- where calls can lead: how many of each thread's are done, and what the cells hold
+-- where calls can lead: how many of each thread's are done, and what they leave
 pub record Configuration : Type 0 where
   pub done : List ℕ
-  pub cells : List Value
+  pub left : Left
 
 -- the calls of an order, each the next of its thread, run whole one after another from the opening heap, lead there
-pub record LeadsTo (program : Typed) (configuration : Configuration) : Type 0 where
+pub record LeadsTo (program : Typed) (answers : Bool) (configuration : Configuration) : Type 0 where
   pub order : List ℕ
   pub made : length (calls_in program order) ≡ length order
   pub done : done_after (none_done program) order ≡ configuration.done
   pub ends : List Ended
-  pub serial : SerialFromOpening program (calls_in program order) ends configuration.cells
+  pub serial : SerialFromOpening program (calls_in program order) ends configuration.left.cells
+  pub answered : configuration.left.answers ≡ answers_after program (none_done program) order ends (no_answers answers program)
 
 -- all such configurations, each once
-pub record AreAllConfigurations (program : Typed) (configurations : List Configuration) : Type 0 where
-  pub each : All (LeadsTo program) configurations
+pub record AreAllConfigurations (program : Typed) (answers : Bool) (configurations : List Configuration) : Type 0 where
+  pub each : All (LeadsTo program answers) configurations
   pub apart : AllPairs (λ (a b : Configuration). a ≢ b) configurations
-  pub all : (configuration : Configuration) → LeadsTo program configuration → Contains configurations configuration
+  pub all : (configuration : Configuration) → LeadsTo program answers configuration → Contains configurations configuration
 
 -- there are so many of them
-abbrev pub HasConfigurations : Typed → ℕ → Type 0
-HasConfigurations program count = (configurations : List Configuration) × AreAllConfigurations program configurations × (length configurations ≡ count)
+abbrev pub HasConfigurations : Typed → Bool → ℕ → Type 0
+HasConfigurations program answers count =
+    (configurations : List Configuration) × AreAllConfigurations program answers configurations × (length configurations ≡ count)
 
 -- what is found: the ends of all orders, and how many configurations there are on the way; or the ends of orders that were drawn; or a call that n turns don't settle
-abbrev pub Finds : Typed → ℕ → ℕ → Found → Type 0
-Finds program n most (found.All ends configurations) = AreAllEnds program n (map told_of ends.items) × HasConfigurations program configurations
-Finds program n most (found.Drawn ends) = AreDrawnEnds program most (map told_of ends.items)
-Finds program n most (found.Unsettled order thread) = StopsAfter program n order.items thread
+abbrev pub Finds : Typed → ℕ → ℕ → Asked → Found → Type 0
+Finds program n most asked (found.All ends configurations) =
+    AreAllEnds program n asked (map told_of ends.items) × HasConfigurations program asked.answers configurations
+Finds program n most asked (found.Drawn ends) = AreDrawnEnds program most asked (map told_of ends.items)
+Finds program n most asked (found.Unsettled order thread) = StopsAfter program n order.items thread

@@ -1,6 +1,6 @@
 -- The orders in which the calls of a program's scripts can be made one after another. An order is a list of threads: each
 -- stands for the next call of its script.
-use Rattle.std.specs.Prelude.{ℕ, ◌+◌, zero, suc, List, [], ◌∷◌, ◌++◌, length, map, replicate, slice_get, slice_set}
+use Rattle.std.specs.Prelude.{ℕ, ◌+◌, zero, suc, List, [], ◌∷◌, ◌++◌, length, map, replicate, slice_get, slice_set, take}
 use Rattle.std.specs.Prelude.{slice_index, Option, Some, None, option_map, option_to_list}
 use Rattle.core_lang.specs.declared.typed.Thread.{Thread}
 use Rattle.core_lang.specs.declared.typed.Typed.{Typed}
@@ -20,6 +20,10 @@ one_more done t = slice_set done t (slice_index done t + 1)
 -- no call is done
 abbrev pub none_done : Typed → List ℕ
 none_done program = replicate (length program.threads.items) 0
+
+-- the number of a thread's call among the calls of all threads, thread 0's whole script first
+abbrev pub call_number : Typed → ℕ → ℕ → ℕ
+call_number program t k = calls_together (take t program.threads.items) + k
 
 -- ---- all orders
 

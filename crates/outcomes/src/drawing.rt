@@ -12,12 +12,13 @@ ghost use Rattle.outcomes.specs.Ends.{Finds};
 ghost use Rattle.outcomes.specs.Working.Drawing.{IsWalk, HasCallLeft, calls_of_thread, Advances, Walks, Notes};
 
 use crate::layer::Layer;
-use crate::outcome::Found;
-use crate::search::{Search, set_cells, told};
+use crate::outcome::{Cells, Found};
+use crate::search::{Search, answered, set_cells, told};
 use crate::state::State;
+use crate::telling::seen_cells;
 use crate::trail::Trail;
-use core_lang::laws;
 use core_lang::value::Value;
+use core_lang::{laws, value};
 use meaning_trees::heap::Heap;
 use rand::rngs::SmallRng;
 use rand::{RngExt, SeedableRng};
@@ -31,6 +32,8 @@ pub(crate) struct Walk {
     pub(crate) heap: Heap,
     /// How many of each thread's there were.
     pub(crate) done: Vec<usize>,
+    /// How they ended, by their numbers; nothing, where that isn't asked.
+    pub(crate) answers: Vec<Option<value::Outcome>>,
     /// Their order.
     pub(crate) order: Vec<usize>,
 }
@@ -81,9 +84,11 @@ impl Search<'_> {
         ensures { IfOk result (Advances self.now walk.old walk.new thread) }
     {
         let call = self.next(&walk.done, thread).unwrap();
-        if !self.run(alloc, &mut walk.heap, call)? {
+        let Some(outcome) = self.run(alloc, &mut walk.heap, call)? else {
             return Ok(false);
-        }
+        };
+        let number = self.call_number(thread, walk.done[thread]);
+        walk.answers = answered(alloc, &walk.answers, number, outcome)?;
         walk.done[thread] += 1;
         walk.order.push(thread)?;
         Ok(true)
@@ -105,6 +110,7 @@ impl Search<'_> {
     {
         set_cells(alloc, &mut walk.heap, opening)?;
         walk.done = vec![in alloc; 0; self.program.threads.len()]?;
+        walk.answers = self.no_answers(alloc)?;
         walk.order.clear();
         let calls = self.calls();
         while walk.order.len() < calls {
@@ -119,21 +125,23 @@ impl Search<'_> {
 }
 
 impl Drawing {
-    /// Puts where the order led among the ends.
-    fn note(&mut self, alloc: Global) -> Result<(), NoMemory>
+    /// Puts where the order led among the ends, which are told apart by these cells.
+    fn note(&mut self, alloc: Global, asked: &Cells) -> Result<(), NoMemory>
         requires begun { IsBegun self.old.trail }
         requires fit { orders_to self.old.ends + 1 < 2 ^ 64 }
-        ensures { OnOk result (Notes self.old self.new) }
+        ensures { OnOk result (Notes asked.now self.old self.new) }
     {
-        match self.ends.find(&self.walk.done, self.walk.heap.cells()) {
+        let cells = seen_cells(alloc, asked, self.walk.heap.cells())?;
+        match self.ends.find(&self.walk.done, &cells, &self.walk.answers) {
             Some(number) => self.ends.add_orders(number, 1),
             None => {
                 let first = self.trail.add(&self.walk.order)?;
                 let done = self.walk.done.clone()?;
-                let cells = Vec::from_slice(alloc, self.walk.heap.cells())?;
+                let answers = Vec::from_slice(alloc, &self.walk.answers)?;
                 self.ends.push(State {
                     done,
                     cells,
+                    answers,
                     orders: 1,
                     first,
                 })?;
@@ -148,7 +156,7 @@ impl Search<'_> {
     pub(crate) fn drawn(&self, alloc: Global, seed: u64) -> Result<Found, NoMemory>
         requires search { CanSearch self.now }
         requires more { self.now.most < length (orders self.now.program.now) }
-        ensures { IfOk result (Finds self.now.program.now self.now.turns self.now.most) }
+        ensures { IfOk result (Finds self.now.program.now self.now.turns self.now.most self.now.asked.now) }
     {
         laws::whole_within_some_turns();
         let mut random = SmallRng::seed_from_u64(seed);
@@ -158,6 +166,7 @@ impl Search<'_> {
             walk: Walk {
                 heap,
                 done: Vec::new(alloc),
+                answers: Vec::new(alloc),
                 order: Vec::new(alloc),
             },
             ends: Layer::new(alloc, self.hashing),
@@ -168,7 +177,7 @@ impl Search<'_> {
                 let order = Vec::from_slice(alloc, &drawing.walk.order)?;
                 return Ok(Found::Unsettled { order, thread });
             }
-            drawing.note(alloc)?;
+            drawing.note(alloc, &self.asked.cells)?;
         }
         Ok(Found::Drawn(told(alloc, &drawing.ends, &drawing.trail)?))
     }

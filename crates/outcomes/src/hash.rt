@@ -1,9 +1,10 @@
 //! Numbers by which states are found.
 
 ghost use Rattle.std.specs.Prelude.{◌≡◌};
-ghost use Rattle.outcomes.specs.Working.Hashes.{hash, mixed, mixed_all, word_of};
+ghost use Rattle.outcomes.specs.Working.Hashes.{hash, mixed, mixed_all, mixed_answer, mixed_cells, word_of};
+ghost use Rattle.outcomes.specs.Working.Hashes.{mixed_answers};
 
-use core_lang::value::Value;
+use core_lang::value::{Outcome, Value};
 use std::hash::{DefaultHasher, Hasher};
 
 fn mixed(hasher: DefaultHasher, word: u64) -> DefaultHasher
@@ -35,13 +36,47 @@ fn mixed_counts(start: DefaultHasher, done: &[usize]) -> DefaultHasher
     hasher
 }
 
-/// The number of a state, by a hasher with the keys: alike states have the same.
-pub(crate) fn hash(start: DefaultHasher, done: &[usize], cells: &[Value]) -> u64
-    ensures { result ≡ hash start done.now cells.now }
+fn mixed_cells(start: DefaultHasher, cells: &[Value]) -> DefaultHasher
+    ensures { result ≡ mixed_cells start cells.now }
 {
-    let mut hasher = mixed_counts(start, done);
+    let mut hasher = start;
     for cell in cells {
         hasher = mixed(hasher, word_of(*cell));
     }
-    hasher.finish()
+    hasher
+}
+
+// How a call ended takes two words, so that no result is as a trap.
+fn mixed_answer(hasher: DefaultHasher, answer: Option<Outcome>) -> DefaultHasher
+    ensures { result ≡ mixed_answer hasher answer }
+{
+    match answer {
+        None => mixed(hasher, 0),
+        Some(Outcome::Ends) => mixed(hasher, 1),
+        Some(Outcome::Returns(value)) => mixed(mixed(hasher, 2), word_of(value)),
+        Some(Outcome::Traps(trap)) => mixed(mixed(hasher, 3), u64::from(trap.number())),
+    }
+}
+
+fn mixed_answers(start: DefaultHasher, answers: &[Option<Outcome>]) -> DefaultHasher
+    ensures { result ≡ mixed_answers start answers.now }
+{
+    let mut hasher = start;
+    for answer in answers {
+        hasher = mixed_answer(hasher, *answer);
+    }
+    hasher
+}
+
+/// The number of a state, by a hasher with the keys: alike states have the same.
+pub(crate) fn hash(
+    start: DefaultHasher,
+    done: &[usize],
+    cells: &[Value],
+    answers: &[Option<Outcome>],
+) -> u64
+    ensures { result ≡ hash start done.now cells.now answers.now }
+{
+    let hasher = mixed_cells(mixed_counts(start, done), cells);
+    mixed_answers(hasher, answers).finish()
 }

@@ -1,11 +1,11 @@
 //! States, each once.
 
 ghost use Rattle.std.specs.Prelude.{◌≡◌, ◌<◌, ◌+◌, ◌^◌, ◌↔◌, [], ◌∷◌, ◌++◌, length, map, slice_set, IsTrue, OnOk, OnErr, MatchOption};
-ghost use Rattle.outcomes.specs.Working.States.{reached_of, orders_to, IsOne, IsAlike, NoneIsAlike, with_more, at};
+ghost use Rattle.outcomes.specs.Working.States.{reached_of, left_with, orders_to, IsOne, IsAlike, NoneIsAlike, with_more, at};
 
 use crate::hash::hash;
 use crate::state::State;
-use core_lang::value::Value;
+use core_lang::value::{Outcome, Value};
 use source::keyed::KeyedState;
 use source::memory::NoMemory;
 use std::alloc::Global;
@@ -78,23 +78,40 @@ impl Layer {
         self.total
     }
 
-    // Whether the state of a number is the one where so many calls of each thread are done and the cells hold these values.
-    fn is_alike(&self, number: usize, done: &[usize], cells: &[Value]) -> bool
+    // Whether the state of a number is the one where so many calls of each thread are done, the cells hold these values, and the
+    // calls ended like this.
+    fn is_alike(
+        &self,
+        number: usize,
+        done: &[usize],
+        cells: &[Value],
+        answers: &[Option<Outcome>],
+    ) -> bool
         requires { number < length self.now }
-        ensures { IsTrue result ↔ IsAlike done.now cells.now (at self.now number) }
+        ensures { IsTrue result ↔ IsAlike done.now (left_with cells.now answers.now) (at self.now number) }
     {
         let state = &self.entries[number].state;
-        same_counts(&state.done, done) && same_values(&state.cells, cells)
+        same_counts(&state.done, done)
+            && same_values(&state.cells, cells)
+            && same_answers(&state.answers, answers)
     }
 
-    /// The number of the state where so many calls of each thread are done and the cells hold these values.
-    pub fn find(&self, done: &[usize], cells: &[Value]) -> Option<usize>
-        ensures { MatchOption result (NoneIsAlike done.now cells.now self.now)
-            (λ number. (number < length self.now) × IsAlike done.now cells.now (at self.now number)) }
+    /// The number of the state where so many calls of each thread are done, the cells hold these values, and the calls ended
+    /// like this.
+    pub fn find(
+        &self,
+        done: &[usize],
+        cells: &[Value],
+        answers: &[Option<Outcome>],
+    ) -> Option<usize>
+        ensures { let left = left_with cells.now answers.now in
+            MatchOption result (NoneIsAlike done.now left self.now)
+            (λ number. (number < length self.now) × IsAlike done.now left (at self.now number)) }
     {
-        let mut last = self.places.get(&hash(self.start, done, cells)).copied();
+        let key = hash(self.start, done, cells, answers);
+        let mut last = self.places.get(&key).copied();
         while let Some(number) = last {
-            if self.is_alike(number, done, cells) {
+            if self.is_alike(number, done, cells, answers) {
                 return Some(number);
             }
             last = self.entries[number].before;
@@ -123,7 +140,7 @@ impl Layer {
         ensures ok { OnOk result (self.new ≡ self.old ++ reached_of state ∷ []) }
         ensures err { OnErr result (self.new ≡ self.old) }
     {
-        let key = hash(self.start, &state.done, &state.cells);
+        let key = hash(self.start, &state.done, &state.cells, &state.answers);
         let before = self.places.get(&key).copied();
         let number = self.entries.len();
         let orders = state.orders;
@@ -148,6 +165,12 @@ fn same_counts(a: &[usize], b: &[usize]) -> bool
 }
 
 fn same_values(a: &[Value], b: &[Value]) -> bool
+    ensures { IsTrue result ↔ (a.now ≡ b.now) }
+{
+    a == b
+}
+
+fn same_answers(a: &[Option<Outcome>], b: &[Option<Outcome>]) -> bool
     ensures { IsTrue result ↔ (a.now ≡ b.now) }
 {
     a == b

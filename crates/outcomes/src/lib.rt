@@ -16,4 +16,5 @@ pub mod layer;
 pub mod outcome;
 pub mod search;
 pub mod state;
+mod telling;
 pub mod trail;

@@ -1,12 +1,34 @@
-//! What a search finds.
+//! What a search is asked for, and what it finds.
 
+use core_lang::value;
 use core_lang::value::Value;
+
+/// Which of a program's cells ends are told apart by.
+#[derive(Drop)]
+pub enum Cells {
+    /// All.
+    Every,
+    /// Those of these numbers, in this order.
+    These(Vec<usize>),
+}
+
+/// What ends are told apart by.
+#[derive(Drop)]
+pub struct Asked {
+    /// What these cells hold.
+    pub cells: Cells,
+    /// Whether also how each call ended.
+    pub answers: bool,
+}
 
 /// How the cells can end.
 #[derive(Drop)]
 pub struct Outcome {
-    /// What they hold.
+    /// What those hold that ends are told apart by.
     pub cells: Vec<Value>,
+    /// How each call ended, by its number among the calls of all threads, thread 0's first; nothing, where ends aren't told
+    /// apart by that.
+    pub answers: Vec<Option<value::Outcome>>,
     /// After how many of the orders that were looked at.
     pub count: u64,
     /// One of these orders, thread by thread.
@@ -20,8 +42,8 @@ pub enum Found {
     All {
         /// How the cells can end.
         ends: Vec<Outcome>,
-        /// How many configurations these orders come by: how many of each thread's calls are done, and what the cells
-        /// hold.
+        /// How many configurations these orders come by: how many of each thread's calls are done, what the cells hold,
+        /// and, where ends are told apart by that, how the calls ended.
         configurations: usize,
     },
     /// How they end after orders that were drawn, since there are more than are looked at.

@@ -1,22 +1,24 @@
 //! The search for all ends, over states by how many calls are done.
 
-ghost use Rattle.std.specs.Prelude.{◌≡◌, ◌<◌, ◌≤◌, ◌+◌, ◌^◌, [], ◌∷◌, length, IsTrue, MatchBool, map, slice_index, true, None, OnOk, IfOk, MatchOption};
+ghost use Rattle.std.specs.Prelude.{◌≡◌, ◌<◌, ◌≤◌, ◌+◌, ◌^◌, [], ◌∷◌, length, IsTrue, MatchBool, map, replicate, slice_index, slice_set};
+ghost use Rattle.std.specs.Prelude.{true, None, Some, OnOk, IfOk, MatchOption};
 ghost use Rattle.core_lang.specs.Serial.{invocation, opening_heap};
 ghost use Rattle.core_lang.specs.Typing.{IsHeap, HasCells};
 ghost use Rattle.core_lang.specs.WellFormed.{CanCall, calls_together};
 ghost use Rattle.outcomes.specs.Working.States.{orders_to};
-ghost use Rattle.outcomes.specs.Orders.{next_call};
+ghost use Rattle.outcomes.specs.Orders.{next_call, call_number};
+ghost use Rattle.outcomes.specs.Working.Drawing.{calls_of_thread};
 ghost use Rattle.outcomes.specs.Working.Steps.{CanSearch, FindsOrHasMore, Leaves, Puts, IsNext, IsAtWork, IsReached, AreReached, Steps, made_by, made_from, made_from_all, opening_state, FirstsAre};
-ghost use Rattle.outcomes.specs.Ends.{Finds, told_of};
+ghost use Rattle.outcomes.specs.Ends.{Finds, told_of, no_answers, answered};
 ghost use Rattle.outcomes.specs.Working.Searching.{as_told};
 
 use crate::layer::Layer;
-use crate::outcome::{Found, Outcome};
+use crate::outcome::{Asked, Found, Outcome};
 use crate::state::State;
 use crate::trail::Trail;
-use core_lang::laws;
 use core_lang::typed::{Call, Typed};
 use core_lang::value::Value;
+use core_lang::{laws, value};
 use meaning_registers::prepared::Prepared;
 use meaning_trees::draft::Draft;
 use meaning_trees::heap::Heap;
@@ -35,6 +37,8 @@ pub struct Search<'a> {
     pub turns: u64,
     /// The most orders of which all are looked at.
     pub most: u64,
+    /// What ends are told apart by.
+    pub asked: &'a Asked,
     /// How states are hashed: keyed by the program's text.
     pub hashing: KeyedState,
 }
@@ -81,8 +85,13 @@ pub(crate) fn set_cells(alloc: Global, heap: &mut Heap, cells: &[Value]) -> Resu
 }
 
 impl Search<'_> {
-    /// Makes a call on a heap. Answers whether the turns settle it; if so, the heap is what it leaves.
-    pub(crate) fn run(&self, alloc: Global, heap: &mut Heap, call: &Call) -> Result<bool, NoMemory>
+    /// Makes a call on a heap. Answers how it ends, if the turns settle it, and then the heap is what it leaves.
+    pub(crate) fn run(
+        &self,
+        alloc: Global,
+        heap: &mut Heap,
+        call: &Call,
+    ) -> Result<Option<value::Outcome>, NoMemory>
         requires search { CanSearch self.now }
         requires heap { HasCells self.now.program.now heap.old }
         requires typed { IsHeap self.now.program.now heap.old }
@@ -92,18 +101,21 @@ impl Search<'_> {
         let run = self
             .prepared
             .run_whole(alloc, call.section, &call.arguments, heap, self.turns)?;
-        Ok(run.is_some())
+        match run {
+            Some(end) => Ok(Some(end.outcome)),
+            None => Ok(None),
+        }
     }
 
-    /// Makes a call where the cells hold these values. Answers whether the turns settle it; if so, the heap is what it
-    /// leaves.
+    /// Makes a call where the cells hold these values. Answers how it ends, if the turns settle it, and then the heap is what
+    /// it leaves.
     fn make(
         &self,
         alloc: Global,
         heap: &mut Heap,
         call: &Call,
         cells: &[Value],
-    ) -> Result<bool, NoMemory>
+    ) -> Result<Option<value::Outcome>, NoMemory>
         requires search { CanSearch self.now }
         requires heap { HasCells self.now.program.now heap.old }
         requires cells { HasCells self.now.program.now cells.now }
@@ -117,17 +129,23 @@ impl Search<'_> {
 }
 
 impl Work {
-    /// Puts where a call of a thread leads among the states.
-    fn put(&mut self, alloc: Global, from: &State, thread: usize) -> Result<(), NoMemory>
+    /// Puts where a call of a thread leads, with these answers, among the states.
+    fn put(
+        &mut self,
+        alloc: Global,
+        from: &State,
+        thread: usize,
+        answers: Vec<Option<value::Outcome>>,
+    ) -> Result<(), NoMemory>
         requires thread { thread < length from.now.done.items }
         requires short { slice_index from.now.done.items thread + 1 < 2 ^ 64 }
         requires first { from.now.first < length self.old.trail }
         requires fit { orders_to self.old.next + from.now.orders < 2 ^ 64 }
-        ensures { OnOk result (Puts self.old self.new from.now thread) }
+        ensures { OnOk result (Puts self.old self.new from.now thread answers.items) }
     {
         let mut done = from.done.clone()?;
         done[thread] += 1;
-        match self.next.find(&done, self.heap.cells()) {
+        match self.next.find(&done, self.heap.cells(), &answers) {
             Some(number) => self.next.add_orders(number, from.orders),
             None => {
                 let first = self.trail.extend(from.first, thread)?;
@@ -135,6 +153,7 @@ impl Work {
                 self.next.push(State {
                     done,
                     cells,
+                    answers,
                     orders: from.orders,
                     first,
                 })?;
@@ -168,6 +187,20 @@ impl Search<'_> {
         }
     }
 
+    /// The number of a thread's call among the calls of all threads.
+    pub(crate) fn call_number(&self, thread: usize, step: usize) -> usize
+        requires search { CanSearch self.now }
+        requires thread { thread < length self.now.program.now.threads.items }
+        requires step { step < calls_of_thread self.now.program.now.threads.items thread }
+        ensures { result ≡ call_number self.now.program.now thread step }
+    {
+        let mut before = 0;
+        for other in &self.program.threads[..thread] {
+            before += other.calls.len();
+        }
+        before + step
+    }
+
     /// Makes the next call of a thread, if it has one left, and puts where it leads among the states.
     fn step(
         &self,
@@ -185,16 +218,18 @@ impl Search<'_> {
         let Some(call) = self.next(&from.done, thread) else {
             return Ok(None);
         };
-        if !self.make(alloc, &mut work.heap, call, &from.cells)? {
+        let Some(outcome) = self.make(alloc, &mut work.heap, call, &from.cells)? else {
             return Ok(Some(EarlyEnd::Beyond {
                 first: from.first,
                 thread,
             }));
-        }
+        };
         if !self.has_room(work.next.orders(), from.orders) {
             return Ok(Some(EarlyEnd::TooMany));
         }
-        work.put(alloc, from, thread)?;
+        let number = self.call_number(thread, from.done[thread]);
+        let answers = answered(alloc, &from.answers, number, outcome)?;
+        work.put(alloc, from, thread, answers)?;
         Ok(None)
     }
 
@@ -239,6 +274,22 @@ impl Search<'_> {
     }
 }
 
+/// These answers with one in its place; none, where they have no place for it.
+pub(crate) fn answered(
+    alloc: Global,
+    answers: &[Option<value::Outcome>],
+    number: usize,
+    outcome: value::Outcome,
+) -> Result<Vec<Option<value::Outcome>>, AllocError>
+    ensures { IfOk result (λ after. after.items ≡ slice_set answers.now number (Some outcome)) }
+{
+    let mut after = Vec::from_slice(alloc, answers)?;
+    if number < after.len() {
+        after[number] = Some(outcome);
+    }
+    Ok(after)
+}
+
 /// The states as they are told.
 pub(crate) fn told(alloc: Global, layer: &Layer, trail: &Trail) -> Result<Vec<Outcome>, NoMemory>
     requires { FirstsAre trail.now layer.now }
@@ -249,6 +300,7 @@ pub(crate) fn told(alloc: Global, layer: &Layer, trail: &Trail) -> Result<Vec<Ou
         let state = layer.get(number);
         ends.push(Outcome {
             cells: Vec::from_slice(alloc, &state.cells)?,
+            answers: Vec::from_slice(alloc, &state.answers)?,
             count: state.orders,
             order: trail.order(alloc, state.first)?,
         })?;
@@ -269,15 +321,31 @@ impl Search<'_> {
         count
     }
 
+    /// The answers before the first call.
+    pub(crate) fn no_answers(
+        &self,
+        alloc: Global,
+    ) -> Result<Vec<Option<value::Outcome>>, AllocError>
+        requires { CanSearch self.now }
+        ensures { IfOk result (λ answers. answers.items ≡ no_answers self.now.asked.now.answers self.now.program.now) }
+    {
+        if self.asked.answers {
+            return vec![in alloc; None; self.calls()];
+        }
+        Ok(Vec::new(alloc))
+    }
+
     /// The state where no call is done.
     fn opening(&self, alloc: Global, heap: &Heap) -> Result<Layer, NoMemory>
-        requires { heap.now ≡ opening_heap self.now.program.now }
-        ensures { IfOk result (λ layer. layer ≡ opening_state self.now.program.now ∷ []) }
+        requires search { CanSearch self.now }
+        requires heap { heap.now ≡ opening_heap self.now.program.now }
+        ensures { IfOk result (λ layer. layer ≡ opening_state self.now ∷ []) }
     {
         let mut layer = Layer::new(alloc, self.hashing);
         layer.push(State {
             done: vec![in alloc; 0; self.program.threads.len()]?,
             cells: Vec::from_slice(alloc, heap.cells())?,
+            answers: self.no_answers(alloc)?,
             orders: 1,
             first: 0,
         })?;
@@ -313,7 +381,7 @@ impl Search<'_> {
             }
             layer = mem::replace(&mut work.next, Layer::new(alloc, self.hashing));
         }
-        let ends = told(alloc, &layer, &work.trail)?;
+        let ends = self.ends_of(alloc, &layer, &work.trail)?;
         let configurations = work.trail.len();
         Ok(Some(Found::All {
             ends,
@@ -329,7 +397,7 @@ impl Search<'_> {
     /// Want of memory.
     pub fn ends(&self, alloc: Global, seed: u64) -> Result<Found, NoMemory>
         requires { CanSearch self.now }
-        ensures { IfOk result (Finds self.now.program.now self.now.turns self.now.most) }
+        ensures { IfOk result (Finds self.now.program.now self.now.turns self.now.most self.now.asked.now) }
     {
         match self.all(alloc)? {
             Some(found) => Ok(found),

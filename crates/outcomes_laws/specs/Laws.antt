@@ -1,11 +1,12 @@
 -- Runs of a program's threads in which all calls end, and what is told of all orders of its calls.
-use Rattle.std.specs.Prelude.{◌≡◌, ◌<◌, ℕ, List, length, map, slice_get, Any, Contains, Some, None}
+use Rattle.std.specs.Prelude.{◌≡◌, ◌<◌, ℕ, Bool, List, length, map, slice_get, Any, Contains, Some, None}
 use Rattle.core_lang.specs.declared.value.Value.{Value}
 use Rattle.core_lang.specs.Serial.{SerialFromOpening}
 use Rattle.history.specs.Commits.{Commit, call_of, answer_of}
 use Rattle.lowering.specs.Plans.{Plan, IsCompiled}
-use Rattle.outcomes.specs.Ends.{Told, AreAllEnds}
-use Rattle.outcomes.specs.Orders.{orders, calls_in}
+use Rattle.outcomes.specs.declared.outcome.Asked.{Asked}
+use Rattle.outcomes.specs.Ends.{Left, Told, AreAllEnds, answers_after, no_answers, seen}
+use Rattle.outcomes.specs.Orders.{orders, calls_in, none_done}
 use Rattle.worlds.specs.Worlds.{World, ThreadState, Activation, HasOpen, call_at, final}
 
 -- all calls have ended: no section is open, and no thread has a call left
@@ -24,18 +25,26 @@ HoldsHeap plan w heap =
 abbrev pub order_of : List Commit → List ℕ
 order_of history = map (λ (c : Commit). c.thread) history
 
+-- what a history's calls leave: this heap, and how they ended
+abbrev pub left_by : Plan → Bool → List Commit → List Value → Left
+left_by plan answers history heap = record {
+  cells = heap;
+  answers = answers_after plan.accepted (none_done plan.accepted) (order_of history) (map answer_of history) (no_answers answers plan.accepted);
+}
+
 -- the order of the history is one of the program's calls, and its calls are the history's; run whole one after another from the
--- opening cells they end and print as the history says, and leave the cells of the world; and an end with these is told
-pub record IsAmongTold (plan : Plan) (w : World) (told : List Told) : Type 0 where
+-- opening cells they end and print as the history says, and leave the cells of the world; and what is seen of that is told
+pub record IsAmongTold (plan : Plan) (w : World) (asked : Asked) (told : List Told) : Type 0 where
   pub heap : List Value
   pub order : Contains (orders plan.accepted) (order_of w.history)
   pub calls : calls_in plan.accepted (order_of w.history) ≡ map call_of w.history
   pub answers : SerialFromOpening plan.accepted (map call_of w.history) (map answer_of w.history) heap
   pub cells : HoldsHeap plan w heap
-  pub end : Any (λ (e : Told). e.cells ≡ heap) told
+  pub end : Any (λ (e : Told). e.left ≡ seen asked.cells (left_by plan asked.answers w.history heap)) told
 
--- so it is after every list of steps with which all calls have ended, whatever the turns for which all ends are told
+-- so it is after every list of steps with which all calls have ended, whatever the turns for which all ends are told, and whatever they
+-- are told apart by
 abbrev pub EveryEndIsTold : Type 0
 EveryEndIsTold =
-    (plan : Plan) (steps : List ℕ) (turns : ℕ) (told : List Told) → IsCompiled plan → AllHaveEnded plan (final plan steps) →
-    AreAllEnds plan.accepted turns told → IsAmongTold plan (final plan steps) told
+    (plan : Plan) (steps : List ℕ) (turns : ℕ) (asked : Asked) (told : List Told) → IsCompiled plan →
+    AllHaveEnded plan (final plan steps) → AreAllEnds plan.accepted turns asked told → IsAmongTold plan (final plan steps) asked told

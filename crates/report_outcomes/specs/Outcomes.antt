@@ -1,22 +1,115 @@
 -- The text of `outcomes`, as bytes: a line that says how many orders of a program's calls were looked at, and whether these are
--- all; if so a line with how many states they come by; then for each end of the cells a line with how many of these orders have it and one of them, and the cells as a history
--- text has them, a line `cells`, a line for each cell, a line `end`.
-use Rattle.std.specs.Prelude.{ℕ, List, ◌++◌, sum_by, codes, Option, Some, None}
+-- all; if so a line with how many states they come by; then for each end a line with how many of these orders have it and one of
+-- them, a line `cells`, a line for each cell that is asked for, if answers are asked for a line `answers` and a line for each call, a
+-- line `end`. Of an end after the first one those lines are left out that say what the first one has, unless all are to be
+-- written.
+use Rattle.std.specs.Prelude.{ℕ, ◌+◌, Bool, true, false, if◌then◌else◌, nat_eq, List, [], ◌∷◌, ◌++◌, sum_by, codes}
+use Rattle.std.specs.Prelude.{Option, Some, None, slice_get, slice_index, slice_index_or}
 use Rattle.std.specs.List.{flat_map}
+use Rattle.std.specs.Option.{option_eq, option_map_or}
+use Rattle.std.specs.Ordering.{int_eq}
 use Rattle.std.specs.Fmt.{decimal}
+use Rattle.core_lang.specs.declared.value.Value.{Value}
+use Rattle.core_lang.specs.declared.value.Value.TheVariants.{Int, Ref}
+use Rattle.core_lang.specs.declared.value.Outcome.{Outcome}
+use Rattle.core_lang.specs.declared.value.Outcome.TheVariants.{Ends, Returns, Traps}
 use Rattle.core_lang.specs.declared.typed.Typed.{Typed}
+use Rattle.core_lang.specs.Serial.{Scheduled, all_calls}
+use Rattle.core_lang.specs.Traps.{trap_number}
 use Rattle.code.specs.Listing.{line}
-use Rattle.outcomes.specs.Ends.{Told}
-use Rattle.report.specs.History.{closing_of}
+use Rattle.outcomes.specs.declared.outcome.Asked.{Asked}
+use Rattle.outcomes.specs.declared.outcome.Cells.{Cells}
+use Rattle.outcomes.specs.declared.outcome.Cells.TheVariants.{Every, These}
+use Rattle.outcomes.specs.Ends.{Left, Told}
+use Rattle.report.specs.History.{call_head, cell_line}
+use Rattle.report.specs.Pieces.{outcome_text}
+use Rattle.source_histories.specs.declared.format.Format.TheVariants.{One}
+
+-- ---- what is as the first end has it
+
+abbrev pub is_value : Value → Value → Bool
+is_value (Int a) (Int b) = int_eq a b
+is_value (Int a) (Ref b) = false
+is_value (Ref a) (Int b) = false
+is_value (Ref a) (Ref b) = option_eq nat_eq a b
+
+abbrev pub is_outcome : Outcome → Outcome → Bool
+is_outcome Ends Ends = true
+is_outcome Ends (Returns b) = false
+is_outcome Ends (Traps b) = false
+is_outcome (Returns a) Ends = false
+is_outcome (Returns a) (Returns b) = is_value a b
+is_outcome (Returns a) (Traps b) = false
+is_outcome (Traps a) Ends = false
+is_outcome (Traps a) (Returns b) = false
+is_outcome (Traps a) (Traps b) = nat_eq (trap_number a) (trap_number b)
+
+-- a line, unless it is left out
+abbrev pub unless : Bool → List ℕ → List ℕ
+unless left_out text = if left_out then [] else text
+
+-- ---- cells
+
+-- the number of the cell in this place among those that are asked for
+abbrev pub number_in : Cells → ℕ → ℕ
+number_in Every place = place
+number_in (These numbers) place = slice_index numbers.items place
+
+-- CELL VALUE
+abbrev pub cell_text : Typed → ℕ → Value → List ℕ
+cell_text program number value = option_map_or (λ cell. line (cell_line program cell value)) (slice_get program.cells.items number) []
+
+-- a line for each value from this place on, but for those that the first end has there too
+abbrev pub cell_texts : Typed → Cells → List Value → ℕ → List Value → List ℕ
+cell_texts program cells first place [] = []
+cell_texts program cells first place (value ∷ values) =
+    unless (option_map_or (is_value value) (slice_get first place) false) (cell_text program (number_in cells place) value)
+    ++ cell_texts program cells first (place + 1) values
+
+-- ---- answers
+
+-- call T K NAME(ARGUMENTS) OUTCOME
+abbrev pub answer_text : Typed → Scheduled → Option Outcome → List ℕ
+answer_text program call None = []
+answer_text program call (Some outcome) = line (call_head One program call 0 ++ outcome_text program.shape outcome)
+
+-- a line for each call from this number on, but for those that ended so in the first end too
+abbrev pub answer_texts : Typed → List (Option Outcome) → List (Option Outcome) → ℕ → List Scheduled → List ℕ
+answer_texts program first answers number [] = []
+answer_texts program first answers number (call ∷ calls) =
+    unless (option_eq is_outcome (slice_index_or answers number None) (slice_index_or first number None))
+    (answer_text program call (slice_index_or answers number None))
+    ++ answer_texts program first answers (number + 1) calls
+
+-- the same with a line `answers`, if answers are asked for
+abbrev pub answers_text : Bool → Typed → List (Option Outcome) → List (Option Outcome) → List ℕ
+answers_text false program first answers = []
+answers_text true program first answers = line (codes "answers") ++ answer_texts program first answers 0 (all_calls program)
+
+-- ---- an end
 
 -- the threads of an order, each with a space before it
 abbrev pub order_text : List ℕ → List ℕ
 order_text order = flat_map (λ thread. codes " " ++ decimal thread) order
 
--- outcome N after T T .., and the cells
-abbrev pub end_text : Typed → Told → List ℕ
-end_text program end =
-    line (codes "outcome " ++ decimal end.count ++ codes " after" ++ order_text end.order) ++ closing_of program end.cells
+-- outcome N after T T .., and what differs from the first end
+abbrev pub end_text : Typed → Asked → Left → Told → List ℕ
+end_text program asked first end =
+    line (codes "outcome " ++ decimal end.count ++ codes " after" ++ order_text end.order)
+    ++ line (codes "cells") ++ cell_texts program asked.cells first.cells 0 end.left.cells
+    ++ answers_text asked.answers program first.answers end.left.answers ++ line (codes "end")
+
+-- nothing, from which everything differs
+abbrev pub nothing : Left
+nothing = record { cells = []; answers = [] }
+
+-- each end: the first whole, and of the others what differs from it, or all
+abbrev pub ends_text : Typed → Asked → Bool → List Told → List ℕ
+ends_text program asked full [] = []
+ends_text program asked full (first ∷ others) =
+    end_text program asked nothing first ++ flat_map (end_text program asked (if full then nothing else first.left)) others
+
+-- ---- the text
 
 -- how many orders were looked at
 abbrev pub looked_at : List Told → ℕ
@@ -28,5 +121,5 @@ head_text count (Some states) = line (codes "orders " ++ decimal count ++ codes 
 head_text count None = line (codes "orders " ++ decimal count ++ codes " drawn")
 
 -- the whole text: how many orders were looked at, and if these are all, how many states they come by; and each end
-abbrev pub outcomes_text : Typed → Option ℕ → List Told → List ℕ
-outcomes_text program states ends = head_text (looked_at ends) states ++ flat_map (end_text program) ends
+abbrev pub outcomes_text : Typed → Asked → Bool → Option ℕ → List Told → List ℕ
+outcomes_text program asked full states ends = head_text (looked_at ends) states ++ ends_text program asked full ends

@@ -1,11 +1,16 @@
-//! The exact text that `outcomes` writes of a program that is accepted: how its cells can end, over the orders in which its
-//! calls can be made.
+//! The exact text that `outcomes` writes of a program that is accepted: how its cells, and if asked its calls, can end, over the
+//! orders in which its calls can be made.
 //!
 //! - [`Ends`]: what that text says.
+//! - [`asked_cells`]: the cells that are asked for by names.
 //!
-//! `specs/Outcomes.antt` defines it byte for byte.
+//! `specs/Outcomes.antt` defines the text byte for byte, and `specs/Names.antt` which cells a name is of.
 #![tactic(auto)]
 
+mod calls;
 mod ends;
+mod names;
+mod same;
 
 pub use ends::Ends;
+pub use names::asked_cells;

@@ -24,6 +24,7 @@ use Rattle.syntax.specs.Trees.{array, pool, init, atomic, helper, thread}
 use Rattle.core_lang.specs.declared.value.ValueType as core_type
 use Rattle.core_lang.specs.declared.value.ValueType.TheVariants.{Integer, Reference}
 use Rattle.source.specs.declared.mistake.Mistake.{Mistake}
+use Rattle.resolution.specs.declared.finding.Finding.{Finding}
 use Rattle.resolution.specs.declared.wanted.Sort.TheVariants as sort
 use Rattle.resolution.specs.declared.wanted.Want.{Want}
 use Rattle.resolution.specs.Limits.{STRUCT_LIMIT, MEMBER_LIMIT, FINAL_LIMIT, CLASS_LIMIT, OBJECT_LIMIT, CELL_LIMIT}
@@ -45,15 +46,20 @@ use Rattle.resolution.proofs.ExpressionRules.{typed_is}
 use Rattle.resolution.proofs.OwnerRules.{final_is, has_no_last}
 use Rattle.resolution.specs.Faults as fault
 use Rattle.resolution.specs.Faults.{start_of, const_start, IsTooLarge, IsDeclaredTwice, IsLockDecl, IsLockMember}
-use Rattle.resolution.specs.Faults.{IsFinalMember, IsUnknown, AreUnlike, IsNoValue, HasNoElements, IsNoReference}
+use Rattle.resolution.specs.Faults.{IsFinalMember, IsUnknown, AreUnlike, IsNoValue, HasNoElements}
 use Rattle.resolution.specs.Expressions.{IsEquality, IsOfNumbers}
 use Rattle.resolution.specs.Faults.{IsNoStruct, IsSection, IsPool, IsWrongType, IsWrongCount, IsNotAssignable}
 use Rattle.resolution.specs.Faults.{IsUnprotected, EndsAtNoLock, PassesNonFinal, limit_of, IsOverLimit, IsFinalMissing}
 use Rattle.resolution.specs.Faults.{IsOutOfRange, IsLockAsValue, IsFault, too_large, declared_twice, unknown}
 use Rattle.resolution.specs.Faults.{wrong_type, miscounted, not_assignable, without_lock, ends_at_no_lock}
 use Rattle.resolution.specs.Faults.{passes_non_final, over_limit, final_missing, out_of_range, lock_as_value, of_calls}
+use Rattle.resolution.specs.declared.why.Why.{Why}
+use Rattle.resolution.specs.declared.why.Why.TheVariants as why
+use Rattle.resolution.specs.declared.why.Role.TheVariants as role
+use Rattle.resolution.specs.Working.Findings.{told, found_if}
+use Rattle.resolution.specs.Reasons.{kind_of, referent_of, stands_for}
 use Rattle.resolution.specs.Working.FaultLists as list
-use Rattle.resolution.specs.Working.FaultLists.{one, one_if, unfit, unfit_member, no_struct, type_faults, number_faults}
+use Rattle.resolution.specs.Working.FaultLists.{reasoned, one, one_if, unfit, misnamed, unfit_member, no_struct, type_faults, number_faults}
 use Rattle.resolution.specs.Working.FaultLists.{index_faults, own_faults, sort_misfit, const_faults, argument_faults}
 use Rattle.resolution.specs.Working.FaultLists.{no_elements, no_field, step_faults, end_faults, path_faults, misfit}
 use Rattle.resolution.specs.Working.FaultLists.{unlike, side_faults, operator_faults, expr_faults, taken, local_faults}
@@ -65,7 +71,7 @@ use Rattle.resolution.specs.Working.FaultLists.{twice_faults, member_twice_fault
 use Rattle.resolution.specs.Working.FaultLists.{lock_count, member_counts, count_faults, total_faults, given_before}
 use Rattle.resolution.specs.Working.FaultLists.{init_target_again, repeated, repeated_faults, each_faults}
 use Rattle.resolution.specs.Working.FaultLists.{declaration_faults}
-use Rattle.source.specs.Theory.Leasts.{IsAmong, among_left, among_right}
+use Rattle.resolution.specs.Theory.Leasts.{IsAmong, among_left, among_right}
 use Rattle.core_lang_calls.specs.Faults.{IsGraphFault}
 use Rattle.resolution.specs.CallGraphs.{tree_graph}
 use Rattle.resolution.specs.declared.body_limits.BodyLimits.{BodyLimits}
@@ -83,9 +89,9 @@ use Rattle.resolution.proofs.AllPaths.{of_place, of_indexed, of_path, unknown_pl
 use Rattle.resolution.proofs.AllPaths.{unknown_field, of_passed, of_last, unknown_passed, of_global_lock, of_init_index}
 use Rattle.resolution.proofs.AllPaths.{of_init_field, of_member, of_owner_name}
 
-unfit_member_in : (decls : List Decl) (c : Code) (p : ℕ) (x : Member) → member_has_type decls x ≡ true →
-    unfit_member decls c p x ≡ one c p
-unfit_member_in decls c p x e = ap (λ (b : Bool). one_if b c p) e
+unfit_member_in : (decls : List Decl) (c : Code) (p : ℕ) {w : Why} (x : Member) → member_has_type decls x ≡ true →
+    unfit_member decls (told c p w) x ≡ reasoned c p w
+unfit_member_in decls c p {w = w} x e = ap (λ (b : Bool). found_if b (told c p w)) e
 
 -- ---- E02
 
@@ -177,8 +183,8 @@ const_own : (decls : List Decl) (w : Want) (x : Ident) (n : Number) → HasConst
     IsAmong f (declaration_faults decls)
 const_own decls w x n h f i = of_const decls w (member_const x n) h f (among_left f (own_faults decls (member_const x n)) _ i)
 
-call_at : (decls : List Decl) (c : Call) (k : Code) → HasCall decls c →
-    call_faults decls c.section.span.start (the_decl decls c.section.text) c.arguments ≡ one k c.section.span.start →
+call_at : (decls : List Decl) (c : Call) (k : Code) {w : Why} → HasCall decls c →
+    call_faults decls c.section.span.start (the_decl decls c.section.text) c.arguments ≡ reasoned k c.section.span.start w →
     listed decls k c.section.span.start
 call_at decls c k h e = of_call decls c h _ (at k c.section.span.start _ e)
 
@@ -199,7 +205,8 @@ unknown_in decls p (fault.no_field_passed {p = q} {st = st} {y = y} {ys = ys} h 
 
 -- ---- E07
 
-unlike_is : (a b : ℕ) (s t : ResolvedExpr) → AreUnlike s t → unlike a b (Some s) (Some t) ≡ one WrongType b
+unlike_is : (a b : ℕ) (s t : ResolvedExpr) → AreUnlike s t →
+    unlike a b (Some s) (Some t) ≡ reasoned WrongType b (why.Unlike (kind_of s) (kind_of t))
 unlike_is a b (value x s) (value y t) h = misfit_is b (alike_sorts s t) h
 unlike_is a b (value x s) (truth d) h = refl
 unlike_is a b (truth c) (value y t) h = refl
@@ -215,14 +222,14 @@ sides_are sign.Greater a b s t h = absurd h
 sides_are sign.GreaterOrEqual a b s t h = absurd h
 
 of_sides : (decls : List Decl) (sc : Scope) (w : Want) (a b : Expr) (c : written.Comparison) →
-    HasExpr decls sc w (compare a c b) → IsEquality c → (p : ℕ) →
-    unlike (start_of a) (start_of b) (typed sc a) (typed sc b) ≡ one WrongType p → listed decls WrongType p
+    HasExpr decls sc w (compare a c b) → IsEquality c → (p : ℕ) {v : Why} →
+    unlike (start_of a) (start_of b) (typed sc a) (typed sc b) ≡ reasoned WrongType p v → listed decls WrongType p
 of_sides decls sc w a b c h so p e =
     of_expr decls sc w (compare a c b) h _ (among_right _ (((expr_faults sc a ++ misfit _ (start_of a) (typed sc a)) ++ expr_faults sc b) ++ misfit _ (start_of b) (typed sc b)) _
     (at WrongType p _ (sides_are c (start_of a) (start_of b) (typed sc a) (typed sc b) so ∙ e)))
 
 no_value_is : (decls : List Decl) (p k : ℕ) (d : Decl) → IsNoValue d → has_type decls (a_decl k d) ≡ true →
-    list.no_value decls p (a_decl k d) ≡ one WrongType p
+    list.no_value decls p (a_decl k d) ≡ reasoned WrongType p (why.Misnamed role.Value (referent_of d))
 no_value_is decls p k (lock y) h e = absurd h
 no_value_is decls p k (global v) h e = absurd h
 no_value_is decls p k (struct s) h e = unfit_in decls WrongType p (a_decl k (struct s)) e
@@ -234,7 +241,7 @@ no_value_is decls p k (helper s) h e = unfit_in decls WrongType p (a_decl k (hel
 no_value_is decls p k (thread t) h e = unfit_in decls WrongType p (a_decl k (thread t)) e
 
 no_elements_is : (decls : List Decl) (p : ℕ) (x : Meaning) → HasNoElements x → has_type decls x ≡ true →
-    no_elements decls p x ≡ one WrongType p
+    no_elements decls p x ≡ reasoned WrongType p (why.Misnamed role.Elements (stands_for x))
 no_elements_is decls p (a_local n l) h e = unfit_in decls WrongType p (a_local n l) e
 no_elements_is decls p (a_decl n (array a)) h e = absurd h
 no_elements_is decls p (a_decl n (pool q)) h e = absurd h
@@ -247,14 +254,7 @@ no_elements_is decls p (a_decl n (helper s)) h e = unfit_in decls WrongType p (a
 no_elements_is decls p (a_decl n (thread t)) h e = unfit_in decls WrongType p (a_decl n (thread t)) e
 no_elements_is decls p nothing h e = absurd h
 
-no_reference_is : (decls : List Decl) (p : ℕ) (w : Walk) (y : Ident) → IsNoReference w →
-    step_faults decls p w y ≡ one WrongType p
-no_reference_is decls p (reached steps Integer) y h = refl
-no_reference_is decls p (reached steps (Reference k)) y h = absurd h
-no_reference_is decls p at_lock y h = refl
-no_reference_is decls p lost y h = absurd h
-
-no_struct_is : (p : ℕ) (x : Meaning) → IsNoStruct x → no_struct p x ≡ one WrongType p
+no_struct_is : (p : ℕ) (x : Meaning) → IsNoStruct x → no_struct p x ≡ reasoned WrongType p (why.Misnamed role.Struct (stands_for x))
 no_struct_is p (a_local n l) h = refl
 no_struct_is p (a_decl n (struct s)) h = absurd h
 no_struct_is p (a_decl n (lock y)) h = refl
@@ -268,7 +268,7 @@ no_struct_is p (a_decl n (thread t)) h = refl
 no_struct_is p nothing h = absurd h
 
 no_section_is : (decls : List Decl) (p k : ℕ) (d : Decl) (cs : List Const) → (IsSection d → ⊥) →
-    has_type decls (a_decl k d) ≡ true → call_faults decls p (Some (k, d)) cs ≡ one WrongType p
+    has_type decls (a_decl k d) ≡ true → call_faults decls p (Some (k, d)) cs ≡ reasoned WrongType p (why.Misnamed role.Section (referent_of d))
 no_section_is decls p k (lock y) cs h e = refl
 no_section_is decls p k (struct s) cs h e = refl
 no_section_is decls p k (global v) cs h e = unfit_in decls WrongType p (a_decl k (global v)) e
@@ -280,7 +280,7 @@ no_section_is decls p k (helper s) cs h e = refl
 no_section_is decls p k (thread t) cs h e = refl
 
 no_pool_is : (decls : List Decl) (p k : ℕ) (d : Decl) (n : Number) → (IsPool d → ⊥) →
-    has_type decls (a_decl k d) ≡ true → index_faults decls p (Some (k, d)) n ≡ one WrongType p
+    has_type decls (a_decl k d) ≡ true → index_faults decls p (Some (k, d)) n ≡ reasoned WrongType p (why.Misnamed role.Pool (referent_of d))
 no_pool_is decls p k (pool q) n h e = absurd (h tt)
 no_pool_is decls p k (lock y) n h e = refl
 no_pool_is decls p k (struct s) n h e = refl
@@ -292,9 +292,9 @@ no_pool_is decls p k (helper s) n h e = refl
 no_pool_is decls p k (thread t) n h e = refl
 
 operators_are : (level : Level) (p : ℕ) (o : Operator) → IsOfNumbers level → operator_of o ≡ None →
-    operator_faults level p o ≡ one WrongType p
-operators_are Term p o h e = ap (λ (x : Option _). one_if (not (is_some x)) WrongType p) e
-operators_are Sum p o h e = ap (λ (x : Option _). one_if (not (is_some x)) WrongType p) e
+    operator_faults level p o ≡ reasoned WrongType p why.OperatorOfConditions
+operators_are Term p o h e = ap (λ (x : Option _). found_if (not (is_some x)) (told WrongType p why.OperatorOfConditions)) e
+operators_are Sum p o h e = ap (λ (x : Option _). found_if (not (is_some x)) (told WrongType p why.OperatorOfConditions)) e
 operators_are Conjunction p o h e = absurd h
 operators_are Disjunction p o h e = absurd h
 
@@ -302,7 +302,7 @@ operators_are Disjunction p o h e = absurd h
 has_same : (decls ds : List Decl) (x : Meaning) → ds ≡ decls → has_type decls x ≡ true → has_type ds x ≡ true
 has_same decls ds x same e = ap (λ (cs : List Decl). has_type cs x) same ∙ e
 
-wrong_in : (decls : List Decl) (p : ℕ) → IsWrongType decls p → listed decls WrongType p
+wrong_in : (decls : List Decl) (p : ℕ) {v : Why} → IsWrongType decls p v → listed decls WrongType p
 wrong_in decls p (fault.unwanted {sc = sc} {w = w} {e = e} {s = s} h is no_fit) =
     of_wanted decls sc w e h _ (among_right _ (expr_faults sc e) _ (at WrongType (start_of e) _ (ap (misfit w (start_of e)) (typed_is is) ∙ misfit_is (start_of e) (fits w s) no_fit)))
 wrong_in decls p (fault.unwanted_constant {w = w} {c = c} {s = s} h is no_fit) =
@@ -316,22 +316,28 @@ wrong_in decls p (fault.truths_compared {sc = sc} {w = w} {a = a} {b = b} {c = c
     of_sides decls sc w a b c h so (start_of a) (ap (λ (q : Option ResolvedExpr). unlike (start_of a) (start_of b) q (typed sc b)) (typed_is e) ∙ ap (unlike (start_of a) (start_of b) (Some (truth x))) (typed_is g))
 wrong_in decls p (fault.no_value {sc = sc} {w = w} {x = x} {i = k} {d = d} h is not_so e) =
     of_expr decls sc w (place (lone x)) h _ (at WrongType x.span.start _ (ap (list.no_value sc.decls x.span.start) is ∙ no_value_is sc.decls x.span.start k d not_so (has_same decls sc.decls (a_decl k d) (expr_decls decls sc w (place (lone x)) h) e)))
-wrong_in decls p (fault.no_elements {sc = sc} {x = x} {e = e} h not_so t) =
-    of_indexed decls sc x e h _ (λ same. at WrongType x.span.start _ (no_elements_is sc.decls x.span.start (meaning sc x.text) not_so (has_same decls sc.decls (meaning sc x.text) same t)))
+wrong_in decls p (fault.no_elements {sc = sc} {x = x} {e = e} {m = m} h is not_so t) =
+    of_indexed decls sc x e h _ (λ same. at WrongType x.span.start _ (ap (no_elements sc.decls x.span.start) is ∙ no_elements_is sc.decls x.span.start m not_so (has_same decls sc.decls m same t)))
 wrong_in decls p (fault.field_of_declaration {sc = sc} {x = x} {fs = fs} {i = k} {d = d} h is t) =
     of_path decls sc x fs h _ (λ same. at WrongType x.span.start _ (ap (λ (y : Meaning). path_faults sc.decls x.span.start y fs) is ∙ unfit_in sc.decls WrongType x.span.start (a_decl k d) (has_same decls sc.decls (a_decl k d) same t)))
-wrong_in decls p (fault.no_reference {sc = sc} {x = x} {fs = fs} before behind y h parts not_so) =
+wrong_in decls p (fault.field_of_int {sc = sc} {x = x} {fs = fs} before behind y h parts to) =
     of_path decls sc x fs h _ (λ same. in_path sc.decls x.span.start (meaning sc x.text) fs before behind y _ parts
-    (at WrongType x.span.start _ (no_reference_is sc.decls x.span.start (walk_from sc.decls (meaning sc x.text) before) y (subst (λ (cs : List Decl). IsNoReference (walk_from cs (meaning sc x.text) before)) (sym same) not_so))))
-wrong_in decls p (fault.no_struct {sc = sc} {x = x} h not_so) = of_type decls sc (ref_type x) h _ (at WrongType x.span.start _ (no_struct_is x.span.start (meaning sc x.text) not_so))
+    (at WrongType x.span.start _ (ap (λ (w : Walk). step_faults sc.decls x.span.start w y) (ap (λ (cs : List Decl). walk_from cs (meaning sc x.text) before) same ∙ to))))
+wrong_in decls p (fault.field_of_lock {sc = sc} {x = x} {fs = fs} before behind y h parts to) =
+    of_path decls sc x fs h _ (λ same. in_path sc.decls x.span.start (meaning sc x.text) fs before behind y _ parts
+    (at WrongType x.span.start _ (ap (λ (w : Walk). step_faults sc.decls x.span.start w y) (ap (λ (cs : List Decl). walk_from cs (meaning sc x.text) before) same ∙ to))))
+wrong_in decls p (fault.no_struct {sc = sc} {x = x} {m = m} h is not_so) =
+    of_type decls sc (ref_type x) h _ (at WrongType x.span.start _ (ap (no_struct x.span.start) is ∙ no_struct_is x.span.start m not_so))
 wrong_in decls p (fault.no_section {c = c} {i = k} {d = d} h is not_so t) = call_at decls c WrongType h (ap (λ (o : Option (ℕ × Decl)). call_faults decls c.section.span.start o c.arguments) is ∙ no_section_is decls c.section.span.start k d c.arguments not_so t)
-wrong_in decls p (fault.no_helper {sc = sc} {c = c} h not_so t) =
-    of_helper_name decls sc c h WrongType (no_helper_is sc.decls c.helper.span.start (length c.arguments) (meaning sc c.helper.text) not_so (has_same decls sc.decls (meaning sc c.helper.text) (helper_call_decls decls sc c h) t))
+wrong_in decls p (fault.no_helper {sc = sc} {c = c} {m = m} h is not_so t) =
+    of_helper_name decls sc c h WrongType
+    (ap (list.no_helper sc.decls c.helper.span.start (length c.arguments)) is
+    ∙ no_helper_is sc.decls c.helper.span.start (length c.arguments) m not_so (has_same decls sc.decls m (helper_call_decls decls sc c h) t))
 wrong_in decls p (fault.no_result {sc = sc} {l = l} {t = t} {i = n} {s = s} h is meant none) =
     of_result decls sc l h t n s is meant (ap (λ (r : Option ValueType). list.no_result l.call.helper.span.start t r (result_of sc.decls s)) none)
 wrong_in decls p (fault.other_result {sc = sc} {l = l} {t = t} {u = u} {i = n} {s = s} h is meant of no_fit) =
     of_result decls sc l h t n s is meant
-    (no_result_is sc.decls l.call.helper.span.start t u s.result (ap (λ (ds : List Decl). result_of ds s) (stmt_decls decls sc (let_call l) h) ∙ of) no_fit)
+    (no_result_is sc.decls l.call.helper.span.start t u s.result (ap (λ (ds : List Decl). result_of ds s) (stmt_decls decls sc (let_call l) h) ∙ of) no_fit).1
 wrong_in decls p (fault.no_pool {w = w} {p = x} {n = n} {i = k} {d = d} h is not_so t) = const_own decls w x n h _ (at WrongType x.span.start _ (ap (λ (o : Option (ℕ × Decl)). index_faults decls x.span.start o n) is ∙ no_pool_is decls x.span.start k d n not_so t))
 wrong_in decls p (fault.no_pool_initialised {j = x} {i = k} {d = d} h is not_so t) = of_init_index decls x h _ (at WrongType x.pool.span.start _ (ap (λ (o : Option (ℕ × Decl)). index_faults decls x.pool.span.start o x.index) is ∙ no_pool_is decls x.pool.span.start k d x.index not_so t))
 wrong_in decls p (fault.not_final {ms = ms} {f = y} {g = g} h e t) =
@@ -354,9 +360,10 @@ wrong_in decls p (fault.misplaced_operator {sc = sc} {w = w} {level = level} {e 
 
 -- ---- E08, E09, E10
 
-counted : (decls : List Decl) (p : ℕ) → IsWrongCount decls p → listed decls WrongArgumentCount p
+counted : (decls : List Decl) (p : ℕ) {v : Why} → IsWrongCount decls p v → listed decls WrongArgumentCount p
 counted decls p (fault.wrong_count {c = c} {i = k} {s = s} h is other) =
-    call_at decls c WrongArgumentCount h (ap (λ (o : Option (ℕ × Decl)). call_faults decls c.section.span.start o c.arguments) is ∙ ap (λ (b : Bool). if b then argument_faults decls s.params c.arguments else one WrongArgumentCount c.section.span.start) (other_count (length c.arguments) (length s.params) other))
+    call_at decls c WrongArgumentCount h (ap (λ (o : Option (ℕ × Decl)). call_faults decls c.section.span.start o c.arguments) is ∙ ap (λ (b : Bool). if b then argument_faults decls s.params c.arguments
+    else reasoned WrongArgumentCount c.section.span.start (why.Counted (length s.params) (length c.arguments))) (other_count (length c.arguments) (length s.params) other))
 counted decls p (fault.wrong_helper_count {sc = sc} {c = c} {i = k} {s = s} h is other) =
     of_helper_name decls sc c h WrongArgumentCount (counted_is sc.decls c.helper.span.start (length c.arguments) k s (meaning sc c.helper.text) is other)
 
@@ -366,7 +373,7 @@ of_target : (decls : List Decl) (sc : Scope) (q : Place) (e : Expr) (c : Code) (
 of_target decls sc q e c p h i = of_stmt decls sc (assign q e) h _ (among_left _ (target_faults sc q) _ (i (stmt_decls decls sc (assign q e) h)))
 
 no_target_is : (decls : List Decl) (p k : ℕ) (d : Decl) → IsNoValue d → has_type decls (a_decl k d) ≡ true →
-    no_target decls p (a_decl k d) ≡ one NotAssignable p
+    no_target decls p (a_decl k d) ≡ reasoned NotAssignable p (why.Misnamed role.Target (referent_of d))
 no_target_is decls p k (lock y) h e = absurd h
 no_target_is decls p k (global v) h e = absurd h
 no_target_is decls p k (struct s) h e = unfit_in decls NotAssignable p (a_decl k (struct s)) e
@@ -377,10 +384,10 @@ no_target_is decls p k (atomic s) h e = unfit_in decls NotAssignable p (a_decl k
 no_target_is decls p k (helper s) h e = unfit_in decls NotAssignable p (a_decl k (helper s)) e
 no_target_is decls p k (thread t) h e = unfit_in decls NotAssignable p (a_decl k (thread t)) e
 
-fixed_in : (decls : List Decl) (p : ℕ) → IsNotAssignable decls p → listed decls NotAssignable p
+fixed_in : (decls : List Decl) (p : ℕ) {v : Why} → IsNotAssignable decls p v → listed decls NotAssignable p
 fixed_in decls p (fault.to_fixed {sc = sc} {x = x} {e = e} {i = n} {l = l} h is not_so t) =
     of_target decls sc (lone x) e NotAssignable x.span.start h (λ same. at NotAssignable x.span.start _
-    (ap (no_target sc.decls x.span.start) is ∙ ap (λ (b : Bool). if b then [] else unfit sc.decls NotAssignable x.span.start (a_local n l)) not_so ∙ unfit_in sc.decls NotAssignable x.span.start (a_local n l) t))
+    (ap (no_target sc.decls x.span.start) is ∙ ap (λ (b : Bool). if b then [] else misnamed sc.decls NotAssignable role.Target x.span.start (a_local n l)) not_so ∙ unfit_in sc.decls NotAssignable x.span.start (a_local n l) t))
 fixed_in decls p (fault.to_decl {sc = sc} {x = x} {e = e} {i = n} {d = d} h is not_so t) =
     of_target decls sc (lone x) e NotAssignable x.span.start h (λ same. at NotAssignable x.span.start _ (ap (no_target sc.decls x.span.start) is ∙ no_target_is sc.decls x.span.start n d not_so (has_same decls sc.decls (a_decl n d) same t)))
 fixed_in decls p (fault.to_member {sc = sc} {x = x} {j = j} {e = e} {i = n} {p = q} h is t) =
@@ -388,7 +395,7 @@ fixed_in decls p (fault.to_member {sc = sc} {x = x} {j = j} {e = e} {i = n} {p =
     (at NotAssignable x.span.start _ (ap (no_array sc.decls x.span.start) is ∙ unfit_in sc.decls NotAssignable x.span.start (a_decl n (pool q)) (has_same decls sc.decls (a_decl n (pool q)) same t)))))
 fixed_in decls p (fault.to_final {sc = sc} {x = x} {fs = fs} {e = e} steps t h to none) =
     of_target decls sc (path x fs) e NotAssignable x.span.start h (λ same. among_right _ (path_faults sc.decls x.span.start (meaning sc x.text) fs) _
-    (at NotAssignable x.span.start _ (ap (λ (cs : List Decl). final_faults x.span.start (walk_from cs (meaning sc x.text) fs)) same ∙ ap (final_faults x.span.start) to ∙ ap (λ (o : Option _). one_if (not (is_some o)) NotAssignable x.span.start) (has_no_last steps none))))
+    (at NotAssignable x.span.start _ (ap (λ (cs : List Decl). final_faults x.span.start (walk_from cs (meaning sc x.text) fs)) same ∙ ap (final_faults x.span.start) to ∙ ap (λ (o : Option _). found_if (not (is_some o)) (told NotAssignable x.span.start why.FinalTarget)) (has_no_last steps none))))
 
 bare_in : (decls : List Decl) (p : ℕ) → IsUnprotected decls p → listed decls NeitherFinalNorProtected p
 bare_in decls p (fault.bare_global {v = v} h e) =
@@ -459,7 +466,7 @@ has_parts (x ∷ ds) d first = ([], ds, refl)
 has_parts (x ∷ ds) d (further h) = let r = has_parts ds d h in (x ∷ r.0, r.1, ap (λ (ys : List Decl). x ∷ ys) r.2)
 
 -- the declared name is the one that the fault stands at
-same_start : (a b : Ident) (c : Code) (p : ℕ) (fs : List Mistake) → Some a ≡ Some b →
+same_start : (a b : Ident) (c : Code) (p : ℕ) (fs : List Finding) → Some a ≡ Some b →
     IsAmong (record { code = c; start = a.span.start }) fs → IsAmong (record { code = c; start = b.span.start }) fs
 same_start a b c p fs e i = let s : a ≡ b = cc in subst (λ (y : Ident). IsAmong (record { code = c; start = y.span.start }) fs) s i
 
@@ -539,7 +546,7 @@ calls_in decls before (pool q) x is a b = absurd (omega (arith, a, b))
 calls_in decls before (init j) x is a b = absurd (omega (arith, a, b))
 
 -- what is listed for one member
-abbrev member_own : ℕ → ℕ → Member → List Mistake
+abbrev member_own : ℕ → ℕ → Member → List Finding
 member_own classes n x = one_if (nat_le MEMBER_LIMIT n) LimitExceeded (member_name x).span.start ++ one_if (is_lock x && nat_le CLASS_LIMIT classes) LimitExceeded (member_name x).span.start
 
 in_member_counts : (classes n : ℕ) (ahead rest : List Member) (x : Member) (f : Mistake) →

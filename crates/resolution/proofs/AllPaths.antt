@@ -25,14 +25,15 @@ use Rattle.resolution.specs.Where.{of_elements, Annotates, annotates}
 use Rattle.resolution.specs.Faults as fault
 use Rattle.resolution.specs.Faults.{start_of, Reaches, stays, goes_on, Walks, walks, NamesGlobal}
 use Rattle.resolution.specs.Working.FaultLists as list
-use Rattle.resolution.specs.Working.FaultLists.{one, type_faults, index_faults, const_faults, no_elements, no_member}
+use Rattle.resolution.specs.declared.why.Why.{Why}
+use Rattle.resolution.specs.Working.FaultLists.{reasoned, one, type_faults, index_faults, const_faults, no_elements, no_member}
 use Rattle.resolution.specs.Working.FaultLists.{no_field, step_faults, end_faults, walk_faults, path_faults, misfit}
 use Rattle.resolution.specs.Working.FaultLists.{expr_faults, place_faults, wanted_faults, no_target, no_array}
 use Rattle.resolution.specs.Working.FaultLists.{final_faults, target_faults, no_final_in, owner_field_faults}
 use Rattle.resolution.specs.Working.FaultLists.{global_lock_faults, lock_faults, passed_faults, last_faults, passed}
 use Rattle.resolution.specs.Working.FaultLists.{along_faults, annotation_faults, protection_faults, opening_faults}
 use Rattle.resolution.specs.Working.FaultLists.{field_faults, named_faults, null_faults, declaration_faults}
-use Rattle.source.specs.Theory.Leasts.{IsAmong, among_left, among_right}
+use Rattle.resolution.specs.Theory.Leasts.{IsAmong, among_left, among_right}
 use Rattle.resolution.proofs.Members.{at}
 use Rattle.resolution.proofs.Parts.{of_place_at, of_decl, of_stmt, of_owner, stmt_decls, expr_decls, of_expr}
 use Rattle.resolution.proofs.Parts.{in_members_field}
@@ -184,7 +185,7 @@ of_member decls ms y (names_owner {sc = sc} {l = l} {o = o} {k = k} {s = s} h is
 
 -- a local's
 pub of_owner_name : (decls : List Decl) (sc : Scope) (l : tree.Local) (o : Owner) → HasStmt decls sc (let_owned l o) →
-    (c : Code) →
-    list.no_owner sc.decls o.local.span.start (owner_field sc.decls (type_of sc l.value_type) o.field) (meaning sc o.local.text) ≡ one c o.local.span.start →
+    (c : Code) {w : Why} →
+    list.no_owner sc.decls o.local.span.start (owner_field sc.decls (type_of sc l.value_type) o.field) (meaning sc o.local.text) ≡ reasoned c o.local.span.start w →
     listed decls c o.local.span.start
 of_owner_name decls sc l o h c e = of_owner decls sc l o h _ (among_right _ (owner_field_faults sc.decls (type_of sc l.value_type) o.field) _ (at c o.local.span.start _ e))

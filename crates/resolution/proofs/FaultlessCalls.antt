@@ -20,10 +20,13 @@ use Rattle.resolution.specs.Working.TypedConstants.{added}
 use Rattle.resolution.specs.Working.TypedStatements.{typed_values, called, call_resolved, type_given, can_take}
 use Rattle.resolution.specs.Where.{Has, HasBody, of_helper, of_parameter, of_result, first, further}
 use Rattle.resolution.specs.Working.FaultLists as list
-use Rattle.resolution.specs.Working.FaultLists.{one_if, unfit, wanted_faults, values_faults, passed_values_faults}
+use Rattle.resolution.specs.declared.why.Why.TheVariants as why
+use Rattle.resolution.specs.declared.why.Role.TheVariants as role
+use Rattle.resolution.specs.Working.Findings.{told, found_if}
+use Rattle.resolution.specs.Working.FaultLists.{misnamed, wanted_faults, values_faults, passed_values_faults}
 use Rattle.resolution.specs.Working.FaultLists.{helper_call_faults, other_result, given_back_faults}
 use Rattle.resolution.proofs.Parts.{same_count}
-use Rattle.resolution.proofs.FaultlessExpressions.{NoneIn, none_left, none_right, not_one, not_if, Clean, Typing, known}
+use Rattle.resolution.proofs.FaultlessExpressions.{NoneIn, none_left, none_right, not_one, not_found, Clean, Typing, known}
 use Rattle.resolution.proofs.FaultlessExpressions.{Context, IsKnown, meaning_known, decl_typed, unfit_not, fit_if}
 use Rattle.resolution.proofs.FaultlessResolvedExprs.{value_is}
 
@@ -62,8 +65,8 @@ record HelperAt (decls : List Decl) (x : Meaning) (n : ℕ) : Type 0 where
   there : HasBody decls helper_limits section
   as_many : n ≡ length section.params
 
-counted_right : (p n k : ℕ) → NoneIn (one_if (not (n == k)) WrongArgumentCount p) → n ≡ k
-counted_right p n k none = eqb-true n k (true_if (n == k) (not_if (not (n == k)) WrongArgumentCount p none))
+counted_right : (p n k : ℕ) → NoneIn (found_if (not (n == k)) (told WrongArgumentCount p (why.Counted k n))) → n ≡ k
+counted_right p n k none = eqb-true n k (true_if (n == k) (not_found (not (n == k)) (told WrongArgumentCount p (why.Counted k n)) none))
   where
     true_if : (b : Bool) → not b ≡ false → b ≡ true
     true_if true e = refl
@@ -71,12 +74,12 @@ counted_right p n k none = eqb-true n k (true_if (n == k) (not_if (not (n == k))
 
 -- what is known and no helper is told of
 known_no_helper : {P : Type 0} (decls : List Decl) → Clean decls → (p n : ℕ) (d : Decl) → Has decls d →
-    NoneIn (unfit decls WrongType p (a_decl n d)) → P
-known_no_helper decls clean p n d h none = absurd (unfit_not decls WrongType p (a_decl n d) (decl_typed decls clean n d h) none)
+    NoneIn (misnamed decls WrongType role.Helper p (a_decl n d)) → P
+known_no_helper decls clean p n d h none = absurd (unfit_not decls WrongType p _ (a_decl n d) (decl_typed decls clean n d h) none)
 
 helper_is : (decls : List Decl) → Clean decls → (p n : ℕ) (x : Meaning) → IsKnown decls x →
     NoneIn (list.no_helper decls p n x) → HelperAt decls x n
-helper_is decls clean p n (a_local k l) t none = absurd (unfit_not decls WrongType p (a_local k l) (ap is_some t.is) none)
+helper_is decls clean p n (a_local k l) t none = absurd (unfit_not decls WrongType p _ (a_local k l) (ap is_some t.is) none)
 helper_is decls clean p n (a_decl k (helper s)) h none = record { place = k; section = s; is = refl; there = of_helper h; as_many = counted_right p n (length s.params) none }
 helper_is decls clean p n (a_decl k (lock x)) h none = known_no_helper decls clean p k (lock x) h none
 helper_is decls clean p n (a_decl k (struct x)) h none = known_no_helper decls clean p k (struct x) h none
@@ -115,7 +118,7 @@ call_resolves sc c d local none =
 other_fits : (p : ℕ) (t : core_type.ValueType) (u : Option core_type.ValueType) (v : core_type.ValueType) →
     u ≡ Some v → NoneIn (other_result p t u) → is_of t u ≡ true
 other_fits p t u v is none =
-    ap (is_of t) is ∙ fit_if p (fits_type t (sort.Of v)) (subst (λ (o : Option core_type.ValueType). NoneIn (other_result p t o)) is none)
+    ap (is_of t) is ∙ fit_if p (fits_type t (sort.Of v)) _ (subst (λ (o : Option core_type.ValueType). NoneIn (other_result p t o)) is none)
 
 result_fits : (decls : List Decl) → Clean decls → (p : ℕ) (t : core_type.ValueType) (s : Section) →
     HasBody decls helper_limits s → (r : Option ValueType) → s.result ≡ r →

@@ -33,6 +33,10 @@ use Rattle.resolution.specs.Annotations as annotation
 use Rattle.resolution.specs.Where.{Has, HasType, of_pool, of_final, of_field}
 use Rattle.resolution.specs.Faults.{const_start}
 use Rattle.resolution.specs.Working.FaultLists as list
+use Rattle.resolution.specs.declared.why.Why.TheVariants as why
+use Rattle.resolution.specs.declared.why.Role.TheVariants as role
+use Rattle.resolution.specs.Reasons.{referent_of}
+use Rattle.resolution.specs.Working.Findings.{told}
 use Rattle.resolution.specs.Working.FaultLists.{unfit, unfit_member, number_faults, index_faults, own_faults}
 use Rattle.resolution.specs.Working.FaultLists.{sort_misfit, const_faults, argument_faults, global_lock_faults}
 use Rattle.resolution.specs.Working.FaultLists.{lock_faults, passed_faults, last_faults, passed, along_faults}
@@ -71,7 +75,7 @@ member_valued decls clean p x n (Some (k, pool q)) at up none =
       valued = an_object at (le_false q.length.value n.value beyond);
     }
 member_valued decls clean p x n (Some (k, d)) at up none =
-    absurd (unfit_not decls WrongType p (a_decl k d) (decl_typed decls clean k d (up k d refl)) none)
+    absurd (unfit_not decls WrongType p (why.Misnamed role.Pool (referent_of d)) (a_decl k d) (decl_typed decls clean k d (up k d refl)) none)
 
 const_valued : (decls : List Decl) → Clean decls → (c : Const) → NoneIn (own_faults decls c) → Valued decls c
 const_valued decls clean (int_const n) none =
@@ -95,7 +99,7 @@ const_is decls clean w c none =
     let misfit : NoneIn (sort_misfit w p (Some v.kind)) =
     subst (λ (o : Option Sort). NoneIn (sort_misfit w p o)) (sort_is v.sorted)
     (none_right (own_faults decls c) _ none) in
-    (v.val, yields v.sorted (fit_if p (fits_sort w v.kind) misfit) v.valued)
+    (v.val, yields v.sorted (fit_if p (fits_sort w v.kind) _ misfit) v.valued)
 
 pub arguments_are : (decls : List Decl) → Clean decls → (ps : List Param) (cs : List Const) → length cs ≡ length ps →
     NoneIn (argument_faults decls ps cs) → (vs : List Value) × AreArguments decls ps cs vs
@@ -133,8 +137,8 @@ referred_is decls clean s c none not_null =
 
 -- what is declared has its type, so it is told where it is no lock
 no_lock : (decls : List Decl) → Clean decls → (p n : ℕ) (d : Decl) → Has decls d →
-    NoneIn (unfit decls ProtectedByNoLock p (a_decl n d)) → ⊥
-no_lock decls clean p n d h none = unfit_not decls ProtectedByNoLock p (a_decl n d) (decl_typed decls clean n d h) none
+    NoneIn (unfit decls (told ProtectedByNoLock p why.Plain) (a_decl n d)) → ⊥
+no_lock decls clean p n d h none = unfit_not decls ProtectedByNoLock p _ (a_decl n d) (decl_typed decls clean n d h) none
 
 global_lock_is : (decls : List Decl) → Clean decls → (p : ℕ) (o : Option (ℕ × Decl)) (ys : List Ident) →
     ((k : ℕ) (d : Decl) → ◌≡◌ {A = Option (ℕ × Decl)} o (Some (k, d)) → Has decls d) →
@@ -185,7 +189,7 @@ member_typed decls clean s (final_member f) there has = let k = known_named decl
 member_typed decls clean s (field_member f) there has = let t = known decls clean (outside decls) f.value_type (of_field there has) in ap is_some t.is
 
 unfit_member_not : (decls : List Decl) (c : Code) (p : ℕ) (m : Member) → member_has_type decls m ≡ true →
-    NoneIn (unfit_member decls c p m) → ⊥
+    NoneIn (unfit_member decls (told c p why.Plain) m) → ⊥
 unfit_member_not decls c p m e h = let f = not_if (member_has_type decls m) c p h in absurd cc
 
 -- a walk stands at a struct of the program

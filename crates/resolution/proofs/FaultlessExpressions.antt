@@ -12,6 +12,7 @@ use Rattle.core_lang.specs.declared.value.ValueType.TheVariants.{Integer, Refere
 use Rattle.core_lang.specs.declared.tree.FieldStep.{FieldStep}
 use Rattle.core_lang.specs.declared.tree.FieldStep.TheVariants as step
 use Rattle.source.specs.declared.mistake.Mistake.{Mistake}
+use Rattle.resolution.specs.declared.finding.Finding.{Finding}
 use Rattle.resolution.specs.declared.wanted.Sort.TheVariants as sort
 use Rattle.resolution.specs.declared.wanted.Want.{Want}
 use Rattle.resolution.specs.declared.wanted.Want.TheVariants.{Condition, Value}
@@ -28,31 +29,38 @@ use Rattle.resolution.specs.Expressions.{Walk, reached, at_lock, lost, stepped, 
 use Rattle.resolution.specs.Expressions.{over_member, over, member_number}
 use Rattle.resolution.specs.Where.{Has, first, further, HasType, of_global, of_array, of_pool, of_final, of_field}
 use Rattle.resolution.specs.Working.FaultLists as list
-use Rattle.resolution.specs.Working.FaultLists.{one, one_if, unfit, no_struct, type_faults, no_elements, no_member}
+use Rattle.resolution.specs.declared.why.Why.{Why}
+use Rattle.resolution.specs.declared.why.Why.TheVariants as why
+use Rattle.resolution.specs.Working.Findings.{mistake_of, told, found_if}
+use Rattle.resolution.specs.Working.FaultLists.{reasoned, one, one_if, unfit, no_struct, type_faults, no_elements, no_member}
 use Rattle.resolution.specs.Working.FaultLists.{no_field, step_faults, end_faults, walk_faults, path_faults, misfit}
 use Rattle.resolution.specs.Working.FaultLists.{declaration_faults}
-use Rattle.source.specs.Theory.Leasts.{IsAmong, among_left, among_right}
+use Rattle.resolution.specs.Theory.Leasts.{IsAmong, among_left, among_right}
 use Rattle.resolution.proofs.Named.{named_is, member_is}
 use Rattle.resolution.specs.Theory.Facts.{struct_at}
 use Rattle.resolution.proofs.Parts.{of_type}
 
 -- ---- lists with nothing in them
 
-abbrev pub NoneIn : List Mistake → Type 0
+abbrev pub NoneIn : List Finding → Type 0
 NoneIn fs = (f : Mistake) → IsAmong f fs → ⊥
 
-pub none_left : (a b : List Mistake) → NoneIn (a ++ b) → NoneIn a
+pub none_left : (a b : List Finding) → NoneIn (a ++ b) → NoneIn a
 none_left a b n f i = n f (among_left f a b i)
 
-pub none_right : (a b : List Mistake) → NoneIn (a ++ b) → NoneIn b
+pub none_right : (a b : List Finding) → NoneIn (a ++ b) → NoneIn b
 none_right a b n f i = n f (among_right f a b i)
 
 pub not_one : (c : Code) (p : ℕ) → NoneIn (one c p) → ⊥
 not_one c p n = n (record { code = c; start = p }) (inl refl)
 
+-- (the reason of one that is computed is no part of what is said)
+pub not_found : (b : Bool) (g : Finding) → NoneIn (found_if b g) → b ≡ false
+not_found true g n = absurd (n (mistake_of g) (inl refl))
+not_found false g n = refl
+
 pub not_if : (b : Bool) (c : Code) (p : ℕ) → NoneIn (one_if b c p) → b ≡ false
-not_if true c p n = absurd (not_one c p n)
-not_if false c p n = refl
+not_if b c p n = not_found b (told c p why.Plain) n
 
 pub is_there : {A : Type 0} (o : Option A) → not (is_some o) ≡ false → (x : A) × (o ≡ Some x)
 is_there (Some x) e = (x, refl)
@@ -204,9 +212,9 @@ meaning_known sc c q =
 abbrev pub HasResolvedExpr : Option ResolvedExpr → Type 0
 HasResolvedExpr o = (s : ResolvedExpr) × (o ≡ Some s)
 
-pub unfit_not : (decls : List Decl) (c : Code) (p : ℕ) (x : Meaning) → has_type decls x ≡ true →
-    NoneIn (unfit decls c p x) → ⊥
-unfit_not decls c p x e h = let f = not_if (has_type decls x) c p h in absurd cc
+pub unfit_not : (decls : List Decl) (c : Code) (p : ℕ) (w : Why) (x : Meaning) → has_type decls x ≡ true →
+    NoneIn (unfit decls (told c p w) x) → ⊥
+unfit_not decls c p w x e h = let f = not_found (has_type decls x) (told c p w) h in absurd cc
 
 some_true : {A : Type 0} (o : Option A) (x : A) → o ≡ Some x → is_some o ≡ true
 some_true o x e = ap is_some e
@@ -251,27 +259,27 @@ pub name_resolved : (decls : List Decl) → Clean decls → (p : ℕ) (x : Meani
 name_resolved decls clean p (a_local n l) k h = value_resolved (core.place (local_path p n [])) l.value_type k.value_type k.is
 name_resolved decls clean p (a_decl n (global v)) k h = let t = known decls clean (outside decls) v.value_type (of_global k) in value_resolved (core.global p (cell_of decls n)) (type_of (outside decls) v.value_type) t.value_type t.is
 name_resolved decls clean p (a_decl n (lock y)) k h = absurd (not_one LockAsValue p h)
-name_resolved decls clean p (a_decl n (struct s)) k h = absurd (unfit_not decls WrongType p (a_decl n (struct s)) refl h)
-name_resolved decls clean p (a_decl n (array a)) k h = absurd (unfit_not decls WrongType p (a_decl n (array a)) (array_typed decls clean n a k) h)
-name_resolved decls clean p (a_decl n (pool q)) k h = absurd (unfit_not decls WrongType p (a_decl n (pool q)) (pool_typed decls clean n q k) h)
-name_resolved decls clean p (a_decl n (init j)) k h = absurd (unfit_not decls WrongType p (a_decl n (init j)) refl h)
-name_resolved decls clean p (a_decl n (atomic s)) k h = absurd (unfit_not decls WrongType p (a_decl n (atomic s)) refl h)
-name_resolved decls clean p (a_decl n (helper s)) k h = absurd (unfit_not decls WrongType p (a_decl n (helper s)) refl h)
-name_resolved decls clean p (a_decl n (thread t)) k h = absurd (unfit_not decls WrongType p (a_decl n (thread t)) refl h)
+name_resolved decls clean p (a_decl n (struct s)) k h = absurd (not_one WrongType p h)
+name_resolved decls clean p (a_decl n (array a)) k h = absurd (unfit_not decls WrongType p _ (a_decl n (array a)) (array_typed decls clean n a k) h)
+name_resolved decls clean p (a_decl n (pool q)) k h = absurd (unfit_not decls WrongType p _ (a_decl n (pool q)) (pool_typed decls clean n q k) h)
+name_resolved decls clean p (a_decl n (init j)) k h = absurd (not_one WrongType p h)
+name_resolved decls clean p (a_decl n (atomic s)) k h = absurd (not_one WrongType p h)
+name_resolved decls clean p (a_decl n (helper s)) k h = absurd (not_one WrongType p h)
+name_resolved decls clean p (a_decl n (thread t)) k h = absurd (not_one WrongType p h)
 name_resolved decls clean p nothing k h = absurd (not_one UnknownName p h)
 
 pub element_resolved : (decls : List Decl) → Clean decls → (p : ℕ) (x : Meaning) (index : core.Expr) →
     IsKnown decls x → NoneIn (no_elements decls p x) → HasResolvedExpr (element_value decls p x (Some index))
-element_resolved decls clean p (a_local n l) index k h = absurd (unfit_not decls WrongType p (a_local n l) (local_typed decls n l k) h)
+element_resolved decls clean p (a_local n l) index k h = absurd (unfit_not decls WrongType p _ (a_local n l) (local_typed decls n l k) h)
 element_resolved decls clean p (a_decl n (array a)) index k h = let t = known decls clean (outside decls) a.value_type (of_array k) in value_resolved (core.element p (number_at decls n (array a)) index) (type_of (outside decls) a.value_type) t.value_type t.is
 element_resolved decls clean p (a_decl n (pool q)) index k h = let t = known_named decls clean q.target (of_pool k) in member_resolved (number_at decls n (pool q)) index (struct_named decls q.target) t.number t.is
-element_resolved decls clean p (a_decl n (lock y)) index k h = absurd (unfit_not decls WrongType p (a_decl n (lock y)) refl h)
-element_resolved decls clean p (a_decl n (struct s)) index k h = absurd (unfit_not decls WrongType p (a_decl n (struct s)) refl h)
-element_resolved decls clean p (a_decl n (global v)) index k h = absurd (unfit_not decls WrongType p (a_decl n (global v)) (global_typed decls clean n v k) h)
-element_resolved decls clean p (a_decl n (init j)) index k h = absurd (unfit_not decls WrongType p (a_decl n (init j)) refl h)
-element_resolved decls clean p (a_decl n (atomic s)) index k h = absurd (unfit_not decls WrongType p (a_decl n (atomic s)) refl h)
-element_resolved decls clean p (a_decl n (helper s)) index k h = absurd (unfit_not decls WrongType p (a_decl n (helper s)) refl h)
-element_resolved decls clean p (a_decl n (thread t)) index k h = absurd (unfit_not decls WrongType p (a_decl n (thread t)) refl h)
+element_resolved decls clean p (a_decl n (lock y)) index k h = absurd (not_one WrongType p h)
+element_resolved decls clean p (a_decl n (struct s)) index k h = absurd (not_one WrongType p h)
+element_resolved decls clean p (a_decl n (global v)) index k h = absurd (unfit_not decls WrongType p _ (a_decl n (global v)) (global_typed decls clean n v k) h)
+element_resolved decls clean p (a_decl n (init j)) index k h = absurd (not_one WrongType p h)
+element_resolved decls clean p (a_decl n (atomic s)) index k h = absurd (not_one WrongType p h)
+element_resolved decls clean p (a_decl n (helper s)) index k h = absurd (not_one WrongType p h)
+element_resolved decls clean p (a_decl n (thread t)) index k h = absurd (not_one WrongType p h)
 element_resolved decls clean p nothing index k h = absurd (not_one UnknownName p h)
 
 -- ---- paths
@@ -341,7 +349,7 @@ pub record Path (decls : List Decl) (x : Meaning) (fs : List Ident) : Type 0 whe
 pub path_is : (decls : List Decl) → Clean decls → (p : ℕ) (x : Meaning) (fs : List Ident) → IsKnown decls x →
     NoneIn (path_faults decls p x fs) → Path decls x fs
 path_is decls clean p (a_local n l) fs k none = record { number = n; local = l; is = refl; arrives = on_walk decls clean p (at_local l.value_type) fs (on_local decls l.value_type k) none }
-path_is decls clean p (a_decl n d) fs k none = absurd (unfit_not decls WrongType p (a_decl n d) (decl_typed decls clean n d k) none)
+path_is decls clean p (a_decl n d) fs k none = absurd (unfit_not decls WrongType p _ (a_decl n d) (decl_typed decls clean n d k) none)
 path_is decls clean p nothing fs k none = absurd (not_one UnknownName p none)
 
 pub path_resolved : (decls : List Decl) (p : ℕ) (x : Meaning) (fs : List Ident) → Path decls x fs →
@@ -353,14 +361,14 @@ path_resolved decls p x fs r = (
 
 -- ---- what is wanted
 
-pub fit_if : (p : ℕ) (b : Bool) → NoneIn (if b then [] else one WrongType p) → b ≡ true
-fit_if p true h = refl
-fit_if p false h = absurd (not_one WrongType p h)
+pub fit_if : (p : ℕ) (b : Bool) (w : Why) → NoneIn (if b then [] else reasoned WrongType p w) → b ≡ true
+fit_if p true w h = refl
+fit_if p false w h = absurd (not_one WrongType p h)
 
 -- what has a type and is no misfit is what is wanted
 pub fit_is : (w : Want) (p : ℕ) (o : Option ResolvedExpr) (s : ResolvedExpr) → o ≡ Some s → NoneIn (misfit w p o) →
     fits w s ≡ true
-fit_is w p o s is none = fit_if p (fits w s) (subst (λ (x : Option ResolvedExpr). NoneIn (misfit w p x)) is none)
+fit_is w p o s is none = fit_if p (fits w s) _ (subst (λ (x : Option ResolvedExpr). NoneIn (misfit w p x)) is none)
 
 given_value : (t : core_type.ValueType) (s : ResolvedExpr) → fits (Value t) s ≡ true →
     (e : core.Expr) × (as_value (fitting (Value t) (Some s)) ≡ Some e)

@@ -24,7 +24,7 @@ use Rattle.resolution.specs.Where.{Has, of_final, of_field}
 use Rattle.resolution.specs.Faults as fault
 use Rattle.resolution.specs.Working.FaultLists.{one_if, again, member_twice_faults, member_counts, lock_count}
 use Rattle.resolution.specs.Working.FaultLists.{const_faults, index_faults, named_faults, null_faults, init_faults}
-use Rattle.source.specs.Theory.Leasts.{IsAmong}
+use Rattle.resolution.specs.Theory.Leasts.{IsAmong}
 use Rattle.resolution.proofs.Named.{named_is, member_is}
 use Rattle.resolution.proofs.Parts.{of_decl}
 use Rattle.resolution.proofs.AllFaults.{in_member_twice, missing_in}

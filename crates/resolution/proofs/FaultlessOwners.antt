@@ -20,12 +20,14 @@ use Rattle.resolution.specs.Working.TypedOwners.{final_of, owner_member, owner_f
 use Rattle.resolution.specs.Working.TypedOwners.{owned_value, owned_by}
 use Rattle.resolution.specs.Where.{Has, of_final, of_field}
 use Rattle.resolution.specs.Working.FaultLists as list
+use Rattle.resolution.specs.declared.why.Why.TheVariants as why
+use Rattle.resolution.specs.Working.Findings.{told}
 use Rattle.resolution.specs.Working.FaultLists.{one_if, taken, local_faults, no_final_in, owner_field_faults}
 use Rattle.resolution.specs.Working.FaultLists.{other_type, owner_faults, count_faults}
 use Rattle.resolution.proofs.Named.{member_is}
 use Rattle.resolution.proofs.Tests.{le_true, le_false}
 use Rattle.resolution.proofs.AllFaults.{of_counts}
-use Rattle.resolution.proofs.FaultlessExpressions.{NoneIn, none_left, none_right, not_one, not_if, at_has, struct_has}
+use Rattle.resolution.proofs.FaultlessExpressions.{NoneIn, none_left, none_right, not_one, not_if, not_found, at_has, struct_has}
 use Rattle.resolution.proofs.FaultlessExpressions.{Clean, IsType, Typing, known, Context, IsKnown, meaning_known}
 use Rattle.resolution.proofs.FaultlessExpressions.{decl_typed, unfit_not, fit_if}
 use Rattle.resolution.proofs.TypedResolvedExprs.{IsLocal, meant_local}
@@ -102,7 +104,7 @@ final_is decls clean k s h p (Some (n, final_member g)) up none =
 final_is decls clean k s h p (Some (n, field_member g)) up none =
     let t = known decls clean (outside decls) g.value_type (of_field h (up n (field_member g) refl)) in
     let has : member_has_type decls (field_member g) ≡ true = ap is_some t.is in
-    let not : member_has_type decls (field_member g) ≡ false = not_if (member_has_type decls (field_member g)) WrongType p none in
+    let not : member_has_type decls (field_member g) ≡ false = not_found (member_has_type decls (field_member g)) (told WrongType p why.OwnerField) none in
     absurd (let e : true ≡ false = sym has ∙ not in cc)
 
 -- a final reference of a struct whose number is within the limit
@@ -141,13 +143,13 @@ record LocalIn (ls : List Local) (o : Option ℕ) : Type 0 where
 owner_local_is : (sc : Scope) → Context sc → (g : OwnerField) (p : ℕ) (m : Meaning) → IsKnown sc.decls m →
     IsLocal sc.locals m → NoneIn (list.no_owner sc.decls p (Some g) m) → LocalIn sc.locals (owner_local (Some g) m)
 owner_local_is sc c g p (a_local n b) k loc none =
-    let fits : fits_type g.value_type (sort.Of k.value_type) ≡ true = fit_if p (fits_type g.value_type (sort.Of k.value_type)) (subst (λ (o : Option core_type.ValueType). NoneIn (other_type p (Some g) o)) k.is none) in
+    let fits : fits_type g.value_type (sort.Of k.value_type) ≡ true = fit_if p (fits_type g.value_type (sort.Of k.value_type)) _ (subst (λ (o : Option core_type.ValueType). NoneIn (other_type p (Some g) o)) k.is none) in
     record {
       number = n;
       is = ap (λ (o : Option core_type.ValueType). if is_of g.value_type o then Some n else None) k.is ∙ ap (λ (x : Bool). if x then Some n else None) fits;
       less = slice_get_within sc.locals n b loc.0;
     }
-owner_local_is sc c g p (a_decl n d) k loc none = absurd (unfit_not sc.decls WrongType p (a_decl n d) (decl_typed sc.decls c.clean n d k) none)
+owner_local_is sc c g p (a_decl n d) k loc none = absurd (unfit_not sc.decls WrongType p _ (a_decl n d) (decl_typed sc.decls c.clean n d k) none)
 owner_local_is sc c g p nothing k loc none = absurd (not_one UnknownName p none)
 
 -- ---- the value

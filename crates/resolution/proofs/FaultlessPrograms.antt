@@ -4,7 +4,7 @@ use Rattle.std.proofs.Common.{Bool, false, if◌then◌else◌, refl, sym, ap, �
 use Rattle.std.proofs.lemmas.List.{length-append}
 use Rattle.std.specs.Prelude.{nat_le, nat_lt, slice_get}
 use Rattle.source.specs.declared.fault.Code.TheVariants.{LimitExceeded}
-use Rattle.source.specs.Theory.Leasts.{among_right}
+use Rattle.resolution.specs.Theory.Leasts.{among_right}
 use Rattle.syntax.specs.Returns.{ReturnsRight}
 use Rattle.syntax.specs.Trees.{ref_type, Const, Member, lock_member, final_member, field_member, Struct, Variable}
 use Rattle.syntax.specs.Trees.{Array, Pool, Decl, lock, struct, global, array, pool, init, atomic, helper, thread}

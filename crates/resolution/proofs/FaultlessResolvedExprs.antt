@@ -35,10 +35,12 @@ use Rattle.resolution.specs.Working.TypedExpressions.{typed_links}
 use Rattle.resolution.specs.Working.TypedExpressions.{typed_tests, element_value}
 use Rattle.resolution.specs.Where.{operand_want, side_want}
 use Rattle.resolution.specs.Faults.{start_of}
-use Rattle.resolution.specs.Working.FaultLists.{one_if, number_faults, no_elements, misfit, unlike, side_faults}
+use Rattle.resolution.specs.declared.why.Why.TheVariants as why
+use Rattle.resolution.specs.Working.Findings.{told, found_if}
+use Rattle.resolution.specs.Working.FaultLists.{number_faults, no_elements, misfit, unlike, side_faults}
 use Rattle.resolution.specs.Working.FaultLists.{operator_faults, expr_faults, place_faults, link_faults}
 use Rattle.resolution.specs.Working.FaultLists.{wanted_faults}
-use Rattle.resolution.proofs.FaultlessExpressions.{NoneIn, none_left, none_right, not_one, not_if, is_there, Context}
+use Rattle.resolution.proofs.FaultlessExpressions.{NoneIn, none_left, none_right, not_one, not_if, not_found, is_there, Context}
 use Rattle.resolution.proofs.FaultlessExpressions.{meaning_known, HasResolvedExpr, name_resolved, element_resolved}
 use Rattle.resolution.proofs.FaultlessExpressions.{path_is, path_resolved, fit_if, fit_is, wanted_value, wanted_test}
 use Rattle.resolution.proofs.Tests.{lt_false, le_true}
@@ -110,7 +112,7 @@ ordered_resolved c o a r b x y = (truth (core.compare c a b), ap (λ (z : Option
 
 equal_resolved : (c : Comparison) (p q : ℕ) (s t : ResolvedExpr) → NoneIn (unlike p q (Some s) (Some t)) →
     HasResolvedExpr (equated c (Some s) (Some t))
-equal_resolved c p q (value a s) (value b t) none = (truth (core.compare c a b), ap (λ (x : Bool). if x then Some (truth (core.compare c a b)) else None) (fit_if q (alike_sorts s t) none))
+equal_resolved c p q (value a s) (value b t) none = (truth (core.compare c a b), ap (λ (x : Bool). if x then Some (truth (core.compare c a b)) else None) (fit_if q (alike_sorts s t) _ none))
 equal_resolved c p q (value a s) (truth d) none = absurd (not_one WrongType q none)
 equal_resolved c p q (truth d) (value b t) none = absurd (not_one WrongType q none)
 equal_resolved c p q (truth d) (truth g) none = absurd (not_one WrongType p none)
@@ -210,7 +212,7 @@ mutual
 
   links_are : (sc : Scope) → Context sc → (level : Level) (links : Links) →
       ((p : ℕ × syntax_operator.Operator) →
-      operator_faults level p.0 p.1 ≡ one_if (not (is_some (operator_of p.1))) WrongType p.0) → operand_want level ≡ Value Integer → NoneIn (link_faults sc level links) → Links_are (typed_links sc links)
+      operator_faults level p.0 p.1 ≡ found_if (not (is_some (operator_of p.1))) (told WrongType p.0 why.OperatorOfConditions)) → operand_want level ≡ Value Integer → NoneIn (link_faults sc level links) → Links_are (typed_links sc links)
   links_are sc c level no_links of w none = (core.no_operations, refl)
   links_are sc c level (link o e rest) of w none =
       let q = operator_faults level (start_of e) o in
@@ -219,7 +221,7 @@ mutual
       let head = none_left ((q ++ a) ++ b) (link_faults sc level rest) none in
       let s = resolved_expr_is sc c e (none_right q a (none_left (q ++ a) b head)) in
       let n = number_of (start_of e) (typed sc e) s (subst (λ (v : Want). NoneIn (misfit v (start_of e) (typed sc e))) w (none_right (q ++ a) b head)) in
-      let so = is_there (operator_of o) (not_if (not (is_some (operator_of o))) WrongType (start_of e) (subst NoneIn (of (start_of e, o)) (none_left q a (none_left (q ++ a) b head)))) in
+      let so = is_there (operator_of o) (not_found (not (is_some (operator_of o))) (told WrongType (start_of e) why.OperatorOfConditions) (subst NoneIn (of (start_of e, o)) (none_left q a (none_left (q ++ a) b head)))) in
       link_resolved (operator_of o) so.0 (number_resolved (typed sc e)) n.0 (typed_links sc rest) so.1 n.1 (links_are sc c level rest of w (none_right ((q ++ a) ++ b) (link_faults sc level rest) none))
 
   tests_are : (sc : Scope) → Context sc → (level : Level) (links : Links) → operand_want level ≡ Condition →

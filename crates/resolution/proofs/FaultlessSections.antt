@@ -26,7 +26,9 @@ use Rattle.resolution.specs.Tables.{copies, AreCalls, no_call, one_call, repeate
 use Rattle.resolution.specs.Working.TypedStatements.{typed_body, Body}
 use Rattle.resolution.specs.Statements.{after_all}
 use Rattle.resolution.specs.Where.{Has, first, further, HasBody, of_section, of_helper}
-use Rattle.resolution.specs.Working.FaultLists.{one, one_if, unfit, type_faults, argument_faults, local_faults}
+use Rattle.resolution.specs.declared.why.Why.TheVariants as why
+use Rattle.resolution.specs.declared.why.Role.TheVariants as role
+use Rattle.resolution.specs.Working.FaultLists.{reasoned, one_if, misnamed, type_faults, argument_faults, local_faults}
 use Rattle.resolution.specs.Working.FaultLists.{stmts_faults, param_faults, result_faults, section_faults, call_faults}
 use Rattle.resolution.specs.Working.FaultLists.{item_faults, items_faults}
 use Rattle.resolution.proofs.FaultlessExpressions.{NoneIn, none_left, none_right, not_one, unfit_not, decl_has}
@@ -162,7 +164,7 @@ record Called (decls : List Decl) (o : Option (ℕ × Decl)) (cs : List Const) :
 
 argument_if : (decls : List Decl) → Clean decls → (p i : ℕ) (s : Section) (cs : List Const) (b : Bool) →
     (length cs == length s.params) ≡ b →
-    NoneIn (if b then argument_faults decls s.params cs else one WrongArgumentCount p) →
+    NoneIn (if b then argument_faults decls s.params cs else reasoned WrongArgumentCount p (why.Counted (length s.params) (length cs))) →
     Called decls (Some (i, atomic s)) cs
 argument_if decls clean p i s cs true e none =
     let vs = arguments_are decls clean s.params cs (eqb-true (length cs) (length s.params) e) none in
@@ -171,8 +173,8 @@ argument_if decls clean p i s cs false e none = absurd (not_one WrongArgumentCou
 
 -- what is declared has its type, so it is told where it is no section
 no_section : (decls : List Decl) → Clean decls → (p n : ℕ) (d : Decl) → Has decls d →
-    NoneIn (unfit decls WrongType p (a_decl n d)) → ⊥
-no_section decls clean p n d h none = unfit_not decls WrongType p (a_decl n d) (decl_typed decls clean n d h) none
+    NoneIn (misnamed decls WrongType role.Section p (a_decl n d)) → ⊥
+no_section decls clean p n d h none = unfit_not decls WrongType p _ (a_decl n d) (decl_typed decls clean n d h) none
 
 call_is : (decls : List Decl) → Clean decls → (p : ℕ) (o : Option (ℕ × Decl)) (cs : List Const) →
     ((k : ℕ) (d : Decl) → ◌≡◌ {A = Option (ℕ × Decl)} o (Some (k, d)) → Has decls d) →

@@ -34,11 +34,14 @@ use Rattle.resolution.specs.Statements.{after, after_else, after_all}
 use Rattle.resolution.specs.Working.TypedStatements.{first_value, typed_stmt, typed_if, typed_body}
 use Rattle.resolution.specs.Working.TypedOwners.{owned_by}
 use Rattle.resolution.specs.Where.{of_global, of_array}
-use Rattle.resolution.specs.Working.FaultLists.{unfit, type_faults, no_elements, path_faults, wanted_faults}
+use Rattle.resolution.specs.declared.why.Why.TheVariants as why
+use Rattle.resolution.specs.declared.why.Role.TheVariants as role
+use Rattle.resolution.specs.Working.Findings.{told}
+use Rattle.resolution.specs.Working.FaultLists.{misnamed, type_faults, no_elements, path_faults, wanted_faults}
 use Rattle.resolution.specs.Working.FaultLists.{local_faults, no_target, no_array, final_faults, target_faults}
 use Rattle.resolution.specs.Working.FaultLists.{binding_faults, owner_faults, helper_call_faults, given_back_faults}
 use Rattle.resolution.specs.Working.FaultLists.{called_faults, stmt_faults, else_faults, stmts_faults}
-use Rattle.resolution.proofs.FaultlessExpressions.{NoneIn, none_left, none_right, not_one, not_if, is_there, Clean}
+use Rattle.resolution.proofs.FaultlessExpressions.{NoneIn, none_left, none_right, not_one, not_found, is_there, Clean}
 use Rattle.resolution.proofs.FaultlessExpressions.{Typing, type_is, known, AllTyped, Context, IsKnown, meaning_known}
 use Rattle.resolution.proofs.FaultlessExpressions.{decl_typed, unfit_not, Path, path_is}
 use Rattle.resolution.proofs.FaultlessResolvedExprs.{value_is, test_is}
@@ -57,39 +60,39 @@ assignee_is : (t : Target) (o : Option core_type.ValueType) (v : core_type.Value
 assignee_is t o v is = (record { target = t; value_type = v }, ap (assignee (Some t)) is)
 
 var_if : (decls : List Decl) (p n : ℕ) (l : scope.Local) (b : Bool) → Typing decls l.value_type →
-    NoneIn (if b then [] else unfit decls NotAssignable p (a_local n l)) →
+    NoneIn (if b then [] else misnamed decls NotAssignable role.Target p (a_local n l)) →
     Assignees (if b then assignee (Some (to_local n)) l.value_type else None)
 var_if decls p n l true t none = assignee_is (to_local n) l.value_type t.value_type t.is
-var_if decls p n l false t none = absurd (unfit_not decls NotAssignable p (a_local n l) (ap is_some t.is) none)
+var_if decls p n l false t none = absurd (unfit_not decls NotAssignable p _ (a_local n l) (ap is_some t.is) none)
 
 assignee_name : (decls : List Decl) → Clean decls → (p : ℕ) (x : Meaning) → IsKnown decls x →
     NoneIn (no_target decls p x) → Assignees (assignee_at decls x)
 assignee_name decls clean p (a_local n l) k none = var_if decls p n l (is_var l.kind) k none
 assignee_name decls clean p (a_decl n (global v)) k none = let t = known decls clean (outside decls) v.value_type (of_global k) in assignee_is (to_global (cell_of decls n)) (type_of (outside decls) v.value_type) t.value_type t.is
 assignee_name decls clean p (a_decl n (lock y)) k none = absurd (not_one LockAsValue p none)
-assignee_name decls clean p (a_decl n (struct s)) k none = absurd (unfit_not decls NotAssignable p (a_decl n (struct s)) refl none)
-assignee_name decls clean p (a_decl n (array a)) k none = absurd (unfit_not decls NotAssignable p (a_decl n (array a)) (decl_typed decls clean n (array a) k) none)
-assignee_name decls clean p (a_decl n (pool q)) k none = absurd (unfit_not decls NotAssignable p (a_decl n (pool q)) (decl_typed decls clean n (pool q) k) none)
-assignee_name decls clean p (a_decl n (init j)) k none = absurd (unfit_not decls NotAssignable p (a_decl n (init j)) refl none)
-assignee_name decls clean p (a_decl n (atomic s)) k none = absurd (unfit_not decls NotAssignable p (a_decl n (atomic s)) refl none)
-assignee_name decls clean p (a_decl n (helper s)) k none = absurd (unfit_not decls NotAssignable p (a_decl n (helper s)) refl none)
-assignee_name decls clean p (a_decl n (thread t)) k none = absurd (unfit_not decls NotAssignable p (a_decl n (thread t)) refl none)
+assignee_name decls clean p (a_decl n (struct s)) k none = absurd (not_one NotAssignable p none)
+assignee_name decls clean p (a_decl n (array a)) k none = absurd (unfit_not decls NotAssignable p _ (a_decl n (array a)) (decl_typed decls clean n (array a) k) none)
+assignee_name decls clean p (a_decl n (pool q)) k none = absurd (unfit_not decls NotAssignable p _ (a_decl n (pool q)) (decl_typed decls clean n (pool q) k) none)
+assignee_name decls clean p (a_decl n (init j)) k none = absurd (not_one NotAssignable p none)
+assignee_name decls clean p (a_decl n (atomic s)) k none = absurd (not_one NotAssignable p none)
+assignee_name decls clean p (a_decl n (helper s)) k none = absurd (not_one NotAssignable p none)
+assignee_name decls clean p (a_decl n (thread t)) k none = absurd (not_one NotAssignable p none)
 assignee_name decls clean p nothing k none = absurd (not_one UnknownName p none)
 
 assignee_element : (decls : List Decl) → Clean decls → (p : ℕ) (x : Meaning) (index : core.Expr) → IsKnown decls x →
     NoneIn (no_elements decls p x) → NoneIn (no_array decls p x) →
     Assignees (assignee_at_element decls x (Some index))
-assignee_element decls clean p (a_local n l) index k none other = let t : has_type decls (a_local n l) ≡ true = ap is_some k.is in absurd (unfit_not decls WrongType p (a_local n l) t none)
+assignee_element decls clean p (a_local n l) index k none other = let t : has_type decls (a_local n l) ≡ true = ap is_some k.is in absurd (unfit_not decls WrongType p _ (a_local n l) t none)
 assignee_element decls clean p (a_decl n (array a)) index k none other =
     let t = known decls clean (outside decls) a.value_type (of_array k) in assignee_is (to_element (number_at decls n (array a)) index) (type_of (outside decls) a.value_type) t.value_type t.is
-assignee_element decls clean p (a_decl n (pool q)) index k none other = absurd (unfit_not decls NotAssignable p (a_decl n (pool q)) (decl_typed decls clean n (pool q) k) other)
-assignee_element decls clean p (a_decl n (lock y)) index k none other = absurd (unfit_not decls WrongType p (a_decl n (lock y)) refl none)
-assignee_element decls clean p (a_decl n (struct s)) index k none other = absurd (unfit_not decls WrongType p (a_decl n (struct s)) refl none)
-assignee_element decls clean p (a_decl n (global v)) index k none other = absurd (unfit_not decls WrongType p (a_decl n (global v)) (decl_typed decls clean n (global v) k) none)
-assignee_element decls clean p (a_decl n (init j)) index k none other = absurd (unfit_not decls WrongType p (a_decl n (init j)) refl none)
-assignee_element decls clean p (a_decl n (atomic s)) index k none other = absurd (unfit_not decls WrongType p (a_decl n (atomic s)) refl none)
-assignee_element decls clean p (a_decl n (helper s)) index k none other = absurd (unfit_not decls WrongType p (a_decl n (helper s)) refl none)
-assignee_element decls clean p (a_decl n (thread t)) index k none other = absurd (unfit_not decls WrongType p (a_decl n (thread t)) refl none)
+assignee_element decls clean p (a_decl n (pool q)) index k none other = absurd (unfit_not decls NotAssignable p _ (a_decl n (pool q)) (decl_typed decls clean n (pool q) k) other)
+assignee_element decls clean p (a_decl n (lock y)) index k none other = absurd (not_one WrongType p none)
+assignee_element decls clean p (a_decl n (struct s)) index k none other = absurd (not_one WrongType p none)
+assignee_element decls clean p (a_decl n (global v)) index k none other = absurd (unfit_not decls WrongType p _ (a_decl n (global v)) (decl_typed decls clean n (global v) k) none)
+assignee_element decls clean p (a_decl n (init j)) index k none other = absurd (not_one WrongType p none)
+assignee_element decls clean p (a_decl n (atomic s)) index k none other = absurd (not_one WrongType p none)
+assignee_element decls clean p (a_decl n (helper s)) index k none other = absurd (not_one WrongType p none)
+assignee_element decls clean p (a_decl n (thread t)) index k none other = absurd (not_one WrongType p none)
 assignee_element decls clean p nothing index k none other = absurd (not_one UnknownName p none)
 
 field_assignee : (p n : ℕ) (o : Option Split) (s : Split) (t : core_type.ValueType) → o ≡ Some s →
@@ -101,7 +104,7 @@ assignee_path : (decls : List Decl) (p : ℕ) (x : Meaning) (fs : List Ident) �
 assignee_path decls p x fs r none =
     let steps = r.arrives.steps in
     let t = r.arrives.value_type in
-    let last = is_there (last_field steps) (not_if (not (is_some (last_field steps))) NotAssignable p (subst (λ (w : Walk). NoneIn (final_faults p w)) r.arrives.is none)) in
+    let last = is_there (last_field steps) (not_found (not (is_some (last_field steps))) (told NotAssignable p why.FinalTarget) (subst (λ (w : Walk). NoneIn (final_faults p w)) r.arrives.is none)) in
     let a = field_assignee p r.number (last_field steps) last.0 t last.1 in
     (a.0, ap (assignee_along p x) r.arrives.is ∙ ap (λ (y : Meaning). assignee_along p y (reached steps t)) r.is ∙ a.1)
 

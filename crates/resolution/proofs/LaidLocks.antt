@@ -3,7 +3,7 @@ use Rattle.std.proofs.Common.{◌≡◌, ℕ, zero, suc, ◌+◌, ◌<◌, ◌�
 use Rattle.std.proofs.Common.{refl, sym, ap, ◌∙◌, subst, arith}
 use Rattle.std.specs.Prelude.{slice_get, ⊤, nat_le, ◌&&◌}
 use Rattle.source.specs.declared.fault.Code.TheVariants.{LimitExceeded}
-use Rattle.source.specs.Theory.Leasts.{among_right}
+use Rattle.resolution.specs.Theory.Leasts.{among_right}
 use Rattle.syntax.specs.Trees.{Ident, Protection, Member, lock_member, final_member, field_member, Final, Field, Struct}
 use Rattle.syntax.specs.Trees.{Decl, lock, struct, global, array}
 use Rattle.core_lang.specs.Theory.Items.{behind_at}

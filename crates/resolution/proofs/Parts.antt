@@ -16,6 +16,7 @@ use Rattle.syntax.specs.Trees.{atomic, helper, thread}
 use Rattle.core_lang.specs.declared.value.ValueType.TheVariants.{Integer}
 use Rattle.core_lang.specs.declared.tree.LocalKind.TheVariants as kind
 use Rattle.source.specs.declared.mistake.Mistake.{Mistake}
+use Rattle.resolution.specs.declared.finding.Finding.{Finding}
 use Rattle.resolution.specs.declared.wanted.Want.{Want}
 use Rattle.resolution.specs.declared.wanted.Want.TheVariants.{Anything, Condition, Value}
 use Rattle.resolution.specs.declared.body_limits.BodyLimits.{BodyLimits}
@@ -39,7 +40,8 @@ use Rattle.resolution.specs.Where.{later_call, HasCall, in_thread, HasConst, ope
 use Rattle.resolution.specs.Faults.{start_of}
 use Rattle.resolution.proofs.OwnerRules.{wanted_right, wanted_nothing}
 use Rattle.resolution.specs.Working.FaultLists as list
-use Rattle.resolution.specs.Working.FaultLists.{one, one_if, misfit, no_elements, no_array, operator_faults}
+use Rattle.resolution.specs.declared.why.Why.TheVariants as why
+use Rattle.resolution.specs.Working.FaultLists.{reasoned, one, one_if, misfit, no_elements, no_array, operator_faults}
 use Rattle.resolution.specs.Working.FaultLists.{side_faults, expr_faults, link_faults, wanted_faults, local_faults}
 use Rattle.resolution.specs.Working.FaultLists.{type_faults, target_faults, binding_faults, owner_faults, values_faults}
 use Rattle.resolution.specs.Working.FaultLists.{each_value_faults, passed_values_faults, helper_call_faults}
@@ -49,14 +51,14 @@ use Rattle.resolution.specs.Working.FaultLists.{lock_faults, protection_faults, 
 use Rattle.resolution.specs.Working.FaultLists.{missing_faults, index_faults, named_faults, null_faults, call_faults}
 use Rattle.resolution.specs.Working.FaultLists.{item_faults, items_faults, decl_faults, each_faults, twice_faults}
 use Rattle.resolution.specs.Working.FaultLists.{struct_faults, total_faults, repeated_faults, declaration_faults}
-use Rattle.source.specs.Theory.Leasts.{IsAmong, among_left, among_right}
+use Rattle.resolution.specs.Theory.Leasts.{IsAmong, among_left, among_right}
 use Rattle.resolution.proofs.Members as m
 use Rattle.resolution.specs.Theory.Blocks.{after_decls, entered_decls}
 
 -- ---- joined lists
 
-pub deepen : (f : Mistake) (a x y : List Mistake) → IsAmong f (x ++ y) → IsAmong f ((a ++ x) ++ y)
-deepen f a x y i = m.both f x y (λ j. among_left f (a ++ x) y (among_right f a x j)) (λ j. among_right f (a ++ x) y j) i
+pub deepen : (f : Mistake) (a x y : List Finding) → IsAmong f (x ++ y) → IsAmong f ((a ++ x) ++ y)
+deepen f a x y i = m.among_both f x y (λ j. among_left f (a ++ x) y (among_right f a x j)) (λ j. among_right f (a ++ x) y j) i
 
 -- ---- expressions
 
@@ -68,7 +70,7 @@ anything sc e (Some (truth c)) = refl
 of_anything : (sc : Scope) (e : Expr) (f : Mistake) → IsAmong f (wanted_faults sc Anything e) →
     IsAmong f (expr_faults sc e)
 of_anything sc e f i =
-    m.both f (expr_faults sc e) (misfit Anything (start_of e) (typed sc e)) (λ j. j) (λ j. absurd (subst (IsAmong f) (anything sc e (typed sc e)) j)) i
+    m.among_both f (expr_faults sc e) (misfit Anything (start_of e) (typed sc e)) (λ j. j) (λ j. absurd (subst (IsAmong f) (anything sc e (typed sc e)) j)) i
 
 in_link : (sc : Scope) (level : Level) (links : Links) (o : Operator) (e : Expr) → HasLink links o e → (f : Mistake) →
     IsAmong f ((operator_faults level (start_of e) o ++ expr_faults sc e) ++ misfit (operand_want level) (start_of e) (typed sc e)) → IsAmong f (link_faults sc level links)
@@ -277,7 +279,7 @@ in_params sc (b ∷ before) behind p n f i =
     (subst (λ (k : ℕ). IsAmong f (param_faults (entered (bound sc kind.Parameter b.name (type_of (outside sc.decls) b.value_type)) before) k (p ∷ behind))) (let e : n + suc (length before) ≡ n + 1 + length before = omega arith in e) i))
 
 -- what is listed for a parameter by itself
-abbrev pub own : Scope → List Param → Param → List Mistake
+abbrev pub own : Scope → List Param → Param → List Finding
 own sc before p = local_faults sc p.name ++ one_if (nat_le sc.limits.parameters (length before)) LimitExceeded p.name.span.start ++ type_faults (outside sc.decls) p.value_type
 
 pub of_param : (decls : List Decl) (limits : BodyLimits) (x : Section) (before behind : List Param) (p : Param) →
@@ -390,5 +392,6 @@ of_const decls w c (initial {i = x} h) f i =
     (among_right f (index_faults decls x.pool.span.start (the_decl decls x.pool.text) x.index ++ named_faults decls x.field.span.start (pool_members decls (the_decl decls x.pool.text)) x.field.text) _ i))
 of_const decls w x (argument {c = c} {i = n} k {s = s} {p = p} h is len a b) f i =
     of_call decls c h f (subst (IsAmong f)
-    (sym (ap (λ (o : Option (ℕ × Decl)). call_faults decls c.section.span.start o c.arguments) is ∙ ap (λ (t : Bool). if t then argument_faults decls s.params c.arguments else one WrongArgumentCount c.section.span.start) (same_count (length c.arguments) (length s.params) len)))
+    (sym (ap (λ (o : Option (ℕ × Decl)). call_faults decls c.section.span.start o c.arguments) is ∙ ap (λ (t : Bool). if t then argument_faults decls s.params c.arguments
+    else reasoned WrongArgumentCount c.section.span.start (why.Counted (length s.params) (length c.arguments))) (same_count (length c.arguments) (length s.params) len)))
     (in_arguments decls s.params c.arguments k p x a b f i))

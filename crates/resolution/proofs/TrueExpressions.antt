@@ -17,8 +17,10 @@ use Rattle.syntax.specs.Trees.{compare, Links, no_links, link, Member, Struct, P
 use Rattle.syntax.specs.Trees.{pool, init, atomic, helper, thread}
 use Rattle.core_lang.specs.declared.value.ValueType.TheVariants.{Integer, Reference}
 use Rattle.core_lang.specs.declared.tree.FieldStep.{FieldStep}
-use Rattle.source.specs.declared.mistake.Mistake.{Mistake}
+use Rattle.resolution.specs.declared.finding.Finding.{Finding}
 use Rattle.resolution.specs.declared.wanted.Sort.{Sort}
+use Rattle.resolution.specs.declared.why.Why.{Why}
+use Rattle.resolution.specs.declared.why.Role.TheVariants as role
 use Rattle.resolution.specs.declared.wanted.Want.{Want}
 use Rattle.resolution.specs.declared.wanted.Want.TheVariants.{Anything, Value}
 use Rattle.resolution.specs.Scopes.{Scope, Local, Meaning, a_local, a_decl, nothing, meaning, the_decl, the_struct}
@@ -35,39 +37,39 @@ use Rattle.resolution.specs.Where.{HasExpr, HasPlace, is_read, HasType, HasConst
 use Rattle.resolution.proofs.ConstantRules.{sort_ruled}
 use Rattle.resolution.proofs.ExpressionRules.{types_is}
 use Rattle.resolution.specs.Faults as fault
-use Rattle.resolution.specs.Faults.{start_of, const_start, IsNoValue, HasNoElements, IsNoReference, IsNoStruct}
-use Rattle.resolution.specs.Faults.{too_large, unknown, wrong_type}
+use Rattle.resolution.specs.Faults.{start_of, const_start, IsNoValue, HasNoElements, IsNoStruct, IsWrongType}
+use Rattle.resolution.specs.Faults.{too_large, unknown, for_type}
 use Rattle.resolution.specs.Expressions.{IsEquality}
 use Rattle.resolution.specs.Faults.{out_of_range, lock_as_value}
 use Rattle.resolution.specs.Working.FaultLists as list
-use Rattle.resolution.specs.Working.FaultLists.{one, unfit, index_faults, own_faults, sort_misfit, const_faults}
+use Rattle.resolution.specs.Working.FaultLists.{reasoned, one, misnamed, index_faults, own_faults, sort_misfit, const_faults}
 use Rattle.resolution.specs.Working.FaultLists.{argument_faults, no_elements, no_member, no_field, step_faults}
 use Rattle.resolution.specs.Working.FaultLists.{end_faults, walk_faults, path_faults, misfit, unlike, side_faults}
 use Rattle.resolution.specs.Working.FaultLists.{operator_faults, expr_faults, place_faults, link_faults, wanted_faults}
 use Rattle.resolution.specs.Working.FaultLists.{no_struct, type_faults}
-use Rattle.source.specs.Theory.Leasts.{IsAmong}
-use Rattle.resolution.proofs.Members.{IsTrue_of, both, of_one, of_if}
+use Rattle.resolution.specs.Theory.Leasts.{IsOneOf}
+use Rattle.resolution.proofs.Members.{IsTrue_of, both, of_reason, of_reason_if, of_one, of_if}
 use Rattle.resolution.proofs.Tests.{lt_of, le_of}
 use Rattle.resolution.specs.Theory.Facts.{and_left, and_right}
 
 -- ---- types
 
 true_struct : (decls : List Decl) (sc : Scope) (x : Ident) → HasType decls sc (ref_type x) → (m : Meaning) →
-    meaning sc x.text ≡ m → (f : Mistake) → IsAmong f (no_struct x.span.start m) → IsTrue_of decls f
-true_struct decls sc x h (a_local n l) is f i = of_one decls WrongType x.span.start f (wrong_type (fault.no_struct h (subst IsNoStruct (sym is) tt))) i
+    meaning sc x.text ≡ m → (f : Finding) → IsOneOf f (no_struct x.span.start m) → IsTrue_of decls f
+true_struct decls sc x h (a_local n l) is f i = of_reason decls WrongType x.span.start f (for_type (fault.no_struct h is tt)) i
 true_struct decls sc x h (a_decl n (struct s)) is f i = absurd i
-true_struct decls sc x h (a_decl n (lock y)) is f i = of_one decls WrongType x.span.start f (wrong_type (fault.no_struct h (subst IsNoStruct (sym is) tt))) i
-true_struct decls sc x h (a_decl n (global v)) is f i = of_one decls WrongType x.span.start f (wrong_type (fault.no_struct h (subst IsNoStruct (sym is) tt))) i
-true_struct decls sc x h (a_decl n (array a)) is f i = of_one decls WrongType x.span.start f (wrong_type (fault.no_struct h (subst IsNoStruct (sym is) tt))) i
-true_struct decls sc x h (a_decl n (pool p)) is f i = of_one decls WrongType x.span.start f (wrong_type (fault.no_struct h (subst IsNoStruct (sym is) tt))) i
-true_struct decls sc x h (a_decl n (init j)) is f i = of_one decls WrongType x.span.start f (wrong_type (fault.no_struct h (subst IsNoStruct (sym is) tt))) i
-true_struct decls sc x h (a_decl n (atomic s)) is f i = of_one decls WrongType x.span.start f (wrong_type (fault.no_struct h (subst IsNoStruct (sym is) tt))) i
-true_struct decls sc x h (a_decl n (helper s)) is f i = of_one decls WrongType x.span.start f (wrong_type (fault.no_struct h (subst IsNoStruct (sym is) tt))) i
-true_struct decls sc x h (a_decl n (thread t)) is f i = of_one decls WrongType x.span.start f (wrong_type (fault.no_struct h (subst IsNoStruct (sym is) tt))) i
-true_struct decls sc x h nothing is f i = of_one decls UnknownName x.span.start f (unknown (fault.in_type h is)) i
+true_struct decls sc x h (a_decl n (lock y)) is f i = of_reason decls WrongType x.span.start f (for_type (fault.no_struct h is tt)) i
+true_struct decls sc x h (a_decl n (global v)) is f i = of_reason decls WrongType x.span.start f (for_type (fault.no_struct h is tt)) i
+true_struct decls sc x h (a_decl n (array a)) is f i = of_reason decls WrongType x.span.start f (for_type (fault.no_struct h is tt)) i
+true_struct decls sc x h (a_decl n (pool p)) is f i = of_reason decls WrongType x.span.start f (for_type (fault.no_struct h is tt)) i
+true_struct decls sc x h (a_decl n (init j)) is f i = of_reason decls WrongType x.span.start f (for_type (fault.no_struct h is tt)) i
+true_struct decls sc x h (a_decl n (atomic s)) is f i = of_reason decls WrongType x.span.start f (for_type (fault.no_struct h is tt)) i
+true_struct decls sc x h (a_decl n (helper s)) is f i = of_reason decls WrongType x.span.start f (for_type (fault.no_struct h is tt)) i
+true_struct decls sc x h (a_decl n (thread t)) is f i = of_reason decls WrongType x.span.start f (for_type (fault.no_struct h is tt)) i
+true_struct decls sc x h nothing is f i = of_one decls UnknownName tt x.span.start f (unknown (fault.in_type h is)) i
 
-pub true_type : (decls : List Decl) (sc : Scope) (t : ValueType) → HasType decls sc t → (f : Mistake) →
-    IsAmong f (type_faults sc t) → IsTrue_of decls f
+pub true_type : (decls : List Decl) (sc : Scope) (t : ValueType) → HasType decls sc t → (f : Finding) →
+    IsOneOf f (type_faults sc t) → IsTrue_of decls f
 true_type decls sc int_type h f i = absurd i
 true_type decls sc (ref_type x) h f i = true_struct decls sc x h (meaning sc x.text) refl f i
 
@@ -75,49 +77,48 @@ true_type decls sc (ref_type x) h f i = true_struct decls sc x h (meaning sc x.t
 
 -- a name with an index in a constant
 true_index : (decls : List Decl) (w : Want) (x : Ident) (n : Number) → HasConst decls w (member_const x n) →
-    (o : Option (ℕ × Decl)) → the_decl decls x.text ≡ o → (f : Mistake) →
-    IsAmong f (index_faults decls x.span.start o n) → IsTrue_of decls f
-true_index decls w x n h None is f i = of_one decls UnknownName x.span.start f (unknown (fault.in_const h is)) i
+    (o : Option (ℕ × Decl)) → the_decl decls x.text ≡ o → (f : Finding) →
+    IsOneOf f (index_faults decls x.span.start o n) → IsTrue_of decls f
+true_index decls w x n h None is f i = of_one decls UnknownName tt x.span.start f (unknown (fault.in_const h is)) i
 true_index decls w x n h (Some (k, pool p)) is f i =
-    of_if decls (has_type decls (a_decl k (pool p)) && nat_le p.length.value n.value) InitOutOfRangeOrRepeated n.span.start f
+    of_if decls (has_type decls (a_decl k (pool p)) && nat_le p.length.value n.value) InitOutOfRangeOrRepeated tt n.span.start f
     (λ e. out_of_range (fault.constant_beyond h is (and_left (has_type decls (a_decl k (pool p))) (nat_le p.length.value n.value) e) (le_of p.length.value n.value (and_right (has_type decls (a_decl k (pool p))) (nat_le p.length.value n.value) e)))) i
-true_index decls w x n h (Some (k, lock y)) is f i = of_if decls true WrongType x.span.start f (λ e. wrong_type (fault.no_pool h is (λ q. q) e)) i
-true_index decls w x n h (Some (k, struct s)) is f i = of_if decls true WrongType x.span.start f (λ e. wrong_type (fault.no_pool h is (λ q. q) e)) i
-true_index decls w x n h (Some (k, global v)) is f i = of_if decls (has_type decls (a_decl k (global v))) WrongType x.span.start f (λ e. wrong_type (fault.no_pool h is (λ q. q) e)) i
-true_index decls w x n h (Some (k, array a)) is f i = of_if decls (has_type decls (a_decl k (array a))) WrongType x.span.start f (λ e. wrong_type (fault.no_pool h is (λ q. q) e)) i
-true_index decls w x n h (Some (k, init j)) is f i = of_if decls true WrongType x.span.start f (λ e. wrong_type (fault.no_pool h is (λ q. q) e)) i
-true_index decls w x n h (Some (k, atomic s)) is f i = of_if decls true WrongType x.span.start f (λ e. wrong_type (fault.no_pool h is (λ q. q) e)) i
-true_index decls w x n h (Some (k, helper s)) is f i = of_if decls true WrongType x.span.start f (λ e. wrong_type (fault.no_pool h is (λ q. q) e)) i
-true_index decls w x n h (Some (k, thread t)) is f i = of_if decls true WrongType x.span.start f (λ e. wrong_type (fault.no_pool h is (λ q. q) e)) i
+true_index decls w x n h (Some (k, lock y)) is f i = of_reason_if decls true WrongType x.span.start f (λ e. for_type (fault.no_pool h is (λ q. q) e)) i
+true_index decls w x n h (Some (k, struct s)) is f i = of_reason_if decls true WrongType x.span.start f (λ e. for_type (fault.no_pool h is (λ q. q) e)) i
+true_index decls w x n h (Some (k, global v)) is f i = of_reason_if decls (has_type decls (a_decl k (global v))) WrongType x.span.start f (λ e. for_type (fault.no_pool h is (λ q. q) e)) i
+true_index decls w x n h (Some (k, array a)) is f i = of_reason_if decls (has_type decls (a_decl k (array a))) WrongType x.span.start f (λ e. for_type (fault.no_pool h is (λ q. q) e)) i
+true_index decls w x n h (Some (k, init j)) is f i = of_reason_if decls true WrongType x.span.start f (λ e. for_type (fault.no_pool h is (λ q. q) e)) i
+true_index decls w x n h (Some (k, atomic s)) is f i = of_reason_if decls true WrongType x.span.start f (λ e. for_type (fault.no_pool h is (λ q. q) e)) i
+true_index decls w x n h (Some (k, helper s)) is f i = of_reason_if decls true WrongType x.span.start f (λ e. for_type (fault.no_pool h is (λ q. q) e)) i
+true_index decls w x n h (Some (k, thread t)) is f i = of_reason_if decls true WrongType x.span.start f (λ e. for_type (fault.no_pool h is (λ q. q) e)) i
 
-true_own : (decls : List Decl) (w : Want) (c : Const) → HasConst decls w c → (f : Mistake) →
-    IsAmong f (own_faults decls c) → IsTrue_of decls f
-true_own decls w (int_const n) h f i = of_if decls (nat_lt NUMBER_LIMIT n.value) NumberTooLarge n.span.start f (λ e. too_large (fault.constant h (lt_of NUMBER_LIMIT n.value e))) i
-true_own decls w (negative sign n) h f i = of_if decls (nat_lt NUMBER_LIMIT n.value) NumberTooLarge n.span.start f (λ e. too_large (fault.negative_constant sign h (lt_of NUMBER_LIMIT n.value e))) i
+true_own : (decls : List Decl) (w : Want) (c : Const) → HasConst decls w c → (f : Finding) →
+    IsOneOf f (own_faults decls c) → IsTrue_of decls f
+true_own decls w (int_const n) h f i = of_if decls (nat_lt NUMBER_LIMIT n.value) NumberTooLarge tt n.span.start f (λ e. too_large (fault.constant h (lt_of NUMBER_LIMIT n.value e))) i
+true_own decls w (negative sign n) h f i = of_if decls (nat_lt NUMBER_LIMIT n.value) NumberTooLarge tt n.span.start f (λ e. too_large (fault.negative_constant sign h (lt_of NUMBER_LIMIT n.value e))) i
 true_own decls w (null_const at) h f i = absurd i
 true_own decls w (member_const x n) h f i = true_index decls w x n h (the_decl decls x.text) refl f i
 
-pub misfit_if : (decls : List Decl) (p : ℕ) (b : Bool) →
-    (b ≡ false → IsTrue_of decls (record { code = WrongType; start = p })) → (f : Mistake) →
-    IsAmong f (if b then [] else one WrongType p) → IsTrue_of decls f
+pub misfit_if : (decls : List Decl) (p : ℕ) (b : Bool) {w : Why} → (b ≡ false → IsWrongType decls p w) → (f : Finding) →
+    IsOneOf f (if b then [] else reasoned WrongType p w) → IsTrue_of decls f
 misfit_if decls p true h f i = absurd i
-misfit_if decls p false h f i = of_one decls WrongType p f (h refl) i
+misfit_if decls p false h f i = of_reason decls WrongType p f (for_type (h refl)) i
 
 true_sort : (decls : List Decl) (w : Want) (c : Const) → HasConst decls w c → (s : Option Sort) →
-    const_sort decls c ≡ s → (f : Mistake) → IsAmong f (sort_misfit w (const_start c) s) → IsTrue_of decls f
+    const_sort decls c ≡ s → (f : Finding) → IsOneOf f (sort_misfit w (const_start c) s) → IsTrue_of decls f
 true_sort decls w c h None is f i = absurd i
 true_sort decls w c h (Some s) is f i =
     misfit_if decls (const_start c) (fits_sort w s)
-    (λ e. wrong_type (fault.unwanted_constant h (sort_ruled decls c s is) e)) f i
+    (λ e. fault.unwanted_constant h (sort_ruled decls c s is) e) f i
 
-pub true_const : (decls : List Decl) (w : Want) (c : Const) → HasConst decls w c → (f : Mistake) →
-    IsAmong f (const_faults decls w c) → IsTrue_of decls f
+pub true_const : (decls : List Decl) (w : Want) (c : Const) → HasConst decls w c → (f : Finding) →
+    IsOneOf f (const_faults decls w c) → IsTrue_of decls f
 true_const decls w c h f i =
     both f (own_faults decls c) (sort_misfit w (const_start c) (const_sort decls c)) (true_own decls w c h f) (true_sort decls w c h (const_sort decls c) refl f) i
 
 pub true_arguments : (decls : List Decl) (ps : List Param) (cs : List Const) →
     ((k : ℕ) (p : Param) (c : Const) → slice_get ps k ≡ Some p → slice_get cs k ≡ Some c →
-    HasConst decls (want_of decls p) c) → (f : Mistake) → IsAmong f (argument_faults decls ps cs) → IsTrue_of decls f
+    HasConst decls (want_of decls p) c) → (f : Finding) → IsOneOf f (argument_faults decls ps cs) → IsTrue_of decls f
 true_arguments decls [] [] up f i = absurd i
 true_arguments decls [] (c ∷ cs) up f i = absurd i
 true_arguments decls (p ∷ ps) [] up f i = absurd i
@@ -129,20 +130,20 @@ true_arguments decls (p ∷ ps) (c ∷ cs) up f i =
 -- ---- places, in a scope over the program's declarations
 
 true_unknown : (sc : Scope) (p : Place) → HasPlace sc.decls sc p → meaning sc (first_name p).text ≡ nothing →
-    (f : Mistake) → IsAmong f (one UnknownName (first_name p).span.start) → IsTrue_of sc.decls f
-true_unknown sc p h is f i = of_one sc.decls UnknownName (first_name p).span.start f (unknown (fault.in_place h is)) i
+    (f : Finding) → IsOneOf f (one UnknownName (first_name p).span.start) → IsTrue_of sc.decls f
+true_unknown sc p h is f i = of_one sc.decls UnknownName tt (first_name p).span.start f (unknown (fault.in_place h is)) i
 
 -- a declaration as a value
 true_no_value : (sc : Scope) (w : Want) (x : Ident) (k : ℕ) (d : Decl) → HasExpr sc.decls sc w (place (lone x)) →
-    meaning sc x.text ≡ a_decl k d → IsNoValue d → (f : Mistake) →
-    IsAmong f (unfit sc.decls WrongType x.span.start (a_decl k d)) → IsTrue_of sc.decls f
-true_no_value sc w x k d h is not_so f i = of_if sc.decls (has_type sc.decls (a_decl k d)) WrongType x.span.start f (λ e. wrong_type (fault.no_value h is not_so e)) i
+    meaning sc x.text ≡ a_decl k d → IsNoValue d → (f : Finding) →
+    IsOneOf f (misnamed sc.decls WrongType role.Value x.span.start (a_decl k d)) → IsTrue_of sc.decls f
+true_no_value sc w x k d h is not_so f i = of_reason_if sc.decls (has_type sc.decls (a_decl k d)) WrongType x.span.start f (λ e. for_type (fault.no_value h is not_so e)) i
 
 true_name : (sc : Scope) (w : Want) (x : Ident) → HasExpr sc.decls sc w (place (lone x)) → (m : Meaning) →
-    meaning sc x.text ≡ m → (f : Mistake) → IsAmong f (list.no_value sc.decls x.span.start m) → IsTrue_of sc.decls f
+    meaning sc x.text ≡ m → (f : Finding) → IsOneOf f (list.no_value sc.decls x.span.start m) → IsTrue_of sc.decls f
 true_name sc w x h (a_local n l) is f i = absurd i
 true_name sc w x h (a_decl n (global v)) is f i = absurd i
-true_name sc w x h (a_decl n (lock y)) is f i = of_one sc.decls LockAsValue x.span.start f (lock_as_value (fault.global_lock (is_read h) is)) i
+true_name sc w x h (a_decl n (lock y)) is f i = of_one sc.decls LockAsValue tt x.span.start f (lock_as_value (fault.global_lock (is_read h) is)) i
 true_name sc w x h (a_decl n (struct s)) is f i = true_no_value sc w x n (struct s) h is tt f i
 true_name sc w x h (a_decl n (array a)) is f i = true_no_value sc w x n (array a) h is tt f i
 true_name sc w x h (a_decl n (pool p)) is f i = true_no_value sc w x n (pool p) h is tt f i
@@ -153,13 +154,14 @@ true_name sc w x h (a_decl n (thread t)) is f i = true_no_value sc w x n (thread
 true_name sc w x h nothing is f i = true_unknown sc (lone x) (is_read h) is f i
 
 true_unfit : (sc : Scope) (x : Ident) (e : Expr) (m : Meaning) → HasPlace sc.decls sc (element x e) →
-    meaning sc x.text ≡ m → HasNoElements m → (f : Mistake) → IsAmong f (unfit sc.decls WrongType x.span.start m) →
+    meaning sc x.text ≡ m → HasNoElements m → (f : Finding) →
+    IsOneOf f (misnamed sc.decls WrongType role.Elements x.span.start m) →
     IsTrue_of sc.decls f
 true_unfit sc x e m h is not_so f i =
-    of_if sc.decls (has_type sc.decls m) WrongType x.span.start f (λ t. wrong_type (fault.no_elements h (subst HasNoElements (sym is) not_so) (ap (has_type sc.decls) is ∙ t))) i
+    of_reason_if sc.decls (has_type sc.decls m) WrongType x.span.start f (λ t. for_type (fault.no_elements h is not_so t)) i
 
 pub true_elements : (sc : Scope) (x : Ident) (e : Expr) → HasPlace sc.decls sc (element x e) → (m : Meaning) →
-    meaning sc x.text ≡ m → (f : Mistake) → IsAmong f (no_elements sc.decls x.span.start m) → IsTrue_of sc.decls f
+    meaning sc x.text ≡ m → (f : Finding) → IsOneOf f (no_elements sc.decls x.span.start m) → IsTrue_of sc.decls f
 true_elements sc x e h (a_local n l) is f i = true_unfit sc x e (a_local n l) h is tt f i
 true_elements sc x e h (a_decl n (array a)) is f i = absurd i
 true_elements sc x e h (a_decl n (pool p)) is f i = absurd i
@@ -175,29 +177,29 @@ true_elements sc x e h nothing is f i = true_unknown sc (element x e) h is f i
 -- ---- paths
 
 true_member : (sc : Scope) (x : Ident) (fs before behind : List Ident) (y : Ident) (steps : List FieldStep) (k : ℕ) (s : Struct) → HasPlace sc.decls sc (path x fs) → fs ≡ before ++ y ∷ behind →
-    walk_from sc.decls (meaning sc x.text) before ≡ reached steps (Reference k) → the_struct sc.decls k ≡ Some s → (o : Option (ℕ × Member)) → the_member s.members y.text ≡ o → (f : Mistake) → IsAmong f (no_member y.span.start o) → IsTrue_of sc.decls f
-true_member sc x fs before behind y steps k s h parts at is None e f i = of_one sc.decls UnknownName y.span.start f (unknown (fault.no_field before behind y steps k h parts at is e)) i
+    walk_from sc.decls (meaning sc x.text) before ≡ reached steps (Reference k) → the_struct sc.decls k ≡ Some s → (o : Option (ℕ × Member)) → the_member s.members y.text ≡ o → (f : Finding) → IsOneOf f (no_member y.span.start o) → IsTrue_of sc.decls f
+true_member sc x fs before behind y steps k s h parts at is None e f i = of_one sc.decls UnknownName tt y.span.start f (unknown (fault.no_field before behind y steps k h parts at is e)) i
 true_member sc x fs before behind y steps k s h parts at is (Some m) e f i = absurd i
 
 true_field : (sc : Scope) (x : Ident) (fs before behind : List Ident) (y : Ident) (steps : List FieldStep) (k : ℕ) →
     HasPlace sc.decls sc (path x fs) → fs ≡ before ++ y ∷ behind →
-    walk_from sc.decls (meaning sc x.text) before ≡ reached steps (Reference k) → (o : Option Struct) → the_struct sc.decls k ≡ o → (f : Mistake) → IsAmong f (no_field o y) → IsTrue_of sc.decls f
+    walk_from sc.decls (meaning sc x.text) before ≡ reached steps (Reference k) → (o : Option Struct) → the_struct sc.decls k ≡ o → (f : Finding) → IsOneOf f (no_field o y) → IsTrue_of sc.decls f
 true_field sc x fs before behind y steps k h parts at None is f i = absurd i
 true_field sc x fs before behind y steps k h parts at (Some s) is f i = true_member sc x fs before behind y steps k s h parts at is (the_member s.members y.text) refl f i
 
 true_step : (sc : Scope) (x : Ident) (fs before behind : List Ident) (y : Ident) → HasPlace sc.decls sc (path x fs) →
-    fs ≡ before ++ y ∷ behind → (w : Walk) → walk_from sc.decls (meaning sc x.text) before ≡ w → (f : Mistake) →
-    IsAmong f (step_faults sc.decls x.span.start w y) → IsTrue_of sc.decls f
+    fs ≡ before ++ y ∷ behind → (w : Walk) → walk_from sc.decls (meaning sc x.text) before ≡ w → (f : Finding) →
+    IsOneOf f (step_faults sc.decls x.span.start w y) → IsTrue_of sc.decls f
 true_step sc x fs before behind y h parts (reached steps (Reference k)) at f i = true_field sc x fs before behind y steps k h parts at (the_struct sc.decls k) refl f i
-true_step sc x fs before behind y h parts (reached steps Integer) at f i = of_one sc.decls WrongType x.span.start f (wrong_type (fault.no_reference before behind y h parts (subst IsNoReference (sym at) tt))) i
-true_step sc x fs before behind y h parts at_lock at f i = of_one sc.decls WrongType x.span.start f (wrong_type (fault.no_reference before behind y h parts (subst IsNoReference (sym at) tt))) i
+true_step sc x fs before behind y h parts (reached steps Integer) at f i = of_reason sc.decls WrongType x.span.start f (for_type (fault.field_of_int before behind y h parts at)) i
+true_step sc x fs before behind y h parts at_lock at f i = of_reason sc.decls WrongType x.span.start f (for_type (fault.field_of_lock before behind y h parts at)) i
 true_step sc x fs before behind y h parts lost at f i = absurd i
 
 true_end : (sc : Scope) (x : Ident) (fs : List Ident) → HasPlace sc.decls sc (path x fs) → (w : Walk) →
-    walk_from sc.decls (meaning sc x.text) fs ≡ w → (f : Mistake) → IsAmong f (end_faults x.span.start w) →
+    walk_from sc.decls (meaning sc x.text) fs ≡ w → (f : Finding) → IsOneOf f (end_faults x.span.start w) →
     IsTrue_of sc.decls f
 true_end sc x fs h (reached steps t) at f i = absurd i
-true_end sc x fs h at_lock at f i = of_one sc.decls LockAsValue x.span.start f (lock_as_value (fault.lock_field h at)) i
+true_end sc x fs h at_lock at f i = of_one sc.decls LockAsValue tt x.span.start f (lock_as_value (fault.lock_field h at)) i
 true_end sc x fs h lost at f i = absurd i
 
 pub walked_push : (decls : List Decl) (w : Walk) (before : List Ident) (y : Ident) →
@@ -211,7 +213,7 @@ from_local decls m n l e fs = ap (λ (x : Meaning). walk_from decls x fs) e
 
 true_walk : (sc : Scope) (x : Ident) (n : ℕ) (l : Local) (fs before rest : List Ident) →
     HasPlace sc.decls sc (path x fs) → meaning sc x.text ≡ a_local n l → fs ≡ before ++ rest →
-    (f : Mistake) → IsAmong f (walk_faults sc.decls x.span.start (walked sc.decls (at_local l.value_type) before) rest) → IsTrue_of sc.decls f
+    (f : Finding) → IsOneOf f (walk_faults sc.decls x.span.start (walked sc.decls (at_local l.value_type) before) rest) → IsTrue_of sc.decls f
 true_walk sc x n l fs before [] h is parts f i =
     true_end sc x fs h (walked sc.decls (at_local l.value_type) before)
     (from_local sc.decls (meaning sc x.text) n l is fs ∙ ap (walked sc.decls (at_local l.value_type)) (parts ∙ nil before)) f i
@@ -223,33 +225,33 @@ true_walk sc x n l fs before (y ∷ rest) h is parts f i =
     both f (step_faults sc.decls x.span.start (walked sc.decls (at_local l.value_type) before) y) (walk_faults sc.decls x.span.start (stepped sc.decls (walked sc.decls (at_local l.value_type) before) y) rest)
     (true_step sc x fs before rest y h parts (walked sc.decls (at_local l.value_type) before) (from_local sc.decls (meaning sc x.text) n l is before) f)
     (λ j. true_walk sc x n l fs (before ++ y ∷ []) rest h is (parts ∙ sym (append_assoc before (y ∷ []) rest)) f
-    (subst (λ (w : Walk). IsAmong f (walk_faults sc.decls x.span.start w rest)) (sym (walked_push sc.decls (at_local l.value_type) before y)) j)) i
+    (subst (λ (w : Walk). IsOneOf f (walk_faults sc.decls x.span.start w rest)) (sym (walked_push sc.decls (at_local l.value_type) before y)) j)) i
 
 pub true_path : (sc : Scope) (x : Ident) (fs : List Ident) → HasPlace sc.decls sc (path x fs) → (m : Meaning) →
-    meaning sc x.text ≡ m → (f : Mistake) → IsAmong f (path_faults sc.decls x.span.start m fs) → IsTrue_of sc.decls f
+    meaning sc x.text ≡ m → (f : Finding) → IsOneOf f (path_faults sc.decls x.span.start m fs) → IsTrue_of sc.decls f
 true_path sc x fs h (a_local n l) is f i = true_walk sc x n l fs [] fs h is refl f i
-true_path sc x fs h (a_decl n d) is f i = of_if sc.decls (has_type sc.decls (a_decl n d)) WrongType x.span.start f (λ e. wrong_type (fault.field_of_declaration h is e)) i
+true_path sc x fs h (a_decl n d) is f i = of_reason_if sc.decls (has_type sc.decls (a_decl n d)) WrongType x.span.start f (λ e. for_type (fault.field_of_declaration h is e)) i
 true_path sc x fs h nothing is f i = true_unknown sc (path x fs) h is f i
 
 -- ---- expressions
 
 true_misfit : (sc : Scope) (w : Want) (e : Expr) → HasExpr sc.decls sc w e → (s : Option ResolvedExpr) →
-    typed sc e ≡ s → (f : Mistake) → IsAmong f (misfit w (start_of e) s) → IsTrue_of sc.decls f
+    typed sc e ≡ s → (f : Finding) → IsOneOf f (misfit w (start_of e) s) → IsTrue_of sc.decls f
 true_misfit sc w e h None is f i = absurd i
-true_misfit sc w e h (Some s) is f i = misfit_if sc.decls (start_of e) (fits w s) (λ t. wrong_type (fault.unwanted h (types_is sc e s is) t)) f i
+true_misfit sc w e h (Some s) is f i = misfit_if sc.decls (start_of e) (fits w s) (λ t. fault.unwanted h (types_is sc e s is) t) f i
 
 true_unlike : (sc : Scope) (w : Want) (a b : Expr) (c : written.Comparison) → HasExpr sc.decls sc w (compare a c b) →
-    IsEquality c → (s t : Option ResolvedExpr) → typed sc a ≡ s → typed sc b ≡ t → (f : Mistake) →
-    IsAmong f (unlike (start_of a) (start_of b) s t) → IsTrue_of sc.decls f
-true_unlike sc w a b c h so (Some (value x s)) (Some (value y t)) p q f i = misfit_if sc.decls (start_of b) (alike_sorts s t) (λ e. wrong_type (fault.unlike_sides h so (types_is sc a (value x s) p) (types_is sc b (value y t) q) e)) f i
-true_unlike sc w a b c h so (Some (value x s)) (Some (truth d)) p q f i = of_one sc.decls WrongType (start_of b) f (wrong_type (fault.unlike_sides h so (types_is sc a (value x s) p) (types_is sc b (truth d) q) tt)) i
-true_unlike sc w a b c h so (Some (truth d)) (Some (value y t)) p q f i = of_one sc.decls WrongType (start_of b) f (wrong_type (fault.unlike_sides h so (types_is sc a (truth d) p) (types_is sc b (value y t) q) tt)) i
-true_unlike sc w a b c h so (Some (truth d)) (Some (truth g)) p q f i = of_one sc.decls WrongType (start_of a) f (wrong_type (fault.truths_compared h so (types_is sc a (truth d) p) (types_is sc b (truth g) q))) i
+    IsEquality c → (s t : Option ResolvedExpr) → typed sc a ≡ s → typed sc b ≡ t → (f : Finding) →
+    IsOneOf f (unlike (start_of a) (start_of b) s t) → IsTrue_of sc.decls f
+true_unlike sc w a b c h so (Some (value x s)) (Some (value y t)) p q f i = misfit_if sc.decls (start_of b) (alike_sorts s t) (λ e. fault.unlike_sides h so (types_is sc a (value x s) p) (types_is sc b (value y t) q) e) f i
+true_unlike sc w a b c h so (Some (value x s)) (Some (truth d)) p q f i = of_reason sc.decls WrongType (start_of b) f (for_type (fault.unlike_sides h so (types_is sc a (value x s) p) (types_is sc b (truth d) q) tt)) i
+true_unlike sc w a b c h so (Some (truth d)) (Some (value y t)) p q f i = of_reason sc.decls WrongType (start_of b) f (for_type (fault.unlike_sides h so (types_is sc a (truth d) p) (types_is sc b (value y t) q) tt)) i
+true_unlike sc w a b c h so (Some (truth d)) (Some (truth g)) p q f i = of_reason sc.decls WrongType (start_of a) f (for_type (fault.truths_compared h so (types_is sc a (truth d) p) (types_is sc b (truth g) q))) i
 true_unlike sc w a b c h so (Some s) None p q f i = absurd i
 true_unlike sc w a b c h so None t p q f i = absurd i
 
 true_sides : (sc : Scope) (w : Want) (a b : Expr) (c : written.Comparison) → HasExpr sc.decls sc w (compare a c b) →
-    (f : Mistake) → IsAmong f (side_faults c (start_of a) (start_of b) (typed sc a) (typed sc b)) →
+    (f : Finding) → IsOneOf f (side_faults c (start_of a) (start_of b) (typed sc a) (typed sc b)) →
     IsTrue_of sc.decls f
 true_sides sc w a b sign.Equal h f i = true_unlike sc w a b sign.Equal h tt (typed sc a) (typed sc b) refl refl f i
 true_sides sc w a b sign.NotEqual h f i = true_unlike sc w a b sign.NotEqual h tt (typed sc a) (typed sc b) refl refl f i
@@ -263,18 +265,18 @@ none_is None e = refl
 none_is (Some x) e = cc
 
 true_operator : (sc : Scope) (w : Want) (level : Level) (e g : Expr) (links : Links) (o : Operator) →
-    HasExpr sc.decls sc w (chain level e links) → HasLink links o g → (f : Mistake) →
-    IsAmong f (operator_faults level (start_of g) o) → IsTrue_of sc.decls f
-true_operator sc w Term e g links o h l f i = of_if sc.decls (not (is_some (operator_of o))) WrongType (start_of g) f (λ t. wrong_type (fault.misplaced_operator h tt l (none_is (operator_of o) t))) i
-true_operator sc w Sum e g links o h l f i = of_if sc.decls (not (is_some (operator_of o))) WrongType (start_of g) f (λ t. wrong_type (fault.misplaced_operator h tt l (none_is (operator_of o) t))) i
+    HasExpr sc.decls sc w (chain level e links) → HasLink links o g → (f : Finding) →
+    IsOneOf f (operator_faults level (start_of g) o) → IsTrue_of sc.decls f
+true_operator sc w Term e g links o h l f i = of_reason_if sc.decls (not (is_some (operator_of o))) WrongType (start_of g) f (λ t. for_type (fault.misplaced_operator h tt l (none_is (operator_of o) t))) i
+true_operator sc w Sum e g links o h l f i = of_reason_if sc.decls (not (is_some (operator_of o))) WrongType (start_of g) f (λ t. for_type (fault.misplaced_operator h tt l (none_is (operator_of o) t))) i
 true_operator sc w Conjunction e g links o h l f i = absurd i
 true_operator sc w Disjunction e g links o h l f i = absurd i
 
 mutual
   true_expr : (sc : Scope) (w : Want) (e : Expr) →
-      ((v : Want) (x : Expr) → Within w e v x → HasExpr sc.decls sc v x) → (f : Mistake) →
-      IsAmong f (expr_faults sc e) → IsTrue_of sc.decls f
-  true_expr sc w (int n) up f i = of_if sc.decls (nat_lt NUMBER_LIMIT n.value) NumberTooLarge n.span.start f (λ e. too_large (fault.expression (up w (int n) itself) (lt_of NUMBER_LIMIT n.value e))) i
+      ((v : Want) (x : Expr) → Within w e v x → HasExpr sc.decls sc v x) → (f : Finding) →
+      IsOneOf f (expr_faults sc e) → IsTrue_of sc.decls f
+  true_expr sc w (int n) up f i = of_if sc.decls (nat_lt NUMBER_LIMIT n.value) NumberTooLarge tt n.span.start f (λ e. too_large (fault.expression (up w (int n) itself) (lt_of NUMBER_LIMIT n.value e))) i
   true_expr sc w (null at) up f i = absurd i
   true_expr sc w (place p) up f i = true_place sc w p up f i
   true_expr sc w (paren at e) up f i = true_expr sc Anything e (λ v x h. up v x (in_parentheses h)) f i
@@ -300,8 +302,8 @@ mutual
       (true_sides sc w a b c (up w (compare a c b) itself) f) i
 
   true_place : (sc : Scope) (w : Want) (p : Place) →
-      ((v : Want) (x : Expr) → Within w (place p) v x → HasExpr sc.decls sc v x) → (f : Mistake) →
-      IsAmong f (place_faults sc p) → IsTrue_of sc.decls f
+      ((v : Want) (x : Expr) → Within w (place p) v x → HasExpr sc.decls sc v x) → (f : Finding) →
+      IsOneOf f (place_faults sc p) → IsTrue_of sc.decls f
   true_place sc w (lone x) up f i = true_name sc w x (up w (place (lone x)) itself) (meaning sc x.text) refl f i
   true_place sc w (element x e) up f i =
       both f (no_elements sc.decls x.span.start (meaning sc x.text) ++ expr_faults sc e) (misfit (Value Integer) (start_of e) (typed sc e))
@@ -313,7 +315,7 @@ mutual
 
   true_links : (sc : Scope) (w : Want) (level : Level) (e : Expr) (all links : Links) →
       HasExpr sc.decls sc w (chain level e all) → ((o : Operator) (g : Expr) → HasLink links o g → HasLink all o g) →
-      ((v : Want) (x : Expr) (o : Operator) (g : Expr) → HasLink all o g → Within (operand_want level) g v x → HasExpr sc.decls sc v x) → (f : Mistake) → IsAmong f (link_faults sc level links) → IsTrue_of sc.decls f
+      ((v : Want) (x : Expr) (o : Operator) (g : Expr) → HasLink all o g → Within (operand_want level) g v x → HasExpr sc.decls sc v x) → (f : Finding) → IsOneOf f (link_faults sc level links) → IsTrue_of sc.decls f
   true_links sc w level e all no_links h in_all up f i = absurd i
   true_links sc w level e all (link o g rest) h in_all up f i =
       both f ((operator_faults level (start_of g) o ++ expr_faults sc g) ++ misfit (operand_want level) (start_of g) (typed sc g)) (link_faults sc level rest)
@@ -326,7 +328,7 @@ mutual
 
 -- an expression of which something is wanted
 pub true_wanted : (sc : Scope) (w : Want) (e : Expr) →
-    ((v : Want) (x : Expr) → Within w e v x → HasExpr sc.decls sc v x) → (f : Mistake) →
-    IsAmong f (wanted_faults sc w e) → IsTrue_of sc.decls f
+    ((v : Want) (x : Expr) → Within w e v x → HasExpr sc.decls sc v x) → (f : Finding) →
+    IsOneOf f (wanted_faults sc w e) → IsTrue_of sc.decls f
 true_wanted sc w e up f i =
     both f (expr_faults sc e) (misfit w (start_of e) (typed sc e)) (true_expr sc w e up f) (true_misfit sc w e (up w e itself) (typed sc e) refl f) i

@@ -31,6 +31,13 @@ use Rattle.resolution.specs.declared.init_target.InitTarget.{InitTarget}
 use Rattle.resolution.specs.declared.wanted.Sort.{Sort}
 use Rattle.resolution.specs.declared.wanted.Sort.TheVariants as sort
 use Rattle.resolution.specs.declared.wanted.Want.{Want}
+use Rattle.resolution.specs.declared.wanted.Want.TheVariants.{Value}
+use Rattle.resolution.specs.declared.why.Why.{Why}
+use Rattle.resolution.specs.declared.why.Why.TheVariants as why
+use Rattle.resolution.specs.declared.why.Kind.TheVariants as kind
+use Rattle.resolution.specs.declared.why.Role.TheVariants as role
+use Rattle.resolution.specs.declared.why.Referent.TheVariants as stands
+use Rattle.resolution.specs.Reasons.{kind_of, referent_of, stands_for}
 use Rattle.resolution.specs.Core as core
 use Rattle.resolution.specs.Limits.{STRUCT_LIMIT, MEMBER_LIMIT, FINAL_LIMIT, CLASS_LIMIT, OBJECT_LIMIT, CELL_LIMIT}
 use Rattle.resolution.specs.Limits.{SECTION_LIMIT, THREAD_LIMIT, CALL_LIMIT}
@@ -176,12 +183,6 @@ HasNoElements (a_decl i (pool p)) = ⊥
 HasNoElements nothing = ⊥
 HasNoElements _ = Unit {0}
 
--- what no field stands behind
-abbrev pub IsNoReference : Walk → Type 0
-IsNoReference (reached steps Integer) = Unit {0}
-IsNoReference at_lock = Unit {0}
-IsNoReference _ = ⊥
-
 abbrev pub IsNoStruct : Meaning → Type 0
 IsNoStruct (a_decl i (struct s)) = ⊥
 IsNoStruct nothing = ⊥
@@ -201,96 +202,107 @@ abbrev pub IsPool : Decl → Type 0
 IsPool (pool p) = Unit {0}
 IsPool _ = ⊥
 
--- an expression, a constant or an owner that isn't what is wanted, sides of `==` that are unlike, a name of the wrong kind
-pub data IsWrongType (decls : List Decl) : ℕ → Type 0 where
+-- an expression, a constant or an owner that isn't what is wanted, sides of `==` that are unlike, a name of the wrong kind; with its reason
+pub data IsWrongType (decls : List Decl) : ℕ → Why → Type 0 where
   unwanted : {sc : Scope} {w : Want} {e : Expr} {s : ResolvedExpr} →
-      HasExpr decls sc w e → Types sc e s → fits w s ≡ false → IsWrongType decls (start_of e)
+      HasExpr decls sc w e → Types sc e s → fits w s ≡ false →
+      IsWrongType decls (start_of e) (why.Unwanted w (kind_of s))
   unwanted_constant : {w : Want} {c : Const} {s : Sort} →
-      HasConst decls w c → IsOfSort decls c s → fits_sort w s ≡ false → IsWrongType decls (const_start c)
+      HasConst decls w c → IsOfSort decls c s → fits_sort w s ≡ false →
+      IsWrongType decls (const_start c) (why.Unwanted w (kind.Value s))
   unlike_sides : {sc : Scope} {w : Want} {a b : Expr} {c : written.Comparison} {s t : ResolvedExpr} →
       HasExpr decls sc w (compare a c b) → IsEquality c → Types sc a s → Types sc b t → AreUnlike s t →
-      IsWrongType decls (start_of b)
+      IsWrongType decls (start_of b) (why.Unlike (kind_of s) (kind_of t))
   truths_compared : {sc : Scope} {w : Want} {a b : Expr} {c : written.Comparison} {x y : core.Condition} →
       HasExpr decls sc w (compare a c b) → IsEquality c → Types sc a (truth x) → Types sc b (truth y) →
-      IsWrongType decls (start_of a)
+      IsWrongType decls (start_of a) (why.Unlike kind.Condition kind.Condition)
   no_value : {sc : Scope} {w : Want} {x : Ident} {i : ℕ} {d : Decl} →
       HasExpr decls sc w (place (lone x)) → meaning sc x.text ≡ a_decl i d → IsNoValue d →
-      has_type decls (a_decl i d) ≡ true → IsWrongType decls x.span.start
-  no_elements : {sc : Scope} {x : Ident} {e : Expr} →
-      HasPlace decls sc (element x e) → HasNoElements (meaning sc x.text) →
-      has_type decls (meaning sc x.text) ≡ true → IsWrongType decls x.span.start
+      has_type decls (a_decl i d) ≡ true → IsWrongType decls x.span.start (why.Misnamed role.Value (referent_of d))
+  no_elements : {sc : Scope} {x : Ident} {e : Expr} {m : Meaning} →
+      HasPlace decls sc (element x e) → meaning sc x.text ≡ m → HasNoElements m → has_type decls m ≡ true →
+      IsWrongType decls x.span.start (why.Misnamed role.Elements (stands_for m))
   field_of_declaration : {sc : Scope} {x : Ident} {fs : List Ident} {i : ℕ} {d : Decl} →
       HasPlace decls sc (path x fs) → meaning sc x.text ≡ a_decl i d → has_type decls (a_decl i d) ≡ true →
-      IsWrongType decls x.span.start
-  no_reference : {sc : Scope} {x : Ident} {fs : List Ident} (before behind : List Ident) (f : Ident) →
+      IsWrongType decls x.span.start (why.Misnamed role.Local (referent_of d))
+  field_of_int : {sc : Scope} {x : Ident} {fs : List Ident} (before behind : List Ident) (f : Ident) {steps : List FieldStep} →
       HasPlace decls sc (path x fs) → fs ≡ before ++ f ∷ behind →
-      IsNoReference (walk_from decls (meaning sc x.text) before) → IsWrongType decls x.span.start
-  no_struct : {sc : Scope} {x : Ident} →
-      HasType decls sc (ref_type x) → IsNoStruct (meaning sc x.text) → IsWrongType decls x.span.start
+      walk_from decls (meaning sc x.text) before ≡ reached steps Integer → IsWrongType decls x.span.start why.FieldOfInt
+  field_of_lock : {sc : Scope} {x : Ident} {fs : List Ident} (before behind : List Ident) (f : Ident) →
+      HasPlace decls sc (path x fs) → fs ≡ before ++ f ∷ behind →
+      walk_from decls (meaning sc x.text) before ≡ at_lock → IsWrongType decls x.span.start why.FieldOfLock
+  no_struct : {sc : Scope} {x : Ident} {m : Meaning} →
+      HasType decls sc (ref_type x) → meaning sc x.text ≡ m → IsNoStruct m →
+      IsWrongType decls x.span.start (why.Misnamed role.Struct (stands_for m))
   no_section : {c : Call} {i : ℕ} {d : Decl} →
       HasCall decls c → the_decl decls c.section.text ≡ Some (i, d) → (IsSection d → ⊥) →
-      has_type decls (a_decl i d) ≡ true → IsWrongType decls c.section.span.start
-  no_helper : {sc : Scope} {c : HelperCall} →
-      HasHelperCall decls sc c → IsNoHelper (meaning sc c.helper.text) → has_type decls (meaning sc c.helper.text) ≡ true →
-      IsWrongType decls c.helper.span.start
+      has_type decls (a_decl i d) ≡ true → IsWrongType decls c.section.span.start (why.Misnamed role.Section (referent_of d))
+  no_helper : {sc : Scope} {c : HelperCall} {m : Meaning} →
+      HasHelperCall decls sc c → meaning sc c.helper.text ≡ m → IsNoHelper m → has_type decls m ≡ true →
+      IsWrongType decls c.helper.span.start (why.Misnamed role.Helper (stands_for m))
   -- a `let` of what a helper doesn't give back
   no_result : {sc : Scope} {l : CalledLocal} {t : core_type.ValueType} {i : ℕ} {s : Section} →
       HasStmt decls sc (let_call l) → type_of sc l.value_type ≡ Some t →
       helper_meant (meaning sc l.call.helper.text) ≡ Some (i, s) → s.result ≡ None →
-      IsWrongType decls l.call.helper.span.start
+      IsWrongType decls l.call.helper.span.start (why.NoResult t)
   other_result : {sc : Scope} {l : CalledLocal} {t u : core_type.ValueType} {i : ℕ} {s : Section} →
       HasStmt decls sc (let_call l) → type_of sc l.value_type ≡ Some t →
       helper_meant (meaning sc l.call.helper.text) ≡ Some (i, s) → result_of decls s ≡ Some u →
-      fits_type t (sort.Of u) ≡ false → IsWrongType decls l.call.helper.span.start
+      fits_type t (sort.Of u) ≡ false →
+      IsWrongType decls l.call.helper.span.start (why.Unwanted (Value t) (kind.Value (sort.Of u)))
   no_pool : {w : Want} {p : Ident} {n : Number} {i : ℕ} {d : Decl} →
       HasConst decls w (member_const p n) → the_decl decls p.text ≡ Some (i, d) → (IsPool d → ⊥) →
-      has_type decls (a_decl i d) ≡ true → IsWrongType decls p.span.start
+      has_type decls (a_decl i d) ≡ true → IsWrongType decls p.span.start (why.Misnamed role.Pool (referent_of d))
   no_pool_initialised : {j : Init} {i : ℕ} {d : Decl} →
       Has decls (init j) → the_decl decls j.pool.text ≡ Some (i, d) → (IsPool d → ⊥) →
-      has_type decls (a_decl i d) ≡ true → IsWrongType decls j.pool.span.start
+      has_type decls (a_decl i d) ≡ true → IsWrongType decls j.pool.span.start (why.Misnamed role.Pool (referent_of d))
   not_final : {ms : List Member} {f : Ident} {i : ℕ} {g : Field} →
       NamesOwner decls ms f → the_member ms f.text ≡ Some (i, field_member g) →
-      member_has_type decls (field_member g) ≡ true → IsWrongType decls f.span.start
+      member_has_type decls (field_member g) ≡ true → IsWrongType decls f.span.start why.OwnerField
   number_owned : {sc : Scope} {l : tree.Local} {o : Owner} →
-      HasStmt decls sc (let_owned l o) → type_of sc l.value_type ≡ Some Integer → IsWrongType decls o.field.span.start
+      HasStmt decls sc (let_owned l o) → type_of sc l.value_type ≡ Some Integer →
+      IsWrongType decls o.field.span.start why.OwnedInt
   owner_no_local : {sc : Scope} {l : tree.Local} {o : Owner} {i : ℕ} {d : Decl} →
       HasStmt decls sc (let_owned l o) → meaning sc o.local.text ≡ a_decl i d → has_type decls (a_decl i d) ≡ true →
-      IsWrongType decls o.local.span.start
+      IsWrongType decls o.local.span.start (why.Misnamed role.Local (referent_of d))
   other_owner : {sc : Scope} {l : tree.Local} {o : Owner} {f : OwnerField} {i : ℕ} {b : Local} {t u : core_type.ValueType} →
       HasStmt decls sc (let_owned l o) → type_of sc l.value_type ≡ Some t → IsFinalOf decls t o.field f →
       meaning sc o.local.text ≡ a_local i b → b.value_type ≡ Some u → fits_type f.value_type (sort.Of u) ≡ false →
-      IsWrongType decls o.local.span.start
+      IsWrongType decls o.local.span.start (why.Unwanted (Value f.value_type) (kind.Value (sort.Of u)))
   -- an operator of conditions in a chain of numbers; no tree of tokens has one
   misplaced_operator : {sc : Scope} {w : Want} {level : Level} {e f : Expr} {links : Links} {o : Operator} →
       HasExpr decls sc w (chain level e links) → IsOfNumbers level → HasLink links o f → operator_of o ≡ None →
-      IsWrongType decls (start_of f)
+      IsWrongType decls (start_of f) why.OperatorOfConditions
 
--- ---- E08
+-- ---- E08: with how many are wanted, and how many are given
 
-pub data IsWrongCount (decls : List Decl) : ℕ → Type 0 where
+pub data IsWrongCount (decls : List Decl) : ℕ → Why → Type 0 where
   wrong_count : {c : Call} {i : ℕ} {s : Section} →
       HasCall decls c → the_decl decls c.section.text ≡ Some (i, atomic s) →
-      (length c.arguments ≡ length s.params → ⊥) → IsWrongCount decls c.section.span.start
+      (length c.arguments ≡ length s.params → ⊥) →
+      IsWrongCount decls c.section.span.start (why.Counted (length s.params) (length c.arguments))
   wrong_helper_count : {sc : Scope} {c : HelperCall} {i : ℕ} {s : Section} →
       HasHelperCall decls sc c → helper_meant (meaning sc c.helper.text) ≡ Some (i, s) →
-      (length c.arguments ≡ length s.params → ⊥) → IsWrongCount decls c.helper.span.start
+      (length c.arguments ≡ length s.params → ⊥) →
+      IsWrongCount decls c.helper.span.start (why.Counted (length s.params) (length c.arguments))
 
--- ---- E09: what can't be assigned to
+-- ---- E09: what can't be assigned to, with what it is
 
-pub data IsNotAssignable (decls : List Decl) : ℕ → Type 0 where
+pub data IsNotAssignable (decls : List Decl) : ℕ → Why → Type 0 where
   to_fixed : {sc : Scope} {x : Ident} {e : Expr} {i : ℕ} {l : Local} →
       HasStmt decls sc (assign (lone x) e) → meaning sc x.text ≡ a_local i l → is_var l.kind ≡ false →
-      has_type decls (a_local i l) ≡ true → IsNotAssignable decls x.span.start
+      has_type decls (a_local i l) ≡ true →
+      IsNotAssignable decls x.span.start (why.Misnamed role.Target (stands.Local l.kind))
   to_decl : {sc : Scope} {x : Ident} {e : Expr} {i : ℕ} {d : Decl} →
       HasStmt decls sc (assign (lone x) e) → meaning sc x.text ≡ a_decl i d → IsNoValue d →
-      has_type decls (a_decl i d) ≡ true → IsNotAssignable decls x.span.start
+      has_type decls (a_decl i d) ≡ true → IsNotAssignable decls x.span.start (why.Misnamed role.Target (referent_of d))
   to_member : {sc : Scope} {x : Ident} {j e : Expr} {i : ℕ} {p : Pool} →
       HasStmt decls sc (assign (element x j) e) → meaning sc x.text ≡ a_decl i (pool p) →
-      has_type decls (a_decl i (pool p)) ≡ true → IsNotAssignable decls x.span.start
+      has_type decls (a_decl i (pool p)) ≡ true → IsNotAssignable decls x.span.start (why.Misnamed role.Target stands.Pool)
   to_final : {sc : Scope} {x : Ident} {fs : List Ident} {e : Expr} (steps : List FieldStep) (t : core_type.ValueType) →
       HasStmt decls sc (assign (path x fs) e) → walk_from decls (meaning sc x.text) fs ≡ reached steps t →
       ((base : List FieldStep) (k n : ℕ) → steps ≡ base ++ step.Field k n ∷ [] → ⊥) →
-      IsNotAssignable decls x.span.start
+      IsNotAssignable decls x.span.start why.FinalTarget
 
 -- ---- E10, E11, E12: annotations
 
@@ -402,9 +414,9 @@ pub data IsFault (decls : List Decl) : Code → ℕ → Type 0 where
   too_large : {p : ℕ} → IsTooLarge decls p → IsFault decls NumberTooLarge p
   declared_twice : {p : ℕ} → IsDeclaredTwice decls p → IsFault decls DeclaredTwice p
   unknown : {p : ℕ} → IsUnknown decls p → IsFault decls UnknownName p
-  wrong_type : {p : ℕ} → IsWrongType decls p → IsFault decls WrongType p
-  miscounted : {p : ℕ} → IsWrongCount decls p → IsFault decls WrongArgumentCount p
-  not_assignable : {p : ℕ} → IsNotAssignable decls p → IsFault decls NotAssignable p
+  wrong_type : {p : ℕ} {w : Why} → IsWrongType decls p w → IsFault decls WrongType p
+  miscounted : {p : ℕ} {w : Why} → IsWrongCount decls p w → IsFault decls WrongArgumentCount p
+  not_assignable : {p : ℕ} {w : Why} → IsNotAssignable decls p w → IsFault decls NotAssignable p
   without_lock : {p : ℕ} → IsUnprotected decls p → IsFault decls NeitherFinalNorProtected p
   ends_at_no_lock : {p : ℕ} → EndsAtNoLock decls p → IsFault decls ProtectedByNoLock p
   passes_non_final : {p : ℕ} → PassesNonFinal decls p → IsFault decls ProtectedByPassesNonFinal p
@@ -414,6 +426,21 @@ pub data IsFault (decls : List Decl) : Code → ℕ → Type 0 where
   lock_as_value : {p : ℕ} → IsLockAsValue decls p → IsFault decls LockAsValue p
   -- a circle of helpers, one that is too deep, or a call by which a section has too many locals or points
   of_calls : {code : Code} {p : ℕ} → IsGraphFault (tree_graph decls) code p → IsFault decls code p
+
+-- a code that says all
+abbrev pub IsPlain : Code → Type 0
+IsPlain WrongType = ⊥
+IsPlain WrongArgumentCount = ⊥
+IsPlain NotAssignable = ⊥
+IsPlain _ = Unit {0}
+
+-- a fault of this code stands at this byte for this reason: of a wrong type or count and of what can't be assigned to it says more than
+-- the code
+pub data IsFaultFor (decls : List Decl) : Code → ℕ → Why → Type 0 where
+  for_type : {p : ℕ} {w : Why} → IsWrongType decls p w → IsFaultFor decls WrongType p w
+  for_count : {p : ℕ} {w : Why} → IsWrongCount decls p w → IsFaultFor decls WrongArgumentCount p w
+  for_target : {p : ℕ} {w : Why} → IsNotAssignable decls p w → IsFaultFor decls NotAssignable p w
+  plainly : {code : Code} {p : ℕ} → IsPlain code → IsFault decls code p → IsFaultFor decls code p why.Plain
 
 -- the refusal is a fault of the program, with no detail, or for want of memory
 abbrev pub IsRefusal : List Decl → Refusal → Type 0

@@ -11,14 +11,15 @@ pub mod Annotations
 pub mod Tables
 pub mod Resolved
 pub mod Where
+pub mod Reasons
 pub mod CallGraphs
 pub mod Faults
 pub mod Working
 pub mod Theory
 -- what the public clauses cite
 pub use Rattle.resolution.specs.Resolved.{Resolves}
-pub use Rattle.resolution.specs.Faults.{IsFault, IsRefusal, HasNoFault}
-pub use Rattle.resolution.specs.Working.Laws.{TheLeastIsAFault, NoneGoesBeforeTheLeast, NoLeastIsNoFault}
+pub use Rattle.resolution.specs.Faults.{IsFault, IsFaultFor, IsRefusal, HasNoFault}
+pub use Rattle.resolution.specs.Working.Laws.{TheLeastIsAFault, TheLeastHasItsReason, NoneGoesBeforeTheLeast, NoLeastIsNoFault}
 pub use Rattle.resolution.specs.Working.Laws.{HaveAtMostOneLeast, FaultlessAreResolved, GraphOfResolved}
 pub use Rattle.resolution.specs.Working.Laws.{ResolvedByRules, RulesAreResolved, StandsForOne}
 pub use Rattle.resolution.specs.Working.Laws.{ResolvedAreChecked, DeclaresNoHelper, WithoutHelpersAreWellFormed}

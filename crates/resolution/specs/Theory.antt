@@ -1,3 +1,4 @@
 -- Lemmas, which are proved here for proofs of the crates above. Nobody has to believe these files: they are checked.
 pub mod Facts
+pub mod Leasts
 pub mod Blocks

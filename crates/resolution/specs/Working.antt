@@ -6,5 +6,6 @@ pub mod TypedStatements
 pub mod TypedSections
 pub mod TypedConstants
 pub mod Building
+pub mod Findings
 pub mod FaultLists
 pub mod Laws

@@ -2,14 +2,15 @@
 
 ghost use Rattle.resolution.specs.Working.Laws.{ExpressionsByRules, FoundAreAssigned, AssignedAreFound, WantedAreAsked, FinalsByRules, StatementsByRules, BodiesByRules, SectionsByRules};
 ghost use Rattle.resolution.specs.Working.Laws.{SortsByRules, ConstantsByRules, ArgumentsByRules, OpeningsByRules, ReferencesByRules};
-ghost use Rattle.resolution.specs.Working.Laws.{TheLeastIsAFault, NoneGoesBeforeTheLeast, NoLeastIsNoFault, HaveAtMostOneLeast, FaultlessAreResolved, ResolvedByRules, RulesAreResolved, StandsForOne, GraphOfResolved, ResolvedAreChecked, WithoutHelpersAreWellFormed};
+ghost use Rattle.resolution.specs.Working.Laws.{TheLeastIsAFault, TheLeastHasItsReason, NoneGoesBeforeTheLeast, NoLeastIsNoFault, HaveAtMostOneLeast, FaultlessAreResolved, ResolvedByRules, RulesAreResolved, StandsForOne, GraphOfResolved, ResolvedAreChecked, WithoutHelpersAreWellFormed};
 
 use core_lang_calls::laws::{faultless_keep_limits, listed_faults};
 
-/// The least fault of the list is a fault of the program, and no fault of the program goes before it; and where the
-/// list is empty, the program has no fault.
+/// The least fault of the list is a fault of the program for the reason that is with it, and no fault of the program goes before it;
+/// and where the list is empty, the program has no fault.
 pub fn least_fault()
     ensures fault { TheLeastIsAFault }
+    ensures reason { TheLeastHasItsReason }
     ensures least { NoneGoesBeforeTheLeast }
     ensures none { NoLeastIsNoFault }
 {

@@ -3,7 +3,9 @@
 #![tactic(auto)]
 
 pub mod body_limits;
+pub mod finding;
 pub mod init_target;
 pub mod laws;
 pub mod owner_field;
 pub mod wanted;
+pub mod why;

@@ -16,7 +16,7 @@ use Rattle.driver_words.specs.declared.line.Report.TheVariants as report
 
 -- how orders of calls are looked at
 abbrev pub looking : Looking
-looking = record { turns = 1000; count = 1000; seed = 0 }
+looking = record { turns = 1000; count = 1000; seed = 0; cells = None; answers = false; full = false }
 
 -- what `Asked::named` promises of a word and its answer
 abbrev pub Named : List ℕ → Option Asked → Type 0

@@ -1,16 +1,19 @@
 //! What is asked of a text.
 
-ghost use Rattle.std.specs.Prelude.{◌≡◌, ◌↔◌, List, Some, ℕ, codes, true, false};
+ghost use Rattle.std.specs.Prelude.{◌≡◌, ◌↔◌, List, Some, None, ℕ, codes, true, false};
 ghost use Rattle.std.specs.Borrow.{Bor};
 ghost use Rattle.test_files.specs.Asking.{IsSerial, IsSimulate};
 
 use driver_words::{Looking, Report};
 
 /// How orders of calls are looked at.
-const LOOKING: Looking = Looking {
+const LOOKING: Looking<'static> = Looking {
     turns: 1000,
     count: 1000,
     seed: 0,
+    cells: None,
+    answers: false,
+    full: false,
 };
 
 /// An engine of the crate `driver` that is run on the text, and what is asked of its answer.
@@ -63,7 +66,7 @@ impl Asked<'_> {
         ensures listing { (result ≡ Some (Asked.Engine (Engine.Report (Report.Listing false)))) ↔ (word.now ≡ codes "listing") }
         ensures places { (result ≡ Some (Asked.Engine (Engine.Report (Report.Listing true)))) ↔ (word.now ≡ codes "places") }
         ensures serial { (turns : ℕ) → (result ≡ Some (Asked.Engine (Engine.Report (Report.Serial turns)))) ↔ IsSerial word.now turns }
-        ensures outcomes { (result ≡ Some (Asked.Engine (Engine.Report (Report.Outcomes (record { turns = 1000; count = 1000; seed = 0 }))))) ↔ (word.now ≡ codes "outcomes") }
+        ensures outcomes { (result ≡ Some (Asked.Engine (Engine.Report (Report.Outcomes (record { turns = 1000; count = 1000; seed = 0; cells = None; answers = false; full = false }))))) ↔ (word.now ≡ codes "outcomes") }
         ensures simulate { (steps : Bor (List ℕ)) → result ≡ Some (Asked.Engine (Engine.Simulate steps)) → IsSimulate word.now steps.now }
         ensures steps { (s : List ℕ) → IsSimulate word.now s → (steps : Bor (List ℕ)) × (result ≡ Some (Asked.Engine (Engine.Simulate steps))) }
         ensures tokens { (result ≡ Some Asked.Tokens) ↔ (word.now ≡ codes "tokens") }

@@ -11,8 +11,9 @@ ghost use Rattle.resolution.specs.Working.Building.{resolved_from};
 ghost use Rattle.resolution.specs.Limits.{section_limits, helper_limits};
 ghost use Rattle.resolution.specs.Resolved.{Resolves};
 ghost use Rattle.resolution.specs.Faults.{IsFault, IsRefusal, HasNoFault};
-ghost use Rattle.resolution.specs.Working.Laws.{DeclaresNoHelper};
-ghost use Rattle.source.specs.Mistakes.{least_of, IsLeastOf};
+ghost use Rattle.resolution.specs.Working.Laws.{DeclaresNoHelper, the_least};
+ghost use Rattle.source.specs.Mistakes.{IsLeastOf};
+ghost use Rattle.resolution.specs.Working.Findings.{least_of};
 ghost use Rattle.resolution.specs.Working.FaultLists.{global_faults, array_faults, section_faults, decl_faults, each_faults, items_faults};
 ghost use Rattle.types_symbols.specs.{decls_of};
 ghost use Rattle.types_declarations.specs.Working.Grown.{built};
@@ -21,9 +22,10 @@ ghost use Rattle.types.specs.Working.Whole.{known, judged_faults, extended_if, g
 use core_lang::shape::Shape;
 use core_lang::typed::Typed;
 use core_lang::{shape, typed};
+use resolution::finding::Least;
 use resolution::laws;
 use source::fault::{Fault, Refusal};
-use source::mistake::Mistake;
+use source::memory::NoMemory;
 use std::alloc::{AllocError, Global};
 use syntax::tree::{Array, Decl, Pool, Section, Thread, Tree, Variable};
 use types_annotations::note_lock;
@@ -48,13 +50,13 @@ struct Judge<'a> {
 
 impl<'a> Judge<'a> {
     // A struct, which has this place.
-    #[tactic(auto, using(source::specs::Theory::Leasts::least_append))]
+    #[tactic(auto, using(resolution::specs::Theory::Leasts::least_append))]
     fn judge_struct(
         &self,
         place: usize,
         table: &'a Structure<'a>,
         grown: &mut Grown,
-        least: &mut Option<Mistake>,
+        least: &mut Least,
     ) -> Result<(), AllocError>
         ensures value { OnOk result (built grown.new ≡ extended_if (known self.now) place (built grown.old) (struct (struct_of table.now))) }
         ensures faults { OnOk result (least.new ≡ least_of least.old (decl_faults (known self.now) place (struct (struct_of table.now)))) }
@@ -68,12 +70,12 @@ impl<'a> Judge<'a> {
     }
 
     // A global.
-    #[tactic(auto, using(source::specs::Theory::Leasts::least_append))]
+    #[tactic(auto, using(resolution::specs::Theory::Leasts::least_append))]
     fn judge_global(
         &self,
         v: &Variable,
         grown: &mut Grown,
-        least: &mut Option<Mistake>,
+        least: &mut Least,
     ) -> Result<(), AllocError>
         ensures value { OnOk result (built grown.new ≡ global_if (known self.now) (built grown.old) (variable_of v.now)) }
         ensures faults { OnOk result (least.new ≡ least_of least.old (global_faults (known self.now) (variable_of v.now))) }
@@ -90,13 +92,8 @@ impl<'a> Judge<'a> {
     }
 
     // An array.
-    #[tactic(auto, using(source::specs::Theory::Leasts::least_append))]
-    fn judge_array(
-        &self,
-        a: &Array,
-        grown: &mut Grown,
-        least: &mut Option<Mistake>,
-    ) -> Result<(), AllocError>
+    #[tactic(auto, using(resolution::specs::Theory::Leasts::least_append))]
+    fn judge_array(&self, a: &Array, grown: &mut Grown, least: &mut Least) -> Result<(), AllocError>
         ensures value { OnOk result (built grown.new ≡ array_if (known self.now) (built grown.old) (array_of a.now)) }
         ensures faults { OnOk result (least.new ≡ least_of least.old (array_faults (known self.now) (array_of a.now))) }
     {
@@ -110,13 +107,13 @@ impl<'a> Judge<'a> {
     }
 
     // A pool, which has this place.
-    #[tactic(auto, using(source::specs::Theory::Leasts::least_append))]
+    #[tactic(auto, using(resolution::specs::Theory::Leasts::least_append))]
     fn judge_pool(
         &self,
         place: usize,
         p: &Pool,
         grown: &mut Grown,
-        least: &mut Option<Mistake>,
+        least: &mut Least,
     ) -> Result<(), AllocError>
         ensures value { OnOk result (built grown.new ≡ extended_if (known self.now) place (built grown.old) (pool (pool_of p.now))) }
         ensures faults { OnOk result (least.new ≡ least_of least.old (decl_faults (known self.now) place (pool (pool_of p.now)))) }
@@ -134,7 +131,7 @@ impl<'a> Judge<'a> {
         &self,
         s: &Section,
         grown: &mut Grown,
-        least: &mut Option<Mistake>,
+        least: &mut Least,
     ) -> Result<(), AllocError>
         ensures value { OnOk result (built grown.new ≡ section_if (known self.now) (built grown.old) (section_of s.now)) }
         ensures faults { OnOk result (least.new ≡ least_of least.old (section_faults (known self.now) section_limits (section_of s.now))) }
@@ -151,7 +148,7 @@ impl<'a> Judge<'a> {
         &self,
         s: &Section,
         grown: &mut Grown,
-        least: &mut Option<Mistake>,
+        least: &mut Least,
     ) -> Result<(), AllocError>
         ensures value { OnOk result (built grown.new ≡ helper_if (known self.now) (built grown.old) (section_of s.now)) }
         ensures faults { OnOk result (least.new ≡ least_of least.old (section_faults (known self.now) helper_limits (section_of s.now))) }
@@ -168,7 +165,7 @@ impl<'a> Judge<'a> {
         &self,
         t: &Thread,
         grown: &mut Grown,
-        least: &mut Option<Mistake>,
+        least: &mut Least,
     ) -> Result<(), AllocError>
         ensures value { OnOk result (built grown.new ≡ thread_if (known self.now) (built grown.old) (thread_of t.now)) }
         ensures faults { OnOk result (least.new ≡ least_of least.old (items_faults (known self.now) (items_of t.now.items.items))) }
@@ -182,13 +179,13 @@ impl<'a> Judge<'a> {
     }
 
     // A declaration, which has this place.
-    #[tactic(auto, using(source::specs::Theory::Leasts::least_append))]
+    #[tactic(auto, using(resolution::specs::Theory::Leasts::least_append))]
     fn judge_decl(
         &self,
         place: usize,
         d: &Decl,
         grown: &mut Grown,
-        least: &mut Option<Mistake>,
+        least: &mut Least,
     ) -> Result<(), AllocError>
         requires { slice_get (known self.now) place ≡ Some (decl_of d.now) }
         ensures value { OnOk result (built grown.new ≡ extended_if (known self.now) place (built grown.old) (decl_of d.now)) }
@@ -220,8 +217,8 @@ impl<'a> Judge<'a> {
     }
 
     // The declarations, one after another.
-    #[tactic(auto, using(source::specs::Theory::Leasts::least_append))]
-    fn judge_decls(&self, grown: &mut Grown, least: &mut Option<Mistake>) -> Result<(), AllocError>
+    #[tactic(auto, using(resolution::specs::Theory::Leasts::least_append))]
+    fn judge_decls(&self, grown: &mut Grown, least: &mut Least) -> Result<(), AllocError>
         ensures value { OnOk result (built grown.new ≡ resolved_from (known self.now) 0 (built grown.old) (known self.now)) }
         ensures faults { OnOk result (least.new ≡ least_of least.old (each_faults (known self.now) 0 (known self.now))) }
     {
@@ -255,12 +252,12 @@ fn nothing(alloc: Global) -> Typed
 }
 
 /// The declarations of a program, one after another, and then what their bodies call.
-#[tactic(auto, using(source::specs::Theory::Leasts::least_append))]
+#[tactic(auto, using(resolution::specs::Theory::Leasts::least_append))]
 fn judge_all(
     alloc: Global,
     symbols: &SymbolTable,
     grown: &mut Grown,
-    least: &mut Option<Mistake>,
+    least: &mut Least,
 ) -> Result<(), AllocError>
     ensures value { OnOk result (built grown.new ≡ resolved_from (decls_of symbols.now) 0 (built grown.old) (decls_of symbols.now)) }
     ensures faults { OnOk result (least.new ≡ least_of least.old (judged_faults (decls_of symbols.now))) }
@@ -318,4 +315,24 @@ pub fn check(alloc: Global, tree: &Tree) -> Result<Typed, Refusal>
         unreachable!()
     }
     Ok(grown.program)
+}
+
+/// The first fault of names and types of a tree, with its reason: the one that [`check`] answers. `None` where it has none. The one
+/// error is a refused growth.
+pub fn first_fault(alloc: Global, tree: &Tree) -> Result<Least, NoMemory>
+    ensures { IfOk result (λ found. found ≡ the_least (tree_of tree.now)) }
+{
+    let mut least = None;
+    let maker = TableMaker {
+        alloc,
+        hashing: tree.hashing,
+    };
+    let symbols = SymbolTable::new(maker, &tree.decls, &mut least)?;
+    // (nothing is built)
+    let mut grown = Grown {
+        program: nothing(alloc),
+        is_right: false,
+    };
+    judge_all(alloc, &symbols, &mut grown, &mut least)?;
+    Ok(least)
 }

@@ -5,19 +5,18 @@ ghost use Rattle.syntax.specs.Views.{ident, protection_of as protection_view, op
 ghost use Rattle.resolution.specs.CoreViews.{core_protection};
 ghost use Rattle.resolution.specs.Scopes.{the_member};
 ghost use Rattle.resolution.specs.Annotations.{class_in, class_of, at_struct, cursor_at, stepped_on, ended};
-ghost use Rattle.source.specs.Mistakes.{least_of};
+ghost use Rattle.resolution.specs.Working.Findings.{least_of};
 ghost use Rattle.resolution.specs.Working.FaultLists.{lock_faults};
 ghost use Rattle.types_symbols.specs.Working.Views.{decls_of, decl_named, members_seen};
 ghost use Rattle.types_annotations.specs.Working.AnnotationCursors.{cursor_of, cursor_seen, lock_name_faults, passed_at, ended_at, protection_along, faults_along, field_protection, field_protection_faults};
 
 use core_lang::typed::Protection;
+use resolution::finding::{Finding, Least, note, note_if};
 use source::fault::Code;
-use source::mistake::{Mistake, note};
 use std::alloc::{AllocError, Global};
 use syntax::tree;
 use syntax::tree::{Decl, Member, Name};
 use types_symbols::members::Structure;
-use types_symbols::note::note_if;
 use types_symbols::scope::{Meaning, note_unfit, note_unfit_member};
 use types_symbols::table::SymbolTable;
 
@@ -86,20 +85,21 @@ pub fn class_of(symbols: &SymbolTable, p: &Option<tree::Protection>) -> Option<u
 }
 
 /// Notes what is wrong with an annotation that is to name a global lock.
-fn note_global_lock(symbols: &SymbolTable, first: &Name, rest: &[Name], least: &mut Option<Mistake>)
+fn note_global_lock(symbols: &SymbolTable, first: &Name, rest: &[Name], least: &mut Least)
     ensures { least.new ≡ least_of least.old (lock_name_faults symbols.now first.now rest.now) }
 {
     let start = first.start as usize;
     match symbols.find(first.text.as_str()) {
-        None => note(least, Code::UnknownName, start),
+        None => note(Code::UnknownName, start, least),
         Some((_, Decl::Lock(_))) => {
             if !rest.is_empty() {
-                note(least, Code::ProtectedByNoLock, start);
+                note(Code::ProtectedByNoLock, start, least);
             }
         }
         Some((place, d)) => {
             let meant = Meaning::Decl(place, d);
-            note_unfit(symbols, Code::ProtectedByNoLock, start, meant, least);
+            let found = Finding::plain(Code::ProtectedByNoLock, start);
+            note_unfit(symbols, found, meant, least);
         }
     }
 }
@@ -110,13 +110,13 @@ pub fn note_lock(
     symbols: &SymbolTable,
     name: &Name,
     p: &Option<tree::Protection>,
-    least: &mut Option<Mistake>,
+    least: &mut Least,
 )
     ensures { least.new ≡ least_of least.old (lock_faults (decls_of symbols.now) name.now.start (option_of protection_view p.now)) }
 {
     match p {
         Some(p) => note_global_lock(symbols, &p.first, &p.rest, least),
-        None => note(least, Code::NeitherFinalNorProtected, name.start as usize),
+        None => note(Code::NeitherFinalNorProtected, name.start as usize, least),
     }
 }
 
@@ -216,38 +216,38 @@ impl<'a, 't> AnnotationWalk<'a, 't> {
     }
 
     // Notes what is wrong with a name that others follow.
-    fn note_passed(&self, cursor: &Option<AnnotationCursor>, y: &Name, least: &mut Option<Mistake>)
+    fn note_passed(&self, cursor: &Option<AnnotationCursor>, y: &Name, least: &mut Least)
         ensures { least.new ≡ least_of least.old (passed_at self.now cursor.now y.now) }
     {
         let Some(cursor) = cursor else {
             return;
         };
         match cursor.structure.find(y.text.as_str()) {
-            None => note(least, Code::UnknownName, y.start as usize),
+            None => note(Code::UnknownName, y.start as usize, least),
             Some((_, Member::Final(_))) => {
                 let is_over = FINAL_LIMIT <= cursor.through.len();
                 note_if(is_over, Code::LimitExceeded, self.start, least);
             }
             Some((_, m)) => {
-                let code = Code::ProtectedByPassesNonFinal;
-                note_unfit_member(self.symbols, code, y.start as usize, m, least);
+                let found = Finding::plain(Code::ProtectedByPassesNonFinal, y.start as usize);
+                note_unfit_member(self.symbols, found, m, least);
             }
         }
     }
 
     // Notes what is wrong with the last name.
-    fn note_last(&self, cursor: &Option<AnnotationCursor>, y: &Name, least: &mut Option<Mistake>)
+    fn note_last(&self, cursor: &Option<AnnotationCursor>, y: &Name, least: &mut Least)
         ensures { least.new ≡ least_of least.old (ended_at self.now cursor.now y.now) }
     {
         let Some(cursor) = cursor else {
             return;
         };
         match cursor.structure.find(y.text.as_str()) {
-            None => note(least, Code::UnknownName, y.start as usize),
+            None => note(Code::UnknownName, y.start as usize, least),
             Some((_, Member::Lock(_))) => {}
             Some((_, m)) => {
-                let code = Code::ProtectedByNoLock;
-                note_unfit_member(self.symbols, code, self.start, m, least);
+                let found = Finding::plain(Code::ProtectedByNoLock, self.start);
+                note_unfit_member(self.symbols, found, m, least);
             }
         }
     }
@@ -258,7 +258,7 @@ impl<'a, 't> AnnotationWalk<'a, 't> {
         cursor: Option<AnnotationCursor<'a, 't>>,
         first: &Name,
         rest: &[Name],
-        least: &mut Option<Mistake>,
+        least: &mut Least,
     ) -> Result<(), AllocError>
         ensures { OnOk result (least.new ≡ least_of least.old (faults_along self.now cursor.entry first.now rest.now)) }
     {
@@ -317,12 +317,12 @@ impl<'a, 't> FieldAnnotations<'a, 't> {
         &self,
         name: &Name,
         p: &Option<tree::Protection>,
-        least: &mut Option<Mistake>,
+        least: &mut Least,
     ) -> Result<(), AllocError>
         ensures { OnOk result (least.new ≡ least_of least.old (field_protection_faults self.now name.now p.now)) }
     {
         let Some(p) = p else {
-            note(least, Code::NeitherFinalNorProtected, name.start as usize);
+            note(Code::NeitherFinalNorProtected, name.start as usize, least);
             return Ok(());
         };
         if self.structure.find(p.first.text.as_str()).is_some() {

@@ -1,7 +1,8 @@
 //! Programs.
 
-ghost use Rattle.std.specs.Prelude.{◌≡◌, [], OnOk};
-ghost use Rattle.source.specs.Mistakes.{least_of};
+ghost use Rattle.std.specs.Prelude.{◌≡◌, [], OnOk, map};
+ghost use Rattle.resolution.specs.Working.Findings.{least_of, plain};
+ghost use Rattle.source.specs.Mistakes as mistakes;
 ghost use Rattle.core_lang_calls.specs.Graphs.{graph_of};
 ghost use Rattle.core_lang_calls.specs.Working.FaultLists.{graph_faults};
 ghost use Rattle.resolution.specs.CallGraphs.{tree_graph};
@@ -11,6 +12,7 @@ ghost use Rattle.types_calls.specs.Working.Bodies.{all_sections, all_helpers};
 use crate::walk::Reader;
 use core_lang_calls::graph::CallGraph;
 use resolution::body_limits::BodyLimits;
+use resolution::finding::{Least, note};
 use source::mistake::Mistake;
 use std::alloc::{AllocError, Global};
 use syntax::tree::Decl;
@@ -60,17 +62,30 @@ impl Reader<'_> {
 
 /// Notes the faults of what the sections and helpers of a program call: `E20` where a circle of helpers closes, `E15` for a
 /// helper that is too deep, and for a call by which a section has first too many locals, or points from helpers. The least
-/// is kept, also of those that were noted before. The one error is a refused growth.
-pub fn note_calls(
+/// is kept, also of those that were noted before; what comes behind it is not looked for. The one error is a refused growth.
+pub fn judge_calls(
     alloc: Global,
     symbols: &SymbolTable,
     least: &mut Option<Mistake>,
 ) -> Result<(), AllocError>
-    ensures { OnOk result (least.new ≡ least_of least.old (graph_faults (tree_graph (decls_of symbols.now)))) }
+    ensures { OnOk result (least.new ≡ mistakes.least_of least.old (graph_faults (tree_graph (decls_of symbols.now)))) }
 {
     let reader = Reader { alloc, symbols };
     let mut graph = CallGraph::new(alloc);
     reader.add_helpers(&mut graph)?;
     reader.add_sections(&mut graph)?;
     graph.judge(alloc, least)
+}
+
+/// The same among faults with their reasons.
+#[tactic(auto, using(resolution::specs::Theory::Leasts::least_plain))]
+pub fn note_calls(alloc: Global, symbols: &SymbolTable, least: &mut Least) -> Result<(), AllocError>
+    ensures { OnOk result (least.new ≡ least_of least.old (map plain (graph_faults (tree_graph (decls_of symbols.now))))) }
+{
+    let mut found = None;
+    judge_calls(alloc, symbols, &mut found)?;
+    if let Some(mistake) = found {
+        note(mistake.code, mistake.start, least);
+    }
+    Ok(())
 }

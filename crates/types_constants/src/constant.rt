@@ -7,22 +7,22 @@ ghost use Rattle.resolution.specs.Scopes.{the_decl};
 ghost use Rattle.resolution.specs.Constants.{want_of, default_of};
 ghost use Rattle.resolution.specs.Working.TypedConstants.{const_sort, const_value, typed_const, opened, member_sort, member_of};
 ghost use Rattle.resolution.specs.Faults.{const_start};
-ghost use Rattle.source.specs.Mistakes.{least_of};
+ghost use Rattle.resolution.specs.Working.Findings.{least_of};
 ghost use Rattle.resolution.specs.Working.FaultLists.{own_faults, sort_misfit, const_faults, opening_faults};
 ghost use Rattle.types_symbols.specs.{decls_of};
 ghost use Rattle.types_expressions.specs.Working.Parts.{pushed};
 ghost use Rattle.types_constants.specs.Working.Values.{arguments_of, argument_faults_of};
 
 use core_lang::value::{Value, ValueType};
+use resolution::finding::{Finding, Least, note, note_found, note_if};
 use resolution::wanted::{Sort, Want};
+use resolution::why::{Kind, Role, Why};
 use source::fault::Code;
-use source::mistake::{Mistake, note};
 use source::token::Number;
 use std::alloc::{AllocError, Global};
 use syntax::tree::{Const, Decl, Name, Param};
 use types_expressions::wanted::{fits_sort, note_number, number, want};
-use types_symbols::note::note_if;
-use types_symbols::scope::{Meaning, note_unfit, struct_named, type_outside};
+use types_symbols::scope::{Meaning, misnamed, note_unfit, struct_named, type_outside};
 use types_symbols::table::SymbolTable;
 
 /// What a constant is, if it has a type.
@@ -123,12 +123,12 @@ pub fn default_of(t: ValueType) -> Value
 }
 
 /// Notes what is wrong with a pool's name and an index behind it.
-pub fn note_index(symbols: &SymbolTable, name: &Name, n: Number, least: &mut Option<Mistake>)
+pub fn note_index(symbols: &SymbolTable, name: &Name, n: Number, least: &mut Least)
     ensures { least.new ≡ least_of least.old (own_faults (decls_of symbols.now) (member_const (ident name.now) n)) }
 {
     let start = name.start as usize;
     match symbols.find(name.text.as_str()) {
-        None => note(least, Code::UnknownName, start),
+        None => note(Code::UnknownName, start, least),
         Some((_, Decl::Pool(pool))) => {
             let is_out = struct_named(symbols, &pool.target).is_some()
                 && pool.length.value <= n.value;
@@ -140,11 +140,11 @@ pub fn note_index(symbols: &SymbolTable, name: &Name, n: Number, least: &mut Opt
             );
         }
         Some((place, d)) => {
+            let meant = Meaning::Decl(place, d);
             note_unfit(
                 symbols,
-                Code::WrongType,
-                start,
-                Meaning::Decl(place, d),
+                misnamed(Code::WrongType, Role::Pool, start, meant),
+                meant,
                 least,
             );
         }
@@ -152,7 +152,7 @@ pub fn note_index(symbols: &SymbolTable, name: &Name, n: Number, least: &mut Opt
 }
 
 /// Notes what is wrong with a constant by itself.
-fn note_own(symbols: &SymbolTable, c: &Const, least: &mut Option<Mistake>)
+fn note_own(symbols: &SymbolTable, c: &Const, least: &mut Least)
     ensures { least.new ≡ least_of least.old (own_faults (decls_of symbols.now) (const_of c.now)) }
 {
     match c {
@@ -175,19 +175,20 @@ fn const_start(c: &Const) -> usize
 }
 
 /// Notes what isn't of the sort that is wanted.
-fn note_sort(w: Want, start: usize, s: Option<Sort>, least: &mut Option<Mistake>)
+fn note_sort(w: Want, start: usize, s: Option<Sort>, least: &mut Least)
     ensures { least.new ≡ least_of least.old (sort_misfit w start s) }
 {
     if let Some(s) = s {
         if !fits_sort(w, s) {
-            note(least, Code::WrongType, start);
+            let why = Why::Unwanted(w, Kind::Value(s));
+            note_found(Finding::new(Code::WrongType, start, why), least);
         }
     }
 }
 
 /// Notes what is wrong with a constant of which something is wanted.
-#[tactic(auto, using(source::specs::Theory::Leasts::least_append))]
-pub fn note_const(symbols: &SymbolTable, w: Want, c: &Const, least: &mut Option<Mistake>)
+#[tactic(auto, using(resolution::specs::Theory::Leasts::least_append))]
+pub fn note_const(symbols: &SymbolTable, w: Want, c: &Const, least: &mut Least)
     ensures { least.new ≡ least_of least.old (const_faults (decls_of symbols.now) w (const_of c.now)) }
 {
     note_own(symbols, c, least);
@@ -195,7 +196,7 @@ pub fn note_const(symbols: &SymbolTable, w: Want, c: &Const, least: &mut Option<
 }
 
 /// Notes what is wrong with the constant that a thing opens with.
-pub fn note_opening(symbols: &SymbolTable, w: Want, c: &Option<Const>, least: &mut Option<Mistake>)
+pub fn note_opening(symbols: &SymbolTable, w: Want, c: &Option<Const>, least: &mut Least)
     ensures { least.new ≡ least_of least.old (opening_faults (decls_of symbols.now) w (option_of const_of c.now)) }
 {
     if let Some(c) = c {
@@ -211,12 +212,12 @@ fn want_of(symbols: &SymbolTable, p: &Param) -> Want
 }
 
 /// Notes what is wrong with arguments.
-#[tactic(auto, using(source::specs::Theory::Leasts::least_append))]
+#[tactic(auto, using(resolution::specs::Theory::Leasts::least_append))]
 pub fn note_arguments(
     symbols: &SymbolTable,
     params: &[Param],
     constants: &[Const],
-    least: &mut Option<Mistake>,
+    least: &mut Least,
 )
     ensures { least.new ≡ least_of least.old (argument_faults_of symbols.now params.now constants.now) }
 {

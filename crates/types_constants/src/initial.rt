@@ -3,33 +3,32 @@
 ghost use Rattle.std.specs.Prelude.{◌≡◌};
 ghost use Rattle.syntax.specs.Views.{init_of, const_of};
 ghost use Rattle.resolution.specs.Constants.{member_want};
-ghost use Rattle.source.specs.Mistakes.{least_of};
+ghost use Rattle.resolution.specs.Working.Findings.{least_of};
 ghost use Rattle.resolution.specs.Working.FaultLists.{init_field_faults, null_faults, init_faults};
 ghost use Rattle.types_symbols.specs.{decls_of};
 ghost use Rattle.types_constants.specs.Working.Values.{member_found};
 
 use crate::constant::{note_const, note_index};
 use core_lang::value::ValueType;
+use resolution::finding::{Least, note, note_if};
 use resolution::wanted::Want;
 use source::fault::Code;
-use source::mistake::{Mistake, note};
 use syntax::tree::{Const, Init, Member};
 use types_expressions::wanted::want;
 use types_symbols::first_inits::{initialised, structure_given};
-use types_symbols::note::note_if;
 use types_symbols::scope::{struct_named, type_outside};
 use types_symbols::table::SymbolTable;
 
 /// Notes what no `init` can give a value.
-fn note_field(symbols: &SymbolTable, i: &Init, least: &mut Option<Mistake>)
+fn note_field(symbols: &SymbolTable, i: &Init, least: &mut Least)
     ensures { least.new ≡ least_of least.old (init_field_faults (decls_of symbols.now) (init_of i.now)) }
 {
     let Some(structure) = structure_given(symbols.decls(), i) else {
         return;
     };
     match structure.find(i.field.text.as_str()) {
-        None => note(least, Code::UnknownName, i.field.start as usize),
-        Some((_, Member::Lock(_))) => note(least, Code::LockAsValue, i.field.start as usize),
+        None => note(Code::UnknownName, i.field.start as usize, least),
+        Some((_, Member::Lock(_))) => note(Code::LockAsValue, i.field.start as usize, least),
         Some((_, Member::Final(_))) | Some((_, Member::Field(_))) => {}
     }
 }
@@ -49,12 +48,7 @@ fn member_want(symbols: &SymbolTable, m: Option<(usize, &Member)>) -> Want
 }
 
 /// Notes null for a final reference.
-fn note_null(
-    symbols: &SymbolTable,
-    m: Option<(usize, &Member)>,
-    c: &Const,
-    least: &mut Option<Mistake>,
-)
+fn note_null(symbols: &SymbolTable, m: Option<(usize, &Member)>, c: &Const, least: &mut Least)
     ensures { least.new ≡ least_of least.old (null_faults (decls_of symbols.now) (member_found m.entry) (const_of c.now)) }
 {
     if let (Some((_, Member::Final(f))), Const::Null(at)) = (m, c) {
@@ -69,8 +63,8 @@ fn note_null(
 }
 
 /// Notes what is wrong with an `init`.
-#[tactic(auto, using(source::specs::Theory::Leasts::least_append))]
-pub fn note_init(symbols: &SymbolTable, i: &Init, least: &mut Option<Mistake>)
+#[tactic(auto, using(resolution::specs::Theory::Leasts::least_append))]
+pub fn note_init(symbols: &SymbolTable, i: &Init, least: &mut Least)
     ensures { least.new ≡ least_of least.old (init_faults (decls_of symbols.now) (init_of i.now)) }
 {
     note_index(symbols, &i.pool, i.index, least);

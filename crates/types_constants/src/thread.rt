@@ -6,7 +6,7 @@ ghost use Rattle.syntax.specs.Trees.{call};
 ghost use Rattle.resolution.specs.CoreViews.{core_call};
 ghost use Rattle.resolution.specs.Tables.{copies};
 ghost use Rattle.resolution.specs.Working.Building.{typed_item, typed_items, typed_calls};
-ghost use Rattle.source.specs.Mistakes.{least_of};
+ghost use Rattle.resolution.specs.Working.Findings.{least_of};
 ghost use Rattle.resolution.specs.Working.FaultLists.{item_faults, items_faults};
 ghost use Rattle.types_constants.specs.Working.Calls.{resolved_call, resolved_calls};
 ghost use Rattle.types_constants.specs.Working.Values.{calls_in, cores, Adds};
@@ -14,16 +14,17 @@ ghost use Rattle.types_symbols.specs.{decls_of};
 
 use crate::constant::{are_typed, note_arguments, typed_arguments};
 use core_lang::typed::Call;
+use resolution::finding::{Finding, Least, note, note_found};
+use resolution::why::{Role, Why};
 use source::fault::Code;
-use source::mistake::{Mistake, note};
 use std::alloc::{AllocError, Global};
 use syntax::tree;
 use syntax::tree::{Decl, Item};
-use types_symbols::scope::{Meaning, note_unfit};
+use types_symbols::scope::{Meaning, misnamed, note_unfit};
 use types_symbols::table::SymbolTable;
 
 /// Notes what is wrong with a call.
-fn note_call(symbols: &SymbolTable, c: &tree::Call, least: &mut Option<Mistake>)
+fn note_call(symbols: &SymbolTable, c: &tree::Call, least: &mut Least)
     ensures { least.new ≡ least_of least.old (item_faults (decls_of symbols.now) (call (call_view c.now))) }
 {
     let start = c.section.start as usize;
@@ -32,20 +33,22 @@ fn note_call(symbols: &SymbolTable, c: &tree::Call, least: &mut Option<Mistake>)
             if c.arguments.len() == section.params.len() {
                 note_arguments(symbols, &section.params, &c.arguments, least);
             } else {
-                note(least, Code::WrongArgumentCount, start);
+                let why = Why::Counted(section.params.len(), c.arguments.len());
+                note_found(Finding::new(Code::WrongArgumentCount, start, why), least);
             }
         }
         Some((place, d)) => {
             let meant = Meaning::Decl(place, d);
-            note_unfit(symbols, Code::WrongType, start, meant, least);
+            let found = misnamed(Code::WrongType, Role::Section, start, meant);
+            note_unfit(symbols, found, meant, least);
         }
-        None => note(least, Code::UnknownName, start),
+        None => note(Code::UnknownName, start, least),
     }
 }
 
 /// Notes what is wrong with a thing that a thread does.
 #[cycle(faults)]
-fn note_item(symbols: &SymbolTable, item: &Item, least: &mut Option<Mistake>)
+fn note_item(symbols: &SymbolTable, item: &Item, least: &mut Least)
     ensures { least.new ≡ least_of least.old (item_faults (decls_of symbols.now) (item_of item.now)) }
 {
     match item {
@@ -56,8 +59,8 @@ fn note_item(symbols: &SymbolTable, item: &Item, least: &mut Option<Mistake>)
 
 /// Notes what is wrong with what a thread does.
 #[cycle(faults)]
-#[tactic(auto, using(source::specs::Theory::Leasts::least_append))]
-pub fn note_items(symbols: &SymbolTable, items: &[Item], least: &mut Option<Mistake>)
+#[tactic(auto, using(resolution::specs::Theory::Leasts::least_append))]
+pub fn note_items(symbols: &SymbolTable, items: &[Item], least: &mut Least)
     ensures { least.new ≡ least_of least.old (items_faults (decls_of symbols.now) (items_of items.now)) }
 {
     for item in items {

@@ -3,7 +3,7 @@
 ghost use Rattle.std.specs.Prelude.{◌≡◌, ◌++◌, OnOk, IfOk};
 ghost use Rattle.syntax.specs.Views.{ident};
 ghost use Rattle.resolution.specs.Working.Building.{lock_added, final_added};
-ghost use Rattle.source.specs.Mistakes.{least_of};
+ghost use Rattle.resolution.specs.Working.Findings.{least_of};
 ghost use Rattle.types_declarations.specs.Working.Grown.{shaped};
 ghost use Rattle.types_declarations.specs.Working.StructBuilders.{builder_of};
 ghost use Rattle.types_declarations.specs.Working.Values.{field_added_of, member_added_of, members_added_of, member_faults_of, members_faults_of};
@@ -11,7 +11,7 @@ ghost use Rattle.types_declarations.specs.Working.Values.{field_added_of, member
 use crate::grown::Builder;
 use core_lang::typed::{Field, FinalField, LockClass, LockField, Protection, Struct};
 use core_lang::value::ValueType;
-use source::mistake::Mistake;
+use resolution::finding::Least;
 use std::alloc::{AllocError, Global};
 use syntax::tree::{Member, Name};
 use types_annotations::FieldAnnotations;
@@ -145,13 +145,13 @@ impl<'a> Builder<'a> {
     }
 
     // Notes what is wrong with a member of the struct at a place.
-    #[tactic(auto, using(source::specs::Theory::Leasts::least_append))]
+    #[tactic(auto, using(resolution::specs::Theory::Leasts::least_append))]
     fn note_member(
         &self,
         place: usize,
         table: &'a Structure<'a>,
         m: &Member,
-        least: &mut Option<Mistake>,
+        least: &mut Least,
     ) -> Result<(), AllocError>
         ensures { OnOk result (least.new ≡ least_of least.old (member_faults_of self.now place table.now m.now)) }
     {
@@ -180,7 +180,7 @@ impl<'a> Builder<'a> {
         place: usize,
         table: &'a Structure<'a>,
         members: &[Member],
-        least: &mut Option<Mistake>,
+        least: &mut Least,
     ) -> Result<(), AllocError>
         ensures { OnOk result (least.new ≡ least_of least.old (members_faults_of self.now place table.now members.now)) }
     {

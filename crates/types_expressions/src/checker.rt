@@ -5,24 +5,22 @@ ghost use Rattle.syntax.specs.Trees.{ref_type};
 ghost use Rattle.syntax.specs.Views.{ident, decl_of, struct_of, type_of as type_seen};
 ghost use Rattle.resolution.specs.Scopes.{meaning, outside, bound, hidden_from, number_at, the_struct, type_of};
 ghost use Rattle.resolution.specs.Expressions.{cell_of};
-ghost use Rattle.source.specs.Mistakes.{least_of};
+ghost use Rattle.resolution.specs.Working.Findings.{least_of};
 ghost use Rattle.resolution.specs.Working.FaultLists.{local_faults, type_faults};
 ghost use Rattle.types_symbols.specs.{decls_of, meaning_of, local_seen};
 ghost use Rattle.types_expressions.specs.Working.Checkers.{scope};
 ghost use Rattle.types_expressions.specs.Working.Misplaced.{misplaced, taken_name_faults};
 
-use crate::judged::Least;
 use core_lang::tree::LocalKind;
 use core_lang::value::ValueType;
 use resolution::body_limits::BodyLimits;
+use resolution::finding::{Finding, Least, note, note_if};
 use source::fault::Code;
-use source::mistake::note;
 use std::alloc::{AllocError, Global};
 use std::marker::Model;
 use syntax::tree;
 use syntax::tree::{Decl, Name};
 use types_symbols::members::Structure;
-use types_symbols::note::note_if;
 use types_symbols::scope::{
     Local, Locals, Meaning, meaning_at, note_local_type, note_type, note_unfit, struct_named,
     type_at, type_outside,
@@ -81,13 +79,13 @@ impl<'a> Checker<'a> {
     }
 
     /// Notes a name that can't stand there: an unknown one, or one whose declaration has a type without a fault.
-    pub fn misplaced<T>(&self, code: Code, start: usize, m: Meaning, least: &mut Least) -> Option<T>
+    pub fn misplaced<T>(&self, found: Finding, m: Meaning, least: &mut Least) -> Option<T>
         ensures none { result ≡ None }
-        ensures faults { least.new ≡ least_of least.old (misplaced (scope self.now).decls code start (meaning_of m.entry)) }
+        ensures faults { least.new ≡ least_of least.old (misplaced (scope self.now).decls found (meaning_of m.entry)) }
     {
         match m {
-            Meaning::Nothing => note(least, Code::UnknownName, start),
-            _ => note_unfit(self.symbols, code, start, m, least),
+            Meaning::Nothing => note(Code::UnknownName, found.start, least),
+            _ => note_unfit(self.symbols, found, m, least),
         }
         None
     }
@@ -162,7 +160,7 @@ impl<'a> Checker<'a> {
     }
 
     /// Notes what is wrong with the name of the next local.
-    #[tactic(auto, using(source::specs::Theory::Leasts::least_append))]
+    #[tactic(auto, using(resolution::specs::Theory::Leasts::least_append))]
     pub fn note_name(&self, name: &Name, least: &mut Least)
         ensures { least.new ≡ least_of least.old (local_faults (scope self.now) (ident name.now)) }
     {

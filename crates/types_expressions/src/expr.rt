@@ -8,14 +8,14 @@ ghost use Rattle.resolution.specs.declared.wanted.Want.TheVariants as wanted;
 ghost use Rattle.resolution.specs.CoreViews.{core_expr, core_condition};
 ghost use Rattle.resolution.specs.Working.TypedExpressions.{typed, typed_place, typed_links, compared, fitting, as_value, number_resolved, test_resolved};
 ghost use Rattle.resolution.specs.Faults.{start_of};
-ghost use Rattle.source.specs.Mistakes.{least_of};
+ghost use Rattle.resolution.specs.Working.Findings.{least_of};
 ghost use Rattle.resolution.specs.Working.FaultLists.{expr_faults, place_faults, link_faults, wanted_faults};
 ghost use Rattle.types_expressions.specs.Working.Checkers.{scope};
 ghost use Rattle.types_expressions.specs.Working.Operands.{one_link, chain_from, tests_from, both_tests, second_faults, right_faults};
 ghost use Rattle.types_expressions.specs.Working.ResolvedExprs.{resolved_expr_of, operations_of, seen, tests_of};
 
 use crate::checker::Checker;
-use crate::judged::{Judged, Least};
+use crate::judged::Judged;
 use crate::place::{element_value, path_value};
 use crate::resolved_expr::{
     ResolvedExpr, Side, Tests, chained, compared, literal, negated, not_so, note_misfit, number_in,
@@ -24,6 +24,7 @@ use crate::resolved_expr::{
 };
 use core_lang::tree::{Condition, Expr, Operation};
 use core_lang::value::ValueType;
+use resolution::finding::Least;
 use resolution::wanted::{Sort, Want};
 use std::alloc::AllocError;
 use syntax::tree;

@@ -6,7 +6,7 @@ ghost use Rattle.resolution.specs.CoreViews.{core_expr, core_path};
 ghost use Rattle.resolution.specs.Scopes.{the_struct};
 ghost use Rattle.resolution.specs.Expressions.{local_path, over_step, stepped, walked, walk_from};
 ghost use Rattle.resolution.specs.Working.TypedExpressions.{named_value, path_value};
-ghost use Rattle.source.specs.Mistakes.{least_of};
+ghost use Rattle.resolution.specs.Working.Findings.{least_of};
 ghost use Rattle.resolution.specs.Working.FaultLists.{no_value, no_elements, no_field, step_faults, end_faults};
 ghost use Rattle.types_symbols.specs.{meaning_of};
 ghost use Rattle.types_expressions.specs.Working.Checkers.{scope};
@@ -15,16 +15,17 @@ ghost use Rattle.types_expressions.specs.Working.Walks.{walk_of, over_field, fie
 ghost use Rattle.types_expressions.specs.Working.ResolvedExprs.{resolved_expr_of};
 
 use crate::checker::Checker;
-use crate::judged::{Judged, Least, faulty};
+use crate::judged::{Judged, faulty};
 use crate::resolved_expr::{ResolvedExpr, value_of};
 use core_lang::tree::{Expr, FieldStep, Path};
 use core_lang::value::ValueType;
+use resolution::finding::{Finding, Least, note, note_found};
 use resolution::wanted::Sort;
+use resolution::why::{Role, Why};
 use source::fault::Code;
-use source::mistake::note;
 use std::alloc::{AllocError, Global};
 use syntax::tree::{Decl, Member, Name};
-use types_symbols::scope::Meaning;
+use types_symbols::scope::{Meaning, misnamed};
 
 /// What takes an index: its number among those of its kind, and the type of what stands there.
 #[derive(Clone, Copy)]
@@ -103,7 +104,7 @@ fn note_end(start: usize, w: &Walk, least: &mut Least)
     ensures { least.new ≡ least_of least.old (end_faults start (walk_of w.now)) }
 {
     match w {
-        Walk::AtLock => note(least, Code::LockAsValue, start),
+        Walk::AtLock => note(Code::LockAsValue, start, least),
         Walk::Reached(_, _) | Walk::Lost => {}
     }
 }
@@ -142,7 +143,7 @@ impl<'a> Checker<'a> {
                 )
             }
             Meaning::Decl(_, Decl::Lock(_)) => faulty(Code::LockAsValue, start, least),
-            _ => self.misplaced(Code::WrongType, start, m, least),
+            _ => self.misplaced(misnamed(Code::WrongType, Role::Value, start, m), m, least),
         }
     }
 
@@ -161,9 +162,17 @@ impl<'a> Checker<'a> {
                     let t = self.reference_to(&p.target)?;
                     Some(Indexed::Pool(self.number_of(place, d), t))
                 }
-                _ => self.misplaced(Code::WrongType, start, m, least),
+                _ => self.misplaced(
+                    misnamed(Code::WrongType, Role::Elements, start, m),
+                    m,
+                    least,
+                ),
             },
-            _ => self.misplaced(Code::WrongType, start, m, least),
+            _ => self.misplaced(
+                misnamed(Code::WrongType, Role::Elements, start, m),
+                m,
+                least,
+            ),
         }
     }
 
@@ -182,7 +191,7 @@ impl<'a> Checker<'a> {
             return Ok(Walk::Lost);
         };
         let Some((place, m)) = members.find(f.text.as_str()) else {
-            note(least, Code::UnknownName, f.start as usize);
+            note(Code::UnknownName, f.start as usize, least);
             return Ok(Walk::Lost);
         };
         let number = members.step(place, m);
@@ -215,12 +224,15 @@ impl<'a> Checker<'a> {
                 ValueType::Reference(number) => self.over(steps, number, f, least),
                 ValueType::Integer => {
                     drop(steps);
-                    note(least, Code::WrongType, start);
+                    note_found(Finding::new(Code::WrongType, start, Why::FieldOfInt), least);
                     Ok(Walk::Lost)
                 }
             },
             Walk::AtLock => {
-                note(least, Code::WrongType, start);
+                note_found(
+                    Finding::new(Code::WrongType, start, Why::FieldOfLock),
+                    least,
+                );
                 Ok(Walk::Lost)
             }
             Walk::Lost => Ok(Walk::Lost),
@@ -228,7 +240,7 @@ impl<'a> Checker<'a> {
     }
 
     // Over fields, one after another, of a path that starts there.
-    #[tactic(auto, using(source::specs::Theory::Leasts::least_append))]
+    #[tactic(auto, using(resolution::specs::Theory::Leasts::least_append))]
     fn walked(
         &self,
         start: usize,
@@ -267,7 +279,8 @@ impl<'a> Checker<'a> {
                 self.walked(start, w, fields, least)
             }
             _ => {
-                let _: Option<usize> = self.misplaced(Code::WrongType, start, m, least);
+                let found = misnamed(Code::WrongType, Role::Local, start, m);
+                let _: Option<usize> = self.misplaced(found, m, least);
                 Ok(Walk::Lost)
             }
         }

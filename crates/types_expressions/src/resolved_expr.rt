@@ -5,20 +5,22 @@ ghost use Rattle.resolution.specs.CoreViews.{core_expr, core_condition};
 ghost use Rattle.resolution.specs.Expressions.{value, fits, alike_sorts, operator_of};
 ghost use Rattle.resolution.specs.Working.TypedExpressions.{number_value};
 ghost use Rattle.resolution.specs.Working.TypedExpressions.{fitting, as_value, number_resolved, test_resolved, literal, value_of, parenthesised, negated, not_so, chained, ordered, equated, compared};
-ghost use Rattle.source.specs.Mistakes.{least_of};
+ghost use Rattle.resolution.specs.Working.Findings.{least_of};
+ghost use Rattle.resolution.specs.Reasons.{kind_of};
 ghost use Rattle.resolution.specs.Working.FaultLists.{misfit, number_faults, unlike, side_faults, operator_faults};
 ghost use Rattle.resolution.specs.Where.{side_want};
 ghost use Rattle.syntax.specs.declared.tree.Level.TheVariants.{Sum};
 ghost use Rattle.types_expressions.specs.Working.ResolvedExprs.{resolved_expr_of, operations_of, seen, tests_seen, tests_of, holds};
 ghost use Rattle.types_expressions.specs.Working.Parts.{items_of, pushed, operation_with, so_far, first_test, tests_with};
 
-use crate::judged::{Judged, Least, faulty};
+use crate::judged::{Judged, faulty_for};
 use crate::wanted::{fits_sort, fits_type, note_number, number};
 use core_lang::tree::{Comparison, Condition, Expr, Operation, Operator};
 use core_lang::value::ValueType;
+use resolution::finding::{Finding, Least, note_found, note_found_if};
 use resolution::wanted::{Sort, Want};
+use resolution::why::{Kind, Why};
 use source::fault::Code;
-use source::mistake::note;
 use source::token::Number;
 use std::alloc::{AllocError, Global};
 use syntax::tree;
@@ -31,6 +33,18 @@ pub enum ResolvedExpr {
     Value(Expr, Sort),
     /// What is true or false.
     Truth(Condition),
+}
+
+impl ResolvedExpr {
+    /// What it is, as far as types tell.
+    pub fn kind(&self) -> Kind
+        ensures { result ≡ kind_of (resolved_expr_of self.now) }
+    {
+        match self {
+            ResolvedExpr::Value(_, sort) => Kind::Value(*sort),
+            ResolvedExpr::Truth(_) => Kind::Condition,
+        }
+    }
 }
 
 /// A side of a comparison, and where it starts.
@@ -68,7 +82,8 @@ pub fn note_misfit(w: Want, start: usize, s: &Option<ResolvedExpr>, least: &mut 
 {
     if let Some(s) = s {
         if !fits(w, s) {
-            note(least, Code::WrongType, start);
+            let why = Why::Unwanted(w, s.kind());
+            note_found(Finding::new(Code::WrongType, start, why), least);
         }
     }
 }
@@ -210,7 +225,10 @@ pub fn operator(op: tree::Operator, start: usize, least: &mut Least) -> Option<O
         tree::Operator::Mul => Some(Operator::Mul),
         tree::Operator::Div => Some(Operator::Div),
         tree::Operator::Rem => Some(Operator::Rem),
-        tree::Operator::And | tree::Operator::Or => faulty(Code::WrongType, start, least),
+        tree::Operator::And | tree::Operator::Or => {
+            let why = Why::OperatorOfConditions;
+            faulty_for(Finding::new(Code::WrongType, start, why), least)
+        }
     }
 }
 
@@ -331,20 +349,23 @@ fn ordered(c: Comparison, left: Side, right: Side) -> Option<ResolvedExpr>
 fn note_unlike(left: &Side, right: &Side, least: &mut Least)
     ensures { least.new ≡ least_of least.old (unlike left.now.start right.now.start (seen left.now) (seen right.now)) }
 {
-    match (&left.value, &right.value) {
-        (Some(ResolvedExpr::Value(_, s)), Some(ResolvedExpr::Value(_, t))) => {
-            if !are_alike(*s, *t) {
-                note(least, Code::WrongType, right.start);
-            }
+    let (Some(one), Some(other)) = (&left.value, &right.value) else {
+        return;
+    };
+    let why = Why::Unlike(one.kind(), other.kind());
+    match (one, other) {
+        (ResolvedExpr::Value(_, s), ResolvedExpr::Value(_, t)) => {
+            let is_unlike = !are_alike(*s, *t);
+            note_found_if(
+                is_unlike,
+                Finding::new(Code::WrongType, right.start, why),
+                least,
+            );
         }
-        (Some(ResolvedExpr::Value(_, _)), Some(ResolvedExpr::Truth(_)))
-        | (Some(ResolvedExpr::Truth(_)), Some(ResolvedExpr::Value(_, _))) => {
-            note(least, Code::WrongType, right.start);
+        (ResolvedExpr::Truth(_), ResolvedExpr::Truth(_)) => {
+            note_found(Finding::new(Code::WrongType, left.start, why), least);
         }
-        (Some(ResolvedExpr::Truth(_)), Some(ResolvedExpr::Truth(_))) => {
-            note(least, Code::WrongType, left.start);
-        }
-        _ => {}
+        _ => note_found(Finding::new(Code::WrongType, right.start, why), least),
     }
 }
 

@@ -3,15 +3,14 @@
 ghost use Rattle.std.specs.Prelude.{◌≡◌};
 ghost use Rattle.resolution.specs.Expressions.{fits_type, fits_sort, want};
 ghost use Rattle.resolution.specs.Working.TypedExpressions.{number_value};
-ghost use Rattle.source.specs.Mistakes.{least_of};
+ghost use Rattle.resolution.specs.Working.Findings.{least_of};
 ghost use Rattle.resolution.specs.Working.FaultLists.{number_faults};
 
 use core_lang::value::ValueType;
+use resolution::finding::{Least, note_if};
 use resolution::wanted::{Sort, Want};
 use source::fault::Code;
-use source::mistake::Mistake;
 use source::token::Number;
-use types_symbols::note::note_if;
 
 /// The largest number that a token can be.
 const NUMBER_LIMIT: u64 = 9223372036854775807;
@@ -28,7 +27,7 @@ pub fn number(n: Number) -> Option<i64>
 }
 
 /// Notes a number that no token can be.
-pub fn note_number(n: Number, least: &mut Option<Mistake>)
+pub fn note_number(n: Number, least: &mut Least)
     ensures { least.new ≡ least_of least.old (number_faults n) }
 {
     note_if(

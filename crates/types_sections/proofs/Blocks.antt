@@ -3,7 +3,7 @@ use Rattle.std.proofs.Common.{◌≡◌, Global, ℕ, ◌+◌, ◌<◌, List, []
 use Rattle.std.proofs.Common.{refl, sym, ap, ◌∙◌}
 use Rattle.std.specs.Prelude.{Box, option_map, map, nat_le}
 use Rattle.source.specs.declared.fault.Code.TheVariants.{LimitExceeded}
-use Rattle.source.specs.declared.mistake.Mistake.{Mistake}
+use Rattle.resolution.specs.declared.finding.Finding.{Finding}
 use Rattle.syntax.specs.declared.tree.Stmt as tree_stmt
 use Rattle.syntax.specs.declared.tree.Stmt.{Let, Var, While, If}
 use Rattle.syntax.specs.declared.tree.If as tree_if
@@ -32,7 +32,7 @@ use Rattle.resolution.specs.Working.TypedStatements.{Part, does, gives, Body, gi
 use Rattle.resolution.specs.Working.TypedStatements.{typed_stmt, typed_if, block_of, repeats, chooses_between}
 use Rattle.resolution.specs.Statements.{after, after_else, after_all, ahead_of}
 use Rattle.resolution.specs.Working.TypedSections.{core_locals, section_of, section_in}
-use Rattle.source.specs.Mistakes.{least_of}
+use Rattle.resolution.specs.Working.Findings.{least_of}
 use Rattle.resolution.specs.Working.FaultLists.{one_if, local_faults, type_faults, param_faults, stmt_faults}
 use Rattle.resolution.specs.Working.FaultLists.{stmts_faults, wanted_faults, else_faults}
 use Rattle.types_symbols.specs.Theory.Steps.{step, noted_one, noted_two, noted_three}
@@ -132,7 +132,7 @@ stmt_step sc sc' items i item so_far new p whole lt is made one behind before =
     ∙ ap (λ (z : Scope). body_joined so_far (preceded (typed_stmt sc (stmt_of item)) (typed_body z (stmts_of rest)))) behind)
     before
 
-pub stmt_fault_step : (sc sc' : Scope) (items : List tree_stmt.Stmt) (i : ℕ) (item : tree_stmt.Stmt) (f g whole : Option Mistake) →
+pub stmt_fault_step : (sc sc' : Scope) (items : List tree_stmt.Stmt) (i : ℕ) (item : tree_stmt.Stmt) (f g whole : Option Finding) →
     i < length items → item ≡ get_or items i item → g ≡ least_of f (stmt_faults sc (stmt_of item)) → sc' ≡ after sc (stmt_of item) →
     least_of f (stmts_faults sc (stmts_of (drop i items))) ≡ whole → least_of g (stmts_faults sc' (stmts_of (drop (i + 1) items))) ≡ whole
 stmt_fault_step sc sc' items i item f g whole lt is one behind before =
@@ -143,7 +143,7 @@ stmt_fault_step sc sc' items i item f g whole lt is one behind before =
 
 -- ---- parameters
 
-pub param_fault_step : (sc sc' : Scope) (items : List tree_param.Param) (i : ℕ) (item : tree_param.Param) (f g h k whole : Option Mistake) →
+pub param_fault_step : (sc sc' : Scope) (items : List tree_param.Param) (i : ℕ) (item : tree_param.Param) (f g h k whole : Option Finding) →
     i < length items → item ≡ get_or items i item →
     g ≡ least_of f (local_faults sc (param_of item).name) → h ≡ least_of g (one_if (nat_le sc.limits.parameters i) LimitExceeded (param_of item).name.span.start) →
     k ≡ least_of h (type_faults (outside sc.decls) (param_of item).value_type) → sc' ≡ bound sc Parameter (param_of item).name (type_of (outside sc.decls) (param_of item).value_type) →
@@ -198,7 +198,7 @@ module _ (sc : Scope) (loop : tree_while.While) where
   while_value p cond block hp hc hb =
       hp ∙ ap (λ c. repeats loop.start.start c block) hc ∙ ap (repeats loop.start.start (test_resolved (typed sc (expr_of loop.condition)))) hb
 
-  pub while_faults : (f g h : Option Mistake) → g ≡ least_of f (wanted_faults sc Condition (expr_of loop.condition)) →
+  pub while_faults : (f g h : Option Finding) → g ≡ least_of f (wanted_faults sc Condition (expr_of loop.condition)) →
       h ≡ least_of g (stmts_faults sc (stmts_of loop.block.stmts.items)) →
       h ≡ least_of f (stmt_faults sc (while_of loop))
   while_faults f g h hg hh = hh ∙ noted_one f g (wanted_faults sc Condition (expr_of loop.condition)) (stmts_faults sc (stmts_of loop.block.stmts.items)) hg
@@ -218,7 +218,7 @@ module _ (sc sc2 : Scope) (choice : tree_if.If) (behind : sc2 ≡ left sc (after
       ∙ ap (λ b. typed_if (left sc (after_all sc body)) at (test_resolved (typed sc (expr_of (out-If choice).condition))) b other) hb
       ∙ ap (typed_stmt sc) (sym (if_of-out choice))
 
-  pub if_faults : (f g h k : Option Mistake) →
+  pub if_faults : (f g h k : Option Finding) →
       g ≡ least_of f (wanted_faults sc Condition (expr_of (out-If choice).condition)) →
       h ≡ least_of g (stmts_faults sc (stmts_of (out-If choice).block.stmts.items)) → k ≡ least_of h (else_faults sc2 (else_of (out-If choice).otherwise)) →
       k ≡ least_of f (stmt_faults sc (if_of choice))

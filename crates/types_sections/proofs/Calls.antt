@@ -1,7 +1,7 @@
 -- Arguments of calls of helpers, one after another.
 use Rattle.std.proofs.Common.{◌≡◌, ℕ, suc, ◌+◌, ◌<◌, List, [], ◌∷◌, Option, Some, None, length, drop, get_or, refl, sym}
 use Rattle.std.proofs.Common.{ap, ◌∙◌, append_assoc}
-use Rattle.source.specs.declared.mistake.Mistake.{Mistake}
+use Rattle.resolution.specs.declared.finding.Finding.{Finding}
 use Rattle.syntax.specs.declared.tree.Expr as rust_expr
 use Rattle.syntax.specs.declared.tree.Param as rust_param
 use Rattle.syntax.specs.Trees.{Expr, Param, Section}
@@ -14,7 +14,7 @@ use Rattle.resolution.specs.Constants.{want_of}
 use Rattle.resolution.specs.Working.TypedConstants.{added}
 use Rattle.resolution.specs.Working.TypedStatements.{typed_values}
 use Rattle.resolution.specs.Working.Building.{joined}
-use Rattle.source.specs.Mistakes.{least_of}
+use Rattle.resolution.specs.Working.Findings.{least_of}
 use Rattle.core_lang.specs.Theory.Items.{next_of}
 use Rattle.resolution.specs.Working.FaultLists.{wanted_faults}
 use Rattle.types_expressions.specs.Working.Parts.{pushed}
@@ -44,7 +44,7 @@ module _ (sc : Scope) (ps : List rust_param.Param) (es : List rust_expr.Expr) (i
       ∙ ap (λ (xs : List rust_expr.Expr). joined so_far (values_of sc (drop i ps) xs)) (sym (next_of es i e less here))
       ∙ before
 
-  pub values_fault_step : (f g whole : Option Mistake) → g ≡ least_of f (wanted_faults sc w (expr_of e)) →
+  pub values_fault_step : (f g whole : Option Finding) → g ≡ least_of f (wanted_faults sc w (expr_of e)) →
       least_of f (values_blamed sc (drop i ps) (drop i es)) ≡ whole → least_of g (values_blamed sc (drop (i + 1) ps) (drop (i + 1) es)) ≡ whole
   values_fault_step f g whole one before =
       let rest = values_blamed sc (drop (i + 1) ps) (drop (i + 1) es) in

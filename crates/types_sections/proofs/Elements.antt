@@ -1,6 +1,6 @@
 -- Elements on the left of assignments, beside the definitions that go by what their name means.
 use Rattle.std.proofs.Common.{◌≡◌, ℕ, List, ◌++◌, Option, Some, None, refl, ap, ◌∙◌}
-use Rattle.source.specs.declared.mistake.Mistake.{Mistake}
+use Rattle.resolution.specs.declared.finding.Finding.{Finding}
 use Rattle.syntax.specs.Trees.{Decl, array, pool}
 use Rattle.core_lang.specs.declared.value.ValueType.{ValueType}
 use Rattle.core_lang.specs.declared.value.ValueType.TheVariants.{Reference}
@@ -8,7 +8,7 @@ use Rattle.resolution.specs.Core as core
 use Rattle.resolution.specs.Scopes.{◌>>=◌, outside, Meaning, a_decl, number_at, type_of, struct_named}
 use Rattle.resolution.specs.Working.TypedStatements.{assignee, to_element, assignee_at_element}
 use Rattle.resolution.specs.Working.FaultLists.{no_array, no_elements}
-use Rattle.source.specs.Mistakes.{least_of}
+use Rattle.resolution.specs.Working.Findings.{least_of}
 use Rattle.types_symbols.specs.Theory.Steps.{noted_one}
 use Rattle.types_expressions.specs.Working.Indexing.{of_type, indexed_by}
 use Rattle.types_expressions.specs.declared.place.Indexed.{Indexed}
@@ -43,7 +43,7 @@ assigned_seen decls m n x e f hm hx he =
     ap (λ (y : Option Indexed). assigned_at y e) hx ∙ ap (λ (k : Meaning). assigned_at (indexed_by decls k) e) hm
     ∙ ap (assigned_at (indexed_by decls n)) he ∙ assigned_is decls n f
 
-pub assigned_blamed : (decls : List Decl) (start : ℕ) (m n : Meaning) (f g : Option Mistake) (a : List Mistake) →
+pub assigned_blamed : (decls : List Decl) (start : ℕ) (m n : Meaning) (f g : Option Finding) (a : List Finding) →
     m ≡ n → g ≡ least_of f (no_elements decls start m ++ no_array decls start m) →
     least_of g a ≡ least_of f (no_elements decls start n ++ no_array decls start n ++ a)
 assigned_blamed decls start m n f g a hm hg =

@@ -1,7 +1,7 @@
 -- The last step of a path, and paths on the left.
 use Rattle.std.proofs.Common.{◌≡◌, ℕ, List, ◌++◌, Option, ap, ◌∙◌}
-use Rattle.source.specs.declared.mistake.Mistake.{Mistake}
-use Rattle.source.specs.Mistakes.{least_of}
+use Rattle.resolution.specs.declared.finding.Finding.{Finding}
+use Rattle.resolution.specs.Working.Findings.{least_of}
 use Rattle.syntax.specs.Trees.{Decl, Ident}
 use Rattle.resolution.specs.Scopes.{Meaning}
 use Rattle.resolution.specs.Expressions.{Walk, walk_from}
@@ -18,7 +18,7 @@ module _ (decls : List Decl) (start : ℕ) (m n : Meaning) (fs gs : List Ident) 
       ha ∙ ap (assignee_along start m) (reached ∙ ap (walk_from decls m) same)
       ∙ ap (λ (k : Meaning). assignee_along start k (walk_from decls k gs)) named
 
-  pub along_blamed : (f g h : Option Mistake) → g ≡ least_of f (path_faults decls start m fs) →
+  pub along_blamed : (f g h : Option Finding) → g ≡ least_of f (path_faults decls start m fs) →
       h ≡ least_of g (final_faults start w) →
       h ≡ least_of f (path_faults decls start n gs ++ final_faults start (walk_from decls n gs))
   along_blamed f g h hg hh =

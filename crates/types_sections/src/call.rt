@@ -5,7 +5,7 @@ ghost use Rattle.syntax.specs.Views.{ident, section_of, param_of, helper_call_of
 ghost use Rattle.resolution.specs.CoreViews.{core_expr, core_action};
 ghost use Rattle.resolution.specs.Constants.{want_of};
 ghost use Rattle.resolution.specs.Working.TypedStatements.{call_resolved};
-ghost use Rattle.source.specs.Mistakes.{least_of};
+ghost use Rattle.resolution.specs.Working.Findings.{least_of};
 ghost use Rattle.resolution.specs.Working.FaultLists.{helper_call_faults};
 ghost use Rattle.types_expressions.specs.Working.Checkers.{scope};
 ghost use Rattle.types_expressions.specs.Working.Parts.{pushed};
@@ -13,17 +13,17 @@ ghost use Rattle.types_sections.specs.Working.Calls.{helper_named, numbered, sec
 
 use core_lang::tree::{Action, Expr};
 use core_lang::value::ValueType;
+use resolution::finding::{Finding, Least, note_found, note_found_if};
 use resolution::wanted::{Sort, Want};
+use resolution::why::{Kind, Role, Why};
 use source::fault::Code;
-use source::mistake::note;
 use std::alloc::AllocError;
 use syntax::tree;
 use syntax::tree::{Decl, HelperCall, Param, Section};
 use types_expressions::checker::Checker;
-use types_expressions::judged::{Judged, Least};
+use types_expressions::judged::Judged;
 use types_expressions::wanted::{fits_type, want};
-use types_symbols::note::note_if;
-use types_symbols::scope::Meaning;
+use types_symbols::scope::{Meaning, misnamed};
 
 /// What a parameter wants of its argument.
 fn want_of(checker: &Checker, p: &Param) -> Want
@@ -47,7 +47,7 @@ fn with_value(values: Option<Vec<Expr>>, value: Option<Expr>) -> Judged<Vec<Expr
 }
 
 /// Arguments, from left to right, each for its parameter. `None` where one of them has a fault.
-#[tactic(auto, using(source::specs::Theory::Leasts::least_append))]
+#[tactic(auto, using(resolution::specs::Theory::Leasts::least_append))]
 fn values_for(
     checker: &Checker,
     params: &[Param],
@@ -71,7 +71,7 @@ fn values_for(
 }
 
 /// Notes what is wrong with arguments, each by itself.
-#[tactic(auto, using(source::specs::Theory::Leasts::least_append))]
+#[tactic(auto, using(resolution::specs::Theory::Leasts::least_append))]
 fn note_each(
     checker: &Checker,
     arguments: &[tree::Expr],
@@ -107,10 +107,16 @@ fn note_name(checker: &Checker, c: &HelperCall, least: &mut Least)
     match checker.meaning(&c.helper) {
         Meaning::Decl(_, Decl::Helper(helper)) => {
             let is_other = c.arguments.len() != helper.params.len();
-            note_if(is_other, Code::WrongArgumentCount, start, least);
+            let why = Why::Counted(helper.params.len(), c.arguments.len());
+            note_found_if(
+                is_other,
+                Finding::new(Code::WrongArgumentCount, start, why),
+                least,
+            );
         }
         m => {
-            let _none: Option<()> = checker.misplaced(Code::WrongType, start, m, least);
+            let found = misnamed(Code::WrongType, Role::Helper, start, m);
+            let _none: Option<()> = checker.misplaced(found, m, least);
         }
     }
 }
@@ -150,7 +156,7 @@ fn called_with(
 }
 
 /// A call of a helper, resolved, if its name and its arguments are right. The local takes what the helper gives back.
-#[tactic(auto, using(source::specs::Theory::Leasts::least_append))]
+#[tactic(auto, using(resolution::specs::Theory::Leasts::least_append))]
 pub fn judge_call(
     checker: &Checker,
     c: &HelperCall,
@@ -181,13 +187,17 @@ pub fn takes_result(
     };
     let start = c.helper.start as usize;
     let Some(result) = &helper.result else {
-        note(least, Code::WrongType, start);
+        note_found(
+            Finding::new(Code::WrongType, start, Why::NoResult(t)),
+            least,
+        );
         return false;
     };
     let Some(given) = checker.type_outside(result) else {
         return false;
     };
     let fits = fits_type(t, Sort::Of(given));
-    note_if(!fits, Code::WrongType, start, least);
+    let why = Why::Unwanted(Want::Value(t), Kind::Value(Sort::Of(given)));
+    note_found_if(!fits, Finding::new(Code::WrongType, start, why), least);
     fits
 }

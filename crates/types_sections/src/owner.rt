@@ -7,23 +7,24 @@ ghost use Rattle.resolution.specs.CoreViews.{core_expr};
 ghost use Rattle.resolution.specs.Limits.{up_to};
 ghost use Rattle.resolution.specs.Scopes.{meaning};
 ghost use Rattle.resolution.specs.Working.TypedOwners.{owner_field, owner_local};
-ghost use Rattle.source.specs.Mistakes.{least_of};
+ghost use Rattle.resolution.specs.Working.Findings.{least_of};
 ghost use Rattle.resolution.specs.Working.FaultLists.{owner_field_faults};
 ghost use Rattle.types_expressions.specs.Working.Checkers.{scope};
 ghost use Rattle.types_sections.specs.Working.Targets.{tested_if, final_faults_in, owner_name_faults, owned_opening, opening_faults};
 
 use core_lang::tree::Expr;
 use core_lang::value::ValueType;
+use resolution::finding::{Finding, Least, note_found_if};
 use resolution::owner_field::OwnerField;
-use resolution::wanted::Sort;
+use resolution::wanted::{Sort, Want};
+use resolution::why::{Kind, Role, Why};
 use source::fault::Code;
 use std::alloc::AllocError;
 use syntax::tree::{Member, Name, Owner};
 use types_expressions::checker::Checker;
-use types_expressions::judged::{Judged, Least, faulty};
+use types_expressions::judged::{Judged, faulty, faulty_for};
 use types_expressions::wanted::fits_type;
-use types_symbols::note::note_if;
-use types_symbols::scope::Meaning;
+use types_symbols::scope::{Meaning, misnamed};
 
 /// How many structs there may be.
 const STRUCT_LIMIT: u32 = 64;
@@ -64,7 +65,11 @@ fn final_named(
         }),
         Member::Field(field) => {
             let has_type = checker.type_outside(&field.value_type).is_some();
-            note_if(has_type, Code::WrongType, start, least);
+            note_found_if(
+                has_type,
+                Finding::new(Code::WrongType, start, Why::OwnerField),
+                least,
+            );
             None
         }
     }
@@ -81,7 +86,10 @@ fn owner_field(
     ensures faults { least.new ≡ least_of least.old (owner_field_faults (scope checker.now).decls t (ident f.now)) }
 {
     match t? {
-        ValueType::Integer => faulty(Code::WrongType, f.start as usize, least),
+        ValueType::Integer => {
+            let why = Why::OwnedInt;
+            faulty_for(Finding::new(Code::WrongType, f.start as usize, why), least)
+        }
         ValueType::Reference(structure) => final_named(checker, structure, f, least),
     }
 }
@@ -99,11 +107,12 @@ fn owner_local(
     let start = name.start as usize;
     let m = checker.meaning(name);
     let Meaning::Local(number, local) = m else {
-        return checker.misplaced(Code::WrongType, start, m, least);
+        return checker.misplaced(misnamed(Code::WrongType, Role::Local, start, m), m, least);
     };
     let (field, t) = field.zip(local.value_type)?;
     if !fits_type(field.value_type, Sort::Of(t)) {
-        return faulty(Code::WrongType, start, least);
+        let why = Why::Unwanted(Want::Value(field.value_type), Kind::Value(Sort::Of(t)));
+        return faulty_for(Finding::new(Code::WrongType, start, why), least);
     }
     Some(number)
 }
@@ -147,7 +156,7 @@ fn tested_by(
 
 /// A local's value with what stands behind its `where`, of which each name is judged in any case: the final reference has
 /// to name what the local does. Where the struct is one too many there is no value, and a fault tells of that elsewhere.
-#[tactic(auto, using(source::specs::Theory::Leasts::least_append))]
+#[tactic(auto, using(resolution::specs::Theory::Leasts::least_append))]
 pub fn owned_by(
     checker: &Checker,
     opening: Opening,

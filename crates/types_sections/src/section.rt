@@ -7,7 +7,7 @@ ghost use Rattle.resolution.specs.CoreViews.{core_section};
 ghost use Rattle.resolution.specs.Limits.{section_limits, helper_limits};
 ghost use Rattle.resolution.specs.Scopes.{entered, result_of};
 ghost use Rattle.resolution.specs.Working.TypedSections.{core_locals, core_local, section_in, typed_section};
-ghost use Rattle.source.specs.Mistakes.{least_of};
+ghost use Rattle.resolution.specs.Working.Findings.{least_of};
 ghost use Rattle.resolution.specs.Working.FaultLists.{param_faults, result_faults, section_faults};
 ghost use Rattle.types_symbols.specs.{decls_of, local_seen};
 ghost use Rattle.types_expressions.specs.Working.Checkers.{scope};
@@ -19,14 +19,13 @@ use core_lang::tree;
 use core_lang::tree::{LocalKind, Section};
 use core_lang::value::ValueType;
 use resolution::body_limits::BodyLimits;
+use resolution::finding::{Least, note_if};
 use source::fault::Code;
-use source::mistake::Mistake;
 use std::alloc::{AllocError, Global};
 use syntax::tree as written;
 use syntax::tree::Param;
 use types_expressions::checker::Checker;
-use types_expressions::judged::{Judged, Least};
-use types_symbols::note::note_if;
+use types_expressions::judged::Judged;
 use types_symbols::scope::{Local, note_type, type_outside};
 use types_symbols::table::SymbolTable;
 
@@ -103,7 +102,7 @@ fn result_type(symbols: &SymbolTable, s: &written::Section, least: &mut Least) -
 }
 
 /// Declares the parameters of a section or a helper, and notes what is wrong with them.
-#[tactic(auto, using(source::specs::Theory::Leasts::least_append))]
+#[tactic(auto, using(resolution::specs::Theory::Leasts::least_append))]
 fn judge_params(
     checker: &mut Checker,
     params: &[Param],
@@ -182,7 +181,7 @@ fn section_of(
 }
 
 /// A section or a helper, in the checker at its start, with what is wrong with its parameters and its statements.
-#[tactic(auto, using(source::specs::Theory::Leasts::least_append))]
+#[tactic(auto, using(resolution::specs::Theory::Leasts::least_append))]
 fn judge_in(checker: &mut Checker, s: &written::Section, least: &mut Least) -> Judged<Section>
     ensures value { IfOk result (λ r. option_map core_section r ≡ section_in (scope checker.old) (section_view s.now)) }
     ensures faults { OnOk result (least.new ≡ least_of least.old (blamed_in (scope checker.old) (section_view s.now))) }
@@ -199,12 +198,12 @@ fn judge_in(checker: &mut Checker, s: &written::Section, least: &mut Least) -> J
 /// The section that a tree stands for: each name replaced by the number of what it means, every expression typed.
 /// `None` where something in it has no type, or its result and its `return` don't agree. What is wrong with it is
 /// noted. The one error is a refused growth.
-#[tactic(auto, using(source::specs::Theory::Leasts::least_append))]
+#[tactic(auto, using(resolution::specs::Theory::Leasts::least_append))]
 pub fn judge_section(
     alloc: Global,
     symbols: &SymbolTable,
     s: &written::Section,
-    least: &mut Option<Mistake>,
+    least: &mut Least,
 ) -> Result<Option<Section>, AllocError>
     ensures value { IfOk result (λ r. option_map core_section r ≡ typed_section (decls_of symbols.now) section_limits (section_view s.now)) }
     ensures faults { OnOk result (least.new ≡ least_of least.old (section_faults (decls_of symbols.now) section_limits (section_view s.now))) }
@@ -217,12 +216,12 @@ pub fn judge_section(
 }
 
 /// The helper that a tree stands for, as [`judge_section`] says. It has no limits of its own.
-#[tactic(auto, using(source::specs::Theory::Leasts::least_append))]
+#[tactic(auto, using(resolution::specs::Theory::Leasts::least_append))]
 pub fn judge_helper(
     alloc: Global,
     symbols: &SymbolTable,
     s: &written::Section,
-    least: &mut Option<Mistake>,
+    least: &mut Least,
 ) -> Result<Option<Section>, AllocError>
     ensures value { IfOk result (λ r. option_map core_section r ≡ typed_section (decls_of symbols.now) helper_limits (section_view s.now)) }
     ensures faults { OnOk result (least.new ≡ least_of least.old (section_faults (decls_of symbols.now) helper_limits (section_view s.now))) }

@@ -9,7 +9,7 @@ ghost use Rattle.resolution.specs.CoreViews.{core_expr, core_stmt, core_action};
 ghost use Rattle.resolution.specs.Scopes.{bound, type_of};
 ghost use Rattle.resolution.specs.Working.TypedStatements.{does, acts, first_value, local_bound, owned_bound, called_bound, acts_if, binds, assigns, prints, returns, repeats, chooses, chooses_between, block_of, typed_stmt, typed_body};
 ghost use Rattle.resolution.specs.Statements.{after, after_else, after_all};
-ghost use Rattle.source.specs.Mistakes.{least_of};
+ghost use Rattle.resolution.specs.Working.Findings.{least_of};
 ghost use Rattle.resolution.specs.Working.FaultLists.{binding_faults, called_faults, stmt_faults, else_faults, stmts_faults};
 ghost use Rattle.types_expressions.specs.Working.Checkers.{scope};
 ghost use Rattle.types_sections.specs.Working.Calls.{acts_where};
@@ -20,11 +20,12 @@ use crate::owner::{Opening, owned_by};
 use crate::target::{Assignee, Target, first_name, judge_target, wanted_by};
 use core_lang::tree::{Action, Condition, Expr, LocalKind, Return, Stmt};
 use core_lang::value::ValueType;
+use resolution::finding::Least;
 use std::alloc::AllocError;
 use syntax::tree;
 use syntax::tree::Place;
 use types_expressions::checker::Checker;
-use types_expressions::judged::{Judged, Least};
+use types_expressions::judged::Judged;
 use types_expressions::wanted::want;
 
 /// What a statement is.
@@ -303,7 +304,7 @@ fn judge_local(
 }
 
 /// A `let` whose value is tested by a final reference.
-#[tactic(auto, using(source::specs::Theory::Leasts::least_append))]
+#[tactic(auto, using(resolution::specs::Theory::Leasts::least_append))]
 fn judge_owned(
     checker: &mut Checker,
     local: &tree::Local,
@@ -320,7 +321,7 @@ fn judge_owned(
 }
 
 /// A `let` of what a helper gives back.
-#[tactic(auto, using(source::specs::Theory::Leasts::least_append))]
+#[tactic(auto, using(resolution::specs::Theory::Leasts::least_append))]
 fn judge_called(checker: &mut Checker, local: &tree::CalledLocal, least: &mut Least) -> Judged<Part>
     ensures value { IfOk result (λ r. option_map part_of r ≡ called_bound (scope checker.old) (called_local_of local.now)) }
     ensures faults { OnOk result (least.new ≡ least_of least.old (called_faults (scope checker.old) (called_local_of local.now))) }
@@ -427,7 +428,7 @@ fn judge_choice(checker: &mut Checker, choice: &tree::If, least: &mut Least) -> 
 
 /// A choice with what stands behind `else`.
 #[cycle(stmts)]
-#[tactic(auto, using(source::specs::Theory::Leasts::least_append))]
+#[tactic(auto, using(resolution::specs::Theory::Leasts::least_append))]
 fn judge_otherwise(
     checker: &mut Checker,
     other: &Option<tree::Block>,

@@ -5,7 +5,7 @@ ghost use Rattle.syntax.specs.Views.{ident, element_of, path_of, place_of};
 ghost use Rattle.resolution.specs.CoreViews.{core_expr};
 ghost use Rattle.resolution.specs.Statements.{first_name};
 ghost use Rattle.resolution.specs.Working.TypedStatements.{assignee, assignee_at, assignee_along, target_of, wanted_by};
-ghost use Rattle.source.specs.Mistakes.{least_of};
+ghost use Rattle.resolution.specs.Working.Findings.{least_of};
 ghost use Rattle.resolution.specs.Working.FaultLists.{no_target, final_faults, target_faults};
 ghost use Rattle.types_symbols.specs.{meaning_of};
 ghost use Rattle.types_expressions.specs.Working.Checkers.{scope};
@@ -15,15 +15,16 @@ ghost use Rattle.types_sections.specs.Working.Targets.{target_seen, assignee_of,
 
 use core_lang::tree::{Expr, FieldStep, LocalKind, Path};
 use core_lang::value::ValueType;
+use resolution::finding::{Finding, Least, note_found};
 use resolution::wanted::Want;
+use resolution::why::{Role, Why};
 use source::fault::Code;
-use source::mistake::note;
 use syntax::tree;
 use syntax::tree::{Decl, Element, Name, Place};
 use types_expressions::checker::Checker;
-use types_expressions::judged::{Judged, Least, faulty};
+use types_expressions::judged::{Judged, faulty, faulty_for};
 use types_expressions::place::{Indexed, Walk, local_path};
-use types_symbols::scope::Meaning;
+use types_symbols::scope::{Meaning, misnamed};
 
 /// What is assigned to.
 #[derive(Drop)]
@@ -103,9 +104,15 @@ fn assignee_along(start: usize, m: Meaning, w: Walk, least: &mut Least) -> Optio
             _ => None,
         },
         Some(FieldStep::Final { structure, number }) => {
-            faulty(Code::NotAssignable, start, least)
+            faulty_for(
+                Finding::new(Code::NotAssignable, start, Why::FinalTarget),
+                least,
+            )
         }
-        None => faulty(Code::NotAssignable, start, least),
+        None => faulty_for(
+            Finding::new(Code::NotAssignable, start, Why::FinalTarget),
+            least,
+        ),
     }
 }
 
@@ -128,7 +135,8 @@ fn assignee_at(checker: &Checker, start: usize, m: Meaning, least: &mut Least) -
         Meaning::Local(i, local) => match local.kind {
             LocalKind::Var => assignee_of_type(Target::Local(i), local.value_type),
             LocalKind::Let | LocalKind::Parameter => {
-                checker.misplaced(Code::NotAssignable, start, m, least)
+                let found = misnamed(Code::NotAssignable, Role::Target, start, m);
+                checker.misplaced(found, m, least)
             }
         },
         Meaning::Decl(place, Decl::Global(v)) => assignee_of_type(
@@ -136,19 +144,23 @@ fn assignee_at(checker: &Checker, start: usize, m: Meaning, least: &mut Least) -
             checker.type_outside(&v.value_type),
         ),
         Meaning::Decl(_, Decl::Lock(_)) => faulty(Code::LockAsValue, start, least),
-        _ => checker.misplaced(Code::NotAssignable, start, m, least),
+        _ => checker.misplaced(
+            misnamed(Code::NotAssignable, Role::Target, start, m),
+            m,
+            least,
+        ),
     }
 }
 
 /// What takes an index on the left: no member of a pool can be assigned to.
-#[tactic(auto, using(source::specs::Theory::Leasts::least_append))]
+#[tactic(auto, using(resolution::specs::Theory::Leasts::least_append))]
 fn array_at(checker: &Checker, start: usize, m: Meaning, least: &mut Least) -> Option<Indexed>
     ensures value { result ≡ indexed_by (scope checker.now).decls (meaning_of m.entry) }
     ensures faults { least.new ≡ least_of least.old (element_faults (scope checker.now).decls start (meaning_of m.entry)) }
 {
     let indexed = checker.indexed(start, m, least);
     if let Some(Indexed::Pool(_, _)) = indexed {
-        note(least, Code::NotAssignable, start);
+        note_found(misnamed(Code::NotAssignable, Role::Target, start, m), least);
     }
     indexed
 }

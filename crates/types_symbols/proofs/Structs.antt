@@ -4,8 +4,8 @@ use Rattle.std.proofs.Common.{◌∙◌, arith}
 use Rattle.std.proofs.lemmas.List.{map-append, append-nil}
 use Rattle.std.specs.Prelude.{is_some, not, map}
 use Rattle.source.specs.declared.fault.Code.TheVariants.{DeclaredTwice}
-use Rattle.source.specs.declared.mistake.Mistake.{Mistake}
-use Rattle.source.specs.Mistakes.{least_of}
+use Rattle.resolution.specs.declared.finding.Finding.{Finding}
+use Rattle.resolution.specs.Working.Findings.{least_of}
 use Rattle.syntax.specs.declared.tree.Decl as rust
 use Rattle.syntax.specs.declared.tree.Decl.TheVariants as variant
 use Rattle.syntax.specs.declared.tree.Struct as rust_struct
@@ -63,7 +63,7 @@ structures_more ds d ss new made all = made ∙ ap (λ (l : List Struct). l ++ s
 
 pub faults_more : (d : Decl) (ds : List Decl) → struct_faults (d ∷ []) ++ struct_faults ds ≡ struct_faults (d ∷ ds)
 faults_more (lock x) ds = refl
-faults_more (struct s) ds = ap (λ (l : List Mistake). l ++ struct_faults ds) (append-nil (member_twice_faults [] s.members))
+faults_more (struct s) ds = ap (λ (l : List Finding). l ++ struct_faults ds) (append-nil (member_twice_faults [] s.members))
 faults_more (global x) ds = refl
 faults_more (array x) ds = refl
 faults_more (pool x) ds = refl
@@ -80,7 +80,7 @@ module _ (d : rust.Decl) (x : rust_struct.Struct) where
       ap (map struct_of) made ∙ map-append struct_of ss (y ∷ []) ∙ ap (λ (z : rust_struct.Struct). map struct_of ss ++ struct_of z ∷ []) same
       ∙ ap (λ (e : rust.Decl). map struct_of ss ++ structs_in (decl_of e ∷ [])) (sym is)
 
-  pub structure_blamed : (f g : Option Mistake) → d ≡ variant.Struct x →
+  pub structure_blamed : (f g : Option Finding) → d ≡ variant.Struct x →
       g ≡ least_of f (member_twice_faults [] (struct_of x).members) → g ≡ least_of f (struct_faults (decl_of d ∷ []))
   structure_blamed f g is noted =
       noted ∙ ap (least_of f) (sym (append-nil (member_twice_faults [] (struct_of x).members))) ∙ ap (λ (e : rust.Decl). least_of f (struct_faults (decl_of e ∷ []))) (sym is)
@@ -102,7 +102,7 @@ pub none_added : (d : rust.Decl) (ss : List rust_struct.Struct) →
     map struct_of ss ≡ map struct_of ss ++ structs_in (decl_of d ∷ [])
 none_added d ss other = sym (ap (λ (l : List Struct). map struct_of ss ++ l) (none_struct d other) ∙ append-nil (map struct_of ss))
 
-pub none_blamed : (d : rust.Decl) (f : Option Mistake) → ((x : rust_struct.Struct) → d ≡ variant.Struct x → ⊥) →
+pub none_blamed : (d : rust.Decl) (f : Option Finding) → ((x : rust_struct.Struct) → d ≡ variant.Struct x → ⊥) →
     f ≡ least_of f (struct_faults (decl_of d ∷ []))
 none_blamed (variant.Lock x) f h = refl
 none_blamed (variant.Struct x) f h = absurd (h x refl)

@@ -5,7 +5,7 @@ use Rattle.std.specs.Prelude.{min, nat_le, nat_lt, ◌&&◌}
 use Rattle.std.proofs.lemmas.Bool.Decides.{nat_tests}
 use Rattle.source.specs.declared.fault.Code.TheVariants.{LimitExceeded}
 use Rattle.syntax.specs.Trees.{Decl, lock, struct, global, array, pool, init, atomic, helper, thread, Section, Member}
-use Rattle.source.specs.declared.mistake.Mistake.{Mistake}
+use Rattle.resolution.specs.declared.finding.Finding.{Finding}
 use Rattle.resolution.specs.Limits.{CLASS_LIMIT, OBJECT_LIMIT, CELL_LIMIT, SECTION_LIMIT, CALL_LIMIT}
 use Rattle.resolution.specs.Scopes.{count, alike, has_body, member_name}
 use Rattle.resolution.specs.Theory.Facts.{bodies_counted}
@@ -80,7 +80,7 @@ pub counts_same : (a b n : ℕ) (ms : List Member) →
 counts_same a b n [] same = refl
 counts_same a b n (m ∷ ms) same =
     ap (λ (t : Bool). one_if (nat_le 32 n) LimitExceeded (member_name m).span.start ++ one_if (is_lock m && t) LimitExceeded (member_name m).span.start ++ member_counts (a + lock_count (is_lock m)) (n + 1) ms) (here (same 0))
-    ∙ ap (λ (fs : List Mistake). one_if (nat_le 32 n) LimitExceeded (member_name m).span.start ++ one_if (is_lock m && nat_le CLASS_LIMIT b) LimitExceeded (member_name m).span.start ++ fs)
+    ∙ ap (λ (fs : List Finding). one_if (nat_le 32 n) LimitExceeded (member_name m).span.start ++ one_if (is_lock m && nat_le CLASS_LIMIT b) LimitExceeded (member_name m).span.start ++ fs)
     (counts_same (a + lock_count (is_lock m)) (b + lock_count (is_lock m)) (n + 1) ms (λ k. ap (nat_le CLASS_LIMIT) (omega arith) ∙ same (lock_count (is_lock m) + k) ∙ ap (nat_le CLASS_LIMIT) (omega arith)))
   where
     here : nat_le CLASS_LIMIT (a + 0) ≡ nat_le CLASS_LIMIT (b + 0) → nat_le CLASS_LIMIT a ≡ nat_le CLASS_LIMIT b
@@ -98,8 +98,8 @@ capped_le L n k = decide (nat_le L (min n (L + 1) + k)) (nat_le L (n + k)) refl 
 over_if : (s t : Bool) (p : ℕ) → s ≡ t → one_if s LimitExceeded p ≡ one_if t LimitExceeded p
 over_if s t p e = ap (λ (b : Bool). one_if b LimitExceeded p) e
 
-both_lists : (a b c d : List Mistake) → a ≡ c → b ≡ d → a ++ b ≡ c ++ d
-both_lists a b c d e f = ap (λ (x : List Mistake). x ++ b) e ∙ ap (λ (x : List Mistake). c ++ x) f
+both_lists : (a b c d : List Finding) → a ≡ c → b ≡ d → a ++ b ≡ c ++ d
+both_lists a b c d e f = ap (λ (x : List Finding). x ++ b) e ∙ ap (λ (x : List Finding). c ++ x) f
 
 both_full : (L n a b : ℕ) → n ≡ a + b → nat_le L (min a L + min b L) ≡ nat_le L n
 both_full L n a b e = decide (nat_le L (min a L + min b L)) (nat_le L n) refl refl
@@ -117,14 +117,14 @@ bodies_full ds s = both_full SECTION_LIMIT (count has_body ds) (count (alike (at
 pub faults_are : (decls ds : List Decl) (d : Decl) →
     faults_by (limited ds d) (totals_of decls ds) (added_by decls d) d ≡ count_faults decls ds d
 faults_are decls ds (lock x) = over_if _ _ x.span.start (same_le CLASS_LIMIT (total classes_of ds))
-faults_are decls ds (struct s) = ap (λ (fs : List Mistake). one_if (nat_le 64 (count (alike (struct s)) ds)) LimitExceeded s.name.span.start ++ fs) (counts_same (min (total classes_of ds) (CLASS_LIMIT + 1)) (total classes_of ds) 0 s.members (capped_le CLASS_LIMIT (total classes_of ds)))
+faults_are decls ds (struct s) = ap (λ (fs : List Finding). one_if (nat_le 64 (count (alike (struct s)) ds)) LimitExceeded s.name.span.start ++ fs) (counts_same (min (total classes_of ds) (CLASS_LIMIT + 1)) (total classes_of ds) 0 s.members (capped_le CLASS_LIMIT (total classes_of ds)))
 faults_are decls ds (global v) = over_if _ _ v.name.span.start (same_test CELL_LIMIT (total (cells_of decls) ds) (cells_of decls (global v)))
 faults_are decls ds (array a) = over_if _ _ a.name.span.start (same_test CELL_LIMIT (total (cells_of decls) ds) (cells_of decls (array a)))
 faults_are decls ds (pool p) = both_lists _ _ _ _ (over_if _ _ p.name.span.start (same_test OBJECT_LIMIT (total objects_of ds) (objects_of (pool p)))) (over_if _ _ p.name.span.start (same_test CELL_LIMIT (total (cells_of decls) ds) (cells_of decls (pool p))))
 faults_are decls ds (init i) = refl
 faults_are decls ds (atomic s) = over_if _ _ s.name.span.start (bodies_full ds s)
 faults_are decls ds (helper s) = over_if _ _ s.name.span.start (bodies_full ds s)
-faults_are decls ds (thread t) = ap (λ (fs : List Mistake). one_if (nat_le 64 (count (alike (thread t)) ds)) LimitExceeded t.name.span.start ++ fs) (over_if _ _ t.name.span.start (same_test CALL_LIMIT (total calls_of ds) (calls_of (thread t))))
+faults_are decls ds (thread t) = ap (λ (fs : List Finding). one_if (nat_le 64 (count (alike (thread t)) ds)) LimitExceeded t.name.span.start ++ fs) (over_if _ _ t.name.span.start (same_test CALL_LIMIT (total calls_of ds) (calls_of (thread t))))
 
 -- ---- a product of capped numbers
 

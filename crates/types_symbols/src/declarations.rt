@@ -3,7 +3,7 @@
 ghost use Rattle.std.specs.Prelude.{◌≡◌, ◌<◌, ◌+◌, ◌∷◌, ◌++◌, ◌^◌, [], OnOk, IfOk, option_map, map, slice_get, take};
 ghost use Rattle.syntax.specs.Views.{ident, decl_of, struct_of};
 ghost use Rattle.resolution.specs.Scopes.{declared, bears, the_decl, number_at, structs_in, the_struct};
-ghost use Rattle.source.specs.Mistakes.{least_of};
+ghost use Rattle.resolution.specs.Working.Findings.{least_of};
 ghost use Rattle.resolution.specs.Working.FaultLists.{twice_faults, struct_faults};
 ghost use Rattle.types_symbols.specs.Working.Found.{IsTableOf, IsTableWith, declared_in, AreAhead};
 ghost use Rattle.types_symbols.specs.Working.Counted.{count_of, counted, counts_from, no_counts, limited, limited_of};
@@ -13,8 +13,8 @@ ghost use Rattle.types_symbols.specs.Working.Views.{decls_of, name_seen, struct_
 use crate::members::Structure;
 use crate::names::{Names, TableMaker};
 use crate::totals::SECTION_LIMIT;
+use resolution::finding::{Least, note};
 use source::fault::Code;
-use source::mistake::{Mistake, note};
 use std::alloc::{AllocError, Global};
 use std::marker::Model;
 use syntax::tree::{Decl, Name};
@@ -179,12 +179,12 @@ impl Counts {
 }
 
 /// Notes a name that is declared already.
-fn note_twice(names: &Names, name: Option<&Name>, least: &mut Option<Mistake>)
+fn note_twice(names: &Names, name: Option<&Name>, least: &mut Least)
     ensures { least.new ≡ least_of least.old (declared_in names.now (name_seen name.entry)) }
 {
     if let Some(name) = name {
         if names.find(name.text.as_str()).is_some() {
-            note(least, Code::DeclaredTwice, name.start as usize);
+            note(Code::DeclaredTwice, name.start as usize, least);
         }
     }
 }
@@ -208,7 +208,7 @@ fn add_name(
 fn judge_names(
     maker: TableMaker,
     decls: &[Decl],
-    least: &mut Option<Mistake>,
+    least: &mut Least,
 ) -> Result<(Names, Vec<Counts>, Counts), AllocError>
     ensures names { IfOk result (λ t. IsTableOf bears (decls_of decls.now) t.0) }
     ensures counts { IfOk result (λ t. AreAhead (counts_from no_counts) (decls_of decls.now) t.1.items t.2) }
@@ -233,7 +233,7 @@ fn judge_struct<'t>(
     maker: TableMaker,
     d: &'t Decl,
     structs: &mut Vec<Structure<'t>>,
-    least: &mut Option<Mistake>,
+    least: &mut Least,
 ) -> Result<(), AllocError>
     ensures structs { OnOk result (map struct_of structs.new.items ≡ map struct_of structs.old.items ++ structs_in (decl_of d.now ∷ [])) }
     ensures faults { OnOk result (least.new ≡ least_of least.old (struct_faults (decl_of d.now ∷ []))) }
@@ -250,7 +250,7 @@ fn judge_struct<'t>(
 fn judge_structs<'t>(
     maker: TableMaker,
     decls: &'t [Decl],
-    least: &mut Option<Mistake>,
+    least: &mut Least,
 ) -> Result<Vec<Structure<'t>>, AllocError>
     ensures structs { IfOk result (λ t. AreStructures (decls_of decls.now) t.items) }
     ensures faults { OnOk result (least.new ≡ least_of least.old (struct_faults (decls_of decls.now))) }
@@ -267,7 +267,7 @@ impl<'t> Declarations<'t> {
     pub(crate) fn new(
         maker: TableMaker,
         items: &'t [Decl],
-        least: &mut Option<Mistake>,
+        least: &mut Least,
     ) -> Result<Declarations<'t>, AllocError>
         ensures items { IfOk result (λ t. t ≡ items.now) }
         ensures faults { OnOk result (least.new ≡ least_of least.old (name_faults (decls_of items.now))) }

@@ -4,7 +4,7 @@ ghost use Rattle.std.specs.Prelude.{◌≡◌, [], OnOk, IfOk, option_map, None}
 ghost use Rattle.syntax.specs.Views.{decl_of, init_of, pool_of, member_of, struct_of};
 ghost use Rattle.resolution.specs.declared.init_target.InitTarget as the_init_target;
 ghost use Rattle.resolution.specs.Constants.{init_target_of, gives, same_init_target, initialised, pool_members};
-ghost use Rattle.source.specs.Mistakes.{least_of};
+ghost use Rattle.resolution.specs.Working.Findings.{least_of};
 ghost use Rattle.resolution.specs.Working.FaultLists.{repeated_faults};
 ghost use Rattle.types_symbols.specs.Working.Given.{init_target_found, IsInitTargetTable, IsInitTargetTableWith, again_given, repeated_in, pool_named, struct_of_pool};
 ghost use Rattle.types_symbols.specs.Working.Views.{decls_of, decl_named, members_seen};
@@ -12,9 +12,9 @@ ghost use Rattle.types_symbols.specs.Working.Views.{decls_of, decl_named, member
 use crate::declarations::Declarations;
 use crate::members::Structure;
 use indexmap::IndexMap;
+use resolution::finding::{Least, note};
 use resolution::init_target::InitTarget;
 use source::fault::Code;
-use source::mistake::{Mistake, note};
 use std::alloc::{AllocError, Global};
 use syntax::tree::{Decl, Init, Member, Pool};
 
@@ -110,13 +110,13 @@ fn note_again(
     first_inits: &FirstInits,
     init_target: Option<InitTarget>,
     start: usize,
-    least: &mut Option<Mistake>,
+    least: &mut Least,
 )
     ensures { least.new ≡ least_of least.old (again_given first_inits.now start init_target) }
 {
     if let Some(init_target) = init_target {
         if first_inits.find(init_target).is_some() {
-            note(least, Code::InitOutOfRangeOrRepeated, start);
+            note(Code::InitOutOfRangeOrRepeated, start, least);
         }
     }
 }
@@ -127,7 +127,7 @@ fn judge_decl(
     first_inits: &mut FirstInits,
     place: usize,
     d: &Decl,
-    least: &mut Option<Mistake>,
+    least: &mut Least,
 ) -> Result<(), AllocError>
     ensures first_inits { OnOk result (IsInitTargetTableWith (gives (decls_of decls.now) (decl_of d.now)) place first_inits.old first_inits.new) }
     ensures faults { OnOk result (least.new ≡ least_of least.old (repeated_in first_inits.old (decls_of decls.now) (decl_of d.now))) }
@@ -146,7 +146,7 @@ fn judge_decl(
 pub(crate) fn judge_first_inits(
     alloc: Global,
     decls: &Declarations,
-    least: &mut Option<Mistake>,
+    least: &mut Least,
 ) -> Result<FirstInits, AllocError>
     ensures first_inits { IfOk result (λ t. IsInitTargetTable (decls_of decls.now) (decls_of decls.now) t) }
     ensures faults { OnOk result (least.new ≡ least_of least.old (repeated_faults (decls_of decls.now) [] (decls_of decls.now))) }

@@ -7,7 +7,6 @@
 //! - [`declarations::Declarations`], [`members::Structure`], [`first_inits::FirstInits`], [`totals::Totals`], [`names::Names`]:
 //!   the tables.
 //! - [`scope`]: what a name means, in a section or outside of sections, and the types that are written.
-//! - [`note::note_if`]: notes a fault where there is one.
 //!
 //! Which data a value of the tables is stands in `specs/Working/Views.antt`, `Found.antt` and `Scoped.antt`; how sums past a limit
 //! are capped in `Capped.antt`. What names mean and where faults stand is defined in `resolution`.
@@ -17,7 +16,6 @@ pub mod declarations;
 pub mod first_inits;
 pub mod members;
 pub mod names;
-pub mod note;
 pub mod scope;
 pub mod table;
 pub mod totals;

@@ -6,15 +6,15 @@ ghost use Rattle.source.specs.declared.fault.Code.TheVariants.{DeclaredTwice};
 ghost use Rattle.resolution.specs.Scopes.{member_name, member_bears, place_of, the_member, number_in};
 ghost use Rattle.resolution.specs.Numbers.{fields_from};
 ghost use Rattle.resolution.specs.Expressions.{member_number};
-ghost use Rattle.source.specs.Mistakes.{least_of};
+ghost use Rattle.resolution.specs.Working.Findings.{least_of};
 ghost use Rattle.resolution.specs.Working.FaultLists.{one_if, member_twice_faults};
 ghost use Rattle.types_symbols.specs.Working.Found.{IsTableOf, AreAhead};
 ghost use Rattle.types_symbols.specs.Working.Counted.{member_count, member_counted, member_counts_from, no_members, field_if};
 ghost use Rattle.types_symbols.specs.Working.Views.{members_seen};
 
 use crate::names::{Names, TableMaker};
+use resolution::finding::{Least, note};
 use source::fault::Code;
-use source::mistake::{Mistake, note};
 use std::alloc::{AllocError, Global};
 use std::marker::Model;
 use syntax::tree::{Member, Name, Struct};
@@ -126,11 +126,11 @@ fn fields_with(is_first: bool, m: &Member) -> usize
 }
 
 /// Notes a name that is borne already.
-fn note_again(is_first: bool, start: usize, least: &mut Option<Mistake>)
+fn note_again(is_first: bool, start: usize, least: &mut Least)
     ensures { least.new ≡ least_of least.old (one_if (not is_first) DeclaredTwice start) }
 {
     if !is_first {
-        note(least, Code::DeclaredTwice, start);
+        note(Code::DeclaredTwice, start, least);
     }
 }
 
@@ -139,7 +139,7 @@ fn note_again(is_first: bool, start: usize, least: &mut Option<Mistake>)
 fn judge_members(
     maker: TableMaker,
     members: &[Member],
-    least: &mut Option<Mistake>,
+    least: &mut Least,
 ) -> Result<(Names, Vec<MemberCounts>, MemberCounts, usize), AllocError>
     ensures names { IfOk result (λ t. IsTableOf member_bears (map member_of members.now) t.0) }
     ensures counts { IfOk result (λ t. AreAhead (member_counts_from no_members) (map member_of members.now) t.1.items t.2) }
@@ -168,7 +168,7 @@ impl<'t> Structure<'t> {
     pub(crate) fn new(
         maker: TableMaker,
         item: &'t Struct,
-        least: &mut Option<Mistake>,
+        least: &mut Least,
     ) -> Result<Structure<'t>, AllocError>
         ensures item { IfOk result (λ s. s ≡ item.now) }
         ensures faults { OnOk result (least.new ≡ least_of least.old (member_twice_faults [] (struct_of item.now).members)) }

@@ -2,23 +2,25 @@
 
 ghost use Rattle.std.specs.Prelude.{◌≡◌, ◌∷◌, ◌++◌, [], OnOk, length, option_map};
 ghost use Rattle.std.specs.Rc.{rc_str_bytes};
-ghost use Rattle.syntax.specs.Views.{ident, member_of, type_of as type_seen};
+ghost use Rattle.syntax.specs.Views.{decl_of, ident, member_of, type_of as type_seen};
 ghost use Rattle.syntax.specs.Trees.{ref_type};
 ghost use Rattle.resolution.specs.Scopes.{meaning, outside, hidden_from, struct_meant, struct_named, type_of, has_type, member_has_type, the_local};
-ghost use Rattle.source.specs.Mistakes.{least_of};
+ghost use Rattle.resolution.specs.Working.Findings.{least_of, told};
+ghost use Rattle.resolution.specs.Reasons.{referent_of, stands_for};
+ghost use Rattle.resolution.specs.declared.why.Why.TheVariants.{Misnamed};
 ghost use Rattle.resolution.specs.Working.FaultLists.{no_struct, type_faults, unfit, unfit_member};
 ghost use Rattle.types_symbols.specs.Working.Found.{IsTableWithName};
 ghost use Rattle.types_symbols.specs.Working.Views.{decls_of};
 ghost use Rattle.types_symbols.specs.Working.Scoped.{locals_seen, local_seen, scope_of, IsBound, meaning_of};
 
 use crate::names::{Names, TableMaker};
-use crate::note::note_if;
 use crate::table::SymbolTable;
 use core_lang::tree::LocalKind;
 use core_lang::value::ValueType;
 use resolution::body_limits::BodyLimits;
+use resolution::finding::{Finding, Least, note, note_found, note_found_if};
+use resolution::why::{Referent, Role, Why};
 use source::fault::Code;
-use source::mistake::{Mistake, note};
 use std::alloc::{AllocError, Global};
 use std::marker::Model;
 use std::rc::RcStr;
@@ -265,17 +267,11 @@ fn has_type(symbols: &SymbolTable, m: Meaning) -> bool
     }
 }
 
-/// Notes at `start` the fault of a thing that can't stand there, unless its type has a fault.
-pub fn note_unfit(
-    symbols: &SymbolTable,
-    code: Code,
-    start: usize,
-    m: Meaning,
-    least: &mut Option<Mistake>,
-)
-    ensures { least.new ≡ least_of least.old (unfit (decls_of symbols.now) code start (meaning_of m.entry)) }
+/// Notes the fault of a thing that can't stand there, unless its type has a fault.
+pub fn note_unfit(symbols: &SymbolTable, found: Finding, m: Meaning, least: &mut Least)
+    ensures { least.new ≡ least_of least.old (unfit (decls_of symbols.now) found (meaning_of m.entry)) }
 {
-    note_if(has_type(symbols, m), code, start, least);
+    note_found_if(has_type(symbols, m), found, least);
 }
 
 /// Whether a member has no fault in its type.
@@ -289,39 +285,68 @@ fn member_has_type(symbols: &SymbolTable, m: &Member) -> bool
     }
 }
 
-/// Notes at `start` the fault of a member that can't stand there, unless its type has a fault.
-pub fn note_unfit_member(
-    symbols: &SymbolTable,
-    code: Code,
-    start: usize,
-    m: &Member,
-    least: &mut Option<Mistake>,
-)
-    ensures { least.new ≡ least_of least.old (unfit_member (decls_of symbols.now) code start (member_of m.now)) }
+/// Notes the fault of a member that can't stand there, unless its type has a fault.
+pub fn note_unfit_member(symbols: &SymbolTable, found: Finding, m: &Member, least: &mut Least)
+    ensures { least.new ≡ least_of least.old (unfit_member (decls_of symbols.now) found (member_of m.now)) }
 {
-    note_if(member_has_type(symbols, m), code, start, least);
+    note_found_if(member_has_type(symbols, m), found, least);
+}
+
+/// What the name of a declaration stands for.
+fn declared_referent(d: &Decl) -> Referent
+    ensures { result ≡ referent_of (decl_of d.now) }
+{
+    match d {
+        Decl::Lock(_) => Referent::Lock,
+        Decl::Struct(_) => Referent::Struct,
+        Decl::Global(_) => Referent::Global,
+        Decl::Array(_) => Referent::Array,
+        Decl::Pool(_) => Referent::Pool,
+        Decl::Init(_) => Referent::Nothing,
+        Decl::Atomic(_) => Referent::Section,
+        Decl::Helper(_) => Referent::Helper,
+        Decl::Thread(_) => Referent::Thread,
+    }
+}
+
+/// What a name stands for.
+fn referent(m: Meaning) -> Referent
+    ensures { result ≡ stands_for (meaning_of m.entry) }
+{
+    match m {
+        Meaning::Local(_, local) => Referent::Local(local.kind),
+        Meaning::Decl(_, d) => declared_referent(d),
+        Meaning::Nothing => Referent::Nothing,
+    }
+}
+
+/// The fault of a name that is to stand for something else.
+pub fn misnamed(code: Code, role: Role, start: usize, m: Meaning) -> Finding
+    ensures { result ≡ told code start (Misnamed role (stands_for (meaning_of m.entry))) }
+{
+    Finding::new(code, start, Why::Misnamed(role, referent(m)))
 }
 
 /// Notes a type's name that names no struct.
-fn note_no_struct(start: usize, m: Meaning, least: &mut Option<Mistake>)
+fn note_no_struct(start: usize, m: Meaning, least: &mut Least)
     ensures { least.new ≡ least_of least.old (no_struct start (meaning_of m.entry)) }
 {
     match m {
         Meaning::Decl(_, Decl::Struct(_)) => {}
-        Meaning::Nothing => note(least, Code::UnknownName, start),
-        _ => note(least, Code::WrongType, start),
+        Meaning::Nothing => note(Code::UnknownName, start, least),
+        _ => note_found(misnamed(Code::WrongType, Role::Struct, start, m), least),
     }
 }
 
 /// Notes what is wrong with the name of a struct in a declaration: it is unknown, or means no struct.
-pub fn note_target(symbols: &SymbolTable, name: &Name, least: &mut Option<Mistake>)
+pub fn note_target(symbols: &SymbolTable, name: &Name, least: &mut Least)
     ensures { least.new ≡ least_of least.old (type_faults (outside (decls_of symbols.now)) (ref_type (ident name.now))) }
 {
     note_no_struct(name.start as usize, meaning_outside(symbols, name), least);
 }
 
 /// Notes what is wrong with a declaration's type: the struct that it refers to is unknown, or is none.
-pub fn note_type(symbols: &SymbolTable, t: &tree::ValueType, least: &mut Option<Mistake>)
+pub fn note_type(symbols: &SymbolTable, t: &tree::ValueType, least: &mut Least)
     ensures { least.new ≡ least_of least.old (type_faults (outside (decls_of symbols.now)) (type_seen t.now)) }
 {
     match t {
@@ -335,7 +360,7 @@ pub fn note_local_type(
     symbols: &SymbolTable,
     locals: &Locals,
     t: &tree::ValueType,
-    least: &mut Option<Mistake>,
+    least: &mut Least,
 )
     ensures { least.new ≡ least_of least.old (type_faults (scope_of (decls_of symbols.now) locals.now) (type_seen t.now)) }
 {

@@ -7,7 +7,7 @@ ghost use Rattle.resolution.specs.Expressions.{cell_of};
 ghost use Rattle.resolution.specs.Constants.{object_of, given, value_in};
 ghost use Rattle.resolution.specs.Annotations.{class_number};
 ghost use Rattle.resolution.specs.Working.Building.{few_calls};
-ghost use Rattle.source.specs.Mistakes.{least_of};
+ghost use Rattle.resolution.specs.Working.Findings.{least_of};
 ghost use Rattle.types_symbols.specs.Working.Capped.{totals_of};
 ghost use Rattle.types_symbols.specs.Working.Faults.{table_faults};
 ghost use Rattle.types_symbols.specs.Working.Views.{decls_of, struct_in};
@@ -17,8 +17,8 @@ use crate::first_inits::{FirstInits, judge_first_inits};
 use crate::members::Structure;
 use crate::names::TableMaker;
 use crate::totals::{CALL_LIMIT, CELL_LIMIT, CLASS_LIMIT, OBJECT_LIMIT, Totals, judge_totals};
+use resolution::finding::Least;
 use resolution::init_target::InitTarget;
-use source::mistake::Mistake;
 use std::alloc::AllocError;
 use std::marker::Model;
 use syntax::tree::{Const, Decl, Name};
@@ -65,7 +65,7 @@ impl<'t> SymbolTable<'t> {
     pub fn new(
         maker: TableMaker,
         items: &'t [Decl],
-        least: &mut Option<Mistake>,
+        least: &mut Least,
     ) -> Result<SymbolTable<'t>, AllocError>
         ensures items { IfOk result (λ t. t ≡ items.now) }
         ensures faults { OnOk result (least.new ≡ least_of least.old (table_faults (decls_of items.now))) }

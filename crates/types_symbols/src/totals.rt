@@ -6,7 +6,7 @@ ghost use Rattle.syntax.specs.Views.{decl_of, member_of, struct_of, pool_of, ite
 ghost use Rattle.syntax.specs.Trees.{struct, pool};
 ghost use Rattle.resolution.specs.Limits.{CLASS_LIMIT, CELL_LIMIT, CALL_LIMIT};
 ghost use Rattle.resolution.specs.Numbers.{is_lock, calls_in, calls_in_all, classes_of, cells_of};
-ghost use Rattle.source.specs.Mistakes.{least_of};
+ghost use Rattle.resolution.specs.Working.Findings.{least_of};
 ghost use Rattle.resolution.specs.Working.FaultLists.{one_if, first_too_many, lock_count, member_counts, total_faults};
 ghost use Rattle.types_symbols.specs.Working.Found.{AreAhead};
 ghost use Rattle.types_symbols.specs.Working.Capped.{capped, totals_of, no_totals, added_by, both_totals, AreCapped, faults_by};
@@ -14,9 +14,8 @@ ghost use Rattle.types_symbols.specs.Working.Views.{decls_of};
 
 use crate::declarations::Declarations;
 use crate::members::{MEMBER_LIMIT, name_of};
-use crate::note::note_if;
+use resolution::finding::{Least, note_if};
 use source::fault::Code;
-use source::mistake::Mistake;
 use std::alloc::{AllocError, Global};
 use syntax::tree::{Decl, Item, Member, Pool, Struct};
 
@@ -192,8 +191,8 @@ fn passes(limit: usize, before: usize, own: usize) -> bool
 }
 
 /// Notes the members by which there are too many of a struct, or too many lock classes.
-#[tactic(auto, using(source::specs::Theory::Leasts::least_append))]
-fn note_members(classes: usize, members: &[Member], least: &mut Option<Mistake>)
+#[tactic(auto, using(resolution::specs::Theory::Leasts::least_append))]
+fn note_members(classes: usize, members: &[Member], least: &mut Least)
     requires { classes ≤ CLASS_LIMIT + 1 }
     ensures { least.new ≡ least_of least.old (member_counts classes 0 (map member_of members.now)) }
 {
@@ -206,7 +205,7 @@ fn note_members(classes: usize, members: &[Member], least: &mut Option<Mistake>)
 }
 
 /// Notes a lock field by which there are too many lock classes, and says how many there are with it.
-fn note_lock(classes: usize, m: &Member, start: usize, least: &mut Option<Mistake>) -> usize
+fn note_lock(classes: usize, m: &Member, start: usize, least: &mut Least) -> usize
     requires { classes < 2 ^ 63 }
     ensures classes { result ≡ classes + lock_count (is_lock (member_of m.now)) }
     ensures faults { least.new ≡ least_of least.old (one_if (is_lock (member_of m.now) && nat_le CLASS_LIMIT classes) LimitExceeded start) }
@@ -221,8 +220,8 @@ fn note_lock(classes: usize, m: &Member, start: usize, least: &mut Option<Mistak
 }
 
 /// Notes a declaration by which there are too many of something.
-#[tactic(auto, using(source::specs::Theory::Leasts::least_append))]
-fn note_decl(number: usize, ahead: Totals, own: Totals, d: &Decl, least: &mut Option<Mistake>)
+#[tactic(auto, using(resolution::specs::Theory::Leasts::least_append))]
+fn note_decl(number: usize, ahead: Totals, own: Totals, d: &Decl, least: &mut Least)
     requires ahead { AreCapped ahead }
     requires own { AreCapped own }
     ensures { least.new ≡ least_of least.old (faults_by number ahead own (decl_of d.now)) }
@@ -270,7 +269,7 @@ fn note_decl(number: usize, ahead: Totals, own: Totals, d: &Decl, least: &mut Op
 pub(crate) fn judge_totals(
     alloc: Global,
     decls: &Declarations,
-    least: &mut Option<Mistake>,
+    least: &mut Least,
 ) -> Result<(Vec<Totals>, Totals), AllocError>
     ensures totals { IfOk result (λ t. AreAhead (totals_of (decls_of decls.now)) (decls_of decls.now) t.0.items t.1) }
     ensures faults { OnOk result (least.new ≡ least_of least.old (total_faults (decls_of decls.now) [] (decls_of decls.now))) }

@@ -4,12 +4,14 @@ use Rattle.code.specs.Listing.{line}
 use Rattle.compiler.specs.Programs.{Accepts}
 use Rattle.core_lang.specs.declared.typed.Typed.{Typed}
 use Rattle.lowering.specs.Plans.{Plan, IsCompiled}
+use Rattle.outcomes.specs.declared.outcome.Asked.{Asked}
 use Rattle.outcomes.specs.Ends.{Told}
 use Rattle.report_outcomes.specs.Outcomes.{outcomes_text}
 use Rattle.source.specs.declared.fault.Fault.{Fault}
 use Rattle.explanation.specs.declared.explanation.Acceptance.{Acceptance}
 use Rattle.explanation.specs.declared.explanation.Explanation.{Explanation}
 use Rattle.explanation.specs.Notes.{note_of}
+use Rattle.explanation.specs.Warnings.{warning_of}
 use Rattle.source.specs.Faults.{fault_text}
 use Rattle.source_steps.specs.declared.refusal.StepsFault.{StepsFault}
 use Rattle.source_steps.specs.Steps.{steps_fault_text}
@@ -45,7 +47,7 @@ abbrev pub fault_told_of : Bool → Explanation → List ℕ
 fault_told_of json x = fault_told json x.file.now x.text.now x.fault.now (map note_of x.notes.now)
 
 abbrev pub acceptance_told_of : Bool → Acceptance → List ℕ
-acceptance_told_of json x = acceptance_told json x.file.now x.text.now (map note_of x.notes.now)
+acceptance_told_of json x = acceptance_told json x.file.now x.text.now (map note_of x.notes.now) (map warning_of x.warnings.now)
 
 -- to a fault that is explained
 abbrev pub IsExplainedAnswer : Bool → Explanation → Answer → Type 0
@@ -59,9 +61,9 @@ IsJudgementAnswer why judgement lines answer =
     × (rope_text answer.out ≡ judgement_text why judgement.verdict judgement.wanted lines) × (string_bytes answer.err ≡ [])
 
 -- to ends of all orders, or of some that were drawn
-abbrev pub IsToldAnswer : Typed → Option ℕ → List Told → Answer → Type 0
-IsToldAnswer program states ends answer =
-    (answer.status ≡ Done) × (rope_text answer.out ≡ outcomes_text program states ends) × (string_bytes answer.err ≡ [])
+abbrev pub IsToldAnswer : Typed → Asked → Bool → Option ℕ → List Told → Answer → Type 0
+IsToldAnswer program asked full states ends answer =
+    (answer.status ≡ Done) × (rope_text answer.out ≡ outcomes_text program asked full states ends) × (string_bytes answer.err ≡ [])
 
 -- a text was accepted, or this is the answer to its fault
 abbrev pub IsAccepted : List ℕ → List ℕ → Result Plan Answer → Type 0

@@ -7,16 +7,17 @@ use Rattle.core_lang.specs.WellFormed.{IsWellFormed}
 use Rattle.core_lang.specs.declared.typed.Typed.{Typed}
 use Rattle.explanation.specs.Notes.{Note, note_of}
 pub use Rattle.explanation_names.specs.Working.Values.{ident_at, idents}
-pub use Rattle.explanation_types.specs.Working.Values.{FoundNote}
 use Rattle.explanation.specs.declared.note.Note as written_note
 use Rattle.resolution.specs.Constants.{members_of}
 use Rattle.resolution.specs.Working.FaultLists.{is_at}
-use Rattle.resolution.specs.Faults.{HasNoFault}
+use Rattle.resolution.specs.Faults.{HasNoFault, IsFaultFor}
+use Rattle.resolution.specs.declared.why.Why.{Why}
 use Rattle.resolution.specs.Scopes.{member_bears, member_name, place_of, the_member}
 use Rattle.source.specs.Texts.{HasTokens, IsFault, SOURCE_LIMIT}
 use Rattle.source.specs.Tokens.{Tok, seen, seen_token}
 use Rattle.source.specs.declared.fault.Code.{Code}
 use Rattle.source.specs.declared.fault.Code.TheVariants.{LimitExceeded, MisplacedReturn}
+use Rattle.source.specs.declared.fault.Code.TheVariants.{WrongType, WrongArgumentCount, NotAssignable}
 use Rattle.source.specs.declared.fault.Fault.{Fault}
 use Rattle.source.specs.declared.token.Token.{Token}
 use Rattle.types_symbols.specs.Working.Views.{decls_of as decls_in, members_seen}
@@ -36,12 +37,13 @@ use Rattle.syntax.specs.declared.tree.Param as written_param
 use Rattle.syntax.specs.declared.tree.Protection.{Protection}
 use Rattle.syntax.specs.declared.tree.Section as written_section
 use Rattle.syntax.specs.declared.tree.Stmt as written_stmt
-use Rattle.explanation_faults.specs.FaultNotes.{AreNotes, IsLimitPassed, IsLimitTold, IsTrueNote, IsTold, gap_note}
+use Rattle.explanation_faults.specs.FaultNotes.{AreNotes, IsFirstFault, IsLimitPassed, IsLimitTold, IsTrueNote, IsTold, gap_note}
+use Rattle.explanation_faults.specs.ReasonNotes.{IsReasonNote}
 use Rattle.explanation_faults.specs.FirstBy.{first_by}
 use Rattle.explanation_faults.specs.HelperLimits.{IsFirstOfHelpers, IsHelperLimit}
 use Rattle.explanation_faults.specs.LimitsPassed.{struct_name, body_name, thread_name}
 use Rattle.explanation_faults.specs.MissingInits.{IsFirstWithout, IsGap, IsGapOf, IsMissing, value_given}
-use Rattle.explanation_faults.specs.MissingReturns.{body_of}
+use Rattle.explanation_faults.specs.MissingReturns.{IsLacking, body_of}
 use Rattle.explanation_faults.specs.Working.PassedFound.{met_along, met_for}
 use Rattle.explanation_faults.specs.PathsPassed.{ArePathsFirst, ArePathsPast, IsMeantProgram}
 use Rattle.explanation_faults.specs.TextNotes.{IsTextLimit}
@@ -50,6 +52,7 @@ use Rattle.explanation_faults.specs.declared.limits_passed.Kind.TheVariants.{Str
 use Rattle.explanation_faults.specs.declared.missing_inits.Gap.{Gap}
 use Rattle.explanation_faults.specs.declared.passed_members.Sought.{Sought}
 use Rattle.explanation_faults.specs.declared.tree_notes.Faulty.{Faulty}
+use Rattle.explanation_faults.specs.declared.tree_notes.Known.{Known}
 
 abbrev pub FoundName : (Ident → Type 0) → Option (Bor Name) → Type 0
 FoundName Is (Some name) = Is (ident_at name)
@@ -70,10 +73,43 @@ decls_of x = decls_in x.symbols.now
 abbrev pub tokens_of : Faulty → List Tok
 tokens_of x = seen x.tokens.now
 
+-- a true note, or none, where there is none
+abbrev pub FoundNote : (Note → Type 0) → Option written_note.Note → Type 0
+FoundNote Is (Some note) = Is (note_of note)
+FoundNote Is None = (note : Note) → Is note → ⊥
+
+-- the reason of a fault of this code there, or none, where it is not the first
+abbrev pub FoundReason : List Decl → Code → ℕ → Option Why → Type 0
+FoundReason decls code at (Some w) = IsFaultFor decls code at w
+FoundReason decls code at None = IsFirstFault decls code at → ⊥
+
+-- of a code that doesn't say all
+abbrev pub FoundWhy : List Decl → Code → ℕ → Option Why → Type 0
+FoundWhy decls WrongType at w = FoundReason decls WrongType at w
+FoundWhy decls WrongArgumentCount at w = FoundReason decls WrongArgumentCount at w
+FoundWhy decls NotAssignable at w = FoundReason decls NotAssignable at w
+FoundWhy decls code at w = Unit {0}
+
+-- of a fault that is known with its reason
+abbrev pub IsKnownOf : List Decl → Known → Type 0
+IsKnownOf decls x = FoundWhy decls x.fault.now.code x.fault.now.start x.why
+
+abbrev pub AreNotesOn : List Tok → List Decl → Known → List Note → Type 0
+AreNotesOn tokens decls x notes = AreNotes tokens decls x.fault.now.code x.fault.now.start notes
+
 -- a true note, or none, where none must be
 abbrev pub IsNoteIfTold : Faulty → Code → Option written_note.Note → Type 0
 IsNoteIfTold x code (Some note) = IsTrueNote (tokens_of x) (decls_of x) code x.at (note_of note)
 IsNoteIfTold x code None = IsTold (tokens_of x) (decls_of x) code x.at → ⊥
+
+-- the same of why a fault of this code is one
+abbrev pub IsReasonIfTold : Faulty → Code → Option written_note.Note → Type 0
+IsReasonIfTold x code (Some note) = IsReasonNote (decls_of x) code x.at (note_of note)
+IsReasonIfTold x code None = IsFirstFault (decls_of x) code x.at → ⊥
+
+-- no `return` is missing there
+abbrev pub LacksNone : List Decl → ℕ → Type 0
+LacksNone decls at = (x : Ident) → IsLacking decls at x → ⊥
 
 -- all that is told of a `return`, whatever the tokens are
 abbrev pub AreReturnNotes : List Decl → ℕ → List Note → Type 0

@@ -4,6 +4,7 @@ use Rattle.explanation.specs.declared.explanation.Acceptance.{Acceptance}
 use Rattle.explanation.specs.declared.explanation.Explanation.{Explanation}
 use Rattle.explanation.specs.Notes.{note_of}
 use Rattle.explanation.specs.Remedies.{remedy}
+use Rattle.explanation.specs.Warnings.{warning_of}
 use Rattle.serde_json.specs.Data.{Data, Members, boolean, string, member, no_members}
 use Rattle.source.specs.declared.fault.Fault.{Fault}
 use Rattle.source.specs.Codes.{code_name, code_text}
@@ -29,7 +30,7 @@ abbrev pub fault_json_of : Explanation → List ℕ
 fault_json_of x = fault_json x.file.now x.text.now x.fault.now (map note_of x.notes.now)
 
 abbrev pub accepted_data_of : Acceptance → Data
-accepted_data_of x = accepted_data x.file.now x.text.now (map note_of x.notes.now)
+accepted_data_of x = accepted_data x.file.now x.text.now (map note_of x.notes.now) (map warning_of x.warnings.now)
 
 abbrev pub accepted_json_of : Acceptance → List ℕ
-accepted_json_of x = accepted_json x.file.now x.text.now (map note_of x.notes.now)
+accepted_json_of x = accepted_json x.file.now x.text.now (map note_of x.notes.now) (map warning_of x.warnings.now)

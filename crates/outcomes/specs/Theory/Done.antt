@@ -1,6 +1,6 @@
 -- How many calls are done, how many there are, and which orders there are with a next one in front. Nobody has to believe this: it is
 -- proved here, for proofs of this crate and of those above.
-use Rattle.std.proofs.Common.{◌≡◌, ◌∙◌, ℕ, ◌+◌, ◌<◌, zero, suc, List, [], ◌∷◌, ◌++◌, length, map, replicate, get_or}
+use Rattle.std.proofs.Common.{◌≡◌, ◌∙◌, ℕ, ◌+◌, ◌<◌, zero, suc, List, [], ◌∷◌, length, map, replicate, get_or}
 use Rattle.std.proofs.Common.{slice_set, Option, Some, inl, inr, ap, sym, subst, refl, arith}
 use Rattle.std.specs.List.{Contains}
 use Rattle.std.proofs.lemmas.Bool.{cases_eq}

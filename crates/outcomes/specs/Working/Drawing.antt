@@ -1,25 +1,30 @@
 -- What is known while orders are drawn. Nobody has to believe this file.
-use Rattle.std.specs.Prelude.{◌≡◌, ℕ, ◌<◌, zero, suc, Bool, List, [], ◌∷◌, ◌++◌, length, ◌⊎◌, Option, Some, None}
-use Rattle.std.specs.Prelude.{MatchBool}
+use Rattle.std.specs.Prelude.{◌≡◌, ℕ, ◌<◌, zero, suc, Bool, MatchBool, List, [], ◌∷◌, ◌++◌, length, ◌⊎◌, Option, Some, None}
 use Rattle.core_lang.specs.declared.typed.Typed.{Typed}
 use Rattle.core_lang.specs.declared.typed.Thread.{Thread}
-use Rattle.core_lang.specs.Serial.{Invocation, opening_heap}
+use Rattle.core_lang.specs.Serial.{Invocation}
 use Rattle.core_lang.specs.Typing.{IsHeap, HasCells}
 use Rattle.core_lang.specs.WellFormed.{calls_together}
 use Rattle.outcomes.specs.declared.search.Search.{Search}
 use Rattle.outcomes.specs.declared.drawing.Walk.{Walk}
 use Rattle.outcomes.specs.declared.drawing.Drawing.{Drawing}
 use Rattle.outcomes.specs.Orders.{next_call, none_done}
-use Rattle.outcomes.specs.Working.States.{NoneIsAlike, orders_to}
+use Rattle.outcomes.specs.Working.States.{left_with, NoneIsAlike, orders_to}
 use Rattle.outcomes.specs.Working.Trails.{IsBegun, IsLonger}
-use Rattle.outcomes.specs.Working.Searching.{Leads, order_at, AreGood, IsFound}
-use Rattle.outcomes.specs.Working.Steps.{IsBeyond}
+use Rattle.outcomes.specs.Working.Searching.{Leads, order_at, IsFound}
+use Rattle.outcomes.specs.Ends.{Left, seen}
+use Rattle.outcomes.specs.declared.outcome.Cells.{Cells}
+use Rattle.outcomes.specs.Working.Steps.{IsBeyond, AreEnds, start_of}
+
+-- what they leave
+abbrev pub left_of : Walk → Left
+left_of walk = left_with walk.heap walk.answers.items
 
 -- the calls, made from the opening cells, lead here
 pub record IsWalk (search : Search) (walk : Walk) : Type 0 where
   pub cells : HasCells search.program.now walk.heap
   pub typed : IsHeap search.program.now walk.heap
-  pub leads : Leads search.program.now search.turns (none_done search.program.now) (opening_heap search.program.now) walk.order.items walk.done.items walk.heap
+  pub leads : Leads search.program.now search.turns (none_done search.program.now) (start_of search) walk.order.items walk.done.items (left_of walk)
 
 -- the thread has a call left
 abbrev pub HasCallLeft : Typed → List ℕ → ℕ → Type 0
@@ -36,31 +41,31 @@ abbrev pub Advances : Search → Walk → Walk → ℕ → Bool → Type 0
 Advances search old new thread settled =
     MatchBool settled
     (IsWalk search new × (length new.order.items ≡ suc (length old.order.items)))
-    (IsBeyond search.program.now search.turns new.order.items thread)
+    (IsBeyond search.program.now search.turns (start_of search) new.order.items thread)
 
 -- all calls were made, or the next one of the thread goes beyond the turns
 abbrev pub Walks : Search → Walk → Option ℕ → Type 0
 Walks search walk None = IsWalk search walk × (length walk.order.items ≡ calls_together search.program.now.threads.items)
-Walks search walk (Some thread) = IsBeyond search.program.now search.turns walk.order.items thread
+Walks search walk (Some thread) = IsBeyond search.program.now search.turns (start_of search) walk.order.items thread
 
 -- the end was not there, and is now, with its order
-pub record IsNewEnd (old new : Drawing) : Type 0 where
-  pub none : NoneIsAlike old.walk.done.items old.walk.heap old.ends
+pub record IsNewEnd (cells : Cells) (old new : Drawing) : Type 0 where
+  pub none : NoneIsAlike old.walk.done.items (seen cells (left_of old.walk)) old.ends
   pub first : ℕ
-  pub ends : new.ends ≡ old.ends ++ (record { done = old.walk.done.items; cells = old.walk.heap; orders = 1; first = first }) ∷ []
+  pub ends : new.ends ≡ old.ends ++ (record { done = old.walk.done.items; left = seen cells (left_of old.walk); orders = 1; first = first }) ∷ []
   pub longer : IsLonger old.trail new.trail
   pub within : first < length new.trail
   pub order : order_at new.trail first ≡ old.walk.order.items
 
 -- the end is among the ends, with one order more
-abbrev pub Notes : Drawing → Drawing → Type 0
-Notes old new =
+abbrev pub Notes : Cells → Drawing → Drawing → Type 0
+Notes cells old new =
     (new.walk ≡ old.walk) ×
-    (IsFound old.ends new.ends old.trail new.trail old.walk.done.items old.walk.heap 1 ⊎ IsNewEnd old new)
+    (IsFound old.ends new.ends old.trail new.trail old.walk.done.items (seen cells (left_of old.walk)) 1 ⊎ IsNewEnd cells old new)
 
 -- the ends of k orders
 pub record AreEndsOf (search : Search) (drawing : Drawing) (k : ℕ) : Type 0 where
   pub heap : HasCells search.program.now drawing.walk.heap
-  pub ends : AreGood search.program.now search.turns (calls_together search.program.now.threads.items) drawing.trail drawing.ends
+  pub ends : AreEnds search drawing.trail drawing.ends
   pub count : orders_to drawing.ends ≡ k
   pub begun : IsBegun drawing.trail

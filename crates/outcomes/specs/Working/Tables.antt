@@ -4,14 +4,14 @@ use Rattle.std.specs.HashMap.{HashMap, get}
 use Rattle.std.specs.declared.hash.DefaultHasher.{DefaultHasher}
 use Rattle.std.specs.declared.hash.FoldHasher.{FoldHasher}
 use Rattle.std.specs.declared.hash.BuildHasherDefault.{BuildHasherDefault}
-use Rattle.core_lang.specs.declared.value.Value.{Value}
+use Rattle.outcomes.specs.Ends.{Left}
 use Rattle.outcomes.specs.declared.layer.Entry.{Entry}
-use Rattle.outcomes.specs.Working.Hashes.{hash}
+use Rattle.outcomes.specs.Working.Hashes.{hash, hash_left}
 use Rattle.outcomes.specs.Working.States.{IsAlike, entry_state, orders_to}
 
 -- by a hasher with the keys
 abbrev pub hash_of : DefaultHasher → Entry → ℕ
-hash_of start e = hash start e.state.done.items e.state.cells.items
+hash_of start e = hash start e.state.done.items e.state.cells.items e.state.answers.items
 
 -- the entry of this number has the hash
 abbrev pub HasHash : DefaultHasher → List Entry → ℕ → ℕ → Type 0
@@ -32,14 +32,14 @@ pub record IsTable (start : DefaultHasher) (entries : List Entry) (places : Hash
   pub sum : total ≡ orders_to (map entry_state entries)
 
 -- the entry of this number is of such a state
-abbrev pub HasAlike : List Entry → List ℕ → List Value → ℕ → Type 0
-HasAlike entries done cells k = (e : Entry) × (slice_get entries k ≡ Some e) × IsAlike done cells (entry_state e)
+abbrev pub HasAlike : List Entry → List ℕ → Left → ℕ → Type 0
+HasAlike entries done left k = (e : Entry) × (slice_get entries k ≡ Some e) × IsAlike done left (entry_state e)
 
 -- what is left to look at: such a state is of none above the number; of none at all, where there is no number
-abbrev pub IsLeft : DefaultHasher → List Entry → List ℕ → List Value → Option ℕ → Type 0
-IsLeft start entries done cells None = (k : ℕ) → ¬ (HasAlike entries done cells k)
-IsLeft start entries done cells (Some k) =
-    HasHash start entries (hash start done cells) k × ((j : ℕ) → k < j → ¬ (HasAlike entries done cells j))
+abbrev pub IsLeft : DefaultHasher → List Entry → List ℕ → Left → Option ℕ → Type 0
+IsLeft start entries done left None = (k : ℕ) → ¬ (HasAlike entries done left k)
+IsLeft start entries done left (Some k) =
+    HasHash start entries (hash_left start done left) k × ((j : ℕ) → k < j → ¬ (HasAlike entries done left j))
 
 -- one more than the number
 abbrev pub left_count : Option ℕ → ℕ

@@ -1,6 +1,6 @@
 -- The faults of a program as one list, in the order in which they are looked for. Only proofs read it: what a fault is, says Faults.
 use Rattle.std.specs.Prelude.{ℕ, zero, suc, ◌+◌, List, [], ◌∷◌, ◌++◌, length, nat_le, nat_lt, not, is_some, ◌==◌}
-use Rattle.std.specs.Prelude.{◌&&◌, ◌||◌, Bool, true, false, if◌then◌else◌, Option, Some, None}
+use Rattle.std.specs.Prelude.{◌&&◌, ◌||◌, Bool, true, false, if◌then◌else◌, map, Option, Some, None}
 use Rattle.source.specs.declared.fault.Code.{Code}
 use Rattle.source.specs.declared.fault.Code.TheVariants.{NumberTooLarge, DeclaredTwice, UnknownName, WrongType}
 use Rattle.source.specs.declared.fault.Code.TheVariants.{WrongArgumentCount, NotAssignable, NeitherFinalNorProtected}
@@ -29,6 +29,14 @@ use Rattle.core_lang.specs.declared.tree.LocalKind.TheVariants.{Parameter}
 use Rattle.resolution.specs.declared.body_limits.BodyLimits.{BodyLimits}
 use Rattle.resolution.specs.declared.init_target.InitTarget.{InitTarget}
 use Rattle.source.specs.declared.mistake.Mistake.{Mistake}
+use Rattle.resolution.specs.declared.finding.Finding.{Finding}
+use Rattle.resolution.specs.declared.why.Why.{Why}
+use Rattle.resolution.specs.declared.why.Why.TheVariants as why
+use Rattle.resolution.specs.declared.why.Kind.TheVariants as kind
+use Rattle.resolution.specs.declared.why.Role.{Role}
+use Rattle.resolution.specs.declared.why.Role.TheVariants as role
+use Rattle.resolution.specs.Working.Findings.{told, plain, found_if}
+use Rattle.resolution.specs.Reasons.{kind_of, stands_for}
 use Rattle.resolution.specs.declared.wanted.Sort.{Sort}
 use Rattle.resolution.specs.declared.wanted.Sort.TheVariants as sort
 use Rattle.resolution.specs.declared.wanted.Want.{Want}
@@ -58,62 +66,68 @@ use Rattle.resolution.specs.Faults.{start_of, const_start}
 use Rattle.core_lang_calls.specs.Working.FaultLists.{graph_faults}
 use Rattle.resolution.specs.CallGraphs.{tree_graph}
 
-abbrev pub fault : Code → ℕ → Mistake
-fault code start = record { code = code; start = start }
+-- one with its reason
+abbrev pub reasoned : Code → ℕ → Why → List Finding
+reasoned code start why = told code start why ∷ []
 
-abbrev pub one : Code → ℕ → List Mistake
-one code start = fault code start ∷ []
+-- one of which its code says all
+abbrev pub one : Code → ℕ → List Finding
+one code start = reasoned code start why.Plain
 
-abbrev pub one_if : Bool → Code → ℕ → List Mistake
-one_if b code start = if b then one code start else []
+abbrev pub one_if : Bool → Code → ℕ → List Finding
+one_if b code start = found_if b (told code start why.Plain)
 
 -- ---- names and types
 
 -- a type's name that names no struct
-abbrev pub no_struct : ℕ → Meaning → List Mistake
+abbrev pub no_struct : ℕ → Meaning → List Finding
 no_struct start (a_decl i (struct s)) = []
 no_struct start nothing = one UnknownName start
-no_struct start m = one WrongType start
+no_struct start m = reasoned WrongType start (why.Misnamed role.Struct (stands_for m))
 
-abbrev pub type_faults : Scope → ValueType → List Mistake
+abbrev pub type_faults : Scope → ValueType → List Finding
 type_faults sc int_type = []
 type_faults sc (ref_type x) = no_struct x.span.start (meaning sc x.text)
 
 -- a declaration that can't stand here, unless its type has a fault
-abbrev pub unfit : List Decl → Code → ℕ → Meaning → List Mistake
-unfit decls code start m = one_if (has_type decls m) code start
+abbrev pub unfit : List Decl → Finding → Meaning → List Finding
+unfit decls f m = found_if (has_type decls m) f
+
+-- a name that is to stand for something else
+abbrev pub misnamed : List Decl → Code → Role → ℕ → Meaning → List Finding
+misnamed decls code r start m = unfit decls (told code start (why.Misnamed r (stands_for m))) m
 
 -- a member that can't
-abbrev pub unfit_member : List Decl → Code → ℕ → Member → List Mistake
-unfit_member decls code start m = one_if (member_has_type decls m) code start
+abbrev pub unfit_member : List Decl → Finding → Member → List Finding
+unfit_member decls f m = found_if (member_has_type decls m) f
 
 -- ---- constants
 
-abbrev pub number_faults : Number → List Mistake
+abbrev pub number_faults : Number → List Finding
 number_faults n = one_if (nat_lt NUMBER_LIMIT n.value) NumberTooLarge n.span.start
 
 -- a pool's name with an index
-abbrev pub index_faults : List Decl → ℕ → Option (ℕ × Decl) → Number → List Mistake
+abbrev pub index_faults : List Decl → ℕ → Option (ℕ × Decl) → Number → List Finding
 index_faults decls start None n = one UnknownName start
 index_faults decls start (Some (i, pool p)) n = one_if (has_type decls (a_decl i (pool p)) && nat_le p.length.value n.value) InitOutOfRangeOrRepeated n.span.start
-index_faults decls start (Some (i, d)) n = unfit decls WrongType start (a_decl i d)
+index_faults decls start (Some (i, d)) n = misnamed decls WrongType role.Pool start (a_decl i d)
 
 -- a constant by itself
-abbrev pub own_faults : List Decl → Const → List Mistake
+abbrev pub own_faults : List Decl → Const → List Finding
 own_faults decls (int_const n) = number_faults n
 own_faults decls (negative sign n) = number_faults n
 own_faults decls (null_const at) = []
 own_faults decls (member_const p n) = index_faults decls p.span.start (the_decl decls p.text) n
 
 -- what isn't of the sort that is wanted
-abbrev pub sort_misfit : Want → ℕ → Option Sort → List Mistake
-sort_misfit w start (Some s) = if fits_sort w s then [] else one WrongType start
+abbrev pub sort_misfit : Want → ℕ → Option Sort → List Finding
+sort_misfit w start (Some s) = if fits_sort w s then [] else reasoned WrongType start (why.Unwanted w (kind.Value s))
 sort_misfit w start None = []
 
-abbrev pub const_faults : List Decl → Want → Const → List Mistake
+abbrev pub const_faults : List Decl → Want → Const → List Finding
 const_faults decls w c = own_faults decls c ++ sort_misfit w (const_start c) (const_sort decls c)
 
-abbrev pub argument_faults : List Decl → List Param → List Const → List Mistake
+abbrev pub argument_faults : List Decl → List Param → List Const → List Finding
 argument_faults decls [] [] = []
 argument_faults decls [] (c ∷ cs) = []
 argument_faults decls (p ∷ ps) [] = []
@@ -122,82 +136,83 @@ argument_faults decls (p ∷ ps) (c ∷ cs) = const_faults decls (want_of decls 
 -- ---- places
 
 -- a name that is no value
-abbrev pub no_value : List Decl → ℕ → Meaning → List Mistake
+abbrev pub no_value : List Decl → ℕ → Meaning → List Finding
 no_value decls start (a_local i l) = []
 no_value decls start (a_decl i (global v)) = []
 no_value decls start (a_decl i (lock x)) = one LockAsValue start
-no_value decls start (a_decl i d) = unfit decls WrongType start (a_decl i d)
+no_value decls start (a_decl i d) = misnamed decls WrongType role.Value start (a_decl i d)
 no_value decls start nothing = one UnknownName start
 
 -- a name that takes no index
-abbrev pub no_elements : List Decl → ℕ → Meaning → List Mistake
+abbrev pub no_elements : List Decl → ℕ → Meaning → List Finding
 no_elements decls start (a_decl i (array a)) = []
 no_elements decls start (a_decl i (pool p)) = []
 no_elements decls start nothing = one UnknownName start
-no_elements decls start m = unfit decls WrongType start m
+no_elements decls start m = misnamed decls WrongType role.Elements start m
 
 -- a field that is none
-abbrev pub no_member : ℕ → Option (ℕ × Member) → List Mistake
+abbrev pub no_member : ℕ → Option (ℕ × Member) → List Finding
 no_member start None = one UnknownName start
 no_member start (Some m) = []
 
-abbrev pub no_field : Option Struct → Ident → List Mistake
+abbrev pub no_field : Option Struct → Ident → List Finding
 no_field (Some s) f = no_member f.span.start (the_member s.members f.text)
 no_field None f = []
 
 -- a step of a path that starts there
-abbrev pub step_faults : List Decl → ℕ → Walk → Ident → List Mistake
+abbrev pub step_faults : List Decl → ℕ → Walk → Ident → List Finding
 step_faults decls start (reached steps (Reference k)) f = no_field (the_struct decls k) f
-step_faults decls start (reached steps Integer) f = one WrongType start
-step_faults decls start at_lock f = one WrongType start
+step_faults decls start (reached steps Integer) f = reasoned WrongType start why.FieldOfInt
+step_faults decls start at_lock f = reasoned WrongType start why.FieldOfLock
 step_faults decls start lost f = []
 
 -- its end
-abbrev pub end_faults : ℕ → Walk → List Mistake
+abbrev pub end_faults : ℕ → Walk → List Finding
 end_faults start (reached steps t) = []
 end_faults start at_lock = one LockAsValue start
 end_faults start lost = []
 
-abbrev pub walk_faults : List Decl → ℕ → Walk → List Ident → List Mistake
+abbrev pub walk_faults : List Decl → ℕ → Walk → List Ident → List Finding
 walk_faults decls start w [] = end_faults start w
 walk_faults decls start w (f ∷ fs) = step_faults decls start w f ++ walk_faults decls start (stepped decls w f) fs
 
-abbrev pub path_faults : List Decl → ℕ → Meaning → List Ident → List Mistake
+abbrev pub path_faults : List Decl → ℕ → Meaning → List Ident → List Finding
 path_faults decls start (a_local i l) fs = walk_faults decls start (at_local l.value_type) fs
-path_faults decls start (a_decl i d) fs = unfit decls WrongType start (a_decl i d)
+path_faults decls start (a_decl i d) fs = misnamed decls WrongType role.Local start (a_decl i d)
 path_faults decls start nothing fs = one UnknownName start
 
 -- ---- expressions
 
 -- what isn't wanted
-abbrev pub misfit : Want → ℕ → Option ResolvedExpr → List Mistake
-misfit w start (Some s) = if fits w s then [] else one WrongType start
+abbrev pub misfit : Want → ℕ → Option ResolvedExpr → List Finding
+misfit w start (Some s) = if fits w s then [] else reasoned WrongType start (why.Unwanted w (kind_of s))
 misfit w start None = []
 
 -- sides that `==` doesn't take
-abbrev pub unlike : ℕ → ℕ → Option ResolvedExpr → Option ResolvedExpr → List Mistake
-unlike a b (Some (value e s)) (Some (value f t)) = if alike_sorts s t then [] else one WrongType b
-unlike a b (Some (value e s)) (Some (truth d)) = one WrongType b
-unlike a b (Some (truth c)) (Some (value f t)) = one WrongType b
-unlike a b (Some (truth c)) (Some (truth d)) = one WrongType a
+abbrev pub unlike : ℕ → ℕ → Option ResolvedExpr → Option ResolvedExpr → List Finding
+unlike a b (Some (value e s)) (Some (value f t)) =
+    if alike_sorts s t then [] else reasoned WrongType b (why.Unlike (kind.Value s) (kind.Value t))
+unlike a b (Some (value e s)) (Some (truth d)) = reasoned WrongType b (why.Unlike (kind.Value s) kind.Condition)
+unlike a b (Some (truth c)) (Some (value f t)) = reasoned WrongType b (why.Unlike kind.Condition (kind.Value t))
+unlike a b (Some (truth c)) (Some (truth d)) = reasoned WrongType a (why.Unlike kind.Condition kind.Condition)
 unlike a b (Some s) None = []
 unlike a b None t = []
 
-abbrev pub side_faults : written.Comparison → ℕ → ℕ → Option ResolvedExpr → Option ResolvedExpr → List Mistake
+abbrev pub side_faults : written.Comparison → ℕ → ℕ → Option ResolvedExpr → Option ResolvedExpr → List Finding
 side_faults sign.Equal a b s t = unlike a b s t
 side_faults sign.NotEqual a b s t = unlike a b s t
 side_faults _ a b s t = []
 
 -- an operator that can't stand in the chain
-abbrev pub operator_faults : Level → ℕ → Operator → List Mistake
-operator_faults Term start o = one_if (not (is_some (operator_of o))) WrongType start
-operator_faults Sum start o = one_if (not (is_some (operator_of o))) WrongType start
+abbrev pub operator_faults : Level → ℕ → Operator → List Finding
+operator_faults Term start o = found_if (not (is_some (operator_of o))) (told WrongType start why.OperatorOfConditions)
+operator_faults Sum start o = found_if (not (is_some (operator_of o))) (told WrongType start why.OperatorOfConditions)
 operator_faults Conjunction start o = []
 operator_faults Disjunction start o = []
 
 abbrev mutual
   -- of an expression by itself
-  pub expr_faults : Scope → Expr → List Mistake
+  pub expr_faults : Scope → Expr → List Finding
   expr_faults sc (int n) = number_faults n
   expr_faults sc (null at) = []
   expr_faults sc (place p) = place_faults sc p
@@ -210,92 +225,97 @@ abbrev mutual
       ++ side_faults c (start_of a) (start_of b) (typed sc a) (typed sc b)
 
   -- of a place as a value
-  pub place_faults : Scope → Place → List Mistake
+  pub place_faults : Scope → Place → List Finding
   place_faults sc (lone x) = no_value sc.decls x.span.start (meaning sc x.text)
   place_faults sc (element x e) = no_elements sc.decls x.span.start (meaning sc x.text) ++ expr_faults sc e ++ misfit (Value Integer) (start_of e) (typed sc e)
   place_faults sc (path x fs) = path_faults sc.decls x.span.start (meaning sc x.text) fs
 
-  pub link_faults : Scope → Level → Links → List Mistake
+  pub link_faults : Scope → Level → Links → List Finding
   link_faults sc level no_links = []
   link_faults sc level (link o e rest) = operator_faults level (start_of e) o ++ expr_faults sc e ++ misfit (operand_want level) (start_of e) (typed sc e) ++ link_faults sc level rest
 
 -- of an expression of which something is wanted
-abbrev pub wanted_faults : Scope → Want → Expr → List Mistake
+abbrev pub wanted_faults : Scope → Want → Expr → List Finding
 wanted_faults sc w e = expr_faults sc e ++ misfit w (start_of e) (typed sc e)
 
 -- ---- statements
 
 -- a local's name that is taken
-abbrev pub taken : ℕ → Option (ℕ × Local) → Option (ℕ × Decl) → List Mistake
+abbrev pub taken : ℕ → Option (ℕ × Local) → Option (ℕ × Decl) → List Finding
 taken start None None = []
 taken start (Some l) d = one DeclaredTwice start
 taken start None (Some d) = one DeclaredTwice start
 
 -- a local's name, in the scope ahead of it
-abbrev pub local_faults : Scope → Ident → List Mistake
+abbrev pub local_faults : Scope → Ident → List Finding
 local_faults sc x =
     taken x.span.start (the_local sc.locals x.text) (the_decl sc.decls x.text)
     ++ one_if (nat_le sc.limits.locals (length sc.locals)) LimitExceeded x.span.start
 
 -- a name that can't stand on the left
-abbrev pub no_target : List Decl → ℕ → Meaning → List Mistake
-no_target decls start (a_local i l) = if is_var l.kind then [] else unfit decls NotAssignable start (a_local i l)
+abbrev pub no_target : List Decl → ℕ → Meaning → List Finding
+no_target decls start (a_local i l) = if is_var l.kind then [] else misnamed decls NotAssignable role.Target start (a_local i l)
 no_target decls start (a_decl i (global v)) = []
 no_target decls start (a_decl i (lock x)) = one LockAsValue start
-no_target decls start (a_decl i d) = unfit decls NotAssignable start (a_decl i d)
+no_target decls start (a_decl i d) = misnamed decls NotAssignable role.Target start (a_decl i d)
 no_target decls start nothing = one UnknownName start
 
 -- a pool's member on the left
-abbrev pub no_array : List Decl → ℕ → Meaning → List Mistake
-no_array decls start (a_decl i (pool p)) = unfit decls NotAssignable start (a_decl i (pool p))
+abbrev pub no_array : List Decl → ℕ → Meaning → List Finding
+no_array decls start (a_decl i (pool p)) = misnamed decls NotAssignable role.Target start (a_decl i (pool p))
 no_array decls start _ = []
 
 -- a path that ends at no field that can be assigned to
-abbrev pub final_faults : ℕ → Walk → List Mistake
-final_faults start (reached steps t) = one_if (not (is_some (last_field steps))) NotAssignable start
+abbrev pub final_faults : ℕ → Walk → List Finding
+final_faults start (reached steps t) = found_if (not (is_some (last_field steps))) (told NotAssignable start why.FinalTarget)
 final_faults start at_lock = []
 final_faults start lost = []
 
-abbrev pub target_faults : Scope → Place → List Mistake
+abbrev pub target_faults : Scope → Place → List Finding
 target_faults sc (lone x) = no_target sc.decls x.span.start (meaning sc x.text)
 target_faults sc (element x e) = no_elements sc.decls x.span.start (meaning sc x.text) ++ no_array sc.decls x.span.start (meaning sc x.text) ++ wanted_faults sc (Value Integer) e
 target_faults sc (path x fs) = path_faults sc.decls x.span.start (meaning sc x.text) fs ++ final_faults x.span.start (walk_from sc.decls (meaning sc x.text) fs)
 
 -- a local that is bound
-abbrev pub binding_faults : Scope → tree.Local → List Mistake
+abbrev pub binding_faults : Scope → tree.Local → List Finding
 binding_faults sc l = local_faults sc l.name ++ type_faults sc l.value_type ++ wanted_faults sc (want (type_of sc l.value_type)) l.value
 
 -- a member that is no final reference, where one is named
-abbrev pub no_final : List Decl → ℕ → Option (ℕ × Member) → List Mistake
+abbrev pub no_final : List Decl → ℕ → Option (ℕ × Member) → List Finding
 no_final decls start None = one UnknownName start
 no_final decls start (Some (i, lock_member x)) = one LockAsValue start
 no_final decls start (Some (i, final_member f)) = []
-no_final decls start (Some (i, field_member f)) = unfit_member decls WrongType start (field_member f)
+no_final decls start (Some (i, field_member f)) = unfit_member decls (told WrongType start why.OwnerField) (field_member f)
 
-abbrev pub no_final_in : List Decl → Option Struct → Ident → List Mistake
+abbrev pub no_final_in : List Decl → Option Struct → Ident → List Finding
 no_final_in decls (Some s) f = no_final decls f.span.start (the_member s.members f.text)
 no_final_in decls None f = []
 
 -- the field that is named behind `where`, for a value of this type
-abbrev pub owner_field_faults : List Decl → Option core_type.ValueType → Ident → List Mistake
+abbrev pub owner_field_faults : List Decl → Option core_type.ValueType → Ident → List Finding
 owner_field_faults decls (Some (Reference k)) f = no_final_in decls (the_struct decls k) f
-owner_field_faults decls (Some Integer) f = one WrongType f.span.start
+owner_field_faults decls (Some Integer) f = reasoned WrongType f.span.start why.OwnedInt
 owner_field_faults decls None f = []
 
+-- a type is wanted, and another is there
+abbrev pub other_than : ℕ → core_type.ValueType → core_type.ValueType → List Finding
+other_than start t u =
+    if fits_type t (sort.Of u) then [] else reasoned WrongType start (why.Unwanted (Value t) (kind.Value (sort.Of u)))
+
 -- a local of another type than the final reference's
-abbrev pub other_type : ℕ → Option OwnerField → Option core_type.ValueType → List Mistake
-other_type start (Some f) (Some t) = if fits_type f.value_type (sort.Of t) then [] else one WrongType start
+abbrev pub other_type : ℕ → Option OwnerField → Option core_type.ValueType → List Finding
+other_type start (Some f) (Some t) = other_than start f.value_type t
 other_type start (Some f) None = []
 other_type start None t = []
 
 -- the name that is to be a local's
-abbrev pub no_owner : List Decl → ℕ → Option OwnerField → Meaning → List Mistake
+abbrev pub no_owner : List Decl → ℕ → Option OwnerField → Meaning → List Finding
 no_owner decls start f (a_local i l) = other_type start f l.value_type
-no_owner decls start f (a_decl i d) = unfit decls WrongType start (a_decl i d)
+no_owner decls start f (a_decl i d) = misnamed decls WrongType role.Local start (a_decl i d)
 no_owner decls start f nothing = one UnknownName start
 
 -- what stands behind `where`, for a value of this type
-abbrev pub owner_faults : Scope → Option core_type.ValueType → tree.Owner → List Mistake
+abbrev pub owner_faults : Scope → Option core_type.ValueType → tree.Owner → List Finding
 owner_faults sc t o =
     owner_field_faults sc.decls t o.field
     ++ no_owner sc.decls o.local.span.start (owner_field sc.decls t o.field) (meaning sc o.local.text)
@@ -303,57 +323,58 @@ owner_faults sc t o =
 -- ---- calls of helpers
 
 -- a name that is called with so many arguments, which no helper takes
-abbrev pub no_helper : List Decl → ℕ → ℕ → Meaning → List Mistake
-no_helper decls start n (a_decl i (helper s)) = one_if (not (n == length s.params)) WrongArgumentCount start
+abbrev pub no_helper : List Decl → ℕ → ℕ → Meaning → List Finding
+no_helper decls start n (a_decl i (helper s)) =
+    found_if (not (n == length s.params)) (told WrongArgumentCount start (why.Counted (length s.params) n))
 no_helper decls start n nothing = one UnknownName start
-no_helper decls start n m = unfit decls WrongType start m
+no_helper decls start n m = misnamed decls WrongType role.Helper start m
 
 -- arguments, each for its parameter
-abbrev pub values_faults : Scope → List Param → List Expr → List Mistake
+abbrev pub values_faults : Scope → List Param → List Expr → List Finding
 values_faults sc [] es = []
 values_faults sc (p ∷ ps) [] = []
 values_faults sc (p ∷ ps) (e ∷ es) = wanted_faults sc (want_of sc.decls p) e ++ values_faults sc ps es
 
 -- arguments, each by itself
-abbrev pub each_value_faults : Scope → List Expr → List Mistake
+abbrev pub each_value_faults : Scope → List Expr → List Finding
 each_value_faults sc [] = []
 each_value_faults sc (e ∷ es) = wanted_faults sc Anything e ++ each_value_faults sc es
 
 -- the arguments for the helper that is meant
-abbrev pub passed_values_faults : Scope → Option (ℕ × Section) → List Expr → List Mistake
+abbrev pub passed_values_faults : Scope → Option (ℕ × Section) → List Expr → List Finding
 passed_values_faults sc (Some (i, s)) es = if length es == length s.params then values_faults sc s.params es else []
 passed_values_faults sc None es = each_value_faults sc es
 
-abbrev pub helper_call_faults : Scope → HelperCall → List Mistake
+abbrev pub helper_call_faults : Scope → HelperCall → List Finding
 helper_call_faults sc c =
     no_helper sc.decls c.helper.span.start (length c.arguments) (meaning sc c.helper.text)
     ++ passed_values_faults sc (helper_meant (meaning sc c.helper.text)) c.arguments
 
 -- a result of another type
-abbrev pub other_result : ℕ → core_type.ValueType → Option core_type.ValueType → List Mistake
-other_result start t (Some u) = if fits_type t (sort.Of u) then [] else one WrongType start
+abbrev pub other_result : ℕ → core_type.ValueType → Option core_type.ValueType → List Finding
+other_result start t (Some u) = other_than start t u
 other_result start t None = []
 
 -- no result, where one of the type is wanted
-abbrev pub no_result : ℕ → core_type.ValueType → Option ValueType → Option core_type.ValueType → List Mistake
-no_result start t None u = one WrongType start
+abbrev pub no_result : ℕ → core_type.ValueType → Option ValueType → Option core_type.ValueType → List Finding
+no_result start t None u = reasoned WrongType start (why.NoResult t)
 no_result start t (Some r) u = other_result start t u
 
 -- what is given back to a local of this type
-abbrev pub given_back_faults : List Decl → ℕ → Option core_type.ValueType → Option (ℕ × Section) → List Mistake
+abbrev pub given_back_faults : List Decl → ℕ → Option core_type.ValueType → Option (ℕ × Section) → List Finding
 given_back_faults decls start (Some t) (Some (i, s)) = no_result start t s.result (result_of decls s)
 given_back_faults decls start (Some t) None = []
 given_back_faults decls start None h = []
 
 -- a local with what a helper gives back
-abbrev pub called_faults : Scope → CalledLocal → List Mistake
+abbrev pub called_faults : Scope → CalledLocal → List Finding
 called_faults sc l =
     local_faults sc l.name ++ type_faults sc l.value_type
     ++ given_back_faults sc.decls l.call.helper.span.start (type_of sc l.value_type) (helper_meant (meaning sc l.call.helper.text))
     ++ helper_call_faults sc l.call
 
 abbrev mutual
-  pub stmt_faults : Scope → Stmt → List Mistake
+  pub stmt_faults : Scope → Stmt → List Finding
   stmt_faults sc (let_local l) = binding_faults sc l
   stmt_faults sc (let_owned l o) = binding_faults sc l ++ owner_faults sc (type_of sc l.value_type) o
   stmt_faults sc (let_call l) = called_faults sc l
@@ -365,89 +386,89 @@ abbrev mutual
   stmt_faults sc (return_value start e) = wanted_faults sc (want sc.result) e
   stmt_faults sc (call start c) = helper_call_faults sc c
 
-  pub else_faults : Scope → Otherwise → List Mistake
+  pub else_faults : Scope → Otherwise → List Finding
   else_faults sc no_else = []
   else_faults sc (else_do body close) = stmts_faults sc body
 
-  pub stmts_faults : Scope → Stmts → List Mistake
+  pub stmts_faults : Scope → Stmts → List Finding
   stmts_faults sc no_stmts = []
   stmts_faults sc (stmt s rest) = stmt_faults sc s ++ stmts_faults (after sc s) rest
 
 -- parameters, in the scope behind n of them
-abbrev pub param_faults : Scope → ℕ → List Param → List Mistake
+abbrev pub param_faults : Scope → ℕ → List Param → List Finding
 param_faults sc n [] = []
 param_faults sc n (p ∷ ps) =
     local_faults sc p.name ++ one_if (nat_le sc.limits.parameters n) LimitExceeded p.name.span.start ++ type_faults (outside sc.decls) p.value_type
     ++ param_faults (bound sc Parameter p.name (type_of (outside sc.decls) p.value_type)) (n + 1) ps
 
-abbrev pub result_faults : List Decl → Option ValueType → List Mistake
+abbrev pub result_faults : List Decl → Option ValueType → List Finding
 result_faults decls None = []
 result_faults decls (Some t) = type_faults (outside decls) t
 
 -- ---- annotations
 
 -- one that is to name a global lock
-abbrev pub global_lock_faults : List Decl → ℕ → Option (ℕ × Decl) → List Ident → List Mistake
+abbrev pub global_lock_faults : List Decl → ℕ → Option (ℕ × Decl) → List Ident → List Finding
 global_lock_faults decls start None ys = one UnknownName start
 global_lock_faults decls start (Some (i, lock x)) [] = []
-global_lock_faults decls start (Some (i, d)) ys = unfit decls ProtectedByNoLock start (a_decl i d)
+global_lock_faults decls start (Some (i, d)) ys = unfit decls (told ProtectedByNoLock start why.Plain) (a_decl i d)
 
 -- of these names
-abbrev pub named_lock_faults : List Decl → Ident → List Ident → List Mistake
+abbrev pub named_lock_faults : List Decl → Ident → List Ident → List Finding
 named_lock_faults decls x ys = global_lock_faults decls x.span.start (the_decl decls x.text) ys
 
 -- a global's or an array's of this name
-abbrev pub lock_faults : List Decl → ℕ → Option Protection → List Mistake
+abbrev pub lock_faults : List Decl → ℕ → Option Protection → List Finding
 lock_faults decls name None = one NeitherFinalNorProtected name
 lock_faults decls name (Some p) = named_lock_faults decls p.first p.rest
 
 -- a name that others follow, after n final references
-abbrev pub passed_faults : List Decl → ℕ → ℕ → ℕ → Option (ℕ × Member) → List Mistake
+abbrev pub passed_faults : List Decl → ℕ → ℕ → ℕ → Option (ℕ × Member) → List Finding
 passed_faults decls first here n None = one UnknownName here
 passed_faults decls first here n (Some (i, final_member f)) = one_if (nat_le FINAL_LIMIT n) LimitExceeded first
-passed_faults decls first here n (Some (i, m)) = unfit_member decls ProtectedByPassesNonFinal here m
+passed_faults decls first here n (Some (i, m)) = unfit_member decls (told ProtectedByPassesNonFinal here why.Plain) m
 
 -- the last name
-abbrev pub last_faults : List Decl → ℕ → ℕ → Option (ℕ × Member) → List Mistake
+abbrev pub last_faults : List Decl → ℕ → ℕ → Option (ℕ × Member) → List Finding
 last_faults decls first here None = one UnknownName here
 last_faults decls first here (Some (i, lock_member x)) = []
-last_faults decls first here (Some (i, m)) = unfit_member decls ProtectedByNoLock first m
+last_faults decls first here (Some (i, m)) = unfit_member decls (told ProtectedByNoLock first why.Plain) m
 
-abbrev pub passed : List Decl → ℕ → Option AnnotationCursor → Ident → List Mistake
+abbrev pub passed : List Decl → ℕ → Option AnnotationCursor → Ident → List Finding
 passed decls first (Some st) y = passed_faults decls first y.span.start (length st.through) (the_member st.members y.text)
 passed decls first None y = []
 
-abbrev pub ended : List Decl → ℕ → Option AnnotationCursor → Ident → List Mistake
+abbrev pub ended : List Decl → ℕ → Option AnnotationCursor → Ident → List Finding
 ended decls first (Some st) y = last_faults decls first y.span.start (the_member st.members y.text)
 ended decls first None y = []
 
 -- a walk along names, the first of all of which starts there
-abbrev pub along_faults : List Decl → ℕ → Option AnnotationCursor → Ident → List Ident → List Mistake
+abbrev pub along_faults : List Decl → ℕ → Option AnnotationCursor → Ident → List Ident → List Finding
 along_faults decls first st y [] = ended decls first st y
 along_faults decls first st y (z ∷ zs) = passed decls first st y ++ along_faults decls first (stepped_on decls st y) z zs
 
-abbrev pub annotation_faults : List Decl → AnnotationCursor → Protection → Option (ℕ × Member) → List Mistake
+abbrev pub annotation_faults : List Decl → AnnotationCursor → Protection → Option (ℕ × Member) → List Finding
 annotation_faults decls own p (Some m) = along_faults decls p.first.span.start (Some own) p.first p.rest
 annotation_faults decls own p None = named_lock_faults decls p.first p.rest
 
 -- a field's of this name, of the struct at this place
-abbrev pub protection_faults : List Decl → ℕ → List Member → ℕ → Option Protection → List Mistake
+abbrev pub protection_faults : List Decl → ℕ → List Member → ℕ → Option Protection → List Finding
 protection_faults decls i ms name None = one NeitherFinalNorProtected name
 protection_faults decls i ms name (Some p) = annotation_faults decls (cursor_at i ms) p (the_member ms p.first.text)
 
 -- ---- declarations
 
 -- a member of the struct at this place
-abbrev pub member_faults : List Decl → ℕ → List Member → Member → List Mistake
+abbrev pub member_faults : List Decl → ℕ → List Member → Member → List Finding
 member_faults decls i all (lock_member x) = []
 member_faults decls i all (final_member f) = type_faults (outside decls) (ref_type f.target)
 member_faults decls i all (field_member f) = type_faults (outside decls) f.value_type ++ protection_faults decls i all f.name.span.start f.protection
 
-abbrev pub members_faults : List Decl → ℕ → List Member → List Member → List Mistake
+abbrev pub members_faults : List Decl → ℕ → List Member → List Member → List Finding
 members_faults decls i all [] = []
 members_faults decls i all (m ∷ ms) = member_faults decls i all m ++ members_faults decls i all ms
 
-abbrev pub opening_faults : List Decl → Want → Option Const → List Mistake
+abbrev pub opening_faults : List Decl → Want → Option Const → List Finding
 opening_faults decls w None = []
 opening_faults decls w (Some c) = const_faults decls w c
 
@@ -470,31 +491,31 @@ abbrev pub lacks : List Decl → ℕ → ℕ → List Member → ℕ → List Me
 lacks decls i n all k [] = false
 lacks decls i n all k (m ∷ ms) = is_due decls all k m && some_lacks decls i k n || lacks decls i n all (k + 1) ms
 
-abbrev pub missing_faults : List Decl → ℕ → Pool → Option (List Member) → List Mistake
+abbrev pub missing_faults : List Decl → ℕ → Pool → Option (List Member) → List Finding
 missing_faults decls i p (Some ms) = one_if (lacks decls i p.length.value ms 0 ms) FinalWithoutOpeningValue p.name.span.start
 missing_faults decls i p None = []
 
 -- what no `init` can give a value
-abbrev pub field_faults : ℕ → Option (ℕ × Member) → List Mistake
+abbrev pub field_faults : ℕ → Option (ℕ × Member) → List Finding
 field_faults start None = one UnknownName start
 field_faults start (Some (m, lock_member x)) = one LockAsValue start
 field_faults start (Some (m, final_member f)) = []
 field_faults start (Some (m, field_member f)) = []
 
 -- the field that an `init` names
-abbrev pub named_faults : List Decl → ℕ → Option (List Member) → List ℕ → List Mistake
+abbrev pub named_faults : List Decl → ℕ → Option (List Member) → List ℕ → List Finding
 named_faults decls start None q = []
 named_faults decls start (Some ms) q = field_faults start (the_member ms q)
 
-abbrev pub init_field_faults : List Decl → Init → List Mistake
+abbrev pub init_field_faults : List Decl → Init → List Finding
 init_field_faults decls j = named_faults decls j.field.span.start (pool_members decls (the_decl decls j.pool.text)) j.field.text
 
 -- null for a final reference
-abbrev pub null_faults : List Decl → Option (ℕ × Member) → Const → List Mistake
+abbrev pub null_faults : List Decl → Option (ℕ × Member) → Const → List Finding
 null_faults decls (Some (m, final_member f)) (null_const at) = one_if (is_some (struct_named decls f.target)) FinalWithoutOpeningValue at.start
 null_faults decls _ c = []
 
-abbrev pub init_faults : List Decl → Init → List Mistake
+abbrev pub init_faults : List Decl → Init → List Finding
 init_faults decls j =
     index_faults decls j.pool.span.start (the_decl decls j.pool.text) j.index
     ++ init_field_faults decls j
@@ -502,36 +523,38 @@ init_faults decls j =
     ++ null_faults decls (initialised decls j) j.value
 
 -- a call, by what its name means
-abbrev pub call_faults : List Decl → ℕ → Option (ℕ × Decl) → List Const → List Mistake
+abbrev pub call_faults : List Decl → ℕ → Option (ℕ × Decl) → List Const → List Finding
 call_faults decls start None cs = one UnknownName start
-call_faults decls start (Some (i, atomic s)) cs = if length cs == length s.params then argument_faults decls s.params cs else one WrongArgumentCount start
-call_faults decls start (Some (i, d)) cs = unfit decls WrongType start (a_decl i d)
+call_faults decls start (Some (i, atomic s)) cs =
+    if length cs == length s.params then argument_faults decls s.params cs
+    else reasoned WrongArgumentCount start (why.Counted (length s.params) (length cs))
+call_faults decls start (Some (i, d)) cs = misnamed decls WrongType role.Section start (a_decl i d)
 
 abbrev mutual
-  pub item_faults : List Decl → Item → List Mistake
+  pub item_faults : List Decl → Item → List Finding
   item_faults decls (call c) = call_faults decls c.section.span.start (the_decl decls c.section.text) c.arguments
   item_faults decls (repeat n is) = items_faults decls is
 
-  pub items_faults : List Decl → Items → List Mistake
+  pub items_faults : List Decl → Items → List Finding
   items_faults decls no_items = []
   items_faults decls (item i rest) = item_faults decls i ++ items_faults decls rest
 
-abbrev pub global_faults : List Decl → Variable → List Mistake
+abbrev pub global_faults : List Decl → Variable → List Finding
 global_faults decls v =
     type_faults (outside decls) v.value_type ++ lock_faults decls v.name.span.start v.protection ++ opening_faults decls (want (type_of (outside decls) v.value_type)) v.value
 
-abbrev pub array_faults : List Decl → Array → List Mistake
+abbrev pub array_faults : List Decl → Array → List Finding
 array_faults decls a = type_faults (outside decls) a.value_type ++ lock_faults decls a.name.span.start a.protection
 
 -- a section or a helper, from the scope ahead of its parameters
-abbrev pub faults_in : Scope → Section → List Mistake
+abbrev pub faults_in : Scope → Section → List Finding
 faults_in sc s = result_faults sc.decls s.result ++ param_faults sc 0 s.params ++ stmts_faults (entered sc s.params) s.body.stmts
 
-abbrev pub section_faults : List Decl → BodyLimits → Section → List Mistake
+abbrev pub section_faults : List Decl → BodyLimits → Section → List Finding
 section_faults decls limits s = faults_in (ahead_of decls limits s) s
 
 -- of the declaration at this place by itself
-abbrev pub decl_faults : List Decl → ℕ → Decl → List Mistake
+abbrev pub decl_faults : List Decl → ℕ → Decl → List Finding
 decl_faults decls i (lock x) = []
 decl_faults decls i (struct s) = members_faults decls i s.members s.members
 decl_faults decls i (global v) = global_faults decls v
@@ -543,30 +566,30 @@ decl_faults decls i (helper s) = section_faults decls helper_limits s
 decl_faults decls i (thread t) = items_faults decls t.items
 
 -- of declarations from a place on
-abbrev pub each_faults : List Decl → ℕ → List Decl → List Mistake
+abbrev pub each_faults : List Decl → ℕ → List Decl → List Finding
 each_faults decls i [] = []
 each_faults decls i (d ∷ ds) = decl_faults decls i d ++ each_faults decls (i + 1) ds
 
 -- ---- names and counts, with what stands before
 
 -- a name that is borne before
-abbrev pub again : ℕ → Option ℕ → List Mistake
+abbrev pub again : ℕ → Option ℕ → List Finding
 again start None = []
 again start (Some i) = one DeclaredTwice start
 
-abbrev pub twice : List Decl → Option Ident → List Mistake
+abbrev pub twice : List Decl → Option Ident → List Finding
 twice before (Some x) = again x.span.start (place_of bears before x.text)
 twice before None = []
 
-abbrev pub twice_faults : List Decl → List Decl → List Mistake
+abbrev pub twice_faults : List Decl → List Decl → List Finding
 twice_faults before [] = []
 twice_faults before (d ∷ ds) = twice before (declared d) ++ twice_faults (before ++ d ∷ []) ds
 
-abbrev pub member_twice_faults : List Member → List Member → List Mistake
+abbrev pub member_twice_faults : List Member → List Member → List Finding
 member_twice_faults before [] = []
 member_twice_faults before (m ∷ ms) = again (member_name m).span.start (place_of member_bears before (member_name m).text) ++ member_twice_faults (before ++ m ∷ []) ms
 
-abbrev pub struct_faults : List Decl → List Mistake
+abbrev pub struct_faults : List Decl → List Finding
 struct_faults [] = []
 struct_faults (struct s ∷ ds) = member_twice_faults [] s.members ++ struct_faults ds
 struct_faults (d ∷ ds) = struct_faults ds
@@ -580,7 +603,7 @@ lock_count true = 1
 lock_count false = 0
 
 -- members behind n others, where so many lock classes stand ahead
-abbrev pub member_counts : ℕ → ℕ → List Member → List Mistake
+abbrev pub member_counts : ℕ → ℕ → List Member → List Finding
 member_counts classes n [] = []
 member_counts classes n (m ∷ ms) =
     one_if (nat_le MEMBER_LIMIT n) LimitExceeded (member_name m).span.start
@@ -588,7 +611,7 @@ member_counts classes n (m ∷ ms) =
     ++ member_counts (classes + lock_count (is_lock m)) (n + 1) ms
 
 -- a declaration, behind others
-abbrev pub count_faults : List Decl → List Decl → Decl → List Mistake
+abbrev pub count_faults : List Decl → List Decl → Decl → List Finding
 count_faults decls before (lock x) = one_if (nat_le CLASS_LIMIT (total classes_of before)) LimitExceeded x.span.start
 count_faults decls before (struct s) = one_if (nat_le STRUCT_LIMIT (count (alike (struct s)) before)) LimitExceeded s.name.span.start ++ member_counts (total classes_of before) 0 s.members
 count_faults decls before (global v) = one_if (first_too_many CELL_LIMIT (total (cells_of decls) before) (cells_of decls (global v))) LimitExceeded v.name.span.start
@@ -603,33 +626,33 @@ count_faults decls before (thread t) =
     one_if (nat_le THREAD_LIMIT (count (alike (thread t)) before)) LimitExceeded t.name.span.start
     ++ one_if (first_too_many CALL_LIMIT (total calls_of before) (calls_of (thread t))) LimitExceeded t.name.span.start
 
-abbrev pub total_faults : List Decl → List Decl → List Decl → List Mistake
+abbrev pub total_faults : List Decl → List Decl → List Decl → List Finding
 total_faults decls before [] = []
 total_faults decls before (d ∷ ds) = count_faults decls before d ++ total_faults decls (before ++ d ∷ []) ds
 
 -- what an `init` gives, with the one before that gives it
-abbrev pub given_before : {A : Type 0} → ℕ → Option A → List Mistake
+abbrev pub given_before : {A : Type 0} → ℕ → Option A → List Finding
 given_before start None = []
 given_before start (Some d) = one InitOutOfRangeOrRepeated start
 
-abbrev pub init_target_again : List Decl → List Decl → ℕ → Option InitTarget → List Mistake
+abbrev pub init_target_again : List Decl → List Decl → ℕ → Option InitTarget → List Finding
 init_target_again decls before start (Some g) = given_before start (giver decls before g)
 init_target_again decls before start None = []
 
-abbrev pub repeated : List Decl → List Decl → Decl → List Mistake
+abbrev pub repeated : List Decl → List Decl → Decl → List Finding
 repeated decls before (init j) = init_target_again decls before j.start.start (init_target_of decls j)
 repeated decls before _ = []
 
-abbrev pub repeated_faults : List Decl → List Decl → List Decl → List Mistake
+abbrev pub repeated_faults : List Decl → List Decl → List Decl → List Finding
 repeated_faults decls before [] = []
 repeated_faults decls before (d ∷ ds) = repeated decls before d ++ repeated_faults decls (before ++ d ∷ []) ds
 
 -- ---- the whole
 
 -- of declarations, one by one and behind others
-abbrev pub declaration_faults : List Decl → List Mistake
+abbrev pub declaration_faults : List Decl → List Finding
 declaration_faults decls = twice_faults [] decls ++ struct_faults decls ++ total_faults decls [] decls ++ repeated_faults decls [] decls ++ each_faults decls 0 decls
 
 -- and of what their bodies call
-abbrev pub program_faults : List Decl → List Mistake
-program_faults decls = declaration_faults decls ++ graph_faults (tree_graph decls)
+abbrev pub program_faults : List Decl → List Finding
+program_faults decls = declaration_faults decls ++ map plain (graph_faults (tree_graph decls))

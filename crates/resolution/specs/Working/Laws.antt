@@ -6,13 +6,15 @@ use Rattle.syntax.specs.Returns.{ReturnsRight}
 use Rattle.core_lang.specs.declared.typed.Typed.{Typed}
 use Rattle.core_lang.specs.WellFormed.{IsChecked, IsWellFormed}
 use Rattle.source.specs.declared.mistake.Mistake.{Mistake}
-use Rattle.source.specs.Mistakes.{goes_before, least_of}
+use Rattle.source.specs.Mistakes.{goes_before}
+use Rattle.resolution.specs.declared.finding.Finding.{Finding}
+use Rattle.resolution.specs.Working.Findings.{mistake_of, least_of}
 use Rattle.resolution.specs.Core as core
 use Rattle.resolution.specs.Working.Building.{resolved}
 use Rattle.resolution.specs.Tables.{AreTables}
 use Rattle.resolution.specs.Resolved.{Resolves}
 use Rattle.resolution.specs.Where.{Has, Asks}
-use Rattle.resolution.specs.Faults.{IsFault, HasNoFault}
+use Rattle.resolution.specs.Faults.{IsFault, IsFaultFor, HasNoFault}
 use Rattle.resolution.specs.Working.FaultLists.{program_faults}
 use Rattle.core_lang_calls.specs.Working.Programs.{IsGraphOf}
 use Rattle.resolution.specs.CallGraphs.{tree_graph}
@@ -38,12 +40,16 @@ use Rattle.resolution.specs.Constants.{IsOfSort, Yields, AreArguments, Opens}
 use Rattle.resolution.specs.Working.TypedConstants.{const_sort, typed_const, typed_arguments, opened, referred}
 
 -- the least fault of the program's list, if there is one
-abbrev pub the_least : List Decl → Option Mistake
+abbrev pub the_least : List Decl → Option Finding
 the_least decls = least_of None (program_faults decls)
 
 -- it is a fault of the program
 abbrev pub TheLeastIsAFault : Type 0
-TheLeastIsAFault = (decls : List Decl) (f : Mistake) → the_least decls ≡ Some f → IsFault decls f.code f.start
+TheLeastIsAFault = (decls : List Decl) (f : Finding) → the_least decls ≡ Some f → IsFault decls f.code f.start
+
+-- and its reason is true
+abbrev pub TheLeastHasItsReason : Type 0
+TheLeastHasItsReason = (decls : List Decl) (f : Finding) → the_least decls ≡ Some f → IsFaultFor decls f.code f.start f.why
 
 -- no fault of the program goes before this one
 abbrev pub IsFirst : List Decl → Mistake → Type 0
@@ -52,7 +58,7 @@ IsFirst decls f = (code : Code) (p : ℕ) → IsFault decls code p →
 
 -- none goes before the least
 abbrev pub NoneGoesBeforeTheLeast : Type 0
-NoneGoesBeforeTheLeast = (decls : List Decl) (f : Mistake) → the_least decls ≡ Some f → IsFirst decls f
+NoneGoesBeforeTheLeast = (decls : List Decl) (f : Finding) → the_least decls ≡ Some f → IsFirst decls (mistake_of f)
 
 -- two faults of a program before which none goes are the same
 abbrev pub HaveAtMostOneLeast : Type 0

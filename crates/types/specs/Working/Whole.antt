@@ -1,5 +1,5 @@
 -- What the passes over declarations give, by parts.
-use Rattle.std.specs.Prelude.{ℕ, List, ◌++◌, Option}
+use Rattle.std.specs.Prelude.{ℕ, List, ◌++◌, map, Option}
 use Rattle.syntax.specs.Trees.{Decl, Variable, Array, Section, Thread}
 use Rattle.resolution.specs.Core as core
 use Rattle.resolution.specs.Limits.{section_limits, helper_limits}
@@ -12,7 +12,8 @@ use Rattle.types_declarations.specs.Working.Values as builder
 use Rattle.core_lang_calls.specs.Working.FaultLists.{graph_faults}
 use Rattle.resolution.specs.CallGraphs.{tree_graph}
 use Rattle.resolution.specs.Working.FaultLists.{each_faults}
-use Rattle.source.specs.declared.mistake.Mistake.{Mistake}
+use Rattle.resolution.specs.declared.finding.Finding.{Finding}
+use Rattle.resolution.specs.Working.Findings.{plain}
 use Rattle.types.specs.declared.program.Judge.{Judge}
 
 -- the declarations, as a judge knows them
@@ -20,8 +21,8 @@ abbrev pub known : Judge → List Decl
 known j = builder.known j.builder
 
 -- the faults of declarations one by one, and of what their bodies call
-abbrev pub judged_faults : List Decl → List Mistake
-judged_faults decls = each_faults decls 0 decls ++ graph_faults (tree_graph decls)
+abbrev pub judged_faults : List Decl → List Finding
+judged_faults decls = each_faults decls 0 decls ++ map plain (graph_faults (tree_graph decls))
 
 -- a program, if there is one, with one more declaration
 abbrev pub extended_if : List Decl → ℕ → Option core.Program → Decl → Option core.Program

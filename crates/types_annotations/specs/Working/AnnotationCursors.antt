@@ -1,6 +1,6 @@
 -- Where walks along annotations stand, and what annotations name.
 use Rattle.std.specs.Prelude.{List, map, Option, option_map}
-use Rattle.source.specs.declared.mistake.Mistake.{Mistake}
+use Rattle.resolution.specs.declared.finding.Finding.{Finding}
 use Rattle.syntax.specs.declared.tree.Name.{Name}
 use Rattle.syntax.specs.declared.tree.Protection as written
 use Rattle.syntax.specs.Views.{ident, protection_of as protection_view, option_of}
@@ -21,27 +21,27 @@ abbrev pub cursor_seen : Option s.AnnotationCursor → Option AnnotationCursor
 cursor_seen cursor = option_map cursor_of cursor
 
 -- what is wrong with these names of a global lock
-abbrev pub lock_name_faults : Declarations → Name → List Name → List Mistake
+abbrev pub lock_name_faults : Declarations → Name → List Name → List Finding
 lock_name_faults d x ys = named_lock_faults (decls_of d) (ident x) (map ident ys)
 
 -- with a name that others follow
-abbrev pub passed_at : AnnotationWalk → Option s.AnnotationCursor → Name → List Mistake
+abbrev pub passed_at : AnnotationWalk → Option s.AnnotationCursor → Name → List Finding
 passed_at walk cursor y = passed (decls_of walk.symbols.now) walk.start (cursor_seen cursor) (ident y)
 
 -- with the last name
-abbrev pub ended_at : AnnotationWalk → Option s.AnnotationCursor → Name → List Mistake
+abbrev pub ended_at : AnnotationWalk → Option s.AnnotationCursor → Name → List Finding
 ended_at walk cursor y = ended (decls_of walk.symbols.now) walk.start (cursor_seen cursor) (ident y)
 
 -- what a walk from there along names comes to, and what is wrong with it
 abbrev pub protection_along : AnnotationWalk → Option s.AnnotationCursor → Name → List Name → Option Protection
 protection_along walk cursor y zs = along (decls_of walk.symbols.now) (cursor_seen cursor) (ident y) (map ident zs)
 
-abbrev pub faults_along : AnnotationWalk → Option s.AnnotationCursor → Name → List Name → List Mistake
+abbrev pub faults_along : AnnotationWalk → Option s.AnnotationCursor → Name → List Name → List Finding
 faults_along walk cursor y zs = along_faults (decls_of walk.symbols.now) walk.start (cursor_seen cursor) (ident y) (map ident zs)
 
 -- what a field's annotation names, and what is wrong with that of the field of this name
 abbrev pub field_protection : FieldAnnotations → Option written.Protection → Option Protection
 field_protection at p = protection_of (decls_of at.symbols.now) at.place (members_seen at.structure.now) (option_of protection_view p)
 
-abbrev pub field_protection_faults : FieldAnnotations → Name → Option written.Protection → List Mistake
+abbrev pub field_protection_faults : FieldAnnotations → Name → Option written.Protection → List Finding
 field_protection_faults at x p = protection_faults (decls_of at.symbols.now) at.place (members_seen at.structure.now) x.start (option_of protection_view p)

@@ -2,7 +2,7 @@
 use Rattle.std.specs.Prelude.{◌≡◌, ℕ, List, map, Option, Some, None, option_map, Bool, true, false}
 use Rattle.std.specs.Borrow.{Bor}
 use Rattle.std.proofs.Common.{Vec, Global}
-use Rattle.source.specs.declared.mistake.Mistake.{Mistake}
+use Rattle.resolution.specs.declared.finding.Finding.{Finding}
 use Rattle.syntax.specs.declared.tree.Const as the_const
 use Rattle.syntax.specs.declared.tree.Member as the_member
 use Rattle.syntax.specs.declared.tree.Param as the_param
@@ -23,7 +23,7 @@ abbrev pub arguments_of : SymbolTable → List the_param.Param → List the_cons
 arguments_of symbols params constants = typed_arguments (decls_of symbols) (map param_of params) (map const_of constants)
 
 -- what is wrong with them
-abbrev pub argument_faults_of : SymbolTable → List the_param.Param → List the_const.Const → List Mistake
+abbrev pub argument_faults_of : SymbolTable → List the_param.Param → List the_const.Const → List Finding
 argument_faults_of symbols params constants = argument_faults (decls_of symbols) (map param_of params) (map const_of constants)
 
 -- a member that was found, with its place

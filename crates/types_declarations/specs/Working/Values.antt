@@ -1,6 +1,6 @@
 -- What values of the code say, in the words of the resolution.
 use Rattle.std.specs.Prelude.{ℕ, List, map, Option, Some, option_map}
-use Rattle.source.specs.declared.mistake.Mistake.{Mistake}
+use Rattle.resolution.specs.declared.finding.Finding.{Finding}
 use Rattle.syntax.specs.declared.tree.Member.{Member}
 use Rattle.syntax.specs.declared.tree.Name.{Name}
 use Rattle.syntax.specs.declared.tree.Pool.{Pool}
@@ -71,13 +71,13 @@ members_added_of b here st ms = members_added (known b) here.number here.place (
 -- ---- faults
 
 -- of a member of the struct at a place
-abbrev pub member_faults_of : Builder → ℕ → Structure → Member → List Mistake
+abbrev pub member_faults_of : Builder → ℕ → Structure → Member → List Finding
 member_faults_of b place structure m = member_faults (known b) place (members_seen structure) (member_of m)
 
 -- of members of it
-abbrev pub members_faults_of : Builder → ℕ → Structure → List Member → List Mistake
+abbrev pub members_faults_of : Builder → ℕ → Structure → List Member → List Finding
 members_faults_of b place structure ms = members_faults (known b) place (members_seen structure) (map member_of ms)
 
 -- of the pool at a place, where a final reference isn't given
-abbrev pub missing_faults_of : SymbolTable → ℕ → Pool → List Mistake
+abbrev pub missing_faults_of : SymbolTable → ℕ → Pool → List Finding
 missing_faults_of symbols place p = missing_faults (decls_of symbols) place (pool_of p) (members_of (decls_of symbols) (pool_of p).target)

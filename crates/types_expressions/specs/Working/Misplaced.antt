@@ -2,16 +2,16 @@
 use Rattle.std.specs.Prelude.{ℕ, List}
 use Rattle.source.specs.declared.fault.Code.{Code}
 use Rattle.source.specs.declared.fault.Code.TheVariants.{UnknownName}
-use Rattle.source.specs.declared.mistake.Mistake.{Mistake}
+use Rattle.resolution.specs.declared.finding.Finding.{Finding}
 use Rattle.syntax.specs.Trees.{Ident, Decl}
 use Rattle.resolution.specs.Scopes.{Scope, Meaning, a_local, a_decl, nothing, the_local, the_decl}
 use Rattle.resolution.specs.Working.FaultLists.{one, taken, unfit}
 
-abbrev pub misplaced : List Decl → Code → ℕ → Meaning → List Mistake
-misplaced decls code start (a_local i l) = unfit decls code start (a_local i l)
-misplaced decls code start (a_decl i d) = unfit decls code start (a_decl i d)
-misplaced decls code start nothing = one UnknownName start
+abbrev pub misplaced : List Decl → Finding → Meaning → List Finding
+misplaced decls f (a_local i l) = unfit decls f (a_local i l)
+misplaced decls f (a_decl i d) = unfit decls f (a_decl i d)
+misplaced decls f nothing = one UnknownName f.start
 
 -- a local's name that something bears already
-abbrev pub taken_name_faults : Scope → Ident → List Mistake
+abbrev pub taken_name_faults : Scope → Ident → List Finding
 taken_name_faults sc x = taken x.span.start (the_local sc.locals x.text) (the_decl sc.decls x.text)

@@ -5,7 +5,7 @@ use Rattle.syntax.specs.declared.tree.Level.{Level}
 use Rattle.syntax.specs.declared.tree.Comparison.{Comparison}
 use Rattle.syntax.specs.Trees.{Expr, Links, no_links, link}
 use Rattle.syntax.specs.Grammar.{level_of}
-use Rattle.source.specs.declared.mistake.Mistake.{Mistake}
+use Rattle.resolution.specs.declared.finding.Finding.{Finding}
 use Rattle.core_lang.specs.declared.tree.Expr as the_expr
 use Rattle.core_lang.specs.declared.tree.Condition as the_condition
 use Rattle.resolution.specs.CoreViews.{core_expr, core_condition}
@@ -35,9 +35,9 @@ abbrev pub both_tests : Scope → Option the_condition.Condition → Operator �
 both_tests sc first op e = holds (level_of op) (tests_from sc first (one_link op e))
 
 -- the faults of a second operand
-abbrev pub second_faults : Scope → Level → Operator → Expr → List Mistake
+abbrev pub second_faults : Scope → Level → Operator → Expr → List Finding
 second_faults sc level op e = link_faults sc level (one_link op e)
 
 -- the faults of the right side of a comparison, and of both sides together
-abbrev pub right_faults : Scope → Comparison → the_side.Side → Expr → List Mistake
+abbrev pub right_faults : Scope → Comparison → the_side.Side → Expr → List Finding
 right_faults sc c left e = wanted_faults sc (side_want c) e ++ side_faults c left.start (start_of e) (seen left) (typed sc e)

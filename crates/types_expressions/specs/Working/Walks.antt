@@ -1,6 +1,6 @@
 -- Where fields lead, as the values of this crate stand for it.
 use Rattle.std.specs.Prelude.{ℕ, List, map}
-use Rattle.source.specs.declared.mistake.Mistake.{Mistake}
+use Rattle.resolution.specs.declared.finding.Finding.{Finding}
 use Rattle.core_lang.specs.declared.tree.FieldStep.{FieldStep}
 use Rattle.syntax.specs.declared.tree.Name.{Name}
 use Rattle.syntax.specs.Trees.{Ident, Decl}
@@ -21,8 +21,8 @@ abbrev pub over_field : List Decl → List FieldStep → ℕ → Ident → Walk
 over_field decls steps structure f = over decls steps structure (the_struct decls structure) f.text
 
 -- the faults of fields, behind a walk to them, and behind what a name means
-abbrev pub fields_faults : List Decl → ℕ → Walk → List Name → List Mistake
+abbrev pub fields_faults : List Decl → ℕ → Walk → List Name → List Finding
 fields_faults decls start w fields = walk_faults decls start w (map ident fields)
 
-abbrev pub way_faults : List Decl → ℕ → Meaning → List Name → List Mistake
+abbrev pub way_faults : List Decl → ℕ → Meaning → List Name → List Finding
 way_faults decls start m fields = path_faults decls start m (map ident fields)

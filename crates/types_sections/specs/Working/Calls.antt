@@ -2,7 +2,7 @@
 use Rattle.std.specs.Prelude.{ℕ, List, length, Option, Some, None, Bool, option_map, map, if◌then◌else◌}
 use Rattle.std.specs.Borrow.{Bor}
 use Rattle.std.proofs.Common.{Vec, Global}
-use Rattle.source.specs.declared.mistake.Mistake.{Mistake}
+use Rattle.resolution.specs.declared.finding.Finding.{Finding}
 use Rattle.syntax.specs.declared.tree.Section as the_section
 use Rattle.syntax.specs.declared.tree.Expr as the_written
 use Rattle.syntax.specs.declared.tree.Param as the_param
@@ -36,10 +36,10 @@ values_seen v = option_map (λ vs. map core_expr vs.items) v
 abbrev pub values_of : Scope → List the_param.Param → List the_written.Expr → Option (List core.Expr)
 values_of sc ps es = typed_values sc (map param_of ps) (map expr_of es)
 
-abbrev pub values_blamed : Scope → List the_param.Param → List the_written.Expr → List Mistake
+abbrev pub values_blamed : Scope → List the_param.Param → List the_written.Expr → List Finding
 values_blamed sc ps es = values_faults sc (map param_of ps) (map expr_of es)
 
-abbrev pub each_blamed : Scope → List the_written.Expr → List Mistake
+abbrev pub each_blamed : Scope → List the_written.Expr → List Finding
 each_blamed sc es = each_value_faults sc (map expr_of es)
 
 -- for the helper that is meant, if one is
@@ -50,12 +50,12 @@ values_passed sc None es = None
 abbrev pub passed_seen : Scope → HelperCall → Option (List core.Expr)
 passed_seen sc c = values_passed sc (helper_named sc c) c.arguments
 
-abbrev pub passed_blamed : Scope → HelperCall → List Mistake
+abbrev pub passed_blamed : Scope → HelperCall → List Finding
 passed_blamed sc c = passed_values_faults sc (helper_named sc c) c.arguments
 
 -- ---- the call
 
-abbrev pub name_blamed : Scope → HelperCall → List Mistake
+abbrev pub name_blamed : Scope → HelperCall → List Finding
 name_blamed sc c = no_helper sc.decls c.helper.span.start (length c.arguments) (meaning sc c.helper.text)
 
 -- of a helper of this number, if there is one, with these arguments
@@ -68,7 +68,7 @@ called_with None vs local = None
 abbrev pub takes_result : Scope → Option ValueType → HelperCall → Bool
 takes_result sc t c = can_take t (type_given sc.decls (helper_named sc c))
 
-abbrev pub taking_blamed : Scope → Option ValueType → HelperCall → List Mistake
+abbrev pub taking_blamed : Scope → Option ValueType → HelperCall → List Finding
 taking_blamed sc t c = given_back_faults sc.decls c.helper.span.start t (helper_named sc c)
 
 -- a call that stands where its result is taken

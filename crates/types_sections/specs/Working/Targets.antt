@@ -1,7 +1,7 @@
 -- What the checker's values of statements stand for.
 use Rattle.std.specs.Prelude.{ℕ, List, [], ◌∷◌, ◌++◌, length, Option, Some, None, map, option_map}
 use Rattle.std.proofs.Common.{Vec, Global}
-use Rattle.source.specs.declared.mistake.Mistake.{Mistake}
+use Rattle.resolution.specs.declared.finding.Finding.{Finding}
 use Rattle.syntax.specs.Trees as trees
 use Rattle.core_lang.specs.declared.value.ValueType.TheVariants.{Reference}
 use Rattle.core_lang.specs.declared.tree.LocalKind.{LocalKind}
@@ -47,7 +47,7 @@ assigned_at (Some x) None = None
 assigned_at None index = None
 
 -- the faults of a name that takes an index there
-abbrev pub element_faults : List trees.Decl → ℕ → Meaning → List Mistake
+abbrev pub element_faults : List trees.Decl → ℕ → Meaning → List Finding
 element_faults decls start m = no_elements decls start m ++ no_array decls start m
 
 -- ---- what a local opens with
@@ -57,21 +57,21 @@ abbrev pub next_bound : Scope → trees.Local → the_opening.Opening → Option
 next_bound sc l o = binds l.start.start (length sc.locals) o.value_type (option_map core_expr o.value)
 
 -- the faults of a final reference's name, of a struct's
-abbrev pub final_faults_in : Scope → ℕ → trees.Ident → List Mistake
+abbrev pub final_faults_in : Scope → ℕ → trees.Ident → List Finding
 final_faults_in sc structure f = owner_field_faults sc.decls (Some (Reference structure)) f
 
 -- the faults of a name that is to be a local's
-abbrev pub owner_name_faults : Scope → Option OwnerField → trees.Ident → List Mistake
+abbrev pub owner_name_faults : Scope → Option OwnerField → trees.Ident → List Finding
 owner_name_faults sc field x = no_owner sc.decls x.span.start field (meaning sc x.text)
 
 -- its value, where that is tested, and what is wrong behind its `where`
 abbrev pub owned_opening : Scope → the_opening.Opening → trees.Owner → Option core.Expr
 owned_opening sc opening o = owned_by sc opening.value_type o (option_map core_expr opening.value)
 
-abbrev pub opening_faults : Scope → the_opening.Opening → trees.Owner → List Mistake
+abbrev pub opening_faults : Scope → the_opening.Opening → trees.Owner → List Finding
 opening_faults sc opening o = owner_faults sc opening.value_type o
 
-abbrev pub owned_faults : Scope → trees.Local → trees.Owner → List Mistake
+abbrev pub owned_faults : Scope → trees.Local → trees.Owner → List Finding
 owned_faults sc l o = stmt_faults sc (trees.let_owned l o)
 
 -- a value that is tested by a final reference and a local, if nothing is missing

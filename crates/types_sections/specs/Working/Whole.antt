@@ -5,7 +5,7 @@ use Rattle.syntax.specs.Trees.{Decl, Section}
 use Rattle.core_lang.specs.declared.tree.Local as the_local
 use Rattle.resolution.specs.Core as core
 use Rattle.resolution.specs.CoreViews.{core_locals, core_stmts, core_return}
-use Rattle.source.specs.declared.mistake.Mistake.{Mistake}
+use Rattle.resolution.specs.declared.finding.Finding.{Finding}
 use Rattle.resolution.specs.Scopes.{Scope, entered}
 use Rattle.resolution.specs.Working.TypedSections.{section_with, section_of}
 use Rattle.resolution.specs.Working.FaultLists.{param_faults, stmts_faults}
@@ -25,5 +25,5 @@ abbrev pub section_if : List Decl → Section → Option (Vec the_local.Local Gl
 section_if decls s locals body = section_of decls s (locals_of locals) (option_map body_of body)
 
 -- the faults of its parameters and of its statements, from the scope ahead of the parameters
-abbrev pub blamed_in : Scope → Section → List Mistake
+abbrev pub blamed_in : Scope → Section → List Finding
 blamed_in sc s = param_faults sc 0 s.params ++ stmts_faults (entered sc s.params) s.body.stmts

@@ -2,7 +2,7 @@
 use Rattle.std.specs.Prelude.{ℕ, ◌≤◌, ◌+◌, nat_le, min, List, [], ◌++◌}
 use Rattle.source.specs.declared.fault.Code.TheVariants.{LimitExceeded}
 use Rattle.syntax.specs.Trees.{Decl, lock, struct, global, array, pool, init, atomic, helper, thread}
-use Rattle.source.specs.declared.mistake.Mistake.{Mistake}
+use Rattle.resolution.specs.declared.finding.Finding.{Finding}
 use Rattle.resolution.specs.Limits.{STRUCT_LIMIT, CLASS_LIMIT, OBJECT_LIMIT, CELL_LIMIT, SECTION_LIMIT, THREAD_LIMIT}
 use Rattle.resolution.specs.Limits.{CALL_LIMIT}
 use Rattle.resolution.specs.Numbers.{classes_of, objects_of, cells_of, calls_of, total}
@@ -46,7 +46,7 @@ abbrev pub AreCapped : Totals → Type 0
 AreCapped t = (t.classes ≤ CLASS_LIMIT + 1) × (t.objects ≤ OBJECT_LIMIT + 1) × (t.cells ≤ CELL_LIMIT + 1) × (t.calls ≤ CALL_LIMIT + 1)
 
 -- the faults of a declaration, by how many stand ahead that have a limit together with it, what stands ahead, and what it adds
-abbrev pub faults_by : ℕ → Totals → Totals → Decl → List Mistake
+abbrev pub faults_by : ℕ → Totals → Totals → Decl → List Finding
 faults_by number ahead own (lock x) = one_if (nat_le CLASS_LIMIT ahead.classes) LimitExceeded x.span.start
 faults_by number ahead own (struct s) = one_if (nat_le STRUCT_LIMIT number) LimitExceeded s.name.span.start ++ member_counts ahead.classes 0 s.members
 faults_by number ahead own (global v) = one_if (first_too_many CELL_LIMIT ahead.cells own.cells) LimitExceeded v.name.span.start

@@ -4,7 +4,7 @@ use Rattle.std.specs.HashMap.{get_by_text}
 use Rattle.std.specs.Option.{option_or}
 use Rattle.std.specs.Str.{bytes_eq}
 use Rattle.syntax.specs.Trees.{Ident}
-use Rattle.source.specs.declared.mistake.Mistake.{Mistake}
+use Rattle.resolution.specs.declared.finding.Finding.{Finding}
 use Rattle.resolution.specs.Scopes.{place_of}
 use Rattle.resolution.specs.Working.FaultLists.{again}
 use Rattle.types_symbols.specs.declared.names.Names.{Names}
@@ -27,7 +27,7 @@ IsTableWith (Some x) place old new = IsTableWithName x.text place old new
 IsTableWith None place old new = (q : List ℕ) → found new q ≡ found old q
 
 -- a name that the table has already
-abbrev pub declared_in : Names → Option Ident → List Mistake
+abbrev pub declared_in : Names → Option Ident → List Finding
 declared_in n (Some x) = again x.span.start (found n x.text)
 declared_in n None = []
 

@@ -6,7 +6,7 @@ use Rattle.syntax.specs.declared.tree.Decl as rust_decl
 use Rattle.syntax.specs.declared.tree.Name.{Name}
 use Rattle.syntax.specs.Trees.{Decl, pool, init, Pool, Struct}
 use Rattle.resolution.specs.declared.init_target.InitTarget.{InitTarget}
-use Rattle.source.specs.declared.mistake.Mistake.{Mistake}
+use Rattle.resolution.specs.declared.finding.Finding.{Finding}
 use Rattle.resolution.specs.Scopes.{place_of, the_decl}
 use Rattle.resolution.specs.Constants.{init_target_of, gives, same_init_target}
 use Rattle.resolution.specs.Working.FaultLists.{given_before}
@@ -26,11 +26,11 @@ abbrev pub IsInitTargetTableWith : (InitTarget → Bool) → ℕ → FirstInits 
 IsInitTargetTableWith is_given place old new = (g : InitTarget) → init_target_found new g ≡ option_or (init_target_found old g) (if is_given g then Some place else None)
 
 -- what is given already
-abbrev pub again_given : FirstInits → ℕ → Option InitTarget → List Mistake
+abbrev pub again_given : FirstInits → ℕ → Option InitTarget → List Finding
 again_given t start (Some g) = given_before start (init_target_found t g)
 again_given t start None = []
 
-abbrev pub repeated_in : FirstInits → List Decl → Decl → List Mistake
+abbrev pub repeated_in : FirstInits → List Decl → Decl → List Finding
 repeated_in t decls (init j) = again_given t j.start.start (init_target_of decls j)
 repeated_in t decls _ = []
 

@@ -1,36 +1,17 @@
-use Rattle.std.proofs.Common.{map, subst, sym}
+use Rattle.std.proofs.Common.{sym, subst}
+use Rattle.std.proofs.lemmas.Bool.{both_ways}
 use Rattle.std.proofs.lemmas.Result.{IfOk-weaker}
-use Rattle.explanation.specs.Notes.{note_of}
-use Rattle.source.specs.declared.fault.Code.{Code}
-use Rattle.source.specs.Tokens.{seen}
-use Rattle.syntax.specs.Views.{tree_of}
-use Rattle.explanation_faults.specs.FaultNotes.{AreNotes}
-use Rattle.explanation_faults.proofs.TextTrees.{without_tree, with_tree}
+use Rattle.explanation_faults.specs.TextNotes.{AreTextNotes}
+use Rattle.explanation_faults.proofs.TextTrees.{of_its_mark}
 use Rattle.explanation_faults.proofs.text_notes.fault_notes.Goals as goal
 
-pub returns-in_default : goal.returns-in_default
-returns-in_default c =
-    let lexed = c.in-Ok.ensures in
-    without_tree c.args.text.now (seen c.in-Ok.tokens.items) c.args.fault.now.code c.args.fault.now.start _ lexed.refused lexed.found
-    (λ us few have. sym (lexed.only us few have)) (rw c.deref.ensures.value at (rw c.in_default.is at c.in_ok-tree.ensures)) c.in_ok-notes.ensures
+pub returns-then-is_mark : goal.returns-then-is_mark
+returns-then-is_mark c =
+    let text = c.args.text.now in
+    let code = c.args.fault.now.code in
+    let at = c.args.fault.now.start in
+    IfOk-weaker c.mark_notes.result _ _
+    (λ notes is. subst (AreTextNotes text code at) (sym is) (of_its_mark text code at (c.is_mark.ensures.mark c.if-is_mark.true))) c.mark_notes.ensures
 
-pub returns : goal.returns
-returns c =
-    let lexed = c.in-Ok.ensures in
-    let tree = rw c.deref.ensures.value at (rw c.in-Some.is at c.in_ok-tree.ensures) in
-    IfOk-weaker c.tree_notes.result _ _
-    (λ notes are. with_tree c.args.text.now (seen c.in-Ok.tokens.items) (tree_of c.in-Some.tree) c.args.fault.now.code c.args.fault.now.start _
-    c.one_tree.ensures lexed.refused lexed.found (λ us few have. sym (lexed.only us few have)) tree are)
-    (rw (c.deref-3.ensures.value, c.in_ok-symbols.ensures.items, c.deref-2.ensures.value) at c.tree_notes.ensures)
-
-pub returns-in-MisplacedReturn : goal.returns-in-MisplacedReturn
-returns-in-MisplacedReturn c =
-    let lexed = c.in-Ok.ensures in
-    let tree = rw c.deref.ensures.value at (rw c.in-Some.is at c.in_ok-tree.ensures) in
-    let tokens = seen c.in-Ok.tokens.items in
-    let start = c.args.fault.now.start in
-    IfOk-weaker c.return_notes.result _ _
-    (λ notes are. with_tree c.args.text.now tokens (tree_of c.in-Some.tree) c.args.fault.now.code start _
-    c.one_tree.ensures lexed.refused lexed.found (λ us few have. sym (lexed.only us few have)) tree
-    (subst (λ (code : Code). AreNotes tokens (tree_of c.in-Some.tree) code start (map note_of notes.items)) (sym c.in-MisplacedReturn.is) (are tokens)))
-    (rw c.deref-in-MisplacedReturn.ensures.value at c.return_notes.ensures)
+pub other_notes-requires : goal.other_notes-requires
+other_notes-requires c = λ mark. both_ways c.is_mark.result c.if-is_mark.false (c.is_mark.ensures.no_mark mark)

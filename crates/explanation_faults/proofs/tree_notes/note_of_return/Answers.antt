@@ -1,11 +1,8 @@
 use Rattle.std.proofs.Common.{map, sym, subst}
 use Rattle.std.proofs.lemmas.Result.{IfOk-weaker}
 use Rattle.syntax.specs.Views.{decl_of}
-use Rattle.explanation_faults.specs.FaultNotes.{IsReturnNote, missing, misplaced}
+use Rattle.explanation_faults.specs.FaultNotes.{IsReturnNote, missing}
 use Rattle.explanation_faults.proofs.tree_notes.note_of_return.Goals as goal
-
-pub returns-in_default : goal.returns-in_default
-returns-in_default c = rw c.in_ok-from_str.ensures.ok (misplaced c.in_default.ensures)
 
 pub returns : goal.returns
 returns c =

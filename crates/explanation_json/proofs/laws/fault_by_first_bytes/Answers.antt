@@ -1,4 +1,4 @@
-use Rattle.std.proofs.Common.{◌≡◌, ◌∙◌, ◌<◌, ◌≤◌, ◌+◌, ℕ, suc, List, [], ◌∷◌, Option, None, map, take, length, min}
+use Rattle.std.proofs.Common.{◌≡◌, ◌∙◌, ◌<◌, ◌≤◌, ℕ, suc, List, [], ◌∷◌, Option, None, map, take, length, min}
 use Rattle.std.proofs.Common.{refl, sym, ap, ap₂, arith, ⊎_elim}
 use Rattle.std.specs.List.{prefix_len}
 use Rattle.std.specs.Prelude.{◌++◌, All, false, codes, string_bytes}

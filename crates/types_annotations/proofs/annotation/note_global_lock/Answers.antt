@@ -1,6 +1,6 @@
 use Rattle.std.proofs.Common.{◌∙◌, ap, sym}
 use Rattle.syntax.specs.Views.{decl_of}
-use Rattle.source.specs.Mistakes.{least_of}
+use Rattle.resolution.specs.Working.Findings.{least_of}
 use Rattle.resolution.specs.Scopes.{the_decl}
 use Rattle.types_symbols.specs.Working.Views.{decls_of}
 use Rattle.types_symbols.specs.Theory.Steps.{found_as}

@@ -1,7 +1,7 @@
 use Rattle.std.proofs.Common.{◌≡◌, drop}
 use Rattle.std.specs.Prelude.{map}
 use Rattle.syntax.specs.Views.{param_of, const_of}
-use Rattle.source.specs.Mistakes.{least_of}
+use Rattle.resolution.specs.Working.Findings.{least_of}
 use Rattle.resolution.specs.Working.FaultLists.{argument_faults}
 use Rattle.types_symbols.specs.Working.Views.{decls_of}
 use Rattle.types_constants.proofs.constant.note_arguments.Given as goal

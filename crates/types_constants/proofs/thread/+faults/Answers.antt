@@ -1,6 +1,6 @@
 use Rattle.std.proofs.Common.{◌+◌, drop}
 use Rattle.syntax.specs.Views.{item_of, items_of}
-use Rattle.source.specs.Mistakes.{least_of}
+use Rattle.resolution.specs.Working.Findings.{least_of}
 use Rattle.resolution.specs.Working.FaultLists.{item_faults, items_faults}
 use Rattle.types_symbols.specs.Working.Views.{decls_of}
 use Rattle.types_symbols.specs.Theory.Steps.{step, noted_one}

@@ -1,6 +1,6 @@
 use Rattle.std.proofs.Common.{◌≡◌, drop}
 use Rattle.syntax.specs.Views.{items_of}
-use Rattle.source.specs.Mistakes.{least_of}
+use Rattle.resolution.specs.Working.Findings.{least_of}
 use Rattle.resolution.specs.Working.FaultLists.{items_faults}
 use Rattle.types_symbols.specs.Working.Views.{decls_of}
 use Rattle.types_constants.proofs.thread.+faults.Given as goal

@@ -1,7 +1,7 @@
 use Rattle.std.proofs.Common.{◌+◌, drop}
 use Rattle.syntax.specs.Views.{expr_of}
 use Rattle.resolution.specs.declared.wanted.Want.TheVariants.{Anything}
-use Rattle.source.specs.Mistakes.{least_of}
+use Rattle.resolution.specs.Working.Findings.{least_of}
 use Rattle.resolution.specs.Working.FaultLists.{wanted_faults}
 use Rattle.types_symbols.specs.Theory.Steps.{step, noted_one}
 use Rattle.types_expressions.specs.Working.Checkers.{scope}

@@ -2,7 +2,7 @@ use Rattle.std.proofs.Common.{◌≡◌, drop}
 use Rattle.std.specs.Prelude.{map}
 use Rattle.syntax.specs.Views.{param_of}
 use Rattle.resolution.specs.Scopes.{entered}
-use Rattle.source.specs.Mistakes.{least_of}
+use Rattle.resolution.specs.Working.Findings.{least_of}
 use Rattle.resolution.specs.Working.FaultLists.{param_faults}
 use Rattle.types_expressions.specs.Working.Checkers.{scope}
 use Rattle.types_sections.proofs.section.judge_params.Given as goal

@@ -9,7 +9,7 @@ use Rattle.resolution.specs.Working.TypedStatements.{prints, returns, block_of, 
 use Rattle.resolution.specs.Statements.{after, after_else, after_all}
 use Rattle.resolution.specs.Working.TypedExpressions.{as_value, fitting, typed}
 use Rattle.resolution.specs.Expressions.{want}
-use Rattle.source.specs.Mistakes.{least_of}
+use Rattle.resolution.specs.Working.Findings.{least_of}
 use Rattle.syntax.specs.Theory.Rows.{while_seen}
 use Rattle.resolution.specs.Working.FaultLists.{stmt_faults, stmts_faults, wanted_faults}
 use Rattle.resolution.specs.Scopes.{left}

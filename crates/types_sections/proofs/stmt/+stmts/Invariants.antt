@@ -3,7 +3,7 @@ use Rattle.std.specs.Prelude.{option_map}
 use Rattle.syntax.specs.Views.{stmts_of}
 use Rattle.resolution.specs.Working.TypedStatements.{typed_body}
 use Rattle.resolution.specs.Statements.{after_all}
-use Rattle.source.specs.Mistakes.{least_of}
+use Rattle.resolution.specs.Working.Findings.{least_of}
 use Rattle.resolution.specs.Working.FaultLists.{stmts_faults}
 use Rattle.types_expressions.specs.Working.Checkers.{scope}
 use Rattle.types_sections.specs.Working.Targets.{row_of}

@@ -2,7 +2,7 @@ use Rattle.std.proofs.Common.{ap, ◌∙◌}
 use Rattle.syntax.specs.Views.{ident, expr_of, type_of as type_seen}
 use Rattle.resolution.specs.Scopes.{type_of}
 use Rattle.resolution.specs.Expressions.{want}
-use Rattle.source.specs.Mistakes.{least_of}
+use Rattle.resolution.specs.Working.Findings.{least_of}
 use Rattle.resolution.specs.Working.FaultLists.{local_faults, type_faults, wanted_faults}
 use Rattle.types_expressions.specs.Working.Checkers.{scope}
 use Rattle.types_symbols.specs.Theory.Steps.{noted_two}

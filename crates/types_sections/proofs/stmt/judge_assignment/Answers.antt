@@ -6,7 +6,7 @@ use Rattle.resolution.specs.Working.TypedExpressions.{as_value, fitting, typed}
 use Rattle.resolution.specs.CoreViews.{core_expr}
 use Rattle.resolution.specs.Working.TypedStatements.{assigns, target_of, wanted_by}
 use Rattle.resolution.specs.Statements.{first_name}
-use Rattle.source.specs.Mistakes.{least_of}
+use Rattle.resolution.specs.Working.Findings.{least_of}
 use Rattle.resolution.specs.Working.FaultLists.{target_faults, wanted_faults}
 use Rattle.types_expressions.specs.Working.Checkers.{scope}
 use Rattle.types_sections.specs.Working.Targets.{assignee_of}

@@ -2,7 +2,7 @@ use Rattle.std.proofs.Common.{◌≡◌, ap, sym, subst, ◌∙◌}
 use Rattle.std.specs.Prelude.{IfOk, OnOk, option_map}
 use Rattle.syntax.specs.Views.{ident, element_of, path_of, place_of}
 use Rattle.resolution.specs.Working.TypedStatements.{assignee_at, target_of}
-use Rattle.source.specs.Mistakes.{least_of}
+use Rattle.resolution.specs.Working.Findings.{least_of}
 use Rattle.resolution.specs.Working.FaultLists.{no_target, target_faults}
 use Rattle.types_expressions.specs.Working.Checkers.{scope}
 use Rattle.types_sections.specs.Working.Targets.{assignee_of}

@@ -1,6 +1,6 @@
 use Rattle.std.proofs.Common.{◌≡◌, [], take, drop, length}
 use Rattle.resolution.specs.Scopes.{bears}
-use Rattle.source.specs.Mistakes.{least_of}
+use Rattle.resolution.specs.Working.Findings.{least_of}
 use Rattle.resolution.specs.Working.FaultLists.{twice_faults}
 use Rattle.types_symbols.specs.Working.Found.{IsTableOf, AreAhead}
 use Rattle.types_symbols.specs.Working.Counted.{counts_from, no_counts}

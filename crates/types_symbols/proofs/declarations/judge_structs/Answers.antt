@@ -4,7 +4,7 @@ use Rattle.std.specs.Prelude.{map}
 use Rattle.syntax.specs.declared.tree.Decl as rust
 use Rattle.syntax.specs.Trees.{Decl}
 use Rattle.syntax.specs.Views.{decl_of, struct_of}
-use Rattle.source.specs.Mistakes.{least_of}
+use Rattle.resolution.specs.Working.Findings.{least_of}
 use Rattle.resolution.specs.Working.FaultLists.{struct_faults}
 use Rattle.types_symbols.specs.Working.Views.{decls_of, AreStructures}
 use Rattle.types_symbols.proofs.Declared.{take-here}

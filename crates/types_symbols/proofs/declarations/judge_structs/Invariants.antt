@@ -1,5 +1,5 @@
 use Rattle.std.proofs.Common.{◌≡◌, take, drop}
-use Rattle.source.specs.Mistakes.{least_of}
+use Rattle.resolution.specs.Working.Findings.{least_of}
 use Rattle.resolution.specs.Working.FaultLists.{struct_faults}
 use Rattle.types_symbols.specs.Working.Views.{decls_of, AreStructures}
 use Rattle.types_symbols.proofs.declarations.judge_structs.Given as goal

@@ -3,7 +3,7 @@ use Rattle.std.proofs.lemmas.List.{take_all, drop_all}
 use Rattle.syntax.specs.declared.tree.Decl as rust
 use Rattle.syntax.specs.Trees.{Decl}
 use Rattle.syntax.specs.Views.{decl_of}
-use Rattle.source.specs.Mistakes.{least_of}
+use Rattle.resolution.specs.Working.Findings.{least_of}
 use Rattle.resolution.specs.Working.FaultLists.{repeated, repeated_faults}
 use Rattle.types_symbols.specs.Working.Given.{IsInitTargetTable}
 use Rattle.types_symbols.specs.Working.Views.{decls_of}

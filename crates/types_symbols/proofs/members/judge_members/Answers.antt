@@ -10,7 +10,7 @@ use Rattle.syntax.specs.Trees.{Ident, Member}
 use Rattle.syntax.specs.Views.{member_of, ident}
 use Rattle.resolution.specs.Scopes.{members_alike, count, member_bears, member_name, place_of}
 use Rattle.resolution.specs.Numbers.{fields_from, new_field}
-use Rattle.source.specs.Mistakes.{least_of}
+use Rattle.resolution.specs.Working.Findings.{least_of}
 use Rattle.resolution.specs.Working.FaultLists.{one_if, again, member_twice_faults}
 use Rattle.source.specs.declared.fault.Code.TheVariants.{DeclaredTwice}
 use Rattle.types_symbols.specs.declared.members.MemberCounts.{MemberCounts}

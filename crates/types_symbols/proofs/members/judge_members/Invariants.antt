@@ -3,7 +3,7 @@ use Rattle.std.specs.Prelude.{map}
 use Rattle.syntax.specs.Views.{member_of}
 use Rattle.resolution.specs.Scopes.{member_bears}
 use Rattle.resolution.specs.Numbers.{fields_from}
-use Rattle.source.specs.Mistakes.{least_of}
+use Rattle.resolution.specs.Working.Findings.{least_of}
 use Rattle.resolution.specs.Working.FaultLists.{member_twice_faults}
 use Rattle.types_symbols.specs.Working.Found.{IsTableOf, AreAhead}
 use Rattle.types_symbols.specs.Working.Counted.{member_counts_from, no_members}

@@ -5,7 +5,7 @@ use Rattle.syntax.specs.declared.tree.Decl as rust
 use Rattle.syntax.specs.Trees.{Decl}
 use Rattle.syntax.specs.Views.{decl_of}
 use Rattle.types_symbols.specs.Working.Counted.{limited}
-use Rattle.source.specs.Mistakes.{least_of}
+use Rattle.resolution.specs.Working.Findings.{least_of}
 use Rattle.resolution.specs.Working.FaultLists.{count_faults, total_faults}
 use Rattle.types_symbols.specs.declared.totals.Totals.{Totals}
 use Rattle.types_symbols.specs.Working.Found.{AreAhead}

@@ -1,5 +1,5 @@
 use Rattle.std.proofs.Common.{◌≡◌, [], take, drop, length}
-use Rattle.source.specs.Mistakes.{least_of}
+use Rattle.resolution.specs.Working.Findings.{least_of}
 use Rattle.resolution.specs.Working.FaultLists.{total_faults}
 use Rattle.types_symbols.specs.Working.Found.{AreAhead}
 use Rattle.types_symbols.specs.Working.Capped.{totals_of}

@@ -1,9 +1,13 @@
+use Rattle.std.proofs.Common.{subst}
+use Rattle.source.specs.declared.fault.Code.{Code}
+use Rattle.source.specs.declared.fault.Code.TheVariants.{WrongArgumentCount, NotAssignable}
 use Rattle.source.specs.declared.fault.Code.TheVariants.{DeclaredTwice, UnknownName, WrongType}
 use Rattle.source.specs.declared.fault.Code.TheVariants.{NeitherFinalNorProtected, ProtectedByPassesNonFinal}
 use Rattle.source.specs.declared.fault.Code.TheVariants.{UnstableBase, LimitExceeded, FinalWithoutOpeningValue}
 use Rattle.source.specs.declared.fault.Code.TheVariants.{InitOutOfRangeOrRepeated}
-use Rattle.explanation_faults.specs.Working.Values.{decls_of}
-use Rattle.explanation_faults.proofs.Telling.{told_as, told_so, twice_told, type_told, lock_told, passed_told}
+use Rattle.explanation_faults.specs.Working.Values.{decls_of, FoundWhy}
+use Rattle.explanation_faults.proofs.Telling.{told_as, told_so, twice_told, lock_told, passed_told}
+use Rattle.explanation_faults.proofs.Telling.{type_told, count_told_of, target_told}
 use Rattle.explanation_faults.proofs.Telling.{again_told, var_told}
 use Rattle.explanation_faults.proofs.tree_notes.Faulty.note.Goals as goal
 
@@ -20,7 +24,24 @@ returns-in-UnknownName c =
 pub returns-in-WrongType : goal.returns-in-WrongType
 returns-in-WrongType c =
     let x = c.args.self.now in
-    told_as x c.args.code WrongType c.in-WrongType.is c.type_note.result (type_told (decls_of x) x.at) c.type_note.ensures
+    told_so x c.args.code WrongType c.in-WrongType.is c.reason_note.result (type_told x c.reason_note.result c.reason_note.ensures)
+
+pub reason_note-requires : goal.reason_note-requires
+reason_note-requires c =
+    let x = c.args.self.now in
+    subst (λ (code : Code). FoundWhy (decls_of x) code x.at x.why) c.in-WrongType.is c.requires
+
+pub returns-in-WrongArgumentCount : goal.returns-in-WrongArgumentCount
+returns-in-WrongArgumentCount c =
+    let x = c.args.self.now in
+    let r = c.reason_note-in-WrongArgumentCount in
+    told_so x c.args.code WrongArgumentCount c.in-WrongArgumentCount.is r.result (count_told_of x r.result r.ensures)
+
+pub returns-in-NotAssignable : goal.returns-in-NotAssignable
+returns-in-NotAssignable c =
+    let x = c.args.self.now in
+    let r = c.reason_note-in-NotAssignable in
+    told_so x c.args.code NotAssignable c.in-NotAssignable.is r.result (target_told x r.result r.ensures)
 
 pub returns-in-NeitherFinalNorProtected : goal.returns-in-NeitherFinalNorProtected
 returns-in-NeitherFinalNorProtected c =

@@ -12,7 +12,9 @@ invariant_of-self-in-Ok c =
     let start = c.self.inside.start in
     let e : Entry = record { state = c.args.state; before = c.copied-before.result } in
     let h : c.hash-key.result ≡ hash_of start e =
-    c.hash-key.ensures ∙ ap (λ (d : List ℕ). hash start d c.deref-2.result.now) c.deref.ensures.value ∙ ap (λ (v : List Value). hash start c.args.state.done.items v) c.deref-2.ensures.value in
+    c.hash-key.ensures ∙ ap (λ (d : List ℕ). hash start d c.deref-2.result.now c.deref-3.result.now) c.deref.ensures.value
+    ∙ ap (λ (v : List Value). hash start c.args.state.done.items v c.deref-3.result.now) c.deref-2.ensures.value
+    ∙ ap (hash start c.args.state.done.items c.args.state.cells.items) c.deref-3.ensures.value in
     let link : e.before ≡ get nat_eq c.self.inside.places (hash_of start e) =
     c.copied-before.ensures ∙ c.get.ensures.value ∙ ap (get nat_eq c.self.inside.places) h in
     let long : c.len-number.result ≡ length c.self.inside.entries.items = omega (arith, c.len-number.ensures) in

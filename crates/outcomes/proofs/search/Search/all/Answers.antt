@@ -1,5 +1,6 @@
 use Rattle.std.proofs.Common.{◌≡◌, ◌∙◌, ℕ, ◌+◌, ◌-◌, [], ◌++◌, length, map, ap, sym, subst, refl, arith}
-use Rattle.core_lang.specs.Serial.{opening_heap}
+use Rattle.core_lang.specs.WellFormed.{calls_together}
+use Rattle.outcomes.specs.Working.Steps.{start_of}
 use Rattle.outcomes.specs.declared.search.Work.{Work}
 use Rattle.outcomes.specs.Orders.{none_done}
 use Rattle.outcomes.specs.Working.Searching.{AreGood, order_at, weight}
@@ -13,11 +14,11 @@ loop-depth-init c =
     record {
       heap = c.in_ok-heap.ensures.cells;
       empty = c.new.ensures;
-      layer = good_at_first c.args.self.now.program.now c.args.self.now.turns c.new-2.result c.in_ok-layer.layer c.requires.checked c.new-2.ensures c.in_ok-layer.ensures;
-      sums = sums_at_first c.args.self.now.program.now c.args.self.now.turns c.in_ok-layer.layer c.in_ok-layer.ensures;
+      layer = good_at_first c.args.self.now c.new-2.result c.in_ok-layer.layer c.requires.checked c.new-2.ensures c.in_ok-layer.ensures;
+      sums = sums_at_first c.args.self.now c.in_ok-layer.layer c.in_ok-layer.ensures;
       before = (
         [],
-        no_places c.args.self.now.program.now c.args.self.now.turns,
+        no_places c.args.self.now.program.now c.args.self.now.turns c.args.self.now.asked.now.answers,
         (let one : length c.in_ok-layer.layer ≡ 1 = ap length c.in_ok-layer.ensures in let root : length c.new-2.result ≡ 1 = ap length c.new-2.ensures in omega arith),
       );
     }
@@ -26,7 +27,7 @@ pub returns-in-Some-Beyond : goal.returns-in-Some-Beyond
 returns-in-Some-Beyond c =
     let there = rw (c.in-Some-Beyond.is, c.in-Some-Beyond.field-0-is) at c.in_ok-expand_all.ensures in
     rw c.in_ok-order-in-Some-Beyond.ensures
-    (stops_after c.whole_within_some_turns.ensures.over c.args.self.now.program.now c.args.self.now.turns
+    (stops_after c.whole_within_some_turns.ensures.over c.args.self.now.program.now c.args.self.now.turns c.args.self.now.asked.now.answers
     (order_at c.expand_all.new.work.trail c.in-Some-Beyond.first) c.in-Some-Beyond.thread there.1)
 
 pub returns-in-Some-TooMany : goal.returns-in-Some-TooMany
@@ -36,7 +37,7 @@ returns-in-Some-TooMany c =
     too_many c.args.self.now old c.loop-depth.layer c.calls-calls.result c.loop-depth.depth many c.loop-depth.invariant.empty refl c.loop-depth-test.true
     c.calls-calls.ensures
     (λ f. c.loop-depth.invariant.sums f (c.calls-calls.result - c.loop-depth.depth)
-    ∙ ap (λ (k : ℕ). weight c.args.self.now.program.now c.args.self.now.turns f k (none_done c.args.self.now.program.now) (opening_heap c.args.self.now.program.now))
+    ∙ ap (λ (k : ℕ). weight c.args.self.now.program.now c.args.self.now.turns f k (none_done c.args.self.now.program.now) (start_of c.args.self.now))
     (omega (arith, c.loop-depth-test.true)))
 
 pub loop-depth-preserved : goal.loop-depth-preserved
@@ -53,29 +54,35 @@ loop-depth-preserved c =
           c.loop-depth.invariant.sums f left);
       before = rw c.replace-layer.ensures.value (
         c.loop-depth.invariant.before.0 ++ map configuration_of c.loop-depth.layer,
-        places_more c.settled_are_serial.ensures c.at_most_one_serial.ensures c.args.self.now.program.now c.args.self.now.turns c.loop-depth.depth
+        places_more c.settled_are_serial.ensures c.at_most_one_serial.ensures c.args.self.now.program.now c.args.self.now.turns c.args.self.now.asked.now.answers c.loop-depth.depth
             c.loop-depth.work.trail c.loop-depth.layer c.loop-depth.invariant.before.0 c.loop-depth.invariant.layer
-            (λ f. c.loop-depth.invariant.sums f 0 ∙ ap (λ (k : ℕ). weight c.args.self.now.program.now c.args.self.now.turns f k (none_done c.args.self.now.program.now) (opening_heap c.args.self.now.program.now)) (omega arith))
+            (λ f. c.loop-depth.invariant.sums f 0 ∙ ap (λ (k : ℕ). weight c.args.self.now.program.now c.args.self.now.turns f k (none_done c.args.self.now.program.now) (start_of c.args.self.now)) (omega arith))
             c.loop-depth.invariant.before.1,
         before_more c.args.self.now old c.expand_all.new.work c.loop-depth.invariant.before.0 c.loop-depth.layer goes c.loop-depth.invariant.empty
             c.loop-depth.invariant.before.2,
       );
     }
 
+pub ends_of-requires : goal.ends_of-requires
+ends_of-requires c =
+    let at_end : c.loop-depth.depth ≡ c.calls-calls.result = omega arith in
+    subst (λ (k : ℕ). AreGood c.args.self.now.program.now c.args.self.now.turns k (start_of c.args.self.now) c.loop-depth.work.trail c.loop-depth.layer)
+    (at_end ∙ c.calls-calls.ensures) c.loop-depth.invariant.layer
+
 pub returns : goal.returns
 returns c =
     let program = c.args.self.now.program.now in
     let n = c.args.self.now.turns in
+    let start = start_of c.args.self.now in
     let at_end : c.loop-depth.depth ≡ c.calls-calls.result = omega arith in
-    let good = subst (λ (k : ℕ). AreGood program n k c.loop-depth.work.trail c.loop-depth.layer) at_end c.loop-depth.invariant.layer in
-    let here : c.loop-depth.depth + 0 ≡ c.calls-calls.result = omega arith in (
-      are_all_ends c.whole_within_some_turns.ensures.over c.settled_are_serial.ensures c.at_most_one_serial.ensures program n c.calls-calls.result
-          c.loop-depth.work.trail c.loop-depth.layer _ c.calls-calls.ensures good
-          (λ f. c.loop-depth.invariant.sums f 0 ∙ ap (λ (k : ℕ). weight program n f k (none_done program) (opening_heap program)) here)
+    let here : c.loop-depth.depth + 0 ≡ calls_together program.threads.items = (let all : c.calls-calls.result ≡ calls_together program.threads.items = c.calls-calls.ensures in omega arith) in (
+      are_all_ends c.whole_within_some_turns.ensures.over c.settled_are_serial.ensures c.at_most_one_serial.ensures c.args.self.now
+          c.loop-depth.work.trail c.loop-depth.layer _
+          (λ f. c.loop-depth.invariant.sums f 0 ∙ ap (λ (k : ℕ). weight program n f k (none_done program) start) here)
           c.in_ok-ends.ensures,
-      has_places c.whole_within_some_turns.ensures.over c.settled_are_serial.ensures c.at_most_one_serial.ensures program n c.loop-depth.depth
+      has_places c.whole_within_some_turns.ensures.over c.settled_are_serial.ensures c.at_most_one_serial.ensures program n c.args.self.now.asked.now.answers c.loop-depth.depth
           c.len-configurations.result c.loop-depth.work.trail c.loop-depth.layer c.loop-depth.invariant.before.0 (at_end ∙ c.calls-calls.ensures)
           c.loop-depth.invariant.layer
-          (λ f. c.loop-depth.invariant.sums f 0 ∙ ap (λ (k : ℕ). weight program n f k (none_done program) (opening_heap program)) (omega arith))
+          (λ f. c.loop-depth.invariant.sums f 0 ∙ ap (λ (k : ℕ). weight program n f k (none_done program) start) (omega arith))
           c.loop-depth.invariant.before.1 (c.loop-depth.invariant.before.2 ∙ sym c.len-configurations.ensures),
     )

@@ -7,7 +7,7 @@ use Rattle.outcomes.proofs.search.Search.drawn.Goals as goal
 pub returns-in-Some : goal.returns-in-Some
 returns-in-Some c =
     rw (c.in_ok-order.ensures.items, c.deref-in-Some.ensures.value)
-    (stops_after c.whole_within_some_turns.ensures.over c.args.self.now.program.now c.args.self.now.turns c.walk.new.walk.order.items c.in-Some.thread
+    (stops_after c.whole_within_some_turns.ensures.over c.args.self.now.program.now c.args.self.now.turns c.args.self.now.asked.now.answers c.walk.new.walk.order.items c.in-Some.thread
     (rw c.in-Some.is at c.in_ok-thread.ensures))
 
 pub loop-preserved : goal.loop-preserved

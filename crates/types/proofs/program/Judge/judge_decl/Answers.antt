@@ -2,7 +2,7 @@ use Rattle.std.proofs.Common.{◌≡◌, ap, sym, ◌∙◌, subst, OnOk}
 use Rattle.std.specs.Prelude.{option_map}
 use Rattle.syntax.specs.Trees.{Decl, struct}
 use Rattle.syntax.specs.Views.{struct_of, decl_of}
-use Rattle.source.specs.Mistakes.{least_of}
+use Rattle.resolution.specs.Working.Findings.{least_of}
 use Rattle.core_lang.specs.Theory.Items.{some_same}
 use Rattle.resolution.specs.Working.FaultLists.{decl_faults}
 use Rattle.types_symbols.specs.Working.Views.{decls_of}

@@ -1,6 +1,6 @@
 use Rattle.std.proofs.Common.{◌≡◌, drop}
 use Rattle.resolution.specs.Working.Building.{resolved_from}
-use Rattle.source.specs.Mistakes.{least_of}
+use Rattle.resolution.specs.Working.Findings.{least_of}
 use Rattle.resolution.specs.Working.FaultLists.{each_faults}
 use Rattle.types_symbols.specs.Working.Views.{decls_of}
 use Rattle.types_declarations.specs.Working.Grown.{built}

@@ -3,7 +3,7 @@ use Rattle.std.proofs.lemmas.List.{drop_all}
 use Rattle.std.specs.Prelude.{map, option_map}
 use Rattle.syntax.specs.declared.tree.Name.{Name}
 use Rattle.syntax.specs.Views.{ident}
-use Rattle.source.specs.Mistakes.{least_of}
+use Rattle.resolution.specs.Working.Findings.{least_of}
 use Rattle.resolution.specs.Annotations.{stepped_on}
 use Rattle.resolution.specs.Working.FaultLists.{passed, along_faults}
 use Rattle.types_symbols.specs.Working.Views.{decls_of}

@@ -1,7 +1,7 @@
 use Rattle.std.proofs.Common.{◌≡◌, drop}
 use Rattle.std.specs.Prelude.{map, option_map}
 use Rattle.syntax.specs.Views.{ident}
-use Rattle.source.specs.Mistakes.{least_of}
+use Rattle.resolution.specs.Working.Findings.{least_of}
 use Rattle.resolution.specs.Working.FaultLists.{along_faults}
 use Rattle.types_symbols.specs.Working.Views.{decls_of}
 use Rattle.types_annotations.specs.Working.AnnotationCursors.{cursor_of}

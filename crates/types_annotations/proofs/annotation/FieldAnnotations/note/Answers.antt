@@ -3,7 +3,7 @@ use Rattle.std.specs.Prelude.{map}
 use Rattle.syntax.specs.declared.tree.Name.{Name}
 use Rattle.syntax.specs.declared.tree.Protection as rust
 use Rattle.syntax.specs.Views.{ident, option_of, protection_of as protection_view}
-use Rattle.source.specs.Mistakes.{least_of}
+use Rattle.resolution.specs.Working.Findings.{least_of}
 use Rattle.resolution.specs.Annotations.{AnnotationCursor, cursor_at}
 use Rattle.resolution.specs.Working.FaultLists.{along_faults, protection_faults}
 use Rattle.resolution.specs.Scopes.{the_member}

@@ -10,7 +10,7 @@ use Rattle.syntax.specs.declared.tree.Level.TheVariants.{Sum, Conjunction, Disju
 use Rattle.resolution.specs.Working.TypedExpressions.{chained, compared, named_value, number_resolved, parenthesised}
 use Rattle.resolution.specs.Working.TypedExpressions.{test_resolved, typed, typed_links, typed_place}
 use Rattle.resolution.specs.CoreViews.{core_expr}
-use Rattle.source.specs.Mistakes.{least_of}
+use Rattle.resolution.specs.Working.Findings.{least_of}
 use Rattle.resolution.specs.Working.FaultLists.{expr_faults, link_faults, misfit, wanted_faults}
 use Rattle.resolution.specs.Faults.{start_of}
 use Rattle.resolution.specs.declared.wanted.Want.TheVariants.{Value}

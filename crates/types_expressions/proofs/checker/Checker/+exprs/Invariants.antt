@@ -4,7 +4,7 @@ use Rattle.syntax.specs.Views.{links_of}
 use Rattle.syntax.specs.declared.tree.Level.TheVariants.{Sum, Conjunction}
 use Rattle.resolution.specs.CoreViews.{core_condition}
 use Rattle.resolution.specs.Working.TypedExpressions.{typed_links, typed_tests}
-use Rattle.source.specs.Mistakes.{least_of}
+use Rattle.resolution.specs.Working.Findings.{least_of}
 use Rattle.resolution.specs.Working.FaultLists.{link_faults}
 use Rattle.types_expressions.specs.Working.Checkers.{scope}
 use Rattle.types_expressions.specs.Working.Parts.{so_far}

@@ -4,7 +4,7 @@ use Rattle.std.specs.Prelude.{map}
 use Rattle.syntax.specs.declared.tree.Name.{Name}
 use Rattle.syntax.specs.Views.{ident}
 use Rattle.resolution.specs.Expressions.{walked}
-use Rattle.source.specs.Mistakes.{least_of}
+use Rattle.resolution.specs.Working.Findings.{least_of}
 use Rattle.resolution.specs.Working.FaultLists.{step_faults, walk_faults}
 use Rattle.types_expressions.specs.Working.Checkers.{scope}
 use Rattle.types_expressions.specs.Working.Walks.{walk_of}

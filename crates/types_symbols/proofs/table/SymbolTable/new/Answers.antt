@@ -1,13 +1,13 @@
 use Rattle.std.proofs.Common.{◌≡◌, ◌∙◌, ◌++◌, List, [], Option, ap}
-use Rattle.source.specs.declared.mistake.Mistake.{Mistake}
-use Rattle.source.specs.Mistakes.{least_of}
+use Rattle.resolution.specs.declared.finding.Finding.{Finding}
+use Rattle.resolution.specs.Working.Findings.{least_of}
 use Rattle.syntax.specs.declared.tree.Decl as rust
 use Rattle.resolution.specs.Working.FaultLists.{twice_faults, struct_faults, total_faults, repeated_faults}
 use Rattle.types_symbols.specs.Theory.Steps.{noted_one}
 use Rattle.types_symbols.specs.Working.Views.{decls_of}
 use Rattle.types_symbols.proofs.table.SymbolTable.new.Goals as goal
 
-noted_four : (f g h k : Option Mistake) (a b c d : List Mistake) → g ≡ least_of f (a ++ b) → h ≡ least_of g c →
+noted_four : (f g h k : Option Finding) (a b c d : List Finding) → g ≡ least_of f (a ++ b) → h ≡ least_of g c →
     k ≡ least_of h d → k ≡ least_of f (a ++ b ++ c ++ d)
 noted_four f g h k a b c d hg hh hk = hk ∙ noted_one f h (a ++ b ++ c) d (hh ∙ noted_one f g (a ++ b) c hg)
 

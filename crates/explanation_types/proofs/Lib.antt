@@ -1,9 +1,0 @@
-pub mod Lists
-pub mod ExpressionLaws
-pub mod StatementLaws
-pub mod KindLaws
-pub mod NoteSteps
-pub mod BlockLaws
-pub mod ConstantLaws
-pub mod DeclLaws
-pub mod TypeLaws

@@ -1,8 +1,0 @@
-use Rattle.std.proofs.Common.{◌≡◌, drop}
-use Rattle.outcomes.specs.Working.Hashes.{mixed_cells, mixed_all}
-use Rattle.outcomes.proofs.hash.hash.Given as goal
-
--- what is left, mixed into what there is so far, gives the whole
-abbrev pub invariant-loop-cell : goal.invariant-loop-cell
-invariant-loop-cell l =
-    mixed_cells l.hasher (drop l.cell-index l.cells) ≡ mixed_cells (mixed_all l.fn.start l.fn.done) l.cells

@@ -1,8 +1,0 @@
-use Rattle.std.proofs.Common.{◌≡◌, ◌++◌, string_bytes, map, take}
-use Rattle.std.specs.List.{flat_map}
-use Rattle.outcomes.specs.Ends.{told_of}
-use Rattle.report_outcomes.specs.Outcomes.{end_text}
-use Rattle.report_outcomes.proofs.ends.push_ends.Given as goal
-
-abbrev pub invariant-loop-end : goal.invariant-loop-end
-invariant-loop-end l = string_bytes l.out ≡ string_bytes l.initial.out ++ flat_map (end_text l.program) (map told_of (take l.end-index l.ends))

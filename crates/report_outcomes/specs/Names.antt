@@ -1,0 +1,49 @@
+-- Which cells a name is of: the cell that is written so, or those that are written so with an index or a field behind it. So `n` is
+-- a global, `a` an array, `a[0]` an element, `p` a pool, `p[1]` an object, `p[1].x` a field of it.
+use Rattle.std.specs.Prelude.{◌≡◌, ℕ, ◌+◌, Bool, true, false, ◌&&◌, ◌||◌, if◌then◌else◌, nat_eq, List, [], ◌∷◌, ◌++◌, Contains}
+use Rattle.std.specs.Prelude.{Option, Some, None}
+use Rattle.std.specs.List.{list_all, list_any, slice_split}
+use Rattle.core_lang.specs.declared.typed.Cell.{Cell}
+use Rattle.core_lang.specs.declared.typed.Typed.{Typed}
+use Rattle.outcomes.specs.declared.outcome.Cells.{Cells}
+use Rattle.outcomes.specs.declared.outcome.Cells.TheVariants.{Every, These}
+use Rattle.report.specs.Pieces.{owner_text}
+
+-- the text is the name, or goes on behind it with `[` or `.`
+abbrev pub goes_on : List ℕ → List ℕ → Bool
+goes_on [] [] = true
+goes_on [] (c ∷ cs) = nat_eq c 91 || nat_eq c 46
+goes_on (n ∷ ns) [] = false
+goes_on (n ∷ ns) (c ∷ cs) = nat_eq n c && goes_on ns cs
+
+-- the cell is of the name
+abbrev pub is_named : Typed → List ℕ → Cell → Bool
+is_named program name cell = goes_on name (owner_text program cell.owner)
+
+-- some cell of the program is
+abbrev pub is_known : Typed → List ℕ → Bool
+is_known program name = list_any (is_named program name) program.cells.items
+
+-- the numbers of these cells, from this one on, which are of one of the names
+abbrev pub numbers_from : Typed → List (List ℕ) → ℕ → List Cell → List ℕ
+numbers_from program names number [] = []
+numbers_from program names number (cell ∷ cells) =
+    (if list_any (λ name. is_named program name cell) names then number ∷ [] else [])
+    ++ numbers_from program names (number + 1) cells
+
+-- names with a comma between
+abbrev pub names_in : List ℕ → List (List ℕ)
+names_in text = slice_split (λ c. nat_eq c 44) text
+
+-- what is asked for by these names: the cells of each; all, where none are given
+abbrev pub AreAsked : Typed → Option (List ℕ) → Cells → Type 0
+AreAsked program None Every = Unit {0}
+AreAsked program None (These numbers) = ⊥
+AreAsked program (Some text) Every = ⊥
+AreAsked program (Some text) (These numbers) =
+    (list_all (is_known program) (names_in text) ≡ true) × (numbers.items ≡ numbers_from program (names_in text) 0 program.cells.items)
+
+-- the name is one of those that are given, and is of no cell
+abbrev pub IsUnknownIn : Typed → Option (List ℕ) → List ℕ → Type 0
+IsUnknownIn program None name = ⊥
+IsUnknownIn program (Some text) name = Contains (names_in text) name × (is_known program name ≡ false)

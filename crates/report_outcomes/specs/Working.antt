@@ -1,0 +1,2 @@
+-- What the code computes and values of its types. Nobody has to believe these files: no promise cites them.
+pub mod Known

@@ -1,0 +1,128 @@
+//! Which cells names are of.
+
+ghost use Rattle.std.specs.Prelude.{◌≡◌, true, false, IfOk, MatchResult, Contains, MatchOption, map, option_map};
+ghost use Rattle.std.specs.List.{list_all, list_any};
+ghost use Rattle.report_outcomes.specs.Names.{goes_on, is_named, is_known, numbers_from, names_in, AreAsked, IsUnknownIn};
+
+use core_lang::typed::{Cell, Typed};
+use outcomes::outcome::Cells;
+use report::pieces::push_owner;
+use source::memory::NoMemory;
+use std::alloc::{AllocError, Global};
+
+/// Whether a text is a name, or goes on behind it with an index or a field.
+fn goes_on(name: &[u8], text: &[u8]) -> bool
+    ensures { result ≡ goes_on name.now text.now }
+{
+    let mut rest = text;
+    for byte in name {
+        let [first, others @ ..] = rest else {
+            return false;
+        };
+        if *byte != *first {
+            return false;
+        }
+        rest = others;
+    }
+    match rest {
+        [] => true,
+        [next, ..] => *next == b'[' || *next == b'.',
+    }
+}
+
+/// Whether a cell is of a name.
+fn is_named(alloc: Global, program: &Typed, name: &str, cell: &Cell) -> Result<bool, AllocError>
+    ensures { IfOk result (λ is. is ≡ is_named program.now name.now cell.now) }
+{
+    let mut text = String::new(alloc);
+    push_owner(&mut text, program, cell.owner)?;
+    Ok(goes_on(name.as_bytes(), text.as_bytes()))
+}
+
+/// Whether some cell is of a name.
+fn is_known(alloc: Global, program: &Typed, name: &str) -> Result<bool, AllocError>
+    ensures { IfOk result (λ is. is ≡ is_known program.now name.now) }
+{
+    for cell in &program.cells {
+        if is_named(alloc, program, name, cell)? {
+            return Ok(true);
+        }
+    }
+    Ok(false)
+}
+
+/// Whether a cell is of one of these names.
+fn is_asked(alloc: Global, program: &Typed, names: &[&str], cell: &Cell) -> Result<bool, AllocError>
+    ensures { IfOk result (λ is. is ≡ list_any (λ name. is_named program.now name cell.now) (map (λ name. name.now) names.now)) }
+{
+    for name in names {
+        if is_named(alloc, program, name, cell)? {
+            return Ok(true);
+        }
+    }
+    Ok(false)
+}
+
+/// The first of these names that no cell is of.
+fn unknown<'n>(
+    alloc: Global,
+    program: &Typed,
+    names: &[&'n str],
+) -> Result<Option<&'n str>, AllocError>
+    ensures { IfOk result (λ name. MatchOption name
+        (list_all (is_known program.now) (map (λ name. name.now) names.now) ≡ true)
+        (λ name. Contains (map (λ name. name.now) names.now) name.now × (is_known program.now name.now ≡ false))) }
+{
+    for name in names {
+        if !is_known(alloc, program, name)? {
+            return Ok(Some(*name));
+        }
+    }
+    Ok(None)
+}
+
+/// The numbers of the cells that are of these names.
+fn numbers(alloc: Global, program: &Typed, names: &[&str]) -> Result<Vec<usize>, AllocError>
+    ensures { IfOk result (λ numbers. numbers.items ≡ numbers_from program.now (map (λ name. name.now) names.now) 0 program.now.cells.items) }
+{
+    let mut numbers = Vec::new(alloc);
+    for (number, cell) in program.cells.iter().enumerate() {
+        if is_asked(alloc, program, names, cell)? {
+            numbers.push(number)?;
+        }
+    }
+    Ok(numbers)
+}
+
+/// The names in a text.
+fn split<'t>(alloc: Global, text: &'t str) -> Result<Vec<&'t str>, AllocError>
+    ensures { IfOk result (λ names. map (λ name. name.now) names.items ≡ names_in text.entry.now) }
+{
+    text.split(',').collect(alloc)
+}
+
+/// What is asked for by names with a comma between: the cells of each, or all, where none are given; or the first name that
+/// no cell is of.
+///
+/// # Errors
+///
+/// Want of memory.
+pub fn asked_cells<'t>(
+    alloc: Global,
+    program: &Typed,
+    text: Option<&'t str>,
+) -> Result<Result<Cells, &'t str>, NoMemory>
+    ensures { IfOk result (λ asked. MatchResult asked
+        (AreAsked program.now (option_map (λ text. text.now) text.entry))
+        (λ name. IsUnknownIn program.now (option_map (λ text. text.now) text.entry) name.now)) }
+{
+    let Some(text) = text else {
+        return Ok(Ok(Cells::Every));
+    };
+    let names = split(alloc, text)?;
+    if let Some(name) = unknown(alloc, program, &names)? {
+        return Ok(Err(name));
+    }
+    let numbers = numbers(alloc, program, &names)?;
+    Ok(Ok(Cells::These(numbers)))
+}

@@ -1,0 +1,41 @@
+//! What two ends have in common.
+
+ghost use Rattle.std.specs.Prelude.{◌≡◌};
+ghost use Rattle.std.specs.Option.{option_eq};
+ghost use Rattle.report_outcomes.specs.Outcomes.{is_value, is_outcome};
+
+use core_lang::value::{Outcome, Value};
+
+/// Whether two values are the same.
+pub(crate) fn is_value(a: Value, b: Value) -> bool
+    ensures { result ≡ is_value a b }
+{
+    match (a, b) {
+        (Value::Int(a), Value::Int(b)) => a == b,
+        (Value::Ref(a), Value::Ref(b)) => a == b,
+        _ => false,
+    }
+}
+
+/// Whether calls ended in the same way.
+fn is_outcome(a: Outcome, b: Outcome) -> bool
+    ensures { result ≡ is_outcome a b }
+{
+    match (a, b) {
+        (Outcome::Ends, Outcome::Ends) => true,
+        (Outcome::Returns(a), Outcome::Returns(b)) => is_value(a, b),
+        (Outcome::Traps(a), Outcome::Traps(b)) => a.number() == b.number(),
+        _ => false,
+    }
+}
+
+/// The same of calls that may not have been made.
+pub(crate) fn is_answer(a: Option<Outcome>, b: Option<Outcome>) -> bool
+    ensures { result ≡ option_eq is_outcome a b }
+{
+    match (a, b) {
+        (None, None) => true,
+        (Some(a), Some(b)) => is_outcome(a, b),
+        _ => false,
+    }
+}
