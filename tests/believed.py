@@ -29,6 +29,7 @@ EMITTED = {
         "acquires_take_what_is_asked",
         "ends_give_back_what_is_held",
     ],
+    "crates/c_language/src/laws.rt": ["statements_run_in_turn"],
     "crates/c_groups/src/laws.rt": ["groups_do_alike", "runs_stand_alike", "sections_have_plans", "sections_behave_in_c"],
     "crates/c_text/src/files.rt": ["file", "header"],
     "crates/c_threads/src/meaning.rt": ["sections_mean"],

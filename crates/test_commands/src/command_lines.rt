@@ -59,7 +59,8 @@ autolock serial --turns=0 F => Line { file: \"F\", request: Alone(Report(Serial 
 autolock serial --turns 1000000000 F => Line { file: \"F\", request: Alone(Report(Serial { turns: 1000000000 })) }
 autolock outcomes F => Line { file: \"F\", request: Alone(Report(Outcomes(Looking { turns: 1000000, count: 100000, seed: 0, cells: None, answers: false, full: false }))) }
 autolock outcomes --seed 5 --count 3 F => Line { file: \"F\", request: Alone(Report(Outcomes(Looking { turns: 1000000, count: 3, seed: 5, cells: None, answers: false, full: false }))) }
-autolock outcomes --cells n,a[0] --answers --full F => Line { file: \"F\", request: Alone(Report(Outcomes(Looking { turns: 1000000, count: 100000, seed: 0, cells: Some(\"n,a[0]\"), answers: true, full: true }))) }
+autolock outcomes --cells n,a[0] F => Line { file: \"F\", request: Alone(Report(Outcomes(Looking { turns: 1000000, count: 100000, seed: 0, cells: Some(\"n,a[0]\"), answers: false, full: false }))) }
+autolock outcomes --answers --full F => Line { file: \"F\", request: Alone(Report(Outcomes(Looking { turns: 1000000, count: 100000, seed: 0, cells: None, answers: true, full: true }))) }
 autolock outcomes --turns 7 F => Line { file: \"F\", request: Alone(Report(Outcomes(Looking { turns: 7, count: 100000, seed: 0, cells: None, answers: false, full: false }))) }
 autolock simulate F S => Line { file: \"F\", request: Beside(Simulate, \"S\") }
 autolock trace F S => Line { file: \"F\", request: Beside(Trace { sections: false }, \"S\") }

@@ -4,19 +4,14 @@ use Rattle.std.specs.Prelude.{◌↔◌, ◌⊎◌, codes}
 use Rattle.std.specs.Borrow.{Bor}
 use lib.Pointwise.{pointwise}
 use lib.Dec.{eqb}
-use Rattle.test_files.specs.Asking.{IsSerial, IsSimulate}
+use Rattle.test_files.specs.Asking.{IsSerial, IsSimulate, looking}
 use Rattle.test_files.specs.Paragraphs.{IsCase, HasNoWant}
 use Rattle.test_files.specs.declared.asked.Asked.{Asked}
 use Rattle.test_files.specs.declared.asked.Asked.TheVariants.{Engine, Tokens, Tree, Print, Again, Paths, Points, Order}
 use Rattle.test_files.specs.declared.paragraph.Paragraph.{Paragraph}
 use Rattle.test_files.specs.declared.paragraph.Paragraph.TheVariants.{Note, Ask, Head, Case, Unreadable}
 use Rattle.test_files.specs.declared.asked.Engine.TheVariants.{Check, Report, Graph, Simulate}
-use Rattle.driver_words.specs.declared.line.Looking.{Looking}
 use Rattle.driver_words.specs.declared.line.Report.TheVariants as report
-
--- how orders of calls are looked at
-abbrev pub looking : Looking
-looking = record { turns = 1000; count = 1000; seed = 0; cells = None; answers = false; full = false }
 
 -- what `Asked::named` promises of a word and its answer
 abbrev pub Named : List ℕ → Option Asked → Type 0

@@ -2,7 +2,7 @@
 
 ghost use Rattle.std.specs.Prelude.{◌≡◌, ◌↔◌, List, Some, None, ℕ, codes, true, false};
 ghost use Rattle.std.specs.Borrow.{Bor};
-ghost use Rattle.test_files.specs.Asking.{IsSerial, IsSimulate};
+ghost use Rattle.test_files.specs.Asking.{IsSerial, IsSimulate, looking};
 
 use driver_words::{Looking, Report};
 
@@ -66,7 +66,7 @@ impl Asked<'_> {
         ensures listing { (result ≡ Some (Asked.Engine (Engine.Report (Report.Listing false)))) ↔ (word.now ≡ codes "listing") }
         ensures places { (result ≡ Some (Asked.Engine (Engine.Report (Report.Listing true)))) ↔ (word.now ≡ codes "places") }
         ensures serial { (turns : ℕ) → (result ≡ Some (Asked.Engine (Engine.Report (Report.Serial turns)))) ↔ IsSerial word.now turns }
-        ensures outcomes { (result ≡ Some (Asked.Engine (Engine.Report (Report.Outcomes (record { turns = 1000; count = 1000; seed = 0; cells = None; answers = false; full = false }))))) ↔ (word.now ≡ codes "outcomes") }
+        ensures outcomes { (result ≡ Some (Asked.Engine (Engine.Report (Report.Outcomes looking)))) ↔ (word.now ≡ codes "outcomes") }
         ensures simulate { (steps : Bor (List ℕ)) → result ≡ Some (Asked.Engine (Engine.Simulate steps)) → IsSimulate word.now steps.now }
         ensures steps { (s : List ℕ) → IsSimulate word.now s → (steps : Bor (List ℕ)) × (result ≡ Some (Asked.Engine (Engine.Simulate steps))) }
         ensures tokens { (result ≡ Some Asked.Tokens) ↔ (word.now ≡ codes "tokens") }
