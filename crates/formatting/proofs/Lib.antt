@@ -1,0 +1,9 @@
+pub mod Cuts
+pub mod Units
+pub mod Reading
+pub mod Tokens
+pub mod Peeled
+pub mod Steps
+pub mod Uniqueness
+pub mod Faults
+pub mod Moved

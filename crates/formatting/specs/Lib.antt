@@ -1,0 +1,7 @@
+pub mod Kinds
+pub mod Pieces
+pub mod Layout
+pub mod Formatted
+pub mod Working
+-- what public clauses cite
+pub use Rattle.formatting.specs.Formatted.{IsFormatted, IsProgram, HasFault, IsRefusal, IsRefusedAt, KeepsTokens}

@@ -1,0 +1,4 @@
+-- What the code computes, for proofs. Nobody has to believe these files: no promise cites them.
+pub mod Cutting
+pub mod Faults
+pub mod Printing
