@@ -1,0 +1,2 @@
+mod HeaderLemmas
+mod FrameLemmas

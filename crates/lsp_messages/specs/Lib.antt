@@ -1,0 +1,4 @@
+pub mod Calls
+pub mod Parameters
+pub mod Replies
+pub mod Working

@@ -1,0 +1,3 @@
+pub mod Positions
+pub mod Theory
+pub mod Working

@@ -1,0 +1,5 @@
+pub mod Deeds
+pub mod Documents
+pub mod Sessions
+pub mod Servers
+pub mod Working

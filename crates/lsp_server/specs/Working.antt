@@ -1,0 +1,3 @@
+-- Values of the code's types, for its clauses. Nobody has to believe these files.
+pub mod Values
+pub mod Views

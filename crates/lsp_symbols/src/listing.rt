@@ -1,0 +1,166 @@
+//! The list. The one error is a refused growth.
+
+ghost use Rattle.std.specs.Prelude.{◌≡◌, ◌+◌, ◌≤◌, false, length, map, IfOk};
+ghost use Rattle.serde_json.specs.Data.{array, no_items};
+ghost use Rattle.lsp_positions.specs.Positions.{position_of};
+ghost use Rattle.serde_json.specs.View.{view, items_of};
+ghost use Rattle.serde_json.specs.Written.{has_float};
+ghost use Rattle.source.specs.Texts.{SOURCE_LIMIT};
+ghost use Rattle.lsp_symbols.specs.DocumentSymbols as list;
+
+use lexer::lex;
+use lsp_places::{Kind, Symbol, symbols};
+use lsp_positions::{Position, Walker};
+use serde_json::{Value, json};
+use source::fault::Refusal;
+use source::memory::NoMemory;
+use source::token::Token;
+use std::alloc::{AllocError, Global};
+
+/// The most bytes of a text that has tokens.
+const MOST_BYTES: usize = 1048576;
+
+/// The protocol's number of a kind of names.
+fn kind_code(kind: Kind) -> u64
+    ensures { result ≡ list.kind_code kind }
+{
+    match kind {
+        Kind::Lock => 14,
+        Kind::Struct => 23,
+        Kind::Global => 13,
+        Kind::Pool => 18,
+        Kind::Section => 12,
+        Kind::Helper => 12,
+        Kind::Thread => 24,
+    }
+}
+
+/// A name, and where it begins.
+#[derive(Clone, Copy)]
+struct Name<'a> {
+    start: usize,
+    text: &'a str,
+}
+
+/// The name that a token is; one without text where it is none.
+fn name_at(tokens: &[Token], at: usize) -> Name<'_>
+    ensures start { result.start ≡ list.start_at tokens.entry.now at }
+    ensures text { result.text.now ≡ list.name_at tokens.entry.now at }
+{
+    match tokens.get(at) {
+        Some(Token::Name(start, text)) => Name {
+            start: *start as usize,
+            text: text.as_str(),
+        },
+        _ => Name { start: 0, text: "" },
+    }
+}
+
+/// A place.
+fn place_value(alloc: Global, place: Position) -> Result<Value, AllocError>
+    ensures { IfOk result (λ told. view told ≡ list.place_data place) }
+{
+    json!(in alloc; {"character": place.unit, "line": place.line})
+}
+
+/// Where a name ends.
+fn end_of(walker: &mut Walker<'_>, name: Name<'_>) -> Position
+    ensures same { walker.new.text.now ≡ walker.old.text.now }
+    ensures place { result ≡ position_of walker.old.text.now (name.entry.start + length name.entry.text.now) }
+{
+    walker.position_of(name.start.saturating_add(name.text.len()))
+}
+
+/// Where a name stands.
+fn range_value(alloc: Global, walker: &mut Walker<'_>, name: Name<'_>) -> Result<Value, AllocError>
+    ensures same { walker.new.text.now ≡ walker.old.text.now }
+    ensures told { IfOk result (λ told. view told ≡ list.range_data walker.old.text.now name.entry.start
+        (name.entry.start + length name.entry.text.now)) }
+{
+    let begin = walker.position_of(name.start);
+    let end = end_of(walker, name);
+    let first = place_value(alloc, begin)?;
+    let behind = place_value(alloc, end)?;
+    json!(in alloc; {"end": behind, "start": first})
+}
+
+/// A symbol that stands there.
+fn named_value(alloc: Global, kind: Kind, text: &str, range: &Value) -> Result<Value, AllocError>
+    ensures { IfOk result (λ told. view told ≡ list.named_data kind text.now (view range.now)) }
+{
+    json!(in alloc; {"kind": kind_code(kind), "name": text, "range": range, "selectionRange": range})
+}
+
+/// A text, and its tokens.
+#[derive(Clone, Copy)]
+struct Source<'a> {
+    text: &'a [u8],
+    tokens: &'a [Token],
+}
+
+/// A symbol.
+fn symbol_value(
+    alloc: Global,
+    walker: &mut Walker<'_>,
+    source: &Source<'_>,
+    symbol: Symbol,
+) -> Result<Value, AllocError>
+    requires { walker.old.text.now ≡ source.now.text.now }
+    ensures same { walker.new.text.now ≡ walker.old.text.now }
+    ensures told { IfOk result (λ told. view told ≡ list.symbol_data source.now.text.now source.now.tokens.now
+        symbol) }
+{
+    let name = name_at(source.tokens, symbol.at);
+    let range = range_value(alloc, walker, name)?;
+    named_value(alloc, symbol.kind, name.text, &range)
+}
+
+/// No symbols.
+fn no_symbols(alloc: Global) -> Value
+    ensures { view result ≡ array no_items }
+{
+    Value::Array(Vec::new(alloc))
+}
+
+/// These symbols.
+fn symbol_values(alloc: Global, source: &Source<'_>, found: &[Symbol]) -> Result<Value, NoMemory>
+    requires { length source.now.text.now ≤ SOURCE_LIMIT }
+    ensures { IfOk result (λ told. view told ≡ array (items_of (map
+        (list.symbol_data source.now.text.now source.now.tokens.now) found.now))) }
+{
+    let mut walker = Walker::new(source.text);
+    let mut values = Vec::new(alloc);
+    for symbol in found {
+        values.push(symbol_value(alloc, &mut walker, source, *symbol)?)?;
+    }
+    Ok(Value::Array(values))
+}
+
+/// The names of the top level of a text, in their order, with their kinds and places; of a text with a fault of
+/// tokens none.
+///
+/// # Errors
+///
+/// Want of memory.
+pub fn document_symbols(alloc: Global, text: &str) -> Result<Value, NoMemory>
+    ensures told { IfOk result (λ told. list.AreSymbolsOf text.now (view told)) }
+    ensures plain { IfOk result (λ told. has_float (view told) ≡ false) }
+{
+    let bytes = text.as_bytes();
+    if bytes.len() > MOST_BYTES {
+        return Ok(no_symbols(alloc));
+    }
+    match lex(alloc, bytes) {
+        Ok(tokens) => {
+            let found = symbols(alloc, &tokens)?;
+            let source = Source {
+                text: bytes,
+                tokens: &tokens,
+            };
+            let told = symbol_values(alloc, &source, &found)?;
+            Ok(told)
+        }
+        Err(Refusal::NoMemory) => Err(NoMemory),
+        Err(Refusal::Fault(_)) => Ok(no_symbols(alloc)),
+    }
+}
