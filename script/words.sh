@@ -30,6 +30,7 @@ files=()
 
 has_prefix=
 has_cells=
+no_code='there is no such code: they are E01 to E20; a file of that name is written ./NAME'
 bad_prefix='--prefix takes a letter, then at most 31 letters and digits, and not AL or autolock'
 
 # Writes a text of script/help, and exits.
@@ -57,6 +58,14 @@ refuse() {
     printf "\nFor more information, try '--help'.\n"
     exit 2
 } >&2
+
+# Of `explain` a word that is written as codes are is one, unless JSON is asked for, and no file is read.
+judge_code() {
+    case $1 in
+        [Ee]0[1-9] | [Ee]1[0-9] | [Ee]20) files=() ;;
+        [Ee][0-9][0-9]) refuse "$no_code" "$(usage_of '')" ;;
+    esac
+}
 
 # What a command calls its second file, if it reads one.
 other_of() {
@@ -402,6 +411,7 @@ judge_arguments() {
     [ -z "$other" ] || [ ${#files[@]} -gt 1 ] || missing+=$'\n  '$other
     if [ -z "$missing" ]; then
         [ -z "$has_prefix" ] || is_prefix "$prefix" || refuse "$bad_prefix" "$(usage_of '')"
+        [ "$command" != explain ] || [ -n "$json" ] || judge_code "${files[0]}"
         return 0
     fi
     missing="the following required arguments were not provided:$missing"

@@ -144,6 +144,17 @@ FAULTY = [
     ("body", "clal h(1);", "`call` could be meant"),
     ("body", "let x: ref Acc = a wehre next == a;", "`where` could be meant"),
     ("thread", "repaet 3 { f(1); }", "`repeat` could be meant"),
+    ("result", "retrun;", "`return` could be meant"),
+    ("result", "retrun -1;", "`return` could be meant"),
+    ("result", "return_ (i);", "`return` could be meant"),
+    ("body", "printf(n);", "`print` could be meant"),
+    ("body", "let y: int = cal h(3);", "`call` could be meant"),
+    ("body", "let y: itn = 3;", "`int` could be meant"),
+    ("top", "atomic g() : itn { return 1; }", "`int` could be meant"),
+    ("top", "atomic g(ref Acc b) : rfe Acc { return b; }", "`ref` could be meant"),
+    ("top", "global ref Acc m protected_by(G) = nul;", "`null` could be meant"),
+    ("top", "init acc[0].next = nulll;", "`null` could be meant"),
+    ("thread", "f(1, Null);", "`null` could be meant"),
 ]
 
 SILENT = [
@@ -174,6 +185,7 @@ SILENT = [
 
 MARK = "the file begins with a byte order mark: save it as ASCII or UTF-8 without one"
 TABLE = b"lock G;\nstruct Table { int x protected_by(G); }\nglobal ref %s t protected_by(G);\nthread t1 { }\n"
+HEADED = b"lock G;\nstruct S { lock l; int x protected_by(l); }\nglobal ref S head protected_by(G);\natomic f(ref S a) { %s }\n"
 LOCAL = b"lock G;\nglobal int n protected_by(G);\natomic f(int count) { n = %s; }\n"
 
 OTHERS = [
@@ -190,6 +202,14 @@ OTHERS = [
     (LOCAL % b"cnout", "E06", None),
     (LOCAL % b"m", "E06", None),
     (LOCAL % b"nn", "E06", "n could be meant, and is declared here"),
+    (HEADED % b"head = nul;", "E06", "`null` could be meant"),
+    (HEADED % b"if (head == Null) { head = a; }", "E06", "`null` could be meant"),
+    (HEADED % b"let b: ref S = head; nul = b;", "E06", None),
+    (HEADED % b"print nul.x;", "E06", None),
+    (HEADED % b"print a.nul;", "E06", None),
+    (HEADED % b"let b: ref nulll = head;", "E06", None),
+    (HEADED % b"let nuil: ref S = head; head = nuill;", "E06", "nuil could be meant, and is declared here"),
+    (HEADED % b"head = nil;", "E06", None),
 ]
 
 

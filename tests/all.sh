@@ -55,6 +55,7 @@ try tests/rows.py "$program" --cuts
 try tests/open.py "$program" examples/*.al
 try tests/life.py "$program"
 try tests/advice.py "$program"
+try tests/codes.py "$program"
 try tests/warnings.py "$program"
 try tests/ends_told.py "$program"
 try tests/runs.py "$program" --times 5 --transfers 200

@@ -35,6 +35,8 @@ EMITTED = {
     "crates/c_threads/src/meaning.rt": ["sections_mean"],
 }
 IN_THREADS = {"crates/c_threads/src/laws.rt": None, "crates/c_threads/src/meaning.rt": ["threads_mean"]}
+# What `explain CODE` writes: fixed texts, which stand in docs/LANGUAGE.md, and say nothing of a program.
+PAGES = {"crates/driver/src/code_pages.rt": ["explain_code"]}
 # What `emit` answers counts there, and not among the engines.
 ANSWERED = ("driver.specs.Emissions", "IsEmitted")
 THREADS = {
@@ -218,14 +220,14 @@ class Reading:
 
 
 def engines():
-    """The calls that the driver's root names."""
+    """The calls that the driver's root names, but for that which writes pages of codes."""
     root = CRATES / "driver" / "src" / "lib.rt"
     calls = {}
     for module, names in re.findall(r"^pub use (\w+)::\{?([\w,\s]+?)\}?;", root.read_text(), re.M):
         functions = [name.strip() for name in names.split(",") if name.strip()[:1].islower()]
         if functions:
             calls[f"crates/driver/src/{module}.rt"] = functions
-    return calls
+    return {file: names for file, names in calls.items() if file not in PAGES}
 
 
 def rows_in_words():
@@ -269,7 +271,7 @@ def others():
 
 def main():
     reading, failed, tables, counted = Reading(), 0, [], {}
-    groups = (("The headline", HEADLINE), ("The compiler", COMPILER), ("All engines", engines()), ("Real threads", THREADS), ("Sections in C", EMITTED), ("Threads in C", IN_THREADS))
+    groups = (("The headline", HEADLINE), ("The compiler", COMPILER), ("All engines", engines()), ("Pages of codes", PAGES), ("Real threads", THREADS), ("Sections in C", EMITTED), ("Threads in C", IN_THREADS))
     believed = {module for module, _ in reading.begin(others()).seen}
     for title, calls in groups:
         tables.append(reading.begin(calls).table(title))

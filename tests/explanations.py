@@ -112,7 +112,10 @@ def text_of(text, name, told):
             assert set(note) == {"end", "start", "text"}, f"a note has {sorted(note)}"
             notes += placed(text, name, note, f"note: {note['text']}")
     if told["accepted"]:
-        assert set(told) == {"accepted", "file", "notes"}, f"an accepted program has {sorted(told)}"
+        assert set(told) == {"accepted", "file", "notes", "warnings"}, f"an accepted program has {sorted(told)}"
+        for warning in told["warnings"]:
+            assert set(warning) == {"end", "start", "text"}, f"a warning has {sorted(warning)}"
+            notes += placed(text, name, warning, f"warning: {warning['text']}")
         return b"accepted\n" + notes
     assert set(told) == FAULT, f"a fault has {sorted(told)}"
     head = placed(text, name, told, f"{told['code']} {told['text']}")

@@ -111,6 +111,15 @@ for word in chek Check CHECK checks c lis list listin lsiting seral seriall sim 
     same "$word" right.al
 done
 
+# Codes.
+for word in E00 E21 e99 E1 E011 F01 E0x; do
+    same explain "$word"
+    same explain -- "$word"
+    same explain --json "$word"
+done
+same check E21
+same explain E21 x
+
 # Arguments of `replay`.
 same replay right.al
 same replay --turns 3

@@ -5,16 +5,17 @@ use Rattle.clap.specs.declared.error.kind.ErrorKind.TheVariants.{DisplayHelp, Di
 use Rattle.driver.specs.{cannot_read}
 use Rattle.driver_words.specs.declared.line.Line.{Line}
 use Rattle.driver_words.specs.declared.line.Request.{Request}
-use Rattle.driver_words.specs.declared.line.Request.TheVariants.{Alone, Beside}
+use Rattle.driver_words.specs.declared.line.Request.TheVariants.{Alone, Beside, Code}
 
--- the name of the other file that a request reads, if it reads one
-abbrev pub others_of : Request → List (List ℕ)
-others_of (Alone request) = []
-others_of (Beside request other) = other.now ∷ []
+-- the names of the files that a request reads, of which the program's is the first
+abbrev pub files_read : List ℕ → Request → List (List ℕ)
+files_read file (Code code) = []
+files_read file (Alone request) = file ∷ []
+files_read file (Beside request other) = file ∷ other.now ∷ []
 
 -- the names of the files that a line names
 abbrev pub files_of : Line → List (List ℕ)
-files_of line = line.file.now ∷ others_of line.request
+files_of line = files_read line.file.now line.request
 
 -- a message names one of these files as one that can't be read
 abbrev pub NamesOneOf : (List ℕ → Type 0) → List (List ℕ) → Type 0

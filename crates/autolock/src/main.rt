@@ -16,7 +16,7 @@ ghost use Rattle.driver.specs.{Tells, cannot_write, no_memory, name_of, reading_
 
 use clap::Error;
 use clap::error::ErrorKind;
-use driver::{Sink, SourceText, Status, Streams, serve, serve_beside};
+use driver::{Sink, SourceText, Status, Streams, explain_code, serve, serve_beside};
 use driver_words::{Line, Request, words};
 use std::alloc::{AllocError, Global};
 use std::fs::File;
@@ -51,12 +51,16 @@ fn run_line<R: Threads + Wait + Sync, O: Write, E: Write>(
         ⊎ Tells E.contents streams.old.err streams.new.err cannot_write }
     ensures memory { result ≡ Status.OutOfMemory → Tells E.contents streams.old.err streams.new.err no_memory }
 {
-    let mut source = source_text(rt, line.file);
     match line.request {
-        Request::Alone(request) => serve(threads, rt.alloc(), request, &mut source, streams),
+        Request::Code(code) => explain_code(rt.alloc(), code, streams),
+        Request::Alone(request) => {
+            let mut source = source_text(rt, line.file);
+            serve(threads, rt.alloc(), request, &mut source, streams)
+        }
         Request::Beside(request, other_file) => {
+            let mut program = source_text(rt, line.file);
             let mut other = source_text(rt, other_file);
-            serve_beside(rt.alloc(), request, &mut source, &mut other, streams)
+            serve_beside(rt.alloc(), request, &mut program, &mut other, streams)
         }
     }
 }

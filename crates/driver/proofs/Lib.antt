@@ -12,3 +12,4 @@ pub mod ServingLemmas
 pub mod AnswerLemmas
 pub mod AloneLemmas
 pub mod AddedTexts
+pub mod PageLemmas

@@ -14,6 +14,7 @@ pub mod Replays
 pub mod ThreadRuns
 pub mod Requests
 pub mod Engines
+pub mod Pages
 pub mod Working
 -- what the public clauses cite
 pub use Rattle.driver.specs.Working.Statuses.{exit_status}
@@ -23,3 +24,4 @@ pub use Rattle.compiler.specs.Programs.{Accepts}
 pub use Rattle.driver.specs.Answers.{TextAnswers, OfOne, OfTwo}
 pub use Rattle.driver.specs.Requests.{AloneAnswers, BesideAnswers}
 pub use Rattle.driver.specs.Engines.{Serves, Reading, reading_of}
+pub use Rattle.driver.specs.Pages.{ServesPage}

@@ -4,3 +4,4 @@ pub mod Statuses
 pub mod Running
 pub mod Answering
 pub mod Serving
+pub mod PagesAnswered

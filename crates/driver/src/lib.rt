@@ -12,7 +12,7 @@
 //!   all its calls one after another, also as [`serial`] (`Serial`); how its cells can end, over the orders of its calls
 //!   (`Outcomes`).
 //! - [`order_graph`]: which lock class has to come before which, as a graph (`OrderGraphs`).
-//! - [`explain`]: the fault of a program, with its place in the source (`Explanations`).
+//! - [`explain`]: the fault of a program, with its place in the source (`Explanations`). [`explain_code`]: what a code means (`Pages`).
 //! - [`run`]: a history of the program's scripts, each run by a thread of its own (`ThreadRuns`).
 //! - [`simulate`]: the world after the steps of a steps file (`Simulations`). The steps one after another, and the world after
 //!   them (`Traces`). [`replay`]: the verdict on a recorded history, and why it differs (`Replays`).
@@ -21,6 +21,7 @@
 #![tactic(auto)]
 
 mod answer;
+mod code_pages;
 mod engine;
 mod explaining;
 mod exploring;
@@ -38,6 +39,7 @@ mod threads_run;
 mod tracing;
 mod why;
 
+pub use code_pages::explain_code;
 pub use engine::{
     check, listing, replay, run, serial, serve, serve_beside, serve_report, simulate,
 };

@@ -1,4 +1,6 @@
+pub mod Codes
 pub mod Commands
+pub mod Unasked
 pub mod Lines
 -- what the public clauses cite
 pub use Rattle.driver_words.specs.Commands.{autolock}

@@ -7,7 +7,7 @@ use Rattle.std.specs.Str.Parse.{IsNumeral, digits_value, without_leading_plus}
 use Rattle.clap.specs.Words.{HasKind, Row, Text, fault_of, first_of, one_of, subcommand_of}
 use Rattle.clap.specs.Values.{kind_of}
 use Rattle.clap.specs.declared.error.Error.{Error}
-use Rattle.clap.specs.declared.error.kind.ErrorKind.TheVariants.{MissingSubcommand, ValueValidation}
+use Rattle.driver_words.specs.Codes.{code_named, is_code_word}
 use Rattle.driver_words.specs.Commands.{autolock}
 use Rattle.driver_words.specs.declared.line.Alone.{Alone}
 use Rattle.driver_words.specs.declared.line.Alone.TheVariants.{Report, Order, Explain, Run}
@@ -18,6 +18,9 @@ use Rattle.driver_words.specs.declared.line.Looking.{Looking}
 use Rattle.driver_words.specs.declared.line.Report.TheVariants.{Check, Listing, Serial, Outcomes, Emit}
 use Rattle.driver_words.specs.declared.line.Request.{Request}
 use Rattle.driver_words.specs.declared.line.Request.TheVariants as request
+use Rattle.driver_words.specs.declared.unasked.Unasked.{Unasked}
+use Rattle.driver_words.specs.declared.unasked.Unasked.TheVariants as unasked
+use Rattle.driver_words.specs.Unasked.{kind_for}
 
 -- the value of a name, or nothing
 abbrev pub name_in : Text → List Row → Text
@@ -48,6 +51,23 @@ pub record IsLooking (rows : List Row) (looking : Looking) : Type 0 where
   pub answers : IsFlag (codes "answers") rows looking.answers
   pub full : IsFlag (codes "full") rows looking.full
 
+-- ---- codes
+
+abbrev pub word_in : List Row → Text
+word_in rows = name_in (codes "FILE") rows
+
+-- `explain` is given a word that is written as codes are, and JSON is not asked for
+pub record GivesCode (command : Text) (rows : List Row) : Type 0 where
+  pub explains : command ≡ codes "explain"
+  pub as_text : IsFlag (codes "json") rows false
+  pub is_code : is_code_word (word_in rows) ≡ true
+
+-- `explain` is given a file: JSON is asked for, or the word is not written as codes are
+abbrev pub GivesFile : Bool → List Row → Type 0
+GivesFile json rows = (json ≡ true) ⊎ (is_code_word (word_in rows) ≡ false)
+
+-- ---- requests
+
 -- what is asked of the program's file alone is that command, with the values of its options
 abbrev pub IsAlone : Text → List Row → Alone → Type 0
 IsAlone command rows (Report Check) = command ≡ codes "check"
@@ -61,7 +81,7 @@ IsAlone command rows (Report (Emit emission)) =
     × IsFlag (codes "lines") rows emission.lines
     × (emission.file.now ≡ name_in (codes "FILE") rows)
 IsAlone command rows Order = command ≡ codes "order"
-IsAlone command rows (Explain json) = (command ≡ codes "explain") × IsFlag (codes "json") rows json
+IsAlone command rows (Explain json) = (command ≡ codes "explain") × IsFlag (codes "json") rows json × GivesFile json rows
 IsAlone command rows Run = command ≡ codes "run"
 
 -- what is asked of it and of another file is that command
@@ -74,6 +94,7 @@ IsBeside command rows (Replay judging) other =
     × IsTurns rows judging.turns × IsFlag (codes "why") rows judging.why × IsFlag (codes "open") rows judging.open
 
 abbrev pub IsRequest : Text → List Row → Request → Type 0
+IsRequest command rows (request.Code code) = GivesCode command rows × (code_named (word_in rows) ≡ Some code)
 IsRequest command rows (request.Alone alone) = IsAlone command rows alone
 IsRequest command rows (request.Beside beside other) = IsBeside command rows beside other.now
 
@@ -92,11 +113,6 @@ IsOwnName command =
     (command ≡ codes "check") ⊎ ((command ≡ codes "explain") ⊎ ((command ≡ codes "order") ⊎ ((command ≡ codes "listing")
     ⊎ ((command ≡ codes "emit") ⊎ ((command ≡ codes "serial") ⊎ ((command ≡ codes "outcomes") ⊎ ((command ≡ codes "simulate")
     ⊎ ((command ≡ codes "trace") ⊎ ((command ≡ codes "run") ⊎ (command ≡ codes "replay"))))))))))
-
--- the subcommand that was met is one of the program's own
-abbrev pub IsOwn : Option (Text × List Row) → Type 0
-IsOwn None = ⊥
-IsOwn (Some (command, rows)) = IsOwnName command
 
 -- ---- what names of C begin with
 
@@ -122,15 +138,29 @@ HasPrefix _ = ⊤
 
 -- ---- refusals
 
--- the command that the words name has a prefix that is none
-pub record HasBadPrefix (words : List Text) : Type 0 where
+-- a line of the command has a prefix that is none
+pub record HasBadPrefix (command : Text) (rows : List Row) : Type 0 where
   pub line : Line
-  pub meant : IsLineOf (subcommand_of autolock words) line
+  pub meant : IsLine command rows line
   pub bad : HasPrefix line.request → ⊥
 
--- why words are refused: memory ran out, clap's definitions refuse them so, they name no command of the program's own, or their
--- prefix is none
+-- why a command asks for nothing: it is none of the program's own, it is given a code that there is not, or its prefix is none
+abbrev pub IsUnasked : Text → List Row → Unasked → Type 0
+IsUnasked command rows unasked.NoCommand = IsOwnName command → ⊥
+IsUnasked command rows unasked.NoCode = GivesCode command rows × (code_named (word_in rows) ≡ None)
+IsUnasked command rows unasked.BadPrefix = HasBadPrefix command rows
+
+-- the same of the subcommand that was met
+abbrev pub IsUnaskedOf : Option (Text × List Row) → Unasked → Type 0
+IsUnaskedOf None why = why ≡ unasked.NoCommand
+IsUnaskedOf (Some (command, rows)) why = IsUnasked command rows why
+
+-- the words ask for nothing, and the error is of the kind for that
+pub record AsksNothing (words : List Text) (error : Error) : Type 0 where
+  pub why : Unasked
+  pub unasked : IsUnaskedOf (subcommand_of autolock words) why
+  pub kind : kind_of error ≡ kind_for why
+
+-- why words are refused: memory ran out, clap's definitions refuse them so, or they ask for nothing
 abbrev pub IsRefused : List Text → Error → Type 0
-IsRefused words error = HasKind (fault_of autolock words) error
-    ⊎ (((kind_of error ≡ MissingSubcommand) × (IsOwn (subcommand_of autolock words) → ⊥))
-    ⊎ ((kind_of error ≡ ValueValidation) × HasBadPrefix words))
+IsRefused words error = HasKind (fault_of autolock words) error ⊎ AsksNothing words error

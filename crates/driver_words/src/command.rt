@@ -96,13 +96,25 @@ fn cells_argument<'a>(alloc: Global) -> Arg<'a>
         .help("Which cells ends are told apart by, as n,a,a[0],p[1].x")
 }
 
-/// A command over one file.
-fn file_command<'a>(alloc: Global, name: &'a str, about: &'a str) -> Result<Command<'a>, AllocError>
+/// A command over one file, or over what may stand in its place.
+fn operand_command<'a>(
+    alloc: Global,
+    name: &'a str,
+    about: &'a str,
+    operand: &'a str,
+) -> Result<Command<'a>, AllocError>
     ensures { IfOk result (IsCommand (with_file name.entry.now)) }
 {
     Command::new(alloc, name)
         .about(about)
-        .arg(file_argument(alloc, "FILE").help("The program's text"))
+        .arg(file_argument(alloc, "FILE").help(operand))
+}
+
+/// A command over one file.
+fn file_command<'a>(alloc: Global, name: &'a str, about: &'a str) -> Result<Command<'a>, AllocError>
+    ensures { IfOk result (IsCommand (with_file name.entry.now)) }
+{
+    operand_command(alloc, name, about, "The program's text")
 }
 
 /// A steps file.
@@ -119,8 +131,9 @@ fn explain_command<'a>(alloc: Global) -> Result<Command<'a>, AllocError>
 {
     let about =
         "Tell the fault of a program, with its place in the source and what can be done about it";
+    let operand = "The program's text; or a code, E01 to E20, for what it means";
     let help = "Tell it as a JSON object, in one line";
-    file_command(alloc, "explain", about)?.arg(flag_argument(alloc, "json", help))
+    operand_command(alloc, "explain", about, operand)?.arg(flag_argument(alloc, "json", help))
 }
 
 /// `listing`.

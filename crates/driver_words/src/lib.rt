@@ -2,12 +2,14 @@
 //!
 //! [`words`] answers the [`Line`] that the words of a command line mean; `specs/Commands.antt` is
 //! the command as `clap`'s definitions see it, and `specs/Lines.antt` says what a line is of the
-//! matches that those definitions give.
+//! matches that those definitions give; `specs/Codes.antt`, which words are codes of faults.
 #![tactic(auto)]
 
+mod codes;
 mod command;
 mod line;
 mod reading;
+mod unasked;
 
 pub use line::{
     Alone, Beside, DEFAULT_COUNT, DEFAULT_SEED, DEFAULT_TURNS, Emission, Judging, Line, Looking,

@@ -1,5 +1,7 @@
 //! What a command line asks for.
 
+use source::fault::Code;
+
 /// The turns that each execution of a loop may take where `--turns` is not given.
 pub const DEFAULT_TURNS: u64 = 1_000_000;
 
@@ -9,18 +11,20 @@ pub const DEFAULT_COUNT: u64 = 100_000;
 /// The seed of what is drawn where `--seed` is not given.
 pub const DEFAULT_SEED: u64 = 0;
 
-/// A command over the program of a file.
+/// A command over the program of a file, or one that reads none.
 #[derive(Clone, Copy, Debug, PartialEq, Eq)]
 pub struct Line<'a> {
-    /// The name of the file of the program's text, as it was given.
+    /// The name of the file of the program's text, as it was given; of a command that reads none, what stands in its place.
     pub file: &'a str,
-    /// What is asked of the program.
+    /// What is asked for.
     pub request: Request<'a>,
 }
 
-/// What is asked of a program, by which files it reads.
+/// What is asked for, by which files are read.
 #[derive(Clone, Copy, Debug, PartialEq, Eq)]
 pub enum Request<'a> {
+    /// `explain CODE`: what a code of a fault means. No file is read.
+    Code(Code),
     /// A command that reads the program's file alone.
     Alone(Alone<'a>),
     /// A command that reads another file beside it, of this name, as it was given.

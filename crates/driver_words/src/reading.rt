@@ -1,25 +1,23 @@
 //! From words to a line.
 
-ghost use Rattle.std.specs.Prelude.{◌≡◌, ◌↔◌, IsTrue, IfOk, IfErr, IfSome, OnOk, None, [], map, option_map};
-ghost use Rattle.clap.specs.Words.{fault_of, first_of, found_of, rows_of, subcommand_of};
+ghost use Rattle.std.specs.Prelude.{◌≡◌, ◌↔◌, IsTrue, IfOk, IfErr, OnOk, [], map, option_map};
+ghost use Rattle.clap.specs.Words.{fault_of, first_of, found_of, rows_of, subcommand_of, subcommand_rows_of};
 ghost use Rattle.driver_words.specs.Commands.{autolock};
-ghost use Rattle.driver_words.specs.Lines.{name_in, IsNumber, IsTurns, IsFlag, IsLooking, IsLine, IsLineOf, IsOwnName, IsRefused, IsRequest};
+ghost use Rattle.driver_words.specs.Lines.{name_in, IsNumber, IsTurns, IsFlag, IsLooking, IsLine, IsLineOf, IsRefused, IsRequest, IsUnasked, IsUnaskedOf};
 ghost use Rattle.driver_words.specs.Lines.{is_word, starts_with_letter, IsPrefix, HasPrefix};
+ghost use Rattle.std.specs.Prelude.{codes};
 ghost use Rattle.std.specs.Char.{is_ascii_alphanumeric};
 ghost use Rattle.std.specs.List.{list_all};
 
+use crate::codes::{code_named, is_code_word};
 use crate::command::command;
 use crate::line::{
     Alone, Beside, DEFAULT_COUNT, DEFAULT_SEED, DEFAULT_TURNS, Emission, Judging, Line, Looking,
     Report, Request,
 };
-use clap::error::ErrorKind;
+use crate::unasked::Unasked;
 use clap::{ArgMatches, Error};
 use std::alloc::Global;
-
-/// Why a prefix is refused.
-const BAD_PREFIX: &str =
-    "--prefix takes a letter, then at most 31 letters and digits, and not AL or autolock";
 
 /// The value of a name, or nothing where it has none.
 fn name<'a>(matches: &ArgMatches<'a>, id: &str) -> &'a str
@@ -70,16 +68,30 @@ fn looking<'a>(matches: &ArgMatches<'a>) -> Looking<'a>
     }
 }
 
-/// What a command asks of the program, or `None` where there is no such command.
-fn request<'a>(command: &str, matches: &ArgMatches<'a>) -> Option<Request<'a>>
-    ensures request { IfSome result (IsRequest command.now (rows_of (found_of matches.now))) }
-    ensures none { result ≡ None → IsOwnName command.now → ⊥ }
+/// What `explain` asks for: a word that is written as codes are is one, unless JSON is asked for.
+fn explaining<'a>(matches: &ArgMatches<'a>) -> Result<Request<'a>, Unasked>
+    ensures request { IfOk result (IsRequest (codes "explain") (rows_of (found_of matches.now))) }
+    ensures unasked { IfErr result (IsUnasked (codes "explain") (rows_of (found_of matches.now))) }
+{
+    let json = flag(matches, "json");
+    let word = name(matches, "FILE");
+    if json || !is_code_word(word) {
+        return Ok(Request::Alone(Alone::Explain { json }));
+    }
+    match code_named(word) {
+        Some(code) => Ok(Request::Code(code)),
+        None => Err(Unasked::NoCode),
+    }
+}
+
+/// What a command asks for.
+fn request<'a>(command: &str, matches: &ArgMatches<'a>) -> Result<Request<'a>, Unasked>
+    ensures request { IfOk result (IsRequest command.now (rows_of (found_of matches.now))) }
+    ensures unasked { IfErr result (IsUnasked command.now (rows_of (found_of matches.now))) }
 {
     let request = match command {
         "check" => Request::Alone(Alone::Report(Report::Check)),
-        "explain" => Request::Alone(Alone::Explain {
-            json: flag(matches, "json"),
-        }),
+        "explain" => return explaining(matches),
         "order" => Request::Alone(Alone::Order),
         "listing" => Request::Alone(Alone::Report(Report::Listing {
             places: flag(matches, "places"),
@@ -108,18 +120,18 @@ fn request<'a>(command: &str, matches: &ArgMatches<'a>) -> Option<Request<'a>>
             };
             Request::Beside(Beside::Replay(judging), name(matches, "HISTORY"))
         }
-        _ => return None,
+        _ => return Err(Unasked::NoCommand),
     };
-    Some(request)
+    Ok(request)
 }
 
-/// The line of a command, or `None` where there is no such command.
-fn line<'a>(command: &str, matches: &ArgMatches<'a>) -> Option<Line<'a>>
-    ensures line { IfSome result (IsLine command.now (rows_of (found_of matches.now))) }
-    ensures none { result ≡ None → IsOwnName command.now → ⊥ }
+/// The line of a command.
+fn line<'a>(command: &str, matches: &ArgMatches<'a>) -> Result<Line<'a>, Unasked>
+    ensures line { IfOk result (IsLine command.now (rows_of (found_of matches.now))) }
+    ensures unasked { IfErr result (IsUnasked command.now (rows_of (found_of matches.now))) }
 {
     let file = name(matches, "FILE");
-    Some(Line {
+    Ok(Line {
         file,
         request: request(command, matches)?,
     })
@@ -174,6 +186,23 @@ fn has_prefix(request: &Request<'_>) -> bool
     }
 }
 
+/// What the command that was met asks for.
+fn line_met<'a>(matches: &ArgMatches<'a>) -> Result<Line<'a>, Unasked>
+    ensures line { IfOk result (IsLineOf (subcommand_rows_of matches.now)) }
+    ensures prefix { IfOk result (λ line. HasPrefix line.request) }
+    ensures unasked { IfErr result (IsUnaskedOf (subcommand_rows_of matches.now)) }
+{
+    let Some((name, inner)) = matches.subcommand() else {
+        return Err(Unasked::NoCommand);
+    };
+    let line = line(name, inner)?;
+    if has_prefix(&line.request) {
+        Ok(line)
+    } else {
+        Err(Unasked::BadPrefix)
+    }
+}
+
 /// What the words of a command line ask for, of which the first is the program's name.
 ///
 /// An error is `clap`'s: its kind says whether help was asked for, memory was refused, or the words
@@ -186,13 +215,8 @@ pub fn words<'a>(alloc: Global, words: &'a [&'a str]) -> Result<Line<'a>, Error>
 {
     let mut command = command(alloc)?;
     let matches = command.try_get_matches_from_mut(words)?;
-    if let Some((name, inner)) = matches.subcommand() {
-        if let Some(line) = line(name, inner) {
-            if has_prefix(&line.request) {
-                return Ok(line);
-            }
-            return Err(command.error(ErrorKind::ValueValidation, BAD_PREFIX)?);
-        }
+    match line_met(&matches) {
+        Ok(line) => Ok(line),
+        Err(unasked) => Err(command.error(unasked.kind(), unasked.text())?),
     }
-    Err(command.error(ErrorKind::MissingSubcommand, "a command is missing")?)
 }

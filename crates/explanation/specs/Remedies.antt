@@ -23,7 +23,7 @@ remedy NotAssignable = codes "copy it into a var, and assign to that; of an arra
 remedy NeitherFinalNorProtected = codes "say which lock protects it: protected_by(LOCK)"
 remedy ProtectedByNoLock = codes "end the annotation at a lock; of a global or an array it is a global lock alone"
 remedy ProtectedByPassesNonFinal = codes "make the reference final, or take a lock of the own struct or a global lock"
-remedy UnstableBase = codes "bind the object by a let first: let n: ref S = a.next; and then n.x"
+remedy UnstableBase = codes "bind the object by a let first: let n: ref S = a.next; in a walk take a common owner by where, or a global lock"
 remedy LockOrderCycle = codes "put the lets before all uses; or take a parameter, a final reference or a global lock"
 remedy LimitExceeded = codes "split what is too large; the limits are fixed"
 remedy FinalWithoutOpeningValue = codes "give an init with an object for each member of each pool of the struct"

@@ -45,7 +45,7 @@ pub fn remedy_of(code: Code) -> &'static str
             "make the reference final, or take a lock of the own struct or a global lock"
         }
         Code::UnstableBase => {
-            "bind the object by a let first: let n: ref S = a.next; and then n.x"
+            "bind the object by a let first: let n: ref S = a.next; in a walk take a common owner by where, or a global lock"
         }
         Code::LockOrderCycle => {
             "put the lets before all uses; or take a parameter, a final reference or a global lock"

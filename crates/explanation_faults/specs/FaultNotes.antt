@@ -1,6 +1,6 @@
 -- What is told of a fault beyond its line.
 use Rattle.std.specs.Fmt.{decimal}
-use Rattle.std.specs.Prelude.{◌≡◌, ◌≤◌, ℕ, List, ◌∷◌, ◌++◌, Some, None, All, false, codes, length}
+use Rattle.std.specs.Prelude.{◌≡◌, ◌≤◌, ◌⊎◌, ℕ, List, ◌∷◌, ◌++◌, Some, None, All, false, codes, length}
 use Rattle.explanation.specs.Notes.{Note}
 use Rattle.resolution.specs.Constants.{init_target_of, giver}
 use Rattle.resolution.specs.Faults.{IsFault, IsDeclaredTwice, PassesNonFinal, IsFinalMissing}
@@ -25,6 +25,7 @@ use Rattle.explanation_faults.specs.LocksAtHand.{IsAtHand}
 use Rattle.explanation_faults.specs.MissingInits.{IsGap, IsNullGiven}
 use Rattle.explanation_faults.specs.MissingReturns.{IsLacking}
 use Rattle.explanation_faults.specs.NameSpaces.{IsDeclaredAs}
+use Rattle.explanation_faults.specs.NullMeant.{IsNullMeant}
 use Rattle.explanation_faults.specs.PassedMembers.{passed_at}
 use Rattle.explanation_faults.specs.PathsPassed.{ArePathsFirst, ArePathsPast}
 use Rattle.explanation_faults.specs.TokensThere.{name_there}
@@ -38,6 +39,9 @@ declared_note x = name_note x (codes " is declared here")
 
 abbrev pub near_note : Ident → Note
 near_note x = name_note x (codes " could be meant, and is declared here")
+
+abbrev pub null_meant_note : Note
+null_meant_note = note_of_all (codes "`null` could be meant")
 
 abbrev pub lock_words : Ident → List ℕ
 lock_words x = codes " could protect it: protected_by(" ++ x.text ++ codes ")"
@@ -84,6 +88,14 @@ pub record IsDeclaredNote (decls : List Decl) (at : ℕ) (note : Note) : Type 0 
   pub declared : IsDeclaredAs decls at name
   pub said : note ≡ declared_note name
 
+-- near the name there is one that could stand in its place
+pub record HasNearName (tokens : List Tok) (decls : List Decl) (at : ℕ) : Type 0 where
+  pub unknown : List ℕ
+  pub there : name_there at tokens ≡ Some unknown
+  pub name : Ident
+  pub could : CouldStand decls at name
+  pub near : IsNear unknown name.text
+
 -- E06: of the names that could stand in the place of the unknown one the nearest
 pub record IsNearNote (tokens : List Tok) (decls : List Decl) (at : ℕ) (note : Note) : Type 0 where
   pub unknown : List ℕ
@@ -91,6 +103,12 @@ pub record IsNearNote (tokens : List Tok) (decls : List Decl) (at : ℕ) (note :
   pub name : Ident
   pub nearest : IsNearestOf (CouldStand decls at) unknown name
   pub said : note ≡ near_note name
+
+-- where none is near, `null`
+pub record IsNullMeantNote (tokens : List Tok) (decls : List Decl) (at : ℕ) (note : Note) : Type 0 where
+  pub none : HasNearName tokens decls at → ⊥
+  pub meant : IsNullMeant tokens at
+  pub said : note ≡ null_meant_note
 
 -- E10: the lock that could protect it
 pub record IsLockNote (decls : List Decl) (at : ℕ) (note : Note) : Type 0 where
@@ -140,7 +158,7 @@ pub data IsReturnNote (decls : List Decl) (at : ℕ) : Note → Type 0 where
 -- of a fault of this code at this byte of the tokens and their tree, the note says what is so
 abbrev pub IsTrueNote : List Tok → List Decl → Code → ℕ → Note → Type 0
 IsTrueNote tokens decls DeclaredTwice at note = IsDeclaredNote decls at note
-IsTrueNote tokens decls UnknownName at note = IsNearNote tokens decls at note
+IsTrueNote tokens decls UnknownName at note = IsNearNote tokens decls at note ⊎ IsNullMeantNote tokens decls at note
 IsTrueNote tokens decls WrongType at note = IsReasonNote decls WrongType at note
 IsTrueNote tokens decls WrongArgumentCount at note = IsReasonNote decls WrongArgumentCount at note
 IsTrueNote tokens decls NotAssignable at note = IsReasonNote decls NotAssignable at note
@@ -154,14 +172,6 @@ IsTrueNote tokens decls MisplacedReturn at note = IsReturnNote decls at note
 IsTrueNote tokens decls code at note = ⊥
 
 -- ---- where one must be told
-
--- near the name there is one that could stand in its place
-pub record HasNearName (tokens : List Tok) (decls : List Decl) (at : ℕ) : Type 0 where
-  pub unknown : List ℕ
-  pub there : name_there at tokens ≡ Some unknown
-  pub name : Ident
-  pub could : CouldStand decls at name
-  pub near : IsNear unknown name.text
 
 -- a fault of this code stands there, and none of the program goes before it
 pub record IsFirstFault (decls : List Decl) (code : Code) (at : ℕ) : Type 0 where
@@ -190,7 +200,7 @@ pub data IsLimitTold (tokens : List Tok) (decls : List Decl) (at : ℕ) : Type 0
 
 abbrev pub IsTold : List Tok → List Decl → Code → ℕ → Type 0
 IsTold tokens decls DeclaredTwice at = IsDeclaredTwice decls at
-IsTold tokens decls UnknownName at = HasNearName tokens decls at
+IsTold tokens decls UnknownName at = HasNearName tokens decls at ⊎ IsNullMeant tokens at
 IsTold tokens decls WrongType at = IsFirstFault decls WrongType at
 IsTold tokens decls WrongArgumentCount at = IsFirstFault decls WrongArgumentCount at
 IsTold tokens decls NotAssignable at = IsFirstFault decls NotAssignable at

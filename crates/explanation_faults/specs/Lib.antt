@@ -13,6 +13,7 @@ pub mod ReasonNotes
 pub mod LocksAtHand
 pub mod PassedMembers
 pub mod MissingInits
+pub mod NullMeant
 pub mod FaultNotes
 pub mod TextNotes
 pub mod Working

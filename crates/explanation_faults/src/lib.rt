@@ -4,7 +4,7 @@
 //!   must be one.
 //! - `specs/ReasonNotes.antt`: why a fault is one, in words. `specs/NameSpaces.antt`: which names must differ, and which of two is the first. `specs/LocksAtHand.antt`: a lock for what
 //!   has none. `specs/PassedMembers.antt`: what an annotation passes. `specs/MissingInits.antt`: which `init` is missing.
-//!   `specs/Vars.antt`: which `var` a name is. `specs/LimitsPassed.antt`, `AmountsPassed.antt`, `HelperLimits.antt`
+//!   `specs/NullMeant.antt`: whether `null` could be meant by a name. `specs/Vars.antt`: which `var` a name is. `specs/LimitsPassed.antt`, `AmountsPassed.antt`, `HelperLimits.antt`
 //!   and `PathsPassed.antt`: which limit is passed. `specs/Inits.antt`: the first `init` of a field.
 //!   `specs/MissingReturns.antt`: which section lacks its `return`.
 //! - What the code finds where several would do stands in `specs/Working/LimitsFound.antt`, `AmountsFound.antt`, `HelpersFound.antt`,
@@ -21,6 +21,7 @@ mod missing_inits;
 mod missing_returns;
 mod name_spaces;
 mod noted;
+mod null_meant;
 mod passed_members;
 mod reasons;
 mod same_names;

@@ -1,6 +1,6 @@
 //! What a tree tells of its fault.
 
-ghost use Rattle.std.specs.Prelude.{◌≡◌, Decides, IfOk, None, map};
+ghost use Rattle.std.specs.Prelude.{◌≡◌, Decides, IfOk, None, Some, map};
 ghost use Rattle.std.specs.Option.{option_map};
 ghost use Rattle.explanation.specs.Notes.{note_of};
 ghost use Rattle.source.specs.declared.fault.Code.TheVariants.{FinalWithoutOpeningValue, LimitExceeded, UnknownName};
@@ -8,8 +8,9 @@ ghost use Rattle.source.specs.Tokens.{seen};
 ghost use Rattle.syntax.specs.Views.{decl_of, section_of};
 ghost use Rattle.types_symbols.specs.{decls_of as decls_in};
 ghost use Rattle.resolution.specs.Scopes.{has_body};
-ghost use Rattle.explanation_faults.specs.FaultNotes.{AreNotes, IsDeclaredNote, IsGivenNote, IsLockNote, IsPassedNote, IsReturnNote};
+ghost use Rattle.explanation_faults.specs.FaultNotes.{AreNotes, HasNearName, IsDeclaredNote, IsGivenNote, IsLockNote, IsPassedNote, IsReturnNote};
 ghost use Rattle.explanation_faults.specs.NameSpaces.{IsDeclaredAs, IsDeclaredIn};
+ghost use Rattle.explanation_faults.specs.TokensThere.{name_there};
 ghost use Rattle.explanation_faults.specs.Working.VarsFound.{note_of_var, var_noted};
 ghost use Rattle.explanation_faults.specs.Working.Values.{AreNotesOn, AreReturnNotes, IsKnownOf, LacksNone, FoundName, FoundNote, FoundReason, FoundWhy, IsReasonIfTold, IsLimitIfTold, IsNoteIfTold, decls_of, idents, stmt_at, tokens_of};
 
@@ -23,6 +24,7 @@ use crate::missing_inits::{gap_at, null_given};
 use crate::missing_returns::lacking;
 use crate::name_spaces::{inner_names_of, member_name, top_names_of};
 use crate::noted::{gap_note, init_note, lock_note, name_note};
+use crate::null_meant::is_null_meant;
 use crate::passed_members::{Sought, passed_member};
 use crate::reasons::reason_note;
 use crate::same_names::{first_of_others, first_of_same};
@@ -176,7 +178,7 @@ impl<'a> Faulty<'a> {
         Ok(Some(note))
     }
 
-    // NAME could be meant, and is declared here.
+    // NAME could be meant, and is declared here; or, where no name could, `null` could be.
     fn near_note(&self, alloc: Global) -> Result<Option<Note>, NoMemory>
         ensures { IfOk result (IsNoteIfTold self.now UnknownName) }
     {
@@ -184,10 +186,25 @@ impl<'a> Faulty<'a> {
             return Ok(None);
         };
         let Some(name) = near_name(alloc, self.symbols, text, self.at)? else {
-            return Ok(None);
+            return self.null_note(alloc, text);
         };
         let note = name_note(alloc, name, " could be meant, and is declared here")?;
         Ok(Some(note))
+    }
+
+    // `null` could be meant by this name, near which there is none.
+    fn null_note(&self, alloc: Global, name: &str) -> Result<Option<Note>, NoMemory>
+        requires there { name_there self.now.at (tokens_of self.now) ≡ Some name.now }
+        requires none { HasNearName (tokens_of self.now) (decls_of self.now) self.now.at → ⊥ }
+        ensures { IfOk result (IsNoteIfTold self.now UnknownName) }
+    {
+        if !is_null_meant(alloc, self.tokens, self.at, name)? {
+            return Ok(None);
+        }
+        Ok(Some(Note {
+            start: None,
+            words: String::from_str(alloc, "`null` could be meant")?,
+        }))
     }
 
     // NAME could protect it.

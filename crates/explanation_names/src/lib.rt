@@ -2,6 +2,7 @@
 //!
 //! - [`near_name`]: the nearest name that could stand in its place: `specs/NearNames.antt` says which could, and what near
 //!   is.
+//! - [`is_near`]: whether two names are near.
 //! - [`declared`]: the name that a declaration declares.
 //! - [`laws`]: what is looked for, is so wherever a name is unknown.
 //! - `edit_distance`: how many edits lie between two names.
@@ -21,5 +22,5 @@ mod search;
 mod sought;
 mod statements;
 
-pub use nearest::near_name;
+pub use nearest::{is_near, near_name};
 pub use sought::declared;

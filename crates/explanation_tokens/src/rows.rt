@@ -9,8 +9,8 @@ use crate::pattern::Pattern::{
     Spelt, Starts, TextEnd, Value, Word,
 };
 use source::token::Keyword::{
-    Atomic, Call, Else, Final, Global, If, Init, Int, Let, Lock, Pool, Print, ProtectedBy, Ref,
-    Repeat, Return, Struct, Thread, Var, Where, While,
+    Atomic, Call, Else, Final, Global, If, Init, Int, Let, Lock, Null, Pool, Print, ProtectedBy,
+    Ref, Repeat, Return, Struct, Thread, Var, Where, While,
 };
 use source::token::Sign::{
     CloseBrace, CloseBracket, CloseParen, Colon, Comma, Dot, DoubleEquals, Equals, Greater, Less,
@@ -34,7 +34,7 @@ pub struct Shape(
 pub struct Row(pub Area, pub Inner, pub Shape, pub Advice);
 
 /// The table. The first row that fits tells its advice.
-pub const ROWS: [Row; 118] = [
+pub const ROWS: [Row; 120] = [
     Row(
         Anywhere,
         Either,
@@ -228,19 +228,19 @@ pub const ROWS: [Row; 118] = [
     Row(
         Body,
         Either,
-        Shape(Any, Any, Any, Starts, Near(Print), Value, Any),
+        Shape(Any, Any, Any, Starts, Near(Print), Any, Any),
         Advice::Meant(Print),
     ),
     Row(
         Body,
         Either,
-        Shape(Any, Any, Any, Starts, Near(Return), Value, Any),
+        Shape(Any, Any, Any, Starts, Near(Return), Any, Any),
         Advice::Meant(Return),
     ),
     Row(
         Body,
         Either,
-        Shape(Any, Any, Any, Starts, Near(Call), Name, Mark(OpenParen)),
+        Shape(Any, Any, Any, Any, Near(Call), Name, Mark(OpenParen)),
         Advice::Meant(Call),
     ),
     Row(
@@ -274,7 +274,7 @@ pub const ROWS: [Row; 118] = [
         Advice::Meant(Repeat),
     ),
     Row(
-        Body,
+        Anywhere,
         Either,
         Shape(Any, Any, Any, Any, Mark(Colon), Near(Int), Any),
         Advice::Meant(Int),
@@ -298,7 +298,7 @@ pub const ROWS: [Row; 118] = [
         Advice::Meant(Int),
     ),
     Row(
-        Body,
+        Anywhere,
         Either,
         Shape(Any, Any, Any, Any, Mark(Colon), Near(Ref), Any),
         Advice::Meant(Ref),
@@ -320,6 +320,18 @@ pub const ROWS: [Row; 118] = [
         Either,
         Shape(Any, Any, Any, Any, Word(Global), Near(Ref), Name),
         Advice::Meant(Ref),
+    ),
+    Row(
+        Top,
+        Either,
+        Shape(Any, Any, Any, Mark(Equals), Near(Null), Any, Any),
+        Advice::Meant(Null),
+    ),
+    Row(
+        Calls,
+        Either,
+        Shape(Any, Any, Any, Any, Near(Null), Any, Any),
+        Advice::Meant(Null),
     ),
     Row(
         Fields,
