@@ -20,7 +20,7 @@ struct Insert {
 /// keeps. A part that recurs takes 32 bytes each time, however long it is; a short one is copied.
 #[derive(Drop)]
 pub struct Rope {
-    own: String,
+    own: Vec<u8>,
     groups: Vec<Vec<String>>,
     inserts: Vec<Insert>,
     // Where the last of them comes in.
@@ -40,13 +40,13 @@ impl Model for Rope {
     ghost Value = { RopeOf };
 
     ghost view = { λ r. record {
-      inserted = map (piece (string_bytes r.own) (groups_of r.groups.items)) r.inserts.items;
-      rest = drop r.last (string_bytes r.own);
+      inserted = map (piece r.own.items (groups_of r.groups.items)) r.inserts.items;
+      rest = drop r.last r.own.items;
       groups = groups_of r.groups.items;
     } };
 
     ghost invariant = { λ r.
-        (r.last ≤ length (string_bytes r.own)) × All (IsIn (length (string_bytes r.own)) (length r.groups.items)) r.inserts.items };
+        (r.last ≤ length r.own.items) × All (IsIn (length r.own.items) (length r.groups.items)) r.inserts.items };
 }
 
 impl Rope {
@@ -55,7 +55,7 @@ impl Rope {
         ensures { result ≡ record { inserted = []; rest = []; groups = [] } }
     {
         Rope {
-            own: String::new(alloc),
+            own: Vec::new(alloc),
             groups: Vec::new(alloc),
             inserts: Vec::new(alloc),
             last: 0,
@@ -67,8 +67,15 @@ impl Rope {
     pub fn of(alloc: Global, text: String) -> Rope
         ensures { result ≡ record { inserted = []; rest = string_bytes text; groups = [] } }
     {
+        Rope::of_bytes(alloc, text.into_bytes())
+    }
+
+    /// Bytes of its own, which may be no UTF-8.
+    pub fn of_bytes(alloc: Global, bytes: Vec<u8>) -> Rope
+        ensures { result ≡ record { inserted = []; rest = bytes.items; groups = [] } }
+    {
         Rope {
-            own: text,
+            own: bytes,
             groups: Vec::new(alloc),
             inserts: Vec::new(alloc),
             last: 0,
@@ -80,7 +87,7 @@ impl Rope {
     pub fn push_str(&mut self, text: &str) -> Result<(), AllocError>
         ensures { OnOk result (AddsTo text.now self.old self.new) }
     {
-        self.own.push_str(text)
+        self.own.extend_from_slice(text.as_bytes())
     }
 
     /// Puts a number behind, in decimal. The one error is a refused growth.
@@ -89,7 +96,7 @@ impl Rope {
     {
         self.digits.clear();
         write!(self.digits, "{number}")?;
-        self.own.push_str(self.digits.as_str())
+        self.own.extend_from_slice(self.digits.as_bytes())
     }
 
     /// Keeps a group of parts; its number among the groups. The one error is a refused growth.
@@ -109,7 +116,7 @@ impl Rope {
     {
         let part = part_in(&self.groups, group, number);
         if part.len() <= COPIED {
-            return self.own.push_str(part);
+            return self.own.extend_from_slice(part.as_bytes());
         }
         let insert = Insert {
             from: self.last,
@@ -135,7 +142,7 @@ impl Rope {
         ensures { result.now ≡ own_at self.now.inserted insert }
     {
         let insert = self.inserts[insert];
-        &self.own.as_bytes()[insert.from..insert.at]
+        &self.own[insert.from..insert.at]
     }
 
     /// The part that comes in, by its number among those that do.
@@ -151,7 +158,7 @@ impl Rope {
     pub fn rest(&self) -> &[u8]
         ensures { result.now ≡ self.now.rest }
     {
-        &self.own.as_bytes()[self.last..]
+        &self.own[self.last..]
     }
 }
 

@@ -1,5 +1,4 @@
 use Rattle.std.proofs.Common.{[], length, sym, ap, ◌∙◌, arith}
-use Rattle.std.specs.Prelude.{string_bytes}
 use Rattle.std.proofs.lemmas.List.{get_or-map, length-map}
 use Rattle.rope.specs.Working.Ropes.{RopeOf, groups_of, piece, part_of, part_at}
 use Rattle.rope.proofs.text.Rope.part_at.Goals as goal
@@ -7,7 +6,7 @@ use Rattle.rope.proofs.text.Rope.part_at.Goals as goal
 pub returns : goal.returns
 returns c =
     let x = c.self.inside in
-    let pieces = piece (string_bytes x.own) (groups_of x.groups.items) in
+    let pieces = piece x.own.items (groups_of x.groups.items) in
     let d = c.index-insert.result.now in
     let lt = ap (λ (v : RopeOf). length v.inserted) c.self.view_is in
     c.as_bytes.ensures.value ∙ c.part_in.ensures

@@ -1,4 +1,4 @@
-use Rattle.std.specs.Prelude.{string_bytes, OnOk, List, ℕ, ◌++◌}
+use Rattle.std.specs.Prelude.{OnOk, List, ℕ, ◌++◌}
 use Rattle.std.specs.Fmt.{decimal}
 use Rattle.std.proofs.Common.{subst, ◌∙◌, ap}
 use Rattle.rope.specs.Working.Ropes.{groups_of, AddsTo}
@@ -8,7 +8,8 @@ use Rattle.rope.proofs.text.Rope.push_number.Goals as goal
 pub returns : goal.returns
 returns c =
     let x = c.self.inside in
-    subst (λ (text : List ℕ). OnOk c.push_str.result (AddsTo text c.args.self.now (made (string_bytes c.push_str.new.self) (groups_of x.groups.items) x.inserts.items x.last)))
-    (c.as_str.ensures.value ∙ c.in_ok-write.ensures.bytes ∙ ap (λ (old : List ℕ). old ++ decimal c.args.number) c.clear.ensures.bytes)
-    (own_added c.push_str.result (string_bytes x.own) (string_bytes c.push_str.new.self) c.as_str.result.now (groups_of x.groups.items) _ x.inserts.items x.last
-    c.args.self.now c.self.view_is c.self.invariant c.push_str.ensures.bytes)
+    let grown = c.extend_from_slice.new.self.items in
+    subst (λ (text : List ℕ). OnOk c.extend_from_slice.result (AddsTo text c.args.self.now (made grown (groups_of x.groups.items) x.inserts.items x.last)))
+    (c.as_bytes.ensures.value ∙ c.in_ok-write.ensures.bytes ∙ ap (λ (old : List ℕ). old ++ decimal c.args.number) c.clear.ensures.bytes)
+    (own_added c.extend_from_slice.result x.own.items grown c.as_bytes.result.now (groups_of x.groups.items) _ x.inserts.items x.last
+    c.args.self.now c.self.view_is c.self.invariant c.extend_from_slice.ensures.items)
