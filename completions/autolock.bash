@@ -12,7 +12,7 @@ _autolock_files() {
 
 _autolock() {
     local word=${COMP_WORDS[COMP_CWORD]} before=${COMP_WORDS[COMP_CWORD - 1]} command= i at=0
-    local commands="check explain order listing emit serial outcomes simulate trace run replay help"
+    local commands="check explain format order listing emit serial outcomes simulate trace run replay lsp help"
     for ((i = 1; i < COMP_CWORD; i++)); do
         if [ -z "$command" ]; then
             case ${COMP_WORDS[i]} in
@@ -39,12 +39,12 @@ _autolock() {
         explain/-*) mapfile -t COMPREPLY < <(compgen -W "--json -h --help" -- "$word") ;;
         emit/-*) mapfile -t COMPREPLY < <(compgen -W "--header --prefix --lines -h --help" -- "$word") ;;
         listing/-*) mapfile -t COMPREPLY < <(compgen -W "--places -h --help" -- "$word") ;;
-        check/-* | order/-* | simulate/-* | run/-*) mapfile -t COMPREPLY < <(compgen -W "-h --help" -- "$word") ;;
+        check/-* | format/-* | order/-* | simulate/-* | run/-* | lsp/-*) mapfile -t COMPREPLY < <(compgen -W "-h --help" -- "$word") ;;
         simulate/* | trace/*) if [ $at -gt 0 ]; then _autolock_files "$word" .steps; else _autolock_files "$word" .al; fi ;;
         replay/*)
             if [ "$before" = --turns ]; then :; elif [ $at -gt 0 ]; then _autolock_files "$word" ''; else _autolock_files "$word" .al; fi
             ;;
-        check/* | explain/* | order/* | listing/* | emit/* | serial/* | outcomes/* | run/*)
+        check/* | explain/* | format/* | order/* | listing/* | emit/* | serial/* | outcomes/* | run/*)
             case $before in --turns | --count | --seed | --prefix | --cells) ;; *) _autolock_files "$word" .al ;; esac
             ;;
     esac

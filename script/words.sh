@@ -118,7 +118,8 @@ with_value() {
 usage_of() {
     local option=${2-}
     case $1 in
-        check | order | run) echo "$1 ${option:+$option }<FILE>" ;;
+        check | format | order | run) echo "$1 ${option:+$option }<FILE>" ;;
+        lsp) echo "$1${option:+ $option}" ;;
         serial | explain | listing | emit | outcomes) echo "$1 ${option:-[OPTIONS]} <FILE>" ;;
         replay) echo "replay ${option:-[OPTIONS]} <FILE> <HISTORY>" ;;
         trace) echo "trace ${option:-[OPTIONS]} <FILE> <STEPS>" ;;
@@ -171,7 +172,7 @@ similar() {
 
 refuse_command() {
     local names tip=
-    mapfile -t names < <(similar "$1" check explain order listing emit serial outcomes simulate trace run replay help)
+    mapfile -t names < <(similar "$1" check explain format order listing emit serial outcomes simulate trace run replay lsp help)
     case ${#names[@]} in
         0) ;;
         1) tip="a similar subcommand exists: '${names[0]}'" ;;
@@ -208,13 +209,15 @@ refuse_long() {
     elif takes_options && [ "$used${#files[@]}" != 0 ]; then
         refuse "unexpected argument '--$name' found" "$command ${used:+$used }$(names_of "$command")" \
             "to pass '--$name' as a value, use '-- --$name'"
+    elif [ "$command" = lsp ]; then
+        refuse "unexpected argument '--$name' found" "$(usage_of "$command")"
     elif [ -n "$command" ]; then
         refuse "unexpected argument '--$name' found" "$(usage_of "$command")" \
             "to pass '--$name' as a value, use '-- --$name'"
     fi
     for word in "$@"; do
         case $word in
-            check | order | simulate | run) near=$(similar "$name" help) ;;
+            check | format | order | simulate | run | lsp) near=$(similar "$name" help) ;;
             listing) near=$(similar "$name" places help | tail -n 1) ;;
             emit) near=$(similar "$name" header prefix lines help | tail -n 1) ;;
             serial) near=$(similar "$name" turns help | tail -n 1) ;;
@@ -233,7 +236,7 @@ judge_help() {
     local name=${1-autolock}
     case $name in
         autolock) [ $# -eq 0 ] || refuse "unrecognized subcommand '$1'" "$(usage_of '')" ;;
-        check | explain | order | listing | emit | serial | outcomes | simulate | trace | run | replay | help) ;;
+        check | explain | format | order | listing | emit | serial | outcomes | simulate | trace | run | replay | lsp | help) ;;
         *) refuse "unrecognized subcommand '$1'" "$(usage_of '')" ;;
     esac
     [ $# -gt 1 ] || show_help "$name"
@@ -356,8 +359,11 @@ judge_short() {
         *h) show_help "${command:-autolock}" ;;
         V) show_version ;;
     esac
-    refuse "unexpected argument '-$letter' found" "$(usage_of "$command")" \
-        "${command:+to pass '-$letter' as a value, use '-- -$letter'}"
+    local tip="to pass '-$letter' as a value, use '-- -$letter'"
+    case $command in
+        '' | lsp) tip= ;;
+    esac
+    refuse "unexpected argument '-$letter' found" "$(usage_of "$command")" "$tip"
 }
 
 # Whether names of C may begin with it.
@@ -373,6 +379,7 @@ judge_arguments() {
     local most=1 is_last=0 missing other option
     other=$(other_of "$command")
     [ -z "$other" ] || most=2
+    [ "$command" != lsp ] || most=0
     while [ $# -gt 0 ]; do
         if [ "$is_last" = 0 ] && [[ $1 = --* ]] && is_flag "${1#--}"; then
             judge_flag "${1#--}"
@@ -407,7 +414,7 @@ judge_arguments() {
         shift
     done
     missing=
-    [ ${#files[@]} -gt 0 ] || missing+=$'\n  <FILE>'
+    [ ${#files[@]} -ge 1 ] || [ $most = 0 ] || missing+=$'\n  <FILE>'
     [ -z "$other" ] || [ ${#files[@]} -gt 1 ] || missing+=$'\n  '$other
     if [ -z "$missing" ]; then
         [ -z "$has_prefix" ] || is_prefix "$prefix" || refuse "$bad_prefix" "$(usage_of '')"
@@ -423,7 +430,7 @@ judge_words() {
     local is_last=0
     while [ $# -gt 0 ]; do
         case $is_last$1 in
-            0check | 0explain | 0order | 0listing | 0emit | 0serial | 0outcomes | 0simulate | 0trace | 0run | 0replay)
+            0check | 0explain | 0format | 0order | 0listing | 0emit | 0serial | 0outcomes | 0simulate | 0trace | 0run | 0replay | 0lsp)
                 command=$1
                 shift
                 judge_arguments "$@"
@@ -436,7 +443,7 @@ judge_words() {
             0--) is_last=1 ;;
             0--?*) judge_long "$@" ;;
             0-?*) judge_short "$1" ;;
-            1check | 1explain | 1order | 1listing | 1emit | 1serial | 1outcomes | 1simulate | 1trace | 1run | 1replay | 1help)
+            1check | 1explain | 1format | 1order | 1listing | 1emit | 1serial | 1outcomes | 1simulate | 1trace | 1run | 1replay | 1lsp | 1help)
                 refuse "unexpected argument '$1' found" "$(usage_of '')" \
                     "subcommand '$1' exists; to use it, remove the '--' before it"
                 ;;
@@ -445,5 +452,5 @@ judge_words() {
         shift
     done
     refuse $'\'autolock\' requires a subcommand but one was not provided
-  [subcommands: check, explain, order, listing, emit, serial, outcomes, simulate, trace, run, replay, help]' "$(usage_of '')"
+  [subcommands: check, explain, format, order, listing, emit, serial, outcomes, simulate, trace, run, replay, lsp, help]' "$(usage_of '')"
 }

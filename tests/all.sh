@@ -68,6 +68,10 @@ try tests/pictures.py "$program"
 try tests/tutorial.py "$program"
 try tests/stress.py "$program"
 try tests/pages.py "$program"
+try tests/format.py "$program"
+try tests/lsp.py "$program"
+try tests/lsp_texts.py "$program"
+try tests/nvim.py "$program"
 for script in believed promises editors; do
     try "tests/$script.py"
 done

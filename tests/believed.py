@@ -37,6 +37,8 @@ EMITTED = {
 IN_THREADS = {"crates/c_threads/src/laws.rt": None, "crates/c_threads/src/meaning.rt": ["threads_mean"]}
 # What `explain CODE` writes: fixed texts, which stand in docs/LANGUAGE.md, and say nothing of a program.
 PAGES = {"crates/driver/src/code_pages.rt": ["explain_code"]}
+# What `lsp` answers, beside what the engines do: the protocol, positions, names by tokens.
+EDITORS = {"crates/driver/src/editors.rt": ["lsp"]}
 # What `emit` answers counts there, and not among the engines.
 ANSWERED = ("driver.specs.Emissions", "IsEmitted")
 THREADS = {
@@ -220,14 +222,14 @@ class Reading:
 
 
 def engines():
-    """The calls that the driver's root names, but for that which writes pages of codes."""
+    """The calls that the driver's root names, but for those that write pages of codes and serve editors."""
     root = CRATES / "driver" / "src" / "lib.rt"
     calls = {}
     for module, names in re.findall(r"^pub use (\w+)::\{?([\w,\s]+?)\}?;", root.read_text(), re.M):
         functions = [name.strip() for name in names.split(",") if name.strip()[:1].islower()]
         if functions:
             calls[f"crates/driver/src/{module}.rt"] = functions
-    return {file: names for file, names in calls.items() if file not in PAGES}
+    return {file: names for file, names in calls.items() if file not in PAGES and file not in EDITORS}
 
 
 def rows_in_words():
@@ -271,10 +273,16 @@ def others():
 
 def main():
     reading, failed, tables, counted = Reading(), 0, [], {}
-    groups = (("The headline", HEADLINE), ("The compiler", COMPILER), ("All engines", engines()), ("Pages of codes", PAGES), ("Real threads", THREADS), ("Sections in C", EMITTED), ("Threads in C", IN_THREADS))
+    groups = (("The headline", HEADLINE), ("The compiler", COMPILER), ("All engines", engines()), ("Pages of codes", PAGES), ("Editors", EDITORS), ("Real threads", THREADS), ("Sections in C", EMITTED), ("Threads in C", IN_THREADS))
     believed = {module for module, _ in reading.begin(others()).seen}
+    of_engines = {}
     for title, calls in groups:
-        tables.append(reading.begin(calls).table(title))
+        reading.begin(calls)
+        if calls is EDITORS:
+            reading.seen = {name: lines for name, lines in reading.seen.items() if name not in of_engines}
+        elif title == "All engines":
+            of_engines = dict(reading.seen)
+        tables.append(reading.table(title))
         believed |= {module for module, _ in reading.seen}
         for module, names in reading.files().items():
             counted.setdefault(module, set()).update(names)

@@ -1,6 +1,6 @@
 #!/usr/bin/env python3
 """Compares the files of editors/ with the keywords and signs of the lexer (crates/source/src/token.rt), and tries the
-TextMate grammar, and Vim where there is one, on the programs of examples/.
+TextMate grammar, and Vim where there is one, on the programs of examples/. Reads the files of the other editors.
 
     tests/editors.py
 """
@@ -11,6 +11,7 @@ import shutil
 import subprocess
 import sys
 import tempfile
+import tomllib
 
 TOP = pathlib.Path(__file__).resolve().parent.parent
 FAILED = []
@@ -46,7 +47,7 @@ def scopes_of(text, patterns):
 
 
 def text_mate(keywords, signs):
-    grammar = json.loads((TOP / "editors/autolock.tmLanguage.json").read_text())
+    grammar = json.loads((TOP / "editors/vscode/autolock.tmLanguage.json").read_text())
     patterns = grammar["patterns"]
     listed = [word for it in patterns for group in re.findall(r"\(\?:([a-z_|]+)\)", it["match"]) for word in group.split("|")]
     same(listed, keywords, "TextMate: the keywords")
@@ -91,6 +92,9 @@ for at in range(1, line('$'))
 endfor
 compiler autolock
 call add(lines, &makeprg)
+call add(lines, &commentstring . '|' . &shiftwidth . '|' . &formatprg)
+new {room}/b.autolock
+call add(lines, &filetype)
 cgetfile {room}/faults
 for it in getqflist()
   if it.valid
@@ -115,8 +119,35 @@ qall!
             is_right = group.startswith("autolock") and group not in ("autolockComment", "autolockTodo")
             judge(is_right and last == "autolockComment", f"Vim: the keyword {word}, and a comment")
         judge(len(lines) > len(keywords) + 1 and lines[len(keywords) + 1].startswith(" "), "Vim: a name")
-        judge(lines[-2:-1] == ["autolock check %:S"], "Vim: what :make runs")
+        judge(lines[-4:-3] == ["autolock check %:S"], "Vim: what :make runs")
+        judge(lines[-3:-2] == ["// %s|2|autolock format /dev/stdin"], "Vim: comments, indents, and what gq runs")
+        judge(lines[-2:-1] == ["autolock"], "Vim: the type of a file that ends in .autolock")
         judge(lines[-1:] == ["a b.al|12|5|E14 lock order cycle: A.l -> B.m -> A.l"], "Vim: the place of a fault")
+
+
+def others(keywords):
+    """The files of VS Code and Helix are read, and name what there is; those of Neovim and Emacs name the words."""
+    folder = TOP / "editors/vscode"
+    package = json.loads((folder / "package.json").read_text())
+    json.loads((folder / "language-configuration.json").read_text())
+    parts = package["contributes"]
+    paths = [package["main"]] + [it["path"] for it in parts["grammars"]] + [it["configuration"] for it in parts["languages"]]
+    judge(all((folder / path).resolve().is_file() for path in paths), "VS Code: the files of package.json")
+    grammar = json.loads((TOP / "editors/vscode/autolock.tmLanguage.json").read_text())
+    judge(parts["grammars"][0]["scopeName"] == grammar["scopeName"], "VS Code: the scope of the grammar")
+    endings = sorted(ending.lstrip(".") for ending in parts["languages"][0]["extensions"])
+    judge(endings == sorted(grammar["fileTypes"]) == ["al", "autolock"], "VS Code: the endings of files")
+    judge(package["version"] == (TOP / "VERSION").read_text().strip(), "VS Code: the version")
+    helix = tomllib.loads((TOP / "editors/helix/languages.toml").read_text())
+    servers = helix["language"][0]["language-servers"]
+    judge(all(helix["language-server"][name]["args"] == ["lsp"] for name in servers), "Helix: the server")
+    emacs = (TOP / "editors/emacs/autolock.el").read_text()
+    words = re.search(r"autolock-keywords\s+'\((.*?)\)", emacs, re.S)[1]
+    same(re.findall(r'"(\w+)"', words), keywords, "Emacs: the keywords")
+    for opening, closing in ("()", "{}", "[]"):
+        for name in ("emacs/autolock.el", "nvim/plugin/autolock.lua", "vscode/client.js"):
+            text = re.sub(r'"[^"]*"|\?.', lambda it: it[0] if len(it[0]) == 1 else "", (TOP / "editors" / name).read_text())
+            judge(text.count(opening) == text.count(closing), f"{name}: each {opening} has its {closing}")
 
 
 def main():
@@ -128,6 +159,7 @@ def main():
         judge(len(found) == len(set(found)) == len(variants) > 0, f"the lexer's table, {name}")
     text_mate(keywords, signs)
     vim(keywords)
+    others(keywords)
     sys.exit(1 if FAILED else 0)
 
 

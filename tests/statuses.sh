@@ -165,7 +165,7 @@ run "too large a seed" 2 none some outcomes --seed 1000000001 right.al
 run "a count, of serial" 2 none some serial --count 3 right.al
 run "turns that are no number" 2 none some serial --turns many right.al
 run "help" 0 some none --help
-for command in check explain order listing emit serial outcomes simulate trace run replay; do
+for command in check explain format order listing emit serial outcomes simulate trace run replay lsp; do
     if grep -q "^  $command  " out; then
         echo "ok help lists $command"
     else
@@ -179,6 +179,7 @@ run "help on check" 0 some none check --help
 run "a file that is not there" 3 none no_missing.al serial missing.al
 run "a file that is not there, of check" 3 none no_missing.al check missing.al
 run "a file that is not there, of explain" 3 none no_missing.al explain missing.al
+run "a file that is not there, of format" 3 none no_missing.al format missing.al
 run "a file that is not there, of order" 3 none no_missing.al order missing.al
 run "a file that is not there, of outcomes" 3 none no_missing.al outcomes missing.al
 run "a file that is not there, of listing" 3 none no_missing.al listing missing.al
@@ -196,6 +197,7 @@ run "a history file that is not there" 3 none no_missing.al replay right.al miss
 run "a file that is not there, of run" 3 none no_missing.al run missing.al
 run "a folder, and no steps file" 3 none no_folder simulate folder missing.al
 run "a folder, of check" 3 none no_folder check folder
+run "a folder, of format" 3 none no_folder format folder
 run "a folder, of order" 3 none no_folder order folder
 run "a folder, of explain" 3 none no_folder explain folder
 

@@ -57,14 +57,15 @@ same -V
 same -hV
 same -Vh
 same -hx
-for command in check explain order listing emit serial outcomes simulate trace run replay; do
+for command in check explain format order listing emit serial outcomes simulate trace run replay lsp; do
     same help "$command"
     same "$command" --help
     same "$command" -h
     same "$command" -hx
     same "$command" right.al --help
-    same "$command"
-    same "$command" --
+    # (`lsp` alone needs the program)
+    [ "$command" = lsp ] || same "$command"
+    [ "$command" = lsp ] || same "$command" --
     same "$command" -x
     same "$command" --foo
     same "$command" --foo=3
@@ -352,7 +353,7 @@ same serial --turns 3 missing.al
 # The completions and the manual page name what the help names.
 commands=$(sed -n '/^Commands:/,/^$/s/^  \([a-z]*\) .*/\1/p' "$top/script/help/autolock.txt")
 options=$(sed -n 's/^ *\(-[a-zA-Z], \)\{0,1\}--\([a-z]*\).*/\2/p' "$top"/script/help/*.txt | sort -u)
-[ "$(echo $commands)" = "check explain order listing emit serial outcomes simulate trace run replay help" ] || fail "the commands of the help: $commands"
+[ "$(echo $commands)" = "check explain format order listing emit serial outcomes simulate trace run replay lsp help" ] || fail "the commands of the help: $commands"
 [ "$(echo $options)" = "answers cells count full header help json lines open places prefix sections seed turns version why" ] || fail "the options of the help: $options"
 for file in completions/autolock.bash completions/_autolock completions/autolock.fish docs/autolock.1; do
     for word in $commands $options; do
@@ -362,8 +363,8 @@ done
 for command in $commands; do
     about=$(sed -n "s/^  $command  *\(.*\)/\1/p" "$top/script/help/autolock.txt")
     for file in completions/_autolock completions/autolock.fish; do
-        # (zsh wants a colon in a description as \:)
-        sed 's/\\:/:/g' "$top/$file" | grep -qF -- "$about" || fail "$file says something else of $command"
+        # (zsh wants a colon in a description as \:, and both have their ways to write ')
+        sed "s/\\\\:/:/g; s/'\"'\"'/'/g; s/\\\\'/'/g" "$top/$file" | grep -qF -- "$about" || fail "$file says something else of $command"
     done
 done
 
@@ -380,11 +381,11 @@ completes() {
 }
 . "$top/completions/autolock.bash"
 : >x.steps
-completes "check emit explain help listing order outcomes replay run serial simulate trace" ''
+completes "check emit explain format help listing lsp order outcomes replay run serial simulate trace" ''
 completes "serial simulate" s
 completes "right.al" order r
 completes "--build --help --install --proved --uninstall --unproved --version -V -h" -
-completes "check emit explain help listing order outcomes replay run serial simulate trace" --unproved ''
+completes "check emit explain format help listing lsp order outcomes replay run serial simulate trace" --unproved ''
 completes "--turns" serial --t
 completes "--header" emit --hea
 completes "--prefix" emit --p

@@ -1,15 +1,16 @@
 -- What the words ask for.
-use Rattle.std.specs.Prelude.{◌≡◌, ◌⊎◌, ℕ, List, [], ◌∷◌}
+use Rattle.std.specs.Prelude.{◌≡◌, ◌⊎◌, ℕ, List, [], ◌∷◌, codes}
 use Rattle.clap.specs.declared.error.kind.ErrorKind.{ErrorKind}
 use Rattle.clap.specs.declared.error.kind.ErrorKind.TheVariants.{DisplayHelp, DisplayVersion}
 use Rattle.driver.specs.{cannot_read}
 use Rattle.driver_words.specs.declared.line.Line.{Line}
 use Rattle.driver_words.specs.declared.line.Request.{Request}
-use Rattle.driver_words.specs.declared.line.Request.TheVariants.{Alone, Beside, Code}
+use Rattle.driver_words.specs.declared.line.Request.TheVariants.{Alone, Beside, Code, Lsp}
 
--- the names of the files that a request reads, of which the program's is the first
+-- the names of what a request reads, of which the program's file is the first
 abbrev pub files_read : List ℕ → Request → List (List ℕ)
 files_read file (Code code) = []
+files_read file Lsp = codes "standard input" ∷ []
 files_read file (Alone request) = file ∷ []
 files_read file (Beside request other) = file ∷ other.now ∷ []
 

@@ -1,26 +1,26 @@
 //! The program `autolock`: reads its words, opens the files that they name, and runs the engine of
 //! the command on them.
 //!
-//! It exits with 0 where what was asked for was written, 1 where the program's text has a fault, 2 where the words are none of
-//! its own, 3 where reading or writing failed, 4 where memory ran out, 5 where a recorded history differs, 6 where the steps file
-//! or the history file has a fault, 7 where a call is not settled by the given turns, 8 where a thread found another history than
-//! it had left; `--help` and `--version` exit with 0.
+//! It exits with 0 where what was asked for was written, 1 where the program's text has a fault (of `lsp`: where the editor left
+//! without asking to shut down), 2 where the words are none of its own, 3 where reading or writing failed, 4 where memory ran
+//! out, 5 where a recorded history differs, 6 where the steps file or the history file has a fault, 7 where a call is not settled
+//! by the given turns, 8 where a thread found another history than it had left; `--help` and `--version` exit with 0.
 #![tactic(auto)]
 
 mod watch;
 
-ghost use Rattle.std.specs.Prelude.{◌≡◌, ◌≢◌, ◌⊎◌, false, IfOk, map, string_bytes};
+ghost use Rattle.std.specs.Prelude.{◌≡◌, ◌≢◌, ◌⊎◌, false, IfOk, codes, map, string_bytes};
 ghost use Rattle.autolock.specs.Asked.{files_of, NamesOneOf, IsAsked};
 ghost use Rattle.clap.specs.Values.{kind_of};
-ghost use Rattle.driver.specs.{Tells, cannot_write, no_memory, name_of, reading_failed, writing_failed};
+ghost use Rattle.driver.specs.{Tells, cannot_read, cannot_write, no_memory, name_of, reading_failed, writing_failed};
 
 use clap::Error;
 use clap::error::ErrorKind;
-use driver::{Sink, SourceText, Status, Streams, explain_code, serve, serve_beside};
+use driver::{Sink, SourceText, Status, Streams, explain_code, lsp, serve, serve_beside};
 use driver_words::{Line, Request, words};
 use std::alloc::{AllocError, Global};
 use std::fs::File;
-use std::io::{IsTerminal, Read, Write};
+use std::io::{BufReader, IsTerminal, Read, Write};
 use std::process::ExitCode;
 use std::sync::Wait;
 use std::thread::{Threads, join};
@@ -38,6 +38,20 @@ fn source_text<'a>(rt: &HostRuntime, file: &'a str) -> SourceText<'a, File>
     }
 }
 
+/// Serves an editor over standard input and output.
+fn serve_editor<O: Write, E: Write>(rt: &HostRuntime, streams: &mut Streams<O, E>) -> Status
+    ensures words { result ≢ Status.BadWords }
+    ensures failed { result ≡ Status.Failed → Tells E.contents streams.old.err streams.new.err (cannot_read (codes "standard input"))
+        ⊎ Tells E.contents streams.old.err streams.new.err cannot_write }
+    ensures memory { result ≡ Status.OutOfMemory → Tells E.contents streams.old.err streams.new.err no_memory }
+{
+    let Ok(mut reader) = BufReader::new(rt.alloc(), rt.stdin()) else {
+        streams.tell_no_memory();
+        return Status::OutOfMemory;
+    };
+    lsp(rt.alloc(), &mut reader, &mut rt.stdout(), streams)
+}
+
 /// Opens the files of a line, and answers what it asks for, with threads from `threads`.
 fn run_line<R: Threads + Wait + Sync, O: Write, E: Write>(
     rt: &HostRuntime,
@@ -53,6 +67,7 @@ fn run_line<R: Threads + Wait + Sync, O: Write, E: Write>(
 {
     match line.request {
         Request::Code(code) => explain_code(rt.alloc(), code, streams),
+        Request::Lsp => serve_editor(rt, streams),
         Request::Alone(request) => {
             let mut source = source_text(rt, line.file);
             serve(threads, rt.alloc(), request, &mut source, streams)

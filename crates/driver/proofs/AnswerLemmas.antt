@@ -3,13 +3,14 @@ use Rattle.std.proofs.Common.{◌≡◌, ℕ, List}
 use Rattle.driver_words.specs.declared.line.Beside.{Beside}
 use Rattle.driver_words.specs.declared.line.Beside.TheVariants.{Simulate, Trace, Replay}
 use Rattle.driver_words.specs.declared.line.Alone.{Alone}
-use Rattle.driver_words.specs.declared.line.Alone.TheVariants.{Report as of_report, Order, Explain, Run}
+use Rattle.driver_words.specs.declared.line.Alone.TheVariants.{Report as of_report, Order, Explain, Format, Run}
 use Rattle.driver_words.specs.declared.line.Report.{Report}
 use Rattle.driver_words.specs.declared.line.Report.TheVariants.{Check, Listing, Serial, Outcomes, Emit}
 use Rattle.lowering.specs.Plans.{Plan}
 use Rattle.driver.specs.declared.status.Status.{Status}
 use Rattle.driver.specs.Answers.{accepted, refused}
-use Rattle.driver.specs.Explanations.{faultless, explained, cycle_explained}
+use Rattle.driver.specs.Explanations.{faultless, explained}
+use Rattle.driver.specs.Formats.{laid_out, unformatted}
 use Rattle.driver.specs.OrderGraphs as graphs
 use Rattle.driver.specs.Outcomes as outcomes
 use Rattle.driver.specs.Requests.{IsReport, IsReportBeside, AloneAnswers, BesideAnswers}
@@ -45,7 +46,8 @@ alone_is_answered Order file text status out err (graphs.cyclic is) = serving.re
 alone_is_answered Order file text status out err (graphs.refused is bare) = serving.refused is.ended
 alone_is_answered (Explain json) file text status out err (faultless is) = serving.done is.ended
 alone_is_answered (Explain json) file text status out err (explained is) = serving.refused is.ended
-alone_is_answered (Explain json) file text status out err (cycle_explained is) = serving.refused is.ended
+alone_is_answered Format file text status out err (laid_out is) = serving.done is.ended
+alone_is_answered Format file text status out err (unformatted is) = serving.refused is.ended
 alone_is_answered Run file text status out err (accepted plan accepts compiled (written is)) = serving.done is.ended
 alone_is_answered Run file text status out err (accepted plan accepts compiled (was_strange is)) = serving.strange is.ended
 alone_is_answered Run file text status out err (refused is) = serving.refused is.ended

@@ -7,6 +7,7 @@ pub mod ReadingLemmas
 pub mod ValueLemmas
 pub mod LongTexts
 pub mod LongExplanations
+pub mod LongFormats
 pub mod LongOrders
 pub mod ServingLemmas
 pub mod AnswerLemmas

@@ -25,7 +25,11 @@ use Rattle.source.specs.declared.fault.Fault.{Fault}
 use Rattle.source.specs.Faults.{fault_text}
 use Rattle.source.specs.Texts.{SOURCE_LIMIT}
 use Rattle.driver.specs.declared.status.Status.{Status}
-use Rattle.driver.specs.Explanations.{ExplainAnswers, faultless, explained, cycle_explained, fault_told}
+use Rattle.driver.specs.declared.status.Status.TheVariants.{Refused}
+use Rattle.driver.specs.Explanations.{ExplainAnswers, faultless, explained, fault_told}
+use Rattle.explanation.specs.Warnings.{Warning}
+use Rattle.explanations.specs.Told as told
+use Rattle.explanations.specs.Told.{IsToldOf, accepted, faulty}
 use Rattle.driver.proofs.LongTexts.{IsLong, none_accepted, given_of_long, of_limit, starts_at_0, told_alike}
 
 place_alike : (t u : List ℕ) (start : ℕ) → start ≡ 0 → shown_place t 0 ≡ shown_place u 0 →
@@ -108,25 +112,34 @@ tell_alike t u code at notes long longer are = record {
 pub no_cycle : (program : Typed) (fault : Fault) → fault.code ≡ LimitExceeded → IsFaultAtFirst program fault → ⊥
 no_cycle program fault limit (at_first c rest number used bound cycle makes starts code detail) = absurd cc
 
-explained_of_long : (json : Bool) (file t u : List ℕ) (status : Status) (out err : List ℕ) → IsLong t → IsLong u →
-    AreAlike file t u →
-    ExplainAnswers json file t status out err → ExplainAnswers json file u status out err
-explained_of_long json file t u status out err long longer same (faultless is) = absurd (none_accepted t is.program long is.accepts)
-explained_of_long json file t u status out err long longer same (explained is) =
-    explained (record {
-      fault = is.fault;
-      given = given_of_long t u is.fault long longer is.given;
-      bare = is.bare;
-      notes = is.notes;
-      tell = tell_alike t u is.fault.code is.fault.start is.notes long longer is.tell;
-      ended = is.ended;
-      written = is.written ∙ told_of_start json file t u is.fault is.notes (starts_at_0 t is.fault long is.given)
-          (All-weaker (IsTrueTextNote t is.fault.code is.fault.start) (λ (note : Note). note.start ≡ None) (λ note true_note. of_whole long true_note)
-          is.notes is.tell.are_true) same;
-      told = is.told;
-    })
-explained_of_long json file t u status out err long longer same (cycle_explained is) =
-    absurd (no_cycle is.program is.fault (of_limit t is.fault long is.given) is.of_order)
+module _ (json : Bool) (file t u : List ℕ) (status : Status) (out err : List ℕ) (long : IsLong t) (longer : IsLong u)
+    (same : AreAlike file t u) where
+  fault_of_long : (fault : Fault) (notes : List Note) → IsToldOf t (faulty fault notes) → status ≡ Refused →
+      out ≡ fault_told json file t fault notes → err ≡ [] → ExplainAnswers json file u status out err
+  fault_of_long fault notes (told.explained is) ended written none =
+      explained (record {
+        fault = fault;
+        notes = notes;
+        tell = told.explained (record {
+          given = given_of_long t u fault long longer is.given;
+          bare = is.bare;
+          tell = tell_alike t u fault.code fault.start notes long longer is.tell;
+        });
+        ended = ended;
+        written = written ∙ told_of_start json file t u fault notes (starts_at_0 t fault long is.given)
+            (All-weaker (IsTrueTextNote t fault.code fault.start) (λ (note : Note). note.start ≡ None) (λ note true_note. of_whole long true_note)
+            notes is.tell.are_true) same;
+        told = none;
+      })
+  fault_of_long fault notes (told.cycle_explained is) ended written none =
+      absurd (no_cycle is.program fault (of_limit t fault long is.given) is.of_order)
+
+  not_accepted : (notes : List Note) (warnings : List Warning) → IsToldOf t (accepted notes warnings) → ⊥
+  not_accepted notes warnings (told.faultless is) = none_accepted t is.program long is.accepts
+
+  explained_of_long : ExplainAnswers json file t status out err → ExplainAnswers json file u status out err
+  explained_of_long (faultless is) = absurd (not_accepted is.notes is.warnings is.tell)
+  explained_of_long (explained is) = fault_of_long is.fault is.notes is.tell is.ended is.written is.told
 
 -- what is answered for the beginning of a text is answered for the text
 pub explained_of_whole : ShownByFirstBytes → FaultByFirstBytes →

@@ -21,11 +21,11 @@ abbrev pub IsLong : List ℕ → Type 0
 IsLong text = SOURCE_LIMIT < length text
 
 -- it has one fault alone
-code_of_long : {text : List ℕ} {code : Code} {start : ℕ} → IsFault text code start → IsLong text → code ≡ LimitExceeded
+pub code_of_long : {text : List ℕ} {code : Code} {start : ℕ} → IsFault text code start → IsLong text → code ≡ LimitExceeded
 code_of_long (too_big over) long = refl
 code_of_long (within few fault) long = absurd (omega arith)
 
-start_of_long : {text : List ℕ} {code : Code} {start : ℕ} → IsFault text code start → IsLong text → start ≡ 0
+pub start_of_long : {text : List ℕ} {code : Code} {start : ℕ} → IsFault text code start → IsLong text → start ≡ 0
 start_of_long (too_big over) long = refl
 start_of_long (within few fault) long = absurd (omega arith)
 

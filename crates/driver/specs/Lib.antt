@@ -5,6 +5,7 @@ pub mod Serial
 pub mod Checks
 pub mod Emissions
 pub mod Explanations
+pub mod Formats
 pub mod Listings
 pub mod OrderGraphs
 pub mod Outcomes
@@ -14,6 +15,7 @@ pub mod Replays
 pub mod ThreadRuns
 pub mod Requests
 pub mod Engines
+pub mod Editors
 pub mod Pages
 pub mod Working
 -- what the public clauses cite
@@ -25,3 +27,4 @@ pub use Rattle.driver.specs.Answers.{TextAnswers, OfOne, OfTwo}
 pub use Rattle.driver.specs.Requests.{AloneAnswers, BesideAnswers}
 pub use Rattle.driver.specs.Engines.{Serves, Reading, reading_of}
 pub use Rattle.driver.specs.Pages.{ServesPage}
+pub use Rattle.driver.specs.Editors.{IsServed}

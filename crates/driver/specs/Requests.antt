@@ -12,6 +12,7 @@ use Rattle.driver.specs.Answers.{TextAnswers}
 use Rattle.driver.specs.Checks.{IsCheckReport}
 use Rattle.driver.specs.Emissions.{IsEmitted}
 use Rattle.driver.specs.Explanations.{ExplainAnswers}
+use Rattle.driver.specs.Formats.{FormatAnswers}
 use Rattle.driver.specs.Listings.{IsListed}
 use Rattle.driver.specs.OrderGraphs.{OrderAnswers}
 use Rattle.driver.specs.Outcomes.{IsLookedAt}
@@ -40,6 +41,7 @@ abbrev pub AloneAnswers : Alone → List ℕ → List ℕ → Status → List �
 AloneAnswers (alone.Report report) file text = TextAnswers (IsReport report text) file text
 AloneAnswers alone.Order file text = OrderAnswers file text
 AloneAnswers (alone.Explain json) file text = ExplainAnswers json file text
+AloneAnswers alone.Format file text = FormatAnswers file text
 AloneAnswers alone.Run file text = TextAnswers IsThreadsRun file text
 
 -- and for the texts of that and of another file, of these names

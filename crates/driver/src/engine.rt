@@ -8,6 +8,7 @@ ghost use Rattle.driver.specs.Streams.{name_of, reading_failed, writing_failed};
 
 use crate::answer::{Named, beside_answer, report_answer, threads_answer};
 use crate::explaining::explain;
+use crate::formats::format;
 use crate::ordering::order_graph;
 use crate::source_text::SourceText;
 use crate::status::Status;
@@ -55,6 +56,7 @@ pub fn serve<R: Threads + Wait + Sync, S: Read, O: Write, E: Write>(
         Alone::Report(report) => serve_report(alloc, report, source, streams),
         Alone::Order => order_graph(alloc, source, streams),
         Alone::Explain { json } => explain(alloc, json, source, streams),
+        Alone::Format => format(alloc, source, streams),
         Alone::Run => run(threads, alloc, source, streams),
     }
 }

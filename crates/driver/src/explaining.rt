@@ -1,44 +1,27 @@
 //! The engine of `explain`.
 
 ghost use Rattle.std.specs.Prelude.{◌≡◌, [], false, IfOk, string_bytes};
-ghost use Rattle.compiler.specs.Cycles.{IsCyclic};
-ghost use Rattle.compiler.specs.Working.Orders.{IsOrdered};
-ghost use Rattle.compiler.specs.Programs.{IsOfFirstPass};
-ghost use Rattle.driver.specs.Working.Answering.{Meets, IsExplainedAnswer, acceptance_told_of, fault_told_of};
+ghost use Rattle.driver.specs.Working.Answering.{Meets, IsAcceptedAnswer, IsExplainedAnswer};
+ghost use Rattle.driver.specs.Working.Answering.{acceptance_told_of, fault_told_of};
 ghost use Rattle.driver.specs.Answers.{OfOne};
 ghost use Rattle.driver.specs.Engines.{Serves, reading_of};
 ghost use Rattle.driver.specs.Explanations.{ExplainAnswers};
 ghost use Rattle.driver.specs.Requests.{AloneAnswers};
 ghost use Rattle.driver.specs.Streams.{name_of, reading_failed, writing_failed};
 
-use crate::answer::Answer;
+use crate::answer::{Answer, Named};
 use crate::engine::MOST_BYTES;
 use crate::source_text::SourceText;
 use crate::status::Status;
 use crate::streams::Streams;
-use compiler::{Cyclic, Ordered, examine};
 use driver_words::Alone;
 use explanation::{Acceptance, Explanation};
-use explanation_cycles::{cycle_notes, order_notes};
-use explanation_faults::fault_notes;
 use explanation_json::{accepted_json, fault_json};
-use explanation_warnings::text_warnings;
+use explanations::{Told, told_of};
 use rope::Rope;
-use source::fault::{Fault, Refusal};
 use source::memory::NoMemory;
 use std::alloc::Global;
 use std::io::{Read, Write};
-
-/// A text that is to be explained, and how.
-#[derive(Clone, Copy)]
-struct Asked<'a> {
-    /// Whether it is explained as JSON.
-    json: bool,
-    /// The name of the text's file.
-    file: &'a str,
-    /// The text.
-    text: &'a [u8],
-}
 
 /// What explains a fault.
 fn fault_told(alloc: Global, json: bool, explanation: &Explanation<'_>) -> Result<String, NoMemory>
@@ -72,68 +55,38 @@ fn explained(alloc: Global, json: bool, explanation: &Explanation<'_>) -> Result
     Ok(Answer::written(alloc, Status::Refused, Rope::of(alloc, out)))
 }
 
-/// What is told of a fault with no detail.
-fn fault_explained(alloc: Global, asked: &Asked<'_>, fault: &Fault) -> Result<Answer, NoMemory>
-    requires given { IsOfFirstPass asked.now.text.now fault.now }
-    requires bare { string_bytes fault.now.detail ≡ [] }
-    ensures { IfOk result (Meets (ExplainAnswers asked.now.json asked.now.file.now asked.now.text.now)) }
+/// What is told of a program without one.
+fn accepted(alloc: Global, json: bool, acceptance: &Acceptance<'_>) -> Result<Answer, NoMemory>
+    ensures { IfOk result (IsAcceptedAnswer json acceptance.now) }
 {
-    let notes = fault_notes(alloc, asked.text, fault)?;
-    let explanation = Explanation {
-        file: asked.file,
-        text: asked.text,
-        fault,
-        notes: &notes,
-    };
-    explained(alloc, asked.json, &explanation)
-}
-
-/// What is told of a cycle.
-fn cycle_explained(alloc: Global, asked: &Asked<'_>, cyclic: &Cyclic) -> Result<Answer, NoMemory>
-    requires { IsCyclic asked.now.text.now cyclic.now }
-    ensures { IfOk result (Meets (ExplainAnswers asked.now.json asked.now.file.now asked.now.text.now)) }
-{
-    let notes = cycle_notes(alloc, cyclic.trees.program(), &cyclic.paths, &cyclic.edges)?;
-    let explanation = Explanation {
-        file: asked.file,
-        text: asked.text,
-        fault: &cyclic.fault,
-        notes: &notes,
-    };
-    explained(alloc, asked.json, &explanation)
-}
-
-/// What is told of a text that is accepted.
-fn order_explained(alloc: Global, asked: &Asked<'_>, ordered: &Ordered) -> Result<Answer, NoMemory>
-    requires { IsOrdered asked.now.text.now ordered.now }
-    ensures { IfOk result (Meets (ExplainAnswers asked.now.json asked.now.file.now asked.now.text.now)) }
-{
-    let notes = order_notes(
-        alloc,
-        ordered.trees.program(),
-        &ordered.paths,
-        &ordered.ranks,
-    )?;
-    let warnings = text_warnings(alloc, asked.text)?;
-    let acceptance = Acceptance {
-        file: asked.file,
-        text: asked.text,
-        notes: &notes,
-        warnings: &warnings,
-    };
-    let out = acceptance_told(alloc, asked.json, &acceptance)?;
+    let out = acceptance_told(alloc, json, acceptance)?;
     Ok(Answer::done(alloc, Rope::of(alloc, out)))
 }
 
 /// What is answered for a text.
-fn explain_answer(alloc: Global, asked: &Asked<'_>) -> Result<Answer, NoMemory>
-    ensures { IfOk result (Meets (ExplainAnswers asked.now.json asked.now.file.now asked.now.text.now)) }
+fn explain_answer(alloc: Global, json: bool, source: &Named<'_>) -> Result<Answer, NoMemory>
+    ensures { IfOk result (Meets (ExplainAnswers json source.now.file.now source.now.text.now)) }
 {
-    match examine(alloc, asked.text) {
-        Ok(Ok(ordered)) => order_explained(alloc, asked, &ordered),
-        Ok(Err(cyclic)) => cycle_explained(alloc, asked, &cyclic),
-        Err(Refusal::Fault(fault)) => fault_explained(alloc, asked, &fault),
-        Err(Refusal::NoMemory) => Err(NoMemory),
+    let Named { file, text } = *source;
+    match told_of(alloc, text)? {
+        Told::Faulty { fault, notes } => {
+            let explanation = Explanation {
+                file,
+                text,
+                fault: &fault,
+                notes: &notes,
+            };
+            explained(alloc, json, &explanation)
+        }
+        Told::Accepted { notes, warnings } => {
+            let acceptance = Acceptance {
+                file,
+                text,
+                notes: &notes,
+                warnings: &warnings,
+            };
+            accepted(alloc, json, &acceptance)
+        }
     }
 }
 
@@ -161,11 +114,10 @@ pub fn explain<S: Read, O: Write, E: Write>(
         Ok(text) => text,
         Err(status) => return status,
     };
-    let asked = Asked {
-        json,
+    let named = Named {
         file: source.name(),
         text: &text,
     };
-    let answer = explain_answer(alloc, &asked);
+    let answer = explain_answer(alloc, json, &named);
     streams.give(&answer)
 }

@@ -13,6 +13,8 @@
 //!   (`Outcomes`).
 //! - [`order_graph`]: which lock class has to come before which, as a graph (`OrderGraphs`).
 //! - [`explain`]: the fault of a program, with its place in the source (`Explanations`). [`explain_code`]: what a code means (`Pages`).
+//! - [`format`]: the text in its layout (`Formats`).
+//! - [`lsp`]: an editor's messages, each answered in turn (`Editors`).
 //! - [`run`]: a history of the program's scripts, each run by a thread of its own (`ThreadRuns`).
 //! - [`simulate`]: the world after the steps of a steps file (`Simulations`). The steps one after another, and the world after
 //!   them (`Traces`). [`replay`]: the verdict on a recorded history, and why it differs (`Replays`).
@@ -22,9 +24,11 @@
 
 mod answer;
 mod code_pages;
+mod editors;
 mod engine;
 mod explaining;
 mod exploring;
+mod formats;
 mod order_calls;
 mod ordering;
 mod replaying;
@@ -40,10 +44,12 @@ mod tracing;
 mod why;
 
 pub use code_pages::explain_code;
+pub use editors::lsp;
 pub use engine::{
     check, listing, replay, run, serial, serve, serve_beside, serve_report, simulate,
 };
 pub use explaining::explain;
+pub use formats::format;
 pub use ordering::order_graph;
 pub use sink::Sink;
 pub use source_text::{ReadError, SourceText};

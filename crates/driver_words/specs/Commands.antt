@@ -135,6 +135,10 @@ with_check app = with_subcommand app (with_file (codes "check")).top
 abbrev pub with_explain : App → App
 with_explain app = with_subcommand app (with_json (with_file (codes "explain"))).top
 
+-- autolock format FILE
+abbrev pub with_format : App → App
+with_format app = with_subcommand app (with_file (codes "format")).top
+
 -- autolock order FILE
 abbrev pub with_order : App → App
 with_order app = with_subcommand app (with_file (codes "order")).top
@@ -173,11 +177,15 @@ with_run app = with_subcommand app (with_file (codes "run")).top
 abbrev pub with_replay : App → App
 with_replay app = with_subcommand app (with_open (with_why (with_turns (with_history (with_file (codes "replay")))))).top
 
+-- autolock lsp
+abbrev pub with_lsp : App → App
+with_lsp app = with_subcommand app (new_app (codes "lsp")).top
+
 -- the whole command line
 abbrev pub autolock : App
 autolock =
-    with_replay (with_run (with_trace (with_simulate (with_outcomes (with_serial (with_emit (with_listing (with_order
-    (with_explain (with_check program))))))))))
+    with_lsp (with_replay (with_run (with_trace (with_simulate (with_outcomes (with_serial (with_emit (with_listing (with_order
+    (with_format (with_explain (with_check program))))))))))))
 
 -- the command is that one, and has no global argument
 abbrev pub IsCommand : App → Command → Type 0

@@ -10,7 +10,7 @@ use Rattle.clap.specs.declared.error.Error.{Error}
 use Rattle.driver_words.specs.Codes.{code_named, is_code_word}
 use Rattle.driver_words.specs.Commands.{autolock}
 use Rattle.driver_words.specs.declared.line.Alone.{Alone}
-use Rattle.driver_words.specs.declared.line.Alone.TheVariants.{Report, Order, Explain, Run}
+use Rattle.driver_words.specs.declared.line.Alone.TheVariants.{Report, Order, Explain, Format, Run}
 use Rattle.driver_words.specs.declared.line.Beside.{Beside}
 use Rattle.driver_words.specs.declared.line.Beside.TheVariants.{Simulate, Trace, Replay}
 use Rattle.driver_words.specs.declared.line.Line.{Line}
@@ -82,6 +82,7 @@ IsAlone command rows (Report (Emit emission)) =
     × (emission.file.now ≡ name_in (codes "FILE") rows)
 IsAlone command rows Order = command ≡ codes "order"
 IsAlone command rows (Explain json) = (command ≡ codes "explain") × IsFlag (codes "json") rows json × GivesFile json rows
+IsAlone command rows Format = command ≡ codes "format"
 IsAlone command rows Run = command ≡ codes "run"
 
 -- what is asked of it and of another file is that command
@@ -95,6 +96,7 @@ IsBeside command rows (Replay judging) other =
 
 abbrev pub IsRequest : Text → List Row → Request → Type 0
 IsRequest command rows (request.Code code) = GivesCode command rows × (code_named (word_in rows) ≡ Some code)
+IsRequest command rows request.Lsp = command ≡ codes "lsp"
 IsRequest command rows (request.Alone alone) = IsAlone command rows alone
 IsRequest command rows (request.Beside beside other) = IsBeside command rows beside other.now
 
@@ -110,9 +112,10 @@ IsLineOf (Some (command, rows)) line = IsLine command rows line
 -- a name of the program's own subcommands
 abbrev pub IsOwnName : Text → Type 0
 IsOwnName command =
-    (command ≡ codes "check") ⊎ ((command ≡ codes "explain") ⊎ ((command ≡ codes "order") ⊎ ((command ≡ codes "listing")
-    ⊎ ((command ≡ codes "emit") ⊎ ((command ≡ codes "serial") ⊎ ((command ≡ codes "outcomes") ⊎ ((command ≡ codes "simulate")
-    ⊎ ((command ≡ codes "trace") ⊎ ((command ≡ codes "run") ⊎ (command ≡ codes "replay"))))))))))
+    (command ≡ codes "check") ⊎ ((command ≡ codes "explain") ⊎ ((command ≡ codes "format") ⊎ ((command ≡ codes "order")
+    ⊎ ((command ≡ codes "listing") ⊎ ((command ≡ codes "emit") ⊎ ((command ≡ codes "serial") ⊎ ((command ≡ codes "outcomes")
+    ⊎ ((command ≡ codes "simulate") ⊎ ((command ≡ codes "trace") ⊎ ((command ≡ codes "run") ⊎ ((command ≡ codes "replay")
+    ⊎ (command ≡ codes "lsp"))))))))))))
 
 -- ---- what names of C begin with
 

@@ -1,7 +1,7 @@
 //! The commands and their arguments.
 
 ghost use Rattle.std.specs.Prelude.{◌≡◌, IfOk, codes, false};
-ghost use Rattle.clap.specs.Words.{rule_of};
+ghost use Rattle.clap.specs.Words.{new_app, rule_of};
 ghost use Rattle.driver_words.specs.Commands.{Adds, AddsRule, IsCommand, autolock, with_file, with_steps, with_history};
 ghost use Rattle.driver_words.specs.Commands.{file_rule, flag_rule, number_rule, count_rule, prefix_rule, seed_rule, turns_rule};
 ghost use Rattle.driver_words.specs.Commands.{with_count, with_header, with_json, with_lines, with_open, with_places, with_prefix};
@@ -136,6 +136,15 @@ fn explain_command<'a>(alloc: Global) -> Result<Command<'a>, AllocError>
     operand_command(alloc, "explain", about, operand)?.arg(flag_argument(alloc, "json", help))
 }
 
+/// `lsp`.
+fn lsp_command<'a>(alloc: Global) -> Command<'a>
+    ensures { IsCommand (new_app (codes "lsp")) result }
+{
+    Command::new(alloc, "lsp").about(
+        "Serve an editor by the language server protocol, over standard input and output",
+    )
+}
+
 /// `listing`.
 fn listing_command<'a>(alloc: Global) -> Result<Command<'a>, AllocError>
     ensures { IfOk result (IsCommand (with_places (with_file (codes "listing")))) }
@@ -265,6 +274,8 @@ pub fn command<'a>(alloc: Global) -> Result<Command<'a>, AllocError>
     let about = "Say in which order locks are taken, and which ones before each statement";
     let line = with_command(Ok(line), file_command(alloc, "check", about));
     let line = with_command(line, explain_command(alloc));
+    let about = "Write the program's text laid out anew, with its tokens and comments";
+    let line = with_command(line, file_command(alloc, "format", about));
     let about =
         "Write the order of the lock classes as a graph in DOT: which has to come before which, and why";
     let line = with_command(line, file_command(alloc, "order", about));
@@ -275,5 +286,6 @@ pub fn command<'a>(alloc: Global) -> Result<Command<'a>, AllocError>
     let line = with_command(line, simulate_command(alloc));
     let line = with_command(line, trace_command(alloc));
     let line = with_command(line, run_command(alloc));
-    with_command(line, replay_command(alloc))
+    let line = with_command(line, replay_command(alloc));
+    with_command(line, Ok(lsp_command(alloc)))
 }

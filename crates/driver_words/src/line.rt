@@ -25,6 +25,8 @@ pub struct Line<'a> {
 pub enum Request<'a> {
     /// `explain CODE`: what a code of a fault means. No file is read.
     Code(Code),
+    /// `lsp`: serve an editor, over the input and the output of the process. No file is read.
+    Lsp,
     /// A command that reads the program's file alone.
     Alone(Alone<'a>),
     /// A command that reads another file beside it, of this name, as it was given.
@@ -43,6 +45,8 @@ pub enum Alone<'a> {
         /// Whether it is told as JSON.
         json: bool,
     },
+    /// `format`: the text in its layout.
+    Format,
     /// `run`: run the calls of each thread in a thread of its own.
     Run,
 }

@@ -92,6 +92,7 @@ fn request<'a>(command: &str, matches: &ArgMatches<'a>) -> Result<Request<'a>, U
     let request = match command {
         "check" => Request::Alone(Alone::Report(Report::Check)),
         "explain" => return explaining(matches),
+        "format" => Request::Alone(Alone::Format),
         "order" => Request::Alone(Alone::Order),
         "listing" => Request::Alone(Alone::Report(Report::Listing {
             places: flag(matches, "places"),
@@ -120,6 +121,7 @@ fn request<'a>(command: &str, matches: &ArgMatches<'a>) -> Result<Request<'a>, U
             };
             Request::Beside(Beside::Replay(judging), name(matches, "HISTORY"))
         }
+        "lsp" => Request::Lsp,
         _ => return Err(Unasked::NoCommand),
     };
     Ok(request)

@@ -61,7 +61,11 @@ fn warning_values(
 }
 
 /// The text of a fault, with the classes of a cycle.
-fn fault_words(alloc: Global, fault: &Fault) -> Result<String, AllocError>
+///
+/// # Errors
+///
+/// A refused growth.
+pub fn fault_words(alloc: Global, fault: &Fault) -> Result<String, AllocError>
     ensures { IfOk result (λ words. string_bytes words ≡ fault_words_of fault.now) }
 {
     let mut words = String::from_str(alloc, fault.code.text())?;

@@ -25,8 +25,9 @@ fn word_length(bytes: &[u8]) -> usize
         .count()
 }
 
-/// Where what begins at a place ends.
-fn end_of(text: &[u8], start: usize) -> usize
+/// Where what begins at a place ends: behind the word that begins there, of which 64 bytes are looked at, or behind
+/// the one byte there; at the text's end that itself.
+pub fn end_of(text: &[u8], start: usize) -> usize
     ensures { result ≡ object.end_of text.now start }
 {
     let rest = &text[start.min(text.len())..];

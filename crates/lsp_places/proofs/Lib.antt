@@ -1,1 +1,4 @@
+mod DeclarationLemmas
+mod PlaceLemmas
 mod SymbolLemmas
+mod TableLemmas

@@ -103,7 +103,7 @@ fn declared(tokens: &[Token], at: usize) -> Option<Kind>
 }
 
 /// What the name of the top level is that a token is, so many braces deep.
-fn symbol_at(tokens: &[Token], depth: usize, at: usize) -> Option<Symbol>
+pub(crate) fn symbol_at(tokens: &[Token], depth: usize, at: usize) -> Option<Symbol>
     ensures { result ≡ names.symbol_at tokens.now depth at }
 {
     if depth != 0 || text_at(tokens, at).is_none() {
@@ -116,7 +116,7 @@ fn symbol_at(tokens: &[Token], depth: usize, at: usize) -> Option<Symbol>
 }
 
 /// How many braces deep the tokens behind this one stand; it stands so many deep.
-fn depth_behind(depth: usize, sign: Option<Sign>) -> usize
+pub(crate) fn depth_behind(depth: usize, sign: Option<Sign>) -> usize
     requires { depth + 1 < 2 ^ 64 }
     ensures depth { result ≡ names.depth_behind depth sign }
     ensures more { result ≤ depth + 1 }

@@ -1,2 +1,3 @@
 -- What the code computes, for its clauses. Nobody has to believe these files.
+pub mod Marks
 pub mod Steps

@@ -1,11 +1,7 @@
 //! From bytes to positions.
 
-ghost use Rattle.std.specs.Prelude.{◌≡◌, ◌+◌, ◌*◌, ◌<◌, ◌≤◌, length, slice_get};
+ghost use Rattle.std.specs.Prelude.{◌≡◌, ◌+◌, ◌*◌, ◌<◌, ◌≤◌, ◌^◌, length, slice_get};
 ghost use Rattle.lsp_positions.specs.Positions as positions;
-ghost use Rattle.lsp_positions.specs.declared.walking.TheConstants.{TEXT_LIMIT};
-
-/// The most bytes of a text.
-pub const TEXT_LIMIT: usize = 0x4000_0000_0000_0000;
 
 /// A place in a text.
 #[derive(Clone, Copy, Debug, PartialEq, Eq)]
@@ -51,7 +47,7 @@ impl Position {
     /// The place behind a byte, before this one.
     fn behind(self, byte: u8, next: Option<u8>) -> Position
         requires lines { self.line < 2 ^ 63 }
-        requires units { self.unit < 2 ^ 63 }
+        requires units { self.unit + 2 < 2 ^ 64 }
         ensures place { result ≡ positions.behind self byte next }
         ensures few_lines { result.line ≤ self.line + 1 }
         ensures few_units { result.unit ≤ self.unit + 2 }
@@ -79,19 +75,18 @@ pub struct Walker<'a> {
     at: usize,
     position: Position,
     ghost within: { at ≤ length text.now },
-    ghost short: { length text.now ≤ TEXT_LIMIT },
+    ghost short: { length text.now < 2 ^ 63 },
     ghost is: { position ≡ positions.position_of text.now at },
     ghost few_lines: { position.line ≤ at },
     ghost few_units: { position.unit ≤ 2 * at },
 }
 
 impl<'a> Walker<'a> {
-    ghost use Rattle.std.specs.Prelude.{◌≡◌, ◌≤◌, length};
+    ghost use Rattle.std.specs.Prelude.{◌≡◌, ◌<◌, ◌^◌, length};
     ghost use Rattle.lsp_positions.specs.Positions as positions;
 
     /// At the beginning of a text.
     pub fn new(text: &'a [u8]) -> Walker<'a>
-        requires { length text.now ≤ TEXT_LIMIT }
         ensures same { result.text.now ≡ text.entry.now }
         ensures first { result.at ≡ 0 }
     {

@@ -12,8 +12,7 @@ use Rattle.lsp_places.specs.Names.{text_at, symbols}
 use Rattle.lsp_places.specs.declared.names.Kind.{Kind}
 use Rattle.lsp_places.specs.declared.names.Kind.TheVariants as kind
 use Rattle.lsp_places.specs.declared.names.Symbol.{Symbol}
-use Rattle.lsp_positions.specs.Positions.{position_of}
-use Rattle.lsp_positions.specs.declared.walking.Position.{Position}
+use Rattle.lsp_ranges.specs.Ranges.{range_data}
 
 -- the protocol's numbers: a constant, a struct, a variable, an array, a function, an event
 abbrev pub kind_code : Kind → ℕ
@@ -35,15 +34,6 @@ start_at tokens at = start_in (slice_get tokens at)
 
 abbrev pub name_at : List Token → ℕ → List ℕ
 name_at tokens at = unwrap_or (text_at tokens at) []
-
--- {"character":UNIT,"line":LINE}
-abbrev pub place_data : Position → Data
-place_data place = object (member (codes "character") (number (unsigned place.unit)) (member (codes "line") (number (unsigned place.line)) no_members))
-
--- {"end":PLACE,"start":PLACE}
-abbrev pub range_data : List ℕ → ℕ → ℕ → Data
-range_data text start end =
-    object (member (codes "end") (place_data (position_of text end)) (member (codes "start") (place_data (position_of text start)) no_members))
 
 -- where a name stands
 abbrev pub name_range : List ℕ → List Token → ℕ → Data

@@ -2,7 +2,7 @@
 
 ghost use Rattle.std.specs.Prelude.{◌≡◌, ◌+◌, ◌≤◌, false, length, map, IfOk};
 ghost use Rattle.serde_json.specs.Data.{array, no_items};
-ghost use Rattle.lsp_positions.specs.Positions.{position_of};
+ghost use Rattle.lsp_ranges.specs.Ranges.{range_data};
 ghost use Rattle.serde_json.specs.View.{view, items_of};
 ghost use Rattle.serde_json.specs.Written.{has_float};
 ghost use Rattle.source.specs.Texts.{SOURCE_LIMIT};
@@ -10,7 +10,8 @@ ghost use Rattle.lsp_symbols.specs.DocumentSymbols as list;
 
 use lexer::lex;
 use lsp_places::{Kind, Symbol, symbols};
-use lsp_positions::{Position, Walker};
+use lsp_positions::Walker;
+use lsp_ranges::range_value;
 use serde_json::{Value, json};
 use source::fault::Refusal;
 use source::memory::NoMemory;
@@ -56,32 +57,31 @@ fn name_at(tokens: &[Token], at: usize) -> Name<'_>
     }
 }
 
-/// A place.
-fn place_value(alloc: Global, place: Position) -> Result<Value, AllocError>
-    ensures { IfOk result (λ told. view told ≡ list.place_data place) }
-{
-    json!(in alloc; {"character": place.unit, "line": place.line})
-}
-
-/// Where a name ends.
-fn end_of(walker: &mut Walker<'_>, name: Name<'_>) -> Position
-    ensures same { walker.new.text.now ≡ walker.old.text.now }
-    ensures place { result ≡ position_of walker.old.text.now (name.entry.start + length name.entry.text.now) }
-{
-    walker.position_of(name.start.saturating_add(name.text.len()))
-}
-
 /// Where a name stands.
-fn range_value(alloc: Global, walker: &mut Walker<'_>, name: Name<'_>) -> Result<Value, AllocError>
+fn name_range(alloc: Global, walker: &mut Walker<'_>, name: Name<'_>) -> Result<Value, AllocError>
     ensures same { walker.new.text.now ≡ walker.old.text.now }
-    ensures told { IfOk result (λ told. view told ≡ list.range_data walker.old.text.now name.entry.start
+    ensures told { IfOk result (λ told. view told ≡ range_data walker.old.text.now name.entry.start
         (name.entry.start + length name.entry.text.now)) }
 {
-    let begin = walker.position_of(name.start);
-    let end = end_of(walker, name);
-    let first = place_value(alloc, begin)?;
-    let behind = place_value(alloc, end)?;
-    json!(in alloc; {"end": behind, "start": first})
+    let end = name.start.saturating_add(name.text.len());
+    range_value(alloc, walker, name.start, end)
+}
+
+/// Where the name stands that a token is; an empty range at the text's begin where it is none.
+///
+/// # Errors
+///
+/// Want of memory.
+pub fn range_at(
+    alloc: Global,
+    walker: &mut Walker<'_>,
+    tokens: &[Token],
+    at: usize,
+) -> Result<Value, AllocError>
+    ensures same { walker.new.text.now ≡ walker.old.text.now }
+    ensures told { IfOk result (λ told. view told ≡ list.name_range walker.old.text.now tokens.now at) }
+{
+    name_range(alloc, walker, name_at(tokens, at))
 }
 
 /// A symbol that stands there.
@@ -111,7 +111,7 @@ fn symbol_value(
         symbol) }
 {
     let name = name_at(source.tokens, symbol.at);
-    let range = range_value(alloc, walker, name)?;
+    let range = name_range(alloc, walker, name)?;
     named_value(alloc, symbol.kind, name.text, &range)
 }
 

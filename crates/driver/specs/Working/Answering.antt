@@ -54,6 +54,11 @@ abbrev pub IsExplainedAnswer : Bool → Explanation → Answer → Type 0
 IsExplainedAnswer json explanation answer =
     (answer.status ≡ Refused) × (rope_text answer.out ≡ fault_told_of json explanation) × (string_bytes answer.err ≡ [])
 
+-- to a program without one
+abbrev pub IsAcceptedAnswer : Bool → Acceptance → Answer → Type 0
+IsAcceptedAnswer json acceptance answer =
+    (answer.status ≡ Done) × (rope_text answer.out ≡ acceptance_told_of json acceptance) × (string_bytes answer.err ≡ [])
+
 -- to a judgement on these lines
 abbrev pub IsJudgementAnswer : Bool → Judgement → List (List ℕ) → Answer → Type 0
 IsJudgementAnswer why judgement lines answer =

@@ -1,0 +1,58 @@
+//! The engine of `lsp`.
+
+ghost use Rattle.std.specs.Prelude.{◌≡◌};
+ghost use Rattle.driver.specs.Editors.{IsServed, message_for, status_for};
+ghost use Rattle.driver.specs.Streams.{Tells};
+
+use crate::status::Status;
+use crate::streams::Streams;
+use language_server::serve;
+use lsp_loop::End;
+use std::alloc::Global;
+use std::io::{BufRead, Write};
+
+/// The status by which the serving of an editor ended.
+fn status_of(end: End) -> Status
+    ensures { result ≡ status_for end }
+{
+    match end {
+        End::Exit(true) => Status::Done,
+        End::Exit(false) | End::Input => Status::Refused,
+        End::Unread | End::Unwritten => Status::Failed,
+        End::OutOfMemory => Status::OutOfMemory,
+    }
+}
+
+/// Tells how the serving of an editor ended, where it failed.
+fn tell_end<O: Write, E: Write>(end: End, streams: &mut Streams<O, E>)
+    ensures out { streams.new.out ≡ streams.old.out }
+    ensures told { Tells E.contents streams.old.err streams.new.err (message_for end) }
+{
+    match end {
+        End::Exit(_) | End::Input => (),
+        End::Unread => streams.tell_cannot_read("standard input"),
+        End::Unwritten => streams.tell_cannot_write(),
+        End::OutOfMemory => streams.tell_no_memory(),
+    }
+}
+
+/// Serves an editor by the language server protocol: reads its messages from `reader`, and writes the answers to `writer`, each
+/// before the next message is read. Of `streams` the errors alone are used. Answers how that ended:
+///
+/// - `Done`: the editor asked for the end, and had asked to shut down before.
+/// - `Refused`: it asked for the end without; or what is left to read begins with no frame, where the input ended among others.
+/// - `Failed`: reading or writing failed, which is told on `err`.
+/// - `OutOfMemory`: a growth was refused, also for the answer that says so; that is told on `err`.
+pub fn lsp<R: BufRead, W: Write, O: Write, E: Write>(
+    alloc: Global,
+    reader: &mut R,
+    writer: &mut W,
+    streams: &mut Streams<O, E>,
+) -> Status
+    ensures { IsServed (R.remaining reader.old) (W.contents writer.old) (W.contents writer.new) E.contents
+        streams.old streams.new result }
+{
+    let end = serve(alloc, reader, writer);
+    tell_end(end, streams);
+    status_of(end)
+}

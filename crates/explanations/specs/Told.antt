@@ -1,0 +1,64 @@
+-- What is told of a text.
+use Rattle.std.specs.Prelude.{◌≡◌, ℕ, List, [], map, string_bytes}
+use Rattle.compiler.specs.Cycles.{IsWrittenProgram}
+use Rattle.compiler.specs.Programs.{Accepts, IsOfFirstPass}
+use Rattle.core_lang.specs.declared.typed.Typed.{Typed}
+use Rattle.core_lang_expansion.specs.Data.{IsExpanded}
+use Rattle.explanation.specs.Notes.{Note, note_of}
+use Rattle.explanation.specs.Warnings.{Warning, warning_of}
+use Rattle.explanation_cycles.specs.CycleNotes.{AreCycleNotes}
+use Rattle.explanation_cycles.specs.OrderNotes.{AreOrderNotes}
+use Rattle.explanation_faults.specs.TextNotes.{AreTextNotes}
+use Rattle.explanation_warnings.specs.TextWarnings.{AreTextWarnings}
+use Rattle.lockorder.specs.declared.ranks.Edge.{Edge}
+use Rattle.lockorder.specs.Edges.{AreRanksOf}
+use Rattle.lockorder.specs.Faults.{IsCycleOf, IsFaultAtFirst}
+use Rattle.source.specs.declared.fault.Fault.{Fault}
+use Rattle.explanations.specs.declared.telling.Told as written
+use Rattle.explanations.specs.declared.telling.Told.TheVariants as variant
+
+-- a fault and the notes on it; or, of a text that is accepted, the notes on its order and its warnings
+pub data Told : Type 0 where
+  faulty : Fault → List Note → Told
+  accepted : List Note → List Warning → Told
+
+-- the same of a value of the code
+abbrev pub said_by : written.Told → Told
+said_by (variant.Faulty fault notes) = faulty fault (map note_of notes.items)
+said_by (variant.Accepted notes warnings) = accepted (map note_of notes.items) (map warning_of warnings.items)
+
+-- a true fault of the first pass that has one, with no detail, and true notes on it
+pub record IsExplained (text : List ℕ) (fault : Fault) (notes : List Note) : Type 0 where
+  pub given : IsOfFirstPass text fault
+  pub bare : string_bytes fault.detail ≡ []
+  pub tell : AreTextNotes text fault.code fault.start notes
+
+-- a fault of the order of locks, and notes on each edge of a cycle of the program that the text means
+pub record IsCycleExplained (text : List ℕ) (fault : Fault) (notes : List Note) : Type 0 where
+  pub given : IsOfFirstPass text fault
+  pub program : Typed
+  pub meant : IsWrittenProgram text program
+  pub of_order : IsFaultAtFirst program fault
+  pub edges : List Edge
+  pub cycle : IsCycleOf program edges
+  pub tell : AreCycleNotes program edges notes
+
+-- the text is accepted: notes on the order of the lock classes of its program with helpers written out, with what makes
+-- each pair of them, and the warnings of its tree
+pub record IsFaultless (text : List ℕ) (notes : List Note) (warnings : List Warning) : Type 0 where
+  pub program : Typed
+  pub accepts : Accepts text program
+  pub written_out : Typed
+  pub expanded : IsExpanded program written_out
+  pub ranks : List ℕ
+  pub are_ranks : AreRanksOf written_out ranks
+  pub tell : AreOrderNotes written_out ranks notes
+  pub warned : AreTextWarnings text warnings
+
+-- what is told of a text
+pub data IsToldOf (text : List ℕ) : Told → Type 0 where
+  explained : {fault : Fault} {notes : List Note} → IsExplained text fault notes → IsToldOf text (faulty fault notes)
+  cycle_explained : {fault : Fault} {notes : List Note} → IsCycleExplained text fault notes →
+      IsToldOf text (faulty fault notes)
+  faultless : {notes : List Note} {warnings : List Warning} → IsFaultless text notes warnings →
+      IsToldOf text (accepted notes warnings)

@@ -1,0 +1,38 @@
+//! The methods of requests about documents.
+
+ghost use Rattle.std.specs.Prelude.{◌≡◌};
+ghost use Rattle.language_server.specs.Methods.{method_named};
+
+/// A method of requests about documents.
+#[derive(Clone, Copy, Debug, PartialEq, Eq)]
+pub enum Method {
+    /// `textDocument/definition`: where the name at a position is declared.
+    Definition,
+    /// `textDocument/documentSymbol`: the names of the top level.
+    DocumentSymbol,
+    /// `textDocument/hover`: which locks are held at the statement at a position.
+    Hover,
+    /// `textDocument/inlayHint`: which locks are taken where.
+    InlayHint,
+    /// `textDocument/references`: where the name at a position is used.
+    References,
+    /// `textDocument/rename`: the edits that give the name at a position another text.
+    Rename,
+}
+
+impl Method {
+    /// The method of this name.
+    pub fn named(name: &str) -> Option<Method>
+        ensures { result ≡ method_named name.now }
+    {
+        match name {
+            "textDocument/definition" => Some(Method::Definition),
+            "textDocument/documentSymbol" => Some(Method::DocumentSymbol),
+            "textDocument/hover" => Some(Method::Hover),
+            "textDocument/inlayHint" => Some(Method::InlayHint),
+            "textDocument/references" => Some(Method::References),
+            "textDocument/rename" => Some(Method::Rename),
+            _ => None,
+        }
+    }
+}

@@ -1,0 +1,132 @@
+//! The list. The one error is a refused growth.
+
+ghost use Rattle.std.specs.Prelude.{◌≡◌, ◌++◌, IfOk, OnOk, false, map};
+ghost use Rattle.std.specs.List.{flat_map};
+ghost use Rattle.serde_json.specs.Data.{array};
+ghost use Rattle.serde_json.specs.View.{view, items_of};
+ghost use Rattle.serde_json.specs.Written.{has_float};
+ghost use Rattle.explanation.specs.Notes.{note_of};
+ghost use Rattle.explanation.specs.Warnings.{warning_of};
+ghost use Rattle.explanations.specs.Told.{said_by};
+ghost use Rattle.lsp_diagnostics.specs.Diagnostics as list;
+
+use crate::messages::fault_message;
+use crate::places::{Document, Places};
+use explanation::{Note, Warning};
+use explanations::{Told, told_of};
+use serde_json::{Value, json};
+use source::fault::Fault;
+use source::memory::NoMemory;
+use std::alloc::{AllocError, Global};
+
+/// Which tool a diagnostic is of.
+const SOURCE: &str = "autolock";
+
+/// The protocol's number of an error.
+const ERROR: u64 = 1;
+
+/// The protocol's number of a warning.
+const WARNING: u64 = 2;
+
+/// Adds a note, if it is on a place.
+fn push_related(
+    alloc: Global,
+    places: &Places<'_>,
+    values: &mut Vec<Value>,
+    note: &Note,
+) -> Result<(), AllocError>
+    ensures { OnOk result (map view values.new.items ≡ map view values.old.items
+        ++ list.note_related places.now.document.uri.now places.now.document.text.now (note_of note.now)) }
+{
+    let Some(start) = note.start else {
+        return Ok(());
+    };
+    values.push(places.related(alloc, start, note.words.as_str())?)?;
+    Ok(())
+}
+
+/// The notes on places.
+fn related_values(alloc: Global, places: &Places<'_>, notes: &[Note]) -> Result<Value, AllocError>
+    ensures { IfOk result (λ told. view told ≡ array (items_of (flat_map
+        (list.note_related places.now.document.uri.now places.now.document.text.now) (map note_of notes.now)))) }
+{
+    let mut values = Vec::new(alloc);
+    for note in notes {
+        push_related(alloc, places, &mut values, note)?;
+    }
+    Ok(Value::Array(values))
+}
+
+/// A fault.
+fn fault_value(
+    alloc: Global,
+    places: &Places<'_>,
+    fault: &Fault,
+    notes: &[Note],
+) -> Result<Value, AllocError>
+    ensures { IfOk result (λ told. view told ≡ list.fault_data places.now.document.uri.now places.now.document.text.now
+        fault.now (map note_of notes.now)) }
+{
+    let message = fault_message(alloc, fault, notes)?;
+    let range = places.range(alloc, fault.start)?;
+    let related = related_values(alloc, places, notes)?;
+    json!(in alloc; {"code": fault.code.name(), "message": message.as_str(), "range": &range,
+        "relatedInformation": &related, "severity": ERROR, "source": SOURCE})
+}
+
+/// A warning.
+fn warning_value(alloc: Global, places: &Places<'_>, warning: &Warning) -> Result<Value, AllocError>
+    ensures { IfOk result (λ told. view told ≡ list.warning_data places.now.document.text.now
+        (warning_of warning.now)) }
+{
+    let words = warning.what.words(alloc)?;
+    let range = places.range(alloc, warning.start)?;
+    json!(in alloc; {"message": words.as_str(), "range": &range, "severity": WARNING, "source": SOURCE})
+}
+
+/// Warnings.
+fn warning_values(
+    alloc: Global,
+    places: &Places<'_>,
+    warnings: &[Warning],
+) -> Result<Value, AllocError>
+    ensures { IfOk result (λ told. view told ≡ array (items_of (map (list.warning_data places.now.document.text.now)
+        (map warning_of warnings.now)))) }
+{
+    let mut values = Vec::new(alloc);
+    for warning in warnings {
+        values.push(warning_value(alloc, places, warning)?)?;
+    }
+    Ok(Value::Array(values))
+}
+
+/// What is told.
+fn told_value(alloc: Global, places: &Places<'_>, told: &Told) -> Result<Value, AllocError>
+    ensures { IfOk result (λ found. view found ≡ list.diagnostics_data places.now.document.uri.now
+        places.now.document.text.now (said_by told.now)) }
+{
+    match told {
+        Told::Faulty { fault, notes } => {
+            let value = fault_value(alloc, places, fault, notes)?;
+            json!(in alloc; [&value])
+        }
+        Told::Accepted { warnings, .. } => warning_values(alloc, places, warnings),
+    }
+}
+
+/// The diagnostics of a text: of its fault one, an error, with the notes and what can be done; of an accepted text one
+/// for each warning. Where there is related information it is of this URI.
+///
+/// # Errors
+///
+/// Want of memory.
+pub fn diagnostics(alloc: Global, uri: &str, text: &str) -> Result<Value, NoMemory>
+    ensures told { IfOk result (λ found. list.AreDiagnosticsOf uri.now text.now (view found)) }
+    ensures plain { IfOk result (λ found. has_float (view found) ≡ false) }
+{
+    let text = text.as_bytes();
+    let told = told_of(alloc, text)?;
+    let places = Places::of(alloc, Document { uri, text })?;
+    let found = told_value(alloc, &places, &told)?;
+    Ok(found)
+}

@@ -1,0 +1,50 @@
+//! What is said of a fault. The one error is a refused growth.
+
+ghost use Rattle.std.specs.Prelude.{◌≡◌, ◌++◌, IfOk, OnOk, map, string_bytes};
+ghost use Rattle.std.specs.List.{flat_map};
+ghost use Rattle.explanation.specs.Notes.{note_of};
+ghost use Rattle.lsp_diagnostics.specs.Diagnostics as list;
+
+use explanation::{Note, remedy_of};
+use explanation_json::fault_words;
+use source::fault::Fault;
+use std::alloc::{AllocError, Global};
+
+/// Adds words in a line of their own.
+fn push_line(message: &mut String, words: &str) -> Result<(), AllocError>
+    ensures { OnOk result (string_bytes message.new ≡ string_bytes message.old ++ list.next_line words.now) }
+{
+    message.push_str("\n")?;
+    message.push_str(words)
+}
+
+/// Adds a note, if it is on no place.
+fn push_note(message: &mut String, note: &Note) -> Result<(), AllocError>
+    ensures { OnOk result (string_bytes message.new ≡ string_bytes message.old ++ list.note_line (note_of note.now)) }
+{
+    match note.start {
+        Some(_) => Ok(()),
+        None => push_line(message, note.words.as_str()),
+    }
+}
+
+/// Adds those of these notes that are on no place.
+fn push_notes(message: &mut String, notes: &[Note]) -> Result<(), AllocError>
+    ensures { OnOk result (string_bytes message.new ≡ string_bytes message.old
+        ++ flat_map list.note_line (map note_of notes.now)) }
+{
+    for note in notes {
+        push_note(message, note)?;
+    }
+    Ok(())
+}
+
+/// The message of a fault: its text with its detail, a line for each note on no place, and one for what can be done.
+pub fn fault_message(alloc: Global, fault: &Fault, notes: &[Note]) -> Result<String, AllocError>
+    ensures { IfOk result (λ message. string_bytes message ≡ list.fault_message fault.now (map note_of notes.now)) }
+{
+    let mut message = fault_words(alloc, fault)?;
+    push_notes(&mut message, notes)?;
+    push_line(&mut message, remedy_of(fault.code))?;
+    Ok(message)
+}

@@ -1,0 +1,7 @@
+mod Floats
+mod Holding
+mod PathTexts
+mod Sorting
+mod TakeLines
+mod Taking
+mod Telling

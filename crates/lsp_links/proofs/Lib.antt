@@ -1,0 +1,4 @@
+mod Floats
+mod ListLemmas
+mod NameLemmas
+mod ReferenceLemmas

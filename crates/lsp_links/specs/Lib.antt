@@ -1,0 +1,4 @@
+pub mod Links
+pub mod Renames
+pub mod Told
+pub mod Working

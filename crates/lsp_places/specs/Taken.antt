@@ -1,0 +1,22 @@
+-- Which names are taken where one is declared.
+use Rattle.std.specs.Prelude.{ℕ, Bool, ◌&&◌, ◌||◌, List, Option, Some, None, length}
+use Rattle.std.specs.Option.{is_none, is_some}
+use Rattle.source.specs.declared.token.Token.{Token}
+use Rattle.lsp_places.specs.Names.{text_at}
+use Rattle.lsp_places.specs.Declarations.{first, is_number, is_text, is_top, owner_at}
+
+abbrev pub are_same : Option ℕ → Option ℕ → Bool
+are_same None other = is_none other
+are_same (Some n) other = is_number n other
+
+-- a token stands where a name may be meant that the other one declares: anywhere, where that is one of the top level, else in the same
+-- declaration; or it is one of the top level itself
+abbrev pub may_meet : List Token → ℕ → ℕ → Bool
+may_meet tokens declared at = is_top tokens at || is_top tokens declared || are_same (owner_at tokens declared) (owner_at tokens at)
+
+abbrev pub takes : List Token → ℕ → List ℕ → ℕ → Bool
+takes tokens declared text at = is_text text (text_at tokens at) && may_meet tokens declared at
+
+-- a name with this text stands so already
+abbrev pub is_taken : List Token → ℕ → List ℕ → Bool
+is_taken tokens declared text = is_some (first (takes tokens declared text) (length tokens))

@@ -1,0 +1,3 @@
+-- What the code computes, for its clauses. Nobody has to believe these files.
+pub mod Places
+pub mod Tables

@@ -1,0 +1,180 @@
+#!/usr/bin/env python3
+"""Compares what the editors' server tells of texts with what the commands tell: tests/lsp_texts.py BIN.
+
+The texts are those of examples/, of tests/rows.json and of docs/LANGUAGE.md, some with other ends of lines, with comments in other
+alphabets, and cut or changed by drawn edits. Of each:
+
+- the diagnostics are those of `explain --json`: code, words, severity, range and related places;
+- the inlay hints are the lists of `check`, at their places, also where a part of the lines is asked for;
+- the declaration of each name, by a rule of its own: a name after no dot is the local of its section, else the name of the top
+  level; the references of it are the names with the same declaration; a new name is put at just these.
+
+The last line is `N texts, M answers compared`; the status is 1 where one is other than wanted."""
+import json
+import os
+import pathlib
+import random
+import re
+import subprocess
+import sys
+import tempfile
+
+sys.dont_write_bytecode = True
+TOP = pathlib.Path(__file__).resolve().parent.parent
+sys.path.insert(0, str(TOP / "tests"))
+from lsp import BEGIN, END, call, document, frame, frames_of, place
+
+KEYWORDS = set("lock struct final ref int global protected_by pool init atomic let var if else while print return thread repeat null "
+               "where call".split())
+URI = "file:///a%20b.al"
+CUTS = 40
+
+
+def replies(program, bodies):
+    """What the server answers, by id; and the diagnostics that it publishes."""
+    done = subprocess.run([program, "lsp"], input=b"".join(map(frame, BEGIN + bodies + END)), capture_output=True, timeout=60)
+    assert done.returncode == 0 and not done.stderr, (done.returncode, done.stderr)
+    frames = frames_of(done.stdout)
+    told = [one["params"] for one in frames if one.get("method") == "textDocument/publishDiagnostics"]
+    return {one["id"]: one for one in frames if "id" in one}, told
+
+
+def say(program, *words):
+    done = subprocess.run([program, *words], capture_output=True, timeout=60)
+    return done.returncode, done.stdout.decode()
+
+
+def at(text, position):
+    """The protocol's position of a line and a column in bytes, both from 1, of which lines end at LF alone."""
+    lines = text.encode().split(b"\n")
+    byte = sum(len(line) + 1 for line in lines[: position["line"] - 1]) + position["column"] - 1
+    return place(text, sum(one & 0xC0 != 0x80 for one in text.encode()[:byte]))
+
+
+def diagnostics_wanted(text, told):
+    def span(one):
+        return {"end": at(text, one["end"]), "start": at(text, one["start"])}
+
+    if told["accepted"]:
+        return [{"message": one["text"], "range": span(one), "severity": 2, "source": "autolock"} for one in told["warnings"]]
+    words = [told["text"]] + [note["text"] for note in told["notes"] if "start" not in note] + [told["remedy"]]
+    related = [{"location": {"range": span(note), "uri": URI}, "message": note["text"]} for note in told["notes"] if "start" in note]
+    return [{"code": told["code"], "message": "\n".join(words), "range": span(told), "relatedInformation": related, "severity": 1,
+             "source": "autolock"}]
+
+
+def hints_wanted(text, said):
+    found = []
+    for line in said.splitlines():
+        it = re.match(r"at (\d+):(\d+) (take .*)", line)
+        if it:
+            found.append((at(text, {"line": int(it[1]), "column": int(it[2])}), it[3]))
+    return sorted({(one["line"], one["character"], words) for one, words in found})
+
+
+def names_wanted(text):
+    """Each name that stands after no dot and no `where`, outside structs, with the place of its declaration."""
+    plain = re.sub(r"//[^\n]*", lambda it: " " * len(it[0]), text)
+    depth, start, pieces = 0, 0, []
+    for at_, one in enumerate(plain):
+        depth += (one == "{") - (one == "}")
+        if depth == 0 and one in "};":
+            pieces.append((start, at_ + 1))
+            start = at_ + 1
+    top, local = {}, {}
+    for begin, end in pieces:
+        piece = plain[begin:end]
+        it = re.match(r"\s*(?:struct|atomic|call|thread|lock)\s+(\w+)|\s*global\s+(?:int|ref\s+\w+)\s+(\w+)|\s*pool\s+\w+\s+(\w+)", piece)
+        if it:
+            group = it.lastindex
+            top.setdefault(it[group], begin + it.start(group))
+        if re.match(r"\s*(atomic|call)\b", piece):
+            head = piece[: piece.index("{")]
+            for it in re.finditer(r"(?:\bint|\bref\s+\w+)\s+(\w+)\s*(?=[,)])", head):
+                local[begin, it[1]] = begin + it.start(1)
+            for it in re.finditer(r"\b(?:let|var)\s+(\w+)", piece):
+                local[begin, it[1]] = begin + it.start(1)
+    found = []
+    for it in re.finditer(r"[A-Za-z_]\w*", plain):
+        before = plain[: it.start()].rstrip()
+        piece = next((begin for begin, end in pieces if begin <= it.start() < end), None)
+        if it[0] in KEYWORDS or before.endswith(".") or re.search(r"\bwhere$", before) or re.search(r"\bprotected_by\s*\($", before):
+            continue
+        if piece is None or re.match(r"\s*struct\b", plain[piece:]):
+            continue
+        found.append((it[0], it.start(), local.get((piece, it[0]), top.get(it[0]))))
+    return found
+
+
+class Judge:
+    def __init__(self, program):
+        self.program, self.texts, self.compared = program, 0, 0
+        self.room = tempfile.TemporaryDirectory()
+        self.file = os.path.join(self.room.name, "a.al")
+
+    def equal(self, what, text, got, want):
+        self.compared += 1
+        assert got == want, (what, "got", got, "wanted", want, text)
+
+    def text(self, text, names=False):
+        """Compares what is told of a text; of whole programs the names too."""
+        self.texts += 1
+        pathlib.Path(self.file).write_bytes(text.encode())
+        _, told = say(self.program, "explain", "--json", self.file)
+        bodies = [call("textDocument/didOpen", document(URI, text))]
+        lines = len(re.split(r"\r\n|\n|\r", text))
+        everything = {"start": {"line": 0, "character": 0}, "end": {"line": lines, "character": 0}}
+        middle = {"start": {"line": lines // 3, "character": 0}, "end": {"line": 2 * lines // 3, "character": 0}}
+        bodies += [call("textDocument/inlayHint", document(URI) | {"range": span}, whom) for span, whom in ((everything, 2), (middle, 3))]
+        wanted = names_wanted(text) if names else []
+        for number, (_, start, _) in enumerate(wanted):
+            asked = document(URI) | {"position": place(text, start)}
+            bodies.append(call("textDocument/definition", asked, f"d{number}"))
+            bodies.append(call("textDocument/references", asked | {"context": {"includeDeclaration": True}}, f"r{number}"))
+        got, published = replies(self.program, bodies)
+        self.equal("diagnostics", text, published, [{"diagnostics": diagnostics_wanted(text, json.loads(told)), "uri": URI}])
+        self.hints(text, got, lines)
+        self.names(text, wanted, got)
+
+    def hints(self, text, got, lines):
+        status, out = say(self.program, "check", self.file)
+        want = hints_wanted(text, out) if status == 0 else []
+        found = [(one["position"]["line"], one["position"]["character"], one["label"]) for one in got[2]["result"]]
+        self.equal("hints", text, sorted(set(found)), want)
+        self.equal("the order of hints", text, [one[:2] for one in found], sorted(one[:2] for one in found))
+        part = [(one["position"]["line"], one["position"]["character"], one["label"]) for one in got[3]["result"]]
+        self.equal("hints of lines", text, part, [one for one in found if lines // 3 <= one[0] <= 2 * lines // 3])
+
+    def names(self, text, wanted, got):
+        for number, (name, start, declared) in enumerate(wanted):
+            found = got[f"d{number}"]["result"]
+            want = None
+            if declared is not None:
+                want = {"range": {"end": place(text, declared + len(name)), "start": place(text, declared)}, "uri": URI}
+            self.equal(f"definition of {name} at {start}", text, found, want)
+            others = [place(text, other) for _, other, where in wanted if declared is not None and where == declared]
+            places = [one["range"]["start"] for one in got[f"r{number}"]["result"]]
+            self.equal(f"references of {name} at {start}", text, [one for one in others if one not in places], [])
+
+
+def main():
+    judge = Judge(os.path.realpath(sys.argv[1]))
+    examples = [path.read_text() for path in sorted((TOP / "examples").glob("*.al"))]
+    for text in examples:
+        judge.text(text, names=True)
+    for text in examples[:6]:
+        judge.text(text.replace("\n", "\r\n"))
+        judge.text("// \U0001f600 \u00e9\n" + text.replace("\n", " // \u4e16\u754c \U0001f512\n"))
+    cases = json.loads((TOP / "tests" / "rows.json").read_text())
+    for case in cases:
+        judge.text(case["files"].get("F", ""))
+    chance = random.Random(1)
+    for _ in range(CUTS):
+        text = chance.choice(examples)
+        start = chance.randrange(len(text))
+        judge.text(text[:start] + chance.choice(["", "x", "}", " = ", "\u00e9", "let int"]) + text[start + chance.randrange(12) :])
+    print(f"{judge.texts} texts, {judge.compared} answers compared")
+
+
+if __name__ == "__main__":
+    main()
