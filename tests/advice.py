@@ -32,6 +32,15 @@ KINDS = {
 SEMICOLON = "a `;` may be missing behind this"
 
 FAULTY = [
+    ("body", "do { n = 1; } while (n > 0);", "there is no `do`"),
+    ("body", "switch (n) { }", "there is no `switch`"),
+    ("top", "void g() { }", "a section is declared by `atomic g(..) { .. }`, a helper by `call g(..) { .. }`"),
+    ("body", "if (n = 0) { n = 1; }", "two values are compared by `==`"),
+    ("top", "atomic g() { n = 1; } }", "this `}` closes nothing"),
+    ("body", "n = 1.5;", "numbers are whole"),
+    ("body", "n = 0x10;", "decimal digits alone"),
+    ("top", "pool Acc more;", "a pool says how many objects it has: `pool Acc more[1];`"),
+    ("body", "lock (a.l); n = 1;", "the compiler takes the locks"),
     ("body", "acc[i].balance = 1;", "bind the object first: `let m: ref S = acc[i];` with its struct for S, and then `m.balance`"),
     ("body", "acc[i + 1].balance = 1;", "bind the object first: `let m: ref S = ..;`"),
     ("body", "n = acc[1].balance;", "`let m: ref S = acc[1];`"),

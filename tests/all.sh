@@ -28,6 +28,14 @@ try() {
     fi
 }
 
+# (told before the proofs, which take an hour)
+for script in script/*.py tests/*.py tests/*.sh; do
+    [ -x "$script" ] || ! head -n 1 "$script" | grep -q '^#!' || {
+        echo "$script may not be run: chmod +x"
+        exit 1
+    }
+done
+
 if [ $# -gt 0 ]; then
     program=$(realpath -- "$1")
 else

@@ -61,7 +61,7 @@ class Judge:
         (pathlib.Path(room) / "one.al").write_text(program)
         _, told, _ = self.run(room, "explain", "one.al")
         self.judge(f"{code}: its program has that fault", bool(re.match(rf"one\.al:\d+:\d+: {re.escape(heading)}\b", told)))
-        help_line = told.rstrip("\n").split("\n")[-1]
+        help_line = next((line for line in told.split("\n") if line.startswith("help: ")), "")
         indented = "".join(f"    {line}\n" for line in program.rstrip("\n").split("\n"))
         parts = out.split("\n" + indented + "\n", 1)
         self.judge(f"{code}: the program", len(parts) == 2)

@@ -20,7 +20,7 @@ import tempfile
 
 TOP = pathlib.Path(__file__).resolve().parent.parent
 POSITION = {"line", "column"}
-FAULT = {"accepted", "code", "end", "file", "notes", "remedy", "start", "text"}
+FAULT = {"accepted", "code", "end", "file", "further", "more", "notes", "remedy", "start", "text"}
 # Names of files and texts whose bytes a JSON string or a line of a terminal can't have as they are.
 HARD = {
     'a "quoted".al': b"lock G;\nglobal int n;\n",
@@ -119,7 +119,12 @@ def text_of(text, name, told):
         return b"accepted\n" + notes
     assert set(told) == FAULT, f"a fault has {sorted(told)}"
     head = placed(text, name, told, f"{told['code']} {told['text']}")
-    return head + notes + f"help: {told['remedy']}\n".encode()
+    further = b""
+    for fault in told["further"]:
+        assert set(fault) == {"code", "end", "start", "text"}, f"a further fault has {sorted(fault)}"
+        further += placed(text, name, fault, f"{fault['code']} {fault['text']}")
+    more = b"there are more faults\n" if told["more"] else b""
+    return head + notes + f"help: {told['remedy']}\n".encode() + further + more
 
 
 def judge(program, folder, name):

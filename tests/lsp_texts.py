@@ -10,6 +10,7 @@ alphabets, and cut or changed by drawn edits. Of each:
   level; the references of it are the names with the same declaration; a new name is put at just these.
 
 The last line is `N texts, M answers compared`; the status is 1 where one is other than wanted."""
+import functools
 import json
 import os
 import pathlib
@@ -51,7 +52,14 @@ def at(text, position):
     return place(text, sum(one & 0xC0 != 0x80 for one in text.encode()[:byte]))
 
 
-def diagnostics_wanted(text, told):
+@functools.cache
+def remedy_of(program, code):
+    """What can be done about a fault of this code."""
+    _, page = say(program, "explain", code)
+    return next(line for line in page.splitlines() if line.startswith("help: ")).removeprefix("help: ")
+
+
+def diagnostics_wanted(program, text, told):
     def span(one):
         return {"end": at(text, one["end"]), "start": at(text, one["start"])}
 
@@ -59,8 +67,10 @@ def diagnostics_wanted(text, told):
         return [{"message": one["text"], "range": span(one), "severity": 2, "source": "autolock"} for one in told["warnings"]]
     words = [told["text"]] + [note["text"] for note in told["notes"] if "start" not in note] + [told["remedy"]]
     related = [{"location": {"range": span(note), "uri": URI}, "message": note["text"]} for note in told["notes"] if "start" in note]
-    return [{"code": told["code"], "message": "\n".join(words), "range": span(told), "relatedInformation": related, "severity": 1,
-             "source": "autolock"}]
+    first = {"code": told["code"], "message": "\n".join(words), "range": span(told), "relatedInformation": related, "severity": 1,
+             "source": "autolock"}
+    return [first] + [{"code": one["code"], "message": f"{one['text']}\n{remedy_of(program, one['code'])}", "range": span(one), "severity": 1,
+                       "source": "autolock"} for one in told["further"]]
 
 
 def hints_wanted(text, said):
@@ -132,7 +142,7 @@ class Judge:
             bodies.append(call("textDocument/definition", asked, f"d{number}"))
             bodies.append(call("textDocument/references", asked | {"context": {"includeDeclaration": True}}, f"r{number}"))
         got, published = replies(self.program, bodies)
-        self.equal("diagnostics", text, published, [{"diagnostics": diagnostics_wanted(text, json.loads(told)), "uri": URI}])
+        self.equal("diagnostics", text, published, [{"diagnostics": diagnostics_wanted(self.program, text, json.loads(told)), "uri": URI}])
         self.hints(text, got, lines)
         self.names(text, wanted, got)
 

@@ -45,7 +45,7 @@ wrong.al:1:6: note: G could protect it: protected_by(G)
        ^
 help: say which lock protects it: protected_by(LOCK)
 end
-printf '%s' '{"accepted":false,"code":"E10","end":{"column":13,"line":2},"file":"wrong.al","notes":[{"end":{"column":7,"line":1},"start":{"column":6,"line":1},"text":"G could protect it: protected_by(G)"}],' >explained_json
+printf '%s' '{"accepted":false,"code":"E10","end":{"column":13,"line":2},"file":"wrong.al","further":[],"more":false,"notes":[{"end":{"column":7,"line":1},"start":{"column":6,"line":1},"text":"G could protect it: protected_by(G)"}],' >explained_json
 printf '%s\n' '"remedy":"say which lock protects it: protected_by(LOCK)","start":{"column":12,"line":2},"text":"neither final nor protected"}' >>explained_json
 echo 'autolock: cannot write' >unwritten
 printf '0\n\t9*1 x' >bad_steps

@@ -13,6 +13,8 @@ use Rattle.explanation.specs.Remedies.{remedy_text}
 use Rattle.explanation.specs.Shown.{shown_place}
 use Rattle.explanation_json.specs.Json.{fault_json}
 use Rattle.explanation_json.specs.Working.Laws.{FaultByFirstBytes}
+use Rattle.explanation.specs.Further.{Further, nothing_further}
+use Rattle.explanation_faults.specs.FurtherFaults.{AreFurther, others, none as none_behind}
 use Rattle.explanation.specs.Notes.{Note, note_text, told_text}
 use Rattle.explanation_faults.specs.TextNotes.{IsTextLimit, source, a_name, IsTrueTextNote, of_tree, of_tokens}
 use Rattle.explanation_faults.specs.TextNotes.{of_advice, of_mark}
@@ -37,7 +39,7 @@ place_alike : (t u : List ℕ) (start : ℕ) → start ≡ 0 → shown_place t 0
 place_alike t u start first same = rw first same
 
 joined : (code : Code) (told other shown more notes rest : List ℕ) → told ≡ other → shown ≡ more → notes ≡ rest →
-    line told ++ shown ++ notes ++ remedy_text code ≡ line other ++ more ++ rest ++ remedy_text code
+    line told ++ shown ++ notes ++ remedy_text code ++ [] ≡ line other ++ more ++ rest ++ remedy_text code ++ []
 joined code told other shown more notes rest e g h = rw (e, g, h) refl
 
 -- ---- notes on no place
@@ -58,7 +60,7 @@ notes_alike file t u (note ∷ notes) none =
 
 explained_alike : (file t u : List ℕ) (fault : Fault) (notes : List Note) → fault.start ≡ 0 → AreOfWhole notes →
     shown_place t 0 ≡ shown_place u 0 →
-    explanation_text file t fault notes ≡ explanation_text file u fault notes
+    explanation_text file t fault notes nothing_further ≡ explanation_text file u fault notes nothing_further
 explained_alike file t u fault notes first whole same =
     joined fault.code (fault_text file t fault) (fault_text file u fault) (shown_place t fault.start) (shown_place u fault.start) _ _
     (told_alike file t u fault first) (place_alike t u fault.start first same) (notes_alike file t u notes whole)
@@ -67,11 +69,12 @@ explained_alike file t u fault notes first whole same =
 abbrev AreAlike : List ℕ → List ℕ → List ℕ → Type 0
 AreAlike file t u =
     (shown_place t 0 ≡ shown_place u 0)
-    × ((fault : Fault) (notes : List Note) → fault.start ≡ 0 → AreOfWhole notes → fault_json file t fault notes ≡ fault_json file u fault notes)
+    × ((fault : Fault) (notes : List Note) → fault.start ≡ 0 → AreOfWhole notes →
+    fault_json file t fault notes nothing_further ≡ fault_json file u fault notes nothing_further)
 
 told_of_start : (json : Bool) (file t u : List ℕ) (fault : Fault) (notes : List Note) → fault.start ≡ 0 →
     AreOfWhole notes → AreAlike file t u →
-    fault_told json file t fault notes ≡ fault_told json file u fault notes
+    fault_told json file t fault notes nothing_further ≡ fault_told json file u fault notes nothing_further
 told_of_start true file t u fault notes first whole are = are.1 fault notes first whole
 told_of_start false file t u fault notes first whole are = explained_alike file t u fault notes first whole are.0
 
@@ -109,29 +112,37 @@ tell_alike t u code at notes long longer are = record {
   limited = λ words is limit. are.limited words is (limit_alike longer long limit);
 }
 
+-- none is told with a fault of theirs
+alone_of_long : {text : List ℕ} {code : Code} {at : ℕ} {further : Further} → IsLong text → AreFurther text code at further →
+    further ≡ nothing_further
+alone_of_long long (others few has are behind) = absurd (omega arith)
+alone_of_long long (none_behind other) = refl
+
 pub no_cycle : (program : Typed) (fault : Fault) → fault.code ≡ LimitExceeded → IsFaultAtFirst program fault → ⊥
 no_cycle program fault limit (at_first c rest number used bound cycle makes starts code detail) = absurd cc
 
 module _ (json : Bool) (file t u : List ℕ) (status : Status) (out err : List ℕ) (long : IsLong t) (longer : IsLong u)
     (same : AreAlike file t u) where
-  fault_of_long : (fault : Fault) (notes : List Note) → IsToldOf t (faulty fault notes) → status ≡ Refused →
-      out ≡ fault_told json file t fault notes → err ≡ [] → ExplainAnswers json file u status out err
-  fault_of_long fault notes (told.explained is) ended written none =
+  fault_of_long : (fault : Fault) (notes : List Note) (further : Further) → IsToldOf t (faulty fault notes further) → status ≡ Refused →
+      out ≡ fault_told json file t fault notes further → err ≡ [] → ExplainAnswers json file u status out err
+  fault_of_long fault notes further (told.explained is) ended written none =
       explained (record {
         fault = fault;
         notes = notes;
+        further = nothing_further;
         tell = told.explained (record {
           given = given_of_long t u fault long longer is.given;
           bare = is.bare;
           tell = tell_alike t u fault.code fault.start notes long longer is.tell;
+          others = none_behind (λ tokens decls few has first. absurd (omega arith));
         });
         ended = ended;
-        written = written ∙ told_of_start json file t u fault notes (starts_at_0 t fault long is.given)
+        written = written ∙ ap (fault_told json file t fault notes) (alone_of_long long is.others) ∙ told_of_start json file t u fault notes (starts_at_0 t fault long is.given)
             (All-weaker (IsTrueTextNote t fault.code fault.start) (λ (note : Note). note.start ≡ None) (λ note true_note. of_whole long true_note)
             notes is.tell.are_true) same;
         told = none;
       })
-  fault_of_long fault notes (told.cycle_explained is) ended written none =
+  fault_of_long fault notes further (told.cycle_explained is) ended written none =
       absurd (no_cycle is.program fault (of_limit t fault long is.given) is.of_order)
 
   not_accepted : (notes : List Note) (warnings : List Warning) → IsToldOf t (accepted notes warnings) → ⊥
@@ -139,7 +150,7 @@ module _ (json : Bool) (file t u : List ℕ) (status : Status) (out err : List �
 
   explained_of_long : ExplainAnswers json file t status out err → ExplainAnswers json file u status out err
   explained_of_long (faultless is) = absurd (not_accepted is.notes is.warnings is.tell)
-  explained_of_long (explained is) = fault_of_long is.fault is.notes is.tell is.ended is.written is.told
+  explained_of_long (explained is) = fault_of_long is.fault is.notes is.further is.tell is.ended is.written is.told
 
 -- what is answered for the beginning of a text is answered for the text
 pub explained_of_whole : ShownByFirstBytes → FaultByFirstBytes →
@@ -152,9 +163,10 @@ explained_of_whole law by_first json file t (Some bytes) status out err read ans
     (λ (many : SOURCE_LIMIT < length bytes).
     let long : SOURCE_LIMIT < length t = rw read (omega (arith, length-take (SOURCE_LIMIT + 1) bytes)) in
     let same : shown_place t 0 ≡ shown_place bytes 0 = rw read (law (SOURCE_LIMIT + 1) bytes (omega arith)) in
-    let json_same : (fault : Fault) (notes : List Note) → fault.start ≡ 0 → AreOfWhole notes → fault_json file t fault notes ≡ fault_json file bytes fault notes =
+    let json_same : (fault : Fault) (notes : List Note) → fault.start ≡ 0 → AreOfWhole notes →
+    fault_json file t fault notes nothing_further ≡ fault_json file bytes fault notes nothing_further =
     λ fault notes first whole.
-    ap (λ (x : List ℕ). fault_json file x fault notes) read ∙ by_first (SOURCE_LIMIT + 1) file bytes fault notes (omega arith) first whole in
+    ap (λ (x : List ℕ). fault_json file x fault notes nothing_further) read ∙ by_first (SOURCE_LIMIT + 1) file bytes fault notes (omega arith) first whole in
     (bytes, refl, explained_of_long json file t bytes status out err long many (same, json_same) answers))
     (λ (few : length bytes ≤ SOURCE_LIMIT).
     let same : t ≡ bytes = read ∙ take_all (SOURCE_LIMIT + 1) bytes (omega arith) in (t, same, answers))

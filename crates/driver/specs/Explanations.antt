@@ -1,6 +1,7 @@
 -- What `explain` answers.
 use Rattle.std.specs.Prelude.{◌≡◌, ℕ, Bool, List, [], if◌then◌else◌}
 use Rattle.explanation.specs.Explanation.{accepted_text, explanation_text}
+use Rattle.explanation.specs.Further.{Further}
 use Rattle.explanation.specs.Notes.{Note}
 use Rattle.explanation.specs.Warnings.{Warning}
 use Rattle.explanation_json.specs.Json.{accepted_json, fault_json}
@@ -10,20 +11,22 @@ use Rattle.driver.specs.declared.status.Status.{Status}
 use Rattle.driver.specs.declared.status.Status.TheVariants.{Done, Refused}
 
 -- what explains a fault, and what tells of a program without one: as JSON, or as a text
-abbrev pub fault_told : Bool → List ℕ → List ℕ → Fault → List Note → List ℕ
-fault_told json file text fault notes = if json then fault_json file text fault notes else explanation_text file text fault notes
+abbrev pub fault_told : Bool → List ℕ → List ℕ → Fault → List Note → Further → List ℕ
+fault_told json file text fault notes further =
+    if json then fault_json file text fault notes further else explanation_text file text fault notes further
 
 abbrev pub acceptance_told : Bool → List ℕ → List ℕ → List Note → List Warning → List ℕ
 acceptance_told json file text notes warnings =
     if json then accepted_json file text notes warnings else accepted_text file text notes warnings
 
--- a fault of the text with notes on it: out explains it; err is empty
+-- a fault of the text with notes on it and further ones: out explains it; err is empty
 pub record IsExplained (json : Bool) (file text : List ℕ) (status : Status) (out err : List ℕ) : Type 0 where
   pub fault : Fault
   pub notes : List Note
-  pub tell : IsToldOf text (faulty fault notes)
+  pub further : Further
+  pub tell : IsToldOf text (faulty fault notes further)
   pub ended : status ≡ Refused
-  pub written : out ≡ fault_told json file text fault notes
+  pub written : out ≡ fault_told json file text fault notes further
   pub told : err ≡ []
 
 -- the text is accepted: out says that, with notes on the order of its lock classes, and its warnings; err is empty

@@ -69,12 +69,17 @@ fn explain_answer(alloc: Global, json: bool, source: &Named<'_>) -> Result<Answe
 {
     let Named { file, text } = *source;
     match told_of(alloc, text)? {
-        Told::Faulty { fault, notes } => {
+        Told::Faulty {
+            fault,
+            notes,
+            further,
+        } => {
             let explanation = Explanation {
                 file,
                 text,
                 fault: &fault,
                 notes: &notes,
+                further: &further,
             };
             explained(alloc, json, &explanation)
         }
@@ -91,7 +96,7 @@ fn explain_answer(alloc: Global, json: bool, source: &Named<'_>) -> Result<Answe
 }
 
 /// Explains the fault of the program that `source` gives: writes to `out` the line that reports it, the line of the source
-/// that it is in, where a lock order cycle comes from, and what can be done about it; or, where `json` is true, the same as a JSON
+/// that it is in, where a lock order cycle comes from, what can be done about it, and further faults of names and types; or, where `json` is true, the same as a JSON
 /// object in one line. Answers how that ended, as [`serve`](crate::serve) does, but:
 ///
 /// - `Refused`: the program has a fault, and that was written to `out`; `err` gets nothing.

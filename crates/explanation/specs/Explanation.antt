@@ -4,15 +4,17 @@ use Rattle.std.specs.List.{flat_map}
 use Rattle.code.specs.Listing.{line}
 use Rattle.source.specs.declared.fault.Fault.{Fault}
 use Rattle.source.specs.Faults.{fault_text}
+use Rattle.explanation.specs.Further.{Further, further_text}
 use Rattle.explanation.specs.Notes.{Note, note_text}
 use Rattle.explanation.specs.Remedies.{remedy_text}
 use Rattle.explanation.specs.Shown.{shown_place}
 use Rattle.explanation.specs.Warnings.{Warning, warning_text}
 
--- the line of the fault, its place in the source, what is told beyond that, and what can be done about it
-abbrev pub explanation_text : List ℕ → List ℕ → Fault → List Note → List ℕ
-explanation_text file text fault notes =
+-- the line of the fault, its place in the source, what is told beyond that, what can be done about it, and further faults
+abbrev pub explanation_text : List ℕ → List ℕ → Fault → List Note → Further → List ℕ
+explanation_text file text fault notes further =
     line (fault_text file text fault) ++ shown_place text fault.start ++ flat_map (note_text file text) notes ++ remedy_text fault.code
+    ++ further_text file text further
 
 -- of a program without a fault: that it is accepted, and what is told beyond that; then its warnings
 abbrev pub accepted_text : List ℕ → List ℕ → List Note → List Warning → List ℕ

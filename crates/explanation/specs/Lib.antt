@@ -1,6 +1,7 @@
 pub mod Shown
 pub mod Remedies
 pub mod Notes
+pub mod Further
 pub mod Warnings
 pub mod Explanation
 pub mod Working

@@ -2,6 +2,7 @@
 
 ghost use Rattle.std.specs.Prelude.{◌≡◌, IfOk, string_bytes};
 
+use crate::further::Further;
 use crate::note::Note;
 use crate::notes::Places;
 use crate::remedy::push_remedy;
@@ -23,14 +24,17 @@ pub struct Explanation<'a> {
     pub fault: &'a Fault,
     /// What is told beyond its line.
     pub notes: &'a [Note],
+    /// The faults behind it.
+    pub further: &'a Further,
 }
 
 impl Explanation<'_> {
     ghost use Rattle.explanation.specs.Working.Values.{explanation_text_of};
 
     /// The line that reports the fault, as [`fault_line`] gives it; the line of the source that it is in, and below it a
-    /// caret under the place; a line for each note, and its place in the same form, if it has one; and what can be done. Of a line of the
-    /// source at most 60 bytes before the place and 60 from it on are shown.
+    /// caret under the place; a line for each note, and its place in the same form, if it has one; what can be done; and
+    /// the line and the place of each further fault, and whether there are more. Of a line of the source at most 60 bytes
+    /// before the place and 60 from it on are shown.
     ///
     /// # Errors
     ///
@@ -44,6 +48,7 @@ impl Explanation<'_> {
         let places = Places::of(alloc, self.file, self.text)?;
         places.push_notes(&mut out, self.notes)?;
         push_remedy(&mut out, self.fault.code)?;
+        places.push_further(&mut out, self.further)?;
         Ok(out)
     }
 }

@@ -4,15 +4,18 @@ ghost use Rattle.std.specs.Prelude.{◌≡◌, IfOk, OnOk, map, string_bytes};
 ghost use Rattle.source.specs.Faults.{place_text};
 ghost use Rattle.explanation.specs.Working.Lines.{told_words};
 ghost use Rattle.locks.specs.Texts.{AddsText};
+ghost use Rattle.explanation.specs.Further.{further_of, more_text};
 ghost use Rattle.explanation.specs.Notes.{note_of, said_text};
 ghost use Rattle.explanation.specs.Warnings.{warning_of};
 
+use crate::further::Further;
 use crate::marks::Marks;
 use crate::note::Note;
 use crate::shown::push_place;
 use crate::warning::Warning;
 use source::cursor::Cursor;
 use source::memory::NoMemory;
+use source::mistake::Mistake;
 use std::alloc::{AllocError, Global};
 
 /// The line of a note on no place.
@@ -22,6 +25,16 @@ fn push_said(out: &mut String, words: &str) -> Result<(), AllocError>
     out.push_str("note: ")?;
     out.push_str(words)?;
     out.push_str("\n")
+}
+
+/// Whether there are more faults.
+fn push_more(out: &mut String, has_more: bool) -> Result<(), AllocError>
+    ensures { OnOk result (AddsText (more_text has_more) out.old out.new) }
+{
+    if has_more {
+        out.push_str("there are more faults\n")?;
+    }
+    Ok(())
 }
 
 /// FILE:LINE:COL: LABEL WORDS
@@ -55,6 +68,7 @@ pub struct Places<'a> {
 
 impl<'a> Places<'a> {
     ghost use Rattle.explanation.specs.Working.Values.{labelled_text_of, note_text_of, note_texts_of, warning_text_of, warning_texts_of};
+    ghost use Rattle.explanation.specs.Working.Values.{further_fault_text_of, further_fault_texts_of, further_text_of};
 
     /// Of a text.
     pub fn of(alloc: Global, file: &'a str, text: &'a [u8]) -> Result<Places<'a>, NoMemory>
@@ -129,5 +143,30 @@ impl<'a> Places<'a> {
             self.push_warning(out, warning)?;
         }
         Ok(())
+    }
+
+    // The line of a further fault, and its place.
+    fn push_further_fault(&self, out: &mut String, fault: Mistake) -> Result<(), AllocError>
+        ensures { OnOk result (AddsText (further_fault_text_of self.now fault) out.old out.new) }
+    {
+        self.push_placed(out, fault.start, fault.code.name(), fault.code.text())
+    }
+
+    // Further faults, one after another.
+    fn push_further_faults(&self, out: &mut String, faults: &[Mistake]) -> Result<(), AllocError>
+        ensures { OnOk result (AddsText (further_fault_texts_of self.now faults.now) out.old out.new) }
+    {
+        for fault in faults {
+            self.push_further_fault(out, *fault)?;
+        }
+        Ok(())
+    }
+
+    /// Further faults, and whether there are more.
+    pub fn push_further(&self, out: &mut String, further: &Further) -> Result<(), AllocError>
+        ensures { OnOk result (AddsText (further_text_of self.now (further_of further.now)) out.old out.new) }
+    {
+        self.push_further_faults(out, &further.faults)?;
+        push_more(out, further.has_more)
     }
 }

@@ -22,4 +22,5 @@ pub mod VarsThere
 pub mod Telling
 pub mod InOrder
 pub mod TextTrees
+pub mod OtherFaults
 pub mod NearNames

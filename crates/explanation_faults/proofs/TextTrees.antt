@@ -96,10 +96,10 @@ module _ (text : List ℕ) (found : Fault) (is : IsItsFault text found) (code : 
 -- ---- texts with tokens
 
 -- a text with tokens has no fault
-abbrev IsFaultless : List ℕ → Type 0
+abbrev pub IsFaultless : List ℕ → Type 0
 IsFaultless text = (code : Code) (start : ℕ) → IsFault text code start → ⊥
 
-within_limit : (text : List ℕ) → IsFaultless text → length text ≤ SOURCE_LIMIT
+pub within_limit : (text : List ℕ) → IsFaultless text → length text ≤ SOURCE_LIMIT
 within_limit text none =
     ⊎_elim (λ (long : SOURCE_LIMIT < length text). absurd (none LimitExceeded 0 (too_big long))) (λ (few : length text ≤ SOURCE_LIMIT). few)
     (cases_lt SOURCE_LIMIT (length text))

@@ -16,6 +16,8 @@ pub mod MissingInits
 pub mod NullMeant
 pub mod FaultNotes
 pub mod TextNotes
+pub mod FurtherFaults
 pub mod Working
 -- what the public clauses cite
 pub use Rattle.explanation_faults.specs.TextNotes.{AreTextNotes}
+pub use Rattle.explanation_faults.specs.FurtherFaults.{AreFurther}

@@ -8,3 +8,4 @@ pub mod LocksFound
 pub mod PassedFound
 pub mod NullsFound
 pub mod Values
+pub mod Others

@@ -13,6 +13,7 @@ ghost use Rattle.explanation_faults.specs.AmountsPassed.{IsAmountPassed, IsFirst
 ghost use Rattle.explanation_faults.specs.Working.Values.{FoundWords};
 
 use explanation_names::declared;
+use resolution::finding::Firsts;
 use source::memory::NoMemory;
 use syntax::tree::{Decl, Member, Pool};
 use types_symbols::members::Structure;
@@ -149,8 +150,8 @@ fn is_first_over(symbols: &SymbolTable, amount: Amount, at: usize) -> bool
 fn has_few_calls(maker: TableMaker, decls: &[Decl]) -> Result<bool, NoMemory>
     ensures { IfOk result (λ few. few ≡ few_calls (map decl_of decls.now)) }
 {
-    let mut least = None;
-    let symbols = SymbolTable::new(maker, decls, &mut least)?;
+    let mut firsts = Firsts::new();
+    let symbols = SymbolTable::new(maker, decls, &mut firsts)?;
     Ok(symbols.has_few_calls())
 }
 

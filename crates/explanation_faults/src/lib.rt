@@ -1,7 +1,7 @@
 //! What is told of a fault of a text beyond its line, and where it is told.
 //!
-//! - [`fault_notes`]: the notes on a fault: `specs/TextNotes.antt` and `specs/FaultNotes.antt` say which are true, and where there
-//!   must be one.
+//! - [`fault_told`]: the notes on a fault, and the faults that are told with it: `specs/TextNotes.antt` and
+//!   `specs/FaultNotes.antt` say which notes are true, and where there must be one; `specs/FurtherFaults.antt`, which faults.
 //! - `specs/ReasonNotes.antt`: why a fault is one, in words. `specs/NameSpaces.antt`: which names must differ, and which of two is the first. `specs/LocksAtHand.antt`: a lock for what
 //!   has none. `specs/PassedMembers.antt`: what an annotation passes. `specs/MissingInits.antt`: which `init` is missing.
 //!   `specs/NullMeant.antt`: whether `null` could be meant by a name. `specs/Vars.antt`: which `var` a name is. `specs/LimitsPassed.antt`, `AmountsPassed.antt`, `HelperLimits.antt`
@@ -13,6 +13,7 @@
 
 mod amounts_passed;
 mod first_inits;
+mod further;
 mod helper_limits;
 mod limits_passed;
 mod lock_paths;
@@ -30,4 +31,4 @@ mod tokens_there;
 mod tree_notes;
 mod vars;
 
-pub use text_notes::fault_notes;
+pub use text_notes::{FaultTold, fault_told};

@@ -7,45 +7,44 @@ ghost use Rattle.syntax.specs.Views.{tree_of};
 ghost use Rattle.types_symbols.specs.{decls_of};
 ghost use Rattle.resolution.specs.declared.why.Referent.TheVariants.{Local};
 ghost use Rattle.explanation_faults.specs.ReasonNotes.{type_words, kind_words, want_words, referent_words, role_words, hint_words, unwanted_words, side_words, no_result_words, misnamed_words, count_words, fixed_words, reason_words, reason_note};
-ghost use Rattle.explanation_faults.specs.Working.Values.{FoundWhy, FoundReason};
+ghost use Rattle.explanation_faults.specs.Working.Values.{FoundWhy, FoundReason, IsReasonBy};
 
 use core_lang::tree::LocalKind;
 use core_lang::value::ValueType;
 use explanation::Note;
-use resolution::laws::{least_fault, one_least};
+use resolution::finding::Firsts;
+use resolution::laws::{first_faults, least_fault, one_least};
 use resolution::wanted::{Sort, Want};
 use resolution::why::{Kind, Referent, Role, Why};
 use source::fault::{Code, Fault};
 use source::memory::NoMemory;
 use std::alloc::{AllocError, Global};
 use syntax::tree::Tree;
-use types::program::first_fault;
 use types_symbols::table::SymbolTable;
 
-/// The reason of this fault, if it is the first of its tree.
-fn first_reason(alloc: Global, tree: &Tree, fault: &Fault) -> Result<Option<Why>, NoMemory>
-    ensures { IfOk result (FoundReason (tree_of tree.now) fault.now.code fault.now.start) }
+/// The reason of this fault, if it is the first of these.
+fn first_reason(firsts: &Firsts, fault: &Fault) -> Option<Why>
+    ensures { IsReasonBy FoundReason firsts.now fault.now result }
 {
     least_fault();
     one_least();
-    let Some(found) = first_fault(alloc, tree)? else {
-        return Ok(None);
-    };
+    first_faults();
+    let found = firsts.first()?;
     if found.code == fault.code && found.start == fault.start {
-        return Ok(Some(found.why));
+        return Some(found.why);
     }
-    Ok(None)
+    None
 }
 
-/// The reason of this fault, if its code doesn't say all and it is the first of its tree.
-pub fn reason_of(alloc: Global, tree: &Tree, fault: &Fault) -> Result<Option<Why>, NoMemory>
-    ensures { IfOk result (FoundWhy (tree_of tree.now) fault.now.code fault.now.start) }
+/// The reason of this fault, if its code doesn't say all and it is the first of these.
+pub fn reason_of(firsts: &Firsts, fault: &Fault) -> Option<Why>
+    ensures { IsReasonBy FoundWhy firsts.now fault.now result }
 {
     match fault.code {
-        Code::WrongType => first_reason(alloc, tree, fault),
-        Code::WrongArgumentCount => first_reason(alloc, tree, fault),
-        Code::NotAssignable => first_reason(alloc, tree, fault),
-        _ => Ok(None),
+        Code::WrongType => first_reason(firsts, fault),
+        Code::WrongArgumentCount => first_reason(firsts, fault),
+        Code::NotAssignable => first_reason(firsts, fault),
+        _ => None,
     }
 }
 

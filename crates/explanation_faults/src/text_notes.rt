@@ -1,21 +1,34 @@
-//! What a text tells of its fault.
+//! What is told with a fault of a text.
 
 ghost use Rattle.std.specs.Prelude.{◌≡◌, [], ◌∷◌, IfOk, IsTrue, map};
 ghost use Rattle.explanation.specs.Notes.{note_of};
+ghost use Rattle.explanation.specs.Further.{further_of, nothing_further};
+ghost use Rattle.resolution.specs.Working.Laws.{the_firsts};
+ghost use Rattle.source.specs.Tokens.{seen};
+ghost use Rattle.syntax.specs.Views.{tree_of};
+ghost use Rattle.explanation_faults.specs.FaultNotes.{AreNotes};
+ghost use Rattle.explanation_faults.specs.FurtherFaults.{AreFurther};
 ghost use Rattle.explanation_faults.specs.TextNotes.{AreTextNotes, IsMarkFault, has_mark, mark_words};
 ghost use Rattle.explanation_faults.specs.Working.Values.{FoundTextLimit, IsItsFault};
 ghost use Rattle.explanation_faults.specs.Words.{note_of_all};
 
+use crate::further::others_of;
 use crate::lock_paths::is_limit_at;
 use crate::reasons::reason_of;
 use crate::tree_notes::{Known, return_notes, tree_notes};
-use explanation::Note;
+use explanation::{Further, Note};
 use explanation_tokens::token_notes;
 use lexer::lex;
 use parser::{find_tree, one_tree};
+use resolution::finding::Firsts;
+use resolution::laws::{first_faults, least_fault, one_least};
 use source::fault::{Code, Fault, Refusal};
 use source::memory::NoMemory;
+use source::mistake::Mistake;
+use source::token::Token;
 use std::alloc::Global;
+use syntax::tree::Tree;
+use types::program;
 use types_symbols::names::TableMaker;
 use types_symbols::table::SymbolTable;
 
@@ -93,50 +106,114 @@ fn mark_notes(alloc: Global) -> Result<Vec<Note>, NoMemory>
     Ok(notes)
 }
 
-/// What is told of a fault that is no byte order mark.
-fn other_notes(alloc: Global, text: &[u8], fault: &Fault) -> Result<Vec<Note>, NoMemory>
-    requires { IsMarkFault text.now fault.now.code fault.now.start → ⊥ }
-    ensures { IfOk result (λ notes. AreTextNotes text.now fault.now.code fault.now.start (map note_of notes.items)) }
+/// What is told with a fault of a text.
+#[derive(Debug, Drop)]
+pub struct FaultTold {
+    /// What is told of it beyond its line.
+    pub notes: Vec<Note>,
+    /// The faults that are told with it.
+    pub further: Further,
+}
+
+impl FaultTold {
+    // Notes, and no further fault.
+    fn alone(alloc: Global, notes: Vec<Note>) -> FaultTold
+        ensures notes { result.notes ≡ notes }
+        ensures further { further_of result.further ≡ nothing_further }
+    {
+        FaultTold {
+            notes,
+            further: Further::none(alloc),
+        }
+    }
+}
+
+/// What is told of a fault of a tree.
+fn notes_on_tree(
+    alloc: Global,
+    tokens: &[Token],
+    tree: &Tree,
+    judged: Judged<'_>,
+) -> Result<Vec<Note>, NoMemory>
+    requires { judged.firsts.now ≡ the_firsts (tree_of tree.now) }
+    ensures { IfOk result (λ notes. AreNotes (seen tokens.now) (tree_of tree.now) judged.entry.fault.now.code judged.entry.fault.now.start
+        (map note_of notes.items)) }
 {
-    one_tree();
-    let tokens = match lex(alloc, text) {
-        Ok(tokens) => tokens,
-        Err(Refusal::Fault(found)) => return limit_notes(alloc, text, &found, fault),
-        Err(Refusal::NoMemory) => return Err(NoMemory),
-    };
-    let Some(tree) = find_tree(alloc, &tokens)? else {
-        let notes = token_notes(alloc, tokens, fault)?;
-        return Ok(notes);
-    };
+    let Judged { fault, firsts } = judged;
     // (which needs no table of what is declared)
     if let Code::MisplacedReturn = fault.code {
         return return_notes(alloc, &tree.decls, fault.start);
     }
-    let why = reason_of(alloc, &tree, fault)?;
-    let mut least = None;
+    let why = reason_of(firsts, fault);
+    let mut again = Firsts::new();
     let maker = TableMaker {
         alloc,
         hashing: tree.hashing,
     };
-    let symbols = SymbolTable::new(maker, &tree.decls, &mut least)?;
-    tree_notes(alloc, &tokens, &symbols, Known { fault, why })
+    let symbols = SymbolTable::new(maker, &tree.decls, &mut again)?;
+    tree_notes(alloc, tokens, &symbols, Known { fault, why })
 }
 
-/// What is told of this fault of the text, beyond its line: what is advised on an unexpected token, and all that could come in its
+/// A fault, and the first faults of its tree.
+#[derive(Clone, Copy)]
+struct Judged<'a> {
+    fault: &'a Fault,
+    firsts: &'a Firsts,
+}
+
+/// What is told of a fault that is no byte order mark.
+fn other_told(alloc: Global, text: &[u8], fault: &Fault) -> Result<FaultTold, NoMemory>
+    requires { IsMarkFault text.now fault.now.code fault.now.start → ⊥ }
+    ensures notes { IfOk result (λ told. AreTextNotes text.now fault.now.code fault.now.start (map note_of told.notes.items)) }
+    ensures further { IfOk result (λ told. AreFurther text.now fault.now.code fault.now.start (further_of told.further)) }
+{
+    one_tree();
+    least_fault();
+    one_least();
+    first_faults();
+    let tokens = match lex(alloc, text) {
+        Ok(tokens) => tokens,
+        Err(Refusal::Fault(found)) => {
+            let notes = limit_notes(alloc, text, &found, fault)?;
+            return Ok(FaultTold::alone(alloc, notes));
+        }
+        Err(Refusal::NoMemory) => return Err(NoMemory),
+    };
+    let Some(tree) = find_tree(alloc, &tokens)? else {
+        let notes = token_notes(alloc, tokens, fault)?;
+        return Ok(FaultTold::alone(alloc, notes));
+    };
+    let firsts = program::first_faults(alloc, &tree)?;
+    let asked = Mistake {
+        code: fault.code,
+        start: fault.start,
+    };
+    let further = others_of(alloc, &firsts, asked)?;
+    let judged = Judged {
+        fault,
+        firsts: &firsts,
+    };
+    let notes = notes_on_tree(alloc, &tokens, &tree, judged)?;
+    Ok(FaultTold { notes, further })
+}
+
+/// What is told with this fault of the text. Beyond its line: what is advised on an unexpected token, and all that could come in its
 /// place; that the text begins with a byte order mark; where a name is declared first; which declared name could be meant by an
 /// unknown one; why it has the wrong type or count, or can't be assigned to; a lock that could protect it; which member an
 /// annotation passes; which `var` a name is; which limit is passed; which `init` is missing or the first; which `return` is missing.
 /// Only an unexpected token, a byte order mark and a fault of names, types, counts, annotations, bases, limits, `init`s or returns
-/// has such notes.
+/// has such notes. And where it is the first fault of names and types, those behind it, at most nineteen, and whether there are more.
 ///
 /// # Errors
 ///
 /// Want of memory.
-pub fn fault_notes(alloc: Global, text: &[u8], fault: &Fault) -> Result<Vec<Note>, NoMemory>
-    ensures { IfOk result (λ notes. AreTextNotes text.now fault.now.code fault.now.start (map note_of notes.items)) }
+pub fn fault_told(alloc: Global, text: &[u8], fault: &Fault) -> Result<FaultTold, NoMemory>
+    ensures notes { IfOk result (λ told. AreTextNotes text.now fault.now.code fault.now.start (map note_of told.notes.items)) }
+    ensures further { IfOk result (λ told. AreFurther text.now fault.now.code fault.now.start (further_of told.further)) }
 {
     if is_mark(text, fault) {
-        return mark_notes(alloc);
+        let notes = mark_notes(alloc)?;
+        return Ok(FaultTold::alone(alloc, notes));
     }
-    other_notes(alloc, text, fault)
+    other_told(alloc, text, fault)
 }

@@ -1,11 +1,13 @@
 -- The objects have no numbers with a fraction, so their text is known.
 use Rattle.std.proofs.Common.{◌≡◌, ℕ, List, [], ◌∷◌, Option, Some, None, false, map, refl}
+use Rattle.explanation.specs.Further.{Further}
 use Rattle.explanation.specs.Notes.{Note}
 use Rattle.explanation.specs.Warnings.{Warning}
 use Rattle.serde_json.specs.View.{items_of}
 use Rattle.serde_json.specs.Written.{has_float, items_have_float}
 use Rattle.source.specs.declared.fault.Fault.{Fault}
-use Rattle.explanation_json.specs.Json.{told_data, note_data, warning_data, fault_data, accepted_data}
+use Rattle.source.specs.declared.mistake.Mistake.{Mistake}
+use Rattle.explanation_json.specs.Json.{told_data, note_data, warning_data, further_fault_data, fault_data, accepted_data}
 
 none_in_told : (text : List ℕ) (start : Option ℕ) (words : List ℕ) → has_float (told_data text start words) ≡ false
 none_in_told text (Some start) words = refl
@@ -15,9 +17,13 @@ none_in_notes : (text : List ℕ) (notes : List Note) → items_have_float (item
 none_in_notes text [] = refl
 none_in_notes text (note ∷ notes) = rw (none_in_told text note.start note.words, none_in_notes text notes) refl
 
-pub none_in_fault : (file text : List ℕ) (fault : Fault) (notes : List Note) →
-    has_float (fault_data file text fault notes) ≡ false
-none_in_fault file text fault notes = rw (none_in_notes text notes) refl
+none_in_further : (text : List ℕ) (faults : List Mistake) → items_have_float (items_of (map (further_fault_data text) faults)) ≡ false
+none_in_further text [] = refl
+none_in_further text (fault ∷ faults) = none_in_further text faults
+
+pub none_in_fault : (file text : List ℕ) (fault : Fault) (notes : List Note) (further : Further) →
+    has_float (fault_data file text fault notes further) ≡ false
+none_in_fault file text fault notes further = rw (none_in_further text further.faults, none_in_notes text notes) refl
 
 none_in_warnings : (text : List ℕ) (warnings : List Warning) →
     items_have_float (items_of (map (warning_data text) warnings)) ≡ false

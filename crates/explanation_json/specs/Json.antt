@@ -4,6 +4,7 @@ use Rattle.std.specs.Prelude.{ℕ, ◌+◌, List, ◌++◌, Option, Some, None, 
 use Rattle.std.specs.Prelude.{drop, codes, string_bytes}
 use Rattle.std.specs.List.{prefix_len}
 use Rattle.code.specs.Listing.{line}
+use Rattle.explanation.specs.Further.{Further}
 use Rattle.explanation.specs.Notes.{Note}
 use Rattle.explanation.specs.Remedies.{remedy}
 use Rattle.explanation.specs.Warnings.{Warning}
@@ -11,6 +12,7 @@ use Rattle.serde_json.specs.Data.{Data, array, boolean, number, object, string, 
 use Rattle.serde_json.specs.View.{items_of}
 use Rattle.serde_json.specs.Written.{compact_text}
 use Rattle.source.specs.declared.fault.Fault.{Fault}
+use Rattle.source.specs.declared.mistake.Mistake.{Mistake}
 use Rattle.source.specs.Codes.{code_name, code_text}
 use Rattle.source.specs.Faults.{line_of, column_of, detail_text}
 use Rattle.source.specs.Texts.{is_name_byte}
@@ -58,19 +60,34 @@ warning_data text warning = told_data text (Some warning.start) warning.words
 abbrev pub warnings_data : List ℕ → List Warning → Data
 warnings_data text warnings = array (items_of (map (warning_data text) warnings))
 
+-- ---- further faults
+
+-- {"code":CODE,"end":POSITION,"start":POSITION,"text":WORDS}
+abbrev pub further_fault_data : List ℕ → Mistake → Data
+further_fault_data text fault =
+    object (member (codes "code") (string (code_name fault.code))
+    (member (codes "end") (position_data text (end_of text fault.start))
+    (member (codes "start") (position_data text fault.start)
+    (member (codes "text") (string (code_text fault.code)) no_members))))
+
+abbrev pub further_faults_data : List ℕ → List Mistake → Data
+further_faults_data text faults = array (items_of (map (further_fault_data text) faults))
+
 -- ---- the objects
 
 -- of a fault
-abbrev pub fault_data : List ℕ → List ℕ → Fault → List Note → Data
-fault_data file text fault notes =
+abbrev pub fault_data : List ℕ → List ℕ → Fault → List Note → Further → Data
+fault_data file text fault notes further =
     object (member (codes "accepted") (boolean false)
     (member (codes "code") (string (code_name fault.code))
     (member (codes "end") (position_data text (end_of text fault.start))
     (member (codes "file") (string file)
+    (member (codes "further") (further_faults_data text further.faults)
+    (member (codes "more") (boolean further.more)
     (member (codes "notes") (notes_data text notes)
     (member (codes "remedy") (string (remedy fault.code))
     (member (codes "start") (position_data text fault.start)
-    (member (codes "text") (string (code_text fault.code ++ detail_text (string_bytes fault.detail))) no_members))))))))
+    (member (codes "text") (string (code_text fault.code ++ detail_text (string_bytes fault.detail))) no_members))))))))))
 
 -- of a program without one
 abbrev pub accepted_data : List ℕ → List ℕ → List Note → List Warning → Data
@@ -81,8 +98,8 @@ accepted_data file text notes warnings =
     (member (codes "warnings") (warnings_data text warnings) no_members))))
 
 -- ---- the lines
-abbrev pub fault_json : List ℕ → List ℕ → Fault → List Note → List ℕ
-fault_json file text fault notes = line (compact_text (fault_data file text fault notes))
+abbrev pub fault_json : List ℕ → List ℕ → Fault → List Note → Further → List ℕ
+fault_json file text fault notes further = line (compact_text (fault_data file text fault notes further))
 
 abbrev pub accepted_json : List ℕ → List ℕ → List Note → List Warning → List ℕ
 accepted_json file text notes warnings = line (compact_text (accepted_data file text notes warnings))

@@ -12,6 +12,7 @@ use explanation::{Acceptance, Explanation, Note, Warning, remedy_of};
 use serde_json::{Map, Value, json, put};
 use source::fault::Fault;
 use source::memory::NoMemory;
+use source::mistake::Mistake;
 use std::alloc::{AllocError, Global};
 
 /// A note.
@@ -56,6 +57,29 @@ fn warning_values(
     let mut values = Vec::new(alloc);
     for warning in warnings {
         values.push(warning_value(alloc, places, warning)?)?;
+    }
+    Ok(Value::Array(values))
+}
+
+/// A further fault.
+fn further_value(alloc: Global, places: &Places<'_>, fault: Mistake) -> Result<Value, AllocError>
+    ensures { IfOk result (λ value. view value ≡ object.further_fault_data places.now.text.now fault) }
+{
+    let range = places.range(alloc, fault.start)?;
+    json!(in alloc; {"code": fault.code.name(), "end": range.end, "start": range.start, "text": fault.code.text()})
+}
+
+/// Further faults.
+fn further_values(
+    alloc: Global,
+    places: &Places<'_>,
+    faults: &[Mistake],
+) -> Result<Value, AllocError>
+    ensures { IfOk result (λ value. view value ≡ object.further_faults_data places.now.text.now faults.now) }
+{
+    let mut values = Vec::new(alloc);
+    for fault in faults {
+        values.push(further_value(alloc, places, *fault)?)?;
     }
     Ok(Value::Array(values))
 }
@@ -112,8 +136,16 @@ fn fault_value(alloc: Global, explanation: &Explanation<'_>) -> Result<Value, No
     let places = Places::of(alloc, explanation.text)?;
     let range = places.range(alloc, explanation.fault.start)?;
     let notes = note_values(alloc, &places, explanation.notes)?;
+    let further = further_values(alloc, &places, &explanation.further.faults)?;
     let mut map = fault_members(alloc, explanation.file, explanation.fault)?;
     put(&mut map, alloc, "end", range.end)?;
+    put(&mut map, alloc, "further", further)?;
+    put(
+        &mut map,
+        alloc,
+        "more",
+        Value::Bool(explanation.further.has_more),
+    )?;
     put(&mut map, alloc, "notes", notes)?;
     put(&mut map, alloc, "start", range.start)?;
     Ok(Value::Object(map))
@@ -140,7 +172,7 @@ fn accepted_value(alloc: Global, acceptance: &Acceptance<'_>) -> Result<Value, N
 }
 
 /// The object of a fault, in one line: its code and text, the file's name, where it begins and ends, each with line and column, the
-/// notes with their places, and what can be done about it.
+/// notes with their places, what can be done about it, and the further faults, each with its code, text and places.
 ///
 /// # Errors
 ///

@@ -40,8 +40,23 @@ row area inner a b c d e f g told = record {
   3 = told;
 }
 
-unfoldable pub rows : List Row
-rows =
+-- what other languages have
+unfoldable pub foreign_rows : List Row
+foreign_rows =
+    row Body Either Any Any Any Starts (Spelt foreign.Do) (Mark sign.OpenBrace) Any advice.Do
+    ∷ row Body Either Any Any Any Starts (Spelt foreign.Switch) (Mark sign.OpenParen) Any advice.Switch
+    ∷ row Top Either Any Any Any Any Any (Spelt foreign.Void) Name advice.Void
+    ∷ row Body Paren Any Any Any Any Any (Mark sign.Equals) Any advice.Equality
+    ∷ row Top Either Any Any Any Any Any (Mark sign.CloseBrace) Any advice.Unopened
+    ∷ row Anywhere Either Any Any Any Any Number (Mark sign.Dot) Number advice.Whole
+    ∷ row Anywhere Either Any Any Any Any Number Name (Mark sign.Semicolon) advice.Decimal
+    ∷ row Top Either Any Any (Word key.Pool) Name Name (Mark sign.Semicolon) Any advice.PoolSize
+    ∷ row Body Either Any Any Any Any Any (Word key.Lock) Any advice.NoLocking
+    ∷ []
+
+-- what is left out, or stands in another order
+unfoldable pub usual_rows : List Row
+usual_rows =
     row Anywhere Either Any Any Any Any Any (Mark sign.Slash) (Mark sign.Star) advice.Comment
     ∷ row Anywhere Either Any Any Any Any (Mark sign.Slash) (Mark sign.Star) Any advice.Comment
     ∷ row Body Either Any Any Any Any (Spelt foreign.For) Any Any advice.For
@@ -164,6 +179,10 @@ rows =
     ∷ row Anywhere Brace Any Any Any Any Any TextEnd Any advice.OpenBrace
     ∷ []
 
+-- of these the first that fits is told
+abbrev pub rows : List Row
+rows = foreign_rows ++ usual_rows
+
 -- ---- which row is told
 
 -- the token at a column of a shape that is laid over the tokens, so that the one behind the first n is at column 5
@@ -193,6 +212,15 @@ first_row ts n = find (row_fits ts n) rows
 -- `A` to `G` stand for the tokens of the shape
 abbrev pub words : Advice → List ℕ
 words (advice.Meant w) = codes " could be meant"
+words advice.Do = codes "there is no `do`: write the block once ahead of `while (..) { .. }`"
+words advice.Switch = codes "there is no `switch`: write `if (..) { .. } else { if (..) { .. } }`"
+words advice.Void = codes "a section is declared by `atomic G(..) { .. }`, a helper by `call G(..) { .. }`"
+words advice.Equality = codes "two values are compared by `==`, and an `=` stands in a statement of its own"
+words advice.Unopened = codes "this `}` closes nothing: it is one too many, or a `{` is missing before it"
+words advice.Whole = codes "numbers are whole: there are no fractions"
+words advice.Decimal = codes "a number is written with decimal digits alone"
+words advice.PoolSize = codes "a pool says how many objects it has: `pool D E[1];`"
+words advice.NoLocking = codes "leave it out: the compiler takes the locks and gives them back"
 words advice.Comment = codes "a comment begins with `//`, and goes to the end of the line"
 words advice.For = codes "there is no `for`: write `while (..) { .. }`"
 words advice.Leave = codes "there is no `E`: make the condition of the `while` false"

@@ -21,6 +21,15 @@ use std::alloc::{AllocError, Global};
 pub enum Advice {
     /// The keyword that a name could be meant for.
     Meant(Keyword),
+    Do,
+    Switch,
+    Void,
+    Equality,
+    Unopened,
+    Whole,
+    Decimal,
+    PoolSize,
+    NoLocking,
     Comment,
     For,
     Leave,
@@ -85,6 +94,19 @@ impl Advice {
     {
         match self {
             Advice::Meant(_) => " could be meant",
+            Advice::Do => "there is no `do`: write the block once ahead of `while (..) { .. }`",
+            Advice::Switch =>
+                "there is no `switch`: write `if (..) { .. } else { if (..) { .. } }`",
+            Advice::Void =>
+                "a section is declared by `atomic G(..) { .. }`, a helper by `call G(..) { .. }`",
+            Advice::Equality =>
+                "two values are compared by `==`, and an `=` stands in a statement of its own",
+            Advice::Unopened =>
+                "this `}` closes nothing: it is one too many, or a `{` is missing before it",
+            Advice::Whole => "numbers are whole: there are no fractions",
+            Advice::Decimal => "a number is written with decimal digits alone",
+            Advice::PoolSize => "a pool says how many objects it has: `pool D E[1];`",
+            Advice::NoLocking => "leave it out: the compiler takes the locks and gives them back",
             Advice::Comment => "a comment begins with `//`, and goes to the end of the line",
             Advice::For => "there is no `for`: write `while (..) { .. }`",
             Advice::Leave => "there is no `E`: make the condition of the `while` false",

@@ -8,7 +8,8 @@ ghost use Rattle.explanation_tokens.specs.Around.{behind_all};
 ghost use Rattle.explanation_tokens.specs.Working.Seen.{IsView, around_of, fitting, token_seen};
 
 use crate::area::{Around, fits_area, fits_inner};
-use crate::rows::{ROWS, Row, Shape};
+use crate::foreign_rows::FOREIGN_ROWS;
+use crate::rows::{Row, Shape, USUAL_ROWS};
 use crate::view::View;
 use source::memory::NoMemory;
 use source::token::Token;
@@ -92,6 +93,9 @@ impl<'a> View<'a> {
     pub fn first_row(&self) -> Option<Row>
         ensures { result ≡ find (fitting self.now) rows }
     {
-        self.first_of(&ROWS)
+        match self.first_of(&FOREIGN_ROWS) {
+            Some(row) => Some(row),
+            None => self.first_of(&USUAL_ROWS),
+        }
     }
 }

@@ -2,7 +2,8 @@
 //! the token that is there.
 //!
 //! - [`token_notes`]: the notes.
-//! - [`rows::ROWS`]: the table of advice: which tokens, and where, lead to which. The first row that fits is told.
+//! - [`foreign_rows::FOREIGN_ROWS`], [`rows::USUAL_ROWS`]: the table of advice: which tokens, and where, lead to which. The first
+//!   row that fits is told.
 //! - [`pattern::Pattern`], [`area::Area`]: what a row says of a token, and of the place. [`view::View`]: the tokens around a place;
 //!   `fitting` finds the row. [`advice::Advice`]: what is advised, in words.
 //! - [`candidate::Candidate`]: what could come.
@@ -17,6 +18,7 @@ pub mod advice;
 pub mod area;
 pub mod candidate;
 pub mod fitting;
+pub mod foreign_rows;
 mod notes;
 pub mod pattern;
 pub mod rows;

@@ -1,4 +1,4 @@
-//! The table of advice: which tokens lead to which.
+//! The table of advice: which tokens lead to which. The first row that fits tells its advice.
 
 use crate::advice::Advice;
 use crate::area::Area::{self, Anywhere, Body, Calls, Fields, Guarded, Head, Top};
@@ -33,8 +33,8 @@ pub struct Shape(
 #[derive(Clone, Copy)]
 pub struct Row(pub Area, pub Inner, pub Shape, pub Advice);
 
-/// The table. The first row that fits tells its advice.
-pub const ROWS: [Row; 120] = [
+/// The rows behind those of [`FOREIGN_ROWS`](crate::foreign_rows::FOREIGN_ROWS): of what is left out, or stands in another order.
+pub const USUAL_ROWS: [Row; 120] = [
     Row(
         Anywhere,
         Either,

@@ -12,6 +12,7 @@ use crate::name_set::{NameSet, SetMaker};
 use crate::names::push_called;
 use crate::protecting::protecting;
 use crate::statements::all_of;
+use resolution::finding::Firsts;
 use source::memory::NoMemory;
 use std::alloc::Global;
 use syntax::tree::{Decl, Item, Member, Name, Section, Stmt, Tree};
@@ -235,12 +236,12 @@ impl<'a> Program<'a> {
         let cells = NameSet::of(maker, &cell_names(alloc, decls)?)?;
         let helpers = NameSet::of(maker, &helpers_called(alloc, decls)?)?;
         let sections = NameSet::of(maker, &sections_called(alloc, decls)?)?;
-        let mut least = None;
+        let mut firsts = Firsts::new();
         let tables = TableMaker {
             alloc,
             hashing: tree.hashing,
         };
-        let symbols = SymbolTable::new(tables, decls, &mut least)?;
+        let symbols = SymbolTable::new(tables, decls, &mut firsts)?;
         let classes = protecting(alloc, &symbols)?;
         Ok(Program {
             maker,

@@ -4,10 +4,12 @@ use Rattle.compiler.specs.Cycles.{IsWrittenProgram}
 use Rattle.compiler.specs.Programs.{Accepts, IsOfFirstPass}
 use Rattle.core_lang.specs.declared.typed.Typed.{Typed}
 use Rattle.core_lang_expansion.specs.Data.{IsExpanded}
+use Rattle.explanation.specs.Further.{Further, further_of, nothing_further}
 use Rattle.explanation.specs.Notes.{Note, note_of}
 use Rattle.explanation.specs.Warnings.{Warning, warning_of}
 use Rattle.explanation_cycles.specs.CycleNotes.{AreCycleNotes}
 use Rattle.explanation_cycles.specs.OrderNotes.{AreOrderNotes}
+use Rattle.explanation_faults.specs.FurtherFaults.{AreFurther}
 use Rattle.explanation_faults.specs.TextNotes.{AreTextNotes}
 use Rattle.explanation_warnings.specs.TextWarnings.{AreTextWarnings}
 use Rattle.lockorder.specs.declared.ranks.Edge.{Edge}
@@ -17,21 +19,22 @@ use Rattle.source.specs.declared.fault.Fault.{Fault}
 use Rattle.explanations.specs.declared.telling.Told as written
 use Rattle.explanations.specs.declared.telling.Told.TheVariants as variant
 
--- a fault and the notes on it; or, of a text that is accepted, the notes on its order and its warnings
+-- a fault, the notes on it and further faults; or, of a text that is accepted, the notes on its order and its warnings
 pub data Told : Type 0 where
-  faulty : Fault → List Note → Told
+  faulty : Fault → List Note → Further → Told
   accepted : List Note → List Warning → Told
 
 -- the same of a value of the code
 abbrev pub said_by : written.Told → Told
-said_by (variant.Faulty fault notes) = faulty fault (map note_of notes.items)
+said_by (variant.Faulty fault notes further) = faulty fault (map note_of notes.items) (further_of further)
 said_by (variant.Accepted notes warnings) = accepted (map note_of notes.items) (map warning_of warnings.items)
 
--- a true fault of the first pass that has one, with no detail, and true notes on it
-pub record IsExplained (text : List ℕ) (fault : Fault) (notes : List Note) : Type 0 where
+-- a true fault of the first pass that has one, with no detail, true notes on it, and the faults that are told with it
+pub record IsExplained (text : List ℕ) (fault : Fault) (notes : List Note) (further : Further) : Type 0 where
   pub given : IsOfFirstPass text fault
   pub bare : string_bytes fault.detail ≡ []
   pub tell : AreTextNotes text fault.code fault.start notes
+  pub others : AreFurther text fault.code fault.start further
 
 -- a fault of the order of locks, and notes on each edge of a cycle of the program that the text means
 pub record IsCycleExplained (text : List ℕ) (fault : Fault) (notes : List Note) : Type 0 where
@@ -57,8 +60,9 @@ pub record IsFaultless (text : List ℕ) (notes : List Note) (warnings : List Wa
 
 -- what is told of a text
 pub data IsToldOf (text : List ℕ) : Told → Type 0 where
-  explained : {fault : Fault} {notes : List Note} → IsExplained text fault notes → IsToldOf text (faulty fault notes)
+  explained : {fault : Fault} {notes : List Note} {further : Further} → IsExplained text fault notes further →
+      IsToldOf text (faulty fault notes further)
   cycle_explained : {fault : Fault} {notes : List Note} → IsCycleExplained text fault notes →
-      IsToldOf text (faulty fault notes)
+      IsToldOf text (faulty fault notes nothing_further)
   faultless : {notes : List Note} {warnings : List Warning} → IsFaultless text notes warnings →
       IsToldOf text (accepted notes warnings)

@@ -7,9 +7,9 @@ ghost use Rattle.compiler.specs.Working.Orders.{IsOrdered};
 ghost use Rattle.explanations.specs.Told.{IsToldOf, said_by};
 
 use compiler::{Cyclic, Ordered, examine};
-use explanation::{Note, Warning};
+use explanation::{Further, Note, Warning};
 use explanation_cycles::{cycle_notes, order_notes};
-use explanation_faults::fault_notes;
+use explanation_faults::fault_told;
 use explanation_warnings::text_warnings;
 use source::fault::{Fault, Refusal};
 use source::memory::NoMemory;
@@ -24,6 +24,8 @@ pub enum Told {
         fault: Fault,
         /// What is told beyond its line.
         notes: Vec<Note>,
+        /// The faults that are told with it.
+        further: Further,
     },
     /// It is accepted.
     Accepted {
@@ -40,8 +42,12 @@ fn told_of_fault(alloc: Global, text: &[u8], fault: Fault) -> Result<Told, NoMem
     requires bare { string_bytes fault.detail ≡ [] }
     ensures { IfOk result (λ told. IsToldOf text.now (said_by told)) }
 {
-    let notes = fault_notes(alloc, text, &fault)?;
-    Ok(Told::Faulty { fault, notes })
+    let told = fault_told(alloc, text, &fault)?;
+    Ok(Told::Faulty {
+        fault,
+        notes: told.notes,
+        further: told.further,
+    })
 }
 
 /// What is told of a cycle.
@@ -53,6 +59,7 @@ fn told_of_cycle(alloc: Global, text: &[u8], cyclic: Cyclic) -> Result<Told, NoM
     Ok(Told::Faulty {
         fault: cyclic.fault,
         notes,
+        further: Further::none(alloc),
     })
 }
 
@@ -72,7 +79,7 @@ fn told_of_order(alloc: Global, text: &[u8], ordered: &Ordered) -> Result<Told, 
 }
 
 /// What is told of a text: its fault, which is the one of the first pass that has any, with what is told beyond its
-/// line; or, where it has none, the order of the locks of its program and its warnings.
+/// line and the faults that are told with it; or, where it has none, the order of the locks of its program and its warnings.
 ///
 /// # Errors
 ///

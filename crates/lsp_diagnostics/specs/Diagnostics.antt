@@ -12,6 +12,7 @@ use Rattle.serde_json.specs.View.{items_of}
 use Rattle.source.specs.Codes.{code_name, code_text}
 use Rattle.source.specs.Faults.{detail_text}
 use Rattle.source.specs.declared.fault.Fault.{Fault}
+use Rattle.source.specs.declared.mistake.Mistake.{Mistake}
 
 -- of the word that begins at the place
 abbrev pub word_range : List ℕ → ℕ → Data
@@ -72,6 +73,21 @@ fault_data uri text fault notes =
     (member (codes "severity") (number (unsigned ERROR))
     (member (codes "source") source no_members))))))
 
+-- ---- of a further fault
+
+-- its text, and what can be done about it
+abbrev pub further_message : Mistake → List ℕ
+further_message fault = code_text fault.code ++ next_line (remedy fault.code)
+
+-- {"code":CODE,"message":MESSAGE,"range":RANGE,"severity":1,"source":"autolock"}
+abbrev pub further_data : List ℕ → Mistake → Data
+further_data text fault =
+    object (member (codes "code") (string (code_name fault.code))
+    (member (codes "message") (string (further_message fault))
+    (member (codes "range") (word_range text fault.start)
+    (member (codes "severity") (number (unsigned ERROR))
+    (member (codes "source") source no_members)))))
+
 -- ---- of a warning
 
 -- {"message":WORDS,"range":RANGE,"severity":2,"source":"autolock"}
@@ -84,9 +100,10 @@ warning_data text warning =
 
 -- ---- the list
 
--- one diagnostic of a fault; of an accepted text one of each warning
+-- one diagnostic of a fault and of each further one; of an accepted text one of each warning
 abbrev pub diagnostics_data : List ℕ → List ℕ → Told → Data
-diagnostics_data uri text (faulty fault notes) = array (items_of (fault_data uri text fault notes ∷ []))
+diagnostics_data uri text (faulty fault notes further) =
+    array (items_of (fault_data uri text fault notes ∷ map (further_data text) further.faults))
 diagnostics_data uri text (accepted notes warnings) = array (items_of (map (warning_data text) warnings))
 
 -- it is that of what is told of the text

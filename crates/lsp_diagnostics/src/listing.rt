@@ -1,6 +1,6 @@
 //! The list. The one error is a refused growth.
 
-ghost use Rattle.std.specs.Prelude.{◌≡◌, ◌++◌, IfOk, OnOk, false, map};
+ghost use Rattle.std.specs.Prelude.{◌≡◌, ◌++◌, ◌∷◌, IfOk, OnOk, false, map};
 ghost use Rattle.std.specs.List.{flat_map};
 ghost use Rattle.serde_json.specs.Data.{array};
 ghost use Rattle.serde_json.specs.View.{view, items_of};
@@ -10,13 +10,14 @@ ghost use Rattle.explanation.specs.Warnings.{warning_of};
 ghost use Rattle.explanations.specs.Told.{said_by};
 ghost use Rattle.lsp_diagnostics.specs.Diagnostics as list;
 
-use crate::messages::fault_message;
+use crate::messages::{fault_message, further_message};
 use crate::places::{Document, Places};
 use explanation::{Note, Warning};
 use explanations::{Told, told_of};
 use serde_json::{Value, json};
 use source::fault::Fault;
 use source::memory::NoMemory;
+use source::mistake::Mistake;
 use std::alloc::{AllocError, Global};
 
 /// Which tool a diagnostic is of.
@@ -74,6 +75,48 @@ fn fault_value(
         "relatedInformation": &related, "severity": ERROR, "source": SOURCE})
 }
 
+/// A further fault.
+fn further_value(alloc: Global, places: &Places<'_>, fault: Mistake) -> Result<Value, AllocError>
+    ensures { IfOk result (λ told. view told ≡ list.further_data places.now.document.text.now fault) }
+{
+    let message = further_message(alloc, fault)?;
+    let range = places.range(alloc, fault.start)?;
+    json!(in alloc; {"code": fault.code.name(), "message": message.as_str(), "range": &range,
+        "severity": ERROR, "source": SOURCE})
+}
+
+/// Adds further faults.
+fn push_further(
+    alloc: Global,
+    places: &Places<'_>,
+    values: &mut Vec<Value>,
+    faults: &[Mistake],
+) -> Result<(), AllocError>
+    ensures { OnOk result (map view values.new.items ≡ map view values.old.items
+        ++ map (list.further_data places.now.document.text.now) faults.now) }
+{
+    for fault in faults {
+        values.push(further_value(alloc, places, *fault)?)?;
+    }
+    Ok(())
+}
+
+/// A fault, and further ones.
+fn faulty_values(
+    alloc: Global,
+    places: &Places<'_>,
+    first: Value,
+    faults: &[Mistake],
+) -> Result<Value, AllocError>
+    ensures { IfOk result (λ told. view told ≡ array (items_of (view first
+        ∷ map (list.further_data places.now.document.text.now) faults.now))) }
+{
+    let mut values = Vec::new(alloc);
+    values.push(first)?;
+    push_further(alloc, places, &mut values, faults)?;
+    Ok(Value::Array(values))
+}
+
 /// A warning.
 fn warning_value(alloc: Global, places: &Places<'_>, warning: &Warning) -> Result<Value, AllocError>
     ensures { IfOk result (λ told. view told ≡ list.warning_data places.now.document.text.now
@@ -106,15 +149,20 @@ fn told_value(alloc: Global, places: &Places<'_>, told: &Told) -> Result<Value, 
         places.now.document.text.now (said_by told.now)) }
 {
     match told {
-        Told::Faulty { fault, notes } => {
-            let value = fault_value(alloc, places, fault, notes)?;
-            json!(in alloc; [&value])
+        Told::Faulty {
+            fault,
+            notes,
+            further,
+        } => {
+            let first = fault_value(alloc, places, fault, notes)?;
+            faulty_values(alloc, places, first, &further.faults)
         }
         Told::Accepted { warnings, .. } => warning_values(alloc, places, warnings),
     }
 }
 
-/// The diagnostics of a text: of its fault one, an error, with the notes and what can be done; of an accepted text one
+/// The diagnostics of a text: of its fault one, an error, with the notes and what can be done, and of each further
+/// fault one; of an accepted text one
 /// for each warning. Where there is related information it is of this URI.
 ///
 /// # Errors

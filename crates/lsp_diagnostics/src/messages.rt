@@ -8,6 +8,7 @@ ghost use Rattle.lsp_diagnostics.specs.Diagnostics as list;
 use explanation::{Note, remedy_of};
 use explanation_json::fault_words;
 use source::fault::Fault;
+use source::mistake::Mistake;
 use std::alloc::{AllocError, Global};
 
 /// Adds words in a line of their own.
@@ -45,6 +46,15 @@ pub fn fault_message(alloc: Global, fault: &Fault, notes: &[Note]) -> Result<Str
 {
     let mut message = fault_words(alloc, fault)?;
     push_notes(&mut message, notes)?;
+    push_line(&mut message, remedy_of(fault.code))?;
+    Ok(message)
+}
+
+/// The message of a further fault: its text, and a line for what can be done.
+pub fn further_message(alloc: Global, fault: Mistake) -> Result<String, AllocError>
+    ensures { IfOk result (λ message. string_bytes message ≡ list.further_message fault) }
+{
+    let mut message = String::from_str(alloc, fault.code.text())?;
     push_line(&mut message, remedy_of(fault.code))?;
     Ok(message)
 }

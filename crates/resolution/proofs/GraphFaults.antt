@@ -31,7 +31,7 @@ of_graph decls f i =
     among_right f (declaration_faults decls) (map plain (graph_faults (tree_graph decls))) (among_plain f (graph_faults (tree_graph decls)) i)
 
 -- a fault of the graph has a code that says all
-plain_code : (decls : List Decl) (c : Code) (p : ℕ) → IsGraphFault (tree_graph decls) c p → IsFaultFor decls c p why.Plain
+pub plain_code : (decls : List Decl) (c : Code) (p : ℕ) → IsGraphFault (tree_graph decls) c p → IsFaultFor decls c p why.Plain
 plain_code decls c p (recursive h) = plainly tt (of_calls (recursive h))
 plain_code decls c p (over_limit h) = plainly tt (of_calls (over_limit h))
 

@@ -46,5 +46,7 @@ pub mod LaidScripts
 pub mod WithinLimits
 pub mod CallSites
 pub mod TreeGraphs
+pub mod Placing
+pub mod FirstOnes
 pub mod GraphFaults
 pub mod WellFormed

@@ -14,6 +14,7 @@ pub mod Where
 pub mod Reasons
 pub mod CallGraphs
 pub mod Faults
+pub mod FirstFaults
 pub mod Working
 pub mod Theory
 -- what the public clauses cite

@@ -1,4 +1,5 @@
 -- Lemmas, which are proved here for proofs of the crates above. Nobody has to believe these files: they are checked.
 pub mod Facts
 pub mod Leasts
+pub mod Firsts
 pub mod Blocks

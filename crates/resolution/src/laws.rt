@@ -2,6 +2,7 @@
 
 ghost use Rattle.resolution.specs.Working.Laws.{ExpressionsByRules, FoundAreAssigned, AssignedAreFound, WantedAreAsked, FinalsByRules, StatementsByRules, BodiesByRules, SectionsByRules};
 ghost use Rattle.resolution.specs.Working.Laws.{SortsByRules, ConstantsByRules, ArgumentsByRules, OpeningsByRules, ReferencesByRules};
+ghost use Rattle.resolution.specs.Working.Laws.{TheFirstsAreFirstFaults, TheFirstIsTheLeast};
 ghost use Rattle.resolution.specs.Working.Laws.{TheLeastIsAFault, TheLeastHasItsReason, NoneGoesBeforeTheLeast, NoLeastIsNoFault, HaveAtMostOneLeast, FaultlessAreResolved, ResolvedByRules, RulesAreResolved, StandsForOne, GraphOfResolved, ResolvedAreChecked, WithoutHelpersAreWellFormed};
 
 use core_lang_calls::laws::{faultless_keep_limits, listed_faults};
@@ -13,6 +14,14 @@ pub fn least_fault()
     ensures reason { TheLeastHasItsReason }
     ensures least { NoneGoesBeforeTheLeast }
     ensures none { NoLeastIsNoFault }
+{
+    listed_faults();
+}
+
+/// The first faults of the list are first faults of the program, and the first of them is the least.
+pub fn first_faults()
+    ensures firsts { TheFirstsAreFirstFaults }
+    ensures first { TheFirstIsTheLeast }
 {
     listed_faults();
 }

@@ -11,9 +11,9 @@ ghost use Rattle.resolution.specs.Working.Building.{resolved_from};
 ghost use Rattle.resolution.specs.Limits.{section_limits, helper_limits};
 ghost use Rattle.resolution.specs.Resolved.{Resolves};
 ghost use Rattle.resolution.specs.Faults.{IsFault, IsRefusal, HasNoFault};
-ghost use Rattle.resolution.specs.Working.Laws.{DeclaresNoHelper, the_least};
+ghost use Rattle.resolution.specs.Working.Laws.{DeclaresNoHelper, the_firsts};
 ghost use Rattle.source.specs.Mistakes.{IsLeastOf};
-ghost use Rattle.resolution.specs.Working.Findings.{least_of};
+ghost use Rattle.resolution.specs.Working.Findings.{found_in};
 ghost use Rattle.resolution.specs.Working.FaultLists.{global_faults, array_faults, section_faults, decl_faults, each_faults, items_faults};
 ghost use Rattle.types_symbols.specs.{decls_of};
 ghost use Rattle.types_declarations.specs.Working.Grown.{built};
@@ -22,7 +22,7 @@ ghost use Rattle.types.specs.Working.Whole.{known, judged_faults, extended_if, g
 use core_lang::shape::Shape;
 use core_lang::typed::Typed;
 use core_lang::{shape, typed};
-use resolution::finding::Least;
+use resolution::finding::Firsts;
 use resolution::laws;
 use source::fault::{Fault, Refusal};
 use source::memory::NoMemory;
@@ -50,19 +50,19 @@ struct Judge<'a> {
 
 impl<'a> Judge<'a> {
     // A struct, which has this place.
-    #[tactic(auto, using(resolution::specs::Theory::Leasts::least_append))]
+    #[tactic(auto, using(resolution::specs::Theory::Leasts::found_append))]
     fn judge_struct(
         &self,
         place: usize,
         table: &'a Structure<'a>,
         grown: &mut Grown,
-        least: &mut Least,
+        firsts: &mut Firsts,
     ) -> Result<(), AllocError>
         ensures value { OnOk result (built grown.new ≡ extended_if (known self.now) place (built grown.old) (struct (struct_of table.now))) }
-        ensures faults { OnOk result (least.new ≡ least_of least.old (decl_faults (known self.now) place (struct (struct_of table.now)))) }
+        ensures faults { OnOk result (firsts.new ≡ found_in firsts.old (decl_faults (known self.now) place (struct (struct_of table.now)))) }
     {
         let members = &table.item().members;
-        self.builder.note_members(place, table, members, least)?;
+        self.builder.note_members(place, table, members, firsts)?;
         if grown.is_right {
             grown.is_right = self.builder.add_struct(place, table, &mut grown.program)?;
         }
@@ -70,21 +70,21 @@ impl<'a> Judge<'a> {
     }
 
     // A global.
-    #[tactic(auto, using(resolution::specs::Theory::Leasts::least_append))]
+    #[tactic(auto, using(resolution::specs::Theory::Leasts::found_append))]
     fn judge_global(
         &self,
         v: &Variable,
         grown: &mut Grown,
-        least: &mut Least,
+        firsts: &mut Firsts,
     ) -> Result<(), AllocError>
         ensures value { OnOk result (built grown.new ≡ global_if (known self.now) (built grown.old) (variable_of v.now)) }
-        ensures faults { OnOk result (least.new ≡ least_of least.old (global_faults (known self.now) (variable_of v.now))) }
+        ensures faults { OnOk result (firsts.new ≡ found_in firsts.old (global_faults (known self.now) (variable_of v.now))) }
     {
         let symbols = self.builder.symbols;
-        note_type(symbols, &v.value_type, least);
-        note_lock(symbols, &v.name, &v.protection, least);
+        note_type(symbols, &v.value_type, firsts);
+        note_lock(symbols, &v.name, &v.protection, firsts);
         let wanted = want(type_outside(symbols, &v.value_type));
-        note_opening(symbols, wanted, &v.value, least);
+        note_opening(symbols, wanted, &v.value, firsts);
         if grown.is_right {
             grown.is_right = self.builder.add_global(v, &mut grown.program)?;
         }
@@ -92,14 +92,19 @@ impl<'a> Judge<'a> {
     }
 
     // An array.
-    #[tactic(auto, using(resolution::specs::Theory::Leasts::least_append))]
-    fn judge_array(&self, a: &Array, grown: &mut Grown, least: &mut Least) -> Result<(), AllocError>
+    #[tactic(auto, using(resolution::specs::Theory::Leasts::found_append))]
+    fn judge_array(
+        &self,
+        a: &Array,
+        grown: &mut Grown,
+        firsts: &mut Firsts,
+    ) -> Result<(), AllocError>
         ensures value { OnOk result (built grown.new ≡ array_if (known self.now) (built grown.old) (array_of a.now)) }
-        ensures faults { OnOk result (least.new ≡ least_of least.old (array_faults (known self.now) (array_of a.now))) }
+        ensures faults { OnOk result (firsts.new ≡ found_in firsts.old (array_faults (known self.now) (array_of a.now))) }
     {
         let symbols = self.builder.symbols;
-        note_type(symbols, &a.value_type, least);
-        note_lock(symbols, &a.name, &a.protection, least);
+        note_type(symbols, &a.value_type, firsts);
+        note_lock(symbols, &a.name, &a.protection, firsts);
         if grown.is_right {
             grown.is_right = self.builder.add_array(a, &mut grown.program)?;
         }
@@ -107,19 +112,19 @@ impl<'a> Judge<'a> {
     }
 
     // A pool, which has this place.
-    #[tactic(auto, using(resolution::specs::Theory::Leasts::least_append))]
+    #[tactic(auto, using(resolution::specs::Theory::Leasts::found_append))]
     fn judge_pool(
         &self,
         place: usize,
         p: &Pool,
         grown: &mut Grown,
-        least: &mut Least,
+        firsts: &mut Firsts,
     ) -> Result<(), AllocError>
         ensures value { OnOk result (built grown.new ≡ extended_if (known self.now) place (built grown.old) (pool (pool_of p.now))) }
-        ensures faults { OnOk result (least.new ≡ least_of least.old (decl_faults (known self.now) place (pool (pool_of p.now)))) }
+        ensures faults { OnOk result (firsts.new ≡ found_in firsts.old (decl_faults (known self.now) place (pool (pool_of p.now)))) }
     {
-        note_target(self.builder.symbols, &p.target, least);
-        note_missing(self.builder.symbols, place, p, least);
+        note_target(self.builder.symbols, &p.target, firsts);
+        note_missing(self.builder.symbols, place, p, firsts);
         if grown.is_right {
             grown.is_right = self.builder.add_pool(place, p, &mut grown.program)?;
         }
@@ -131,12 +136,12 @@ impl<'a> Judge<'a> {
         &self,
         s: &Section,
         grown: &mut Grown,
-        least: &mut Least,
+        firsts: &mut Firsts,
     ) -> Result<(), AllocError>
         ensures value { OnOk result (built grown.new ≡ section_if (known self.now) (built grown.old) (section_of s.now)) }
-        ensures faults { OnOk result (least.new ≡ least_of least.old (section_faults (known self.now) section_limits (section_of s.now))) }
+        ensures faults { OnOk result (firsts.new ≡ found_in firsts.old (section_faults (known self.now) section_limits (section_of s.now))) }
     {
-        let section = judge_section(self.builder.alloc, self.builder.symbols, s, least)?;
+        let section = judge_section(self.builder.alloc, self.builder.symbols, s, firsts)?;
         if grown.is_right {
             grown.is_right = add_section(section, &mut grown.program)?;
         }
@@ -148,12 +153,12 @@ impl<'a> Judge<'a> {
         &self,
         s: &Section,
         grown: &mut Grown,
-        least: &mut Least,
+        firsts: &mut Firsts,
     ) -> Result<(), AllocError>
         ensures value { OnOk result (built grown.new ≡ helper_if (known self.now) (built grown.old) (section_of s.now)) }
-        ensures faults { OnOk result (least.new ≡ least_of least.old (section_faults (known self.now) helper_limits (section_of s.now))) }
+        ensures faults { OnOk result (firsts.new ≡ found_in firsts.old (section_faults (known self.now) helper_limits (section_of s.now))) }
     {
-        let helper = judge_helper(self.builder.alloc, self.builder.symbols, s, least)?;
+        let helper = judge_helper(self.builder.alloc, self.builder.symbols, s, firsts)?;
         if grown.is_right {
             grown.is_right = add_helper(helper, &mut grown.program)?;
         }
@@ -165,12 +170,12 @@ impl<'a> Judge<'a> {
         &self,
         t: &Thread,
         grown: &mut Grown,
-        least: &mut Least,
+        firsts: &mut Firsts,
     ) -> Result<(), AllocError>
         ensures value { OnOk result (built grown.new ≡ thread_if (known self.now) (built grown.old) (thread_of t.now)) }
-        ensures faults { OnOk result (least.new ≡ least_of least.old (items_faults (known self.now) (items_of t.now.items.items))) }
+        ensures faults { OnOk result (firsts.new ≡ found_in firsts.old (items_faults (known self.now) (items_of t.now.items.items))) }
     {
-        note_items(self.builder.symbols, &t.items, least);
+        note_items(self.builder.symbols, &t.items, firsts);
         if grown.is_right {
             let calls = typed_calls(self.builder.alloc, self.builder.symbols, &t.items)?;
             grown.is_right = self.builder.add_thread(&t.name, calls, &mut grown.program)?;
@@ -179,17 +184,17 @@ impl<'a> Judge<'a> {
     }
 
     // A declaration, which has this place.
-    #[tactic(auto, using(resolution::specs::Theory::Leasts::least_append))]
+    #[tactic(auto, using(resolution::specs::Theory::Leasts::found_append))]
     fn judge_decl(
         &self,
         place: usize,
         d: &Decl,
         grown: &mut Grown,
-        least: &mut Least,
+        firsts: &mut Firsts,
     ) -> Result<(), AllocError>
         requires { slice_get (known self.now) place ≡ Some (decl_of d.now) }
         ensures value { OnOk result (built grown.new ≡ extended_if (known self.now) place (built grown.old) (decl_of d.now)) }
-        ensures faults { OnOk result (least.new ≡ least_of least.old (decl_faults (known self.now) place (decl_of d.now))) }
+        ensures faults { OnOk result (firsts.new ≡ found_in firsts.old (decl_faults (known self.now) place (decl_of d.now))) }
     {
         let symbols = self.builder.symbols;
         match d {
@@ -201,30 +206,30 @@ impl<'a> Judge<'a> {
                 let Some(table) = symbols.structure(symbols.number(place, d)) else {
                     unreachable!()
                 };
-                self.judge_struct(place, table, grown, least)
+                self.judge_struct(place, table, grown, firsts)
             }
-            Decl::Global(v) => self.judge_global(v, grown, least),
-            Decl::Array(a) => self.judge_array(a, grown, least),
-            Decl::Pool(p) => self.judge_pool(place, p, grown, least),
+            Decl::Global(v) => self.judge_global(v, grown, firsts),
+            Decl::Array(a) => self.judge_array(a, grown, firsts),
+            Decl::Pool(p) => self.judge_pool(place, p, grown, firsts),
             Decl::Init(i) => {
-                note_init(symbols, i, least);
+                note_init(symbols, i, firsts);
                 Ok(())
             }
-            Decl::Atomic(s) => self.judge_atomic(s, grown, least),
-            Decl::Helper(s) => self.judge_helper(s, grown, least),
-            Decl::Thread(t) => self.judge_thread(t, grown, least),
+            Decl::Atomic(s) => self.judge_atomic(s, grown, firsts),
+            Decl::Helper(s) => self.judge_helper(s, grown, firsts),
+            Decl::Thread(t) => self.judge_thread(t, grown, firsts),
         }
     }
 
     // The declarations, one after another.
-    #[tactic(auto, using(resolution::specs::Theory::Leasts::least_append))]
-    fn judge_decls(&self, grown: &mut Grown, least: &mut Least) -> Result<(), AllocError>
+    #[tactic(auto, using(resolution::specs::Theory::Leasts::found_append))]
+    fn judge_decls(&self, grown: &mut Grown, firsts: &mut Firsts) -> Result<(), AllocError>
         ensures value { OnOk result (built grown.new ≡ resolved_from (known self.now) 0 (built grown.old) (known self.now)) }
-        ensures faults { OnOk result (least.new ≡ least_of least.old (each_faults (known self.now) 0 (known self.now))) }
+        ensures faults { OnOk result (firsts.new ≡ found_in firsts.old (each_faults (known self.now) 0 (known self.now))) }
     {
         let items = self.builder.symbols.items();
         for (place, d) in items.iter().enumerate() {
-            self.judge_decl(place, d, grown, least)?;
+            self.judge_decl(place, d, grown, firsts)?;
         }
         Ok(())
     }
@@ -252,21 +257,21 @@ fn nothing(alloc: Global) -> Typed
 }
 
 /// The declarations of a program, one after another, and then what their bodies call.
-#[tactic(auto, using(resolution::specs::Theory::Leasts::least_append))]
+#[tactic(auto, using(resolution::specs::Theory::Leasts::found_append))]
 fn judge_all(
     alloc: Global,
     symbols: &SymbolTable,
     grown: &mut Grown,
-    least: &mut Least,
+    firsts: &mut Firsts,
 ) -> Result<(), AllocError>
     ensures value { OnOk result (built grown.new ≡ resolved_from (decls_of symbols.now) 0 (built grown.old) (decls_of symbols.now)) }
-    ensures faults { OnOk result (least.new ≡ least_of least.old (judged_faults (decls_of symbols.now))) }
+    ensures faults { OnOk result (firsts.new ≡ found_in firsts.old (judged_faults (decls_of symbols.now))) }
 {
     let judge = Judge {
         builder: Builder { alloc, symbols },
     };
-    judge.judge_decls(grown, least)?;
-    note_calls(alloc, symbols, least)
+    judge.judge_decls(grown, firsts)?;
+    note_calls(alloc, symbols, firsts)
 }
 
 /// The program that a tree stands for: each name replaced by the number of what it means, every expression typed. Or
@@ -290,24 +295,25 @@ pub fn check(alloc: Global, tree: &Tree) -> Result<Typed, Refusal>
     ensures least { IfErr result (IsLeastOf (IsFault (tree_of tree.now))) }
 {
     laws::least_fault();
+    laws::first_faults();
     laws::faultless_are_resolved();
     laws::resolved_by_rules();
     laws::resolved_are_checked();
     laws::without_helpers();
-    let mut least = None;
+    let mut firsts = Firsts::new();
     let maker = TableMaker {
         alloc,
         hashing: tree.hashing,
     };
-    let symbols = SymbolTable::new(maker, &tree.decls, &mut least)?;
+    let symbols = SymbolTable::new(maker, &tree.decls, &mut firsts)?;
     // Behind a fault nothing is built.
     let mut grown = Grown {
         program: nothing(alloc),
-        is_right: least.is_none(),
+        is_right: firsts.is_empty(),
     };
-    judge_all(alloc, &symbols, &mut grown, &mut least)?;
+    judge_all(alloc, &symbols, &mut grown, &mut firsts)?;
     drop(symbols);
-    if let Some(fault) = least {
+    if let Some(fault) = firsts.first() {
         drop(grown);
         return Err(Refusal::Fault(Fault::at(alloc, fault.code, fault.start)));
     }
@@ -317,22 +323,22 @@ pub fn check(alloc: Global, tree: &Tree) -> Result<Typed, Refusal>
     Ok(grown.program)
 }
 
-/// The first fault of names and types of a tree, with its reason: the one that [`check`] answers. `None` where it has none. The one
-/// error is a refused growth.
-pub fn first_fault(alloc: Global, tree: &Tree) -> Result<Least, NoMemory>
-    ensures { IfOk result (λ found. found ≡ the_least (tree_of tree.now)) }
+/// The first faults of names and types of a tree, with their reasons: at most twenty, by rising place, of which the first is the one
+/// that [`check`] answers. The one error is a refused growth.
+pub fn first_faults(alloc: Global, tree: &Tree) -> Result<Firsts, NoMemory>
+    ensures { IfOk result (λ found. found ≡ the_firsts (tree_of tree.now)) }
 {
-    let mut least = None;
+    let mut firsts = Firsts::new();
     let maker = TableMaker {
         alloc,
         hashing: tree.hashing,
     };
-    let symbols = SymbolTable::new(maker, &tree.decls, &mut least)?;
+    let symbols = SymbolTable::new(maker, &tree.decls, &mut firsts)?;
     // (nothing is built)
     let mut grown = Grown {
         program: nothing(alloc),
         is_right: false,
     };
-    judge_all(alloc, &symbols, &mut grown, &mut least)?;
-    Ok(least)
+    judge_all(alloc, &symbols, &mut grown, &mut firsts)?;
+    Ok(firsts)
 }

@@ -5,13 +5,13 @@ ghost use Rattle.syntax.specs.Views.{ident, protection_of as protection_view, op
 ghost use Rattle.resolution.specs.CoreViews.{core_protection};
 ghost use Rattle.resolution.specs.Scopes.{the_member};
 ghost use Rattle.resolution.specs.Annotations.{class_in, class_of, at_struct, cursor_at, stepped_on, ended};
-ghost use Rattle.resolution.specs.Working.Findings.{least_of};
+ghost use Rattle.resolution.specs.Working.Findings.{found_in};
 ghost use Rattle.resolution.specs.Working.FaultLists.{lock_faults};
 ghost use Rattle.types_symbols.specs.Working.Views.{decls_of, decl_named, members_seen};
 ghost use Rattle.types_annotations.specs.Working.AnnotationCursors.{cursor_of, cursor_seen, lock_name_faults, passed_at, ended_at, protection_along, faults_along, field_protection, field_protection_faults};
 
 use core_lang::typed::Protection;
-use resolution::finding::{Finding, Least, note, note_if};
+use resolution::finding::{Finding, Firsts, note, note_if};
 use source::fault::Code;
 use std::alloc::{AllocError, Global};
 use syntax::tree;
@@ -85,21 +85,21 @@ pub fn class_of(symbols: &SymbolTable, p: &Option<tree::Protection>) -> Option<u
 }
 
 /// Notes what is wrong with an annotation that is to name a global lock.
-fn note_global_lock(symbols: &SymbolTable, first: &Name, rest: &[Name], least: &mut Least)
-    ensures { least.new ≡ least_of least.old (lock_name_faults symbols.now first.now rest.now) }
+fn note_global_lock(symbols: &SymbolTable, first: &Name, rest: &[Name], firsts: &mut Firsts)
+    ensures { firsts.new ≡ found_in firsts.old (lock_name_faults symbols.now first.now rest.now) }
 {
     let start = first.start as usize;
     match symbols.find(first.text.as_str()) {
-        None => note(Code::UnknownName, start, least),
+        None => note(Code::UnknownName, start, firsts),
         Some((_, Decl::Lock(_))) => {
             if !rest.is_empty() {
-                note(Code::ProtectedByNoLock, start, least);
+                note(Code::ProtectedByNoLock, start, firsts);
             }
         }
         Some((place, d)) => {
             let meant = Meaning::Decl(place, d);
             let found = Finding::plain(Code::ProtectedByNoLock, start);
-            note_unfit(symbols, found, meant, least);
+            note_unfit(symbols, found, meant, firsts);
         }
     }
 }
@@ -110,13 +110,13 @@ pub fn note_lock(
     symbols: &SymbolTable,
     name: &Name,
     p: &Option<tree::Protection>,
-    least: &mut Least,
+    firsts: &mut Firsts,
 )
-    ensures { least.new ≡ least_of least.old (lock_faults (decls_of symbols.now) name.now.start (option_of protection_view p.now)) }
+    ensures { firsts.new ≡ found_in firsts.old (lock_faults (decls_of symbols.now) name.now.start (option_of protection_view p.now)) }
 {
     match p {
-        Some(p) => note_global_lock(symbols, &p.first, &p.rest, least),
-        None => note(Code::NeitherFinalNorProtected, name.start as usize, least),
+        Some(p) => note_global_lock(symbols, &p.first, &p.rest, firsts),
+        None => note(Code::NeitherFinalNorProtected, name.start as usize, firsts),
     }
 }
 
@@ -216,38 +216,38 @@ impl<'a, 't> AnnotationWalk<'a, 't> {
     }
 
     // Notes what is wrong with a name that others follow.
-    fn note_passed(&self, cursor: &Option<AnnotationCursor>, y: &Name, least: &mut Least)
-        ensures { least.new ≡ least_of least.old (passed_at self.now cursor.now y.now) }
+    fn note_passed(&self, cursor: &Option<AnnotationCursor>, y: &Name, firsts: &mut Firsts)
+        ensures { firsts.new ≡ found_in firsts.old (passed_at self.now cursor.now y.now) }
     {
         let Some(cursor) = cursor else {
             return;
         };
         match cursor.structure.find(y.text.as_str()) {
-            None => note(Code::UnknownName, y.start as usize, least),
+            None => note(Code::UnknownName, y.start as usize, firsts),
             Some((_, Member::Final(_))) => {
                 let is_over = FINAL_LIMIT <= cursor.through.len();
-                note_if(is_over, Code::LimitExceeded, self.start, least);
+                note_if(is_over, Code::LimitExceeded, self.start, firsts);
             }
             Some((_, m)) => {
                 let found = Finding::plain(Code::ProtectedByPassesNonFinal, y.start as usize);
-                note_unfit_member(self.symbols, found, m, least);
+                note_unfit_member(self.symbols, found, m, firsts);
             }
         }
     }
 
     // Notes what is wrong with the last name.
-    fn note_last(&self, cursor: &Option<AnnotationCursor>, y: &Name, least: &mut Least)
-        ensures { least.new ≡ least_of least.old (ended_at self.now cursor.now y.now) }
+    fn note_last(&self, cursor: &Option<AnnotationCursor>, y: &Name, firsts: &mut Firsts)
+        ensures { firsts.new ≡ found_in firsts.old (ended_at self.now cursor.now y.now) }
     {
         let Some(cursor) = cursor else {
             return;
         };
         match cursor.structure.find(y.text.as_str()) {
-            None => note(Code::UnknownName, y.start as usize, least),
+            None => note(Code::UnknownName, y.start as usize, firsts),
             Some((_, Member::Lock(_))) => {}
             Some((_, m)) => {
                 let found = Finding::plain(Code::ProtectedByNoLock, self.start);
-                note_unfit_member(self.symbols, found, m, least);
+                note_unfit_member(self.symbols, found, m, firsts);
             }
         }
     }
@@ -258,18 +258,18 @@ impl<'a, 't> AnnotationWalk<'a, 't> {
         cursor: Option<AnnotationCursor<'a, 't>>,
         first: &Name,
         rest: &[Name],
-        least: &mut Least,
+        firsts: &mut Firsts,
     ) -> Result<(), AllocError>
-        ensures { OnOk result (least.new ≡ least_of least.old (faults_along self.now cursor.entry first.now rest.now)) }
+        ensures { OnOk result (firsts.new ≡ found_in firsts.old (faults_along self.now cursor.entry first.now rest.now)) }
     {
         let mut cursor = cursor;
         let mut y = first;
         for z in rest {
-            self.note_passed(&cursor, y, least);
+            self.note_passed(&cursor, y, firsts);
             cursor = self.stepped_on(cursor, y)?;
             y = z;
         }
-        self.note_last(&cursor, y, least);
+        self.note_last(&cursor, y, firsts);
         drop(cursor);
         Ok(())
     }
@@ -317,12 +317,12 @@ impl<'a, 't> FieldAnnotations<'a, 't> {
         &self,
         name: &Name,
         p: &Option<tree::Protection>,
-        least: &mut Least,
+        firsts: &mut Firsts,
     ) -> Result<(), AllocError>
-        ensures { OnOk result (least.new ≡ least_of least.old (field_protection_faults self.now name.now p.now)) }
+        ensures { OnOk result (firsts.new ≡ found_in firsts.old (field_protection_faults self.now name.now p.now)) }
     {
         let Some(p) = p else {
-            note(Code::NeitherFinalNorProtected, name.start as usize, least);
+            note(Code::NeitherFinalNorProtected, name.start as usize, firsts);
             return Ok(());
         };
         if self.structure.find(p.first.text.as_str()).is_some() {
@@ -330,9 +330,9 @@ impl<'a, 't> FieldAnnotations<'a, 't> {
                 symbols: self.symbols,
                 start: p.first.start as usize,
             };
-            return walk.note_along(Some(self.own()), &p.first, &p.rest, least);
+            return walk.note_along(Some(self.own()), &p.first, &p.rest, firsts);
         }
-        note_global_lock(self.symbols, &p.first, &p.rest, least);
+        note_global_lock(self.symbols, &p.first, &p.rest, firsts);
         Ok(())
     }
 }

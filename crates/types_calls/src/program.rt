@@ -1,7 +1,7 @@
 //! Programs.
 
-ghost use Rattle.std.specs.Prelude.{◌≡◌, [], OnOk, map};
-ghost use Rattle.resolution.specs.Working.Findings.{least_of, plain};
+ghost use Rattle.std.specs.Prelude.{◌≡◌, [], None, OnOk, option_map, option_to_list};
+ghost use Rattle.resolution.specs.Working.Findings.{found_in, plain};
 ghost use Rattle.source.specs.Mistakes as mistakes;
 ghost use Rattle.core_lang_calls.specs.Graphs.{graph_of};
 ghost use Rattle.core_lang_calls.specs.Working.FaultLists.{graph_faults};
@@ -12,7 +12,7 @@ ghost use Rattle.types_calls.specs.Working.Bodies.{all_sections, all_helpers};
 use crate::walk::Reader;
 use core_lang_calls::graph::CallGraph;
 use resolution::body_limits::BodyLimits;
-use resolution::finding::{Least, note};
+use resolution::finding::{Firsts, note};
 use source::mistake::Mistake;
 use std::alloc::{AllocError, Global};
 use syntax::tree::Decl;
@@ -77,15 +77,18 @@ pub fn judge_calls(
     graph.judge(alloc, least)
 }
 
-/// The same among faults with their reasons.
-#[tactic(auto, using(resolution::specs::Theory::Leasts::least_plain))]
-pub fn note_calls(alloc: Global, symbols: &SymbolTable, least: &mut Least) -> Result<(), AllocError>
-    ensures { OnOk result (least.new ≡ least_of least.old (map plain (graph_faults (tree_graph (decls_of symbols.now))))) }
+/// Notes the least of them.
+pub fn note_calls(
+    alloc: Global,
+    symbols: &SymbolTable,
+    firsts: &mut Firsts,
+) -> Result<(), AllocError>
+    ensures { OnOk result (firsts.new ≡ found_in firsts.old (option_to_list (option_map plain (mistakes.least_of None (graph_faults (tree_graph (decls_of symbols.now))))))) }
 {
     let mut found = None;
     judge_calls(alloc, symbols, &mut found)?;
     if let Some(mistake) = found {
-        note(mistake.code, mistake.start, least);
+        note(mistake.code, mistake.start, firsts);
     }
     Ok(())
 }

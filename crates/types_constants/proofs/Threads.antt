@@ -16,7 +16,7 @@ use Rattle.resolution.specs.Core as core
 use Rattle.resolution.specs.Scopes.{◌>>=◌}
 use Rattle.resolution.specs.Tables.{copies}
 use Rattle.resolution.specs.Working.Building.{typed_item, typed_items}
-use Rattle.resolution.specs.Working.Findings.{least_of}
+use Rattle.resolution.specs.Working.Findings.{Firsts, found_in}
 use Rattle.resolution.specs.Working.FaultLists.{item_faults, items_faults}
 use Rattle.resolution.specs.CoreViews.{core_call}
 use Rattle.std.proofs.lemmas.List.{append-nil, length-map, length-append, length-drop, get_or-map, get_or-drop}
@@ -24,8 +24,8 @@ use Rattle.std.proofs.lemmas.List.{get_or_append_left, drop-append-le}
 use Rattle.std.proofs.Math.ListN.{drop_of_length-le}
 use Rattle.std.proofs.Math.Seq.{take-suc, drop-append_seam, take-append_seam}
 
-pub repeat_faults : (decls : List Decl) (x : tree.Item) (n : Number) (vec : Vec tree.Item Global) (items : List tree.Item) (f g : Option Finding) → x ≡ Repeat n vec → items ≡ vec.items → g ≡ least_of f (items_faults decls (items_of items)) → g ≡ least_of f (item_faults decls (item_of x))
-repeat_faults decls x n vec items f g is all hg = hg ∙ ap (λ ys. least_of f (items_faults decls (items_of ys))) all ∙ ap (λ y. least_of f (item_faults decls y)) (sym (ap item_of is ∙ item_of_Repeat n vec))
+pub repeat_faults : (decls : List Decl) (x : tree.Item) (n : Number) (vec : Vec tree.Item Global) (items : List tree.Item) (f g : Firsts) → x ≡ Repeat n vec → items ≡ vec.items → g ≡ found_in f (items_faults decls (items_of items)) → g ≡ found_in f (item_faults decls (item_of x))
+repeat_faults decls x n vec items f g is all hg = hg ∙ ap (λ ys. found_in f (items_faults decls (items_of ys))) all ∙ ap (λ y. found_in f (item_faults decls y)) (sym (ap item_of is ∙ item_of_Repeat n vec))
 
 -- calls so many times over, if all of them are right
 abbrev times : ℕ → Option (List core.Call) → Option (List core.Call)

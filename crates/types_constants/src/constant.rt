@@ -7,14 +7,14 @@ ghost use Rattle.resolution.specs.Scopes.{the_decl};
 ghost use Rattle.resolution.specs.Constants.{want_of, default_of};
 ghost use Rattle.resolution.specs.Working.TypedConstants.{const_sort, const_value, typed_const, opened, member_sort, member_of};
 ghost use Rattle.resolution.specs.Faults.{const_start};
-ghost use Rattle.resolution.specs.Working.Findings.{least_of};
+ghost use Rattle.resolution.specs.Working.Findings.{found_in};
 ghost use Rattle.resolution.specs.Working.FaultLists.{own_faults, sort_misfit, const_faults, opening_faults};
 ghost use Rattle.types_symbols.specs.{decls_of};
 ghost use Rattle.types_expressions.specs.Working.Parts.{pushed};
 ghost use Rattle.types_constants.specs.Working.Values.{arguments_of, argument_faults_of};
 
 use core_lang::value::{Value, ValueType};
-use resolution::finding::{Finding, Least, note, note_found, note_if};
+use resolution::finding::{Finding, Firsts, note, note_found, note_if};
 use resolution::wanted::{Sort, Want};
 use resolution::why::{Kind, Role, Why};
 use source::fault::Code;
@@ -123,12 +123,12 @@ pub fn default_of(t: ValueType) -> Value
 }
 
 /// Notes what is wrong with a pool's name and an index behind it.
-pub fn note_index(symbols: &SymbolTable, name: &Name, n: Number, least: &mut Least)
-    ensures { least.new ≡ least_of least.old (own_faults (decls_of symbols.now) (member_const (ident name.now) n)) }
+pub fn note_index(symbols: &SymbolTable, name: &Name, n: Number, firsts: &mut Firsts)
+    ensures { firsts.new ≡ found_in firsts.old (own_faults (decls_of symbols.now) (member_const (ident name.now) n)) }
 {
     let start = name.start as usize;
     match symbols.find(name.text.as_str()) {
-        None => note(Code::UnknownName, start, least),
+        None => note(Code::UnknownName, start, firsts),
         Some((_, Decl::Pool(pool))) => {
             let is_out = struct_named(symbols, &pool.target).is_some()
                 && pool.length.value <= n.value;
@@ -136,7 +136,7 @@ pub fn note_index(symbols: &SymbolTable, name: &Name, n: Number, least: &mut Lea
                 is_out,
                 Code::InitOutOfRangeOrRepeated,
                 n.span.start as usize,
-                least,
+                firsts,
             );
         }
         Some((place, d)) => {
@@ -145,20 +145,20 @@ pub fn note_index(symbols: &SymbolTable, name: &Name, n: Number, least: &mut Lea
                 symbols,
                 misnamed(Code::WrongType, Role::Pool, start, meant),
                 meant,
-                least,
+                firsts,
             );
         }
     }
 }
 
 /// Notes what is wrong with a constant by itself.
-fn note_own(symbols: &SymbolTable, c: &Const, least: &mut Least)
-    ensures { least.new ≡ least_of least.old (own_faults (decls_of symbols.now) (const_of c.now)) }
+fn note_own(symbols: &SymbolTable, c: &Const, firsts: &mut Firsts)
+    ensures { firsts.new ≡ found_in firsts.old (own_faults (decls_of symbols.now) (const_of c.now)) }
 {
     match c {
-        Const::Int(n) | Const::Negative(_, n) => note_number(*n, least),
+        Const::Int(n) | Const::Negative(_, n) => note_number(*n, firsts),
         Const::Null(_) => {}
-        Const::Member(name, n) => note_index(symbols, name, *n, least),
+        Const::Member(name, n) => note_index(symbols, name, *n, firsts),
     }
 }
 
@@ -175,32 +175,32 @@ fn const_start(c: &Const) -> usize
 }
 
 /// Notes what isn't of the sort that is wanted.
-fn note_sort(w: Want, start: usize, s: Option<Sort>, least: &mut Least)
-    ensures { least.new ≡ least_of least.old (sort_misfit w start s) }
+fn note_sort(w: Want, start: usize, s: Option<Sort>, firsts: &mut Firsts)
+    ensures { firsts.new ≡ found_in firsts.old (sort_misfit w start s) }
 {
     if let Some(s) = s {
         if !fits_sort(w, s) {
             let why = Why::Unwanted(w, Kind::Value(s));
-            note_found(Finding::new(Code::WrongType, start, why), least);
+            note_found(Finding::new(Code::WrongType, start, why), firsts);
         }
     }
 }
 
 /// Notes what is wrong with a constant of which something is wanted.
-#[tactic(auto, using(resolution::specs::Theory::Leasts::least_append))]
-pub fn note_const(symbols: &SymbolTable, w: Want, c: &Const, least: &mut Least)
-    ensures { least.new ≡ least_of least.old (const_faults (decls_of symbols.now) w (const_of c.now)) }
+#[tactic(auto, using(resolution::specs::Theory::Leasts::found_append))]
+pub fn note_const(symbols: &SymbolTable, w: Want, c: &Const, firsts: &mut Firsts)
+    ensures { firsts.new ≡ found_in firsts.old (const_faults (decls_of symbols.now) w (const_of c.now)) }
 {
-    note_own(symbols, c, least);
-    note_sort(w, const_start(c), const_sort(symbols, c), least);
+    note_own(symbols, c, firsts);
+    note_sort(w, const_start(c), const_sort(symbols, c), firsts);
 }
 
 /// Notes what is wrong with the constant that a thing opens with.
-pub fn note_opening(symbols: &SymbolTable, w: Want, c: &Option<Const>, least: &mut Least)
-    ensures { least.new ≡ least_of least.old (opening_faults (decls_of symbols.now) w (option_of const_of c.now)) }
+pub fn note_opening(symbols: &SymbolTable, w: Want, c: &Option<Const>, firsts: &mut Firsts)
+    ensures { firsts.new ≡ found_in firsts.old (opening_faults (decls_of symbols.now) w (option_of const_of c.now)) }
 {
     if let Some(c) = c {
-        note_const(symbols, w, c, least);
+        note_const(symbols, w, c, firsts);
     }
 }
 
@@ -212,17 +212,17 @@ fn want_of(symbols: &SymbolTable, p: &Param) -> Want
 }
 
 /// Notes what is wrong with arguments.
-#[tactic(auto, using(resolution::specs::Theory::Leasts::least_append))]
+#[tactic(auto, using(resolution::specs::Theory::Leasts::found_append))]
 pub fn note_arguments(
     symbols: &SymbolTable,
     params: &[Param],
     constants: &[Const],
-    least: &mut Least,
+    firsts: &mut Firsts,
 )
-    ensures { least.new ≡ least_of least.old (argument_faults_of symbols.now params.now constants.now) }
+    ensures { firsts.new ≡ found_in firsts.old (argument_faults_of symbols.now params.now constants.now) }
 {
     for i in 0..params.len().min(constants.len()) {
-        note_const(symbols, want_of(symbols, &params[i]), &constants[i], least);
+        note_const(symbols, want_of(symbols, &params[i]), &constants[i], firsts);
     }
 }
 

@@ -3,14 +3,14 @@
 ghost use Rattle.std.specs.Prelude.{◌≡◌};
 ghost use Rattle.syntax.specs.Views.{init_of, const_of};
 ghost use Rattle.resolution.specs.Constants.{member_want};
-ghost use Rattle.resolution.specs.Working.Findings.{least_of};
+ghost use Rattle.resolution.specs.Working.Findings.{found_in};
 ghost use Rattle.resolution.specs.Working.FaultLists.{init_field_faults, null_faults, init_faults};
 ghost use Rattle.types_symbols.specs.{decls_of};
 ghost use Rattle.types_constants.specs.Working.Values.{member_found};
 
 use crate::constant::{note_const, note_index};
 use core_lang::value::ValueType;
-use resolution::finding::{Least, note, note_if};
+use resolution::finding::{Firsts, note, note_if};
 use resolution::wanted::Want;
 use source::fault::Code;
 use syntax::tree::{Const, Init, Member};
@@ -20,15 +20,15 @@ use types_symbols::scope::{struct_named, type_outside};
 use types_symbols::table::SymbolTable;
 
 /// Notes what no `init` can give a value.
-fn note_field(symbols: &SymbolTable, i: &Init, least: &mut Least)
-    ensures { least.new ≡ least_of least.old (init_field_faults (decls_of symbols.now) (init_of i.now)) }
+fn note_field(symbols: &SymbolTable, i: &Init, firsts: &mut Firsts)
+    ensures { firsts.new ≡ found_in firsts.old (init_field_faults (decls_of symbols.now) (init_of i.now)) }
 {
     let Some(structure) = structure_given(symbols.decls(), i) else {
         return;
     };
     match structure.find(i.field.text.as_str()) {
-        None => note(Code::UnknownName, i.field.start as usize, least),
-        Some((_, Member::Lock(_))) => note(Code::LockAsValue, i.field.start as usize, least),
+        None => note(Code::UnknownName, i.field.start as usize, firsts),
+        Some((_, Member::Lock(_))) => note(Code::LockAsValue, i.field.start as usize, firsts),
         Some((_, Member::Final(_))) | Some((_, Member::Field(_))) => {}
     }
 }
@@ -48,8 +48,8 @@ fn member_want(symbols: &SymbolTable, m: Option<(usize, &Member)>) -> Want
 }
 
 /// Notes null for a final reference.
-fn note_null(symbols: &SymbolTable, m: Option<(usize, &Member)>, c: &Const, least: &mut Least)
-    ensures { least.new ≡ least_of least.old (null_faults (decls_of symbols.now) (member_found m.entry) (const_of c.now)) }
+fn note_null(symbols: &SymbolTable, m: Option<(usize, &Member)>, c: &Const, firsts: &mut Firsts)
+    ensures { firsts.new ≡ found_in firsts.old (null_faults (decls_of symbols.now) (member_found m.entry) (const_of c.now)) }
 {
     if let (Some((_, Member::Final(f))), Const::Null(at)) = (m, c) {
         let is_known = struct_named(symbols, &f.target).is_some();
@@ -57,19 +57,19 @@ fn note_null(symbols: &SymbolTable, m: Option<(usize, &Member)>, c: &Const, leas
             is_known,
             Code::FinalWithoutOpeningValue,
             at.start as usize,
-            least,
+            firsts,
         );
     }
 }
 
 /// Notes what is wrong with an `init`.
-#[tactic(auto, using(resolution::specs::Theory::Leasts::least_append))]
-pub fn note_init(symbols: &SymbolTable, i: &Init, least: &mut Least)
-    ensures { least.new ≡ least_of least.old (init_faults (decls_of symbols.now) (init_of i.now)) }
+#[tactic(auto, using(resolution::specs::Theory::Leasts::found_append))]
+pub fn note_init(symbols: &SymbolTable, i: &Init, firsts: &mut Firsts)
+    ensures { firsts.new ≡ found_in firsts.old (init_faults (decls_of symbols.now) (init_of i.now)) }
 {
-    note_index(symbols, &i.pool, i.index, least);
-    note_field(symbols, i, least);
+    note_index(symbols, &i.pool, i.index, firsts);
+    note_field(symbols, i, firsts);
     let m = initialised(symbols.decls(), i);
-    note_const(symbols, member_want(symbols, m), &i.value, least);
-    note_null(symbols, m, &i.value, least);
+    note_const(symbols, member_want(symbols, m), &i.value, firsts);
+    note_null(symbols, m, &i.value, firsts);
 }

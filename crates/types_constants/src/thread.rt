@@ -6,7 +6,7 @@ ghost use Rattle.syntax.specs.Trees.{call};
 ghost use Rattle.resolution.specs.CoreViews.{core_call};
 ghost use Rattle.resolution.specs.Tables.{copies};
 ghost use Rattle.resolution.specs.Working.Building.{typed_item, typed_items, typed_calls};
-ghost use Rattle.resolution.specs.Working.Findings.{least_of};
+ghost use Rattle.resolution.specs.Working.Findings.{found_in};
 ghost use Rattle.resolution.specs.Working.FaultLists.{item_faults, items_faults};
 ghost use Rattle.types_constants.specs.Working.Calls.{resolved_call, resolved_calls};
 ghost use Rattle.types_constants.specs.Working.Values.{calls_in, cores, Adds};
@@ -14,7 +14,7 @@ ghost use Rattle.types_symbols.specs.{decls_of};
 
 use crate::constant::{are_typed, note_arguments, typed_arguments};
 use core_lang::typed::Call;
-use resolution::finding::{Finding, Least, note, note_found};
+use resolution::finding::{Finding, Firsts, note, note_found};
 use resolution::why::{Role, Why};
 use source::fault::Code;
 use std::alloc::{AllocError, Global};
@@ -24,47 +24,47 @@ use types_symbols::scope::{Meaning, misnamed, note_unfit};
 use types_symbols::table::SymbolTable;
 
 /// Notes what is wrong with a call.
-fn note_call(symbols: &SymbolTable, c: &tree::Call, least: &mut Least)
-    ensures { least.new ≡ least_of least.old (item_faults (decls_of symbols.now) (call (call_view c.now))) }
+fn note_call(symbols: &SymbolTable, c: &tree::Call, firsts: &mut Firsts)
+    ensures { firsts.new ≡ found_in firsts.old (item_faults (decls_of symbols.now) (call (call_view c.now))) }
 {
     let start = c.section.start as usize;
     match symbols.find(c.section.text.as_str()) {
         Some((_, Decl::Atomic(section))) => {
             if c.arguments.len() == section.params.len() {
-                note_arguments(symbols, &section.params, &c.arguments, least);
+                note_arguments(symbols, &section.params, &c.arguments, firsts);
             } else {
                 let why = Why::Counted(section.params.len(), c.arguments.len());
-                note_found(Finding::new(Code::WrongArgumentCount, start, why), least);
+                note_found(Finding::new(Code::WrongArgumentCount, start, why), firsts);
             }
         }
         Some((place, d)) => {
             let meant = Meaning::Decl(place, d);
             let found = misnamed(Code::WrongType, Role::Section, start, meant);
-            note_unfit(symbols, found, meant, least);
+            note_unfit(symbols, found, meant, firsts);
         }
-        None => note(Code::UnknownName, start, least),
+        None => note(Code::UnknownName, start, firsts),
     }
 }
 
 /// Notes what is wrong with a thing that a thread does.
 #[cycle(faults)]
-fn note_item(symbols: &SymbolTable, item: &Item, least: &mut Least)
-    ensures { least.new ≡ least_of least.old (item_faults (decls_of symbols.now) (item_of item.now)) }
+fn note_item(symbols: &SymbolTable, item: &Item, firsts: &mut Firsts)
+    ensures { firsts.new ≡ found_in firsts.old (item_faults (decls_of symbols.now) (item_of item.now)) }
 {
     match item {
-        Item::Call(c) => note_call(symbols, c, least),
-        Item::Repeat(_, items) => note_items(symbols, items, least),
+        Item::Call(c) => note_call(symbols, c, firsts),
+        Item::Repeat(_, items) => note_items(symbols, items, firsts),
     }
 }
 
 /// Notes what is wrong with what a thread does.
 #[cycle(faults)]
-#[tactic(auto, using(resolution::specs::Theory::Leasts::least_append))]
-pub fn note_items(symbols: &SymbolTable, items: &[Item], least: &mut Least)
-    ensures { least.new ≡ least_of least.old (items_faults (decls_of symbols.now) (items_of items.now)) }
+#[tactic(auto, using(resolution::specs::Theory::Leasts::found_append))]
+pub fn note_items(symbols: &SymbolTable, items: &[Item], firsts: &mut Firsts)
+    ensures { firsts.new ≡ found_in firsts.old (items_faults (decls_of symbols.now) (items_of items.now)) }
 {
     for item in items {
-        note_item(symbols, item, least);
+        note_item(symbols, item, firsts);
     }
 }
 

@@ -7,7 +7,7 @@ ghost use Rattle.resolution.specs.CoreViews.{core_of};
 ghost use Rattle.resolution.specs.Working.TypedConstants.{referred};
 ghost use Rattle.resolution.specs.Working.Building.{slot_given, opening_of, final_cell, field_cell};
 ghost use Rattle.resolution.specs.Limits.{up_to, object_at, cell_at, final_at};
-ghost use Rattle.resolution.specs.Working.Findings.{least_of};
+ghost use Rattle.resolution.specs.Working.Findings.{found_in};
 ghost use Rattle.resolution.specs.Working.FaultLists.{some_lacks, is_at, is_due, lacks};
 ghost use Rattle.types_symbols.specs.{members_seen, decls_of};
 ghost use Rattle.types_symbols.specs.Working.Counted.{field_if};
@@ -20,7 +20,7 @@ use core_lang::shape;
 use core_lang::shape::Object;
 use core_lang::typed::{Owner, Typed};
 use core_lang::value::{Value, ValueType};
-use resolution::finding::{Least, note_if};
+use resolution::finding::{Firsts, note_if};
 use resolution::init_target::InitTarget;
 use resolution::wanted::Want;
 use source::fault::Code;
@@ -344,8 +344,8 @@ fn lacks(symbols: &SymbolTable, pool: usize, count: u64, structure: &Structure) 
 }
 
 /// Notes a pool with a final reference that isn't given.
-pub fn note_missing(symbols: &SymbolTable, place: usize, p: &Pool, least: &mut Least)
-    ensures { least.new ≡ least_of least.old (missing_faults_of symbols.now place p.now) }
+pub fn note_missing(symbols: &SymbolTable, place: usize, p: &Pool, firsts: &mut Firsts)
+    ensures { firsts.new ≡ found_in firsts.old (missing_faults_of symbols.now place p.now) }
 {
     if let Some((_, structure)) = symbols.struct_of(&p.target) {
         let is_missing = lacks(symbols, place, p.length.value, structure);
@@ -353,7 +353,7 @@ pub fn note_missing(symbols: &SymbolTable, place: usize, p: &Pool, least: &mut L
             is_missing,
             Code::FinalWithoutOpeningValue,
             p.name.start as usize,
-            least,
+            firsts,
         );
     }
 }

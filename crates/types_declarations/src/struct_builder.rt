@@ -3,7 +3,7 @@
 ghost use Rattle.std.specs.Prelude.{◌≡◌, ◌++◌, OnOk, IfOk};
 ghost use Rattle.syntax.specs.Views.{ident};
 ghost use Rattle.resolution.specs.Working.Building.{lock_added, final_added};
-ghost use Rattle.resolution.specs.Working.Findings.{least_of};
+ghost use Rattle.resolution.specs.Working.Findings.{found_in};
 ghost use Rattle.types_declarations.specs.Working.Grown.{shaped};
 ghost use Rattle.types_declarations.specs.Working.StructBuilders.{builder_of};
 ghost use Rattle.types_declarations.specs.Working.Values.{field_added_of, member_added_of, members_added_of, member_faults_of, members_faults_of};
@@ -11,7 +11,7 @@ ghost use Rattle.types_declarations.specs.Working.Values.{field_added_of, member
 use crate::grown::Builder;
 use core_lang::typed::{Field, FinalField, LockClass, LockField, Protection, Struct};
 use core_lang::value::ValueType;
-use resolution::finding::Least;
+use resolution::finding::Firsts;
 use std::alloc::{AllocError, Global};
 use syntax::tree::{Member, Name};
 use types_annotations::FieldAnnotations;
@@ -145,31 +145,31 @@ impl<'a> Builder<'a> {
     }
 
     // Notes what is wrong with a member of the struct at a place.
-    #[tactic(auto, using(resolution::specs::Theory::Leasts::least_append))]
+    #[tactic(auto, using(resolution::specs::Theory::Leasts::found_append))]
     fn note_member(
         &self,
         place: usize,
         table: &'a Structure<'a>,
         m: &Member,
-        least: &mut Least,
+        firsts: &mut Firsts,
     ) -> Result<(), AllocError>
-        ensures { OnOk result (least.new ≡ least_of least.old (member_faults_of self.now place table.now m.now)) }
+        ensures { OnOk result (firsts.new ≡ found_in firsts.old (member_faults_of self.now place table.now m.now)) }
     {
         match m {
             Member::Lock(_) => Ok(()),
             Member::Final(f) => {
-                note_target(self.symbols, &f.target, least);
+                note_target(self.symbols, &f.target, firsts);
                 Ok(())
             }
             Member::Field(f) => {
-                note_type(self.symbols, &f.value_type, least);
+                note_type(self.symbols, &f.value_type, firsts);
                 let annotations = FieldAnnotations {
                     alloc: self.alloc,
                     symbols: self.symbols,
                     place,
                     structure: table,
                 };
-                annotations.note(&f.name, &f.protection, least)
+                annotations.note(&f.name, &f.protection, firsts)
             }
         }
     }
@@ -180,12 +180,12 @@ impl<'a> Builder<'a> {
         place: usize,
         table: &'a Structure<'a>,
         members: &[Member],
-        least: &mut Least,
+        firsts: &mut Firsts,
     ) -> Result<(), AllocError>
-        ensures { OnOk result (least.new ≡ least_of least.old (members_faults_of self.now place table.now members.now)) }
+        ensures { OnOk result (firsts.new ≡ found_in firsts.old (members_faults_of self.now place table.now members.now)) }
     {
         for m in members {
-            self.note_member(place, table, m, least)?;
+            self.note_member(place, table, m, firsts)?;
         }
         Ok(())
     }

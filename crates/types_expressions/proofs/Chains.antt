@@ -27,14 +27,14 @@ use Rattle.resolution.specs.Working.TypedExpressions.{linked, number_resolved, t
 use Rattle.resolution.specs.Faults.{start_of}
 use Rattle.resolution.specs.Where.{side_want}
 use Rattle.resolution.specs.declared.wanted.Want.{Want}
-use Rattle.resolution.specs.Working.Findings.{least_of}
+use Rattle.resolution.specs.Working.Findings.{Firsts, found_in}
 use Rattle.resolution.specs.Working.FaultLists.{expr_faults, link_faults, operator_faults, misfit, side_faults, wanted_faults}
 use Rattle.types_expressions.specs.Working.Parts.{pushed, operation_with, SoFar, so_far, tests_with, first_test}
 use Rattle.types_expressions.specs.Working.ResolvedExprs.{tests_of, holds}
 use Rattle.types_expressions.specs.declared.resolved_expr.Tests as the_tests
 use Rattle.core_lang.specs.declared.value.ValueType.TheVariants.{Integer}
 use Rattle.resolution.specs.declared.wanted.Want.TheVariants.{Condition, Value}
-use Rattle.resolution.specs.Theory.Leasts.{least_append}
+use Rattle.resolution.specs.Theory.Leasts.{found_append}
 use Rattle.types_symbols.specs.Theory.Steps.{step, noted_one, noted_two, noted_three}
 
 -- ---- operations
@@ -153,17 +153,17 @@ module _ (sc : Scope) (e : Expr) (ls : Links) where
   tests_chain Disjunction None h is = ap one_holds is
   tests_chain Disjunction (Some ts) h is = ap one_holds is
 
-  numbers_blamed : (k : Level) (f g : Option Finding) → (k ≡ Term) ⊎ (k ≡ Sum) → g ≡ least_of f (wanted_faults sc (Value Integer) e) → least_of g (link_faults sc Sum ls) ≡ least_of f (expr_faults sc (chain k e ls))
-  numbers_blamed Term f g h is = ap (least_of g) (sym (term_faults sc ls)) ∙ noted_one f g (wanted_faults sc (Value Integer) e) (link_faults sc Term ls) is
+  numbers_blamed : (k : Level) (f g : Firsts) → (k ≡ Term) ⊎ (k ≡ Sum) → g ≡ found_in f (wanted_faults sc (Value Integer) e) → found_in g (link_faults sc Sum ls) ≡ found_in f (expr_faults sc (chain k e ls))
+  numbers_blamed Term f g h is = ap (found_in g) (sym (term_faults sc ls)) ∙ noted_one f g (wanted_faults sc (Value Integer) e) (link_faults sc Term ls) is
   numbers_blamed Sum f g h is = noted_one f g (wanted_faults sc (Value Integer) e) (link_faults sc Sum ls) is
   numbers_blamed Conjunction f g (inl h) is = absurd (cc)
   numbers_blamed Conjunction f g (inr h) is = absurd (cc)
   numbers_blamed Disjunction f g (inl h) is = absurd (cc)
   numbers_blamed Disjunction f g (inr h) is = absurd (cc)
 
-  tests_blamed : (k : Level) (f g : Option Finding) → (k ≡ Conjunction) ⊎ (k ≡ Disjunction) → g ≡ least_of f (wanted_faults sc Condition e) → least_of g (link_faults sc Conjunction ls) ≡ least_of f (expr_faults sc (chain k e ls))
+  tests_blamed : (k : Level) (f g : Firsts) → (k ≡ Conjunction) ⊎ (k ≡ Disjunction) → g ≡ found_in f (wanted_faults sc Condition e) → found_in g (link_faults sc Conjunction ls) ≡ found_in f (expr_faults sc (chain k e ls))
   tests_blamed Conjunction f g h is = noted_one f g (wanted_faults sc Condition e) (link_faults sc Conjunction ls) is
-  tests_blamed Disjunction f g h is = ap (least_of g) (sym (either_faults sc ls)) ∙ noted_one f g (wanted_faults sc Condition e) (link_faults sc Disjunction ls) is
+  tests_blamed Disjunction f g h is = ap (found_in g) (sym (either_faults sc ls)) ∙ noted_one f g (wanted_faults sc Condition e) (link_faults sc Disjunction ls) is
   tests_blamed Term f g (inl h) is = absurd (cc)
   tests_blamed Term f g (inr h) is = absurd (cc)
   tests_blamed Sum f g (inl h) is = absurd (cc)
@@ -177,44 +177,44 @@ module _ (sc : Scope) (k : Level) (first : Expr) (ls : Links) (e : Expr) (whole 
   pub tests_value : (a : Option core.Condition) (b : Option Tests) → (k ≡ Conjunction) ⊎ (k ≡ Disjunction) → a ≡ test_resolved (typed sc first) → b ≡ typed_tests sc a ls → holds k b ≡ typed sc e
   tests_value a b kind ha hb = tests_chain sc first ls k b kind (hb ∙ ap (λ x. typed_tests sc x ls) ha) ∙ ap (typed sc) whole
 
-  pub numbers_faults : (f g m : Option Finding) → (k ≡ Term) ⊎ (k ≡ Sum) → g ≡ least_of f (wanted_faults sc (Value Integer) first) → m ≡ least_of g (link_faults sc Sum ls) → m ≡ least_of f (expr_faults sc e)
-  numbers_faults f g m kind hg hm = hm ∙ numbers_blamed sc first ls k f g kind hg ∙ ap (λ x. least_of f (expr_faults sc x)) whole
+  pub numbers_faults : (f g m : Firsts) → (k ≡ Term) ⊎ (k ≡ Sum) → g ≡ found_in f (wanted_faults sc (Value Integer) first) → m ≡ found_in g (link_faults sc Sum ls) → m ≡ found_in f (expr_faults sc e)
+  numbers_faults f g m kind hg hm = hm ∙ numbers_blamed sc first ls k f g kind hg ∙ ap (λ x. found_in f (expr_faults sc x)) whole
 
-  pub tests_faults : (f g m : Option Finding) → (k ≡ Conjunction) ⊎ (k ≡ Disjunction) → g ≡ least_of f (wanted_faults sc Condition first) → m ≡ least_of g (link_faults sc Conjunction ls) → m ≡ least_of f (expr_faults sc e)
-  tests_faults f g m kind hg hm = hm ∙ tests_blamed sc first ls k f g kind hg ∙ ap (λ x. least_of f (expr_faults sc x)) whole
+  pub tests_faults : (f g m : Firsts) → (k ≡ Conjunction) ⊎ (k ≡ Disjunction) → g ≡ found_in f (wanted_faults sc Condition first) → m ≡ found_in g (link_faults sc Conjunction ls) → m ≡ found_in f (expr_faults sc e)
+  tests_faults f g m kind hg hm = hm ∙ tests_blamed sc first ls k f g kind hg ∙ ap (λ x. found_in f (expr_faults sc x)) whole
 
 -- ---- a comparison
 
-pub side_blamed : (sc : Scope) (w : Want) (e : Expr) (start : ℕ) (v : Option ResolvedExpr) (f g h : Option Finding) → start ≡ start_of e → v ≡ typed sc e
-    → g ≡ least_of f (expr_faults sc e) → h ≡ least_of g (misfit w start v) → h ≡ least_of f (wanted_faults sc w e)
+pub side_blamed : (sc : Scope) (w : Want) (e : Expr) (start : ℕ) (v : Option ResolvedExpr) (f g h : Firsts) → start ≡ start_of e → v ≡ typed sc e
+    → g ≡ found_in f (expr_faults sc e) → h ≡ found_in g (misfit w start v) → h ≡ found_in f (wanted_faults sc w e)
 side_blamed sc w e start v f g h at is hg hh =
-    hh ∙ ap (λ (p : ℕ). least_of g (misfit w p v)) at ∙ ap (λ (x : Option ResolvedExpr). least_of g (misfit w (start_of e) x)) is
+    hh ∙ ap (λ (p : ℕ). found_in g (misfit w p v)) at ∙ ap (λ (x : Option ResolvedExpr). found_in g (misfit w (start_of e) x)) is
     ∙ noted_one f g (expr_faults sc e) (misfit w (start_of e) (typed sc e)) hg
 
 module _ (sc : Scope) (c : written.Comparison) (a b e : Expr) (whole : compare a c b ≡ e) where
   pub sides_value : (left : Option ResolvedExpr) → left ≡ typed sc a → compared c left (typed sc b) ≡ typed sc e
   sides_value left is = ap (λ (x : Option ResolvedExpr). compared c x (typed sc b)) is ∙ ap (typed sc) whole
 
-  pub sides_faults : (start : ℕ) (left : Option ResolvedExpr) (f g h : Option Finding) → start ≡ start_of a → left ≡ typed sc a → g ≡ least_of f (wanted_faults sc (side_want c) a)
-      → h ≡ least_of g (wanted_faults sc (side_want c) b ++ side_faults c start (start_of b) left (typed sc b)) → h ≡ least_of f (expr_faults sc e)
+  pub sides_faults : (start : ℕ) (left : Option ResolvedExpr) (f g h : Firsts) → start ≡ start_of a → left ≡ typed sc a → g ≡ found_in f (wanted_faults sc (side_want c) a)
+      → h ≡ found_in g (wanted_faults sc (side_want c) b ++ side_faults c start (start_of b) left (typed sc b)) → h ≡ found_in f (expr_faults sc e)
   sides_faults start left f g h at is hg hh =
       let first = wanted_faults sc (side_want c) a in
       let right = wanted_faults sc (side_want c) b in
       let last = side_faults c (start_of a) (start_of b) (typed sc a) (typed sc b) in
-      hh ∙ ap (λ (p : ℕ). least_of g (right ++ side_faults c p (start_of b) left (typed sc b))) at
-      ∙ ap (λ (x : Option ResolvedExpr). least_of g (right ++ side_faults c (start_of a) (start_of b) x (typed sc b))) is
+      hh ∙ ap (λ (p : ℕ). found_in g (right ++ side_faults c p (start_of b) left (typed sc b))) at
+      ∙ ap (λ (x : Option ResolvedExpr). found_in g (right ++ side_faults c (start_of a) (start_of b) x (typed sc b))) is
       ∙ noted_one f g first (right ++ last) hg
-      ∙ ap (least_of f) (sym (append_assoc first right last) ∙ ap (λ (l : List Finding). l ++ last) (sym (append_assoc first (expr_faults sc b) (misfit (side_want c) (start_of b) (typed sc b)))))
-      ∙ ap (λ (x : Expr). least_of f (expr_faults sc x)) whole
+      ∙ ap (found_in f) (sym (append_assoc first right last) ∙ ap (λ (l : List Finding). l ++ last) (sym (append_assoc first (expr_faults sc b) (misfit (side_want c) (start_of b) (typed sc b)))))
+      ∙ ap (λ (x : Expr). found_in f (expr_faults sc x)) whole
 
 module _ (sc : Scope) (c : written.Comparison) (b : Expr) where
   -- by the right side
-  pub second_side : (start p : ℕ) (left v : Option ResolvedExpr) (w : Want) (f g h : Option Finding) → w ≡ side_want c → p ≡ start_of b → v ≡ typed sc b → g ≡ least_of f (wanted_faults sc w b)
-      → h ≡ least_of g (side_faults c start p left v) → h ≡ least_of f (wanted_faults sc (side_want c) b ++ side_faults c start (start_of b) left (typed sc b))
+  pub second_side : (start p : ℕ) (left v : Option ResolvedExpr) (w : Want) (f g h : Firsts) → w ≡ side_want c → p ≡ start_of b → v ≡ typed sc b → g ≡ found_in f (wanted_faults sc w b)
+      → h ≡ found_in g (side_faults c start p left v) → h ≡ found_in f (wanted_faults sc (side_want c) b ++ side_faults c start (start_of b) left (typed sc b))
   second_side start p left v w f g h want at is hg hh =
-      hh ∙ ap (λ (q : ℕ). least_of g (side_faults c start q left v)) at
-      ∙ ap (λ (x : Option ResolvedExpr). least_of g (side_faults c start (start_of b) left x)) is
-      ∙ noted_one f g (wanted_faults sc (side_want c) b) (side_faults c start (start_of b) left (typed sc b)) (hg ∙ ap (λ (x : Want). least_of f (wanted_faults sc x b)) want)
+      hh ∙ ap (λ (q : ℕ). found_in g (side_faults c start q left v)) at
+      ∙ ap (λ (x : Option ResolvedExpr). found_in g (side_faults c start (start_of b) left x)) is
+      ∙ noted_one f g (wanted_faults sc (side_want c) b) (side_faults c start (start_of b) left (typed sc b)) (hg ∙ ap (λ (x : Want). found_in f (wanted_faults sc x b)) want)
 
 -- ---- a chain of two operands
 
@@ -250,17 +250,17 @@ two_tests sc op right first x one made alone hx is =
     ∙ tests_more sc (first_test first) op right x no_links hx
     ∙ tests_first sc first (link op right no_links)
 
-pub one_link_faults : (sc : Scope) (op : syntax_operator.Operator) (e : Expr) (start : ℕ) (f g h : Option Finding) → start ≡ start_of e → g ≡ least_of f (operator_faults Sum start op)
-    → h ≡ least_of g (wanted_faults sc (Value Integer) e) → h ≡ least_of f (link_faults sc Sum (link op e no_links))
+pub one_link_faults : (sc : Scope) (op : syntax_operator.Operator) (e : Expr) (start : ℕ) (f g h : Firsts) → start ≡ start_of e → g ≡ found_in f (operator_faults Sum start op)
+    → h ≡ found_in g (wanted_faults sc (Value Integer) e) → h ≡ found_in f (link_faults sc Sum (link op e no_links))
 one_link_faults sc op e start f g h hstart hg hh =
-    noted_three f g (least_of g (expr_faults sc e)) h (operator_faults Sum (start_of e) op) (expr_faults sc e) (misfit (Value Integer) (start_of e) (typed sc e)) []
-    (hg ∙ ap (λ (n : ℕ). least_of f (operator_faults Sum n op)) hstart) refl (hh ∙ least_append g (expr_faults sc e) (misfit (Value Integer) (start_of e) (typed sc e)))
+    noted_three f g (found_in g (expr_faults sc e)) h (operator_faults Sum (start_of e) op) (expr_faults sc e) (misfit (Value Integer) (start_of e) (typed sc e)) []
+    (hg ∙ ap (λ (n : ℕ). found_in f (operator_faults Sum n op)) hstart) refl (hh ∙ found_append g (expr_faults sc e) (misfit (Value Integer) (start_of e) (typed sc e)))
 
-pub second_test_faults : (sc : Scope) (op : syntax_operator.Operator) (e : Expr) (f g : Option Finding) → g ≡ least_of f (wanted_faults sc Condition e)
-    → g ≡ least_of f (link_faults sc Conjunction (link op e no_links))
+pub second_test_faults : (sc : Scope) (op : syntax_operator.Operator) (e : Expr) (f g : Firsts) → g ≡ found_in f (wanted_faults sc Condition e)
+    → g ≡ found_in f (link_faults sc Conjunction (link op e no_links))
 second_test_faults sc op e f g hg =
-    noted_two f (least_of f (expr_faults sc e)) g (expr_faults sc e) (misfit Condition (start_of e) (typed sc e)) []
-    refl (hg ∙ least_append f (expr_faults sc e) (misfit Condition (start_of e) (typed sc e)))
+    noted_two f (found_in f (expr_faults sc e)) g (expr_faults sc e) (misfit Condition (start_of e) (typed sc e)) []
+    refl (hg ∙ found_append f (expr_faults sc e) (misfit Condition (start_of e) (typed sc e)))
 
 -- ---- one link more
 
@@ -286,21 +286,21 @@ module _ (sc : Scope) (items : List tree_link.Link) (i : ℕ) (item : tree_link.
       (ap (λ (n : Option SoFar). tests_joined sc n rest) made ∙ tests_more sc before item.op (expr_of item.operand) x rest hx)
       inv
 
-  pub link_fault_step : (start : ℕ) (f g h : Option Finding) {whole : Option Finding} → start ≡ start_of (expr_of item.operand) →
-      g ≡ least_of f (operator_faults Sum start item.op) → h ≡ least_of g (wanted_faults sc (Value Integer) (expr_of item.operand)) →
-      least_of f (link_faults sc Sum (links_of (drop i items))) ≡ whole → least_of h (link_faults sc Sum (links_of (drop (i + 1) items))) ≡ whole
+  pub link_fault_step : (start : ℕ) (f g h : Firsts) {whole : Firsts} → start ≡ start_of (expr_of item.operand) →
+      g ≡ found_in f (operator_faults Sum start item.op) → h ≡ found_in g (wanted_faults sc (Value Integer) (expr_of item.operand)) →
+      found_in f (link_faults sc Sum (links_of (drop i items))) ≡ whole → found_in h (link_faults sc Sum (links_of (drop (i + 1) items))) ≡ whole
   link_fault_step start f g h {whole} hstart hg hh inv =
       let x = expr_of item.operand in
-      step (λ ls. least_of f (link_faults sc Sum (links_of ls))) (λ ls. least_of h (link_faults sc Sum (links_of ls))) items i item whole lt is
-      (noted_three f g (least_of g (expr_faults sc x)) h (operator_faults Sum (start_of x) item.op) (expr_faults sc x) (misfit (Value Integer) (start_of x) (typed sc x)) (link_faults sc Sum (links_of (drop (i + 1) items)))
-      (hg ∙ ap (λ (n : ℕ). least_of f (operator_faults Sum n item.op)) hstart) refl (hh ∙ least_append g (expr_faults sc x) (misfit (Value Integer) (start_of x) (typed sc x))))
+      step (λ ls. found_in f (link_faults sc Sum (links_of ls))) (λ ls. found_in h (link_faults sc Sum (links_of ls))) items i item whole lt is
+      (noted_three f g (found_in g (expr_faults sc x)) h (operator_faults Sum (start_of x) item.op) (expr_faults sc x) (misfit (Value Integer) (start_of x) (typed sc x)) (link_faults sc Sum (links_of (drop (i + 1) items)))
+      (hg ∙ ap (λ (n : ℕ). found_in f (operator_faults Sum n item.op)) hstart) refl (hh ∙ found_append g (expr_faults sc x) (misfit (Value Integer) (start_of x) (typed sc x))))
       inv
 
-  pub test_fault_step : (f g : Option Finding) {whole : Option Finding} → g ≡ least_of f (wanted_faults sc Condition (expr_of item.operand)) →
-      least_of f (link_faults sc Conjunction (links_of (drop i items))) ≡ whole → least_of g (link_faults sc Conjunction (links_of (drop (i + 1) items))) ≡ whole
+  pub test_fault_step : (f g : Firsts) {whole : Firsts} → g ≡ found_in f (wanted_faults sc Condition (expr_of item.operand)) →
+      found_in f (link_faults sc Conjunction (links_of (drop i items))) ≡ whole → found_in g (link_faults sc Conjunction (links_of (drop (i + 1) items))) ≡ whole
   test_fault_step f g {whole} hg inv =
       let x = expr_of item.operand in
-      step (λ ls. least_of f (link_faults sc Conjunction (links_of ls))) (λ ls. least_of g (link_faults sc Conjunction (links_of ls))) items i item whole lt is
-      (noted_two f (least_of f (expr_faults sc x)) g (expr_faults sc x) (misfit Condition (start_of x) (typed sc x)) (link_faults sc Conjunction (links_of (drop (i + 1) items)))
-      refl (hg ∙ least_append f (expr_faults sc x) (misfit Condition (start_of x) (typed sc x))))
+      step (λ ls. found_in f (link_faults sc Conjunction (links_of ls))) (λ ls. found_in g (link_faults sc Conjunction (links_of ls))) items i item whole lt is
+      (noted_two f (found_in f (expr_faults sc x)) g (expr_faults sc x) (misfit Condition (start_of x) (typed sc x)) (link_faults sc Conjunction (links_of (drop (i + 1) items)))
+      refl (hg ∙ found_append f (expr_faults sc x) (misfit Condition (start_of x) (typed sc x))))
       inv

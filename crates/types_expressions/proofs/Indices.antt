@@ -8,7 +8,7 @@ use Rattle.resolution.specs.Core as core
 use Rattle.resolution.specs.Scopes.{◌>>=◌, outside, Meaning, a_decl, number_at, type_of, struct_named}
 use Rattle.resolution.specs.Working.TypedExpressions.{member_value, value_of, element_value}
 use Rattle.resolution.specs.Working.FaultLists.{no_elements}
-use Rattle.resolution.specs.Working.Findings.{least_of}
+use Rattle.resolution.specs.Working.Findings.{Firsts, found_in}
 use Rattle.types_symbols.specs.Theory.Steps.{noted_one}
 use Rattle.types_expressions.specs.Working.Indexing.{of_type, indexed_by, element_by}
 use Rattle.types_expressions.specs.declared.place.Indexed.{Indexed}
@@ -38,7 +38,7 @@ element_seen decls start m n x e f hm hx he =
     ap (λ (y : Option Indexed). element_by start y e) hx ∙ ap (λ (k : Meaning). element_by start (indexed_by decls k) e) hm
     ∙ ap (element_by start (indexed_by decls n)) he ∙ element_is decls start n f
 
-pub index_blamed : (decls : List Decl) (start : ℕ) (m n : Meaning) (f g : Option Finding) (a b : List Finding) → m ≡ n → g ≡ least_of f (no_elements decls start m) → least_of g (a ++ b) ≡ least_of f (no_elements decls start n ++ a ++ b)
+pub index_blamed : (decls : List Decl) (start : ℕ) (m n : Meaning) (f g : Firsts) (a b : List Finding) → m ≡ n → g ≡ found_in f (no_elements decls start m) → found_in g (a ++ b) ≡ found_in f (no_elements decls start n ++ a ++ b)
 index_blamed decls start m n f g a b hm hg =
-    noted_one f g (no_elements decls start n) (a ++ b) (hg ∙ ap (λ (k : Meaning). least_of f (no_elements decls start k)) hm)
-    ∙ ap (least_of f) (sym (append_assoc (no_elements decls start n) a b))
+    noted_one f g (no_elements decls start n) (a ++ b) (hg ∙ ap (λ (k : Meaning). found_in f (no_elements decls start k)) hm)
+    ∙ ap (found_in f) (sym (append_assoc (no_elements decls start n) a b))

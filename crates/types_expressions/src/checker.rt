@@ -5,7 +5,7 @@ ghost use Rattle.syntax.specs.Trees.{ref_type};
 ghost use Rattle.syntax.specs.Views.{ident, decl_of, struct_of, type_of as type_seen};
 ghost use Rattle.resolution.specs.Scopes.{meaning, outside, bound, hidden_from, number_at, the_struct, type_of};
 ghost use Rattle.resolution.specs.Expressions.{cell_of};
-ghost use Rattle.resolution.specs.Working.Findings.{least_of};
+ghost use Rattle.resolution.specs.Working.Findings.{found_in};
 ghost use Rattle.resolution.specs.Working.FaultLists.{local_faults, type_faults};
 ghost use Rattle.types_symbols.specs.{decls_of, meaning_of, local_seen};
 ghost use Rattle.types_expressions.specs.Working.Checkers.{scope};
@@ -14,7 +14,7 @@ ghost use Rattle.types_expressions.specs.Working.Misplaced.{misplaced, taken_nam
 use core_lang::tree::LocalKind;
 use core_lang::value::ValueType;
 use resolution::body_limits::BodyLimits;
-use resolution::finding::{Finding, Least, note, note_if};
+use resolution::finding::{Finding, Firsts, note, note_if};
 use source::fault::Code;
 use std::alloc::{AllocError, Global};
 use std::marker::Model;
@@ -79,13 +79,13 @@ impl<'a> Checker<'a> {
     }
 
     /// Notes a name that can't stand there: an unknown one, or one whose declaration has a type without a fault.
-    pub fn misplaced<T>(&self, found: Finding, m: Meaning, least: &mut Least) -> Option<T>
+    pub fn misplaced<T>(&self, found: Finding, m: Meaning, firsts: &mut Firsts) -> Option<T>
         ensures none { result ≡ None }
-        ensures faults { least.new ≡ least_of least.old (misplaced (scope self.now).decls found (meaning_of m.entry)) }
+        ensures faults { firsts.new ≡ found_in firsts.old (misplaced (scope self.now).decls found (meaning_of m.entry)) }
     {
         match m {
-            Meaning::Nothing => note(Code::UnknownName, found.start, least),
-            _ => note_unfit(self.symbols, found, m, least),
+            Meaning::Nothing => note(Code::UnknownName, found.start, firsts),
+            _ => note_unfit(self.symbols, found, m, firsts),
         }
         None
     }
@@ -151,39 +151,44 @@ impl<'a> Checker<'a> {
         self.locals.len()
     }
 
-    fn note_taken(&self, name: &Name, least: &mut Least)
-        ensures { least.new ≡ least_of least.old (taken_name_faults (scope self.now) (ident name.now)) }
+    fn note_taken(&self, name: &Name, firsts: &mut Firsts)
+        ensures { firsts.new ≡ found_in firsts.old (taken_name_faults (scope self.now) (ident name.now)) }
     {
         let text = name.text.as_str();
         let is_taken = self.locals.find(text).is_some() || self.symbols.find(text).is_some();
-        note_if(is_taken, Code::DeclaredTwice, name.start as usize, least);
+        note_if(is_taken, Code::DeclaredTwice, name.start as usize, firsts);
     }
 
     /// Notes what is wrong with the name of the next local.
-    #[tactic(auto, using(resolution::specs::Theory::Leasts::least_append))]
-    pub fn note_name(&self, name: &Name, least: &mut Least)
-        ensures { least.new ≡ least_of least.old (local_faults (scope self.now) (ident name.now)) }
+    #[tactic(auto, using(resolution::specs::Theory::Leasts::found_append))]
+    pub fn note_name(&self, name: &Name, firsts: &mut Firsts)
+        ensures { firsts.new ≡ found_in firsts.old (local_faults (scope self.now) (ident name.now)) }
     {
-        self.note_taken(name, least);
+        self.note_taken(name, firsts);
         let is_one_more = self.next() >= self.limits().locals;
-        note_if(is_one_more, Code::LimitExceeded, name.start as usize, least);
+        note_if(
+            is_one_more,
+            Code::LimitExceeded,
+            name.start as usize,
+            firsts,
+        );
     }
 
     /// The type that is written at a local, if it has no fault.
-    pub fn local_type(&self, t: &tree::ValueType, least: &mut Least) -> Option<ValueType>
+    pub fn local_type(&self, t: &tree::ValueType, firsts: &mut Firsts) -> Option<ValueType>
         ensures value { result ≡ type_of (scope self.now) (type_seen t.now) }
-        ensures faults { least.new ≡ least_of least.old (type_faults (scope self.now) (type_seen t.now)) }
+        ensures faults { firsts.new ≡ found_in firsts.old (type_faults (scope self.now) (type_seen t.now)) }
     {
-        note_local_type(self.symbols, &self.locals, t, least);
+        note_local_type(self.symbols, &self.locals, t, firsts);
         type_at(self.symbols, &self.locals, t)
     }
 
     /// The type that is written at a parameter, if it has no fault.
-    pub fn declared_type(&self, t: &tree::ValueType, least: &mut Least) -> Option<ValueType>
+    pub fn declared_type(&self, t: &tree::ValueType, firsts: &mut Firsts) -> Option<ValueType>
         ensures value { result ≡ type_of (outside (scope self.now).decls) (type_seen t.now) }
-        ensures faults { least.new ≡ least_of least.old (type_faults (outside (scope self.now).decls) (type_seen t.now)) }
+        ensures faults { firsts.new ≡ found_in firsts.old (type_faults (outside (scope self.now).decls) (type_seen t.now)) }
     {
-        note_type(self.symbols, t, least);
+        note_type(self.symbols, t, firsts);
         type_outside(self.symbols, t)
     }
 

@@ -1,12 +1,12 @@
 //! Expressions of a section and the places that they name: each name is replaced by the number of what it means, every
-//! expression is typed, and the least fault of names and types in them is noted.
+//! expression is typed, and the faults of names and types in them are noted.
 //!
 //! - [`checker::Checker`]: what is declared, and the section's locals up to the place that is judged.
 //! - [`expr`]: its methods on expressions: values, numbers and conditions.
 //! - [`place`]: its methods on what expressions name: names, elements and paths.
 //! - [`resolved_expr`]: expressions once they are resolved, each a value with its sort, or what is true or false, put together
 //!   from what their parts are. [`wanted`]: numbers, and which values are what is wanted.
-//! - [`judged`]: what something is if it has no fault, and the least fault so far.
+//! - [`judged`]: what something is if it has no fault, and the first faults so far.
 //!
 //! Which data a value of these modules is stands in `specs/Working/ResolvedExprs.antt`; what there is of a chain so far, in
 //! `Parts.antt`.

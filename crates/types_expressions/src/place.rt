@@ -6,7 +6,7 @@ ghost use Rattle.resolution.specs.CoreViews.{core_expr, core_path};
 ghost use Rattle.resolution.specs.Scopes.{the_struct};
 ghost use Rattle.resolution.specs.Expressions.{local_path, over_step, stepped, walked, walk_from};
 ghost use Rattle.resolution.specs.Working.TypedExpressions.{named_value, path_value};
-ghost use Rattle.resolution.specs.Working.Findings.{least_of};
+ghost use Rattle.resolution.specs.Working.Findings.{found_in};
 ghost use Rattle.resolution.specs.Working.FaultLists.{no_value, no_elements, no_field, step_faults, end_faults};
 ghost use Rattle.types_symbols.specs.{meaning_of};
 ghost use Rattle.types_expressions.specs.Working.Checkers.{scope};
@@ -19,7 +19,7 @@ use crate::judged::{Judged, faulty};
 use crate::resolved_expr::{ResolvedExpr, value_of};
 use core_lang::tree::{Expr, FieldStep, Path};
 use core_lang::value::ValueType;
-use resolution::finding::{Finding, Least, note, note_found};
+use resolution::finding::{Finding, Firsts, note, note_found};
 use resolution::wanted::Sort;
 use resolution::why::{Role, Why};
 use source::fault::Code;
@@ -100,11 +100,11 @@ fn with_step(
 }
 
 // Notes a path's end at a lock.
-fn note_end(start: usize, w: &Walk, least: &mut Least)
-    ensures { least.new ≡ least_of least.old (end_faults start (walk_of w.now)) }
+fn note_end(start: usize, w: &Walk, firsts: &mut Firsts)
+    ensures { firsts.new ≡ found_in firsts.old (end_faults start (walk_of w.now)) }
 {
     match w {
-        Walk::AtLock => note(Code::LockAsValue, start, least),
+        Walk::AtLock => note(Code::LockAsValue, start, firsts),
         Walk::Reached(_, _) | Walk::Lost => {}
     }
 }
@@ -126,9 +126,9 @@ pub fn path_value(start: usize, m: Meaning, w: Walk) -> Option<ResolvedExpr>
 
 impl<'a> Checker<'a> {
     /// A name as a value, by what it means.
-    pub fn named(&self, start: usize, m: Meaning, least: &mut Least) -> Option<ResolvedExpr>
+    pub fn named(&self, start: usize, m: Meaning, firsts: &mut Firsts) -> Option<ResolvedExpr>
         ensures value { option_map resolved_expr_of result ≡ named_value (scope self.now).decls start (meaning_of m.entry) }
-        ensures faults { least.new ≡ least_of least.old (no_value (scope self.now).decls start (meaning_of m.entry)) }
+        ensures faults { firsts.new ≡ found_in firsts.old (no_value (scope self.now).decls start (meaning_of m.entry)) }
     {
         match m {
             Meaning::Local(i, local) => {
@@ -142,15 +142,15 @@ impl<'a> Checker<'a> {
                     self.type_outside(&v.value_type),
                 )
             }
-            Meaning::Decl(_, Decl::Lock(_)) => faulty(Code::LockAsValue, start, least),
-            _ => self.misplaced(misnamed(Code::WrongType, Role::Value, start, m), m, least),
+            Meaning::Decl(_, Decl::Lock(_)) => faulty(Code::LockAsValue, start, firsts),
+            _ => self.misplaced(misnamed(Code::WrongType, Role::Value, start, m), m, firsts),
         }
     }
 
     /// What takes an index, by what its name means.
-    pub fn indexed(&self, start: usize, m: Meaning, least: &mut Least) -> Option<Indexed>
+    pub fn indexed(&self, start: usize, m: Meaning, firsts: &mut Firsts) -> Option<Indexed>
         ensures value { result ≡ indexed_by (scope self.now).decls (meaning_of m.entry) }
-        ensures faults { least.new ≡ least_of least.old (no_elements (scope self.now).decls start (meaning_of m.entry)) }
+        ensures faults { firsts.new ≡ found_in firsts.old (no_elements (scope self.now).decls start (meaning_of m.entry)) }
     {
         match m {
             Meaning::Decl(place, d) => match d {
@@ -165,13 +165,13 @@ impl<'a> Checker<'a> {
                 _ => self.misplaced(
                     misnamed(Code::WrongType, Role::Elements, start, m),
                     m,
-                    least,
+                    firsts,
                 ),
             },
             _ => self.misplaced(
                 misnamed(Code::WrongType, Role::Elements, start, m),
                 m,
-                least,
+                firsts,
             ),
         }
     }
@@ -182,16 +182,16 @@ impl<'a> Checker<'a> {
         steps: Vec<FieldStep>,
         structure: usize,
         f: &Name,
-        least: &mut Least,
+        firsts: &mut Firsts,
     ) -> Result<Walk, AllocError>
         ensures value { IfOk result (λ r. walk_of r ≡ over_field (scope self.now).decls steps.items structure (ident f.now)) }
-        ensures faults { OnOk result (least.new ≡ least_of least.old (no_field (the_struct (scope self.now).decls structure) (ident f.now))) }
+        ensures faults { OnOk result (firsts.new ≡ found_in firsts.old (no_field (the_struct (scope self.now).decls structure) (ident f.now))) }
     {
         let Some(members) = self.structure(structure) else {
             return Ok(Walk::Lost);
         };
         let Some((place, m)) = members.find(f.text.as_str()) else {
-            note(Code::UnknownName, f.start as usize, least);
+            note(Code::UnknownName, f.start as usize, firsts);
             return Ok(Walk::Lost);
         };
         let number = members.step(place, m);
@@ -214,24 +214,27 @@ impl<'a> Checker<'a> {
         start: usize,
         w: Walk,
         f: &Name,
-        least: &mut Least,
+        firsts: &mut Firsts,
     ) -> Result<Walk, AllocError>
         ensures value { IfOk result (λ r. walk_of r ≡ stepped (scope self.now).decls (walk_of w) (ident f.now)) }
-        ensures faults { OnOk result (least.new ≡ least_of least.old (step_faults (scope self.now).decls start (walk_of w) (ident f.now))) }
+        ensures faults { OnOk result (firsts.new ≡ found_in firsts.old (step_faults (scope self.now).decls start (walk_of w) (ident f.now))) }
     {
         match w {
             Walk::Reached(steps, t) => match t {
-                ValueType::Reference(number) => self.over(steps, number, f, least),
+                ValueType::Reference(number) => self.over(steps, number, f, firsts),
                 ValueType::Integer => {
                     drop(steps);
-                    note_found(Finding::new(Code::WrongType, start, Why::FieldOfInt), least);
+                    note_found(
+                        Finding::new(Code::WrongType, start, Why::FieldOfInt),
+                        firsts,
+                    );
                     Ok(Walk::Lost)
                 }
             },
             Walk::AtLock => {
                 note_found(
                     Finding::new(Code::WrongType, start, Why::FieldOfLock),
-                    least,
+                    firsts,
                 );
                 Ok(Walk::Lost)
             }
@@ -240,22 +243,22 @@ impl<'a> Checker<'a> {
     }
 
     // Over fields, one after another, of a path that starts there.
-    #[tactic(auto, using(resolution::specs::Theory::Leasts::least_append))]
+    #[tactic(auto, using(resolution::specs::Theory::Leasts::found_append))]
     fn walked(
         &self,
         start: usize,
         w: Walk,
         fields: &[Name],
-        least: &mut Least,
+        firsts: &mut Firsts,
     ) -> Result<Walk, AllocError>
         ensures value { IfOk result (λ r. walk_of r ≡ walked (scope self.now).decls (walk_of w) (map ident fields.now)) }
-        ensures faults { OnOk result (least.new ≡ least_of least.old (fields_faults (scope self.now).decls start (walk_of w) fields.now)) }
+        ensures faults { OnOk result (firsts.new ≡ found_in firsts.old (fields_faults (scope self.now).decls start (walk_of w) fields.now)) }
     {
         let mut reached = w;
         for f in fields {
-            reached = self.stepped(start, reached, f, least)?;
+            reached = self.stepped(start, reached, f, firsts)?;
         }
-        note_end(start, &reached, least);
+        note_end(start, &reached, firsts);
         Ok(reached)
     }
 
@@ -265,10 +268,10 @@ impl<'a> Checker<'a> {
         start: usize,
         m: Meaning,
         fields: &[Name],
-        least: &mut Least,
+        firsts: &mut Firsts,
     ) -> Result<Walk, AllocError>
         ensures value { IfOk result (λ r. walk_of r ≡ walk_from (scope self.now).decls (meaning_of m.entry) (map ident fields.now)) }
-        ensures faults { OnOk result (least.new ≡ least_of least.old (way_faults (scope self.now).decls start (meaning_of m.entry) fields.now)) }
+        ensures faults { OnOk result (firsts.new ≡ found_in firsts.old (way_faults (scope self.now).decls start (meaning_of m.entry) fields.now)) }
     {
         match m {
             Meaning::Local(_, local) => {
@@ -276,11 +279,11 @@ impl<'a> Checker<'a> {
                     Some(t) => Walk::Reached(Vec::new(self.alloc()), t),
                     None => Walk::Lost,
                 };
-                self.walked(start, w, fields, least)
+                self.walked(start, w, fields, firsts)
             }
             _ => {
                 let found = misnamed(Code::WrongType, Role::Local, start, m);
-                let _: Option<usize> = self.misplaced(found, m, least);
+                let _: Option<usize> = self.misplaced(found, m, firsts);
                 Ok(Walk::Lost)
             }
         }

@@ -5,7 +5,7 @@ ghost use Rattle.resolution.specs.CoreViews.{core_expr, core_condition};
 ghost use Rattle.resolution.specs.Expressions.{value, fits, alike_sorts, operator_of};
 ghost use Rattle.resolution.specs.Working.TypedExpressions.{number_value};
 ghost use Rattle.resolution.specs.Working.TypedExpressions.{fitting, as_value, number_resolved, test_resolved, literal, value_of, parenthesised, negated, not_so, chained, ordered, equated, compared};
-ghost use Rattle.resolution.specs.Working.Findings.{least_of};
+ghost use Rattle.resolution.specs.Working.Findings.{found_in};
 ghost use Rattle.resolution.specs.Reasons.{kind_of};
 ghost use Rattle.resolution.specs.Working.FaultLists.{misfit, number_faults, unlike, side_faults, operator_faults};
 ghost use Rattle.resolution.specs.Where.{side_want};
@@ -17,7 +17,7 @@ use crate::judged::{Judged, faulty_for};
 use crate::wanted::{fits_sort, fits_type, note_number, number};
 use core_lang::tree::{Comparison, Condition, Expr, Operation, Operator};
 use core_lang::value::ValueType;
-use resolution::finding::{Finding, Least, note_found, note_found_if};
+use resolution::finding::{Finding, Firsts, note_found, note_found_if};
 use resolution::wanted::{Sort, Want};
 use resolution::why::{Kind, Why};
 use source::fault::Code;
@@ -77,13 +77,13 @@ fn fits(w: Want, s: &ResolvedExpr) -> bool
 }
 
 /// Notes what isn't wanted.
-pub fn note_misfit(w: Want, start: usize, s: &Option<ResolvedExpr>, least: &mut Least)
-    ensures { least.new ≡ least_of least.old (misfit w start (option_map resolved_expr_of s.now)) }
+pub fn note_misfit(w: Want, start: usize, s: &Option<ResolvedExpr>, firsts: &mut Firsts)
+    ensures { firsts.new ≡ found_in firsts.old (misfit w start (option_map resolved_expr_of s.now)) }
 {
     if let Some(s) = s {
         if !fits(w, s) {
             let why = Why::Unwanted(w, s.kind());
-            note_found(Finding::new(Code::WrongType, start, why), least);
+            note_found(Finding::new(Code::WrongType, start, why), firsts);
         }
     }
 }
@@ -154,11 +154,11 @@ fn are_alike(a: Sort, b: Sort) -> bool
 }
 
 /// A number as an expression.
-pub fn literal(n: Number, least: &mut Least) -> Option<ResolvedExpr>
+pub fn literal(n: Number, firsts: &mut Firsts) -> Option<ResolvedExpr>
     ensures value { option_map resolved_expr_of result ≡ literal (number_value n) }
-    ensures faults { least.new ≡ least_of least.old (number_faults n) }
+    ensures faults { firsts.new ≡ found_in firsts.old (number_faults n) }
 {
-    note_number(n, least);
+    note_number(n, firsts);
     match number(n) {
         Some(n) => Some(ResolvedExpr::Value(Expr::Number(n), Sort::Of(ValueType::Integer))),
         None => None,
@@ -215,9 +215,9 @@ pub fn not_so(alloc: Global, c: Option<Condition>) -> Judged<ResolvedExpr>
 }
 
 /// The operator between two numbers, the second of which starts there.
-pub fn operator(op: tree::Operator, start: usize, least: &mut Least) -> Option<Operator>
+pub fn operator(op: tree::Operator, start: usize, firsts: &mut Firsts) -> Option<Operator>
     ensures value { result ≡ operator_of op }
-    ensures faults { least.new ≡ least_of least.old (operator_faults Sum start op) }
+    ensures faults { firsts.new ≡ found_in firsts.old (operator_faults Sum start op) }
 {
     match op {
         tree::Operator::Add => Some(Operator::Add),
@@ -227,7 +227,7 @@ pub fn operator(op: tree::Operator, start: usize, least: &mut Least) -> Option<O
         tree::Operator::Rem => Some(Operator::Rem),
         tree::Operator::And | tree::Operator::Or => {
             let why = Why::OperatorOfConditions;
-            faulty_for(Finding::new(Code::WrongType, start, why), least)
+            faulty_for(Finding::new(Code::WrongType, start, why), firsts)
         }
     }
 }
@@ -346,8 +346,8 @@ fn ordered(c: Comparison, left: Side, right: Side) -> Option<ResolvedExpr>
 }
 
 /// Notes sides that `==` doesn't take.
-fn note_unlike(left: &Side, right: &Side, least: &mut Least)
-    ensures { least.new ≡ least_of least.old (unlike left.now.start right.now.start (seen left.now) (seen right.now)) }
+fn note_unlike(left: &Side, right: &Side, firsts: &mut Firsts)
+    ensures { firsts.new ≡ found_in firsts.old (unlike left.now.start right.now.start (seen left.now) (seen right.now)) }
 {
     let (Some(one), Some(other)) = (&left.value, &right.value) else {
         return;
@@ -359,13 +359,13 @@ fn note_unlike(left: &Side, right: &Side, least: &mut Least)
             note_found_if(
                 is_unlike,
                 Finding::new(Code::WrongType, right.start, why),
-                least,
+                firsts,
             );
         }
         (ResolvedExpr::Truth(_), ResolvedExpr::Truth(_)) => {
-            note_found(Finding::new(Code::WrongType, left.start, why), least);
+            note_found(Finding::new(Code::WrongType, left.start, why), firsts);
         }
-        _ => note_found(Finding::new(Code::WrongType, right.start, why), least),
+        _ => note_found(Finding::new(Code::WrongType, right.start, why), firsts),
     }
 }
 
@@ -393,11 +393,11 @@ fn equated_with(c: Comparison, a: Expr, s: Sort, right: Side) -> Option<Resolved
 
 /// A comparison of two that are alike. The fault is noted ahead of it, by reference: an arm that owns the sides and
 /// gives none back has to take both apart, which makes the proof long.
-fn equated(c: Comparison, left: Side, right: Side, least: &mut Least) -> Option<ResolvedExpr>
+fn equated(c: Comparison, left: Side, right: Side, firsts: &mut Firsts) -> Option<ResolvedExpr>
     ensures value { option_map resolved_expr_of result ≡ equated c (seen left) (seen right) }
-    ensures faults { least.new ≡ least_of least.old (unlike left.start right.start (seen left) (seen right)) }
+    ensures faults { firsts.new ≡ found_in firsts.old (unlike left.start right.start (seen left) (seen right)) }
 {
-    note_unlike(&left, &right, least);
+    note_unlike(&left, &right, firsts);
     let left = left.value;
     match left {
         Some(ResolvedExpr::Value(a, s)) => equated_with(c, a, s, right),
@@ -414,14 +414,14 @@ pub fn compared(
     c: tree::Comparison,
     left: Side,
     right: Side,
-    least: &mut Least,
+    firsts: &mut Firsts,
 ) -> Option<ResolvedExpr>
     ensures value { option_map resolved_expr_of result ≡ compared c (seen left) (seen right) }
-    ensures faults { least.new ≡ least_of least.old (side_faults c left.start right.start (seen left) (seen right)) }
+    ensures faults { firsts.new ≡ found_in firsts.old (side_faults c left.start right.start (seen left) (seen right)) }
 {
     match c {
-        tree::Comparison::Equal => equated(Comparison::Equal, left, right, least),
-        tree::Comparison::NotEqual => equated(Comparison::NotEqual, left, right, least),
+        tree::Comparison::Equal => equated(Comparison::Equal, left, right, firsts),
+        tree::Comparison::NotEqual => equated(Comparison::NotEqual, left, right, firsts),
         tree::Comparison::Less => ordered(Comparison::Less, left, right),
         tree::Comparison::LessOrEqual => ordered(Comparison::LessOrEqual, left, right),
         tree::Comparison::Greater => ordered(Comparison::Greater, left, right),

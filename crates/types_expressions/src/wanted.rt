@@ -3,11 +3,11 @@
 ghost use Rattle.std.specs.Prelude.{◌≡◌};
 ghost use Rattle.resolution.specs.Expressions.{fits_type, fits_sort, want};
 ghost use Rattle.resolution.specs.Working.TypedExpressions.{number_value};
-ghost use Rattle.resolution.specs.Working.Findings.{least_of};
+ghost use Rattle.resolution.specs.Working.Findings.{found_in};
 ghost use Rattle.resolution.specs.Working.FaultLists.{number_faults};
 
 use core_lang::value::ValueType;
-use resolution::finding::{Least, note_if};
+use resolution::finding::{Firsts, note_if};
 use resolution::wanted::{Sort, Want};
 use source::fault::Code;
 use source::token::Number;
@@ -27,14 +27,14 @@ pub fn number(n: Number) -> Option<i64>
 }
 
 /// Notes a number that no token can be.
-pub fn note_number(n: Number, least: &mut Least)
-    ensures { least.new ≡ least_of least.old (number_faults n) }
+pub fn note_number(n: Number, firsts: &mut Firsts)
+    ensures { firsts.new ≡ found_in firsts.old (number_faults n) }
 {
     note_if(
         NUMBER_LIMIT < n.value,
         Code::NumberTooLarge,
         n.span.start as usize,
-        least,
+        firsts,
     );
 }
 

@@ -32,7 +32,7 @@ use Rattle.resolution.specs.Working.TypedStatements.{Part, does, gives, Body, gi
 use Rattle.resolution.specs.Working.TypedStatements.{typed_stmt, typed_if, block_of, repeats, chooses_between}
 use Rattle.resolution.specs.Statements.{after, after_else, after_all, ahead_of}
 use Rattle.resolution.specs.Working.TypedSections.{core_locals, section_of, section_in}
-use Rattle.resolution.specs.Working.Findings.{least_of}
+use Rattle.resolution.specs.Working.Findings.{Firsts, found_in}
 use Rattle.resolution.specs.Working.FaultLists.{one_if, local_faults, type_faults, param_faults, stmt_faults}
 use Rattle.resolution.specs.Working.FaultLists.{stmts_faults, wanted_faults, else_faults}
 use Rattle.types_symbols.specs.Theory.Steps.{step, noted_one, noted_two, noted_three}
@@ -132,27 +132,27 @@ stmt_step sc sc' items i item so_far new p whole lt is made one behind before =
     ∙ ap (λ (z : Scope). body_joined so_far (preceded (typed_stmt sc (stmt_of item)) (typed_body z (stmts_of rest)))) behind)
     before
 
-pub stmt_fault_step : (sc sc' : Scope) (items : List tree_stmt.Stmt) (i : ℕ) (item : tree_stmt.Stmt) (f g whole : Option Finding) →
-    i < length items → item ≡ get_or items i item → g ≡ least_of f (stmt_faults sc (stmt_of item)) → sc' ≡ after sc (stmt_of item) →
-    least_of f (stmts_faults sc (stmts_of (drop i items))) ≡ whole → least_of g (stmts_faults sc' (stmts_of (drop (i + 1) items))) ≡ whole
+pub stmt_fault_step : (sc sc' : Scope) (items : List tree_stmt.Stmt) (i : ℕ) (item : tree_stmt.Stmt) (f g whole : Firsts) →
+    i < length items → item ≡ get_or items i item → g ≡ found_in f (stmt_faults sc (stmt_of item)) → sc' ≡ after sc (stmt_of item) →
+    found_in f (stmts_faults sc (stmts_of (drop i items))) ≡ whole → found_in g (stmts_faults sc' (stmts_of (drop (i + 1) items))) ≡ whole
 stmt_fault_step sc sc' items i item f g whole lt is one behind before =
     let rest = drop (i + 1) items in
-    step (λ ss. least_of f (stmts_faults sc (stmts_of ss))) (λ ss. least_of g (stmts_faults sc' (stmts_of ss))) items i item whole lt is
-    (ap (λ (z : Scope). least_of g (stmts_faults z (stmts_of rest))) behind ∙ noted_one f g (stmt_faults sc (stmt_of item)) (stmts_faults (after sc (stmt_of item)) (stmts_of rest)) one)
+    step (λ ss. found_in f (stmts_faults sc (stmts_of ss))) (λ ss. found_in g (stmts_faults sc' (stmts_of ss))) items i item whole lt is
+    (ap (λ (z : Scope). found_in g (stmts_faults z (stmts_of rest))) behind ∙ noted_one f g (stmt_faults sc (stmt_of item)) (stmts_faults (after sc (stmt_of item)) (stmts_of rest)) one)
     before
 
 -- ---- parameters
 
-pub param_fault_step : (sc sc' : Scope) (items : List tree_param.Param) (i : ℕ) (item : tree_param.Param) (f g h k whole : Option Finding) →
+pub param_fault_step : (sc sc' : Scope) (items : List tree_param.Param) (i : ℕ) (item : tree_param.Param) (f g h k whole : Firsts) →
     i < length items → item ≡ get_or items i item →
-    g ≡ least_of f (local_faults sc (param_of item).name) → h ≡ least_of g (one_if (nat_le sc.limits.parameters i) LimitExceeded (param_of item).name.span.start) →
-    k ≡ least_of h (type_faults (outside sc.decls) (param_of item).value_type) → sc' ≡ bound sc Parameter (param_of item).name (type_of (outside sc.decls) (param_of item).value_type) →
-    least_of f (param_faults sc i (map param_of (drop i items))) ≡ whole → least_of k (param_faults sc' (i + 1) (map param_of (drop (i + 1) items))) ≡ whole
+    g ≡ found_in f (local_faults sc (param_of item).name) → h ≡ found_in g (one_if (nat_le sc.limits.parameters i) LimitExceeded (param_of item).name.span.start) →
+    k ≡ found_in h (type_faults (outside sc.decls) (param_of item).value_type) → sc' ≡ bound sc Parameter (param_of item).name (type_of (outside sc.decls) (param_of item).value_type) →
+    found_in f (param_faults sc i (map param_of (drop i items))) ≡ whole → found_in k (param_faults sc' (i + 1) (map param_of (drop (i + 1) items))) ≡ whole
 param_fault_step sc sc' items i item f g h k whole lt is one two three behind before =
     let p = param_of item in
     let rest = map param_of (drop (i + 1) items) in
-    step (λ ps. least_of f (param_faults sc i (map param_of ps))) (λ ps. least_of k (param_faults sc' (i + 1) (map param_of ps))) items i item whole lt is
-    (ap (λ (z : Scope). least_of k (param_faults z (i + 1) rest)) behind
+    step (λ ps. found_in f (param_faults sc i (map param_of ps))) (λ ps. found_in k (param_faults sc' (i + 1) (map param_of ps))) items i item whole lt is
+    (ap (λ (z : Scope). found_in k (param_faults z (i + 1) rest)) behind
     ∙ noted_three f g h k (local_faults sc p.name) (one_if (nat_le sc.limits.parameters i) LimitExceeded p.name.span.start) (type_faults (outside sc.decls) p.value_type) (param_faults (bound sc Parameter p.name (type_of (outside sc.decls) p.value_type)) (i + 1) rest) one two three)
     before
 
@@ -198,9 +198,9 @@ module _ (sc : Scope) (loop : tree_while.While) where
   while_value p cond block hp hc hb =
       hp ∙ ap (λ c. repeats loop.start.start c block) hc ∙ ap (repeats loop.start.start (test_resolved (typed sc (expr_of loop.condition)))) hb
 
-  pub while_faults : (f g h : Option Finding) → g ≡ least_of f (wanted_faults sc Condition (expr_of loop.condition)) →
-      h ≡ least_of g (stmts_faults sc (stmts_of loop.block.stmts.items)) →
-      h ≡ least_of f (stmt_faults sc (while_of loop))
+  pub while_faults : (f g h : Firsts) → g ≡ found_in f (wanted_faults sc Condition (expr_of loop.condition)) →
+      h ≡ found_in g (stmts_faults sc (stmts_of loop.block.stmts.items)) →
+      h ≡ found_in f (stmt_faults sc (while_of loop))
   while_faults f g h hg hh = hh ∙ noted_one f g (wanted_faults sc Condition (expr_of loop.condition)) (stmts_faults sc (stmts_of loop.block.stmts.items)) hg
 
 -- a choice by its parts, where the scope behind its block is sc2
@@ -218,16 +218,16 @@ module _ (sc sc2 : Scope) (choice : tree_if.If) (behind : sc2 ≡ left sc (after
       ∙ ap (λ b. typed_if (left sc (after_all sc body)) at (test_resolved (typed sc (expr_of (out-If choice).condition))) b other) hb
       ∙ ap (typed_stmt sc) (sym (if_of-out choice))
 
-  pub if_faults : (f g h k : Option Finding) →
-      g ≡ least_of f (wanted_faults sc Condition (expr_of (out-If choice).condition)) →
-      h ≡ least_of g (stmts_faults sc (stmts_of (out-If choice).block.stmts.items)) → k ≡ least_of h (else_faults sc2 (else_of (out-If choice).otherwise)) →
-      k ≡ least_of f (stmt_faults sc (if_of choice))
+  pub if_faults : (f g h k : Firsts) →
+      g ≡ found_in f (wanted_faults sc Condition (expr_of (out-If choice).condition)) →
+      h ≡ found_in g (stmts_faults sc (stmts_of (out-If choice).block.stmts.items)) → k ≡ found_in h (else_faults sc2 (else_of (out-If choice).otherwise)) →
+      k ≡ found_in f (stmt_faults sc (if_of choice))
   if_faults f g h k hg hh hk =
       let other = else_of (out-If choice).otherwise in
       let body = stmts_of (out-If choice).block.stmts.items in
-      hk ∙ ap (λ z. least_of h (else_faults z other)) behind
+      hk ∙ ap (λ z. found_in h (else_faults z other)) behind
       ∙ noted_two f g h (wanted_faults sc Condition (expr_of (out-If choice).condition)) (stmts_faults sc body) (else_faults (left sc (after_all sc body)) other) hg hh
-      ∙ ap (λ s. least_of f (stmt_faults sc s)) (sym (if_of-out choice))
+      ∙ ap (λ s. found_in f (stmt_faults sc s)) (sym (if_of-out choice))
 
   pub if_scope : (sc3 : Scope) → sc3 ≡ after_else sc2 (else_of (out-If choice).otherwise) →
       sc3 ≡ after sc (if_of choice)

@@ -14,7 +14,7 @@ use Rattle.resolution.specs.Constants.{want_of}
 use Rattle.resolution.specs.Working.TypedConstants.{added}
 use Rattle.resolution.specs.Working.TypedStatements.{typed_values}
 use Rattle.resolution.specs.Working.Building.{joined}
-use Rattle.resolution.specs.Working.Findings.{least_of}
+use Rattle.resolution.specs.Working.Findings.{Firsts, found_in}
 use Rattle.core_lang.specs.Theory.Items.{next_of}
 use Rattle.resolution.specs.Working.FaultLists.{wanted_faults}
 use Rattle.types_expressions.specs.Working.Parts.{pushed}
@@ -44,13 +44,13 @@ module _ (sc : Scope) (ps : List rust_param.Param) (es : List rust_expr.Expr) (i
       ∙ ap (λ (xs : List rust_expr.Expr). joined so_far (values_of sc (drop i ps) xs)) (sym (next_of es i e less here))
       ∙ before
 
-  pub values_fault_step : (f g whole : Option Finding) → g ≡ least_of f (wanted_faults sc w (expr_of e)) →
-      least_of f (values_blamed sc (drop i ps) (drop i es)) ≡ whole → least_of g (values_blamed sc (drop (i + 1) ps) (drop (i + 1) es)) ≡ whole
+  pub values_fault_step : (f g whole : Firsts) → g ≡ found_in f (wanted_faults sc w (expr_of e)) →
+      found_in f (values_blamed sc (drop i ps) (drop i es)) ≡ whole → found_in g (values_blamed sc (drop (i + 1) ps) (drop (i + 1) es)) ≡ whole
   values_fault_step f g whole one before =
       let rest = values_blamed sc (drop (i + 1) ps) (drop (i + 1) es) in
-      noted_one f g (wanted_faults sc (want_of sc.decls (param_of p)) (expr_of e)) rest (one ∙ ap (λ (y : Want). least_of f (wanted_faults sc y (expr_of e))) wanted)
-      ∙ ap (λ (qs : List rust_param.Param). least_of f (values_blamed sc qs (e ∷ drop (i + 1) es))) (sym (next_of ps i p few is))
-      ∙ ap (λ (xs : List rust_expr.Expr). least_of f (values_blamed sc (drop i ps) xs)) (sym (next_of es i e less here))
+      noted_one f g (wanted_faults sc (want_of sc.decls (param_of p)) (expr_of e)) rest (one ∙ ap (λ (y : Want). found_in f (wanted_faults sc y (expr_of e))) wanted)
+      ∙ ap (λ (qs : List rust_param.Param). found_in f (values_blamed sc qs (e ∷ drop (i + 1) es))) (sym (next_of ps i p few is))
+      ∙ ap (λ (xs : List rust_expr.Expr). found_in f (values_blamed sc (drop i ps) xs)) (sym (next_of es i e less here))
       ∙ before
 
 -- too many or too few have no values

@@ -8,7 +8,7 @@ use Rattle.resolution.specs.Core as core
 use Rattle.resolution.specs.Scopes.{◌>>=◌, outside, Meaning, a_decl, number_at, type_of, struct_named}
 use Rattle.resolution.specs.Working.TypedStatements.{assignee, to_element, assignee_at_element}
 use Rattle.resolution.specs.Working.FaultLists.{no_array, no_elements}
-use Rattle.resolution.specs.Working.Findings.{least_of}
+use Rattle.resolution.specs.Working.Findings.{Firsts, found_in}
 use Rattle.types_symbols.specs.Theory.Steps.{noted_one}
 use Rattle.types_expressions.specs.Working.Indexing.{of_type, indexed_by}
 use Rattle.types_expressions.specs.declared.place.Indexed.{Indexed}
@@ -43,8 +43,8 @@ assigned_seen decls m n x e f hm hx he =
     ap (λ (y : Option Indexed). assigned_at y e) hx ∙ ap (λ (k : Meaning). assigned_at (indexed_by decls k) e) hm
     ∙ ap (assigned_at (indexed_by decls n)) he ∙ assigned_is decls n f
 
-pub assigned_blamed : (decls : List Decl) (start : ℕ) (m n : Meaning) (f g : Option Finding) (a : List Finding) →
-    m ≡ n → g ≡ least_of f (no_elements decls start m ++ no_array decls start m) →
-    least_of g a ≡ least_of f (no_elements decls start n ++ no_array decls start n ++ a)
+pub assigned_blamed : (decls : List Decl) (start : ℕ) (m n : Meaning) (f g : Firsts) (a : List Finding) →
+    m ≡ n → g ≡ found_in f (no_elements decls start m ++ no_array decls start m) →
+    found_in g a ≡ found_in f (no_elements decls start n ++ no_array decls start n ++ a)
 assigned_blamed decls start m n f g a hm hg =
-    noted_one f g (no_elements decls start n ++ no_array decls start n) a (hg ∙ ap (λ (k : Meaning). least_of f (no_elements decls start k ++ no_array decls start k)) hm)
+    noted_one f g (no_elements decls start n ++ no_array decls start n) a (hg ∙ ap (λ (k : Meaning). found_in f (no_elements decls start k ++ no_array decls start k)) hm)

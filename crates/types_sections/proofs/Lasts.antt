@@ -1,7 +1,7 @@
 -- The last step of a path, and paths on the left.
 use Rattle.std.proofs.Common.{◌≡◌, ℕ, List, ◌++◌, Option, ap, ◌∙◌}
 use Rattle.resolution.specs.declared.finding.Finding.{Finding}
-use Rattle.resolution.specs.Working.Findings.{least_of}
+use Rattle.resolution.specs.Working.Findings.{Firsts, found_in}
 use Rattle.syntax.specs.Trees.{Decl, Ident}
 use Rattle.resolution.specs.Scopes.{Meaning}
 use Rattle.resolution.specs.Expressions.{Walk, walk_from}
@@ -18,11 +18,11 @@ module _ (decls : List Decl) (start : ℕ) (m n : Meaning) (fs gs : List Ident) 
       ha ∙ ap (assignee_along start m) (reached ∙ ap (walk_from decls m) same)
       ∙ ap (λ (k : Meaning). assignee_along start k (walk_from decls k gs)) named
 
-  pub along_blamed : (f g h : Option Finding) → g ≡ least_of f (path_faults decls start m fs) →
-      h ≡ least_of g (final_faults start w) →
-      h ≡ least_of f (path_faults decls start n gs ++ final_faults start (walk_from decls n gs))
+  pub along_blamed : (f g h : Firsts) → g ≡ found_in f (path_faults decls start m fs) →
+      h ≡ found_in g (final_faults start w) →
+      h ≡ found_in f (path_faults decls start n gs ++ final_faults start (walk_from decls n gs))
   along_blamed f g h hg hh =
       hh ∙ noted_one f g (path_faults decls start m fs) (final_faults start w) hg
-      ∙ ap (λ (x : Walk). least_of f (path_faults decls start m fs ++ final_faults start x)) reached
-      ∙ ap (λ (l : List Ident). least_of f (path_faults decls start m l ++ final_faults start (walk_from decls m l))) same
-      ∙ ap (λ (k : Meaning). least_of f (path_faults decls start k gs ++ final_faults start (walk_from decls k gs))) named
+      ∙ ap (λ (x : Walk). found_in f (path_faults decls start m fs ++ final_faults start x)) reached
+      ∙ ap (λ (l : List Ident). found_in f (path_faults decls start m l ++ final_faults start (walk_from decls m l))) same
+      ∙ ap (λ (k : Meaning). found_in f (path_faults decls start k gs ++ final_faults start (walk_from decls k gs))) named

@@ -5,7 +5,7 @@ ghost use Rattle.syntax.specs.Views.{ident, section_of, param_of, helper_call_of
 ghost use Rattle.resolution.specs.CoreViews.{core_expr, core_action};
 ghost use Rattle.resolution.specs.Constants.{want_of};
 ghost use Rattle.resolution.specs.Working.TypedStatements.{call_resolved};
-ghost use Rattle.resolution.specs.Working.Findings.{least_of};
+ghost use Rattle.resolution.specs.Working.Findings.{found_in};
 ghost use Rattle.resolution.specs.Working.FaultLists.{helper_call_faults};
 ghost use Rattle.types_expressions.specs.Working.Checkers.{scope};
 ghost use Rattle.types_expressions.specs.Working.Parts.{pushed};
@@ -13,7 +13,7 @@ ghost use Rattle.types_sections.specs.Working.Calls.{helper_named, numbered, sec
 
 use core_lang::tree::{Action, Expr};
 use core_lang::value::ValueType;
-use resolution::finding::{Finding, Least, note_found, note_found_if};
+use resolution::finding::{Finding, Firsts, note_found, note_found_if};
 use resolution::wanted::{Sort, Want};
 use resolution::why::{Kind, Role, Why};
 use source::fault::Code;
@@ -47,21 +47,21 @@ fn with_value(values: Option<Vec<Expr>>, value: Option<Expr>) -> Judged<Vec<Expr
 }
 
 /// Arguments, from left to right, each for its parameter. `None` where one of them has a fault.
-#[tactic(auto, using(resolution::specs::Theory::Leasts::least_append))]
+#[tactic(auto, using(resolution::specs::Theory::Leasts::found_append))]
 fn values_for(
     checker: &Checker,
     params: &[Param],
     arguments: &[tree::Expr],
-    least: &mut Least,
+    firsts: &mut Firsts,
 ) -> Judged<Vec<Expr>>
     requires { length params.now ≡ length arguments.now }
     ensures value { IfOk result (λ r. values_seen r ≡ values_of (scope checker.now) params.now arguments.now) }
-    ensures faults { OnOk result (least.new ≡ least_of least.old (values_blamed (scope checker.now) params.now arguments.now)) }
+    ensures faults { OnOk result (firsts.new ≡ found_in firsts.old (values_blamed (scope checker.now) params.now arguments.now)) }
 {
     let mut values = Some(Vec::new(checker.alloc()));
     for i in 0..params.len() {
         let wanted = want_of(checker, &params[i]);
-        let Ok(value) = checker.value(wanted, &arguments[i], least) else {
+        let Ok(value) = checker.value(wanted, &arguments[i], firsts) else {
             drop(values);
             return Err(AllocError);
         };
@@ -71,16 +71,16 @@ fn values_for(
 }
 
 /// Notes what is wrong with arguments, each by itself.
-#[tactic(auto, using(resolution::specs::Theory::Leasts::least_append))]
+#[tactic(auto, using(resolution::specs::Theory::Leasts::found_append))]
 fn note_each(
     checker: &Checker,
     arguments: &[tree::Expr],
-    least: &mut Least,
+    firsts: &mut Firsts,
 ) -> Result<(), AllocError>
-    ensures { OnOk result (least.new ≡ least_of least.old (each_blamed (scope checker.now) arguments.now)) }
+    ensures { OnOk result (firsts.new ≡ found_in firsts.old (each_blamed (scope checker.now) arguments.now)) }
 {
     for e in arguments {
-        let value = checker.value(Want::Anything, e, least)?;
+        let value = checker.value(Want::Anything, e, firsts)?;
         drop(value);
     }
     Ok(())
@@ -100,8 +100,8 @@ fn helper_named<'a>(checker: &'a Checker, c: &HelperCall) -> Option<(usize, &'a 
 }
 
 /// Notes a name that is no helper's, or a helper's that has another number of parameters.
-fn note_name(checker: &Checker, c: &HelperCall, least: &mut Least)
-    ensures { least.new ≡ least_of least.old (name_blamed (scope checker.now) (helper_call_of c.now)) }
+fn note_name(checker: &Checker, c: &HelperCall, firsts: &mut Firsts)
+    ensures { firsts.new ≡ found_in firsts.old (name_blamed (scope checker.now) (helper_call_of c.now)) }
 {
     let start = c.helper.start as usize;
     match checker.meaning(&c.helper) {
@@ -111,30 +111,30 @@ fn note_name(checker: &Checker, c: &HelperCall, least: &mut Least)
             note_found_if(
                 is_other,
                 Finding::new(Code::WrongArgumentCount, start, why),
-                least,
+                firsts,
             );
         }
         m => {
             let found = misnamed(Code::WrongType, Role::Helper, start, m);
-            let _none: Option<()> = checker.misplaced(found, m, least);
+            let _none: Option<()> = checker.misplaced(found, m, firsts);
         }
     }
 }
 
 /// A call's arguments, for the helper that it names. Where it names none, they are judged by themselves; where it has too
 /// many or too few, they aren't judged.
-fn passed(checker: &Checker, c: &HelperCall, least: &mut Least) -> Judged<Vec<Expr>>
+fn passed(checker: &Checker, c: &HelperCall, firsts: &mut Firsts) -> Judged<Vec<Expr>>
     ensures value { IfOk result (λ r. values_seen r ≡ passed_seen (scope checker.now) (helper_call_of c.now)) }
-    ensures faults { OnOk result (least.new ≡ least_of least.old (passed_blamed (scope checker.now) (helper_call_of c.now))) }
+    ensures faults { OnOk result (firsts.new ≡ found_in firsts.old (passed_blamed (scope checker.now) (helper_call_of c.now))) }
 {
     let Some((_, helper)) = helper_named(checker, c) else {
-        note_each(checker, &c.arguments, least)?;
+        note_each(checker, &c.arguments, firsts)?;
         return Ok(None);
     };
     if helper.params.len() != c.arguments.len() {
         return Ok(None);
     }
-    values_for(checker, &helper.params, &c.arguments, least)
+    values_for(checker, &helper.params, &c.arguments, firsts)
 }
 
 /// A call of a helper with these arguments, if nothing is missing.
@@ -156,18 +156,18 @@ fn called_with(
 }
 
 /// A call of a helper, resolved, if its name and its arguments are right. The local takes what the helper gives back.
-#[tactic(auto, using(resolution::specs::Theory::Leasts::least_append))]
+#[tactic(auto, using(resolution::specs::Theory::Leasts::found_append))]
 pub fn judge_call(
     checker: &Checker,
     c: &HelperCall,
     local: Option<usize>,
-    least: &mut Least,
+    firsts: &mut Firsts,
 ) -> Judged<Action>
     ensures value { IfOk result (λ r. option_map core_action r ≡ call_resolved (scope checker.now) (helper_call_of c.now) local) }
-    ensures faults { OnOk result (least.new ≡ least_of least.old (helper_call_faults (scope checker.now) (helper_call_of c.now))) }
+    ensures faults { OnOk result (firsts.new ≡ found_in firsts.old (helper_call_faults (scope checker.now) (helper_call_of c.now))) }
 {
-    note_name(checker, c, least);
-    let values = passed(checker, c, least)?;
+    note_name(checker, c, firsts);
+    let values = passed(checker, c, firsts)?;
     Ok(called_with(helper_named(checker, c), values, local))
 }
 
@@ -177,10 +177,10 @@ pub fn takes_result(
     checker: &Checker,
     t: Option<ValueType>,
     c: &HelperCall,
-    least: &mut Least,
+    firsts: &mut Firsts,
 ) -> bool
     ensures value { result ≡ takes_result (scope checker.now) t (helper_call_of c.now) }
-    ensures faults { least.new ≡ least_of least.old (taking_blamed (scope checker.now) t (helper_call_of c.now)) }
+    ensures faults { firsts.new ≡ found_in firsts.old (taking_blamed (scope checker.now) t (helper_call_of c.now)) }
 {
     let Some((t, (_, helper))) = t.zip(helper_named(checker, c)) else {
         return false;
@@ -189,7 +189,7 @@ pub fn takes_result(
     let Some(result) = &helper.result else {
         note_found(
             Finding::new(Code::WrongType, start, Why::NoResult(t)),
-            least,
+            firsts,
         );
         return false;
     };
@@ -198,6 +198,6 @@ pub fn takes_result(
     };
     let fits = fits_type(t, Sort::Of(given));
     let why = Why::Unwanted(Want::Value(t), Kind::Value(Sort::Of(given)));
-    note_found_if(!fits, Finding::new(Code::WrongType, start, why), least);
+    note_found_if(!fits, Finding::new(Code::WrongType, start, why), firsts);
     fits
 }

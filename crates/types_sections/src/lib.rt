@@ -1,5 +1,5 @@
 //! Sections and helpers: from the tree of one to its resolved form, in which each name is replaced by the number of what it
-//! means and every expression is typed; and the least fault of names and types in it.
+//! means and every expression is typed; and the faults of names and types in it.
 //!
 //! - [`section::judge_section`], [`section::judge_helper`]: a whole section, a whole helper.
 //! - `stmt`: its statements, which bind locals in the checker of `types_expressions` as they go.

@@ -7,14 +7,14 @@ ghost use Rattle.resolution.specs.CoreViews.{core_expr};
 ghost use Rattle.resolution.specs.Limits.{up_to};
 ghost use Rattle.resolution.specs.Scopes.{meaning};
 ghost use Rattle.resolution.specs.Working.TypedOwners.{owner_field, owner_local};
-ghost use Rattle.resolution.specs.Working.Findings.{least_of};
+ghost use Rattle.resolution.specs.Working.Findings.{found_in};
 ghost use Rattle.resolution.specs.Working.FaultLists.{owner_field_faults};
 ghost use Rattle.types_expressions.specs.Working.Checkers.{scope};
 ghost use Rattle.types_sections.specs.Working.Targets.{tested_if, final_faults_in, owner_name_faults, owned_opening, opening_faults};
 
 use core_lang::tree::Expr;
 use core_lang::value::ValueType;
-use resolution::finding::{Finding, Least, note_found_if};
+use resolution::finding::{Finding, Firsts, note_found_if};
 use resolution::owner_field::OwnerField;
 use resolution::wanted::{Sort, Want};
 use resolution::why::{Kind, Role, Why};
@@ -46,18 +46,18 @@ fn final_named(
     checker: &Checker,
     structure: usize,
     f: &Name,
-    least: &mut Least,
+    firsts: &mut Firsts,
 ) -> Option<OwnerField>
     ensures value { result ≡ owner_field (scope checker.now).decls (Some (Reference structure)) (ident f.now) }
-    ensures faults { least.new ≡ least_of least.old (final_faults_in (scope checker.now) structure (ident f.now)) }
+    ensures faults { firsts.new ≡ found_in firsts.old (final_faults_in (scope checker.now) structure (ident f.now)) }
 {
     let members = checker.structure(structure)?;
     let start = f.start as usize;
     let Some((place, m)) = members.find(f.text.as_str()) else {
-        return faulty(Code::UnknownName, start, least);
+        return faulty(Code::UnknownName, start, firsts);
     };
     match m {
-        Member::Lock(_) => faulty(Code::LockAsValue, start, least),
+        Member::Lock(_) => faulty(Code::LockAsValue, start, firsts),
         Member::Final(reference) => Some(OwnerField {
             structure,
             number: members.step(place, m),
@@ -68,7 +68,7 @@ fn final_named(
             note_found_if(
                 has_type,
                 Finding::new(Code::WrongType, start, Why::OwnerField),
-                least,
+                firsts,
             );
             None
         }
@@ -80,17 +80,17 @@ fn owner_field(
     checker: &Checker,
     t: Option<ValueType>,
     f: &Name,
-    least: &mut Least,
+    firsts: &mut Firsts,
 ) -> Option<OwnerField>
     ensures value { result ≡ owner_field (scope checker.now).decls t (ident f.now) }
-    ensures faults { least.new ≡ least_of least.old (owner_field_faults (scope checker.now).decls t (ident f.now)) }
+    ensures faults { firsts.new ≡ found_in firsts.old (owner_field_faults (scope checker.now).decls t (ident f.now)) }
 {
     match t? {
         ValueType::Integer => {
             let why = Why::OwnedInt;
-            faulty_for(Finding::new(Code::WrongType, f.start as usize, why), least)
+            faulty_for(Finding::new(Code::WrongType, f.start as usize, why), firsts)
         }
-        ValueType::Reference(structure) => final_named(checker, structure, f, least),
+        ValueType::Reference(structure) => final_named(checker, structure, f, firsts),
     }
 }
 
@@ -99,20 +99,20 @@ fn owner_local(
     checker: &Checker,
     field: Option<OwnerField>,
     name: &Name,
-    least: &mut Least,
+    firsts: &mut Firsts,
 ) -> Option<usize>
     ensures value { result ≡ owner_local field (meaning (scope checker.now) (ident name.now).text) }
-    ensures faults { least.new ≡ least_of least.old (owner_name_faults (scope checker.now) field (ident name.now)) }
+    ensures faults { firsts.new ≡ found_in firsts.old (owner_name_faults (scope checker.now) field (ident name.now)) }
 {
     let start = name.start as usize;
     let m = checker.meaning(name);
     let Meaning::Local(number, local) = m else {
-        return checker.misplaced(misnamed(Code::WrongType, Role::Local, start, m), m, least);
+        return checker.misplaced(misnamed(Code::WrongType, Role::Local, start, m), m, firsts);
     };
     let (field, t) = field.zip(local.value_type)?;
     if !fits_type(field.value_type, Sort::Of(t)) {
         let why = Why::Unwanted(Want::Value(field.value_type), Kind::Value(Sort::Of(t)));
-        return faulty_for(Finding::new(Code::WrongType, start, why), least);
+        return faulty_for(Finding::new(Code::WrongType, start, why), firsts);
     }
     Some(number)
 }
@@ -156,20 +156,20 @@ fn tested_by(
 
 /// A local's value with what stands behind its `where`, of which each name is judged in any case: the final reference has
 /// to name what the local does. Where the struct is one too many there is no value, and a fault tells of that elsewhere.
-#[tactic(auto, using(resolution::specs::Theory::Leasts::least_append))]
+#[tactic(auto, using(resolution::specs::Theory::Leasts::found_append))]
 pub fn owned_by(
     checker: &Checker,
     opening: Opening,
     owner: &Owner,
-    least: &mut Least,
+    firsts: &mut Firsts,
 ) -> Result<Opening, AllocError>
     ensures value_type { IfOk result (λ r. r.value_type ≡ opening.value_type) }
     ensures value { IfOk result (λ r. option_map core_expr r.value ≡ owned_opening (scope checker.now) opening (owner_of owner.now)) }
-    ensures faults { OnOk result (least.new ≡ least_of least.old (opening_faults (scope checker.now) opening (owner_of owner.now))) }
+    ensures faults { OnOk result (firsts.new ≡ found_in firsts.old (opening_faults (scope checker.now) opening (owner_of owner.now))) }
 {
     let Opening { value_type, value } = opening;
-    let field = owner_field(checker, value_type, &owner.field, least);
-    let local = owner_local(checker, field, &owner.local, least);
+    let field = owner_field(checker, value_type, &owner.field, firsts);
+    let local = owner_local(checker, field, &owner.local, firsts);
     let test = field.zip(local);
     let value = tested_by(checker, value, test, owner.local.start as usize)?;
     Ok(Opening { value_type, value })

@@ -7,7 +7,7 @@ ghost use Rattle.resolution.specs.CoreViews.{core_section};
 ghost use Rattle.resolution.specs.Limits.{section_limits, helper_limits};
 ghost use Rattle.resolution.specs.Scopes.{entered, result_of};
 ghost use Rattle.resolution.specs.Working.TypedSections.{core_locals, core_local, section_in, typed_section};
-ghost use Rattle.resolution.specs.Working.Findings.{least_of};
+ghost use Rattle.resolution.specs.Working.Findings.{found_in};
 ghost use Rattle.resolution.specs.Working.FaultLists.{param_faults, result_faults, section_faults};
 ghost use Rattle.types_symbols.specs.{decls_of, local_seen};
 ghost use Rattle.types_expressions.specs.Working.Checkers.{scope};
@@ -19,7 +19,7 @@ use core_lang::tree;
 use core_lang::tree::{LocalKind, Section};
 use core_lang::value::ValueType;
 use resolution::body_limits::BodyLimits;
-use resolution::finding::{Least, note_if};
+use resolution::finding::{Firsts, note_if};
 use source::fault::Code;
 use std::alloc::{AllocError, Global};
 use syntax::tree as written;
@@ -88,13 +88,17 @@ fn core_locals(alloc: Global, locals: &[Local]) -> Judged<Vec<tree::Local>>
 }
 
 /// The type of the result of a section or a helper, if it has one without a fault.
-fn result_type(symbols: &SymbolTable, s: &written::Section, least: &mut Least) -> Option<ValueType>
+fn result_type(
+    symbols: &SymbolTable,
+    s: &written::Section,
+    firsts: &mut Firsts,
+) -> Option<ValueType>
     ensures value { result ≡ result_of (decls_of symbols.now) (section_view s.now) }
-    ensures faults { least.new ≡ least_of least.old (result_faults (decls_of symbols.now) (section_view s.now).result) }
+    ensures faults { firsts.new ≡ found_in firsts.old (result_faults (decls_of symbols.now) (section_view s.now).result) }
 {
     match &s.result {
         Some(t) => {
-            note_type(symbols, t, least);
+            note_type(symbols, t, firsts);
             type_outside(symbols, t)
         }
         None => None,
@@ -102,24 +106,24 @@ fn result_type(symbols: &SymbolTable, s: &written::Section, least: &mut Least) -
 }
 
 /// Declares the parameters of a section or a helper, and notes what is wrong with them.
-#[tactic(auto, using(resolution::specs::Theory::Leasts::least_append))]
+#[tactic(auto, using(resolution::specs::Theory::Leasts::found_append))]
 fn judge_params(
     checker: &mut Checker,
     params: &[Param],
-    least: &mut Least,
+    firsts: &mut Firsts,
 ) -> Result<(), AllocError>
-    ensures faults { OnOk result (least.new ≡ least_of least.old (param_faults (scope checker.old) 0 (map param_of params.now))) }
+    ensures faults { OnOk result (firsts.new ≡ found_in firsts.old (param_faults (scope checker.old) 0 (map param_of params.now))) }
     ensures scope { OnOk result (scope checker.new ≡ entered (scope checker.old) (map param_of params.now)) }
 {
     for (place, param) in params.iter().enumerate() {
-        checker.note_name(&param.name, least);
+        checker.note_name(&param.name, firsts);
         note_if(
             checker.limits().parameters <= place,
             Code::LimitExceeded,
             param.name.start as usize,
-            least,
+            firsts,
         );
-        let t = checker.declared_type(&param.value_type, least);
+        let t = checker.declared_type(&param.value_type, firsts);
         checker.bind(&param.name, LocalKind::Parameter, t)?;
     }
     Ok(())
@@ -181,13 +185,13 @@ fn section_of(
 }
 
 /// A section or a helper, in the checker at its start, with what is wrong with its parameters and its statements.
-#[tactic(auto, using(resolution::specs::Theory::Leasts::least_append))]
-fn judge_in(checker: &mut Checker, s: &written::Section, least: &mut Least) -> Judged<Section>
+#[tactic(auto, using(resolution::specs::Theory::Leasts::found_append))]
+fn judge_in(checker: &mut Checker, s: &written::Section, firsts: &mut Firsts) -> Judged<Section>
     ensures value { IfOk result (λ r. option_map core_section r ≡ section_in (scope checker.old) (section_view s.now)) }
-    ensures faults { OnOk result (least.new ≡ least_of least.old (blamed_in (scope checker.old) (section_view s.now))) }
+    ensures faults { OnOk result (firsts.new ≡ found_in firsts.old (blamed_in (scope checker.old) (section_view s.now))) }
 {
-    judge_params(checker, &s.params, least)?;
-    let body = judge_body(checker, &s.body.stmts, least)?;
+    judge_params(checker, &s.params, firsts)?;
+    let body = judge_body(checker, &s.body.stmts, firsts)?;
     let Ok(locals) = core_locals(checker.alloc(), checker.locals()) else {
         drop(body);
         return Err(AllocError);
@@ -198,37 +202,37 @@ fn judge_in(checker: &mut Checker, s: &written::Section, least: &mut Least) -> J
 /// The section that a tree stands for: each name replaced by the number of what it means, every expression typed.
 /// `None` where something in it has no type, or its result and its `return` don't agree. What is wrong with it is
 /// noted. The one error is a refused growth.
-#[tactic(auto, using(resolution::specs::Theory::Leasts::least_append))]
+#[tactic(auto, using(resolution::specs::Theory::Leasts::found_append))]
 pub fn judge_section(
     alloc: Global,
     symbols: &SymbolTable,
     s: &written::Section,
-    least: &mut Least,
+    firsts: &mut Firsts,
 ) -> Result<Option<Section>, AllocError>
     ensures value { IfOk result (λ r. option_map core_section r ≡ typed_section (decls_of symbols.now) section_limits (section_view s.now)) }
-    ensures faults { OnOk result (least.new ≡ least_of least.old (section_faults (decls_of symbols.now) section_limits (section_view s.now))) }
+    ensures faults { OnOk result (firsts.new ≡ found_in firsts.old (section_faults (decls_of symbols.now) section_limits (section_view s.now))) }
 {
-    let result = result_type(symbols, s, least);
+    let result = result_type(symbols, s, firsts);
     let mut checker = Checker::new(alloc, symbols, result, SECTION_LIMITS);
-    let section = judge_in(&mut checker, s, least);
+    let section = judge_in(&mut checker, s, firsts);
     drop(checker);
     section
 }
 
 /// The helper that a tree stands for, as [`judge_section`] says. It has no limits of its own.
-#[tactic(auto, using(resolution::specs::Theory::Leasts::least_append))]
+#[tactic(auto, using(resolution::specs::Theory::Leasts::found_append))]
 pub fn judge_helper(
     alloc: Global,
     symbols: &SymbolTable,
     s: &written::Section,
-    least: &mut Least,
+    firsts: &mut Firsts,
 ) -> Result<Option<Section>, AllocError>
     ensures value { IfOk result (λ r. option_map core_section r ≡ typed_section (decls_of symbols.now) helper_limits (section_view s.now)) }
-    ensures faults { OnOk result (least.new ≡ least_of least.old (section_faults (decls_of symbols.now) helper_limits (section_view s.now))) }
+    ensures faults { OnOk result (firsts.new ≡ found_in firsts.old (section_faults (decls_of symbols.now) helper_limits (section_view s.now))) }
 {
-    let given = result_type(symbols, s, least);
+    let given = result_type(symbols, s, firsts);
     let mut checker = Checker::new(alloc, symbols, given, HELPER_LIMITS);
-    let helper = judge_in(&mut checker, s, least);
+    let helper = judge_in(&mut checker, s, firsts);
     drop(checker);
     helper
 }

@@ -9,7 +9,7 @@ ghost use Rattle.resolution.specs.CoreViews.{core_expr, core_stmt, core_action};
 ghost use Rattle.resolution.specs.Scopes.{bound, type_of};
 ghost use Rattle.resolution.specs.Working.TypedStatements.{does, acts, first_value, local_bound, owned_bound, called_bound, acts_if, binds, assigns, prints, returns, repeats, chooses, chooses_between, block_of, typed_stmt, typed_body};
 ghost use Rattle.resolution.specs.Statements.{after, after_else, after_all};
-ghost use Rattle.resolution.specs.Working.Findings.{least_of};
+ghost use Rattle.resolution.specs.Working.Findings.{found_in};
 ghost use Rattle.resolution.specs.Working.FaultLists.{binding_faults, called_faults, stmt_faults, else_faults, stmts_faults};
 ghost use Rattle.types_expressions.specs.Working.Checkers.{scope};
 ghost use Rattle.types_sections.specs.Working.Calls.{acts_where};
@@ -20,7 +20,7 @@ use crate::owner::{Opening, owned_by};
 use crate::target::{Assignee, Target, first_name, judge_target, wanted_by};
 use core_lang::tree::{Action, Condition, Expr, LocalKind, Return, Stmt};
 use core_lang::value::ValueType;
-use resolution::finding::Least;
+use resolution::finding::Firsts;
 use std::alloc::AllocError;
 use syntax::tree;
 use syntax::tree::Place;
@@ -257,15 +257,15 @@ fn with_part(body: Option<Body>, part: Option<Part>) -> Judged<Body>
 fn first_value(
     checker: &Checker,
     local: &tree::Local,
-    least: &mut Least,
+    firsts: &mut Firsts,
 ) -> Result<Opening, AllocError>
     ensures value_type { IfOk result (λ r. r.value_type ≡ type_of (scope checker.now) (local_of local.now).value_type) }
     ensures value { IfOk result (λ r. option_map core_expr r.value ≡ first_value (scope checker.now) (local_of local.now)) }
-    ensures faults { OnOk result (least.new ≡ least_of least.old (binding_faults (scope checker.now) (local_of local.now))) }
+    ensures faults { OnOk result (firsts.new ≡ found_in firsts.old (binding_faults (scope checker.now) (local_of local.now))) }
 {
-    checker.note_name(&local.name, least);
-    let value_type = checker.local_type(&local.value_type, least);
-    let value = checker.value(want(value_type), &local.value, least)?;
+    checker.note_name(&local.name, firsts);
+    let value_type = checker.local_type(&local.value_type, firsts);
+    let value = checker.value(want(value_type), &local.value, firsts)?;
     Ok(Opening { value_type, value })
 }
 
@@ -293,45 +293,49 @@ fn judge_local(
     checker: &mut Checker,
     kind: LocalKind,
     local: &tree::Local,
-    least: &mut Least,
+    firsts: &mut Firsts,
 ) -> Judged<Part>
     ensures value { IfOk result (λ r. option_map part_of r ≡ local_bound (scope checker.old) (local_of local.now)) }
-    ensures faults { OnOk result (least.new ≡ least_of least.old (binding_faults (scope checker.old) (local_of local.now))) }
+    ensures faults { OnOk result (firsts.new ≡ found_in firsts.old (binding_faults (scope checker.old) (local_of local.now))) }
     ensures scope { OnOk result (scope checker.new ≡ behind_local (scope checker.old) kind (local_of local.now)) }
 {
-    let opening = first_value(checker, local, least)?;
+    let opening = first_value(checker, local, firsts)?;
     bind_next(checker, kind, local, opening)
 }
 
 /// A `let` whose value is tested by a final reference.
-#[tactic(auto, using(resolution::specs::Theory::Leasts::least_append))]
+#[tactic(auto, using(resolution::specs::Theory::Leasts::found_append))]
 fn judge_owned(
     checker: &mut Checker,
     local: &tree::Local,
     owner: &tree::Owner,
-    least: &mut Least,
+    firsts: &mut Firsts,
 ) -> Judged<Part>
     ensures value { IfOk result (λ r. option_map part_of r ≡ owned_bound (scope checker.old) (local_of local.now) (owner_of owner.now)) }
-    ensures faults { OnOk result (least.new ≡ least_of least.old (owned_faults (scope checker.old) (local_of local.now) (owner_of owner.now))) }
+    ensures faults { OnOk result (firsts.new ≡ found_in firsts.old (owned_faults (scope checker.old) (local_of local.now) (owner_of owner.now))) }
     ensures scope { OnOk result (scope checker.new ≡ behind_local (scope checker.old) Let (local_of local.now)) }
 {
-    let opening = first_value(checker, local, least)?;
-    let opening = owned_by(checker, opening, owner, least)?;
+    let opening = first_value(checker, local, firsts)?;
+    let opening = owned_by(checker, opening, owner, firsts)?;
     bind_next(checker, LocalKind::Let, local, opening)
 }
 
 /// A `let` of what a helper gives back.
-#[tactic(auto, using(resolution::specs::Theory::Leasts::least_append))]
-fn judge_called(checker: &mut Checker, local: &tree::CalledLocal, least: &mut Least) -> Judged<Part>
+#[tactic(auto, using(resolution::specs::Theory::Leasts::found_append))]
+fn judge_called(
+    checker: &mut Checker,
+    local: &tree::CalledLocal,
+    firsts: &mut Firsts,
+) -> Judged<Part>
     ensures value { IfOk result (λ r. option_map part_of r ≡ called_bound (scope checker.old) (called_local_of local.now)) }
-    ensures faults { OnOk result (least.new ≡ least_of least.old (called_faults (scope checker.old) (called_local_of local.now))) }
+    ensures faults { OnOk result (firsts.new ≡ found_in firsts.old (called_faults (scope checker.old) (called_local_of local.now))) }
     ensures scope { OnOk result (scope checker.new ≡ behind_called (scope checker.old) (called_local_of local.now)) }
 {
-    checker.note_name(&local.name, least);
-    let value_type = checker.local_type(&local.value_type, least);
-    let takes = takes_result(checker, value_type, &local.call, least);
+    checker.note_name(&local.name, firsts);
+    let value_type = checker.local_type(&local.value_type, firsts);
+    let takes = takes_result(checker, value_type, &local.call, firsts);
     let number = checker.next();
-    let action = judge_call(checker, &local.call, Some(number), least)?;
+    let action = judge_call(checker, &local.call, Some(number), firsts)?;
     let Ok(()) = checker.bind(&local.name, LocalKind::Let, value_type) else {
         drop(action);
         return Err(AllocError);
@@ -340,12 +344,17 @@ fn judge_called(checker: &mut Checker, local: &tree::CalledLocal, least: &mut Le
 }
 
 /// An assignment, resolved, if its place and its value have types that fit.
-fn judge_assignment(checker: &Checker, p: &Place, e: &tree::Expr, least: &mut Least) -> Judged<Part>
+fn judge_assignment(
+    checker: &Checker,
+    p: &Place,
+    e: &tree::Expr,
+    firsts: &mut Firsts,
+) -> Judged<Part>
     ensures value { IfOk result (λ r. option_map part_of r ≡ typed_stmt (scope checker.now) (assign (place_of p.now) (expr_of e.now))) }
-    ensures faults { OnOk result (least.new ≡ least_of least.old (stmt_faults (scope checker.now) (assign (place_of p.now) (expr_of e.now)))) }
+    ensures faults { OnOk result (firsts.new ≡ found_in firsts.old (stmt_faults (scope checker.now) (assign (place_of p.now) (expr_of e.now)))) }
 {
-    let assignee = judge_target(checker, p, least)?;
-    let Ok(value) = checker.value(wanted_by(&assignee), e, least) else {
+    let assignee = judge_target(checker, p, firsts)?;
+    let Ok(value) = checker.value(wanted_by(&assignee), e, firsts) else {
         drop(assignee);
         return Err(AllocError);
     };
@@ -354,29 +363,29 @@ fn judge_assignment(checker: &Checker, p: &Place, e: &tree::Expr, least: &mut Le
 
 /// A statement, resolved, if everything in it has a type.
 #[cycle(stmts)]
-fn judge_stmt(checker: &mut Checker, s: &tree::Stmt, least: &mut Least) -> Judged<Part>
+fn judge_stmt(checker: &mut Checker, s: &tree::Stmt, firsts: &mut Firsts) -> Judged<Part>
     ensures value { IfOk result (λ r. option_map part_of r ≡ typed_stmt (scope checker.old) (stmt_of s.now)) }
-    ensures faults { OnOk result (least.new ≡ least_of least.old (stmt_faults (scope checker.old) (stmt_of s.now))) }
+    ensures faults { OnOk result (firsts.new ≡ found_in firsts.old (stmt_faults (scope checker.old) (stmt_of s.now))) }
     ensures scope { OnOk result (scope checker.new ≡ after (scope checker.old) (stmt_of s.now)) }
 {
     match s {
-        tree::Stmt::Let(local) => judge_local(checker, LocalKind::Let, local, least),
-        tree::Stmt::LetOwned(owned) => { judge_owned(checker, &owned.local, &owned.owner, least) }
-        tree::Stmt::LetCall(local) => judge_called(checker, local, least),
-        tree::Stmt::Var(local) => judge_local(checker, LocalKind::Var, local, least),
-        tree::Stmt::Assign(place, e) => judge_assignment(checker, place, e, least),
-        tree::Stmt::If(choice) => judge_choice(checker, choice, least),
-        tree::Stmt::While(repetition) => judge_repetition(checker, repetition, least),
+        tree::Stmt::Let(local) => judge_local(checker, LocalKind::Let, local, firsts),
+        tree::Stmt::LetOwned(owned) => { judge_owned(checker, &owned.local, &owned.owner, firsts) }
+        tree::Stmt::LetCall(local) => judge_called(checker, local, firsts),
+        tree::Stmt::Var(local) => judge_local(checker, LocalKind::Var, local, firsts),
+        tree::Stmt::Assign(place, e) => judge_assignment(checker, place, e, firsts),
+        tree::Stmt::If(choice) => judge_choice(checker, choice, firsts),
+        tree::Stmt::While(repetition) => judge_repetition(checker, repetition, firsts),
         tree::Stmt::Print(start, e) => {
-            let value = checker.number(e, least)?;
+            let value = checker.number(e, firsts)?;
             Ok(print(start.start as usize, value))
         }
         tree::Stmt::Return(start, e) => {
-            let value = checker.value(want(checker.result()), e, least)?;
+            let value = checker.value(want(checker.result()), e, firsts)?;
             Ok(give(start.start as usize, value))
         }
         tree::Stmt::Call(start, call) => {
-            let action = judge_call(checker, call, None, least)?;
+            let action = judge_call(checker, call, None, firsts)?;
             Ok(act_if(start.start as usize, action))
         }
     }
@@ -387,14 +396,14 @@ fn judge_stmt(checker: &mut Checker, s: &tree::Stmt, least: &mut Least) -> Judge
 fn judge_repetition(
     checker: &mut Checker,
     repetition: &tree::While,
-    least: &mut Least,
+    firsts: &mut Firsts,
 ) -> Judged<Part>
     ensures value { IfOk result (λ r. option_map part_of r ≡ typed_stmt (scope checker.old) (while_of repetition.now)) }
-    ensures faults { OnOk result (least.new ≡ least_of least.old (stmt_faults (scope checker.old) (while_of repetition.now))) }
+    ensures faults { OnOk result (firsts.new ≡ found_in firsts.old (stmt_faults (scope checker.old) (while_of repetition.now))) }
     ensures scope { OnOk result (scope checker.new ≡ after (scope checker.old) (while_of repetition.now)) }
 {
-    let condition = checker.test(&repetition.condition, least)?;
-    let Ok(body) = judge_block(checker, &repetition.block, least) else {
+    let condition = checker.test(&repetition.condition, firsts)?;
+    let Ok(body) = judge_block(checker, &repetition.block, firsts) else {
         drop(condition);
         return Err(AllocError);
     };
@@ -403,13 +412,13 @@ fn judge_repetition(
 
 /// A choice, resolved, if its condition and everything in its blocks have types.
 #[cycle(stmts)]
-fn judge_choice(checker: &mut Checker, choice: &tree::If, least: &mut Least) -> Judged<Part>
+fn judge_choice(checker: &mut Checker, choice: &tree::If, firsts: &mut Firsts) -> Judged<Part>
     ensures value { IfOk result (λ r. option_map part_of r ≡ typed_stmt (scope checker.old) (if_of choice.now)) }
-    ensures faults { OnOk result (least.new ≡ least_of least.old (stmt_faults (scope checker.old) (if_of choice.now))) }
+    ensures faults { OnOk result (firsts.new ≡ found_in firsts.old (stmt_faults (scope checker.old) (if_of choice.now))) }
     ensures scope { OnOk result (scope checker.new ≡ after (scope checker.old) (if_of choice.now)) }
 {
-    let condition = checker.test(&choice.condition, least)?;
-    let Ok(block) = judge_block(checker, &choice.block, least) else {
+    let condition = checker.test(&choice.condition, firsts)?;
+    let Ok(block) = judge_block(checker, &choice.block, firsts) else {
         drop(condition);
         return Err(AllocError);
     };
@@ -422,21 +431,21 @@ fn judge_choice(checker: &mut Checker, choice: &tree::If, least: &mut Least) -> 
             condition,
             block,
         },
-        least,
+        firsts,
     )
 }
 
 /// A choice with what stands behind `else`.
 #[cycle(stmts)]
-#[tactic(auto, using(resolution::specs::Theory::Leasts::least_append))]
+#[tactic(auto, using(resolution::specs::Theory::Leasts::found_append))]
 fn judge_otherwise(
     checker: &mut Checker,
     other: &Option<tree::Block>,
     choice: Choice,
-    least: &mut Least,
+    firsts: &mut Firsts,
 ) -> Judged<Part>
     ensures value { IfOk result (λ r. option_map part_of r ≡ choice_with (scope checker.old) choice (else_of other.now)) }
-    ensures faults { OnOk result (least.new ≡ least_of least.old (else_faults (scope checker.old) (else_of other.now))) }
+    ensures faults { OnOk result (firsts.new ≡ found_in firsts.old (else_faults (scope checker.old) (else_of other.now))) }
     ensures scope { OnOk result (scope checker.new ≡ after_else (scope checker.old) (else_of other.now)) }
 {
     let Choice {
@@ -447,7 +456,7 @@ fn judge_otherwise(
     let Some(other) = other else {
         return Ok(choose(start, condition, block));
     };
-    let Ok(otherwise) = judge_block(checker, other, least) else {
+    let Ok(otherwise) = judge_block(checker, other, firsts) else {
         drop(condition);
         drop(block);
         return Err(AllocError);
@@ -458,22 +467,22 @@ fn judge_otherwise(
 /// A block, resolved, if everything in it has a type and no `return` stands in it. Its locals are
 /// out of scope behind it.
 #[cycle(stmts)]
-fn judge_block(checker: &mut Checker, block: &tree::Block, least: &mut Least) -> Judged<Vec<Stmt>>
+fn judge_block(checker: &mut Checker, block: &tree::Block, firsts: &mut Firsts) -> Judged<Vec<Stmt>>
     ensures value { IfOk result (λ r. block_seen r ≡ block_of (typed_body (scope checker.old) (stmts_of block.now.stmts.items))) }
-    ensures faults { OnOk result (least.new ≡ least_of least.old (stmts_faults (scope checker.old) (stmts_of block.now.stmts.items))) }
+    ensures faults { OnOk result (firsts.new ≡ found_in firsts.old (stmts_faults (scope checker.old) (stmts_of block.now.stmts.items))) }
     ensures scope { OnOk result (scope checker.new ≡ behind_block (scope checker.old) (stmts_of block.now.stmts.items)) }
 {
     let ahead = checker.next();
-    let body = judge_body(checker, &block.stmts, least)?;
+    let body = judge_body(checker, &block.stmts, firsts)?;
     checker.hide_from(ahead);
     Ok(block_of(body))
 }
 
 /// Statements, one after another.
 #[cycle(stmts)]
-pub fn judge_body(checker: &mut Checker, stmts: &[tree::Stmt], least: &mut Least) -> Judged<Body>
+pub fn judge_body(checker: &mut Checker, stmts: &[tree::Stmt], firsts: &mut Firsts) -> Judged<Body>
     ensures value { IfOk result (λ r. option_map body_of r ≡ typed_body (scope checker.old) (stmts_of stmts.now)) }
-    ensures faults { OnOk result (least.new ≡ least_of least.old (stmts_faults (scope checker.old) (stmts_of stmts.now))) }
+    ensures faults { OnOk result (firsts.new ≡ found_in firsts.old (stmts_faults (scope checker.old) (stmts_of stmts.now))) }
     ensures scope { OnOk result (scope checker.new ≡ after_all (scope checker.old) (stmts_of stmts.now)) }
 {
     let mut body = Some(Body {
@@ -481,7 +490,7 @@ pub fn judge_body(checker: &mut Checker, stmts: &[tree::Stmt], least: &mut Least
         result: None,
     });
     for s in stmts {
-        let Ok(part) = judge_stmt(checker, s, least) else {
+        let Ok(part) = judge_stmt(checker, s, firsts) else {
             drop(body);
             return Err(AllocError);
         };

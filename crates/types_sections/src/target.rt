@@ -5,7 +5,7 @@ ghost use Rattle.syntax.specs.Views.{ident, element_of, path_of, place_of};
 ghost use Rattle.resolution.specs.CoreViews.{core_expr};
 ghost use Rattle.resolution.specs.Statements.{first_name};
 ghost use Rattle.resolution.specs.Working.TypedStatements.{assignee, assignee_at, assignee_along, target_of, wanted_by};
-ghost use Rattle.resolution.specs.Working.Findings.{least_of};
+ghost use Rattle.resolution.specs.Working.Findings.{found_in};
 ghost use Rattle.resolution.specs.Working.FaultLists.{no_target, final_faults, target_faults};
 ghost use Rattle.types_symbols.specs.{meaning_of};
 ghost use Rattle.types_expressions.specs.Working.Checkers.{scope};
@@ -15,7 +15,7 @@ ghost use Rattle.types_sections.specs.Working.Targets.{target_seen, assignee_of,
 
 use core_lang::tree::{Expr, FieldStep, LocalKind, Path};
 use core_lang::value::ValueType;
-use resolution::finding::{Finding, Least, note_found};
+use resolution::finding::{Finding, Firsts, note_found};
 use resolution::wanted::Want;
 use resolution::why::{Role, Why};
 use source::fault::Code;
@@ -88,9 +88,9 @@ fn assigned_at(indexed: Option<Indexed>, index: Option<Expr>) -> Option<Assignee
 }
 
 /// A local and fields on the left: their end is no final reference.
-fn assignee_along(start: usize, m: Meaning, w: Walk, least: &mut Least) -> Option<Assignee>
+fn assignee_along(start: usize, m: Meaning, w: Walk, firsts: &mut Firsts) -> Option<Assignee>
     ensures value { option_map assignee_of result ≡ assignee_along start (meaning_of m.entry) (walk_of w) }
-    ensures faults { least.new ≡ least_of least.old (final_faults start (walk_of w)) }
+    ensures faults { firsts.new ≡ found_in firsts.old (final_faults start (walk_of w)) }
 {
     let Walk::Reached(mut steps, t) = w else {
         return None;
@@ -106,12 +106,12 @@ fn assignee_along(start: usize, m: Meaning, w: Walk, least: &mut Least) -> Optio
         Some(FieldStep::Final { structure, number }) => {
             faulty_for(
                 Finding::new(Code::NotAssignable, start, Why::FinalTarget),
-                least,
+                firsts,
             )
         }
         None => faulty_for(
             Finding::new(Code::NotAssignable, start, Why::FinalTarget),
-            least,
+            firsts,
         ),
     }
 }
@@ -127,76 +127,79 @@ pub fn wanted_by(a: &Option<Assignee>) -> Want
 }
 
 /// A name on the left.
-fn assignee_at(checker: &Checker, start: usize, m: Meaning, least: &mut Least) -> Option<Assignee>
+fn assignee_at(checker: &Checker, start: usize, m: Meaning, firsts: &mut Firsts) -> Option<Assignee>
     ensures value { option_map assignee_of result ≡ assignee_at (scope checker.now).decls (meaning_of m.entry) }
-    ensures faults { least.new ≡ least_of least.old (no_target (scope checker.now).decls start (meaning_of m.entry)) }
+    ensures faults { firsts.new ≡ found_in firsts.old (no_target (scope checker.now).decls start (meaning_of m.entry)) }
 {
     match m {
         Meaning::Local(i, local) => match local.kind {
             LocalKind::Var => assignee_of_type(Target::Local(i), local.value_type),
             LocalKind::Let | LocalKind::Parameter => {
                 let found = misnamed(Code::NotAssignable, Role::Target, start, m);
-                checker.misplaced(found, m, least)
+                checker.misplaced(found, m, firsts)
             }
         },
         Meaning::Decl(place, Decl::Global(v)) => assignee_of_type(
             Target::Global(checker.cell(place)),
             checker.type_outside(&v.value_type),
         ),
-        Meaning::Decl(_, Decl::Lock(_)) => faulty(Code::LockAsValue, start, least),
+        Meaning::Decl(_, Decl::Lock(_)) => faulty(Code::LockAsValue, start, firsts),
         _ => checker.misplaced(
             misnamed(Code::NotAssignable, Role::Target, start, m),
             m,
-            least,
+            firsts,
         ),
     }
 }
 
 /// What takes an index on the left: no member of a pool can be assigned to.
-#[tactic(auto, using(resolution::specs::Theory::Leasts::least_append))]
-fn array_at(checker: &Checker, start: usize, m: Meaning, least: &mut Least) -> Option<Indexed>
+#[tactic(auto, using(resolution::specs::Theory::Leasts::found_append))]
+fn array_at(checker: &Checker, start: usize, m: Meaning, firsts: &mut Firsts) -> Option<Indexed>
     ensures value { result ≡ indexed_by (scope checker.now).decls (meaning_of m.entry) }
-    ensures faults { least.new ≡ least_of least.old (element_faults (scope checker.now).decls start (meaning_of m.entry)) }
+    ensures faults { firsts.new ≡ found_in firsts.old (element_faults (scope checker.now).decls start (meaning_of m.entry)) }
 {
-    let indexed = checker.indexed(start, m, least);
+    let indexed = checker.indexed(start, m, firsts);
     if let Some(Indexed::Pool(_, _)) = indexed {
-        note_found(misnamed(Code::NotAssignable, Role::Target, start, m), least);
+        note_found(
+            misnamed(Code::NotAssignable, Role::Target, start, m),
+            firsts,
+        );
     }
     indexed
 }
 
 /// An element on the left, with the faults of its index.
-fn element_target(checker: &Checker, element: &Element, least: &mut Least) -> Judged<Assignee>
+fn element_target(checker: &Checker, element: &Element, firsts: &mut Firsts) -> Judged<Assignee>
     ensures value { IfOk result (λ r. option_map assignee_of r ≡ target_of (scope checker.now) (element_of element.now)) }
-    ensures faults { OnOk result (least.new ≡ least_of least.old (target_faults (scope checker.now) (element_of element.now))) }
+    ensures faults { OnOk result (firsts.new ≡ found_in firsts.old (target_faults (scope checker.now) (element_of element.now))) }
 {
     let start = element.name.start as usize;
-    let array = array_at(checker, start, checker.meaning(&element.name), least);
-    let index = checker.number(&element.index, least)?;
+    let array = array_at(checker, start, checker.meaning(&element.name), firsts);
+    let index = checker.number(&element.index, firsts)?;
     Ok(assigned_at(array, index))
 }
 
 /// A path on the left.
-fn path_target(checker: &Checker, path: &tree::Path, least: &mut Least) -> Judged<Assignee>
+fn path_target(checker: &Checker, path: &tree::Path, firsts: &mut Firsts) -> Judged<Assignee>
     ensures value { IfOk result (λ r. option_map assignee_of r ≡ target_of (scope checker.now) (path_of path.now)) }
-    ensures faults { OnOk result (least.new ≡ least_of least.old (target_faults (scope checker.now) (path_of path.now))) }
+    ensures faults { OnOk result (firsts.new ≡ found_in firsts.old (target_faults (scope checker.now) (path_of path.now))) }
 {
     let start = path.first.start as usize;
     let m = checker.meaning(&path.first);
-    let w = checker.walk(start, m, &path.fields, least)?;
-    Ok(assignee_along(start, m, w, least))
+    let w = checker.walk(start, m, &path.fields, firsts)?;
+    Ok(assignee_along(start, m, w, firsts))
 }
 
 /// The left side of an assignment, if it is one.
-pub fn judge_target(checker: &Checker, p: &Place, least: &mut Least) -> Judged<Assignee>
+pub fn judge_target(checker: &Checker, p: &Place, firsts: &mut Firsts) -> Judged<Assignee>
     ensures value { IfOk result (λ r. option_map assignee_of r ≡ target_of (scope checker.now) (place_of p.now)) }
-    ensures faults { OnOk result (least.new ≡ least_of least.old (target_faults (scope checker.now) (place_of p.now))) }
+    ensures faults { OnOk result (firsts.new ≡ found_in firsts.old (target_faults (scope checker.now) (place_of p.now))) }
 {
     match p {
         Place::Name(name) => {
-            Ok(assignee_at(checker, name.start as usize, checker.meaning(name), least))
+            Ok(assignee_at(checker, name.start as usize, checker.meaning(name), firsts))
         }
-        Place::Element(element) => element_target(checker, element, least),
-        Place::Path(path) => path_target(checker, path, least),
+        Place::Element(element) => element_target(checker, element, firsts),
+        Place::Path(path) => path_target(checker, path, firsts),
     }
 }

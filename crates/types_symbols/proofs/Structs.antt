@@ -5,7 +5,7 @@ use Rattle.std.proofs.lemmas.List.{map-append, append-nil}
 use Rattle.std.specs.Prelude.{is_some, not, map}
 use Rattle.source.specs.declared.fault.Code.TheVariants.{DeclaredTwice}
 use Rattle.resolution.specs.declared.finding.Finding.{Finding}
-use Rattle.resolution.specs.Working.Findings.{least_of}
+use Rattle.resolution.specs.Working.Findings.{Firsts, found_in}
 use Rattle.syntax.specs.declared.tree.Decl as rust
 use Rattle.syntax.specs.declared.tree.Decl.TheVariants as variant
 use Rattle.syntax.specs.declared.tree.Struct as rust_struct
@@ -80,10 +80,10 @@ module _ (d : rust.Decl) (x : rust_struct.Struct) where
       ap (map struct_of) made ∙ map-append struct_of ss (y ∷ []) ∙ ap (λ (z : rust_struct.Struct). map struct_of ss ++ struct_of z ∷ []) same
       ∙ ap (λ (e : rust.Decl). map struct_of ss ++ structs_in (decl_of e ∷ [])) (sym is)
 
-  pub structure_blamed : (f g : Option Finding) → d ≡ variant.Struct x →
-      g ≡ least_of f (member_twice_faults [] (struct_of x).members) → g ≡ least_of f (struct_faults (decl_of d ∷ []))
+  pub structure_blamed : (f g : Firsts) → d ≡ variant.Struct x →
+      g ≡ found_in f (member_twice_faults [] (struct_of x).members) → g ≡ found_in f (struct_faults (decl_of d ∷ []))
   structure_blamed f g is noted =
-      noted ∙ ap (least_of f) (sym (append-nil (member_twice_faults [] (struct_of x).members))) ∙ ap (λ (e : rust.Decl). least_of f (struct_faults (decl_of e ∷ []))) (sym is)
+      noted ∙ ap (found_in f) (sym (append-nil (member_twice_faults [] (struct_of x).members))) ∙ ap (λ (e : rust.Decl). found_in f (struct_faults (decl_of e ∷ []))) (sym is)
 
 -- and what is none
 none_struct : (d : rust.Decl) → ((x : rust_struct.Struct) → d ≡ variant.Struct x → ⊥) → structs_in (decl_of d ∷ []) ≡ []
@@ -102,8 +102,8 @@ pub none_added : (d : rust.Decl) (ss : List rust_struct.Struct) →
     map struct_of ss ≡ map struct_of ss ++ structs_in (decl_of d ∷ [])
 none_added d ss other = sym (ap (λ (l : List Struct). map struct_of ss ++ l) (none_struct d other) ∙ append-nil (map struct_of ss))
 
-pub none_blamed : (d : rust.Decl) (f : Option Finding) → ((x : rust_struct.Struct) → d ≡ variant.Struct x → ⊥) →
-    f ≡ least_of f (struct_faults (decl_of d ∷ []))
+pub none_blamed : (d : rust.Decl) (f : Firsts) → ((x : rust_struct.Struct) → d ≡ variant.Struct x → ⊥) →
+    f ≡ found_in f (struct_faults (decl_of d ∷ []))
 none_blamed (variant.Lock x) f h = refl
 none_blamed (variant.Struct x) f h = absurd (h x refl)
 none_blamed (variant.Global x) f h = refl

@@ -3,7 +3,7 @@
 ghost use Rattle.std.specs.Prelude.{◌≡◌, ◌<◌, ◌+◌, ◌∷◌, ◌++◌, ◌^◌, [], OnOk, IfOk, option_map, map, slice_get, take};
 ghost use Rattle.syntax.specs.Views.{ident, decl_of, struct_of};
 ghost use Rattle.resolution.specs.Scopes.{declared, bears, the_decl, number_at, structs_in, the_struct};
-ghost use Rattle.resolution.specs.Working.Findings.{least_of};
+ghost use Rattle.resolution.specs.Working.Findings.{found_in};
 ghost use Rattle.resolution.specs.Working.FaultLists.{twice_faults, struct_faults};
 ghost use Rattle.types_symbols.specs.Working.Found.{IsTableOf, IsTableWith, declared_in, AreAhead};
 ghost use Rattle.types_symbols.specs.Working.Counted.{count_of, counted, counts_from, no_counts, limited, limited_of};
@@ -13,7 +13,7 @@ ghost use Rattle.types_symbols.specs.Working.Views.{decls_of, name_seen, struct_
 use crate::members::Structure;
 use crate::names::{Names, TableMaker};
 use crate::totals::SECTION_LIMIT;
-use resolution::finding::{Least, note};
+use resolution::finding::{Firsts, note};
 use source::fault::Code;
 use std::alloc::{AllocError, Global};
 use std::marker::Model;
@@ -179,12 +179,12 @@ impl Counts {
 }
 
 /// Notes a name that is declared already.
-fn note_twice(names: &Names, name: Option<&Name>, least: &mut Least)
-    ensures { least.new ≡ least_of least.old (declared_in names.now (name_seen name.entry)) }
+fn note_twice(names: &Names, name: Option<&Name>, firsts: &mut Firsts)
+    ensures { firsts.new ≡ found_in firsts.old (declared_in names.now (name_seen name.entry)) }
 {
     if let Some(name) = name {
         if names.find(name.text.as_str()).is_some() {
-            note(Code::DeclaredTwice, name.start as usize, least);
+            note(Code::DeclaredTwice, name.start as usize, firsts);
         }
     }
 }
@@ -208,11 +208,11 @@ fn add_name(
 fn judge_names(
     maker: TableMaker,
     decls: &[Decl],
-    least: &mut Least,
+    firsts: &mut Firsts,
 ) -> Result<(Names, Vec<Counts>, Counts), AllocError>
     ensures names { IfOk result (λ t. IsTableOf bears (decls_of decls.now) t.0) }
     ensures counts { IfOk result (λ t. AreAhead (counts_from no_counts) (decls_of decls.now) t.1.items t.2) }
-    ensures faults { OnOk result (least.new ≡ least_of least.old (twice_faults [] (decls_of decls.now))) }
+    ensures faults { OnOk result (firsts.new ≡ found_in firsts.old (twice_faults [] (decls_of decls.now))) }
 {
     let alloc = maker.alloc;
     let mut names = Names::new(maker);
@@ -220,7 +220,7 @@ fn judge_names(
     let mut counts = Counts::new();
     for (place, d) in decls.iter().enumerate() {
         let name = name_in(d);
-        note_twice(&names, name, least);
+        note_twice(&names, name, firsts);
         add_name(alloc, &mut names, name, place)?;
         ahead.push(counts)?;
         counts.count(d);
@@ -233,15 +233,15 @@ fn judge_struct<'t>(
     maker: TableMaker,
     d: &'t Decl,
     structs: &mut Vec<Structure<'t>>,
-    least: &mut Least,
+    firsts: &mut Firsts,
 ) -> Result<(), AllocError>
     ensures structs { OnOk result (map struct_of structs.new.items ≡ map struct_of structs.old.items ++ structs_in (decl_of d.now ∷ [])) }
-    ensures faults { OnOk result (least.new ≡ least_of least.old (struct_faults (decl_of d.now ∷ []))) }
+    ensures faults { OnOk result (firsts.new ≡ found_in firsts.old (struct_faults (decl_of d.now ∷ []))) }
 {
     let Decl::Struct(item) = d else {
         return Ok(());
     };
-    let structure = Structure::new(maker, item, least)?;
+    let structure = Structure::new(maker, item, firsts)?;
     structs.push(structure)?;
     Ok(())
 }
@@ -250,14 +250,14 @@ fn judge_struct<'t>(
 fn judge_structs<'t>(
     maker: TableMaker,
     decls: &'t [Decl],
-    least: &mut Least,
+    firsts: &mut Firsts,
 ) -> Result<Vec<Structure<'t>>, AllocError>
     ensures structs { IfOk result (λ t. AreStructures (decls_of decls.now) t.items) }
-    ensures faults { OnOk result (least.new ≡ least_of least.old (struct_faults (decls_of decls.now))) }
+    ensures faults { OnOk result (firsts.new ≡ found_in firsts.old (struct_faults (decls_of decls.now))) }
 {
     let mut structs = Vec::new(maker.alloc);
     for d in decls {
-        judge_struct(maker, d, &mut structs, least)?;
+        judge_struct(maker, d, &mut structs, firsts)?;
     }
     Ok(structs)
 }
@@ -267,13 +267,13 @@ impl<'t> Declarations<'t> {
     pub(crate) fn new(
         maker: TableMaker,
         items: &'t [Decl],
-        least: &mut Least,
+        firsts: &mut Firsts,
     ) -> Result<Declarations<'t>, AllocError>
         ensures items { IfOk result (λ t. t ≡ items.now) }
-        ensures faults { OnOk result (least.new ≡ least_of least.old (name_faults (decls_of items.now))) }
+        ensures faults { OnOk result (firsts.new ≡ found_in firsts.old (name_faults (decls_of items.now))) }
     {
-        let (names, ahead, all) = judge_names(maker, items, least)?;
-        let structs = judge_structs(maker, items, least)?;
+        let (names, ahead, all) = judge_names(maker, items, firsts)?;
+        let structs = judge_structs(maker, items, firsts)?;
         Ok(Declarations {
             items,
             names,

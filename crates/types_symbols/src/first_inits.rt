@@ -4,7 +4,7 @@ ghost use Rattle.std.specs.Prelude.{◌≡◌, [], OnOk, IfOk, option_map, None}
 ghost use Rattle.syntax.specs.Views.{decl_of, init_of, pool_of, member_of, struct_of};
 ghost use Rattle.resolution.specs.declared.init_target.InitTarget as the_init_target;
 ghost use Rattle.resolution.specs.Constants.{init_target_of, gives, same_init_target, initialised, pool_members};
-ghost use Rattle.resolution.specs.Working.Findings.{least_of};
+ghost use Rattle.resolution.specs.Working.Findings.{found_in};
 ghost use Rattle.resolution.specs.Working.FaultLists.{repeated_faults};
 ghost use Rattle.types_symbols.specs.Working.Given.{init_target_found, IsInitTargetTable, IsInitTargetTableWith, again_given, repeated_in, pool_named, struct_of_pool};
 ghost use Rattle.types_symbols.specs.Working.Views.{decls_of, decl_named, members_seen};
@@ -12,7 +12,7 @@ ghost use Rattle.types_symbols.specs.Working.Views.{decls_of, decl_named, member
 use crate::declarations::Declarations;
 use crate::members::Structure;
 use indexmap::IndexMap;
-use resolution::finding::{Least, note};
+use resolution::finding::{Firsts, note};
 use resolution::init_target::InitTarget;
 use source::fault::Code;
 use std::alloc::{AllocError, Global};
@@ -110,13 +110,13 @@ fn note_again(
     first_inits: &FirstInits,
     init_target: Option<InitTarget>,
     start: usize,
-    least: &mut Least,
+    firsts: &mut Firsts,
 )
-    ensures { least.new ≡ least_of least.old (again_given first_inits.now start init_target) }
+    ensures { firsts.new ≡ found_in firsts.old (again_given first_inits.now start init_target) }
 {
     if let Some(init_target) = init_target {
         if first_inits.find(init_target).is_some() {
-            note(Code::InitOutOfRangeOrRepeated, start, least);
+            note(Code::InitOutOfRangeOrRepeated, start, firsts);
         }
     }
 }
@@ -127,14 +127,14 @@ fn judge_decl(
     first_inits: &mut FirstInits,
     place: usize,
     d: &Decl,
-    least: &mut Least,
+    firsts: &mut Firsts,
 ) -> Result<(), AllocError>
     ensures first_inits { OnOk result (IsInitTargetTableWith (gives (decls_of decls.now) (decl_of d.now)) place first_inits.old first_inits.new) }
-    ensures faults { OnOk result (least.new ≡ least_of least.old (repeated_in first_inits.old (decls_of decls.now) (decl_of d.now))) }
+    ensures faults { OnOk result (firsts.new ≡ found_in firsts.old (repeated_in first_inits.old (decls_of decls.now) (decl_of d.now))) }
 {
     if let Decl::Init(i) = d {
         let init_target = init_target_of(decls, i);
-        note_again(first_inits, init_target, i.start.start as usize, least);
+        note_again(first_inits, init_target, i.start.start as usize, firsts);
         if let Some(init_target) = init_target {
             first_inits.add(init_target, place)?;
         }
@@ -146,15 +146,15 @@ fn judge_decl(
 pub(crate) fn judge_first_inits(
     alloc: Global,
     decls: &Declarations,
-    least: &mut Least,
+    firsts: &mut Firsts,
 ) -> Result<FirstInits, AllocError>
     ensures first_inits { IfOk result (λ t. IsInitTargetTable (decls_of decls.now) (decls_of decls.now) t) }
-    ensures faults { OnOk result (least.new ≡ least_of least.old (repeated_faults (decls_of decls.now) [] (decls_of decls.now))) }
+    ensures faults { OnOk result (firsts.new ≡ found_in firsts.old (repeated_faults (decls_of decls.now) [] (decls_of decls.now))) }
 {
     let mut first_inits = FirstInits::new(alloc);
     let items = decls.items();
     for (place, d) in items.iter().enumerate() {
-        let Ok(()) = judge_decl(decls, &mut first_inits, place, d, least) else {
+        let Ok(()) = judge_decl(decls, &mut first_inits, place, d, firsts) else {
             drop(first_inits);
             return Err(AllocError);
         };

@@ -6,14 +6,14 @@ ghost use Rattle.source.specs.declared.fault.Code.TheVariants.{DeclaredTwice};
 ghost use Rattle.resolution.specs.Scopes.{member_name, member_bears, place_of, the_member, number_in};
 ghost use Rattle.resolution.specs.Numbers.{fields_from};
 ghost use Rattle.resolution.specs.Expressions.{member_number};
-ghost use Rattle.resolution.specs.Working.Findings.{least_of};
+ghost use Rattle.resolution.specs.Working.Findings.{found_in};
 ghost use Rattle.resolution.specs.Working.FaultLists.{one_if, member_twice_faults};
 ghost use Rattle.types_symbols.specs.Working.Found.{IsTableOf, AreAhead};
 ghost use Rattle.types_symbols.specs.Working.Counted.{member_count, member_counted, member_counts_from, no_members, field_if};
 ghost use Rattle.types_symbols.specs.Working.Views.{members_seen};
 
 use crate::names::{Names, TableMaker};
-use resolution::finding::{Least, note};
+use resolution::finding::{Firsts, note};
 use source::fault::Code;
 use std::alloc::{AllocError, Global};
 use std::marker::Model;
@@ -126,11 +126,11 @@ fn fields_with(is_first: bool, m: &Member) -> usize
 }
 
 /// Notes a name that is borne already.
-fn note_again(is_first: bool, start: usize, least: &mut Least)
-    ensures { least.new ≡ least_of least.old (one_if (not is_first) DeclaredTwice start) }
+fn note_again(is_first: bool, start: usize, firsts: &mut Firsts)
+    ensures { firsts.new ≡ found_in firsts.old (one_if (not is_first) DeclaredTwice start) }
 {
     if !is_first {
-        note(Code::DeclaredTwice, start, least);
+        note(Code::DeclaredTwice, start, firsts);
     }
 }
 
@@ -139,12 +139,12 @@ fn note_again(is_first: bool, start: usize, least: &mut Least)
 fn judge_members(
     maker: TableMaker,
     members: &[Member],
-    least: &mut Least,
+    firsts: &mut Firsts,
 ) -> Result<(Names, Vec<MemberCounts>, MemberCounts, usize), AllocError>
     ensures names { IfOk result (λ t. IsTableOf member_bears (map member_of members.now) t.0) }
     ensures counts { IfOk result (λ t. AreAhead (member_counts_from no_members) (map member_of members.now) t.1.items t.2) }
     ensures width { IfOk result (λ t. t.3 ≡ fields_from [] (map member_of members.now)) }
-    ensures faults { OnOk result (least.new ≡ least_of least.old (member_twice_faults [] (map member_of members.now))) }
+    ensures faults { OnOk result (firsts.new ≡ found_in firsts.old (member_twice_faults [] (map member_of members.now))) }
 {
     let alloc = maker.alloc;
     let mut names = Names::new(maker);
@@ -154,7 +154,7 @@ fn judge_members(
     for (place, m) in members.iter().enumerate() {
         let name = name_of(m);
         let is_first = names.find(name.text.as_str()).is_none();
-        note_again(is_first, name.start as usize, least);
+        note_again(is_first, name.start as usize, firsts);
         width = width + fields_with(is_first, m);
         names.add(alloc, &name.text, place)?;
         ahead.push(counts)?;
@@ -168,12 +168,12 @@ impl<'t> Structure<'t> {
     pub(crate) fn new(
         maker: TableMaker,
         item: &'t Struct,
-        least: &mut Least,
+        firsts: &mut Firsts,
     ) -> Result<Structure<'t>, AllocError>
         ensures item { IfOk result (λ s. s ≡ item.now) }
-        ensures faults { OnOk result (least.new ≡ least_of least.old (member_twice_faults [] (struct_of item.now).members)) }
+        ensures faults { OnOk result (firsts.new ≡ found_in firsts.old (member_twice_faults [] (struct_of item.now).members)) }
     {
-        let (names, ahead, all, width) = judge_members(maker, &item.members, least)?;
+        let (names, ahead, all, width) = judge_members(maker, &item.members, firsts)?;
         Ok(Structure {
             item,
             names,

@@ -5,7 +5,7 @@ ghost use Rattle.std.specs.Rc.{rc_str_bytes};
 ghost use Rattle.syntax.specs.Views.{decl_of, ident, member_of, type_of as type_seen};
 ghost use Rattle.syntax.specs.Trees.{ref_type};
 ghost use Rattle.resolution.specs.Scopes.{meaning, outside, hidden_from, struct_meant, struct_named, type_of, has_type, member_has_type, the_local};
-ghost use Rattle.resolution.specs.Working.Findings.{least_of, told};
+ghost use Rattle.resolution.specs.Working.Findings.{found_in, told};
 ghost use Rattle.resolution.specs.Reasons.{referent_of, stands_for};
 ghost use Rattle.resolution.specs.declared.why.Why.TheVariants.{Misnamed};
 ghost use Rattle.resolution.specs.Working.FaultLists.{no_struct, type_faults, unfit, unfit_member};
@@ -18,7 +18,7 @@ use crate::table::SymbolTable;
 use core_lang::tree::LocalKind;
 use core_lang::value::ValueType;
 use resolution::body_limits::BodyLimits;
-use resolution::finding::{Finding, Least, note, note_found, note_found_if};
+use resolution::finding::{Finding, Firsts, note, note_found, note_found_if};
 use resolution::why::{Referent, Role, Why};
 use source::fault::Code;
 use std::alloc::{AllocError, Global};
@@ -268,10 +268,10 @@ fn has_type(symbols: &SymbolTable, m: Meaning) -> bool
 }
 
 /// Notes the fault of a thing that can't stand there, unless its type has a fault.
-pub fn note_unfit(symbols: &SymbolTable, found: Finding, m: Meaning, least: &mut Least)
-    ensures { least.new ≡ least_of least.old (unfit (decls_of symbols.now) found (meaning_of m.entry)) }
+pub fn note_unfit(symbols: &SymbolTable, found: Finding, m: Meaning, firsts: &mut Firsts)
+    ensures { firsts.new ≡ found_in firsts.old (unfit (decls_of symbols.now) found (meaning_of m.entry)) }
 {
-    note_found_if(has_type(symbols, m), found, least);
+    note_found_if(has_type(symbols, m), found, firsts);
 }
 
 /// Whether a member has no fault in its type.
@@ -286,10 +286,10 @@ fn member_has_type(symbols: &SymbolTable, m: &Member) -> bool
 }
 
 /// Notes the fault of a member that can't stand there, unless its type has a fault.
-pub fn note_unfit_member(symbols: &SymbolTable, found: Finding, m: &Member, least: &mut Least)
-    ensures { least.new ≡ least_of least.old (unfit_member (decls_of symbols.now) found (member_of m.now)) }
+pub fn note_unfit_member(symbols: &SymbolTable, found: Finding, m: &Member, firsts: &mut Firsts)
+    ensures { firsts.new ≡ found_in firsts.old (unfit_member (decls_of symbols.now) found (member_of m.now)) }
 {
-    note_found_if(member_has_type(symbols, m), found, least);
+    note_found_if(member_has_type(symbols, m), found, firsts);
 }
 
 /// What the name of a declaration stands for.
@@ -328,30 +328,30 @@ pub fn misnamed(code: Code, role: Role, start: usize, m: Meaning) -> Finding
 }
 
 /// Notes a type's name that names no struct.
-fn note_no_struct(start: usize, m: Meaning, least: &mut Least)
-    ensures { least.new ≡ least_of least.old (no_struct start (meaning_of m.entry)) }
+fn note_no_struct(start: usize, m: Meaning, firsts: &mut Firsts)
+    ensures { firsts.new ≡ found_in firsts.old (no_struct start (meaning_of m.entry)) }
 {
     match m {
         Meaning::Decl(_, Decl::Struct(_)) => {}
-        Meaning::Nothing => note(Code::UnknownName, start, least),
-        _ => note_found(misnamed(Code::WrongType, Role::Struct, start, m), least),
+        Meaning::Nothing => note(Code::UnknownName, start, firsts),
+        _ => note_found(misnamed(Code::WrongType, Role::Struct, start, m), firsts),
     }
 }
 
 /// Notes what is wrong with the name of a struct in a declaration: it is unknown, or means no struct.
-pub fn note_target(symbols: &SymbolTable, name: &Name, least: &mut Least)
-    ensures { least.new ≡ least_of least.old (type_faults (outside (decls_of symbols.now)) (ref_type (ident name.now))) }
+pub fn note_target(symbols: &SymbolTable, name: &Name, firsts: &mut Firsts)
+    ensures { firsts.new ≡ found_in firsts.old (type_faults (outside (decls_of symbols.now)) (ref_type (ident name.now))) }
 {
-    note_no_struct(name.start as usize, meaning_outside(symbols, name), least);
+    note_no_struct(name.start as usize, meaning_outside(symbols, name), firsts);
 }
 
 /// Notes what is wrong with a declaration's type: the struct that it refers to is unknown, or is none.
-pub fn note_type(symbols: &SymbolTable, t: &tree::ValueType, least: &mut Least)
-    ensures { least.new ≡ least_of least.old (type_faults (outside (decls_of symbols.now)) (type_seen t.now)) }
+pub fn note_type(symbols: &SymbolTable, t: &tree::ValueType, firsts: &mut Firsts)
+    ensures { firsts.new ≡ found_in firsts.old (type_faults (outside (decls_of symbols.now)) (type_seen t.now)) }
 {
     match t {
         tree::ValueType::Int => {}
-        tree::ValueType::Ref(name) => note_target(symbols, name, least),
+        tree::ValueType::Ref(name) => note_target(symbols, name, firsts),
     }
 }
 
@@ -360,15 +360,15 @@ pub fn note_local_type(
     symbols: &SymbolTable,
     locals: &Locals,
     t: &tree::ValueType,
-    least: &mut Least,
+    firsts: &mut Firsts,
 )
-    ensures { least.new ≡ least_of least.old (type_faults (scope_of (decls_of symbols.now) locals.now) (type_seen t.now)) }
+    ensures { firsts.new ≡ found_in firsts.old (type_faults (scope_of (decls_of symbols.now) locals.now) (type_seen t.now)) }
 {
     match t {
         tree::ValueType::Int => {}
         tree::ValueType::Ref(name) => {
             let meant = meaning_at(symbols, locals, name);
-            note_no_struct(name.start as usize, meant, least);
+            note_no_struct(name.start as usize, meant, firsts);
         }
     }
 }

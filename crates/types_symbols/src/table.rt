@@ -7,7 +7,7 @@ ghost use Rattle.resolution.specs.Expressions.{cell_of};
 ghost use Rattle.resolution.specs.Constants.{object_of, given, value_in};
 ghost use Rattle.resolution.specs.Annotations.{class_number};
 ghost use Rattle.resolution.specs.Working.Building.{few_calls};
-ghost use Rattle.resolution.specs.Working.Findings.{least_of};
+ghost use Rattle.resolution.specs.Working.Findings.{found_in};
 ghost use Rattle.types_symbols.specs.Working.Capped.{totals_of};
 ghost use Rattle.types_symbols.specs.Working.Faults.{table_faults};
 ghost use Rattle.types_symbols.specs.Working.Views.{decls_of, struct_in};
@@ -17,7 +17,7 @@ use crate::first_inits::{FirstInits, judge_first_inits};
 use crate::members::Structure;
 use crate::names::TableMaker;
 use crate::totals::{CALL_LIMIT, CELL_LIMIT, CLASS_LIMIT, OBJECT_LIMIT, Totals, judge_totals};
-use resolution::finding::Least;
+use resolution::finding::Firsts;
 use resolution::init_target::InitTarget;
 use std::alloc::AllocError;
 use std::marker::Model;
@@ -65,18 +65,18 @@ impl<'t> SymbolTable<'t> {
     pub fn new(
         maker: TableMaker,
         items: &'t [Decl],
-        least: &mut Least,
+        firsts: &mut Firsts,
     ) -> Result<SymbolTable<'t>, AllocError>
         ensures items { IfOk result (λ t. t ≡ items.now) }
-        ensures faults { OnOk result (least.new ≡ least_of least.old (table_faults (decls_of items.now))) }
+        ensures faults { OnOk result (firsts.new ≡ found_in firsts.old (table_faults (decls_of items.now))) }
     {
         let alloc = maker.alloc;
-        let decls = Declarations::new(maker, items, least)?;
-        let Ok((ahead, all)) = judge_totals(alloc, &decls, least) else {
+        let decls = Declarations::new(maker, items, firsts)?;
+        let Ok((ahead, all)) = judge_totals(alloc, &decls, firsts) else {
             drop(decls);
             return Err(AllocError);
         };
-        let Ok(first_inits) = judge_first_inits(alloc, &decls, least) else {
+        let Ok(first_inits) = judge_first_inits(alloc, &decls, firsts) else {
             drop(decls);
             drop(ahead);
             return Err(AllocError);

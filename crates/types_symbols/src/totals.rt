@@ -6,7 +6,7 @@ ghost use Rattle.syntax.specs.Views.{decl_of, member_of, struct_of, pool_of, ite
 ghost use Rattle.syntax.specs.Trees.{struct, pool};
 ghost use Rattle.resolution.specs.Limits.{CLASS_LIMIT, CELL_LIMIT, CALL_LIMIT};
 ghost use Rattle.resolution.specs.Numbers.{is_lock, calls_in, calls_in_all, classes_of, cells_of};
-ghost use Rattle.resolution.specs.Working.Findings.{least_of};
+ghost use Rattle.resolution.specs.Working.Findings.{found_in};
 ghost use Rattle.resolution.specs.Working.FaultLists.{one_if, first_too_many, lock_count, member_counts, total_faults};
 ghost use Rattle.types_symbols.specs.Working.Found.{AreAhead};
 ghost use Rattle.types_symbols.specs.Working.Capped.{capped, totals_of, no_totals, added_by, both_totals, AreCapped, faults_by};
@@ -14,7 +14,7 @@ ghost use Rattle.types_symbols.specs.Working.Views.{decls_of};
 
 use crate::declarations::Declarations;
 use crate::members::{MEMBER_LIMIT, name_of};
-use resolution::finding::{Least, note_if};
+use resolution::finding::{Firsts, note_if};
 use source::fault::Code;
 use std::alloc::{AllocError, Global};
 use syntax::tree::{Decl, Item, Member, Pool, Struct};
@@ -191,28 +191,28 @@ fn passes(limit: usize, before: usize, own: usize) -> bool
 }
 
 /// Notes the members by which there are too many of a struct, or too many lock classes.
-#[tactic(auto, using(resolution::specs::Theory::Leasts::least_append))]
-fn note_members(classes: usize, members: &[Member], least: &mut Least)
+#[tactic(auto, using(resolution::specs::Theory::Leasts::found_append))]
+fn note_members(classes: usize, members: &[Member], firsts: &mut Firsts)
     requires { classes ≤ CLASS_LIMIT + 1 }
-    ensures { least.new ≡ least_of least.old (member_counts classes 0 (map member_of members.now)) }
+    ensures { firsts.new ≡ found_in firsts.old (member_counts classes 0 (map member_of members.now)) }
 {
     let mut classes = classes;
     for (place, m) in members.iter().enumerate() {
         let start = name_of(m).start as usize;
-        note_if(MEMBER_LIMIT <= place, Code::LimitExceeded, start, least);
-        classes = note_lock(classes, m, start, least);
+        note_if(MEMBER_LIMIT <= place, Code::LimitExceeded, start, firsts);
+        classes = note_lock(classes, m, start, firsts);
     }
 }
 
 /// Notes a lock field by which there are too many lock classes, and says how many there are with it.
-fn note_lock(classes: usize, m: &Member, start: usize, least: &mut Least) -> usize
+fn note_lock(classes: usize, m: &Member, start: usize, firsts: &mut Firsts) -> usize
     requires { classes < 2 ^ 63 }
     ensures classes { result ≡ classes + lock_count (is_lock (member_of m.now)) }
-    ensures faults { least.new ≡ least_of least.old (one_if (is_lock (member_of m.now) && nat_le CLASS_LIMIT classes) LimitExceeded start) }
+    ensures faults { firsts.new ≡ found_in firsts.old (one_if (is_lock (member_of m.now) && nat_le CLASS_LIMIT classes) LimitExceeded start) }
 {
     match m {
         Member::Lock(_) => {
-            note_if(CLASS_LIMIT <= classes, Code::LimitExceeded, start, least);
+            note_if(CLASS_LIMIT <= classes, Code::LimitExceeded, start, firsts);
             classes + 1
         }
         Member::Final(_) | Member::Field(_) => classes,
@@ -220,11 +220,11 @@ fn note_lock(classes: usize, m: &Member, start: usize, least: &mut Least) -> usi
 }
 
 /// Notes a declaration by which there are too many of something.
-#[tactic(auto, using(resolution::specs::Theory::Leasts::least_append))]
-fn note_decl(number: usize, ahead: Totals, own: Totals, d: &Decl, least: &mut Least)
+#[tactic(auto, using(resolution::specs::Theory::Leasts::found_append))]
+fn note_decl(number: usize, ahead: Totals, own: Totals, d: &Decl, firsts: &mut Firsts)
     requires ahead { AreCapped ahead }
     requires own { AreCapped own }
-    ensures { least.new ≡ least_of least.old (faults_by number ahead own (decl_of d.now)) }
+    ensures { firsts.new ≡ found_in firsts.old (faults_by number ahead own (decl_of d.now)) }
 {
     let code = Code::LimitExceeded;
     match d {
@@ -232,34 +232,34 @@ fn note_decl(number: usize, ahead: Totals, own: Totals, d: &Decl, least: &mut Le
             CLASS_LIMIT <= ahead.classes,
             code,
             name.start as usize,
-            least,
+            firsts,
         ),
         Decl::Struct(s) => {
-            note_if(STRUCT_LIMIT <= number, code, s.name.start as usize, least);
-            note_members(ahead.classes, &s.members, least);
+            note_if(STRUCT_LIMIT <= number, code, s.name.start as usize, firsts);
+            note_members(ahead.classes, &s.members, firsts);
         }
         Decl::Global(v) => {
             let is_over = passes(CELL_LIMIT, ahead.cells, own.cells);
-            note_if(is_over, code, v.name.start as usize, least);
+            note_if(is_over, code, v.name.start as usize, firsts);
         }
         Decl::Array(a) => {
             let is_over = passes(CELL_LIMIT, ahead.cells, own.cells);
-            note_if(is_over, code, a.name.start as usize, least);
+            note_if(is_over, code, a.name.start as usize, firsts);
         }
         Decl::Pool(p) => {
             let are_over = passes(OBJECT_LIMIT, ahead.objects, own.objects);
-            note_if(are_over, code, p.name.start as usize, least);
+            note_if(are_over, code, p.name.start as usize, firsts);
             let is_over = passes(CELL_LIMIT, ahead.cells, own.cells);
-            note_if(is_over, code, p.name.start as usize, least);
+            note_if(is_over, code, p.name.start as usize, firsts);
         }
         Decl::Init(_) => {}
         Decl::Atomic(s) | Decl::Helper(s) => {
-            note_if(SECTION_LIMIT <= number, code, s.name.start as usize, least);
+            note_if(SECTION_LIMIT <= number, code, s.name.start as usize, firsts);
         }
         Decl::Thread(t) => {
-            note_if(THREAD_LIMIT <= number, code, t.name.start as usize, least);
+            note_if(THREAD_LIMIT <= number, code, t.name.start as usize, firsts);
             let is_over = passes(CALL_LIMIT, ahead.calls, own.calls);
-            note_if(is_over, code, t.name.start as usize, least);
+            note_if(is_over, code, t.name.start as usize, firsts);
         }
     }
 }
@@ -269,17 +269,17 @@ fn note_decl(number: usize, ahead: Totals, own: Totals, d: &Decl, least: &mut Le
 pub(crate) fn judge_totals(
     alloc: Global,
     decls: &Declarations,
-    least: &mut Least,
+    firsts: &mut Firsts,
 ) -> Result<(Vec<Totals>, Totals), AllocError>
     ensures totals { IfOk result (λ t. AreAhead (totals_of (decls_of decls.now)) (decls_of decls.now) t.0.items t.1) }
-    ensures faults { OnOk result (least.new ≡ least_of least.old (total_faults (decls_of decls.now) [] (decls_of decls.now))) }
+    ensures faults { OnOk result (firsts.new ≡ found_in firsts.old (total_faults (decls_of decls.now) [] (decls_of decls.now))) }
 {
     let mut ahead = Vec::new(alloc);
     let mut totals = Totals::new();
     let items = decls.items();
     for (place, d) in items.iter().enumerate() {
         let own = Totals::of(decls, d);
-        note_decl(decls.limited(place, d), totals, own, d, least);
+        note_decl(decls.limited(place, d), totals, own, d, firsts);
         let Ok(()) = ahead.push(totals) else {
             drop(ahead);
             return Err(AllocError);

@@ -10,6 +10,7 @@ use Rattle.report_outcomes.specs.Outcomes.{outcomes_text}
 use Rattle.source.specs.declared.fault.Fault.{Fault}
 use Rattle.explanation.specs.declared.explanation.Acceptance.{Acceptance}
 use Rattle.explanation.specs.declared.explanation.Explanation.{Explanation}
+use Rattle.explanation.specs.Further.{further_of}
 use Rattle.explanation.specs.Notes.{note_of}
 use Rattle.explanation.specs.Warnings.{warning_of}
 use Rattle.source.specs.Faults.{fault_text}
@@ -44,7 +45,7 @@ IsMessage status message answer =
 
 -- what explains a fault, and what tells of a program without one, of values of the code
 abbrev pub fault_told_of : Bool → Explanation → List ℕ
-fault_told_of json x = fault_told json x.file.now x.text.now x.fault.now (map note_of x.notes.now)
+fault_told_of json x = fault_told json x.file.now x.text.now x.fault.now (map note_of x.notes.now) (further_of x.further.now)
 
 abbrev pub acceptance_told_of : Bool → Acceptance → List ℕ
 acceptance_told_of json x = acceptance_told json x.file.now x.text.now (map note_of x.notes.now) (map warning_of x.warnings.now)

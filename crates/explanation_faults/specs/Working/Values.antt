@@ -8,6 +8,8 @@ use Rattle.core_lang.specs.declared.typed.Typed.{Typed}
 use Rattle.explanation.specs.Notes.{Note, note_of}
 pub use Rattle.explanation_names.specs.Working.Values.{ident_at, idents}
 use Rattle.explanation.specs.declared.note.Note as written_note
+use Rattle.resolution.specs.FirstFaults.{Firsts}
+use Rattle.resolution.specs.Working.Laws.{the_firsts}
 use Rattle.resolution.specs.Constants.{members_of}
 use Rattle.resolution.specs.Working.FaultLists.{is_at}
 use Rattle.resolution.specs.Faults.{HasNoFault, IsFaultFor}
@@ -89,6 +91,10 @@ FoundWhy decls WrongType at w = FoundReason decls WrongType at w
 FoundWhy decls WrongArgumentCount at w = FoundReason decls WrongArgumentCount at w
 FoundWhy decls NotAssignable at w = FoundReason decls NotAssignable at w
 FoundWhy decls code at w = Unit {0}
+
+-- the same of the first faults of any program
+abbrev pub IsReasonBy : (List Decl → Code → ℕ → Option Why → Type 0) → Firsts → Fault → Option Why → Type 0
+IsReasonBy Found firsts fault w = (decls : List Decl) → firsts ≡ the_firsts decls → Found decls fault.code fault.start w
 
 -- of a fault that is known with its reason
 abbrev pub IsKnownOf : List Decl → Known → Type 0

@@ -1,11 +1,13 @@
 -- What holds of the JSON of every fault.
 use Rattle.std.specs.Prelude.{◌≡◌, ◌<◌, ℕ, List, All, None, take}
+use Rattle.explanation.specs.Further.{nothing_further}
 use Rattle.explanation.specs.Notes.{Note}
 use Rattle.source.specs.declared.fault.Fault.{Fault}
 use Rattle.explanation_json.specs.Json.{WORD, fault_json}
 
--- of a fault at the beginning of a text, with notes on no place, it is that of each of the text's beginnings that are longer than what is
+-- of a fault at the beginning of a text, with notes on no place and no further fault, it is that of each of the text's beginnings that are longer than what is
 -- looked at
 abbrev pub FaultByFirstBytes : Type 0
 FaultByFirstBytes = (count : ℕ) (file text : List ℕ) (fault : Fault) (notes : List Note) → WORD < count → fault.start ≡ 0 →
-    All (λ (note : Note). note.start ≡ None) notes → fault_json file (take count text) fault notes ≡ fault_json file text fault notes
+    All (λ (note : Note). note.start ≡ None) notes →
+    fault_json file (take count text) fault notes nothing_further ≡ fault_json file text fault notes nothing_further

@@ -2,6 +2,7 @@
 use Rattle.std.specs.Prelude.{ℕ, List, ◌++◌, false, map, codes, string_bytes}
 use Rattle.explanation.specs.declared.explanation.Acceptance.{Acceptance}
 use Rattle.explanation.specs.declared.explanation.Explanation.{Explanation}
+use Rattle.explanation.specs.Further.{further_of}
 use Rattle.explanation.specs.Notes.{note_of}
 use Rattle.explanation.specs.Remedies.{remedy}
 use Rattle.explanation.specs.Warnings.{warning_of}
@@ -24,10 +25,10 @@ fault_members_of file fault =
     (member (codes "text") (string (fault_words_of fault)) no_members))))
 
 abbrev pub fault_data_of : Explanation → Data
-fault_data_of x = fault_data x.file.now x.text.now x.fault.now (map note_of x.notes.now)
+fault_data_of x = fault_data x.file.now x.text.now x.fault.now (map note_of x.notes.now) (further_of x.further.now)
 
 abbrev pub fault_json_of : Explanation → List ℕ
-fault_json_of x = fault_json x.file.now x.text.now x.fault.now (map note_of x.notes.now)
+fault_json_of x = fault_json x.file.now x.text.now x.fault.now (map note_of x.notes.now) (further_of x.further.now)
 
 abbrev pub accepted_data_of : Acceptance → Data
 accepted_data_of x = accepted_data x.file.now x.text.now (map note_of x.notes.now) (map warning_of x.warnings.now)

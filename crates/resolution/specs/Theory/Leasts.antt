@@ -8,21 +8,16 @@ use Rattle.source.specs.Mistakes.{code_number, goes_before}
 use Rattle.source.specs.Mistakes as bare
 use Rattle.source.specs.Theory.Leasts as bare_lists
 use Rattle.resolution.specs.declared.finding.Finding.{Finding}
-use Rattle.resolution.specs.Working.Findings.{mistake_of, plain, goes_ahead, lesser, least_of}
-
--- one of them has this code and place
-abbrev pub IsAmong : Mistake → List Finding → Type 0
-IsAmong f [] = ⊥
-IsAmong f (g ∷ gs) = (f ≡ mistake_of g) ⊎ IsAmong f gs
-
--- it is one of them
-abbrev pub IsOneOf : Finding → List Finding → Type 0
-IsOneOf f [] = ⊥
-IsOneOf f (g ∷ gs) = (f ≡ g) ⊎ IsOneOf f gs
+use Rattle.resolution.specs.Working.Findings.{mistake_of, plain, goes_ahead, lesser, least_of, Firsts, with_found, found_in}
+pub use Rattle.resolution.specs.Working.Findings.{IsAmong, IsOneOf}
 
 pub least_append : (f : Option Finding) (a b : List Finding) → least_of f (a ++ b) ≡ least_of (least_of f a) b
 least_append f [] b = refl
 least_append f (g ∷ a) b = least_append (lesser f g) a b
+
+pub found_append : (s : Firsts) (a b : List Finding) → found_in s (a ++ b) ≡ found_in (found_in s a) b
+found_append s [] b = refl
+found_append s (g ∷ a) b = found_append (with_found s g) a b
 
 -- ---- with the reason
 
@@ -109,11 +104,11 @@ abbrev pub noted : Option Finding → Option Mistake → Option Finding
 noted f None = f
 noted f (Some m) = lesser f (plain m)
 
-code_less : (a b c d e g : ℕ) → (nat_lt a b || (a == b) && nat_lt c d) ≡ true → (nat_lt b e || (b == e) && nat_lt d g) ≡ true →
+pub code_less : (a b c d e g : ℕ) → (nat_lt a b || (a == b) && nat_lt c d) ≡ true → (nat_lt b e || (b == e) && nat_lt d g) ≡ true →
     (nat_lt a e || (a == e) && nat_lt c g) ≡ true
 code_less a b c d e g p q = grind (arith, nat_tests)
 
-code_more : (a b c d e g : ℕ) → (nat_lt a b || (a == b) && nat_lt c d) ≡ false → (nat_lt b e || (b == e) && nat_lt d g) ≡ false →
+pub code_more : (a b c d e g : ℕ) → (nat_lt a b || (a == b) && nat_lt c d) ≡ false → (nat_lt b e || (b == e) && nat_lt d g) ≡ false →
     (nat_lt a e || (a == e) && nat_lt c g) ≡ false
 code_more a b c d e g p q = grind (arith, nat_tests)
 

@@ -1,19 +1,14 @@
--- Faults of names and types with their reasons: which of two is told, and the least of several. The order is that of faults, by place and
--- code alone.
-use Rattle.std.specs.Prelude.{ℕ, Bool, if◌then◌else◌, List, [], ◌∷◌, Option, Some, None}
+-- Faults of names and types with their reasons: which of two is told, the least of several, and the first ones. The order is that of faults,
+-- by place and code alone.
+use Rattle.std.specs.Prelude.{ℕ, Bool, if◌then◌else◌, nat_lt, ◌||◌, List, [], ◌∷◌, length, take, Option, Some, None}
+use Rattle.std.specs.Prelude.{◌≡◌, ◌⊎◌, ◌+◌, true, false}
 use Rattle.source.specs.declared.fault.Code.{Code}
 use Rattle.source.specs.declared.mistake.Mistake.{Mistake}
 use Rattle.source.specs.Mistakes.{goes_before}
 use Rattle.resolution.specs.declared.why.Why.{Why}
 use Rattle.resolution.specs.declared.why.Why.TheVariants.{Plain}
 use Rattle.resolution.specs.declared.finding.Finding.{Finding}
-
--- what is wrong and where, without the reason
-abbrev pub mistake_of : Finding → Mistake
-mistake_of f = record { code = f.code; start = f.start }
-
-abbrev pub goes_ahead : Finding → Finding → Bool
-goes_ahead f g = goes_before (mistake_of f) (mistake_of g)
+pub use Rattle.resolution.specs.FirstFaults.{mistake_of, goes_ahead, MOST, Firsts, IsAmong, IsOneOf, GoesAheadOfAll, AllGoAhead, Rises}
 
 -- the lesser of a fault, if there is one, and another
 abbrev pub lesser : Option Finding → Finding → Option Finding
@@ -24,6 +19,39 @@ lesser (Some f) g = if goes_ahead g f then Some g else Some f
 abbrev pub least_of : Option Finding → List Finding → Option Finding
 least_of f [] = f
 least_of f (g ∷ gs) = least_of (lesser f g) gs
+
+abbrev pub nothing_found : Firsts
+nothing_found = record { kept = []; more = false }
+
+abbrev pub first_of : List Finding → Option Finding
+first_of [] = None
+first_of (f ∷ fs) = Some f
+
+abbrev pub first : Firsts → Option Finding
+first s = first_of s.kept
+
+-- a fault put in its place among others, if none of its code and place is there
+abbrev pub placed : Finding → List Finding → List Finding
+placed g [] = g ∷ []
+placed g (f ∷ fs) = if goes_ahead g f then g ∷ f ∷ fs else if goes_ahead f g then f ∷ placed g fs else f ∷ fs
+
+-- that place, counted from k; none where one of its code and place is there
+abbrev pub place_in : ℕ → Finding → List Finding → Option ℕ
+place_in k g [] = Some k
+place_in k g (f ∷ fs) = if goes_ahead g f then Some k else if goes_ahead f g then place_in (k + 1) g fs else None
+
+-- the first n of some, where there may be more
+abbrev pub cut_off : ℕ → List Finding → Bool → Firsts
+cut_off n fs more = record { kept = take n fs; more = more || nat_lt n (length fs) }
+
+-- the first ones of those that are kept and another
+abbrev pub with_found : Firsts → Finding → Firsts
+with_found s g = cut_off MOST (placed g s.kept) s.more
+
+-- the first ones of those that are kept and further ones
+abbrev pub found_in : Firsts → List Finding → Firsts
+found_in s [] = s
+found_in s (g ∷ gs) = found_in (with_found s g) gs
 
 abbrev pub told : Code → ℕ → Why → Finding
 told code start why = record { code = code; start = start; why = why }

@@ -1,5 +1,5 @@
 -- What holds of resolution and of faults, as `src/laws.rt` claims it.
-use Rattle.std.specs.Prelude.{◌≡◌, ℕ, List, Option, Some, None, false}
+use Rattle.std.specs.Prelude.{◌≡◌, ℕ, List, ◌++◌, Option, Some, None, false, option_map, option_to_list}
 use Rattle.source.specs.declared.fault.Code.{Code}
 use Rattle.syntax.specs.Trees.{Decl, Section, helper}
 use Rattle.syntax.specs.Returns.{ReturnsRight}
@@ -8,14 +8,17 @@ use Rattle.core_lang.specs.WellFormed.{IsChecked, IsWellFormed}
 use Rattle.source.specs.declared.mistake.Mistake.{Mistake}
 use Rattle.source.specs.Mistakes.{goes_before}
 use Rattle.resolution.specs.declared.finding.Finding.{Finding}
-use Rattle.resolution.specs.Working.Findings.{mistake_of, least_of}
+use Rattle.resolution.specs.Working.Findings.{mistake_of, plain, least_of, Firsts, first, nothing_found, found_in}
+use Rattle.resolution.specs.FirstFaults.{AreFirstFaults}
+use Rattle.source.specs.Mistakes as bare
+use Rattle.core_lang_calls.specs.Working.FaultLists.{graph_faults}
 use Rattle.resolution.specs.Core as core
 use Rattle.resolution.specs.Working.Building.{resolved}
 use Rattle.resolution.specs.Tables.{AreTables}
 use Rattle.resolution.specs.Resolved.{Resolves}
 use Rattle.resolution.specs.Where.{Has, Asks}
 use Rattle.resolution.specs.Faults.{IsFault, IsFaultFor, HasNoFault}
-use Rattle.resolution.specs.Working.FaultLists.{program_faults}
+use Rattle.resolution.specs.Working.FaultLists.{declaration_faults, program_faults}
 use Rattle.core_lang_calls.specs.Working.Programs.{IsGraphOf}
 use Rattle.resolution.specs.CallGraphs.{tree_graph}
 use Rattle.syntax.specs.Trees.{Ident, Const, Param, Expr, Place, assign, Stmt, Stmts}
@@ -42,6 +45,19 @@ use Rattle.resolution.specs.Working.TypedConstants.{const_sort, typed_const, typ
 -- the least fault of the program's list, if there is one
 abbrev pub the_least : List Decl → Option Finding
 the_least decls = least_of None (program_faults decls)
+
+-- the first faults of the program's list, where of those of calls the least alone is there
+abbrev pub the_firsts : List Decl → Firsts
+the_firsts decls =
+    found_in nothing_found (declaration_faults decls ++ option_to_list (option_map plain (bare.least_of None (graph_faults (tree_graph decls)))))
+
+-- they are first faults of the program
+abbrev pub TheFirstsAreFirstFaults : Type 0
+TheFirstsAreFirstFaults = (decls : List Decl) → AreFirstFaults decls (the_firsts decls)
+
+-- and the first of them is the least
+abbrev pub TheFirstIsTheLeast : Type 0
+TheFirstIsTheLeast = (decls : List Decl) → first (the_firsts decls) ≡ the_least decls
 
 -- it is a fault of the program
 abbrev pub TheLeastIsAFault : Type 0

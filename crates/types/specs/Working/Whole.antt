@@ -1,5 +1,6 @@
 -- What the passes over declarations give, by parts.
-use Rattle.std.specs.Prelude.{ℕ, List, ◌++◌, map, Option}
+use Rattle.std.specs.Prelude.{ℕ, List, ◌++◌, Option, None, option_map, option_to_list}
+use Rattle.source.specs.Mistakes as mistakes
 use Rattle.syntax.specs.Trees.{Decl, Variable, Array, Section, Thread}
 use Rattle.resolution.specs.Core as core
 use Rattle.resolution.specs.Limits.{section_limits, helper_limits}
@@ -20,9 +21,10 @@ use Rattle.types.specs.declared.program.Judge.{Judge}
 abbrev pub known : Judge → List Decl
 known j = builder.known j.builder
 
--- the faults of declarations one by one, and of what their bodies call
+-- the faults of declarations one by one, and the least of what their bodies call
 abbrev pub judged_faults : List Decl → List Finding
-judged_faults decls = each_faults decls 0 decls ++ map plain (graph_faults (tree_graph decls))
+judged_faults decls =
+    each_faults decls 0 decls ++ option_to_list (option_map plain (mistakes.least_of None (graph_faults (tree_graph decls))))
 
 -- a program, if there is one, with one more declaration
 abbrev pub extended_if : List Decl → ℕ → Option core.Program → Decl → Option core.Program

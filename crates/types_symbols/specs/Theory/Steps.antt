@@ -4,8 +4,8 @@ use Rattle.std.specs.Prelude.{OnOk}
 use Rattle.std.proofs.Common.{◌≡◌, ℕ, ◌+◌, ◌<◌, List, ◌∷◌, ◌++◌, Option, Some, None, Result, Ok, Err, length, map, drop}
 use Rattle.std.proofs.Common.{get_or, sym, ap, ◌∙◌}
 use Rattle.resolution.specs.declared.finding.Finding.{Finding}
-use Rattle.resolution.specs.Working.Findings.{least_of}
-use Rattle.resolution.specs.Theory.Leasts.{least_append}
+use Rattle.resolution.specs.Working.Findings.{Firsts, found_in}
+use Rattle.resolution.specs.Theory.Leasts.{found_append}
 use Rattle.syntax.specs.declared.tree.Param as tree_param
 use Rattle.syntax.specs.declared.tree.Stmt as tree_stmt
 use Rattle.syntax.specs.Views.{stmt_of, stmts_of, param_of}
@@ -19,16 +19,16 @@ pub step : {A R : Type 0} (go next : List A → R) (items : List A) (i : ℕ) (i
     next (drop (i + 1) items) ≡ go (item ∷ drop (i + 1) items) → go (drop i items) ≡ whole → next (drop (i + 1) items) ≡ whole
 step go next items i item whole lt is turn before = turn ∙ ap go (sym (next_of items i item lt is)) ∙ before
 
-pub noted_one : (f g : Option Finding) (a rest : List Finding) → g ≡ least_of f a →
-    least_of g rest ≡ least_of f (a ++ rest)
-noted_one f g a rest hg = ap (λ x. least_of x rest) hg ∙ sym (least_append f a rest)
+pub noted_one : (f g : Firsts) (a rest : List Finding) → g ≡ found_in f a →
+    found_in g rest ≡ found_in f (a ++ rest)
+noted_one f g a rest hg = ap (λ x. found_in x rest) hg ∙ sym (found_append f a rest)
 
-pub noted_two : (f g h : Option Finding) (a b rest : List Finding) → g ≡ least_of f a → h ≡ least_of g b →
-    least_of h rest ≡ least_of f (a ++ b ++ rest)
+pub noted_two : (f g h : Firsts) (a b rest : List Finding) → g ≡ found_in f a → h ≡ found_in g b →
+    found_in h rest ≡ found_in f (a ++ b ++ rest)
 noted_two f g h a b rest hg hh = noted_one f h (a ++ b) rest (hh ∙ noted_one f g a b hg)
 
-pub noted_three : (f g h k : Option Finding) (a b c rest : List Finding) → g ≡ least_of f a → h ≡ least_of g b →
-    k ≡ least_of h c → least_of k rest ≡ least_of f (a ++ b ++ c ++ rest)
+pub noted_three : (f g h k : Firsts) (a b c rest : List Finding) → g ≡ found_in f a → h ≡ found_in g b →
+    k ≡ found_in h c → found_in k rest ≡ found_in f (a ++ b ++ c ++ rest)
 noted_three f g h k a b c rest hg hh hk = noted_one f k (a ++ b ++ c) rest (hk ∙ noted_two f g h a b c hg hh)
 
 -- ---- scopes, statement by statement and parameter by parameter

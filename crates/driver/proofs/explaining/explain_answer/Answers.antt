@@ -9,6 +9,7 @@ returns-in-Faulty c =
     (λ answer is. explained (record {
       fault = c.in-Faulty.fault;
       notes = _;
+      further = _;
       tell = rw (← c.deref.ensures.value) at told;
       ended = is.0;
       written = is.1;

@@ -6,6 +6,7 @@ use Rattle.std.proofs.lemmas.Bool.{cases_lt}
 use Rattle.std.proofs.lemmas.List.{take-take, take_all, length-take}
 use Rattle.std.proofs.lemmas.List.Sums.{prefix_len-le-length}
 use Rattle.code.specs.Listing.{line}
+use Rattle.explanation.specs.Further.{nothing_further}
 use Rattle.explanation.specs.Notes.{Note}
 use Rattle.explanation.specs.Remedies.{remedy}
 use Rattle.serde_json.specs.Data.{Data, array, boolean, object, string, member, no_members}
@@ -64,17 +65,19 @@ all_same t u (note ∷ notes) none =
 alike : (file t u : List ℕ) (fault : Fault) (notes : List Note) → fault.start ≡ 0 →
     map (note_data t) notes ≡ map (note_data u) notes →
     position_data t 0 ≡ position_data u 0 → position_data t (end_of t 0) ≡ position_data u (end_of u 0) →
-    fault_json file t fault notes ≡ fault_json file u fault notes
+    fault_json file t fault notes nothing_further ≡ fault_json file u fault notes nothing_further
 alike file t u fault notes first said begin finish =
     let whole = λ (told : List Data) (start last : Data).
     line (compact_text (object (member (codes "accepted") (boolean false)
     (member (codes "code") (string (code_name fault.code))
     (member (codes "end") last
     (member (codes "file") (string file)
+    (member (codes "further") (array (items_of []))
+    (member (codes "more") (boolean false)
     (member (codes "notes") (array (items_of told))
     (member (codes "remedy") (string (remedy fault.code))
     (member (codes "start") start
-    (member (codes "text") (string (code_text fault.code ++ detail_text (string_bytes fault.detail))) no_members)))))))))) in
+    (member (codes "text") (string (code_text fault.code ++ detail_text (string_bytes fault.detail))) no_members)))))))))))) in
     ap (λ (k : ℕ). whole (map (note_data t) notes) (position_data t k) (position_data t (end_of t k))) first
     ∙ ap₂ (whole (map (note_data t) notes)) begin finish
     ∙ ap (λ (told : List Data). whole told (position_data u 0) (position_data u (end_of u 0))) said
@@ -84,7 +87,7 @@ pub returns : goal.returns
 returns c count file text fault notes far first none =
     ⊎_elim
     (λ (few : length text < count).
-    ap (λ (t : List ℕ). fault_json file t fault notes) (take_all count text (omega arith)))
+    ap (λ (t : List ℕ). fault_json file t fault notes nothing_further) (take_all count text (omega arith)))
     (λ (many : count ≤ length text).
     alike file (take count text) text fault notes first (all_same (take count text) text notes none) (same_first count text far many)
     (same_last count text far many))

@@ -1,14 +1,18 @@
+use Rattle.std.proofs.Common.{map, subst, sym}
+use Rattle.explanation.specs.Further.{Further}
+use Rattle.explanation.specs.Notes.{note_of}
 use Rattle.lowering.specs.Working.Compiled.{program_of}
-use Rattle.explanations.specs.Told.{cycle_explained}
+use Rattle.explanations.specs.Told.{IsToldOf, cycle_explained, faulty}
 use Rattle.explanations.proofs.telling.told_of_cycle.Goals as goal
 
 pub returns : goal.returns
-returns c = cycle_explained (record {
-  given = c.requires.first;
-  program = program_of c.args.cyclic.trees;
-  meant = c.requires.program;
-  of_order = c.requires.told;
-  edges = c.args.cyclic.edges.items;
-  cycle = c.requires.cycle;
-  tell = rw (c.program.ensures, c.deref.ensures.value) at c.in_ok-notes.ensures;
-})
+returns c = subst (λ (x : Further). IsToldOf c.args.text.now (faulty c.args.cyclic.fault (map note_of c.in_ok-notes.notes.items) x))
+    (sym c.none.ensures) (cycle_explained (record {
+      given = c.requires.first;
+      program = program_of c.args.cyclic.trees;
+      meant = c.requires.program;
+      of_order = c.requires.told;
+      edges = c.args.cyclic.edges.items;
+      cycle = c.requires.cycle;
+      tell = rw (c.program.ensures, c.deref.ensures.value) at c.in_ok-notes.ensures;
+    }))

@@ -1,6 +1,6 @@
 use Rattle.std.proofs.Common.{◌+◌, drop}
 use Rattle.syntax.specs.Views.{item_of, items_of}
-use Rattle.resolution.specs.Working.Findings.{least_of}
+use Rattle.resolution.specs.Working.Findings.{found_in}
 use Rattle.resolution.specs.Working.FaultLists.{item_faults, items_faults}
 use Rattle.types_symbols.specs.Working.Views.{decls_of}
 use Rattle.types_symbols.specs.Theory.Steps.{step, noted_one}
@@ -15,6 +15,6 @@ note_items-loop-item-preserved t c =
     let ds = decls_of c.args.symbols.now in
     let items = c.args.items.now in
     record {
-      faults = step (λ xs. least_of c.loop-item.least (items_faults ds (items_of xs))) (λ xs. least_of c.note_item.new.least (items_faults ds (items_of xs))) items c.loop-item.item-index c.item-item.result _ c.loop-item-test.true c.item-item.is
-          (noted_one c.loop-item.least c.note_item.new.least (item_faults ds (item_of c.item-item.result)) (items_faults ds (items_of (drop (c.loop-item.item-index + 1) items))) c.note_item.ensures) c.loop-item.invariant.faults;
+      faults = step (λ xs. found_in c.loop-item.firsts (items_faults ds (items_of xs))) (λ xs. found_in c.note_item.new.firsts (items_faults ds (items_of xs))) items c.loop-item.item-index c.item-item.result _ c.loop-item-test.true c.item-item.is
+          (noted_one c.loop-item.firsts c.note_item.new.firsts (item_faults ds (item_of c.item-item.result)) (items_faults ds (items_of (drop (c.loop-item.item-index + 1) items))) c.note_item.ensures) c.loop-item.invariant.faults;
     }

@@ -1,11 +1,11 @@
 use Rattle.std.proofs.Common.{◌≡◌, drop}
 use Rattle.syntax.specs.Views.{items_of}
-use Rattle.resolution.specs.Working.Findings.{least_of}
+use Rattle.resolution.specs.Working.Findings.{found_in}
 use Rattle.resolution.specs.Working.FaultLists.{items_faults}
 use Rattle.types_symbols.specs.Working.Views.{decls_of}
 use Rattle.types_constants.proofs.thread.+faults.Given as goal
 
 abbrev pub invariant-note_items-loop-item : goal.invariant-note_items-loop-item
 invariant-note_items-loop-item l = record {
-  faults : least_of l.least (items_faults (decls_of l.symbols) (items_of (drop l.item-index l.items))) ≡ least_of l.fn.least (items_faults (decls_of l.symbols) (items_of l.items));
+  faults : found_in l.firsts (items_faults (decls_of l.symbols) (items_of (drop l.item-index l.items))) ≡ found_in l.fn.firsts (items_faults (decls_of l.symbols) (items_of l.items));
 }

@@ -1,7 +1,7 @@
 use Rattle.std.proofs.Common.{◌+◌, drop}
 use Rattle.syntax.specs.Views.{expr_of}
 use Rattle.resolution.specs.declared.wanted.Want.TheVariants.{Anything}
-use Rattle.resolution.specs.Working.Findings.{least_of}
+use Rattle.resolution.specs.Working.Findings.{found_in}
 use Rattle.resolution.specs.Working.FaultLists.{wanted_faults}
 use Rattle.types_symbols.specs.Theory.Steps.{step, noted_one}
 use Rattle.types_expressions.specs.Working.Checkers.{scope}
@@ -15,6 +15,6 @@ loop-e-preserved c =
     let i = c.loop-e.e-index in
     let e = c.e-item.result in
     record {
-      faults = step (λ xs. least_of c.loop-e.least (each_blamed sc xs)) (λ xs. least_of c.value.new.least (each_blamed sc xs)) es i e _ c.loop-e-test.true c.e-item.is
-          (noted_one c.loop-e.least c.value.new.least (wanted_faults sc Anything (expr_of e)) (each_blamed sc (drop (i + 1) es)) c.in_ok-value.ensures.faults) c.loop-e.invariant.faults;
+      faults = step (λ xs. found_in c.loop-e.firsts (each_blamed sc xs)) (λ xs. found_in c.value.new.firsts (each_blamed sc xs)) es i e _ c.loop-e-test.true c.e-item.is
+          (noted_one c.loop-e.firsts c.value.new.firsts (wanted_faults sc Anything (expr_of e)) (each_blamed sc (drop (i + 1) es)) c.in_ok-value.ensures.faults) c.loop-e.invariant.faults;
     }

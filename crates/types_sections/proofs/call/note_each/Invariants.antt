@@ -1,10 +1,10 @@
 use Rattle.std.proofs.Common.{◌≡◌, drop}
-use Rattle.resolution.specs.Working.Findings.{least_of}
+use Rattle.resolution.specs.Working.Findings.{found_in}
 use Rattle.types_expressions.specs.Working.Checkers.{scope}
 use Rattle.types_sections.specs.Working.Calls.{each_blamed}
 use Rattle.types_sections.proofs.call.note_each.Given as goal
 
 abbrev pub invariant-loop-e : goal.invariant-loop-e
 invariant-loop-e l = record {
-  faults : least_of l.least (each_blamed (scope l.checker) (drop l.e-index l.arguments)) ≡ least_of l.fn.least (each_blamed (scope l.checker) l.arguments);
+  faults : found_in l.firsts (each_blamed (scope l.checker) (drop l.e-index l.arguments)) ≡ found_in l.fn.firsts (each_blamed (scope l.checker) l.arguments);
 }

@@ -18,5 +18,5 @@ loop-i-preserved c =
     let less = subst (λ n. i < n) c.requires few in
     record {
       value = values_step sc ps es i p e few less c.index-params-i.is c.index-arguments-i.is c.want_of-wanted.result c.want_of-wanted.ensures (values_seen c.loop-i.values) (values_seen c.in_ok-values.values) (option_map core_expr c.in-Ok.value) _ c.in_ok-values.ensures c.in-Ok.ensures.value c.loop-i.invariant.value;
-      faults = values_fault_step sc ps es i p e few less c.index-params-i.is c.index-arguments-i.is c.want_of-wanted.result c.want_of-wanted.ensures c.loop-i.least c.value.new.least _ c.in-Ok.ensures.faults c.loop-i.invariant.faults;
+      faults = values_fault_step sc ps es i p e few less c.index-params-i.is c.index-arguments-i.is c.want_of-wanted.result c.want_of-wanted.ensures c.loop-i.firsts c.value.new.firsts _ c.in-Ok.ensures.faults c.loop-i.invariant.faults;
     }

@@ -9,7 +9,7 @@ use Rattle.resolution.specs.Working.TypedStatements.{prints, returns, block_of, 
 use Rattle.resolution.specs.Statements.{after, after_else, after_all}
 use Rattle.resolution.specs.Working.TypedExpressions.{as_value, fitting, typed}
 use Rattle.resolution.specs.Expressions.{want}
-use Rattle.resolution.specs.Working.Findings.{least_of}
+use Rattle.resolution.specs.Working.Findings.{found_in}
 use Rattle.syntax.specs.Theory.Rows.{while_seen}
 use Rattle.resolution.specs.Working.FaultLists.{stmt_faults, stmts_faults, wanted_faults}
 use Rattle.resolution.specs.Scopes.{left}
@@ -47,7 +47,7 @@ judge_stmt-returns-in-While-clause-value t c =
 pub judge_stmt-returns-in-While-clause-faults : goal.judge_stmt-returns-in-While-clause-faults
 judge_stmt-returns-in-While-clause-faults t c =
     let sc = scope c.args.checker.now in
-    subst (λ (s : Stmt). OnOk c.judge_repetition.result (c.judge_repetition.new.least ≡ least_of c.args.least.now (stmt_faults sc s))) (while_seen c.args.s.now c.in-While.repetition _ c.in-While.is c.deref-in-While.ensures) c.judge_repetition.ensures.faults
+    subst (λ (s : Stmt). OnOk c.judge_repetition.result (c.judge_repetition.new.firsts ≡ found_in c.args.firsts.now (stmt_faults sc s))) (while_seen c.args.s.now c.in-While.repetition _ c.in-While.is c.deref-in-While.ensures) c.judge_repetition.ensures.faults
 
 pub judge_stmt-returns-in-While-clause-scope : goal.judge_stmt-returns-in-While-clause-scope
 judge_stmt-returns-in-While-clause-scope t c =
@@ -62,7 +62,7 @@ judge_stmt-returns-in-If-clause-value t c =
 pub judge_stmt-returns-in-If-clause-faults : goal.judge_stmt-returns-in-If-clause-faults
 judge_stmt-returns-in-If-clause-faults t c =
     let sc = scope c.args.checker.now in
-    subst (λ (s : Stmt). OnOk c.judge_choice.result (c.judge_choice.new.least ≡ least_of c.args.least.now (stmt_faults sc s))) (if_seen c.args.s.now c.in-If.choice _ c.in-If.is c.deref-in-If.ensures) c.judge_choice.ensures.faults
+    subst (λ (s : Stmt). OnOk c.judge_choice.result (c.judge_choice.new.firsts ≡ found_in c.args.firsts.now (stmt_faults sc s))) (if_seen c.args.s.now c.in-If.choice _ c.in-If.is c.deref-in-If.ensures) c.judge_choice.ensures.faults
 
 pub judge_stmt-returns-in-If-clause-scope : goal.judge_stmt-returns-in-If-clause-scope
 judge_stmt-returns-in-If-clause-scope t c =
@@ -106,7 +106,7 @@ pub judge_body-returns-clause-faults : goal.judge_body-returns-clause-faults
 judge_body-returns-clause-faults t c =
     let sc = scope c.loop-s.checker in
     let none : drop c.loop-s.s-index c.args.stmts.now ≡ [] = drop_of_length-le c.args.stmts.now c.loop-s-test.false in
-    ap (λ (ls : List tree.Stmt). least_of c.loop-s.least (stmts_faults sc (stmts_of ls))) (sym none) ∙ c.loop-s.invariant.faults
+    ap (λ (ls : List tree.Stmt). found_in c.loop-s.firsts (stmts_faults sc (stmts_of ls))) (sym none) ∙ c.loop-s.invariant.faults
 
 pub judge_body-returns-clause-scope : goal.judge_body-returns-clause-scope
 judge_body-returns-clause-scope t c =
@@ -120,7 +120,7 @@ judge_stmt-returns-in-Let-clause-value t c =
 
 pub judge_stmt-returns-in-Let-clause-faults : goal.judge_stmt-returns-in-Let-clause-faults
 judge_stmt-returns-in-Let-clause-faults t c =
-    subst (λ (s : Stmt). OnOk c.judge_local.result (c.judge_local.new.least ≡ least_of c.args.least.now (stmt_faults (scope c.args.checker.now) s))) (let_seen c.args.s.now c.in-Let.local _ c.in-Let.is c.deref.ensures) c.judge_local.ensures.faults
+    subst (λ (s : Stmt). OnOk c.judge_local.result (c.judge_local.new.firsts ≡ found_in c.args.firsts.now (stmt_faults (scope c.args.checker.now) s))) (let_seen c.args.s.now c.in-Let.local _ c.in-Let.is c.deref.ensures) c.judge_local.ensures.faults
 
 pub judge_stmt-returns-in-Let-clause-scope : goal.judge_stmt-returns-in-Let-clause-scope
 judge_stmt-returns-in-Let-clause-scope t c =
@@ -132,7 +132,7 @@ judge_stmt-returns-in-Var-clause-value t c =
 
 pub judge_stmt-returns-in-Var-clause-faults : goal.judge_stmt-returns-in-Var-clause-faults
 judge_stmt-returns-in-Var-clause-faults t c =
-    subst (λ (s : Stmt). OnOk c.judge_local-in-Var.result (c.judge_local-in-Var.new.least ≡ least_of c.args.least.now (stmt_faults (scope c.args.checker.now) s))) (var_seen c.args.s.now c.in-Var.local _ c.in-Var.is c.deref-in-Var.ensures) c.judge_local-in-Var.ensures.faults
+    subst (λ (s : Stmt). OnOk c.judge_local-in-Var.result (c.judge_local-in-Var.new.firsts ≡ found_in c.args.firsts.now (stmt_faults (scope c.args.checker.now) s))) (var_seen c.args.s.now c.in-Var.local _ c.in-Var.is c.deref-in-Var.ensures) c.judge_local-in-Var.ensures.faults
 
 pub judge_stmt-returns-in-Var-clause-scope : goal.judge_stmt-returns-in-Var-clause-scope
 judge_stmt-returns-in-Var-clause-scope t c =
@@ -144,7 +144,7 @@ judge_stmt-returns-in-Assign-clause-value t c =
 
 pub judge_stmt-returns-in-Assign-clause-faults : goal.judge_stmt-returns-in-Assign-clause-faults
 judge_stmt-returns-in-Assign-clause-faults t c =
-    subst (λ (s : Stmt). OnOk c.judge_assignment.result (c.judge_assignment.new.least ≡ least_of c.args.least.now (stmt_faults (scope c.args.checker.now) s))) (sym (ap stmt_of c.in-Assign.is)) c.judge_assignment.ensures.faults
+    subst (λ (s : Stmt). OnOk c.judge_assignment.result (c.judge_assignment.new.firsts ≡ found_in c.args.firsts.now (stmt_faults (scope c.args.checker.now) s))) (sym (ap stmt_of c.in-Assign.is)) c.judge_assignment.ensures.faults
 
 pub judge_stmt-returns-in-Assign-clause-scope : goal.judge_stmt-returns-in-Assign-clause-scope
 judge_stmt-returns-in-Assign-clause-scope t c = on_ok c.judge_assignment.result (sym (ap (λ s. after (scope c.args.checker.now) (stmt_of s)) c.in-Assign.is))
@@ -155,7 +155,7 @@ judge_stmt-returns-in_ok-value-in-Print-clause-value t c =
 
 pub judge_stmt-returns-in_ok-value-in-Print-clause-faults : goal.judge_stmt-returns-in_ok-value-in-Print-clause-faults
 judge_stmt-returns-in_ok-value-in-Print-clause-faults t c =
-    c.in_ok-value-in-Print.ensures.faults ∙ sym (ap (λ s. least_of c.args.least.now (stmt_faults (scope c.args.checker.now) (stmt_of s))) c.in-Print.is)
+    c.in_ok-value-in-Print.ensures.faults ∙ sym (ap (λ s. found_in c.args.firsts.now (stmt_faults (scope c.args.checker.now) (stmt_of s))) c.in-Print.is)
 
 pub judge_stmt-returns-in_ok-value-in-Print-clause-scope : goal.judge_stmt-returns-in_ok-value-in-Print-clause-scope
 judge_stmt-returns-in_ok-value-in-Print-clause-scope t c = sym (ap (λ s. after (scope c.args.checker.now) (stmt_of s)) c.in-Print.is)
@@ -171,8 +171,8 @@ pub judge_stmt-returns-in_ok-value-in-Return-clause-faults : goal.judge_stmt-ret
 judge_stmt-returns-in_ok-value-in-Return-clause-faults t c =
     let sc = scope c.args.checker.now in
     c.in_ok-value-in-Return.ensures.faults
-    ∙ ap (λ w. least_of c.args.least.now (wanted_faults sc w (expr_of c.in-Return.e))) (c.want.ensures ∙ ap want c.result.ensures)
-    ∙ sym (ap (λ s. least_of c.args.least.now (stmt_faults sc (stmt_of s))) c.in-Return.is)
+    ∙ ap (λ w. found_in c.args.firsts.now (wanted_faults sc w (expr_of c.in-Return.e))) (c.want.ensures ∙ ap want c.result.ensures)
+    ∙ sym (ap (λ s. found_in c.args.firsts.now (stmt_faults sc (stmt_of s))) c.in-Return.is)
 
 pub judge_stmt-returns-in_ok-value-in-Return-clause-scope : goal.judge_stmt-returns-in_ok-value-in-Return-clause-scope
 judge_stmt-returns-in_ok-value-in-Return-clause-scope t c = sym (ap (λ s. after (scope c.args.checker.now) (stmt_of s)) c.in-Return.is)

@@ -3,7 +3,7 @@ use Rattle.std.specs.Prelude.{option_map}
 use Rattle.syntax.specs.Views.{stmts_of}
 use Rattle.resolution.specs.Working.TypedStatements.{typed_body}
 use Rattle.resolution.specs.Statements.{after_all}
-use Rattle.resolution.specs.Working.Findings.{least_of}
+use Rattle.resolution.specs.Working.Findings.{found_in}
 use Rattle.resolution.specs.Working.FaultLists.{stmts_faults}
 use Rattle.types_expressions.specs.Working.Checkers.{scope}
 use Rattle.types_sections.specs.Working.Targets.{row_of}
@@ -13,6 +13,6 @@ use Rattle.types_sections.proofs.stmt.+stmts.Given as goal
 abbrev pub invariant-judge_body-loop-s : goal.invariant-judge_body-loop-s
 invariant-judge_body-loop-s l = record {
   value : body_joined (option_map row_of l.body) (typed_body (scope l.checker) (stmts_of (drop l.s-index l.stmts))) ≡ typed_body (scope l.fn.checker) (stmts_of l.stmts);
-  faults : least_of l.least (stmts_faults (scope l.checker) (stmts_of (drop l.s-index l.stmts))) ≡ least_of l.fn.least (stmts_faults (scope l.fn.checker) (stmts_of l.stmts));
+  faults : found_in l.firsts (stmts_faults (scope l.checker) (stmts_of (drop l.s-index l.stmts))) ≡ found_in l.fn.firsts (stmts_faults (scope l.fn.checker) (stmts_of l.stmts));
   scope : after_all (scope l.checker) (stmts_of (drop l.s-index l.stmts)) ≡ after_all (scope l.fn.checker) (stmts_of l.stmts);
 }

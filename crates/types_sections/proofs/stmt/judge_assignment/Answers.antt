@@ -6,7 +6,7 @@ use Rattle.resolution.specs.Working.TypedExpressions.{as_value, fitting, typed}
 use Rattle.resolution.specs.CoreViews.{core_expr}
 use Rattle.resolution.specs.Working.TypedStatements.{assigns, target_of, wanted_by}
 use Rattle.resolution.specs.Statements.{first_name}
-use Rattle.resolution.specs.Working.Findings.{least_of}
+use Rattle.resolution.specs.Working.Findings.{found_in}
 use Rattle.resolution.specs.Working.FaultLists.{target_faults, wanted_faults}
 use Rattle.types_expressions.specs.Working.Checkers.{scope}
 use Rattle.types_sections.specs.Working.Targets.{assignee_of}
@@ -18,9 +18,9 @@ returns-clause-faults c =
     let sc = scope c.args.checker.now in
     let p = place_of c.args.p.now in
     let e = expr_of c.args.e.now in
-    let g = c.judge_target.new.least in
-    c.in-Ok.ensures.faults ∙ ap (λ w. least_of g (wanted_faults sc w e)) (c.wanted_by.ensures ∙ ap wanted_by c.in_ok-assignee.ensures.value)
-    ∙ noted_one c.args.least.now g (target_faults sc p) (wanted_faults sc (wanted_by (target_of sc p)) e) c.in_ok-assignee.ensures.faults
+    let g = c.judge_target.new.firsts in
+    c.in-Ok.ensures.faults ∙ ap (λ w. found_in g (wanted_faults sc w e)) (c.wanted_by.ensures ∙ ap wanted_by c.in_ok-assignee.ensures.value)
+    ∙ noted_one c.args.firsts.now g (target_faults sc p) (wanted_faults sc (wanted_by (target_of sc p)) e) c.in_ok-assignee.ensures.faults
 
 pub returns-clause-value : goal.returns-clause-value
 returns-clause-value c =

@@ -2,7 +2,7 @@ use Rattle.std.proofs.Common.{◌≡◌, ap, sym, subst, ◌∙◌}
 use Rattle.std.specs.Prelude.{IfOk, OnOk, option_map}
 use Rattle.syntax.specs.Views.{ident, element_of, path_of, place_of}
 use Rattle.resolution.specs.Working.TypedStatements.{assignee_at, target_of}
-use Rattle.resolution.specs.Working.Findings.{least_of}
+use Rattle.resolution.specs.Working.Findings.{found_in}
 use Rattle.resolution.specs.Working.FaultLists.{no_target, target_faults}
 use Rattle.types_expressions.specs.Working.Checkers.{scope}
 use Rattle.types_sections.specs.Working.Targets.{assignee_of}
@@ -16,8 +16,8 @@ returns-in-Name-clause-value c =
 pub returns-in-Name-clause-faults : goal.returns-in-Name-clause-faults
 returns-in-Name-clause-faults c =
     let sc = scope c.args.checker.now in
-    c.assignee_at.ensures.faults ∙ ap (λ m. least_of c.args.least.now (no_target sc.decls (ident c.in-Name.name).span.start m)) c.meaning.ensures
-    ∙ sym (ap (λ p. least_of c.args.least.now (target_faults sc (place_of p))) c.in-Name.is)
+    c.assignee_at.ensures.faults ∙ ap (λ m. found_in c.args.firsts.now (no_target sc.decls (ident c.in-Name.name).span.start m)) c.meaning.ensures
+    ∙ sym (ap (λ p. found_in c.args.firsts.now (target_faults sc (place_of p))) c.in-Name.is)
 
 pub returns-in-Element-clause-value : goal.returns-in-Element-clause-value
 returns-in-Element-clause-value c =
@@ -25,7 +25,7 @@ returns-in-Element-clause-value c =
 
 pub returns-in-Element-clause-faults : goal.returns-in-Element-clause-faults
 returns-in-Element-clause-faults c =
-    subst (λ p. OnOk c.element_target.result (c.element_target.new.least ≡ least_of c.args.least.now (target_faults (scope c.args.checker.now) p))) (ap element_of c.deref.ensures ∙ sym (ap place_of c.in-Element.is)) c.element_target.ensures.faults
+    subst (λ p. OnOk c.element_target.result (c.element_target.new.firsts ≡ found_in c.args.firsts.now (target_faults (scope c.args.checker.now) p))) (ap element_of c.deref.ensures ∙ sym (ap place_of c.in-Element.is)) c.element_target.ensures.faults
 
 pub returns-in-Path-clause-value : goal.returns-in-Path-clause-value
 returns-in-Path-clause-value c =
@@ -33,4 +33,4 @@ returns-in-Path-clause-value c =
 
 pub returns-in-Path-clause-faults : goal.returns-in-Path-clause-faults
 returns-in-Path-clause-faults c =
-    subst (λ p. OnOk c.path_target.result (c.path_target.new.least ≡ least_of c.args.least.now (target_faults (scope c.args.checker.now) p))) (ap path_of c.deref-in-Path.ensures ∙ sym (ap place_of c.in-Path.is)) c.path_target.ensures.faults
+    subst (λ p. OnOk c.path_target.result (c.path_target.new.firsts ≡ found_in c.args.firsts.now (target_faults (scope c.args.checker.now) p))) (ap path_of c.deref-in-Path.ensures ∙ sym (ap place_of c.in-Path.is)) c.path_target.ensures.faults

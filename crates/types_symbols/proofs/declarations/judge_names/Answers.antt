@@ -5,7 +5,7 @@ use Rattle.syntax.specs.declared.tree.Decl as rust
 use Rattle.syntax.specs.Trees.{Decl}
 use Rattle.syntax.specs.Views.{decl_of}
 use Rattle.resolution.specs.Scopes.{alike, count, bears, declared}
-use Rattle.resolution.specs.Working.Findings.{least_of}
+use Rattle.resolution.specs.Working.Findings.{found_in}
 use Rattle.resolution.specs.Working.FaultLists.{twice, twice_faults}
 use Rattle.types_symbols.specs.declared.declarations.Counts.{Counts}
 use Rattle.types_symbols.specs.Working.Found.{IsTableOf, AreAhead}
@@ -46,10 +46,10 @@ loop-place-preserved c =
           (ahead_more F ds d c.loop-place.ahead.items c.loop-place.counts c.count.new.self (c.loop-place.invariant.len ∙ taken_length decl_of decls i lt) new c.loop-place.invariant.counts));
       so_far = new ∙ ap F (sym more);
       len = grind (arith, common_steps);
-      faults = step (λ xs. least_of c.loop-place.least (twice_faults ds (decls_of xs))) (λ xs. least_of c.note_twice.new.least (twice_faults (decls_of (take (i + 1) decls)) (decls_of xs))) decls i x _ lt is
-          (ap (λ (es : List Decl). least_of c.note_twice.new.least (twice_faults es (decls_of (drop (i + 1) decls)))) more
-          ∙ noted_one c.loop-place.least c.note_twice.new.least (twice ds (declared d)) (twice_faults (ds ++ d ∷ []) (decls_of (drop (i + 1) decls)))
-          (c.note_twice.ensures ∙ ap (least_of c.loop-place.least) (twice_is (name_seen c.name_in-name.result) ds d c.loop-place.names c.name_in-name.ensures c.loop-place.invariant.table)))
+      faults = step (λ xs. found_in c.loop-place.firsts (twice_faults ds (decls_of xs))) (λ xs. found_in c.note_twice.new.firsts (twice_faults (decls_of (take (i + 1) decls)) (decls_of xs))) decls i x _ lt is
+          (ap (λ (es : List Decl). found_in c.note_twice.new.firsts (twice_faults es (decls_of (drop (i + 1) decls)))) more
+          ∙ noted_one c.loop-place.firsts c.note_twice.new.firsts (twice ds (declared d)) (twice_faults (ds ++ d ∷ []) (decls_of (drop (i + 1) decls)))
+          (c.note_twice.ensures ∙ ap (found_in c.loop-place.firsts) (twice_is (name_seen c.name_in-name.result) ds d c.loop-place.names c.name_in-name.ensures c.loop-place.invariant.table)))
           c.loop-place.invariant.faults;
     }
 
@@ -71,5 +71,5 @@ returns c =
     record {
       names = subst (λ (xs : List rust.Decl). IsTableOf bears (decls_of xs) c.loop-place.names) all c.loop-place.invariant.table;
       counts = subst (λ (xs : List rust.Decl). AreAhead (counts_from no_counts) (decls_of xs) c.loop-place.ahead.items c.loop-place.counts) all c.loop-place.invariant.counts;
-      faults = ap (λ (xs : List rust.Decl). least_of c.loop-place.least (twice_faults (decls_of (take i decls)) (decls_of xs))) (sym none) ∙ c.loop-place.invariant.faults;
+      faults = ap (λ (xs : List rust.Decl). found_in c.loop-place.firsts (twice_faults (decls_of (take i decls)) (decls_of xs))) (sym none) ∙ c.loop-place.invariant.faults;
     }

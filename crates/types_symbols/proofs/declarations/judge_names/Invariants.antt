@@ -1,6 +1,6 @@
 use Rattle.std.proofs.Common.{◌≡◌, [], take, drop, length}
 use Rattle.resolution.specs.Scopes.{bears}
-use Rattle.resolution.specs.Working.Findings.{least_of}
+use Rattle.resolution.specs.Working.Findings.{found_in}
 use Rattle.resolution.specs.Working.FaultLists.{twice_faults}
 use Rattle.types_symbols.specs.Working.Found.{IsTableOf, AreAhead}
 use Rattle.types_symbols.specs.Working.Counted.{counts_from, no_counts}
@@ -13,5 +13,5 @@ invariant-loop-place l = record {
   counts : AreAhead (counts_from no_counts) (decls_of (take l.place l.decls)) l.ahead.items l.counts;
   so_far : l.counts ≡ counts_from no_counts (decls_of (take l.place l.decls));
   len : length l.ahead.items ≡ l.place;
-  faults : least_of l.least (twice_faults (decls_of (take l.place l.decls)) (decls_of (drop l.place l.decls))) ≡ least_of l.fn.least (twice_faults [] (decls_of l.decls));
+  faults : found_in l.firsts (twice_faults (decls_of (take l.place l.decls)) (decls_of (drop l.place l.decls))) ≡ found_in l.fn.firsts (twice_faults [] (decls_of l.decls));
 }

@@ -10,5 +10,5 @@ returns c = record {
 pub returns-in_default : goal.returns-in_default
 returns-in_default c = record {
   structs = none_added c.args.d.now c.args.structs.now.items c.in_default.not-Struct;
-  faults = none_blamed c.args.d.now c.args.least.now c.in_default.not-Struct;
+  faults = none_blamed c.args.d.now c.args.firsts.now c.in_default.not-Struct;
 }

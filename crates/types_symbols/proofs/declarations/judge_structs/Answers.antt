@@ -4,7 +4,7 @@ use Rattle.std.specs.Prelude.{map}
 use Rattle.syntax.specs.declared.tree.Decl as rust
 use Rattle.syntax.specs.Trees.{Decl}
 use Rattle.syntax.specs.Views.{decl_of, struct_of}
-use Rattle.resolution.specs.Working.Findings.{least_of}
+use Rattle.resolution.specs.Working.Findings.{found_in}
 use Rattle.resolution.specs.Working.FaultLists.{struct_faults}
 use Rattle.types_symbols.specs.Working.Views.{decls_of, AreStructures}
 use Rattle.types_symbols.proofs.Declared.{take-here}
@@ -22,12 +22,12 @@ loop-d-preserved c =
     let is = c.d-item.is in
     let ds = decls_of (take i decls) in
     let rest = decls_of (drop (i + 1) decls) in
-    let g = c.judge_struct.new.least in
+    let g = c.judge_struct.new.firsts in
     record {
       structs = subst (λ (es : List Decl). AreStructures es c.judge_struct.new.structs.items) (sym (take-here decl_of decls i x lt is))
           (structures_more ds d c.loop-d.structs.items c.judge_struct.new.structs.items c.in_ok-judge_struct.ensures.structs c.loop-d.invariant.structs);
-      faults = step (λ xs. least_of c.loop-d.least (struct_faults (decls_of xs))) (λ xs. least_of g (struct_faults (decls_of xs))) decls i x _ lt is
-          (noted_one c.loop-d.least g (struct_faults (d ∷ [])) (struct_faults rest) c.in_ok-judge_struct.ensures.faults ∙ ap (least_of c.loop-d.least) (faults_more d rest))
+      faults = step (λ xs. found_in c.loop-d.firsts (struct_faults (decls_of xs))) (λ xs. found_in g (struct_faults (decls_of xs))) decls i x _ lt is
+          (noted_one c.loop-d.firsts g (struct_faults (d ∷ [])) (struct_faults rest) c.in_ok-judge_struct.ensures.faults ∙ ap (found_in c.loop-d.firsts) (faults_more d rest))
           c.loop-d.invariant.faults;
     }
 
@@ -45,5 +45,5 @@ returns c =
     let none : drop i decls ≡ [] = drop_all i decls c.loop-d-test.false in
     record {
       structs = subst (λ (xs : List rust.Decl). AreStructures (decls_of xs) c.loop-d.structs.items) all c.loop-d.invariant.structs;
-      faults = ap (λ (xs : List rust.Decl). least_of c.loop-d.least (struct_faults (decls_of xs))) (sym none) ∙ c.loop-d.invariant.faults;
+      faults = ap (λ (xs : List rust.Decl). found_in c.loop-d.firsts (struct_faults (decls_of xs))) (sym none) ∙ c.loop-d.invariant.faults;
     }

@@ -3,7 +3,7 @@ use Rattle.std.proofs.lemmas.List.{take_all, drop_all}
 use Rattle.syntax.specs.declared.tree.Decl as rust
 use Rattle.syntax.specs.Trees.{Decl}
 use Rattle.syntax.specs.Views.{decl_of}
-use Rattle.resolution.specs.Working.Findings.{least_of}
+use Rattle.resolution.specs.Working.Findings.{found_in}
 use Rattle.resolution.specs.Working.FaultLists.{repeated, repeated_faults}
 use Rattle.types_symbols.specs.Working.Given.{IsInitTargetTable}
 use Rattle.types_symbols.specs.Working.Views.{decls_of}
@@ -26,10 +26,10 @@ loop-place-preserved c =
     record {
       table = subst (λ (es : List Decl). IsInitTargetTable all es c.judge_decl.new.first_inits) (sym more)
           (init_targets_more all ds d i c.loop-place.first_inits c.judge_decl.new.first_inits (taken_length decl_of items i lt) c.loop-place.invariant.table c.in-Ok.ensures.first_inits);
-      faults = step (λ xs. least_of c.loop-place.least (repeated_faults all ds (decls_of xs))) (λ xs. least_of c.judge_decl.new.least (repeated_faults all (decls_of (take (i + 1) items)) (decls_of xs))) items i x _ lt is
-          (ap (λ (es : List Decl). least_of c.judge_decl.new.least (repeated_faults all es (decls_of (drop (i + 1) items)))) more
-          ∙ noted_one c.loop-place.least c.judge_decl.new.least (repeated all ds d) (repeated_faults all (ds ++ d ∷ []) (decls_of (drop (i + 1) items)))
-          (c.in-Ok.ensures.faults ∙ ap (least_of c.loop-place.least) (repeated_is all ds c.loop-place.first_inits d c.loop-place.invariant.table)))
+      faults = step (λ xs. found_in c.loop-place.firsts (repeated_faults all ds (decls_of xs))) (λ xs. found_in c.judge_decl.new.firsts (repeated_faults all (decls_of (take (i + 1) items)) (decls_of xs))) items i x _ lt is
+          (ap (λ (es : List Decl). found_in c.judge_decl.new.firsts (repeated_faults all es (decls_of (drop (i + 1) items)))) more
+          ∙ noted_one c.loop-place.firsts c.judge_decl.new.firsts (repeated all ds d) (repeated_faults all (ds ++ d ∷ []) (decls_of (drop (i + 1) items)))
+          (c.in-Ok.ensures.faults ∙ ap (found_in c.loop-place.firsts) (repeated_is all ds c.loop-place.first_inits d c.loop-place.invariant.table)))
           c.loop-place.invariant.faults;
     }
 
@@ -38,7 +38,7 @@ loop-place-init c =
     let all = decls_of c.args.decls.now in
     record {
       table = c.new-first_inits.ensures;
-      faults = ap (λ (xs : List rust.Decl). least_of c.args.least.now (repeated_faults all [] (decls_of xs))) c.items-items.ensures;
+      faults = ap (λ (xs : List rust.Decl). found_in c.args.firsts.now (repeated_faults all [] (decls_of xs))) c.items-items.ensures;
     }
 
 pub returns : goal.returns
@@ -50,5 +50,5 @@ returns c =
     let none : drop i items ≡ [] = drop_all i items c.loop-place-test.false in
     record {
       first_inits = subst (λ (xs : List rust.Decl). IsInitTargetTable all (decls_of xs) c.loop-place.first_inits) taken c.loop-place.invariant.table;
-      faults = ap (λ (xs : List rust.Decl). least_of c.loop-place.least (repeated_faults all (decls_of (take i items)) (decls_of xs))) (sym none) ∙ c.loop-place.invariant.faults;
+      faults = ap (λ (xs : List rust.Decl). found_in c.loop-place.firsts (repeated_faults all (decls_of (take i items)) (decls_of xs))) (sym none) ∙ c.loop-place.invariant.faults;
     }

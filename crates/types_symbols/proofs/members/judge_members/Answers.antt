@@ -10,7 +10,7 @@ use Rattle.syntax.specs.Trees.{Ident, Member}
 use Rattle.syntax.specs.Views.{member_of, ident}
 use Rattle.resolution.specs.Scopes.{members_alike, count, member_bears, member_name, place_of}
 use Rattle.resolution.specs.Numbers.{fields_from, new_field}
-use Rattle.resolution.specs.Working.Findings.{least_of}
+use Rattle.resolution.specs.Working.Findings.{found_in}
 use Rattle.resolution.specs.Working.FaultLists.{one_if, again, member_twice_faults}
 use Rattle.source.specs.declared.fault.Code.TheVariants.{DeclaredTwice}
 use Rattle.types_symbols.specs.declared.members.MemberCounts.{MemberCounts}
@@ -66,10 +66,10 @@ loop-place-preserved c =
       width = step (λ xs. c.loop-place.width + fields_from ms (map member_of xs)) (λ xs. (c.loop-place.width + c.fields_with-width.result) + fields_from (map member_of (take (i + 1) items)) (map member_of xs)) items i x _ lt is
           (ap (λ (es : List Member). (c.loop-place.width + c.fields_with-width.result) + fields_from es rest) more ∙ omega (arith, field)) c.loop-place.invariant.width;
       few = let le = c.loop-place.invariant.few in omega (arith, le, little);
-      faults = step (λ xs. least_of c.loop-place.least (member_twice_faults ms (map member_of xs))) (λ xs. least_of c.note_again.new.least (member_twice_faults (map member_of (take (i + 1) items)) (map member_of xs))) items i x _ lt is
-          (ap (λ (es : List Member). least_of c.note_again.new.least (member_twice_faults es rest)) more
-          ∙ noted_one c.loop-place.least c.note_again.new.least (again (member_name m).span.start o) (member_twice_faults (ms ++ m ∷ []) rest)
-          (c.note_again.ensures ∙ ap (λ (n : Ident). least_of c.loop-place.least (one_if (not b) DeclaredTwice n.span.start)) named ∙ ap (least_of c.loop-place.least) (again_if b o (member_name m).span.start first)))
+      faults = step (λ xs. found_in c.loop-place.firsts (member_twice_faults ms (map member_of xs))) (λ xs. found_in c.note_again.new.firsts (member_twice_faults (map member_of (take (i + 1) items)) (map member_of xs))) items i x _ lt is
+          (ap (λ (es : List Member). found_in c.note_again.new.firsts (member_twice_faults es rest)) more
+          ∙ noted_one c.loop-place.firsts c.note_again.new.firsts (again (member_name m).span.start o) (member_twice_faults (ms ++ m ∷ []) rest)
+          (c.note_again.ensures ∙ ap (λ (n : Ident). found_in c.loop-place.firsts (one_if (not b) DeclaredTwice n.span.start)) named ∙ ap (found_in c.loop-place.firsts) (again_if b o (member_name m).span.start first)))
           c.loop-place.invariant.faults;
     }
 
@@ -95,5 +95,5 @@ returns c =
       counts = subst (λ (xs : List rust.Member). AreAhead (member_counts_from no_members) (map member_of xs) c.loop-place.ahead.items c.loop-place.counts) all c.loop-place.invariant.counts;
       width =
           sym (ap (λ (xs : List rust.Member). c.loop-place.width + fields_from (map member_of (take i items)) (map member_of xs)) none ∙ omega arith) ∙ c.loop-place.invariant.width;
-      faults = ap (λ (xs : List rust.Member). least_of c.loop-place.least (member_twice_faults (map member_of (take i items)) (map member_of xs))) (sym none) ∙ c.loop-place.invariant.faults;
+      faults = ap (λ (xs : List rust.Member). found_in c.loop-place.firsts (member_twice_faults (map member_of (take i items)) (map member_of xs))) (sym none) ∙ c.loop-place.invariant.faults;
     }

@@ -3,7 +3,7 @@ use Rattle.std.specs.Prelude.{map}
 use Rattle.syntax.specs.Views.{member_of}
 use Rattle.resolution.specs.Scopes.{member_bears}
 use Rattle.resolution.specs.Numbers.{fields_from}
-use Rattle.resolution.specs.Working.Findings.{least_of}
+use Rattle.resolution.specs.Working.Findings.{found_in}
 use Rattle.resolution.specs.Working.FaultLists.{member_twice_faults}
 use Rattle.types_symbols.specs.Working.Found.{IsTableOf, AreAhead}
 use Rattle.types_symbols.specs.Working.Counted.{member_counts_from, no_members}
@@ -17,5 +17,5 @@ invariant-loop-place l = record {
   len : length l.ahead.items ≡ l.place;
   width : l.width + fields_from (map member_of (take l.place l.members)) (map member_of (drop l.place l.members)) ≡ fields_from [] (map member_of l.members);
   few : l.width ≤ l.place;
-  faults : least_of l.least (member_twice_faults (map member_of (take l.place l.members)) (map member_of (drop l.place l.members))) ≡ least_of l.fn.least (member_twice_faults [] (map member_of l.members));
+  faults : found_in l.firsts (member_twice_faults (map member_of (take l.place l.members)) (map member_of (drop l.place l.members))) ≡ found_in l.fn.firsts (member_twice_faults [] (map member_of l.members));
 }

@@ -5,7 +5,7 @@ use Rattle.syntax.specs.declared.tree.Decl as rust
 use Rattle.syntax.specs.Trees.{Decl}
 use Rattle.syntax.specs.Views.{decl_of}
 use Rattle.types_symbols.specs.Working.Counted.{limited}
-use Rattle.resolution.specs.Working.Findings.{least_of}
+use Rattle.resolution.specs.Working.Findings.{found_in}
 use Rattle.resolution.specs.Working.FaultLists.{count_faults, total_faults}
 use Rattle.types_symbols.specs.declared.totals.Totals.{Totals}
 use Rattle.types_symbols.specs.Working.Found.{AreAhead}
@@ -32,20 +32,20 @@ loop-place-preserved c =
     let F = totals_of all in
     let new : c.with-totals.result ≡ F (ds ++ d ∷ []) = c.with-totals.ensures.sum ∙ ap (λ (t : Totals). both_totals t c.of-own.result) c.loop-place.invariant.so_far ∙ ap (both_totals (F ds)) c.of-own.ensures ∙ totals_push all ds d in
     let number : c.limited.result ≡ limited ds d = c.limited.ensures ∙ ap (λ (xs : List rust.Decl). limited (take i (decls_of xs)) d) (sym c.items-items.ensures) ∙ ap (λ (es : List Decl). limited es d) (take_map decl_of i items) in
-    let noted : c.note_decl.new.least ≡ least_of c.loop-place.least (count_faults all ds d) =
-    c.note_decl.ensures ∙ ap (λ (n : ℕ). least_of c.loop-place.least (faults_by n c.loop-place.totals c.of-own.result d)) number
-    ∙ ap (λ (t : Totals). least_of c.loop-place.least (faults_by (limited ds d) t c.of-own.result d)) c.loop-place.invariant.so_far
-    ∙ ap (λ (t : Totals). least_of c.loop-place.least (faults_by (limited ds d) (F ds) t d)) c.of-own.ensures
-    ∙ ap (least_of c.loop-place.least) (faults_are all ds d) in
+    let noted : c.note_decl.new.firsts ≡ found_in c.loop-place.firsts (count_faults all ds d) =
+    c.note_decl.ensures ∙ ap (λ (n : ℕ). found_in c.loop-place.firsts (faults_by n c.loop-place.totals c.of-own.result d)) number
+    ∙ ap (λ (t : Totals). found_in c.loop-place.firsts (faults_by (limited ds d) t c.of-own.result d)) c.loop-place.invariant.so_far
+    ∙ ap (λ (t : Totals). found_in c.loop-place.firsts (faults_by (limited ds d) (F ds) t d)) c.of-own.ensures
+    ∙ ap (found_in c.loop-place.firsts) (faults_are all ds d) in
     record {
       counts = subst (λ (es : List Decl). AreAhead F es c.push.new.self.items c.with-totals.result) (sym more)
           (subst (λ (cs : List Totals). AreAhead F (ds ++ d ∷ []) cs c.with-totals.result) (sym c.in-Ok.ensures.items)
           (ahead_more F ds d c.loop-place.ahead.items c.loop-place.totals c.with-totals.result (c.loop-place.invariant.len ∙ taken_length decl_of items i lt) new c.loop-place.invariant.counts));
       so_far = new ∙ ap F (sym more);
       len = grind (arith, common_steps);
-      faults = step (λ xs. least_of c.loop-place.least (total_faults all ds (decls_of xs))) (λ xs. least_of c.note_decl.new.least (total_faults all (decls_of (take (i + 1) items)) (decls_of xs))) items i x _ lt is
-          (ap (λ (es : List Decl). least_of c.note_decl.new.least (total_faults all es (decls_of (drop (i + 1) items)))) more
-          ∙ noted_one c.loop-place.least c.note_decl.new.least (count_faults all ds d) (total_faults all (ds ++ d ∷ []) (decls_of (drop (i + 1) items))) noted)
+      faults = step (λ xs. found_in c.loop-place.firsts (total_faults all ds (decls_of xs))) (λ xs. found_in c.note_decl.new.firsts (total_faults all (decls_of (take (i + 1) items)) (decls_of xs))) items i x _ lt is
+          (ap (λ (es : List Decl). found_in c.note_decl.new.firsts (total_faults all es (decls_of (drop (i + 1) items)))) more
+          ∙ noted_one c.loop-place.firsts c.note_decl.new.firsts (count_faults all ds d) (total_faults all (ds ++ d ∷ []) (decls_of (drop (i + 1) items))) noted)
           c.loop-place.invariant.faults;
     }
 
@@ -56,7 +56,7 @@ loop-place-init c =
       counts = ahead_none (totals_of all) c.new-ahead.result.items c.new-totals.result c.new-ahead.ensures.items c.new-totals.ensures;
       so_far = c.new-totals.ensures;
       len = ap length c.new-ahead.ensures.items;
-      faults = ap (λ (xs : List rust.Decl). least_of c.args.least.now (total_faults all [] (decls_of xs))) c.items-items.ensures;
+      faults = ap (λ (xs : List rust.Decl). found_in c.args.firsts.now (total_faults all [] (decls_of xs))) c.items-items.ensures;
     }
 
 pub returns : goal.returns
@@ -68,7 +68,7 @@ returns c =
     let none : drop i items ≡ [] = drop_all i items c.loop-place-test.false in
     record {
       totals = subst (λ (xs : List rust.Decl). AreAhead (totals_of all) (decls_of xs) c.loop-place.ahead.items c.loop-place.totals) taken c.loop-place.invariant.counts;
-      faults = ap (λ (xs : List rust.Decl). least_of c.loop-place.least (total_faults all (decls_of (take i items)) (decls_of xs))) (sym none) ∙ c.loop-place.invariant.faults;
+      faults = ap (λ (xs : List rust.Decl). found_in c.loop-place.firsts (total_faults all (decls_of (take i items)) (decls_of xs))) (sym none) ∙ c.loop-place.invariant.faults;
     }
 
 pub note_decl-requires-clause-ahead : goal.note_decl-requires-clause-ahead

@@ -2,7 +2,7 @@ use Rattle.std.proofs.Common.{◌≡◌, ap, sym, ◌∙◌, subst, OnOk}
 use Rattle.std.specs.Prelude.{option_map}
 use Rattle.syntax.specs.Trees.{Decl, struct}
 use Rattle.syntax.specs.Views.{struct_of, decl_of}
-use Rattle.resolution.specs.Working.Findings.{least_of}
+use Rattle.resolution.specs.Working.Findings.{found_in}
 use Rattle.core_lang.specs.Theory.Items.{some_same}
 use Rattle.resolution.specs.Working.FaultLists.{decl_faults}
 use Rattle.types_symbols.specs.Working.Views.{decls_of}
@@ -27,5 +27,5 @@ pub returns-in-Some-clause-faults : goal.returns-in-Some-clause-faults
 returns-in-Some-clause-faults c =
     let same : struct_of c.in-Some.table.now ≡ struct_of c.in-Struct.field-0 =
     some_same _ _ (sym (ap (option_map (λ s. struct_of s.now)) c.in-Some.is) ∙ at_place (decls_of c.args.self.now.builder.symbols.now) c.args.place c.number.result c.args.d.now c.in-Struct.field-0 _ c.requires c.in-Struct.is c.number.ensures c.structure.ensures) in
-    let P : Decl → Type 0 = λ d. OnOk c.judge_struct.result (c.judge_struct.new.least ≡ least_of c.args.least.now (decl_faults (decls_of c.args.self.now.builder.symbols.now) c.args.place d)) in
+    let P : Decl → Type 0 = λ d. OnOk c.judge_struct.result (c.judge_struct.new.firsts ≡ found_in c.args.firsts.now (decl_faults (decls_of c.args.self.now.builder.symbols.now) c.args.place d)) in
     subst P (ap struct same ∙ sym (ap decl_of c.in-Struct.is)) c.judge_struct.ensures.faults

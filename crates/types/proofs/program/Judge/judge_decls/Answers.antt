@@ -1,7 +1,7 @@
 use Rattle.std.proofs.Common.{◌+◌, drop, ap}
 use Rattle.syntax.specs.Views.{decl_of}
 use Rattle.resolution.specs.Working.Building.{resolved_from}
-use Rattle.resolution.specs.Working.Findings.{least_of}
+use Rattle.resolution.specs.Working.Findings.{found_in}
 use Rattle.resolution.specs.Working.FaultLists.{decl_faults, each_faults}
 use Rattle.types_symbols.specs.Working.Views.{decls_of}
 use Rattle.types_declarations.specs.Working.Grown.{built}
@@ -17,6 +17,6 @@ loop-place-preserved c =
     record {
       value = step (λ xs. resolved_from ds i (built c.loop-place.grown) (decls_of xs)) (λ xs. resolved_from ds (i + 1) (built c.judge_decl.new.grown) (decls_of xs)) items i c.index-items-place.result _ c.loop-place-test.true c.index-items-place.is
           (ap (λ p. resolved_from ds (i + 1) p rest) c.in_ok-judge_decl.ensures.value) c.loop-place.invariant.value;
-      faults = step (λ xs. least_of c.loop-place.least (each_faults ds i (decls_of xs))) (λ xs. least_of c.judge_decl.new.least (each_faults ds (i + 1) (decls_of xs))) items i c.index-items-place.result _ c.loop-place-test.true c.index-items-place.is
-          (noted_one c.loop-place.least c.judge_decl.new.least (decl_faults ds i (decl_of c.index-items-place.result)) (each_faults ds (i + 1) rest) c.in_ok-judge_decl.ensures.faults) c.loop-place.invariant.faults;
+      faults = step (λ xs. found_in c.loop-place.firsts (each_faults ds i (decls_of xs))) (λ xs. found_in c.judge_decl.new.firsts (each_faults ds (i + 1) (decls_of xs))) items i c.index-items-place.result _ c.loop-place-test.true c.index-items-place.is
+          (noted_one c.loop-place.firsts c.judge_decl.new.firsts (decl_faults ds i (decl_of c.index-items-place.result)) (each_faults ds (i + 1) rest) c.in_ok-judge_decl.ensures.faults) c.loop-place.invariant.faults;
     }

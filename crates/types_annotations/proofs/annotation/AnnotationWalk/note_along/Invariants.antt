@@ -1,7 +1,7 @@
 use Rattle.std.proofs.Common.{◌≡◌, drop}
 use Rattle.std.specs.Prelude.{map, option_map}
 use Rattle.syntax.specs.Views.{ident}
-use Rattle.resolution.specs.Working.Findings.{least_of}
+use Rattle.resolution.specs.Working.Findings.{found_in}
 use Rattle.resolution.specs.Working.FaultLists.{along_faults}
 use Rattle.types_symbols.specs.Working.Views.{decls_of}
 use Rattle.types_annotations.specs.Working.AnnotationCursors.{cursor_of}
@@ -9,5 +9,5 @@ use Rattle.types_annotations.proofs.annotation.AnnotationWalk.note_along.Given a
 
 abbrev pub invariant-loop-z : goal.invariant-loop-z
 invariant-loop-z l = record {
-  faults : least_of l.least (along_faults (decls_of l.self.symbols.now) l.self.start (option_map cursor_of l.cursor) (ident l.y) (map ident (drop l.z-index l.rest))) ≡ least_of l.fn.least (along_faults (decls_of l.self.symbols.now) l.self.start (option_map cursor_of l.fn.cursor) (ident l.fn.first) (map ident l.rest));
+  faults : found_in l.firsts (along_faults (decls_of l.self.symbols.now) l.self.start (option_map cursor_of l.cursor) (ident l.y) (map ident (drop l.z-index l.rest))) ≡ found_in l.fn.firsts (along_faults (decls_of l.self.symbols.now) l.self.start (option_map cursor_of l.fn.cursor) (ident l.fn.first) (map ident l.rest));
 }

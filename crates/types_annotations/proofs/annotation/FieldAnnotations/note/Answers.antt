@@ -3,7 +3,7 @@ use Rattle.std.specs.Prelude.{map}
 use Rattle.syntax.specs.declared.tree.Name.{Name}
 use Rattle.syntax.specs.declared.tree.Protection as rust
 use Rattle.syntax.specs.Views.{ident, option_of, protection_of as protection_view}
-use Rattle.resolution.specs.Working.Findings.{least_of}
+use Rattle.resolution.specs.Working.Findings.{found_in}
 use Rattle.resolution.specs.Annotations.{AnnotationCursor, cursor_at}
 use Rattle.resolution.specs.Working.FaultLists.{along_faults, protection_faults}
 use Rattle.resolution.specs.Scopes.{the_member}
@@ -25,4 +25,4 @@ returns-then-is_some c =
     ∙ ap (λ (ys : List Name). along_faults decls p.first.start (Some (cursor_at place ms)) x (map ident ys)) c.deref.ensures.value
     ∙ sym (faults_own decls (cursor_at place ms) (protection_view p) (the_member ms x.text) named)
     ∙ ap (λ (o : Option rust.Protection). protection_faults decls place ms c.args.name.now.start (option_of protection_view o)) (sym c.in-Some.is) in
-    on_ok_by c.note_along.result (λ e. e ∙ ap (least_of c.args.least.now) same) c.note_along.ensures
+    on_ok_by c.note_along.result (λ e. e ∙ ap (found_in c.args.firsts.now) same) c.note_along.ensures

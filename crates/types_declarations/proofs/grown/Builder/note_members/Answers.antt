@@ -1,7 +1,7 @@
 use Rattle.std.proofs.Common.{◌+◌, ◌∙◌, ap, sym, drop}
 use Rattle.std.specs.Prelude.{map}
 use Rattle.syntax.specs.Views.{member_of}
-use Rattle.resolution.specs.Working.Findings.{least_of}
+use Rattle.resolution.specs.Working.Findings.{found_in}
 use Rattle.resolution.specs.Working.FaultLists.{member_faults, members_faults}
 use Rattle.types_symbols.specs.Working.Views.{decls_of, members_seen}
 use Rattle.types_declarations.proofs.Shapes.{members_one}
@@ -16,6 +16,6 @@ loop-m-preserved c =
     let m = member_of c.m-item.result in
     let rest = map member_of (drop (c.loop-m.m-index + 1) items) in
     record {
-      faults = step (λ ms. least_of c.loop-m.least (members_faults ds c.args.place all (map member_of ms))) (λ ms. least_of c.note_member.new.least (members_faults ds c.args.place all (map member_of ms))) items c.loop-m.m-index c.m-item.result _ c.loop-m-test.true c.m-item.is
-          (noted_one c.loop-m.least c.note_member.new.least (member_faults ds c.args.place all m) (members_faults ds c.args.place all rest) c.in_ok-note_member.ensures ∙ ap (least_of c.loop-m.least) (sym (members_one ds c.args.place all m rest))) c.loop-m.invariant.faults;
+      faults = step (λ ms. found_in c.loop-m.firsts (members_faults ds c.args.place all (map member_of ms))) (λ ms. found_in c.note_member.new.firsts (members_faults ds c.args.place all (map member_of ms))) items c.loop-m.m-index c.m-item.result _ c.loop-m-test.true c.m-item.is
+          (noted_one c.loop-m.firsts c.note_member.new.firsts (member_faults ds c.args.place all m) (members_faults ds c.args.place all rest) c.in_ok-note_member.ensures ∙ ap (found_in c.loop-m.firsts) (sym (members_one ds c.args.place all m rest))) c.loop-m.invariant.faults;
     }

@@ -10,7 +10,7 @@ use Rattle.syntax.specs.declared.tree.Level.TheVariants.{Sum, Conjunction, Disju
 use Rattle.resolution.specs.Working.TypedExpressions.{chained, compared, named_value, number_resolved, parenthesised}
 use Rattle.resolution.specs.Working.TypedExpressions.{test_resolved, typed, typed_links, typed_place}
 use Rattle.resolution.specs.CoreViews.{core_expr}
-use Rattle.resolution.specs.Working.Findings.{least_of}
+use Rattle.resolution.specs.Working.Findings.{found_in}
 use Rattle.resolution.specs.Working.FaultLists.{expr_faults, link_faults, misfit, wanted_faults}
 use Rattle.resolution.specs.Faults.{start_of}
 use Rattle.resolution.specs.declared.wanted.Want.TheVariants.{Value}
@@ -92,7 +92,7 @@ joined-returns-in_ok-left-in-Compare-clause-faults t c =
     let sc = scope c.args.self.now in
     on_ok_by c.two_sides.result
     (sides_faults sc a.c (expr_of a.left) (expr_of a.right) _ (sym (ap joined_of a.is)) _ _ _ _ _ c.in_ok-left-in-Compare.ensures.start c.in_ok-left-in-Compare.ensures.value
-    (c.in_ok-left-in-Compare.ensures.faults ∙ ap (λ w. least_of c.args.least.now (wanted_faults sc w (expr_of a.left))) c.side_want.ensures))
+    (c.in_ok-left-in-Compare.ensures.faults ∙ ap (λ w. found_in c.args.firsts.now (wanted_faults sc w (expr_of a.left))) c.side_want.ensures))
     c.two_sides.ensures.faults
 
 pub two_sides-returns-clause-faults : goal.two_sides-returns-clause-faults
@@ -196,12 +196,12 @@ two_sides-returns-clause-value t c = c.compared.ensures.value ∙ ap (compared c
 pub operations-returns-clause-faults : goal.operations-returns-clause-faults
 operations-returns-clause-faults t c =
     let none : drop c.loop-link.link-index c.args.links.now ≡ [] = drop_of_length-le c.args.links.now c.loop-link-test.false in
-    ap (λ (ls : List tree_link.Link). least_of c.loop-link.least (link_faults (scope c.args.self.now) Sum (links_of ls))) (sym none) ∙ c.loop-link.invariant.faults
+    ap (λ (ls : List tree_link.Link). found_in c.loop-link.firsts (link_faults (scope c.args.self.now) Sum (links_of ls))) (sym none) ∙ c.loop-link.invariant.faults
 
 pub tests-returns-clause-faults : goal.tests-returns-clause-faults
 tests-returns-clause-faults t c =
     let none : drop c.loop-link.link-index c.args.links.now ≡ [] = drop_of_length-le c.args.links.now c.loop-link-test.false in
-    ap (λ (ls : List tree_link.Link). least_of c.loop-link.least (link_faults (scope c.args.self.now) Conjunction (links_of ls))) (sym none) ∙ c.loop-link.invariant.faults
+    ap (λ (ls : List tree_link.Link). found_in c.loop-link.firsts (link_faults (scope c.args.self.now) Conjunction (links_of ls))) (sym none) ∙ c.loop-link.invariant.faults
 
 pub number-returns-clause-value : goal.number-returns-clause-value
 number-returns-clause-value t c = c.number_in.ensures ∙ ap number_resolved c.in_ok-side.ensures.value
