@@ -54,6 +54,8 @@ else
     . script/build.sh
     mv out/begun "$program.built.new" && keep_list
     try tests/no_compile.sh
+    try script/library.py
+    try tests/library.py "$program"
 fi
 for script in examples language statuses words limited_memory; do
     try "tests/$script.sh" "$program"

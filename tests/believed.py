@@ -39,6 +39,8 @@ IN_THREADS = {"crates/c_threads/src/laws.rt": None, "crates/c_threads/src/meanin
 PAGES = {"crates/driver/src/code_pages.rt": ["explain_code"]}
 # What `lsp` answers, beside what the engines do: the protocol, positions, names by tokens.
 EDITORS = {"crates/driver/src/editors.rt": ["lsp"]}
+# What C is given of that, beside what the engines do.
+LIBRARY = {"crates/autolock_c/src/lib.rt": None}
 # What `emit` answers counts there, and not among the engines.
 ANSWERED = ("driver.specs.Emissions", "IsEmitted")
 THREADS = {
@@ -133,7 +135,7 @@ def clauses_of(path, wanted):
     text = path.read_text()
     found = []
     # (a program's root has no public function)
-    visible = r"(?:pub )?" if path.name == "main.rt" else r"pub(?:\([a-z]+\))? "
+    visible = r"(?:pub )?" if path.name == "main.rt" else r"pub(?:\([a-z]+\))? (?:extern \"C\" )?"
     for match in re.finditer(rf"\n *{visible}fn (\w+)(.*?)\n *\{{\}}?\n", text, re.S):
         name, head = match.groups()
         is_public = "pub(crate)" not in match.group(0).split("fn")[0]
@@ -273,12 +275,12 @@ def others():
 
 def main():
     reading, failed, tables, counted = Reading(), 0, [], {}
-    groups = (("The headline", HEADLINE), ("The compiler", COMPILER), ("All engines", engines()), ("Pages of codes", PAGES), ("Editors", EDITORS), ("Real threads", THREADS), ("Sections in C", EMITTED), ("Threads in C", IN_THREADS))
+    groups = (("The headline", HEADLINE), ("The compiler", COMPILER), ("All engines", engines()), ("Pages of codes", PAGES), ("Editors", EDITORS), ("The library for C", LIBRARY), ("Real threads", THREADS), ("Sections in C", EMITTED), ("Threads in C", IN_THREADS))
     believed = {module for module, _ in reading.begin(others()).seen}
     of_engines = {}
     for title, calls in groups:
         reading.begin(calls)
-        if calls is EDITORS:
+        if calls is EDITORS or calls is LIBRARY:
             reading.seen = {name: lines for name, lines in reading.seen.items() if name not in of_engines}
         elif title == "All engines":
             of_engines = dict(reading.seen)

@@ -9,7 +9,7 @@ import re
 import sys
 
 TOP = pathlib.Path(__file__).resolve().parent.parent
-FUNCTION = re.compile(r"^ *(?:pub(?:\(crate\))? )?fn (\w+)")
+FUNCTION = re.compile(r"^ *(?:pub(?:\(crate\))? )?(?:extern \"C\" )?fn (\w+)")
 CLAUSE = re.compile(r"^ *ensures (?:(\w+) )?\{")
 
 

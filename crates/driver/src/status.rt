@@ -1,7 +1,7 @@
 //! How a command ended.
 
 ghost use Rattle.std.specs.Prelude.{◌≡◌};
-ghost use Rattle.driver.specs.Working.Statuses.{exit_status};
+ghost use Rattle.driver.specs.Statuses.{exit_status};
 
 /// How a command ended.
 #[derive(Clone, Copy, Debug, PartialEq, Eq)]

@@ -3,6 +3,7 @@
 //! [`words`] answers the [`Line`] that the words of a command line mean; `specs/Commands.antt` is
 //! the command as `clap`'s definitions see it, and `specs/Lines.antt` says what a line is of the
 //! matches that those definitions give; `specs/Codes.antt`, which words are codes of faults.
+//! [`is_prefix`] says what the names of a C text may begin with.
 #![tactic(auto)]
 
 mod codes;
@@ -15,4 +16,4 @@ pub use line::{
     Alone, Beside, DEFAULT_COUNT, DEFAULT_SEED, DEFAULT_TURNS, Emission, Judging, Line, Looking,
     Report, Request,
 };
-pub use reading::words;
+pub use reading::{is_prefix, words};

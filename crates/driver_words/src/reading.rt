@@ -168,8 +168,9 @@ fn is_word(prefix: &str) -> bool
     starts_with_letter(bytes) && is_alphanumeric(bytes) && bytes.len() <= 32
 }
 
-/// Whether names of C may begin with it.
-fn is_prefix(prefix: &str) -> bool
+/// Whether the names of a C text may begin with it: a letter, then letters and digits, at most 32 in all, and neither
+/// `AL` nor `autolock`, with which the names that are the same in all such texts begin.
+pub fn is_prefix(prefix: &str) -> bool
     ensures { IsTrue result ↔ IsPrefix prefix.now }
 {
     match prefix {

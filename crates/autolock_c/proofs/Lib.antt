@@ -1,0 +1,2 @@
+mod Emitting
+mod Prefixes
