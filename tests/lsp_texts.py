@@ -5,6 +5,8 @@ The texts are those of examples/, of tests/rows.json and of docs/LANGUAGE.md, so
 alphabets, and cut or changed by drawn edits. Of each:
 
 - the diagnostics are those of `explain --json`: code, words, severity, range and related places;
+- the actions at a fault are what the notes of `explain --json` propose; with one made, an unknown name or what lacks a lock is none any more;
+- the edits that lay it out anew give what `format` writes, and there are none where that is the text;
 - the inlay hints are the lists of `check`, at their places, also where a part of the lines is asked for;
 - the declaration of each name, by a rule of its own: a name after no dot is the local of its section, else the name of the top
   level; the references of it are the names with the same declaration; a new name is put at just these.
@@ -29,6 +31,15 @@ KEYWORDS = set("lock struct final ref int global protected_by pool init atomic l
                "where call".split())
 URI = "file:///a%20b.al"
 CUTS = 40
+FAULTY = [
+    "lock G;\nstruct S { int x protected_by(G); }\npool S p[1];\nglobal ref S r protected_by(G);\natomic f() { r = nul; }\n",
+    "lock G;\nglobal int a // one; = two\n [ // three\n 3];\n",
+    "lock G;\nglobal ref S r = // one;\n p[0];\nstruct S { lock l; int x; }\npool S p[1];\n",
+    "struct S { final ref S s; lock l; int x // = ;\n; }\n",
+    ";lock G;\n",
+    "lock Lo; global int n\rprotected_by(La);",
+]
+GAP = r"(?:\s|//[^\n]*)*"
 
 
 def replies(program, bodies):
@@ -45,11 +56,16 @@ def say(program, *words):
     return done.returncode, done.stdout.decode()
 
 
-def at(text, position):
-    """The protocol's position of a line and a column in bytes, both from 1, of which lines end at LF alone."""
+def character(text, position):
+    """The character at a line and a column in bytes, both from 1, of which lines end at LF alone."""
     lines = text.encode().split(b"\n")
     byte = sum(len(line) + 1 for line in lines[: position["line"] - 1]) + position["column"] - 1
-    return place(text, sum(one & 0xC0 != 0x80 for one in text.encode()[:byte]))
+    return sum(one & 0xC0 != 0x80 for one in text.encode()[:byte])
+
+
+def at(text, position):
+    """The protocol's position of it."""
+    return place(text, character(text, position))
 
 
 @functools.cache
@@ -71,6 +87,42 @@ def diagnostics_wanted(program, text, told):
              "source": "autolock"}
     return [first] + [{"code": one["code"], "message": f"{one['text']}\n{remedy_of(program, one['code'])}", "range": span(one), "severity": 1,
                        "source": "autolock"} for one in told["further"]]
+
+
+def changes_wanted(text, told):
+    """What the notes on a fault propose: a title, where what is replaced begins and ends, and what is written."""
+    found = []
+    for note in [] if told["accepted"] else told["notes"]:
+        start, end = character(text, told["start"]), character(text, told["end"])
+        name = re.fullmatch(r"(\w+) could be meant, and is declared here|`(null)` could be meant", note["text"])
+        lock = re.fullmatch(r"(\w+) could protect it: (protected_by\(\1\))", note["text"])
+        if told["code"] == "E06" and name:
+            found.append((f"write {name[1] or name[2]}", start, end, name[1] or name[2]))
+        elif told["code"] == "E10" and lock:
+            length = re.match(rf"{GAP}\[{GAP}\d+{GAP}\]", text[end:])
+            behind = end + (length.end() if length else 0)
+            found.append((f"write {lock[2]}", behind, behind, f" {lock[2]}"))
+        elif note["text"] == "a `;` may be missing behind this":
+            behind = character(text, note["end"])
+            found.append(("write ;", behind, behind, ";"))
+        elif note["text"] == "leave this `;` out":
+            found.append(("leave it out", start, end, ""))
+    return found
+
+
+def actions_wanted(text, changes):
+    found = []
+    for title, start, end, new in changes:
+        edit = {"newText": new, "range": {"end": place(text, end), "start": place(text, start)}}
+        found.append({"edit": {"changes": {URI: [edit]}}, "kind": "quickfix", "title": title})
+    return found
+
+
+def edits_wanted(text, status, out):
+    """No edit where the text is its own layout; else one of the whole text; `null` where it has none."""
+    if status != 0:
+        return None
+    return [] if out == text else [{"newText": out, "range": {"end": place(text, len(text)), "start": place(text, 0)}}]
 
 
 def hints_wanted(text, said):
@@ -118,7 +170,7 @@ def names_wanted(text):
 
 class Judge:
     def __init__(self, program):
-        self.program, self.texts, self.compared = program, 0, 0
+        self.program, self.texts, self.compared, self.titles = program, 0, 0, set()
         self.room = tempfile.TemporaryDirectory()
         self.file = os.path.join(self.room.name, "a.al")
 
@@ -130,21 +182,43 @@ class Judge:
         """Compares what is told of a text; of whole programs the names too."""
         self.texts += 1
         pathlib.Path(self.file).write_bytes(text.encode())
-        _, told = say(self.program, "explain", "--json", self.file)
+        told = json.loads(say(self.program, "explain", "--json", self.file)[1])
         bodies = [call("textDocument/didOpen", document(URI, text))]
         lines = len(re.split(r"\r\n|\n|\r", text))
         everything = {"start": {"line": 0, "character": 0}, "end": {"line": lines, "character": 0}}
         middle = {"start": {"line": lines // 3, "character": 0}, "end": {"line": 2 * lines // 3, "character": 0}}
         bodies += [call("textDocument/inlayHint", document(URI) | {"range": span}, whom) for span, whom in ((everything, 2), (middle, 3))]
+        bodies.append(call("textDocument/formatting", document(URI) | {"options": {"tabSize": 8, "insertSpaces": False}}, 4))
+        fault = at(text, told.get("start", {"line": 1, "column": 1}))
+        for spot, whom in ((fault, 5), ({"line": 0, "character": 0}, 6)):
+            asked = {"context": {"diagnostics": []}, "range": {"start": spot, "end": spot}}
+            bodies.append(call("textDocument/codeAction", document(URI) | asked, whom))
         wanted = names_wanted(text) if names else []
         for number, (_, start, _) in enumerate(wanted):
             asked = document(URI) | {"position": place(text, start)}
             bodies.append(call("textDocument/definition", asked, f"d{number}"))
             bodies.append(call("textDocument/references", asked | {"context": {"includeDeclaration": True}}, f"r{number}"))
         got, published = replies(self.program, bodies)
-        self.equal("diagnostics", text, published, [{"diagnostics": diagnostics_wanted(self.program, text, json.loads(told)), "uri": URI}])
+        self.equal("diagnostics", text, published, [{"diagnostics": diagnostics_wanted(self.program, text, told), "uri": URI}])
+        self.actions(text, told, got)
+        self.equal("edits", text, got[4]["result"], edits_wanted(text, *say(self.program, "format", self.file)))
         self.hints(text, got, lines)
         self.names(text, wanted, got)
+
+    def actions(self, text, told, got):
+        changes = changes_wanted(text, told)
+        wanted = actions_wanted(text, changes)
+        self.equal("actions", text, got[5]["result"], wanted)
+        is_first = not told["accepted"] and character(text, told["start"]) == 0
+        self.equal("actions elsewhere", text, got[6]["result"], wanted if is_first else [])
+        for title, start, end, new in changes:
+            self.titles.add((told["code"], "write protected_by" if new.startswith(" ") else title if told["code"] == "E03" else new == "null"))
+            if told["code"] in ("E06", "E10"):
+                pathlib.Path(self.file).write_bytes((text[:start] + new + text[end:]).encode())
+                mended = json.loads(say(self.program, "explain", "--json", self.file)[1])
+                is_same = not mended["accepted"] and (mended["code"], mended["start"]) == (told["code"], told["start"])
+                self.equal("the fault, mended", text, is_same, False)
+                pathlib.Path(self.file).write_bytes(text.encode())
 
     def hints(self, text, got, lines):
         status, out = say(self.program, "check", self.file)
@@ -178,11 +252,17 @@ def main():
     cases = json.loads((TOP / "tests" / "rows.json").read_text())
     for case in cases:
         judge.text(case["files"].get("F", ""))
+    for text in FAULTY:
+        judge.text(text)
+        judge.text(text.replace("\n", " // \u4e16\u754c \U0001f512\r\n"))
+        judge.text("// \U0001f600\r\n" + text)
     chance = random.Random(1)
     for _ in range(CUTS):
         text = chance.choice(examples)
         start = chance.randrange(len(text))
         judge.text(text[:start] + chance.choice(["", "x", "}", " = ", "\u00e9", "let int"]) + text[start + chance.randrange(12) :])
+    kinds = {("E03", "leave it out"), ("E03", "write ;"), ("E06", False), ("E06", True), ("E10", "write protected_by")}
+    assert judge.titles == kinds, judge.titles
     print(f"{judge.texts} texts, {judge.compared} answers compared")
 
 

@@ -3,7 +3,7 @@
 
 Where there is no Neovim (the package `neovim`), nothing is tried. In it a file with a fault is opened: its diagnostic is that of
 `check`. The text is put right: the diagnostic goes. The client's own requests then find the hints, the names of the top level, a
-declaration and what is held. The last line is `N passed, M failed`."""
+declaration and what is held, and it lays the text out anew. The last line is `N passed, M failed`."""
 import json
 import os
 import pathlib
@@ -37,6 +37,12 @@ local found = ask('textDocument/definition', { position = { line = 2, character 
 told.declared = { found.range.start.line, found.range.start.character }
 local hover = ask('textDocument/hover', { position = { line = 2, character = 18 } })
 told.hover = hover.contents.value
+if vim.lsp.buf.format then
+  vim.lsp.buf.format({ timeout_ms = 10000 })
+else
+  vim.lsp.buf.formatting_sync(nil, 10000)
+end
+told.laid_out = vim.api.nvim_buf_get_lines(0, 0, -1, false)
 local client = vim.tbl_values(vim.lsp.get_active_clients())[1]
 vim.lsp.stop_client(client.id)
 vim.wait(5000, function() return client.is_stopped() end, 20)
@@ -51,6 +57,7 @@ WANTED = {
     "symbols": ["G", "n", "f"],
     "declared": [1, 11],
     "hover": "f: holds nothing, takes G\n",
+    "laid_out": ["lock G;", "global int n protected_by(G);", "atomic f(int k) { n = n + k; }"],
     "stopped": True,
 }
 

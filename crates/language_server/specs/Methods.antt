@@ -3,9 +3,11 @@ use Rattle.std.specs.Prelude.{◌≡◌, ℕ, Bool, true, List, codes, Option, S
 use Rattle.std.specs.Option.{is_some}
 use Rattle.std.specs.Str.{bytes_eq}
 use Rattle.serde_json.specs.Data.{Data, array, boolean, no_items, null, number, object, string, unsigned, member, no_members}
-use Rattle.language_server.specs.Parameters.{lines, new_place, position, with_declaration}
+use Rattle.language_server.specs.Parameters.{lines, new_place, position, range, with_declaration}
 use Rattle.language_server.specs.declared.method.Method.{Method}
 use Rattle.language_server.specs.declared.method.Method.TheVariants as method
+use Rattle.lsp_actions.specs.Actions.{AreActionsOf}
+use Rattle.lsp_formats.specs.Edits.{AreEditsOf}
 use Rattle.lsp_held.specs.Hints.{AreHintsOf}
 use Rattle.lsp_held.specs.Hover.{IsHoverOf}
 use Rattle.lsp_links.specs.Links.{definition_data, references_data}
@@ -16,8 +18,10 @@ use Rattle.lsp_symbols.specs.DocumentSymbols.{AreSymbolsOf}
 
 abbrev pub method_named : List ℕ → Option Method
 method_named name =
+    if bytes_eq name (codes "textDocument/codeAction") then Some method.CodeAction else
     if bytes_eq name (codes "textDocument/definition") then Some method.Definition else
     if bytes_eq name (codes "textDocument/documentSymbol") then Some method.DocumentSymbol else
+    if bytes_eq name (codes "textDocument/formatting") then Some method.Formatting else
     if bytes_eq name (codes "textDocument/hover") then Some method.Hover else
     if bytes_eq name (codes "textDocument/inlayHint") then Some method.InlayHint else
     if bytes_eq name (codes "textDocument/references") then Some method.References else
@@ -49,8 +53,10 @@ pub record IsRenameOf (uri text : List ℕ) (asked : Position × List ℕ) (told
 
 -- what a method finds in a document with this URI and this text, with these parameters
 abbrev pub Finds : Method → List ℕ → List ℕ → Data → Option Data → Type 0
+Finds method.CodeAction uri text params found = WithThat (range params) found (AreActionsOf uri text)
 Finds method.Definition uri text params found = WithThat (position params) found (IsDefinitionOf uri text)
 Finds method.DocumentSymbol uri text params found = Gives found (AreSymbolsOf text)
+Finds method.Formatting uri text params found = Gives found (AreEditsOf text)
 Finds method.Hover uri text params found = WithThat (position params) found (IsHoverOf text)
 Finds method.InlayHint uri text params found = WithThat (lines params) found (λ asked. AreHintsOf text asked.0 asked.1)
 Finds method.References uri text params found = WithThat (position params) found (AreReferencesOf uri text (with_declaration params))
@@ -64,7 +70,9 @@ finds name uri text params found = IfSome (method_named name) (λ method. Finds 
 abbrev pub capabilities : Data
 capabilities =
     object (member (codes "capabilities") (object (
+    member (codes "codeActionProvider") (boolean true) (
     member (codes "definitionProvider") (boolean true) (
+    member (codes "documentFormattingProvider") (boolean true) (
     member (codes "documentSymbolProvider") (boolean true) (
     member (codes "hoverProvider") (boolean true) (
     member (codes "inlayHintProvider") (boolean true) (
@@ -73,5 +81,5 @@ capabilities =
     member (codes "renameProvider") (boolean true) (
     member (codes "textDocumentSync") (object (
     member (codes "change") (number (unsigned 1)) (
-    member (codes "openClose") (boolean true) no_members))) no_members))))))))) (
+    member (codes "openClose") (boolean true) no_members))) no_members))))))))))) (
     member (codes "serverInfo") (object (member (codes "name") (string (codes "autolock")) no_members)) no_members))

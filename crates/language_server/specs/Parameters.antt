@@ -37,6 +37,15 @@ both_of None y = None
 abbrev pub new_place : Data → Option (Position × List ℕ)
 new_place params = both_of (position params) (new_name params)
 
+-- the position of an end of a range
+abbrev pub end_in : List ℕ → Data → Option Position
+end_in end range = option_and_then position_of (get end range)
+
+-- where `range` begins, and where it ends
+abbrev pub range : Data → Option (Position × Position)
+range params =
+    option_and_then (λ range. both_of (end_in (codes "start") range) (end_in (codes "end") range)) (get (codes "range") params)
+
 -- the line of an end of a range
 abbrev pub line_of : List ℕ → Data → Option ℕ
 line_of end range = option_and_then (number_in (codes "line")) (get end range)

@@ -6,7 +6,9 @@ ghost use Rattle.serde_json.specs.Written.{has_float};
 ghost use Rattle.language_server.specs.Methods as methods;
 
 use crate::method::Method;
-use crate::parameters::{lines, new_name, position, with_declaration};
+use crate::parameters::{lines, new_name, position, range, with_declaration};
+use lsp_actions::{DocumentRange, code_actions};
+use lsp_formats::formatting_edits;
 use lsp_held::{hints, hover};
 use lsp_links::{DocumentPosition, definition, references, rename};
 use lsp_positions::Position;
@@ -27,6 +29,25 @@ fn place_in<'a>(request: &Request<'a>, position: Position) -> DocumentPosition<'
         text: request.text,
         position,
     }
+}
+
+/// What the notes on the text's fault propose, in the range that is asked about.
+fn actions_found(alloc: Global, request: &Request<'_>) -> Result<Option<Value>, NoMemory>
+    ensures told { IfOk result (λ told. methods.Finds Method.CodeAction request.now.uri.now request.now.text.now
+        (view request.now.params.now) (option_map view told)) }
+    ensures plain { IfOk result (λ told. IfSome told (λ found. has_float (view found) ≡ false)) }
+{
+    let Some((start, end)) = range(request.params) else {
+        return Ok(None);
+    };
+    let asked = DocumentRange {
+        uri: request.uri,
+        text: request.text,
+        start,
+        end,
+    };
+    let found = code_actions(alloc, &asked)?;
+    Ok(Some(found))
 }
 
 /// Where the name at a position is declared.
@@ -108,9 +129,14 @@ pub fn found(
     ensures plain { IfOk result (λ told. IfSome told (λ found. has_float (view found) ≡ false)) }
 {
     match method {
+        Method::CodeAction => actions_found(alloc, request),
         Method::Definition => definition_found(alloc, request),
         Method::DocumentSymbol => {
             let found = document_symbols(alloc, request.text)?;
+            Ok(Some(found))
+        }
+        Method::Formatting => {
+            let found = formatting_edits(alloc, request.text)?;
             Ok(Some(found))
         }
         Method::Hover => hover_found(alloc, request),

@@ -25,7 +25,9 @@ fn capabilities_value(alloc: Global) -> Result<Value, AllocError>
 {
     json!(in alloc; {
         "capabilities": {
+            "codeActionProvider": true,
             "definitionProvider": true,
+            "documentFormattingProvider": true,
             "documentSymbolProvider": true,
             "hoverProvider": true,
             "inlayHintProvider": true,

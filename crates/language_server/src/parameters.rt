@@ -60,6 +60,29 @@ pub fn new_name(params: &Value) -> Option<&str>
     }
 }
 
+/// The position of an end of a range: `start` or `end`.
+fn end_in(range: &Value, end: &str) -> Option<Position>
+    ensures { result ≡ parameters.end_in end.now (view range.now) }
+{
+    match range.get(end) {
+        Some(place) => position_of(place),
+        None => None,
+    }
+}
+
+/// Where the range that is asked about begins, and where it ends: `range`.
+pub fn range(params: &Value) -> Option<(Position, Position)>
+    ensures { result ≡ parameters.range (view params.now) }
+{
+    let Some(range) = params.get("range") else {
+        return None;
+    };
+    match (end_in(range, "start"), end_in(range, "end")) {
+        (Some(start), Some(end)) => Some((start, end)),
+        _ => None,
+    }
+}
+
 /// The line of an end of a range: `start` or `end`.
 fn line_of(range: &Value, end: &str) -> Option<u64>
     ensures { result ≡ parameters.line_of end.now (view range.now) }

@@ -76,29 +76,28 @@ fn fault_value(
 }
 
 /// A further fault.
-fn further_value(alloc: Global, places: &Places<'_>, fault: Mistake) -> Result<Value, AllocError>
-    ensures { IfOk result (λ told. view told ≡ list.further_data places.now.document.text.now fault) }
+fn further_value(alloc: Global, places: &Places<'_>, fault: &Mistake) -> Result<Value, AllocError>
+    ensures { IfOk result (λ told. view told ≡ list.further_data places.now.document.text.now fault.now) }
 {
-    let message = further_message(alloc, fault)?;
+    let message = further_message(alloc, *fault)?;
     let range = places.range(alloc, fault.start)?;
     json!(in alloc; {"code": fault.code.name(), "message": message.as_str(), "range": &range,
         "severity": ERROR, "source": SOURCE})
 }
 
-/// Adds further faults.
-fn push_further(
+/// Further faults.
+fn further_values(
     alloc: Global,
     places: &Places<'_>,
-    values: &mut Vec<Value>,
     faults: &[Mistake],
-) -> Result<(), AllocError>
-    ensures { OnOk result (map view values.new.items ≡ map view values.old.items
-        ++ map (list.further_data places.now.document.text.now) faults.now) }
+) -> Result<Vec<Value>, AllocError>
+    ensures { IfOk result (λ values. map view values.items ≡ map (list.further_data places.now.document.text.now) faults.now) }
 {
+    let mut values = Vec::new(alloc);
     for fault in faults {
-        values.push(further_value(alloc, places, *fault)?)?;
+        values.push(further_value(alloc, places, fault)?)?;
     }
-    Ok(())
+    Ok(values)
 }
 
 /// A fault, and further ones.
@@ -111,9 +110,8 @@ fn faulty_values(
     ensures { IfOk result (λ told. view told ≡ array (items_of (view first
         ∷ map (list.further_data places.now.document.text.now) faults.now))) }
 {
-    let mut values = Vec::new(alloc);
-    values.push(first)?;
-    push_further(alloc, places, &mut values, faults)?;
+    let mut values = further_values(alloc, places, faults)?;
+    values.insert(0, first)?;
     Ok(Value::Array(values))
 }
 

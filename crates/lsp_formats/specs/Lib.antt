@@ -1,0 +1,3 @@
+pub mod Edits
+-- what the public clauses cite
+pub use Rattle.lsp_formats.specs.Edits.{AreEditsOf}
