@@ -30,7 +30,7 @@ CAPABILITIES = {
 }
 LIMIT = 16777216
 NESTING = 127
-ROUNDS = 60
+ROUNDS = 240
 
 
 def frame(body):

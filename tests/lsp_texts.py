@@ -9,7 +9,9 @@ alphabets, and cut or changed by drawn edits. Of each:
 - the edits that lay it out anew give what `format` writes, and there are none where that is the text;
 - the inlay hints are the lists of `check`, at their places, also where a part of the lines is asked for;
 - the declaration of each name, by a rule of its own: a name after no dot is the local of its section, else the name of the top
-  level; the references of it are the names with the same declaration; a new name is put at just these.
+  level; the references of it are the names with the same declaration; a new name is put at just these;
+- what is told of each name, members too, is its declaration with the class of its lock and the rank that `check` has
+  (tests/declared_names.py); at a statement that begins with a keyword what `check` takes there is told.
 
 The last line is `N texts, M answers compared`; the status is 1 where one is other than wanted."""
 import functools
@@ -25,10 +27,9 @@ import tempfile
 sys.dont_write_bytecode = True
 TOP = pathlib.Path(__file__).resolve().parent.parent
 sys.path.insert(0, str(TOP / "tests"))
+from declared_names import KEYWORDS, hovers_wanted
 from lsp import BEGIN, END, call, document, frame, frames_of, place
 
-KEYWORDS = set("lock struct final ref int global protected_by pool init atomic let var if else while print return thread repeat null "
-               "where call".split())
 URI = "file:///a%20b.al"
 CUTS = 40
 FAULTY = [
@@ -198,12 +199,39 @@ class Judge:
             asked = document(URI) | {"position": place(text, start)}
             bodies.append(call("textDocument/definition", asked, f"d{number}"))
             bodies.append(call("textDocument/references", asked | {"context": {"includeDeclaration": True}}, f"r{number}"))
+        hovered = self.hovered(text) if names else []
+        for number, (start, _) in enumerate(hovered):
+            bodies.append(call("textDocument/hover", document(URI) | {"position": place(text, start)}, f"h{number}"))
         got, published = replies(self.program, bodies)
         self.equal("diagnostics", text, published, [{"diagnostics": diagnostics_wanted(self.program, text, told), "uri": URI}])
         self.actions(text, told, got)
         self.equal("edits", text, got[4]["result"], edits_wanted(text, *say(self.program, "format", self.file)))
         self.hints(text, got, lines)
         self.names(text, wanted, got)
+        for number, (start, judge) in enumerate(hovered):
+            self.equal(f"what is told at {start}", text, *judge(got[f"h{number}"]["result"]))
+
+    def hovered(self, text):
+        """Where to ask what is told, and what to compare of the answer with what."""
+        status, out = say(self.program, "check", self.file)
+        ranks = {it[2]: it[1] for it in re.finditer(r"^rank (\d+) (.*)$", out, re.M)} if status == 0 else {}
+
+        def name_judge(name, start, words):
+            ends = {"end": place(text, start + len(name)), "start": place(text, start)}
+            if words is None:
+                return lambda told: ("markdown" in json.dumps(told), False)
+            return lambda told: (told, {"contents": {"kind": "markdown", "value": words}, "range": ends})
+
+        def statement_judge(taken):
+            return lambda told: (told["contents"]["kind"] == "plaintext" and f", {taken}\n" in told["contents"]["value"], True)
+
+        found = [(start, name_judge(name, start, words)) for name, start, words in hovers_wanted(text, ranks)]
+        lines = text.split("\n")
+        for it in re.finditer(r"^at (\d+):(\d+) (take .*)$", out, re.M):
+            line, column = int(it[1]) - 1, int(it[2]) - 1
+            if re.match(r"[a-z]*", lines[line][column:])[0] in KEYWORDS:
+                found.append((sum(len(one) + 1 for one in lines[:line]) + column, statement_judge("takes" + it[3][4:])))
+        return found
 
     def actions(self, text, told, got):
         changes = changes_wanted(text, told)

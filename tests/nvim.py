@@ -3,7 +3,7 @@
 
 Where there is no Neovim (the package `neovim`), nothing is tried. In it a file with a fault is opened: its diagnostic is that of
 `check`. The text is put right: the diagnostic goes. The client's own requests then find the hints, the names of the top level, a
-declaration and what is held, and it lays the text out anew. The last line is `N passed, M failed`."""
+declaration, what is told of it and what is held, and it lays the text out anew. The last line is `N passed, M failed`."""
 import json
 import os
 import pathlib
@@ -35,8 +35,10 @@ told.hints = vim.tbl_map(function(it) return { it.position.line, it.position.cha
 told.symbols = vim.tbl_map(function(it) return it.name end, ask('textDocument/documentSymbol', {}))
 local found = ask('textDocument/definition', { position = { line = 2, character = 18 } })
 told.declared = { found.range.start.line, found.range.start.character }
-local hover = ask('textDocument/hover', { position = { line = 2, character = 18 } })
+local hover = ask('textDocument/hover', { position = { line = 2, character = 22 } })
 told.hover = hover.contents.value
+local named = ask('textDocument/hover', { position = { line = 2, character = 18 } })
+told.named = vim.lsp.util.convert_input_to_markdown_lines(named.contents)
 if vim.lsp.buf.format then
   vim.lsp.buf.format({ timeout_ms = 10000 })
 else
@@ -57,6 +59,7 @@ WANTED = {
     "symbols": ["G", "n", "f"],
     "declared": [1, 11],
     "hover": "f: holds nothing, takes G\n",
+    "named": ["```autolock", "global int n protected_by(G)", "```", "lock class G, rank 0"],
     "laid_out": ["lock G;", "global int n protected_by(G);", "atomic f(int k) { n = n + k; }"],
     "stopped": True,
 }

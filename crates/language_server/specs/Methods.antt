@@ -9,7 +9,7 @@ use Rattle.language_server.specs.declared.method.Method.TheVariants as method
 use Rattle.lsp_actions.specs.Actions.{AreActionsOf}
 use Rattle.lsp_formats.specs.Edits.{AreEditsOf}
 use Rattle.lsp_held.specs.Hints.{AreHintsOf}
-use Rattle.lsp_held.specs.Hover.{IsHoverOf}
+use Rattle.lsp_hovers.specs.Hovers.{IsHoverOf}
 use Rattle.lsp_links.specs.Links.{definition_data, references_data}
 use Rattle.lsp_links.specs.Renames.{IsName, rename_data}
 use Rattle.lsp_links.specs.Told.{IsToldOf}

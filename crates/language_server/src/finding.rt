@@ -9,7 +9,8 @@ use crate::method::Method;
 use crate::parameters::{lines, new_name, position, range, with_declaration};
 use lsp_actions::{DocumentRange, code_actions};
 use lsp_formats::formatting_edits;
-use lsp_held::{hints, hover};
+use lsp_held::hints;
+use lsp_hovers::hover;
 use lsp_links::{DocumentPosition, definition, references, rename};
 use lsp_positions::Position;
 use lsp_server::Request;
@@ -92,7 +93,7 @@ fn rename_found(alloc: Global, request: &Request<'_>) -> Result<Option<Value>, N
     }
 }
 
-/// Which locks are held at the statement at a position.
+/// What is told of the name at a position, or of the statement.
 fn hover_found(alloc: Global, request: &Request<'_>) -> Result<Option<Value>, NoMemory>
     ensures told { IfOk result (λ told. methods.Finds Method.Hover request.now.uri.now request.now.text.now
         (view request.now.params.now) (option_map view told)) }

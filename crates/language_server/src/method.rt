@@ -14,7 +14,7 @@ pub enum Method {
     DocumentSymbol,
     /// `textDocument/formatting`: the edits that lay the text out anew.
     Formatting,
-    /// `textDocument/hover`: which locks are held at the statement at a position.
+    /// `textDocument/hover`: what the name at a position is, or else which locks are held at the statement there.
     Hover,
     /// `textDocument/inlayHint`: which locks are taken where.
     InlayHint,

@@ -24,6 +24,14 @@ fn holds(token: &Token, byte: usize) -> bool
     }
 }
 
+/// Which token is the name at a position of a text: the name holds the position, or ends just before it.
+pub fn name_number(text: &[u8], tokens: &[Token], place: Position) -> Option<usize>
+    ensures { result ≡ links.name_number text.now place tokens.now }
+{
+    let byte = offset_of(text, place);
+    tokens.iter().position(|token| holds(token, byte))
+}
+
 /// A document whose text has tokens, with what its names mean.
 #[derive(Clone, Copy)]
 pub struct Linked<'a> {
@@ -54,20 +62,12 @@ impl<'a> Linked<'a> {
         }
     }
 
-    /// The name at a position.
-    fn name_number(&self, place: Position) -> Option<usize>
-        ensures { result ≡ links.name_number self.now.text.now place self.now.tokens.now }
-    {
-        let byte = offset_of(self.text, place);
-        self.tokens.iter().position(|token| holds(token, byte))
-    }
-
     /// Which token declares the name at a position.
     #[tactic(auto, unfolding(crate::specs::Links::declaration_at))]
     pub fn declaration_at(&self, place: Position) -> Option<usize>
         ensures { result ≡ links.declaration_at self.now.text.now place self.now.tokens.now }
     {
-        match self.name_number(place) {
+        match name_number(self.text, self.tokens, place) {
             Some(at) => self.declaration(at),
             None => None,
         }

@@ -11,7 +11,11 @@ use source::memory::NoMemory;
 use source::token::Token;
 use std::alloc::Global;
 
-/// The tokens of a text; none where it has a fault of tokens. The one error is a refused growth.
+/// The tokens of a text; none where it has a fault of tokens.
+///
+/// # Errors
+///
+/// Want of memory.
 pub fn tokens_of(alloc: Global, text: &str) -> Result<Option<Vec<Token>>, NoMemory>
     ensures found { IfOk result (λ found. AreTokensOf text.now (option_map (λ tokens. tokens.items) found)) }
     ensures only { (ts : List Tok) → length text.now ≤ SOURCE_LIMIT → HasTokens text.now ts →

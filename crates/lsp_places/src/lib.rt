@@ -3,6 +3,7 @@
 //! - [`symbols`]: the names of the top level, with their kinds ([`Kind`]), in their order.
 //! - [`declarations`]: for each token the one that declares the name that it is.
 //! - [`is_taken`]: whether a name can't be given to what a token declares.
+//! - [`word_at`], [`sign_at`], [`text_at`]: the keyword, the sign or the name that a token is.
 //!
 //! A name stands by its number among the tokens. `specs/Names.antt` says what declares what at the top level,
 //! `specs/Declarations.antt` what is declared within, and which declaration each name
@@ -16,5 +17,5 @@ mod tables;
 mod taken;
 
 pub use meaning::declarations;
-pub use names::{Kind, Symbol, symbols};
+pub use names::{Kind, Symbol, sign_at, symbols, text_at, word_at};
 pub use taken::is_taken;

@@ -29,7 +29,7 @@ pub struct Symbol {
 }
 
 /// The keyword that a token is.
-pub(crate) fn word_at(tokens: &[Token], at: usize) -> Option<Keyword>
+pub fn word_at(tokens: &[Token], at: usize) -> Option<Keyword>
     ensures { result ≡ names.word_at tokens.now at }
 {
     match tokens.get(at) {
@@ -39,7 +39,7 @@ pub(crate) fn word_at(tokens: &[Token], at: usize) -> Option<Keyword>
 }
 
 /// The sign that a token is.
-pub(crate) fn sign_at(tokens: &[Token], at: usize) -> Option<Sign>
+pub fn sign_at(tokens: &[Token], at: usize) -> Option<Sign>
     ensures { result ≡ names.sign_at tokens.now at }
 {
     match tokens.get(at) {
@@ -49,7 +49,7 @@ pub(crate) fn sign_at(tokens: &[Token], at: usize) -> Option<Sign>
 }
 
 /// The text of the name that a token is.
-pub(crate) fn text_at(tokens: &[Token], at: usize) -> Option<&str>
+pub fn text_at(tokens: &[Token], at: usize) -> Option<&str>
     ensures { option_map (λ text. text.now) result ≡ names.text_at tokens.entry.now at }
 {
     match tokens.get(at) {

@@ -1,0 +1,3 @@
+pub mod Extents
+pub mod Lines
+pub mod Classes

@@ -1,0 +1,2 @@
+-- What holds of the definitions, for the proofs of the crates above. Nobody has to believe these files.
+pub mod Within
