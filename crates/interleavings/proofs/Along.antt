@@ -1,6 +1,6 @@
 -- Many instructions of one thread are as many steps of it.
 use Rattle.std.proofs.Common.{◌≡◌, ℕ, zero, suc, ◌+◌, ◌-◌, ◌<◌, ◌≤◌, List, [], ◌∷◌, ◌++◌, length, replicate, set, Some}
-use Rattle.std.proofs.Common.{refl, sym, ap, ◌∙◌, subst, arith}
+use Rattle.std.proofs.Common.{refl, sym, ap, ap₂, ◌∙◌, subst, arith}
 use Rattle.std.specs.Prelude.{slice_get}
 use Rattle.std.proofs.lemmas.List.{set-set}
 use Rattle.std.proofs.lemmas.Option.{slice_get_within}
@@ -15,15 +15,16 @@ use Rattle.runner.specs.Working.Opens.{OpenOf, IsRunning, moved, moved_by, Ran}
 use Rattle.runner.specs.Working.Answers.{open_of, IsNamed}
 use Rattle.worlds.specs.declared.event.Event.{Event}
 use Rattle.worlds.specs.declared.event.Event.TheVariants as event
-use Rattle.worlds.specs.Worlds.{World, happens, world_after}
+use Rattle.worlds.specs.Worlds.{World, goes_on, happens, world_after}
 use Rattle.worlds.specs.Working.States.{StepsKeepSound}
 use Rattle.worlds.specs.Working.Ahead.{WorldsStayReady}
 use Rattle.interleavings.specs.declared.state.State.{State}
 use Rattle.interleavings.specs.declared.state.State.TheVariants as state
-use Rattle.interleavings.specs.Working.States.{state_of, world_of, IsTied}
+use Rattle.interleavings.specs.Working.Found.{AreMoves}
+use Rattle.interleavings.specs.Working.States.{state_of, thread_of, world_of, IsTied}
 use Rattle.interleavings.specs.Working.Steps.{Moved}
 use Rattle.interleavings.specs.Threads.{ThreadsOf, threads_of, with_steps}
-use Rattle.interleavings.proofs.Turning.{Done, done}
+use Rattle.interleavings.proofs.Turning.{Done, at_thread, done}
 use Rattle.interleavings.proofs.Many.{replicate_push, one_step_more}
 use Rattle.core_lang.specs.Theory.Items.{set_same, set_itself}
 use Rattle.worlds.specs.Theory.Steps.{steps_more}
@@ -69,6 +70,20 @@ module _ (plan : Plan) (m : Managed) (states : List State) (t : ℕ) (tied : IsT
       one_more j (moved_by j o) (next.Running (moved_by (suc j) o)) (slice_get_within states t (state.Running o) here)
       (all_along count o here running j (omega (arith, lt))) refl (running (suc j) lt)
 
+  -- each step of them is an instruction
+  pub each_moves : (count : ℕ) (o : OpenOf) → slice_get states t ≡ Some (state.Running o) →
+      ((k : ℕ) → k < count → IsRunning (moved_by k o)) →
+      (j : ℕ) → j < count → (happens plan (world_after plan (world_of m states) (replicate j t)) t).0 ≡ event.Moved
+  each_moves count o here running j lt =
+      let x : State = state.Running (moved_by j o) in
+      let later : List State = set states t x in
+      let so_far : RunTo j x = all_along count o here running j lt in
+      let here_later : slice_get later t ≡ Some x = set_same states t x (slice_get_within states t (state.Running o) here) in
+      let is = running j lt in
+      ap (λ (w : World). (happens plan w t).0) so_far.world
+      ∙ ap (λ (r : Event × World). r.0) (at_thread plan m later t x here_later
+      ∙ ap₂ (goes_on plan (world_of m later) t (thread_of x) (moved_by j o).activation) is.0 is.1)
+
   pub run_to : (most count : ℕ) (o : OpenOf) (n : Next) → slice_get states t ≡ Some (state.Running o) → IsRunning o →
       Ran most o count (open_of n) → IsNamed n → RunTo count (state_of n)
   run_to most zero o n here runs ran named =
@@ -101,6 +116,11 @@ module _ (plan : Plan) (m : Managed) (states last : List State) (t : ℕ) (o : O
       ∙ ap (threads_of plan) (sym k.world)
       ∙ ap (λ (w : ThreadsOf). with_steps w (replicate count t)) view
 
+  pub ran_moves : (most count : ℕ) → Ran most o count (open_of n) → AreMoves now t count
+  ran_moves most count ran =
+      subst (λ (w : ThreadsOf). AreMoves w t count) view
+      (each_moves plan m states t tied kept size sound ready strict count o here ran.running)
+
 -- ---- so many steps, and so many more
 
 replicate_more : (a b t : ℕ) → replicate (a + b) t ≡ replicate a t ++ replicate b t
@@ -109,7 +129,7 @@ replicate_more (suc a) b t =
     let number : suc a + b ≡ suc (a + b) = omega arith in
     ap (λ n. replicate n t) number ∙ ap (λ (ts : List ℕ). t ∷ ts) (replicate_more a b t)
 
-further_steps : (w : ThreadsOf) (a b t : ℕ) →
+pub further_steps : (w : ThreadsOf) (a b t : ℕ) →
     with_steps (with_steps w (replicate a t)) (replicate b t) ≡ with_steps w (replicate (a + b) t)
 further_steps w a b t =
     ap (threads_of w.plan) (sym (steps_more w.plan w.world (replicate a t) (replicate b t)) ∙ ap (world_after w.plan w.world) (sym (replicate_more a b t)))

@@ -8,3 +8,6 @@ pub mod Opening
 pub mod Many
 pub mod Along
 pub mod ComingTo
+pub mod Moving
+pub mod Stopping
+pub mod Finding

@@ -122,7 +122,7 @@ done_with plan m states t y e x m' size sound ready tied kept here k =
 
 -- ---- small facts
 
-at_thread : (plan : Plan) (m : Managed) (states : List State) (t : ℕ) (y : State) → slice_get states t ≡ Some y →
+pub at_thread : (plan : Plan) (m : Managed) (states : List State) (t : ℕ) (y : State) → slice_get states t ≡ Some y →
     happens plan (world_of m states) t ≡ steps_with plan (world_of m states) t (thread_of y) (thread_of y).active
 at_thread plan m states t y h = ap (thread_steps plan (world_of m states) t) (map_at thread_of states t y h)
 

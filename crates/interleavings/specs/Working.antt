@@ -2,3 +2,4 @@
 -- cites them.
 pub mod States
 pub mod Steps
+pub mod Found

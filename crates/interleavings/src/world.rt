@@ -7,6 +7,7 @@ ghost use Rattle.worlds.specs.Claims.{Headline};
 ghost use Rattle.interleavings.specs.Threads.{cell_in, at_opening, after_steps, with_steps, StopsAtBegin};
 ghost use Rattle.interleavings.specs.Statuses.{status_of};
 ghost use Rattle.interleavings.specs.Coming.{coming_to};
+ghost use Rattle.interleavings.specs.Working.Found.{AreMoves};
 ghost use Rattle.source_steps.specs.Turns.{steps_of};
 
 use crate::coming::Coming;
@@ -104,9 +105,10 @@ impl<'p> World<'p> {
     }
 
     // As many steps of a thread as are instructions of its open section, but at most so many.
-    fn run_on(&mut self, thread: u32, most: usize) -> usize
+    pub(crate) fn run_on(&mut self, thread: u32, most: usize) -> usize
         ensures steps { self.new ≡ with_steps self.old (replicate result thread) }
         ensures within { result ≤ most }
+        ensures moves { AreMoves self.old thread result }
     {
         worlds::laws::steps_keep_sound();
         worlds::laws::worlds_stay_ready();
@@ -130,7 +132,7 @@ impl<'p> World<'p> {
     }
 
     // So many steps of a thread.
-    fn take(&mut self, alloc: Global, turn: Turn) -> Result<(), NoMemory>
+    pub(crate) fn take(&mut self, alloc: Global, turn: Turn) -> Result<(), NoMemory>
         ensures ok { OnOk result (self.new ≡ with_steps self.old (replicate turn.count turn.thread)) }
         ensures err { OnErr result (StopsAtBegin self.old (replicate turn.count turn.thread) self.new) }
     {

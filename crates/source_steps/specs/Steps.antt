@@ -1,18 +1,22 @@
 -- What a steps file says.
 use Rattle.std.specs.Prelude.{◌≡◌, ℕ, ◌+◌, ◌*◌, ◌-◌, Bool, ◌==◌, ◌&&◌, ◌||◌, not, nat_le, nat_lt, if◌then◌else◌, List}
-use Rattle.std.specs.Prelude.{[], ◌∷◌, ◌++◌, length, take, drop, ⊤, Result, Ok, Err, codes}
+use Rattle.std.specs.Prelude.{[], ◌∷◌, ◌++◌, length, take, drop, ⊤, Option, Some, None, Result, Ok, Err, codes, string_bytes}
 use Rattle.std.specs.List.{slice_split, list_all, fold, position_or_len}
+use Rattle.std.specs.Str.{bytes_eq}
 use Rattle.std.specs.Global.{Vec}
+use Rattle.core_lang.specs.declared.typed.Thread.{Thread}
 use Rattle.source.specs.Faults.{place_text}
-use Rattle.source_steps.specs.declared.turn.Turn.{Turn}
-use Rattle.source_steps.specs.declared.reading.Reader.{Reader}
+use Rattle.source.specs.Texts.{is_name_byte}
+use Rattle.source_steps.specs.declared.item.Until.{Until}
+use Rattle.source_steps.specs.declared.item.Until.TheVariants.{Count, Stop, CallEnd}
+use Rattle.source_steps.specs.declared.item.Item.{Item}
 use Rattle.source_steps.specs.declared.refusal.StepsCode.{StepsCode}
 use Rattle.source_steps.specs.declared.refusal.StepsCode.TheVariants.{BadItem, NoSuchThread, TooManySteps}
 use Rattle.source_steps.specs.declared.refusal.StepsFault.{StepsFault}
 use Rattle.source_steps.specs.declared.refusal.StepsRefusal.{StepsRefusal}
 use Rattle.source_steps.specs.declared.refusal.StepsRefusal.TheVariants.{Fault, NoMemory}
 
--- ---- an item
+-- ---- how an item is written
 
 -- space, tab, carriage return, line feed
 abbrev pub is_white : ℕ → Bool
@@ -29,70 +33,87 @@ are_digits bytes = not (length bytes == 0) && list_all is_digit bytes
 abbrev pub value_of : List ℕ → ℕ
 value_of bytes = fold (λ value byte. value * 10 + (byte - 48)) 0 bytes
 
--- the place of the first star, or the length
-abbrev pub star_at : List ℕ → ℕ
-star_at bytes = position_or_len (λ byte. byte == 42) bytes
+-- how many letters, digits and `_` come first: they say which thread
+abbrev pub thread_len : List ℕ → ℕ
+thread_len bytes = position_or_len (λ byte. not (is_name_byte byte)) bytes
 
--- what stands before the star, or all
-abbrev pub thread_part : List ℕ → List ℕ
-thread_part bytes = take (star_at bytes) bytes
+-- where an item's steps end, by what stands behind its thread: nothing, `*` and digits, `!`, or `+`
+abbrev pub until_of : List ℕ → Option Until
+until_of [] = Some (Count 1)
+until_of (sign ∷ rest) =
+    if (sign == 42) && are_digits rest then Some (Count (value_of rest))
+    else if (sign == 33) && (length rest == 0) then Some Stop
+    else if (sign == 43) && (length rest == 0) then Some CallEnd
+    else None
 
--- what stands after the star, or a one
-abbrev pub count_part : List ℕ → List ℕ
-count_part bytes = if nat_lt (star_at bytes) (length bytes) then drop (star_at bytes + 1) bytes else 49 ∷ []
+-- the same of a whole item, which says a thread
+abbrev pub until_in : List ℕ → Option Until
+until_in bytes = if thread_len bytes == 0 then None else until_of (drop (thread_len bytes) bytes)
+
+-- ---- what it means
+
+abbrev pub is_named : List ℕ → Thread → Bool
+is_named name thread = bytes_eq (string_bytes thread.name) name
+
+-- the number of a thread that is written as its number, or as its name; where there is none, too great a one
+abbrev pub number_of : List Thread → List ℕ → ℕ
+number_of threads bytes = if are_digits bytes then value_of bytes else position_or_len (is_named bytes) threads
 
 -- how many steps a file may have
 abbrev pub most_steps : ℕ
 most_steps = 10000000
 
--- an item's turn, behind so many steps, where there are so many threads; or what is wrong with it
-abbrev pub turn_of : ℕ → ℕ → List ℕ → Result Turn StepsCode
-turn_of threads before bytes =
-    let thread = value_of (thread_part bytes) in
-    let count = value_of (count_part bytes) in
-    if not (are_digits (thread_part bytes) && are_digits (count_part bytes)) then Err BadItem
-    else if nat_le threads thread then Err NoSuchThread
-    else if nat_lt most_steps (before + count) then Err TooManySteps
-    else Ok (record { thread = thread; count = count })
+-- how many steps an item counts
+abbrev pub counted : Until → ℕ
+counted (Count count) = count
+counted Stop = 0
+counted CallEnd = 0
+
+-- what is wrong where there is no thread of this number, or of this name
+abbrev pub no_thread : List ℕ → StepsCode
+no_thread word = if are_digits word then NoSuchThread else BadItem
+
+-- an item that starts at a place, behind so many counted steps, of the thread that is written so; or what is wrong with it
+abbrev pub item_by : List Thread → ℕ → ℕ → List ℕ → Option Until → Result Item StepsCode
+item_by threads start before word None = Err BadItem
+item_by threads start before word (Some until) =
+    if nat_le (length threads) (number_of threads word) then Err (no_thread word)
+    else if nat_lt most_steps (before + counted until) then Err TooManySteps
+    else Ok (record { thread = number_of threads word; until = until; start = start })
+
+-- the item that these bytes are
+abbrev pub item_of : List Thread → ℕ → ℕ → List ℕ → Result Item StepsCode
+item_of threads start before bytes =
+    item_by threads start before (take (thread_len bytes) bytes) (until_in bytes)
 
 -- ---- a file
 
--- a turn, in front of others
-abbrev pub in_front : List Turn → Result (List Turn) StepsFault → Result (List Turn) StepsFault
-in_front turns (Ok more) = Ok (turns ++ more)
-in_front turns (Err fault) = Err fault
+-- some, in front of others
+abbrev pub in_front : {T : Type 0} → List T → Result (List T) StepsFault → Result (List T) StepsFault
+in_front some (Ok more) = Ok (some ++ more)
+in_front some (Err fault) = Err fault
 
--- an item's turn and what follows it, or the item's fault at its start
-abbrev pub and_then : Result Turn StepsCode → ℕ → (Turn → Result (List Turn) StepsFault) → Result (List Turn) StepsFault
-and_then (Ok turn) start rest = in_front (turn ∷ []) (rest turn)
+-- an item and what follows it, or the item's fault at its start
+abbrev pub and_then : Result Item StepsCode → ℕ → (Item → Result (List Item) StepsFault) → Result (List Item) StepsFault
+and_then (Ok item) start rest = in_front (item ∷ []) (rest item)
 and_then (Err code) start rest = Err (record { code = code; start = start })
 
--- of the pieces between white bytes, from a place on and behind so many steps; an empty piece is no item
-abbrev pub turns_from : ℕ → ℕ → ℕ → List (List ℕ) → Result (List Turn) StepsFault
-turns_from threads start before [] = Ok []
-turns_from threads start before ([] ∷ pieces) = turns_from threads (start + 1) before pieces
-turns_from threads start before ((byte ∷ bytes) ∷ pieces) =
-    and_then (turn_of threads before (byte ∷ bytes)) start
-    (λ (turn : Turn). turns_from threads (start + (length (byte ∷ bytes) + 1)) (before + turn.count) pieces)
+-- of the pieces between white bytes, from a place on and behind so many counted steps; an empty piece is no item
+abbrev pub items_from : List Thread → ℕ → ℕ → List (List ℕ) → Result (List Item) StepsFault
+items_from threads start before [] = Ok []
+items_from threads start before ([] ∷ pieces) = items_from threads (start + 1) before pieces
+items_from threads start before ((byte ∷ bytes) ∷ pieces) =
+    and_then (item_of threads start before (byte ∷ bytes)) start
+    (λ (item : Item).
+    items_from threads (start + (length (byte ∷ bytes) + 1)) (before + counted item.until) pieces)
 
--- the turns of a file's items, or the fault of the first faulty one, where there are so many threads
-abbrev pub turns_in : ℕ → List ℕ → Result (List Turn) StepsFault
-turns_in threads text = turns_from threads 0 0 (slice_split is_white text)
+-- a file's items, or the fault of the first faulty one, of a program with these threads
+abbrev pub items_in : List Thread → List ℕ → Result (List Item) StepsFault
+items_in threads text = items_from threads 0 0 (slice_split is_white text)
 
--- a piece was taken: whatever pieces follow, all turns are as they were with the piece still to come
-abbrev pub TakesPiece : ℕ → ℕ → List ℕ → Reader → Reader → Type 0
-TakesPiece threads start piece old new = (pieces : List (List ℕ)) →
-    in_front new.turns.items (turns_from threads (start + (length piece + 1)) new.steps pieces)
-    ≡ in_front old.turns.items (turns_from threads start old.steps (piece ∷ pieces))
-
--- the fault of a piece at a place, behind so many steps, whatever pieces follow
-abbrev pub IsFaultOfPiece : ℕ → ℕ → ℕ → List ℕ → StepsFault → Type 0
-IsFaultOfPiece threads start before piece fault = (pieces : List (List ℕ)) →
-    turns_from threads start before (piece ∷ pieces) ≡ Err fault
-
--- the turns were read, or the fault was found, or memory ran out
-abbrev pub Answers : Result (Vec Turn) StepsRefusal → Result (List Turn) StepsFault → Type 0
-Answers (Ok turns) said = said ≡ Ok turns.items
+-- what was said was found, or the fault was, or memory ran out
+abbrev pub Answers : {T : Type 0} → Result (Vec T) StepsRefusal → Result (List T) StepsFault → Type 0
+Answers (Ok found) said = said ≡ Ok found.items
 Answers (Err (Fault fault)) said = said ≡ Err fault
 Answers (Err NoMemory) said = ⊤
 

@@ -2,11 +2,13 @@
 
 ghost use Rattle.std.specs.Prelude.{◌≡◌, ◌<◌, ◌≤◌, ◌+◌, drop, length, OnOk};
 ghost use Rattle.std.specs.List.{position_or_len};
-ghost use Rattle.source_steps.specs.Steps.{is_white, turns_in, most_steps, TakesPiece, IsFaultOfPiece, IfFault, Answers};
+ghost use Rattle.source_steps.specs.Steps.{is_white, items_in, most_steps, IfFault, Answers};
+ghost use Rattle.source_steps.specs.Working.Reading.{TakesPiece, IsFaultOfPiece};
 
-use crate::item::turn;
+use crate::item::Item;
 use crate::refusal::{StepsFault, StepsRefusal};
-use crate::turn::Turn;
+use crate::writing::{counted, item};
+use core_lang::typed::Thread;
 use std::alloc::Global;
 
 fn is_white(byte: u8) -> bool
@@ -37,28 +39,29 @@ fn after(bytes: &[u8], place: usize) -> &[u8]
     &bytes[place + 1..]
 }
 
-/// Turns that are read, and how many steps they are.
+/// Items that are read, and how many steps they count.
 #[derive(Drop)]
 struct Reader {
-    turns: Vec<Turn>,
+    items: Vec<Item>,
     steps: usize,
 }
 
 impl Reader {
-    // The next piece, which is an item if it is not empty, where there are so many threads.
-    fn read(&mut self, piece: &[u8], start: usize, threads: u32) -> Result<(), StepsRefusal>
-        requires { self.old.steps ≤ most_steps }
-        ensures ok { OnOk result (TakesPiece threads start piece.now self.old self.new) }
+    // The next piece, which is an item if it is not empty, of a program with these threads.
+    fn read(&mut self, piece: &[u8], start: usize, threads: &[Thread]) -> Result<(), StepsRefusal>
+        requires few { length threads.now ≤ u32.MAX }
+        requires most { self.old.steps ≤ most_steps }
+        ensures ok { OnOk result (TakesPiece threads.now start piece.now self.old self.new) }
         ensures most { OnOk result (self.new.steps ≤ most_steps) }
-        ensures fault { IfFault result (IsFaultOfPiece threads start self.old.steps piece.now) }
+        ensures fault { IfFault result (IsFaultOfPiece threads.now start self.old.steps piece.now) }
     {
         if piece.is_empty() {
             return Ok(());
         }
-        match turn(piece, threads, self.steps) {
-            Ok(turn) => {
-                self.turns.push(turn)?;
-                self.steps += turn.count;
+        match item(piece, threads, start, self.steps) {
+            Ok(item) => {
+                self.items.push(item)?;
+                self.steps += counted(item.until);
                 Ok(())
             }
             Err(code) => Err(StepsRefusal::Fault(StepsFault { code, start })),
@@ -66,16 +69,17 @@ impl Reader {
     }
 }
 
-/// The turns that the items of a file say, in order, where there are so many threads.
+/// The items of a file, in order, of a program with these threads.
 ///
 /// # Errors
 ///
 /// The fault of the first faulty item, or want of memory.
-pub fn read_steps(alloc: Global, text: &[u8], threads: u32) -> Result<Vec<Turn>, StepsRefusal>
-    ensures { Answers result (turns_in threads text.now) }
+pub fn read_items(alloc: Global, text: &[u8], threads: &[Thread]) -> Result<Vec<Item>, StepsRefusal>
+    requires { length threads.now ≤ u32.MAX }
+    ensures { Answers result (items_in threads.now text.now) }
 {
     let mut reader = Reader {
-        turns: Vec::new(alloc),
+        items: Vec::new(alloc),
         steps: 0,
     };
     let mut rest = text;
@@ -87,8 +91,8 @@ pub fn read_steps(alloc: Global, text: &[u8], threads: u32) -> Result<Vec<Turn>,
             Err(refusal) => return Err(refusal),
         }
         if len == rest.len() {
-            let Reader { turns, steps: _ } = reader;
-            return Ok(turns);
+            let Reader { items, steps: _ } = reader;
+            return Ok(items);
         }
         rest = after(rest, len);
         start += len + 1;

@@ -4,13 +4,14 @@ ghost use Rattle.std.specs.Prelude.{◌≡◌};
 ghost use Rattle.source_steps.specs.declared.refusal.StepsRefusal.TheVariants.{NoMemory};
 ghost use Rattle.source_steps.specs.Steps.{code_name, code_text};
 
+use source::memory;
 use std::alloc::{AllocError, AllocFailed};
 use thiserror::Error;
 
 /// What is wrong with an item. The documents call each by its printed name, `S1` to `S3`.
 #[derive(Clone, Copy, Debug, PartialEq, Eq)]
 pub enum StepsCode {
-    /// `S1`: neither digits, nor digits on both sides of a `*`.
+    /// `S1`: neither a number nor a thread's name, alone or before a `*` and digits, a `!` or a `+`.
     BadItem,
     /// `S2`: no thread has this number.
     NoSuchThread,
@@ -74,6 +75,14 @@ impl<T: Drop> From<AllocFailed<T>> for StepsRefusal {
     ghost from_gives = { λ _ e. e ≡ NoMemory };
 
     fn from(_e: AllocFailed<T>) -> StepsRefusal {
+        StepsRefusal::NoMemory
+    }
+}
+
+impl From<memory::NoMemory> for StepsRefusal {
+    ghost from_gives = { λ _ e. e ≡ NoMemory };
+
+    fn from(_e: memory::NoMemory) -> StepsRefusal {
         StepsRefusal::NoMemory
     }
 }

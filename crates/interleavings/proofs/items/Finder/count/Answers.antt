@@ -1,0 +1,20 @@
+use Rattle.std.proofs.Common.{get_or, arith}
+use Rattle.source_steps.specs.declared.item.Item.{Item}
+use Rattle.source_steps.specs.declared.item.Until.TheVariants.{Count}
+use Rattle.interleavings.specs.Working.Found.{IsTooMuch, CountIsTooMuch}
+use Rattle.interleavings.proofs.Finding.{weaker_fault, counts_on, counts_fault}
+use Rattle.interleavings.proofs.items.Finder.count.Goals as goal
+
+pub returns-in-Err-clause-fault : goal.returns-in-Err-clause-fault
+returns-in-Err-clause-fault c =
+    let items = c.args.items.now in
+    let i = c.loop-item.item-index in
+    let d : Item = record { thread = 0; until = Count 0; start = 0 } in
+    weaker_fault (Unit {0}) c.in-Err.refusal (IsTooMuch (get_or items i d) c.count_within.result) (CountIsTooMuch items c.args.self.now)
+    (counts_fault items i d (omega arith) c.args.self.now c.loop-item.self c.loop-item.invariant c.count_within.result c.count_within.ensures.count)
+    c.in-Err.ensures.fault
+
+pub loop-item-preserved : goal.loop-item-preserved
+loop-item-preserved c =
+    counts_on c.args.items.now c.loop-item.item-index (record { thread = 0; until = Count 0; start = 0 }) (omega arith)
+    c.args.self.now c.loop-item.self c.loop-item.invariant c.count_within.result c.count_within.ensures.count c.add.new.self c.in-Ok.ensures.ok
