@@ -35,15 +35,21 @@ numbers_from program names number (cell ∷ cells) =
 abbrev pub names_in : List ℕ → List (List ℕ)
 names_in text = slice_split (λ c. nat_eq c 44) text
 
+-- the names in a text and more of them; nothing, where neither are given
+abbrev pub names_together : Option (List ℕ) → Option (List (List ℕ)) → Option (List (List ℕ))
+names_together None more = more
+names_together (Some text) None = Some (names_in text)
+names_together (Some text) (Some more) = Some (names_in text ++ more)
+
 -- what is asked for by these names: the cells of each; all, where none are given
-abbrev pub AreAsked : Typed → Option (List ℕ) → Cells → Type 0
+abbrev pub AreAsked : Typed → Option (List (List ℕ)) → Cells → Type 0
 AreAsked program None Every = Unit {0}
 AreAsked program None (These numbers) = ⊥
-AreAsked program (Some text) Every = ⊥
-AreAsked program (Some text) (These numbers) =
-    (list_all (is_known program) (names_in text) ≡ true) × (numbers.items ≡ numbers_from program (names_in text) 0 program.cells.items)
+AreAsked program (Some names) Every = ⊥
+AreAsked program (Some names) (These numbers) =
+    (list_all (is_known program) names ≡ true) × (numbers.items ≡ numbers_from program names 0 program.cells.items)
 
 -- the name is one of those that are given, and is of no cell
-abbrev pub IsUnknownIn : Typed → Option (List ℕ) → List ℕ → Type 0
+abbrev pub IsUnknownIn : Typed → Option (List (List ℕ)) → List ℕ → Type 0
 IsUnknownIn program None name = ⊥
-IsUnknownIn program (Some text) name = Contains (names_in text) name × (is_known program name ≡ false)
+IsUnknownIn program (Some names) name = Contains names name × (is_known program name ≡ false)

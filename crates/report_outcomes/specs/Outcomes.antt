@@ -7,10 +7,8 @@ use Rattle.std.specs.Prelude.{ℕ, ◌+◌, Bool, true, false, if◌then◌else�
 use Rattle.std.specs.Prelude.{Option, Some, None, slice_get, slice_index, slice_index_or}
 use Rattle.std.specs.List.{flat_map}
 use Rattle.std.specs.Option.{option_eq, option_map_or}
-use Rattle.std.specs.Ordering.{int_eq}
 use Rattle.std.specs.Fmt.{decimal}
 use Rattle.core_lang.specs.declared.value.Value.{Value}
-use Rattle.core_lang.specs.declared.value.Value.TheVariants.{Int, Ref}
 use Rattle.core_lang.specs.declared.value.Outcome.{Outcome}
 use Rattle.core_lang.specs.declared.value.Outcome.TheVariants.{Ends, Returns, Traps}
 use Rattle.core_lang.specs.declared.typed.Typed.{Typed}
@@ -23,15 +21,10 @@ use Rattle.outcomes.specs.declared.outcome.Cells.TheVariants.{Every, These}
 use Rattle.outcomes.specs.Ends.{Left, Told}
 use Rattle.report.specs.History.{call_head, cell_line}
 use Rattle.report.specs.Pieces.{outcome_text}
+use Rattle.report.specs.Values.{is_value}
 use Rattle.source_histories.specs.declared.format.Format.TheVariants.{One}
 
 -- ---- what is as the first end has it
-
-abbrev pub is_value : Value → Value → Bool
-is_value (Int a) (Int b) = int_eq a b
-is_value (Int a) (Ref b) = false
-is_value (Ref a) (Int b) = false
-is_value (Ref a) (Ref b) = option_eq nat_eq a b
 
 abbrev pub is_outcome : Outcome → Outcome → Bool
 is_outcome Ends Ends = true
@@ -98,6 +91,10 @@ end_text program asked first end =
     line (codes "outcome " ++ decimal end.count ++ codes " after" ++ order_text end.order)
     ++ line (codes "cells") ++ cell_texts program asked.cells first.cells 0 end.left.cells
     ++ answers_text asked.answers program first.answers end.left.answers ++ line (codes "end")
+
+-- all that the cells hold that are asked for
+abbrev pub whole_cells_text : Typed → Cells → List Value → List ℕ
+whole_cells_text program cells values = line (codes "cells") ++ cell_texts program cells [] 0 values ++ line (codes "end")
 
 -- nothing, from which everything differs
 abbrev pub nothing : Left

@@ -7,17 +7,19 @@ ghost use Rattle.core_lang.specs.Serial.{all_calls};
 ghost use Rattle.locks.specs.Texts.{AddsText};
 ghost use Rattle.outcomes.specs.Ends.{told_of};
 ghost use Rattle.report.specs.Entry.{scheduled_called};
-ghost use Rattle.report_outcomes.specs.Outcomes.{order_text, end_text, ends_text, looked_at, head_text, outcomes_text};
+ghost use Rattle.report_outcomes.specs.Outcomes.{order_text, end_text, ends_text, looked_at, head_text, outcomes_text, whole_cells_text};
 ghost use Rattle.report_outcomes.specs.Outcomes.{number_in, cell_text, cell_texts, answer_text, answer_texts, answers_text};
-ghost use Rattle.report_outcomes.specs.Outcomes.{is_value, is_outcome, nothing, unless};
+ghost use Rattle.report_outcomes.specs.Outcomes.{is_outcome, nothing, unless};
+ghost use Rattle.report.specs.Values.{is_value};
 ghost use Rattle.report_outcomes.specs.Working.Known.{left_known};
 
 use crate::calls::calls_of;
-use crate::same::{is_answer, is_value};
+use crate::same::is_answer;
 use core_lang::typed::Typed;
 use core_lang::value;
 use core_lang::value::Value;
 use outcomes::outcome::{Asked, Cells, Outcome};
+use report::is_value;
 use report::lines::{push_call_head, push_cell};
 use report::pieces::push_outcome;
 use report::record::Called;
@@ -25,8 +27,8 @@ use source::memory::NoMemory;
 use source_histories::Format;
 use std::alloc::{AllocError, Global};
 
-/// The threads of an order, each with a space before it.
-fn push_order(out: &mut String, order: &[usize]) -> Result<(), AllocError>
+/// The threads of an order, each with a space before it. The one error is a refused growth.
+pub fn push_order(out: &mut String, order: &[usize]) -> Result<(), AllocError>
     ensures { OnOk result (AddsText (order_text order.now) out.old out.new) }
 {
     for thread in order {
@@ -253,6 +255,17 @@ impl Ends<'_> {
         out.push_str("cells\n")?;
         self.push_cells(out, known.cells, &end.cells)?;
         self.push_asked_answers(out, known.answers, &end.answers, calls)?;
+        out.push_str("end\n")
+    }
+
+    /// All that the cells hold at an end: a line `cells`, a line for each that is asked for, a line `end`. The one error is a
+    /// refused growth.
+    pub fn push_whole_cells(&self, out: &mut String, end: &Outcome) -> Result<(), AllocError>
+        ensures { OnOk result (AddsText
+            (whole_cells_text self.now.program.now self.now.asked.now.cells (told_of end.now).left.cells) out.old out.new) }
+    {
+        out.push_str("cells\n")?;
+        self.push_cells(out, &[], &end.cells)?;
         out.push_str("end\n")
     }
 

@@ -2,7 +2,7 @@
 
 ghost use Rattle.std.specs.Prelude.{◌≡◌, true, false, IfOk, MatchResult, Contains, MatchOption, map, option_map};
 ghost use Rattle.std.specs.List.{list_all, list_any};
-ghost use Rattle.report_outcomes.specs.Names.{goes_on, is_named, is_known, numbers_from, names_in, AreAsked, IsUnknownIn};
+ghost use Rattle.report_outcomes.specs.Names.{goes_on, is_named, is_known, numbers_from, names_in, names_together, AreAsked, IsUnknownIn};
 
 use core_lang::typed::{Cell, Typed};
 use outcomes::outcome::Cells;
@@ -30,8 +30,8 @@ fn goes_on(name: &[u8], text: &[u8]) -> bool
     }
 }
 
-/// Whether a cell is of a name.
-fn is_named(alloc: Global, program: &Typed, name: &str, cell: &Cell) -> Result<bool, AllocError>
+/// Whether a cell is of a name. The one error is a refused growth.
+pub fn is_named(alloc: Global, program: &Typed, name: &str, cell: &Cell) -> Result<bool, AllocError>
     ensures { IfOk result (λ is. is ≡ is_named program.now name.now cell.now) }
 {
     let mut text = String::new(alloc);
@@ -39,8 +39,8 @@ fn is_named(alloc: Global, program: &Typed, name: &str, cell: &Cell) -> Result<b
     Ok(goes_on(name.as_bytes(), text.as_bytes()))
 }
 
-/// Whether some cell is of a name.
-fn is_known(alloc: Global, program: &Typed, name: &str) -> Result<bool, AllocError>
+/// Whether some cell is of a name. The one error is a refused growth.
+pub fn is_known(alloc: Global, program: &Typed, name: &str) -> Result<bool, AllocError>
     ensures { IfOk result (λ is. is ≡ is_known program.now name.now) }
 {
     for cell in &program.cells {
@@ -81,8 +81,8 @@ fn unknown<'n>(
     Ok(None)
 }
 
-/// The numbers of the cells that are of these names.
-fn numbers(alloc: Global, program: &Typed, names: &[&str]) -> Result<Vec<usize>, AllocError>
+/// The numbers of the cells that are of these names, each once, in order. The one error is a refused growth.
+pub fn numbers_of(alloc: Global, program: &Typed, names: &[&str]) -> Result<Vec<usize>, AllocError>
     ensures { IfOk result (λ numbers. numbers.items ≡ numbers_from program.now (map (λ name. name.now) names.now) 0 program.now.cells.items) }
 {
     let mut numbers = Vec::new(alloc);
@@ -101,8 +101,29 @@ fn split<'t>(alloc: Global, text: &'t str) -> Result<Vec<&'t str>, AllocError>
     text.split(',').collect(alloc)
 }
 
-/// What is asked for by names with a comma between: the cells of each, or all, where none are given; or the first name that
-/// no cell is of.
+/// The names in a text and more of them, if any are given.
+fn names_together<'t>(
+    alloc: Global,
+    text: Option<&'t str>,
+    more: Option<&[&'t str]>,
+) -> Result<Option<Vec<&'t str>>, AllocError>
+    ensures { IfOk result (λ names. option_map (λ names. map (λ name. name.now) names.items) names
+        ≡ names_together (option_map (λ text. text.now) text.entry) (option_map (λ more. map (λ name. name.now) more.now) more.entry)) }
+{
+    match (text, more) {
+        (None, None) => Ok(None),
+        (Some(text), None) => Ok(Some(split(alloc, text)?)),
+        (None, Some(more)) => Ok(Some(Vec::from_slice(alloc, more)?)),
+        (Some(text), Some(more)) => {
+            let mut names = split(alloc, text)?;
+            names.extend_from_slice(more)?;
+            Ok(Some(names))
+        }
+    }
+}
+
+/// What is asked for by names, those in a text with a comma between and more of them: the cells of each, or all, where neither
+/// are given; or the first name that no cell is of.
 ///
 /// # Errors
 ///
@@ -111,18 +132,18 @@ pub fn asked_cells<'t>(
     alloc: Global,
     program: &Typed,
     text: Option<&'t str>,
+    more: Option<&[&'t str]>,
 ) -> Result<Result<Cells, &'t str>, NoMemory>
-    ensures { IfOk result (λ asked. MatchResult asked
-        (AreAsked program.now (option_map (λ text. text.now) text.entry))
-        (λ name. IsUnknownIn program.now (option_map (λ text. text.now) text.entry) name.now)) }
+    ensures { IfOk result (λ asked. let names =
+        names_together (option_map (λ text. text.now) text.entry) (option_map (λ more. map (λ name. name.now) more.now) more.entry) in
+        MatchResult asked (AreAsked program.now names) (λ name. IsUnknownIn program.now names name.now)) }
 {
-    let Some(text) = text else {
+    let Some(names) = names_together(alloc, text, more)? else {
         return Ok(Ok(Cells::Every));
     };
-    let names = split(alloc, text)?;
     if let Some(name) = unknown(alloc, program, &names)? {
         return Ok(Err(name));
     }
-    let numbers = numbers(alloc, program, &names)?;
+    let numbers = numbers_of(alloc, program, &names)?;
     Ok(Ok(Cells::These(numbers)))
 }

@@ -2,20 +2,10 @@
 
 ghost use Rattle.std.specs.Prelude.{◌≡◌};
 ghost use Rattle.std.specs.Option.{option_eq};
-ghost use Rattle.report_outcomes.specs.Outcomes.{is_value, is_outcome};
+ghost use Rattle.report_outcomes.specs.Outcomes.{is_outcome};
 
-use core_lang::value::{Outcome, Value};
-
-/// Whether two values are the same.
-pub(crate) fn is_value(a: Value, b: Value) -> bool
-    ensures { result ≡ is_value a b }
-{
-    match (a, b) {
-        (Value::Int(a), Value::Int(b)) => a == b,
-        (Value::Ref(a), Value::Ref(b)) => a == b,
-        _ => false,
-    }
-}
+use core_lang::value::Outcome;
+use report::is_value;
 
 /// Whether calls ended in the same way.
 fn is_outcome(a: Outcome, b: Outcome) -> bool

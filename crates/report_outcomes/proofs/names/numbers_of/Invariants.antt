@@ -1,6 +1,6 @@
 use Rattle.std.proofs.Common.{◌≡◌, ◌++◌, drop, map}
 use Rattle.report_outcomes.specs.Names.{numbers_from}
-use Rattle.report_outcomes.proofs.names.numbers.Given as goal
+use Rattle.report_outcomes.proofs.names.numbers_of.Given as goal
 
 -- the numbers so far and those of the cells that are left are all
 abbrev pub invariant-loop-number : goal.invariant-loop-number

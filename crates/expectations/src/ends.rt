@@ -1,0 +1,92 @@
+//! What is told of ends of which something is expected.
+
+ghost use Rattle.std.specs.Prelude.{◌≡◌, IfOk, OnOk, string_bytes, map, option_map};
+ghost use Rattle.locks.specs.Texts.{AddsText};
+ghost use Rattle.outcomes.specs.Ends.{told_of};
+ghost use Rattle.expectations.specs.Sums.{holds};
+ghost use Rattle.expectations.specs.Breaches.{breach_in, scope_text, held_text, broken_text, expected_text};
+
+use crate::comparison::Comparison;
+use outcomes::outcome::Outcome;
+use report_outcomes::{Ends, push_order};
+use source::memory::NoMemory;
+use std::alloc::{AllocError, Global};
+
+/// Of which orders these are the ends, where so many states are counted if they are all.
+fn push_scope(out: &mut String, states: Option<usize>) -> Result<(), AllocError>
+    ensures { OnOk result (AddsText (scope_text states) out.old out.new) }
+{
+    match states {
+        Some(_) => out.push_str("all orders"),
+        None => out.push_str("the orders drawn"),
+    }
+}
+
+/// Ends, and what is expected of each.
+#[derive(Drop)]
+pub struct ExpectedEnds<'a> {
+    /// The ends.
+    pub ends: &'a Ends<'a>,
+    /// What is expected, as it was written.
+    pub text: &'a str,
+    /// The same of the program's cells.
+    pub comparison: &'a Comparison,
+}
+
+impl ExpectedEnds<'_> {
+    /// The first end that doesn't meet it.
+    pub fn breach(&self) -> Option<&Outcome>
+        ensures { option_map (λ end. told_of end.now) result
+            ≡ breach_in self.now.ends.now.asked.now.cells self.now.comparison.now (map told_of self.now.ends.now.ends.now) }
+    {
+        let cells = &self.ends.asked.cells;
+        for end in self.ends.ends {
+            if !self.comparison.holds(cells, &end.cells) {
+                return Some(end);
+            }
+        }
+        None
+    }
+
+    /// That all ends meet it.
+    fn push_held(&self, out: &mut String) -> Result<(), AllocError>
+        ensures { OnOk result (AddsText (held_text self.now.text.now self.now.ends.now.states) out.old out.new) }
+    {
+        out.push_str("expected ")?;
+        out.push_str(self.text)?;
+        out.push_str(" holds in ")?;
+        push_scope(out, self.ends.states)?;
+        out.push_str("\n")
+    }
+
+    /// The order that leads to an end which doesn't meet it, and what the cells hold there.
+    fn push_broken(&self, out: &mut String, end: &Outcome) -> Result<(), AllocError>
+        ensures { OnOk result (AddsText (broken_text self.now.ends.now.program.now self.now.ends.now.asked.now.cells self.now.text.now
+            (told_of end.now)) out.old out.new) }
+    {
+        out.push_str("expected ")?;
+        out.push_str(self.text)?;
+        out.push_str(" fails after")?;
+        push_order(out, &end.order)?;
+        out.push_str("\n")?;
+        self.ends.push_whole_cells(out, end)
+    }
+
+    /// Whether all ends meet it; else an order that leads to one which doesn't, and what the cells hold there.
+    ///
+    /// # Errors
+    ///
+    /// Want of memory.
+    pub fn text(&self, alloc: Global) -> Result<String, NoMemory>
+        ensures { IfOk result (λ text. string_bytes text
+            ≡ expected_text self.now.ends.now.program.now self.now.ends.now.asked.now.cells self.now.text.now self.now.ends.now.states
+            (breach_in self.now.ends.now.asked.now.cells self.now.comparison.now (map told_of self.now.ends.now.ends.now))) }
+    {
+        let mut out = String::new(alloc);
+        match self.breach() {
+            Some(end) => self.push_broken(&mut out, end)?,
+            None => self.push_held(&mut out)?,
+        }
+        Ok(out)
+    }
+}
