@@ -1,6 +1,6 @@
 -- The history text, as bytes: a first line that names the format, a line for each call with a line for each of its
 -- prints, a line `cells`, a line for each cell, a line `end`.
-use Rattle.std.specs.Prelude.{ℕ, ℤ, List, [], ◌∷◌, ◌++◌, map, codes}
+use Rattle.std.specs.Prelude.{ℕ, ℤ, List, [], ◌∷◌, ◌++◌, map, codes, if◌then◌else◌}
 use Rattle.std.specs.List.{flat_map}
 use Rattle.std.specs.Fmt.{decimal, signed_decimal}
 use Rattle.core_lang.specs.declared.value.Value.{Value}
@@ -14,6 +14,7 @@ use Rattle.source_histories.specs.declared.format.Format.TheVariants.{One, Two}
 use Rattle.source_histories.specs.Lines.{header_of}
 use Rattle.report.specs.Pieces.{place_text, invocation_text, value_text, outcome_text, owner_text}
 use Rattle.report.specs.Entry.{Entry, scheduled_in, entry_of_commit}
+use Rattle.report.specs.Values.{is_value}
 
 -- ---- single lines, without their line feeds
 
@@ -65,6 +66,13 @@ cell_texts program [] values = []
 cell_texts program (cell ∷ cells) [] = []
 cell_texts program (cell ∷ cells) (value ∷ values) = line (cell_line program cell value) ++ cell_texts program cells values
 
+-- the same of the cells that hold another value than at the opening
+abbrev pub changed_texts : Typed → List Cell → List Value → List ℕ
+changed_texts program [] values = []
+changed_texts program (cell ∷ cells) [] = []
+changed_texts program (cell ∷ cells) (value ∷ values) =
+    (if is_value value cell.opening then [] else line (cell_line program cell value)) ++ changed_texts program cells values
+
 -- the first line and the calls
 abbrev pub calls_of : Format → Typed → List Entry → List ℕ
 calls_of format program entries = line (header_of format) ++ flat_map (entry_text format program) entries
@@ -73,9 +81,17 @@ calls_of format program entries = line (header_of format) ++ flat_map (entry_tex
 abbrev pub closing_of : Typed → List Value → List ℕ
 closing_of program values = line (codes "cells") ++ cell_texts program program.cells.items values ++ line (codes "end")
 
+-- those that changed, and the last line
+abbrev pub changes_of : Typed → List Value → List ℕ
+changes_of program values = line (codes "cells") ++ changed_texts program program.cells.items values ++ line (codes "end")
+
 -- the whole text
 abbrev pub history_of : Format → Typed → List Entry → List Value → List ℕ
 history_of format program entries values = calls_of format program entries ++ closing_of program values
+
+-- the same, of cells those alone that changed
+abbrev pub changed_history_of : Typed → List Entry → List Value → List ℕ
+changed_history_of program entries values = calls_of One program entries ++ changes_of program values
 
 -- the calls before one that is not settled, and the line of that one
 abbrev pub unsettled_of : Typed → List Entry → ℕ → ℕ → List ℕ

@@ -7,11 +7,13 @@ ghost use Rattle.locks.specs.Texts.{AddsText};
 ghost use Rattle.source_histories.specs.Lines.{header_of};
 ghost use Rattle.source_histories.specs.declared.format.Format.TheVariants.{One};
 ghost use Rattle.report.specs.History.{call_text, entry_text, print_texts, cell_texts, closing_of, commit_texts, calls_of, history_of, unsettled_of};
+ghost use Rattle.report.specs.History.{changed_history_of, changed_texts, changes_of};
 ghost use Rattle.report.specs.Entry.{entry_of, entry_said, entry_of_commit};
 
 use crate::lines::{push_call_head, push_cell, push_print};
 use crate::pieces::push_outcome;
 use crate::record::{Record, Said, said_of};
+use crate::values::is_value;
 use core_lang::typed::{Cell, Typed};
 use core_lang::value::Value;
 use history::entries::History;
@@ -106,6 +108,36 @@ fn push_cells(
     Ok(())
 }
 
+/// A line for each cell that holds another value than at the opening.
+fn push_changed(
+    out: &mut String,
+    program: &Typed,
+    cells: &[Cell],
+    values: &[Value],
+) -> Result<(), AllocError>
+    ensures { OnOk result (AddsText (changed_texts program.now cells.now values.now) out.old out.new) }
+{
+    for (i, cell) in cells.iter().enumerate() {
+        let Some(value) = values.get(i) else {
+            return Ok(());
+        };
+        if !is_value(*value, cell.opening) {
+            push_cell(out, program, cell, *value)?;
+            out.push_str("\n")?;
+        }
+    }
+    Ok(())
+}
+
+/// The same between the line `cells` and the line `end`.
+fn push_changes(out: &mut String, program: &Typed, values: &[Value]) -> Result<(), AllocError>
+    ensures { OnOk result (AddsText (changes_of program.now values.now) out.old out.new) }
+{
+    out.push_str("cells\n")?;
+    push_changed(out, program, &program.cells, values)?;
+    out.push_str("end\n")
+}
+
 /// The line `cells`, a line for each cell of the program with its value, by the cells' numbers, and the line `end`.
 ///
 /// # Errors
@@ -156,6 +188,22 @@ pub fn history_text(
 {
     let mut out = calls_text(alloc, format, program, calls)?;
     push_closing(&mut out, program, values)?;
+    Ok(out)
+}
+
+/// The text of these calls of the program, in this order, and of the values of those of its cells that hold another one than at
+/// the opening; `values` has those of all, by the cells' numbers. The only error is a refused growth.
+pub fn changed_text(
+    alloc: Global,
+    program: &Typed,
+    calls: &[Record<'_>],
+    values: &[Value],
+) -> Result<String, NoMemory>
+    requires { vec_len program.now.cells ≡ length values.now }
+    ensures { IfOk result (λ text. string_bytes text ≡ changed_history_of program.now (map entry_of calls.now) values.now) }
+{
+    let mut out = calls_text(alloc, Format::One, program, calls)?;
+    push_changes(&mut out, program, values)?;
     Ok(out)
 }
 

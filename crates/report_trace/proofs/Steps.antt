@@ -14,16 +14,16 @@ use Rattle.report_trace.specs.declared.teller.Teller.{Teller}
 use Rattle.report_trace.specs.Working.Tellers.{IsTellerOf, Tells}
 use Rattle.report_trace.specs.Trace.{step_text, steps_text, trace_text}
 
-lines_more : (text : List ℕ) (plan : Plan) (moves : Bool) (w : World) (xs ys : List ℕ) →
-    steps_text text plan moves w (xs ++ ys)
-    ≡ steps_text text plan moves w xs ++ steps_text text plan moves (world_after plan w xs) ys
-lines_more text plan moves w [] ys = refl
-lines_more text plan moves w (t ∷ xs) ys =
-    let first = step_text text plan moves t (coming_to w t) (happens plan w t).0 in
+lines_more : (text : List ℕ) (plan : Plan) (moves all : Bool) (w : World) (xs ys : List ℕ) →
+    steps_text text plan moves all w (xs ++ ys)
+    ≡ steps_text text plan moves all w xs ++ steps_text text plan moves all (world_after plan w xs) ys
+lines_more text plan moves all w [] ys = refl
+lines_more text plan moves all w (t ∷ xs) ys =
+    let first = step_text text plan moves all t (coming_to w t) (happens plan w t).0 in
     let next = (happens plan w t).1 in
-    ap (λ l. first ++ l) (lines_more text plan moves next xs ys)
-    ∙ sym (append_assoc first (steps_text text plan moves next xs)
-    (steps_text text plan moves (world_after plan next xs) ys))
+    ap (λ l. first ++ l) (lines_more text plan moves all next xs ys)
+    ∙ sym (append_assoc first (steps_text text plan moves all next xs)
+    (steps_text text plan moves all (world_after plan next xs) ys))
 
 module _ {Z : Type 0} (x : Teller) where
   -- some steps, and some more
@@ -31,14 +31,14 @@ module _ {Z : Type 0} (x : Teller) where
       Tells x ts a b o p → Tells x us b c p q →
       Tells x (ts ++ us) a c o q
   tells_both a b c ts us o p q plan first last =
-      let text = λ (w : World) (steps : List ℕ). steps_text x.text.now x.program.now x.moves w steps in
+      let text = λ (w : World) (steps : List ℕ). steps_text x.text.now x.program.now x.moves x.all w steps in
       let here : b.world ≡ world_after x.program.now a.world ts =
       ap (λ (w : ThreadsOf). w.world) first.world ∙ ap (λ (r : Plan). world_after r a.world ts) plan in
       record {
         world = last.world ∙ ap (λ (w : ThreadsOf). with_steps w us) first.world ∙ ap (threads_of a.plan) (sym (steps_more a.plan a.world ts us));
         lines = last.lines ∙ ap (λ l. l ++ text b.world us) first.lines ∙ append_assoc (string_bytes o) (text a.world ts) (text b.world us)
             ∙ ap (λ w. string_bytes o ++ (text a.world ts ++ text w us)) here
-            ∙ ap (λ l. string_bytes o ++ l) (sym (lines_more x.text.now x.program.now x.moves a.world ts us));
+            ∙ ap (λ l. string_bytes o ++ l) (sym (lines_more x.text.now x.program.now x.moves x.all a.world ts us));
       }
 
   -- one step more of a thread
@@ -66,13 +66,13 @@ module _ {Z : Type 0} (x : Teller) where
           ∙ sym (append_assoc (replicate z.count z.thread) (steps_of ts) (replicate y.count y.thread))
 
   -- the whole text
-  pub trace_made : (text : List ℕ) (plan : Plan) (moves : Bool) (steps : List ℕ) (a b : ThreadsOf) (o p : String Z) →
-      (told : List ℕ) → IsTellerOf text plan moves x → a ≡ at_opening plan → string_bytes o ≡ [] →
+  pub trace_made : (text : List ℕ) (plan : Plan) (moves all : Bool) (steps : List ℕ) (a b : ThreadsOf) (o p : String Z) →
+      (told : List ℕ) → IsTellerOf text plan moves all x → a ≡ at_opening plan → string_bytes o ≡ [] →
       Tells x steps a b o p → told ≡ string_bytes p ++ simulation_of b.plan b.world →
-      told ≡ trace_text text plan moves steps
-  trace_made text plan moves steps a b o p told is opening empty tells whole =
-      let lines : string_bytes p ≡ steps_text text plan moves (opening_world plan) steps =
-      tells.lines ∙ ap (λ l. l ++ steps_text x.text.now x.program.now x.moves a.world steps) empty
-      ∙ (λ j. steps_text (is.text_is j) (is.plan_is j) (is.moves_is j) (opening j).world steps) in
+      told ≡ trace_text text plan moves all steps
+  trace_made text plan moves all steps a b o p told is opening empty tells whole =
+      let lines : string_bytes p ≡ steps_text text plan moves all (opening_world plan) steps =
+      tells.lines ∙ ap (λ l. l ++ steps_text x.text.now x.program.now x.moves x.all a.world steps) empty
+      ∙ (λ j. steps_text (is.text_is j) (is.plan_is j) (is.moves_is j) (is.all_is j) (opening j).world steps) in
       let last : b ≡ after_steps plan steps = tells.world ∙ ap (λ (w : ThreadsOf). with_steps w steps) opening in
       whole ∙ (λ j. lines j ++ simulation_of (last j).plan (last j).world)

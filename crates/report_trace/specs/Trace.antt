@@ -1,4 +1,4 @@
--- The text of `trace`, as bytes: a line for each step, and then the simulation text.
+-- The text of `trace`, as bytes: a line for each step that is told, and then the simulation text.
 use Rattle.std.specs.Prelude.{ℕ, Bool, true, if◌then◌else◌, List, [], ◌∷◌, ◌++◌, Option, Some, None}
 use Rattle.std.specs.Prelude.{codes}
 use Rattle.std.specs.Fmt.{decimal}
@@ -16,6 +16,12 @@ use Rattle.interleavings.specs.declared.coming.Coming.TheVariants as coming
 use Rattle.interleavings.specs.Coming.{coming_to}
 use Rattle.report.specs.Pieces.{invocation_text, lock_text}
 use Rattle.report_simulation.specs.Simulation.{simulation_of}
+
+-- whether an event is told: instructions only where they are asked for, and so are steps that do nothing
+abbrev pub is_told : Bool → Bool → Event → Bool
+is_told moves all Moved = moves
+is_told moves all Idle = all
+is_told moves all _ = true
 
 -- over a program's text and its plan
 module _ (text : List ℕ) (plan : Plan) where
@@ -50,21 +56,16 @@ module _ (text : List ℕ) (plan : Plan) where
   event_text t c Moved = codes "moved " ++ coming_text t c
   event_text t c (Ended position) = codes "ended at " ++ decimal position
 
-  -- whether an event is told, where instructions are or are not
-  abbrev pub is_told : Bool → Event → Bool
-  is_told moves Moved = moves
-  is_told moves _ = true
-
   -- THREAD TEXT
-  abbrev pub step_text : Bool → ℕ → Coming → Event → List ℕ
-  step_text moves t c e = if is_told moves e then line (decimal t ++ codes " " ++ event_text t c e) else []
+  abbrev pub step_text : Bool → Bool → ℕ → Coming → Event → List ℕ
+  step_text moves all t c e = if is_told moves all e then line (decimal t ++ codes " " ++ event_text t c e) else []
 
   -- of steps of these threads from a world on
-  abbrev pub steps_text : Bool → World → List ℕ → List ℕ
-  steps_text moves w [] = []
-  steps_text moves w (t ∷ ts) =
-      step_text moves t (coming_to w t) (happens plan w t).0 ++ steps_text moves (happens plan w t).1 ts
+  abbrev pub steps_text : Bool → Bool → World → List ℕ → List ℕ
+  steps_text moves all w [] = []
+  steps_text moves all w (t ∷ ts) =
+      step_text moves all t (coming_to w t) (happens plan w t).0 ++ steps_text moves all (happens plan w t).1 ts
 
-  -- the whole text of steps of these threads, with instructions or without
-  abbrev pub trace_text : Bool → List ℕ → List ℕ
-  trace_text moves steps = steps_text moves (opening_world plan) steps ++ simulation_of plan (final plan steps)
+  -- the whole text of steps of these threads, with instructions or without, and with steps that do nothing or without
+  abbrev pub trace_text : Bool → Bool → List ℕ → List ℕ
+  trace_text moves all steps = steps_text moves all (opening_world plan) steps ++ simulation_of plan (final plan steps)

@@ -1,4 +1,4 @@
-//! The exact text that `trace` writes: a line for each step of a world's threads, and then the simulation text.
+//! The exact text that `trace` writes: a line for each step of a world's threads that is told, and then the simulation text.
 //!
 //! - [`Trace`]: what is traced.
 //!

@@ -12,6 +12,7 @@ ghost use Rattle.source_steps.specs.Turns.{steps_of};
 ghost use Rattle.report_trace.specs.Working.Told.{AreTables};
 
 use crate::instructions::SectionTeller;
+use crate::trace::Trace;
 use code::places::SectionPlaces;
 use code::{Listed, Lister};
 use interleavings::coming::Coming;
@@ -46,6 +47,7 @@ pub struct Teller<'a> {
     // By section.
     places: Vec<SectionPlaces>,
     moves: bool,
+    all: bool,
     ghost names: { program_of lister ≡ program.now.program } by { Prim.hlevel (props, codes, action.the_row.coded, expr.the_row.coded, condition.the_row.coded) },
     ghost tables: { AreTables text.now program.now places.items } by { Prim.hlevel props },
 }
@@ -53,22 +55,25 @@ pub struct Teller<'a> {
 impl<'a> Teller<'a> {
     ghost use Rattle.report_trace.specs.Working.Tellers.{IsTellerOf, call_told, instruction_told, coming_told};
     ghost use Rattle.report_trace.specs.Working.Tellers.{event_told, step_told, Tells};
+    ghost use Rattle.report_trace.specs.Trace.{is_told};
 
-    /// Of a program with this text, with instructions or without.
-    pub fn new(
-        alloc: Global,
-        text: &'a [u8],
-        program: &'a Program,
-        moves: bool,
-    ) -> Result<Teller<'a>, NoMemory>
-        ensures { IfOk result (IsTellerOf text.now program.now moves) }
+    /// Of what is traced.
+    pub fn new(alloc: Global, trace: &Trace<'a>) -> Result<Teller<'a>, NoMemory>
+        ensures { IfOk result (IsTellerOf trace.now.text.now trace.now.program.now trace.now.moves trace.now.all) }
     {
+        let Trace {
+            text,
+            program,
+            moves,
+            all,
+        } = *trace;
         Ok(Teller {
             text,
             program,
             lister: Lister::new(alloc, program.expanded())?,
             places: all_places(alloc, text, program)?,
             moves,
+            all,
         })
     }
 
@@ -158,6 +163,17 @@ impl<'a> Teller<'a> {
         }
     }
 
+    // Whether an event is told.
+    fn tells(&self, event: Event) -> bool
+        ensures { result ≡ is_told self.now.moves self.now.all event }
+    {
+        match event {
+            Event::Moved => self.moves,
+            Event::Idle => self.all,
+            Event::Began | Event::Got(_) | Event::Waits(_, _) | Event::Ended(_) => true,
+        }
+    }
+
     // The line of a step, if it is told.
     fn push_step(
         &self,
@@ -168,7 +184,7 @@ impl<'a> Teller<'a> {
     ) -> Result<(), AllocError>
         ensures { OnOk result (AddsText (step_told self.now thread coming event) out.old out.new) }
     {
-        if event == Event::Moved && !self.moves {
+        if !self.tells(event) {
             return Ok(());
         }
         write!(out, "{thread} ")?;

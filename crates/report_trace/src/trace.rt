@@ -21,16 +21,18 @@ pub struct Trace<'a> {
     pub program: &'a Program,
     /// Whether instructions are told.
     pub moves: bool,
+    /// Whether steps that do nothing are told.
+    pub all: bool,
 }
 
 impl Trace<'_> {
-    /// A line for each step of these turns, from the opening world on, and then the simulation text. The only error is a
-    /// refused growth.
+    /// A line for each step of these turns that is told, from the opening world on, and then the simulation text. The only
+    /// error is a refused growth.
     pub fn text(&self, alloc: Global, turns: &[Turn]) -> Result<String, NoMemory>
         ensures { IfOk result (λ told. string_bytes told
-            ≡ trace_text self.now.text.now self.now.program.now self.now.moves (steps_of turns.now)) }
+            ≡ trace_text self.now.text.now self.now.program.now self.now.moves self.now.all (steps_of turns.now)) }
     {
-        let teller = Teller::new(alloc, self.text, self.program, self.moves)?;
+        let teller = Teller::new(alloc, self)?;
         let mut world = World::open(alloc, self.program)?;
         let mut out = String::new(alloc);
         teller.take_turns(alloc, &mut world, turns, &mut out)?;

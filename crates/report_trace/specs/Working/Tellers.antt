@@ -9,10 +9,11 @@ use Rattle.report_trace.specs.declared.teller.Teller.{Teller}
 use Rattle.report_trace.specs.Trace.{call_text, instruction_text, coming_text, event_text, step_text, steps_text}
 
 -- it tells of a program with this text
-pub record IsTellerOf (text : List ℕ) (plan : Plan) (moves : Bool) (x : Teller) : Type 0 where
+pub record IsTellerOf (text : List ℕ) (plan : Plan) (moves all : Bool) (x : Teller) : Type 0 where
   pub text_is : x.text.now ≡ text
   pub plan_is : x.program.now ≡ plan
   pub moves_is : x.moves ≡ moves
+  pub all_is : x.all ≡ all
 
 abbrev pub call_told : Teller → ℕ → ℕ → List ℕ
 call_told x t step = call_text x.text.now x.program.now (call_at x.program.now t step)
@@ -28,9 +29,9 @@ abbrev pub event_told : Teller → ℕ → Coming → Event → List ℕ
 event_told x = event_text x.text.now x.program.now
 
 abbrev pub step_told : Teller → ℕ → Coming → Event → List ℕ
-step_told x = step_text x.text.now x.program.now x.moves
+step_told x = step_text x.text.now x.program.now x.moves x.all
 
 -- these steps were made, and their lines come behind what was written
 pub record Tells {Z : Type 0} (x : Teller) (steps : List ℕ) (old new : ThreadsOf) (before after : String Z) : Type 0 where
   pub world : new ≡ with_steps old steps
-  pub lines : string_bytes after ≡ string_bytes before ++ steps_text x.text.now x.program.now x.moves old.world steps
+  pub lines : string_bytes after ≡ string_bytes before ++ steps_text x.text.now x.program.now x.moves x.all old.world steps

@@ -1,0 +1,4 @@
+pub mod Firsts
+pub mod Laws
+pub mod Steps
+pub mod Keyed

@@ -1,0 +1,14 @@
+-- By what the code tells runs apart, of the entries and the values of a run.
+use Rattle.core_lang.specs.declared.value.Value.{Value}
+use Rattle.core_lang.specs.declared.value.Value.TheVariants.{Int, Ref}
+use Rattle.history.specs.Commits.{Commit}
+use Rattle.report_runs.specs.declared.kind.Place.{Place}
+use Rattle.report_runs.specs.declared.kind.Held.{Held}
+use Rattle.report_runs.specs.declared.kind.Held.TheVariants.{Number, Object}
+
+abbrev pub place_of : Commit → Place
+place_of c = record { thread = c.thread; step = c.step }
+
+abbrev pub held_of : Value → Held
+held_of (Int number) = Number number
+held_of (Ref object) = Object object
