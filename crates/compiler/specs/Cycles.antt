@@ -21,11 +21,10 @@ abbrev pub IsBare : Refusal → Type 0
 IsBare NoMemory = Unit {0}
 IsBare (Fault fault) = string_bytes fault.detail ≡ []
 
--- the program is what the text means, with its helpers written out
-pub record IsWrittenProgram (source : List ℕ) (written : Typed) : Type 0 where
+-- the program is what the text means, and the second one is it with its helpers written out
+pub record IsWrittenProgram (source : List ℕ) (program written : Typed) : Type 0 where
   pub tokens : List Tok
   pub tree : List Decl
-  pub program : Typed
   pub has_tokens : HasTokens source tokens
   pub has_tree : HasRightTree tokens tree
   pub resolves : Resolves tree program
@@ -33,7 +32,7 @@ pub record IsWrittenProgram (source : List ℕ) (written : Typed) : Type 0 where
 
 -- the text's fault is that of a cycle of its program's lock classes, of which these are the edges
 pub record IsCyclic (source : List ℕ) (cyclic : Cyclic) : Type 0 where
-  pub program : IsWrittenProgram source (program_of cyclic.trees)
+  pub program : IsWrittenProgram source cyclic.trees.accepted (program_of cyclic.trees)
   pub well_formed : IsWellFormed (program_of cyclic.trees)
   pub paths : ArePaths (program_of cyclic.trees) cyclic.paths
   pub cycle : IsCycleOf (program_of cyclic.trees) cyclic.edges.items

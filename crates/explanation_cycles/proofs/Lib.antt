@@ -1,3 +1,4 @@
 pub mod Found
 pub mod Cycles
+pub mod Leading
 pub mod Orders

@@ -1,5 +1,5 @@
 -- What is told of a text.
-use Rattle.std.specs.Prelude.{◌≡◌, ℕ, List, [], map, string_bytes}
+use Rattle.std.specs.Prelude.{◌≡◌, ◌++◌, ℕ, List, [], map, string_bytes}
 use Rattle.compiler.specs.Cycles.{IsWrittenProgram}
 use Rattle.compiler.specs.Programs.{Accepts, IsOfFirstPass}
 use Rattle.core_lang.specs.declared.typed.Typed.{Typed}
@@ -7,6 +7,7 @@ use Rattle.core_lang_expansion.specs.Data.{IsExpanded}
 use Rattle.explanation.specs.Further.{Further, further_of, nothing_further}
 use Rattle.explanation.specs.Notes.{Note, note_of}
 use Rattle.explanation.specs.Warnings.{Warning, warning_of}
+use Rattle.explanation_cycles.specs.Calls.{cycle_calls}
 use Rattle.explanation_cycles.specs.CycleNotes.{AreCycleNotes}
 use Rattle.explanation_cycles.specs.OrderNotes.{AreOrderNotes}
 use Rattle.explanation_faults.specs.FurtherFaults.{AreFurther}
@@ -36,15 +37,19 @@ pub record IsExplained (text : List ℕ) (fault : Fault) (notes : List Note) (fu
   pub tell : AreTextNotes text fault.code fault.start notes
   pub others : AreFurther text fault.code fault.start further
 
--- a fault of the order of locks, and notes on each edge of a cycle of the program that the text means
+-- a fault of the order of locks, notes on each edge of a cycle of the program that the text means, and by which calls of helpers its
+-- sections get to what they tell
 pub record IsCycleExplained (text : List ℕ) (fault : Fault) (notes : List Note) : Type 0 where
   pub given : IsOfFirstPass text fault
+  pub accepted : Typed
   pub program : Typed
-  pub meant : IsWrittenProgram text program
+  pub meant : IsWrittenProgram text accepted program
   pub of_order : IsFaultAtFirst program fault
   pub edges : List Edge
   pub cycle : IsCycleOf program edges
-  pub tell : AreCycleNotes program edges notes
+  pub of_edges : List Note
+  pub tell : AreCycleNotes program edges of_edges
+  pub whole : notes ≡ of_edges ++ cycle_calls accepted program edges
 
 -- the text is accepted: notes on the order of the lock classes of its program with helpers written out, with what makes
 -- each pair of them, and the warnings of its tree

@@ -8,7 +8,7 @@ ghost use Rattle.explanations.specs.Told.{IsToldOf, said_by};
 
 use compiler::{Cyclic, Ordered, examine};
 use explanation::{Further, Note, Warning};
-use explanation_cycles::{cycle_notes, order_notes};
+use explanation_cycles::{Calls, cycle_notes, order_notes};
 use explanation_faults::fault_told;
 use explanation_warnings::text_warnings;
 use source::fault::{Fault, Refusal};
@@ -55,7 +55,12 @@ fn told_of_cycle(alloc: Global, text: &[u8], cyclic: Cyclic) -> Result<Told, NoM
     requires { IsCyclic text.now cyclic }
     ensures { IfOk result (λ told. IsToldOf text.now (said_by told)) }
 {
-    let notes = cycle_notes(alloc, cyclic.trees.program(), &cyclic.paths, &cyclic.edges)?;
+    let program = cyclic.trees.program();
+    let mut notes = cycle_notes(alloc, program, &cyclic.paths, &cyclic.edges)?;
+    let calls = Calls {
+        program: &cyclic.trees.accepted,
+    };
+    calls.push(alloc, program, &cyclic.edges, &mut notes)?;
     Ok(Told::Faulty {
         fault: cyclic.fault,
         notes,

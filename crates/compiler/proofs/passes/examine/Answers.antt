@@ -1,8 +1,9 @@
-use Rattle.std.proofs.Common.{◌≡◌, ap, sym, subst}
+use Rattle.std.proofs.Common.{◌≡◌, ◌∙◌, ap, sym, subst, subst₂}
 use Rattle.std.proofs.lemmas.Result.{err_from_is_err_and}
 use Rattle.core_lang.specs.WellFormed.{IsChecked, IsWellFormed}
 use Rattle.core_lang_expansion.specs.Data.{IsExpanded}
 use Rattle.lockorder.specs.Faults.{IsCycleOf, IsFaultAtFirst}
+use Rattle.lowering.specs.declared.compiled.Trees.{Trees}
 use Rattle.lowering.specs.Working.Compiled.{program_of}
 use Rattle.resolution.specs.Resolved.{Resolves}
 use Rattle.compiler.specs.Cycles.{IsWrittenProgram}
@@ -79,11 +80,11 @@ returns-in-Ok-with_cycle-clause-cycle c =
     let right = rw c.deref.ensures.value at c.in_ok-tree.ensures.found in
     let placed = rw c.deref.ensures.value at c.in_ok-tree.ensures.misplaced in
     let same : program_of c.in-Ok-with_cycle.cyclic.trees ≡ program_of c.in_ok-trees.trees = ap program_of c.in-Ok-with_cycle.ensures.trees in
+    let accepted = ap (λ (x : Trees). x.accepted) c.in-Ok-with_cycle.ensures.trees ∙ c.in_ok-trees.ensures.accepted in
     record {
-      program = subst (IsWrittenProgram c.args.text.now) (sym same) (record {
+      program = subst₂ (IsWrittenProgram c.args.text.now) (sym accepted) (sym same) (record {
         tokens = _;
         tree = _;
-        program = _;
         has_tokens = c.in_ok-tokens.ensures.found;
         has_tree = right;
         resolves = c.in_ok-accepted.ensures.resolves;

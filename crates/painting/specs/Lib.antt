@@ -1,0 +1,3 @@
+pub mod Painted
+-- what the public clauses cite
+pub use Rattle.painting.specs.Painted.{painted}
