@@ -1,37 +1,24 @@
 # What `autolock` says of its words, said without the program: help, the version, and what is wrong with the words.
 # ./autolock uses it where the program isn't built; tests/words.sh compares each answer with the program's.
 #
-#     judge_words WORDS..     answers and exits, or sets `command`, `turns`, `count` and `seed` (the N of --turns, --count and
-#                             --seed, or nothing), `prefix` and `cells` (the value of --prefix and --cells, or nothing), `why`,
-#                             `sections`, `places`, `header`, `lines`, `answers`, `full` and `json` (each 1 or nothing), and
-#                             `files`
+#     judge_words WORDS..     answers and exits, or sets `command`, a variable for each option of `options_of` that is given (its
+#                             value, of a number without zeros in front; 1 of one without a value), and `files`
 #
 # `top` is the folder of the repository.
 # shellcheck disable=SC2154,SC2016
 
 command=
-turns=
-count=
-seed=
-why=
-open=
-sections=
-places=
-header=
-lines=
-prefix=
-cells=
-answers=
-full=
-json=
+commands=(check explain format order listing emit serial outcomes schedule simulate trace run replay lsp)
+turns= count= seed= length= times= prefix= cells= color= expect=
+json= places= header= lines= changed= answers= full= worst= sections= all= why= open=
+has_prefix= has_cells= has_color= has_expect=
 used=
 settled=
 files=()
 
-has_prefix=
-has_cells=
 no_code='there is no such code: they are E01 to E20; a file of that name is written ./NAME'
 bad_prefix='--prefix takes a letter, then at most 31 letters and digits, and not AL or autolock'
+bad_color='--color takes auto, always or never'
 
 # Writes a text of script/help, and exits.
 show_help() {
@@ -81,35 +68,48 @@ names_of() {
     echo "<FILE>${other:+ $other}"
 }
 
-takes_options() { [ "$command" = serial ] || [ "$command" = outcomes ] || [ "$command" = replay ] || [ "$command" = trace ] ||
-    [ "$command" = explain ] || [ "$command" = listing ] || [ "$command" = emit ]; }
-
-# The options of a command that have a value.
-valued_of() {
+# The options of a command, in the order of its help.
+options_of() {
     case $1 in
-        serial | replay) echo turns ;;
-        outcomes) echo count seed turns cells ;;
-        emit) echo prefix ;;
-    esac
-}
-
-# The options of a command that take no value.
-flags_of() {
-    case $1 in
-        explain) echo json ;;
+        explain) echo json color ;;
         listing) echo places ;;
-        emit) echo header lines ;;
-        trace) echo sections ;;
-        replay) echo why open ;;
-        outcomes) echo answers full ;;
+        emit) echo header prefix lines ;;
+        serial) echo turns changed ;;
+        outcomes) echo count seed turns cells answers full expect ;;
+        schedule) echo seed length worst ;;
+        trace) echo sections all ;;
+        run) echo seed times ;;
+        replay) echo turns why open ;;
     esac
 }
 
-# Such an option, with what its value is called.
+takes_options() { [ -n "$(options_of "$command")" ]; }
+
+takes_value() {
+    case $1 in
+        turns | count | seed | length | times | prefix | cells | color | expect) return 0 ;;
+    esac
+    return 1
+}
+
+# Those that have a value, and those that don't.
+valued_of() {
+    local option
+    for option in $(options_of "$1"); do ! takes_value "$option" || echo "$option"; done
+}
+
+flags_of() {
+    local option
+    for option in $(options_of "$1"); do takes_value "$option" || echo "$option"; done
+}
+
+# One of these, with what its value is called.
 with_value() {
     case $1 in
         prefix) echo '--prefix <NAME>' ;;
         cells) echo '--cells <NAMES>' ;;
+        color) echo '--color <WHEN>' ;;
+        expect) echo '--expect <COMPARISON>' ;;
         *) echo "--$1 <N>" ;;
     esac
 }
@@ -118,9 +118,9 @@ with_value() {
 usage_of() {
     local option=${2-}
     case $1 in
-        check | format | order | run) echo "$1 ${option:+$option }<FILE>" ;;
+        check | format | order) echo "$1 ${option:+$option }<FILE>" ;;
         lsp) echo "$1${option:+ $option}" ;;
-        serial | explain | listing | emit | outcomes) echo "$1 ${option:-[OPTIONS]} <FILE>" ;;
+        serial | explain | listing | emit | outcomes | schedule | run) echo "$1 ${option:-[OPTIONS]} <FILE>" ;;
         replay) echo "replay ${option:-[OPTIONS]} <FILE> <HISTORY>" ;;
         trace) echo "trace ${option:-[OPTIONS]} <FILE> <STEPS>" ;;
         simulate) echo "simulate ${option:+$option }<FILE> <STEPS>" ;;
@@ -172,7 +172,7 @@ similar() {
 
 refuse_command() {
     local names tip=
-    mapfile -t names < <(similar "$1" check explain format order listing emit serial outcomes simulate trace run replay lsp help)
+    mapfile -t names < <(similar "$1" "${commands[@]}" help)
     case ${#names[@]} in
         0) ;;
         1) tip="a similar subcommand exists: '${names[0]}'" ;;
@@ -186,23 +186,16 @@ refuse_command() {
 
 # An option `--NAME` that the command doesn't have; the words after it follow.
 refuse_long() {
-    local name=$1 near='' options=(help) word used=$used
+    local name=$1 near='' options word used=$used
     shift
-    case $command in
-        serial) options=(turns help) ;;
-        outcomes) options=(count seed turns cells answers full help) ;;
-        replay) options=(turns why open help) ;;
-        trace) options=(sections help) ;;
-        listing) options=(places help) ;;
-        emit) options=(header prefix lines help) ;;
-        explain) options=(json help) ;;
-        '') options=(help version) ;;
-    esac
+    read -ra options <<<"$(options_of "$command") help"
+    [ -n "$command" ] || options=(help version)
     near=$(similar "$name" "${options[@]}" | tail -n 1)
-    case $near in
-        turns | count | seed | prefix | cells) used=$(used_with "$(with_value "$near")") ;;
-        ?*) used=$(used_with "--$near") ;;
-    esac
+    if takes_value "$near"; then
+        used=$(used_with "$(with_value "$near")")
+    elif [ -n "$near" ]; then
+        used=$(used_with "--$near")
+    fi
     if [ -n "$near" ]; then
         refuse "unexpected argument '--$name' found" "$(usage_of "$command" "$used")" \
             "a similar argument exists: '--$near'"
@@ -216,19 +209,21 @@ refuse_long() {
             "to pass '--$name' as a value, use '-- --$name'"
     fi
     for word in "$@"; do
-        case $word in
-            check | format | order | simulate | run | lsp) near=$(similar "$name" help) ;;
-            listing) near=$(similar "$name" places help | tail -n 1) ;;
-            emit) near=$(similar "$name" header prefix lines help | tail -n 1) ;;
-            serial) near=$(similar "$name" turns help | tail -n 1) ;;
-            outcomes) near=$(similar "$name" count seed turns cells answers full help | tail -n 1) ;;
-            replay) near=$(similar "$name" turns why open help | tail -n 1) ;;
-            trace) near=$(similar "$name" sections help | tail -n 1) ;;
-            explain) near=$(similar "$name" json help | tail -n 1) ;;
-        esac
+        if is_command "$word"; then
+            read -ra options <<<"$(options_of "$word") help"
+            near=$(similar "$name" "${options[@]}" | tail -n 1)
+        fi
         [ -z "$near" ] || refuse "unexpected argument '--$name' found" "$(usage_of '')" "'$word --$near' exists"
     done
     refuse "unexpected argument '--$name' found" "$(usage_of '')"
+}
+
+is_command() {
+    local known
+    for known in "${commands[@]}"; do
+        [ "$1" != "$known" ] || return 0
+    done
+    return 1
 }
 
 # The words after `help`.
@@ -236,8 +231,8 @@ judge_help() {
     local name=${1-autolock}
     case $name in
         autolock) [ $# -eq 0 ] || refuse "unrecognized subcommand '$1'" "$(usage_of '')" ;;
-        check | explain | format | order | listing | emit | serial | outcomes | simulate | trace | run | replay | lsp | help) ;;
-        *) refuse "unrecognized subcommand '$1'" "$(usage_of '')" ;;
+        help) ;;
+        *) is_command "$name" || refuse "unrecognized subcommand '$1'" "$(usage_of '')" ;;
     esac
     [ $# -gt 1 ] || show_help "$name"
     if [ "$name" = help ]; then
@@ -249,7 +244,8 @@ judge_help() {
 
 # The value of an option whose value is a number.
 judge_number() {
-    local name=$1 value=$2 digits=${2#+} least most=18446744073709551615
+    local name=$1 value=$2 digits=${2#+} least most=18446744073709551615 lowest=0 highest=1000000000
+    [ "$name" != times ] || lowest=1 highest=1000000
     [ -n "$value" ] || refuse "invalid value '' for '--$name <N>': cannot parse integer from empty string"
     case $digits in
         '' | *[!0-9]*) refuse "invalid value '$value' for '--$name <N>': invalid digit found in string" ;;
@@ -258,19 +254,27 @@ judge_number() {
     least=${least:-0}
     if [ ${#least} -gt 20 ] || { [ ${#least} -eq 20 ] && [[ $least > $most ]]; }; then
         refuse "invalid value '$value' for '--$name <N>': number too large to fit in target type"
-    elif [ ${#least} -gt 10 ] || [ "$least" -gt 1000000000 ]; then
-        refuse "invalid value '$value' for '--$name <N>': $least is not in 0..=1000000000"
+    elif [ ${#least} -gt 10 ] || [ "$least" -gt $highest ] || [ "$least" -lt $lowest ]; then
+        refuse "invalid value '$value' for '--$name <N>': $least is not in $lowest..=$highest"
     fi
     [ -z "${!name}" ] || refuse "the argument '--$name <N>' cannot be used multiple times" "$(usage_of "$command")"
     printf -v "$name" %s "$least"
     used=$(used_with "--$name <N>")
 }
 
-# Whether the command has this one.
+# Whether the command has this one, without or with a value.
 is_flag() {
     local flag
     for flag in $(flags_of "$command"); do
         [ "$1" != "$flag" ] || return 0
+    done
+    return 1
+}
+
+is_valued() {
+    local valued
+    for valued in $(valued_of "$command"); do
+        [ "$1" != "$valued" ] || return 0
     done
     return 1
 }
@@ -282,29 +286,19 @@ judge_flag() {
     settled=$used
 }
 
-# The value of `--prefix`. Whether it is one is judged behind all words.
-judge_prefix() {
-    [ -z "$has_prefix" ] || refuse "the argument '--prefix <NAME>' cannot be used multiple times" \
-        "$(usage_of "$command")"
-    has_prefix=1
-    prefix=$1
-    used=$(used_with '--prefix <NAME>')
-}
-
-# The value of `--cells`. Whether cells have these names is judged by the program.
-judge_cells() {
-    [ -z "$has_cells" ] || refuse "the argument '--cells <NAMES>' cannot be used multiple times" \
-        "$(usage_of "$command")"
-    has_cells=1
-    cells=$1
-    used=$(used_with '--cells <NAMES>')
+# The value of an option whose value is a text. Whether it is one that may stand there is judged behind all words.
+judge_text() {
+    local name=$1 has=has_$1
+    [ -z "${!has}" ] || refuse "the argument '$(with_value "$name")' cannot be used multiple times" "$(usage_of "$command")"
+    printf -v "$has" 1
+    printf -v "$name" %s "$2"
+    used=$(used_with "$(with_value "$name")")
 }
 
 judge_value() {
     case $1 in
-        prefix) judge_prefix "$2" ;;
-        cells) judge_cells "$2" ;;
-        *) judge_number "$1" "$2" ;;
+        prefix | cells | color | expect) judge_text "$@" ;;
+        *) judge_number "$@" ;;
     esac
 }
 
@@ -374,6 +368,14 @@ is_prefix() {
     [[ ${#1} -le 32 && $1 =~ ^[A-Za-z][A-Za-z0-9]*$ ]]
 }
 
+# Whether it says when colours are wanted.
+is_color() {
+    case $1 in
+        auto | always | never) return 0 ;;
+    esac
+    return 1
+}
+
 # The words after a command.
 judge_arguments() {
     local most=1 is_last=0 missing other option
@@ -381,29 +383,26 @@ judge_arguments() {
     [ -z "$other" ] || most=2
     [ "$command" != lsp ] || most=0
     while [ $# -gt 0 ]; do
-        if [ "$is_last" = 0 ] && [[ $1 = --* ]] && is_flag "${1#--}"; then
-            judge_flag "${1#--}"
-            shift
-            continue
-        fi
-        case $is_last$command$1 in
-            "0$command--")
+        if [ "$is_last" = 0 ] && [[ $1 = --* ]]; then
+            option=${1#--}
+            if [ -z "$option" ]; then
                 is_last=1
                 shift
                 continue
-                ;;
-            0serial--turns | 0replay--turns | 0outcomes--turns | 0outcomes--count | 0outcomes--seed | 0outcomes--cells | 0emit--prefix)
+            elif is_flag "$option"; then
+                judge_flag "$option"
+                shift
+                continue
+            elif is_valued "$option"; then
                 judge_valued "$@"
                 shift 2
                 continue
-                ;;
-            0serial--turns=* | 0replay--turns=* | 0outcomes--turns=* | 0outcomes--count=* | 0outcomes--seed=* | 0outcomes--cells=* | 0emit--prefix=*)
-                option=${1%%=*}
-                judge_value "${option#--}" "${1#*=}"
+            elif [[ $option = *=* ]] && is_valued "${option%%=*}"; then
+                judge_value "${option%%=*}" "${option#*=}"
                 shift
                 continue
-                ;;
-        esac
+            fi
+        fi
         case $is_last$1 in
             0--*) judge_long "$@" ;;
             0-?*) judge_short "$1" ;;
@@ -418,6 +417,7 @@ judge_arguments() {
     [ -z "$other" ] || [ ${#files[@]} -gt 1 ] || missing+=$'\n  '$other
     if [ -z "$missing" ]; then
         [ -z "$has_prefix" ] || is_prefix "$prefix" || refuse "$bad_prefix" "$(usage_of '')"
+        [ -z "$has_color" ] || is_color "$color" || refuse "$bad_color" "$(usage_of '')"
         [ "$command" != explain ] || [ -n "$json" ] || judge_code "${files[0]}"
         return 0
     fi
@@ -429,13 +429,16 @@ judge_arguments() {
 judge_words() {
     local is_last=0
     while [ $# -gt 0 ]; do
+        if [ $is_last = 0 ] && is_command "$1"; then
+            command=$1
+            shift
+            judge_arguments "$@"
+            return
+        elif [ $is_last = 1 ] && { [ "$1" = help ] || is_command "$1"; }; then
+            refuse "unexpected argument '$1' found" "$(usage_of '')" \
+                "subcommand '$1' exists; to use it, remove the '--' before it"
+        fi
         case $is_last$1 in
-            0check | 0explain | 0format | 0order | 0listing | 0emit | 0serial | 0outcomes | 0simulate | 0trace | 0run | 0replay | 0lsp)
-                command=$1
-                shift
-                judge_arguments "$@"
-                return
-                ;;
             0help)
                 shift
                 judge_help "$@"
@@ -443,14 +446,10 @@ judge_words() {
             0--) is_last=1 ;;
             0--?*) judge_long "$@" ;;
             0-?*) judge_short "$1" ;;
-            1check | 1explain | 1format | 1order | 1listing | 1emit | 1serial | 1outcomes | 1simulate | 1trace | 1run | 1replay | 1lsp | 1help)
-                refuse "unexpected argument '$1' found" "$(usage_of '')" \
-                    "subcommand '$1' exists; to use it, remove the '--' before it"
-                ;;
             *) refuse_command "$1" ;;
         esac
         shift
     done
     refuse $'\'autolock\' requires a subcommand but one was not provided
-  [subcommands: check, explain, format, order, listing, emit, serial, outcomes, simulate, trace, run, replay, lsp, help]' "$(usage_of '')"
+  [subcommands: check, explain, format, order, listing, emit, serial, outcomes, schedule, simulate, trace, run, replay, lsp, help]' "$(usage_of '')"
 }

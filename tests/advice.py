@@ -197,6 +197,25 @@ TABLE = b"lock G;\nstruct Table { int x protected_by(G); }\nglobal ref %s t prot
 HEADED = b"lock G;\nstruct S { lock l; int x protected_by(l); }\nglobal ref S head protected_by(G);\natomic f(ref S a) { %s }\n"
 LOCAL = b"lock G;\nglobal int n protected_by(G);\natomic f(int count) { n = %s; }\n"
 
+# A walk, by a helper or by another that calls it.
+WALKED = b"""struct Node { lock l; int v protected_by(l); ref Node next protected_by(l); }
+pool Node node[4];
+call walk(ref Node n) : int { let m: ref Node = n.next; return m.v; }
+call twice(ref Node n) : int { let x: int = call walk(n); return x; }
+call plain(ref Node n) : int { return n.v; }
+atomic first(ref Node n) : int { %s return y; }
+thread t { first(node[0]); }
+"""
+
+# By which calls of helpers a section gets to the edge of a cycle.
+CALLS = [
+    (b"let y: int = call walk(n);", ["that use comes by this call of walk", "that binding comes by this call of walk"]),
+    (b"let y: int = call twice(n);", ["that use comes by this call of twice", "that binding comes by this call of twice"]),
+    (b"let y: int = call plain(n); let z: int = call walk(n);", ["that use comes by this call of plain", "that binding comes by this call of walk"]),
+    (b"let m: ref Node = n.next; let y: int = call plain(m);", []),
+    (b"let m: ref Node = n.next; let y: int = m.v;", []),
+]
+
 OTHERS = [
     (b"\xef\xbb\xbflock G;\n", "E01", MARK),
     (b"\xfe\xff\x00l\x00o\x00c\x00k", "E01", MARK),
@@ -252,6 +271,13 @@ def main():
             passed, failed = passed + is_right, failed + (not is_right)
             if not is_right:
                 print(f"FAILED {text!r}: {code}, notes {notes}, wanted {wanted}, {words!r}")
+        for text, calls in CALLS:
+            code, notes = explained(program, folder, WALKED % text)
+            told = [note.removeprefix("in first: ") for note in notes if "by this call of" in note]
+            is_right = (code, told) == ("E14", calls)
+            passed, failed = passed + is_right, failed + (not is_right)
+            if not is_right:
+                print(f"FAILED {text!r}: {code}, notes {notes}")
     print(f"{passed} passed, {failed} failed")
     return failed > 0
 

@@ -66,6 +66,7 @@ try tests/open.py "$program" examples/*.al
 try tests/life.py "$program"
 try tests/advice.py "$program"
 try tests/codes.py "$program"
+try tests/colors.py "$program"
 try tests/warnings.py "$program"
 try tests/ends_told.py "$program"
 try tests/runs.py "$program" --times 5 --transfers 200
@@ -76,6 +77,8 @@ try tests/fans.py "$program"
 try tests/emit.py "$program"
 try tests/pictures.py "$program"
 try tests/tutorial.py "$program"
+try tests/items.py --program "$program" --count 2
+try tests/scheduled.py "$program"
 try tests/stress.py "$program"
 try tests/pages.py "$program"
 try tests/format.py "$program"

@@ -22,9 +22,9 @@ A run must end within 20 seconds with status 0 or 1, or of `serial` and `outcome
 whole text of the command and standard error is empty; with 1, standard error is one line, the same of each command, and
 standard output is empty, and of `explain` the other way round: standard output begins with that line and shows its place,
 or with --json is an object that tells it; with 7, the last line of standard output begins with `unsettled` and standard
-error is empty. What `trace` writes has a line for each step, and ends with what `simulate` writes. These two end with 6
-and the line of the steps file's first fault, as this script finds it, exactly where there is one. `replay` answers `same`
-to what `serial` wrote; of a changed text it answers one line with status 5 or 7, or tells the text's first fault with 6.
+error is empty. What `trace --all` writes has a line for each step, and ends with what `simulate` writes. These two end with 6
+and the line of the steps file's first fault, as this script finds it, exactly where there is one, or of an item whose steps
+only a run tells with S3. `replay` answers `same` to what `serial` wrote; of a changed text it answers one line with status 5 or 7, or tells the text's first fault with 6.
 Of a cycle of lock classes `order` writes the graph too; another build may leave it out.
 A source of which that doesn't hold is kept as hostile-NUMBER.al, with its steps. The last line is 'N runs, M failed';
 exit status 1 where M is not 0.
@@ -51,7 +51,7 @@ WORDS = (
 ).split()
 STEP_ITEMS = (
     b"* 0* *1 0**1 1*1*1 -1 +1 0x1 00 000*0001 3 63 64 99999999999999999999 0*10000000 0*9999999 1*10000001 "
-    b"0*99999999999999999999999 a \xff \x00 0,1 0;"
+    b"0*99999999999999999999999 a \xff \x00 0,1 0; 0! 1! 0+ 1+ a! a*2 G+ _ 0!! 0+1 1!*2 !"
 ).split(b" ")
 # A helper, of which `kind` is the type of parameter and result, and calls of it.
 HELPERS = (
@@ -183,18 +183,18 @@ def steps_for(text):
 
 
 def steps_fault(steps, threads):
-    """The place and the words of the first faulty item, or nothing."""
+    """The place and the words of the first faulty item of a program with threads of these names, or nothing."""
     before = 0
     for item in re.finditer(rb"[^ \t\r\n]+", steps):
-        parts = item.group().split(b"*", 1)
-        if not all(re.fullmatch(rb"[0-9]+", part) for part in parts):
+        parts = re.fullmatch(rb"(?:([0-9]+)|([0-9A-Za-z_]+))(?:\*([0-9]+)|([!+]))?", item.group())
+        if not parts:
             fault = b"S1: bad item"
-        elif int(parts[0]) >= threads:
+        elif parts[2] not in threads if parts[2] else int(parts[1]) >= len(threads):
             fault = b"S2: no such thread"
-        elif before + int((parts + [b"1"])[1]) > 10_000_000:
+        elif before + (0 if parts[4] else int(parts[3] or 1)) > 10_000_000:
             fault = b"S3: too many steps"
         else:
-            before += int((parts + [b"1"])[1])
+            before += 0 if parts[4] else int(parts[3] or 1)
             continue
         start = item.start()
         line = steps.count(b"\n", 0, start) + 1
@@ -211,7 +211,7 @@ ARGUMENTS = {
     "serial": ["serial", "--turns", "1000"],
     "outcomes": ["outcomes", "--turns", "1000", "--count", "10"],
     "simulate": ["simulate"],
-    "trace": ["trace"],
+    "trace": ["trace", "--all"],
     "replay": ["replay", "--turns", "1000"],
 }
 WITH_STEPS = ("simulate", "trace")
@@ -301,7 +301,9 @@ def fault_of(command, ended):
 
 
 def steps_in(steps):
-    """How many steps a steps file without a fault has."""
+    """How many steps a steps file has that has neither a fault nor an item whose steps only a run tells; else nothing."""
+    if b"!" in steps or b"+" in steps:
+        return None
     return sum(int((item.split(b"*", 1) + [b"1"])[1]) for item in steps.split())
 
 
@@ -312,17 +314,21 @@ def wrong_trace(program, path, ended):
         count = steps_in(file.read())
     if not ended.stdout.endswith(world):
         return "trace: another world than simulate's"
-    return None if ended.stdout[: len(ended.stdout) - len(world)].count(b"\n") == count else "trace: not a line a step"
+    lines = ended.stdout[: len(ended.stdout) - len(world)].count(b"\n")
+    return None if count in (None, lines) else "trace: not a line a step"
 
 
 def wrong_steps(program, command, path, ended):
     """What is wrong with what a command says of the steps file of an accepted source, or nothing."""
-    empty = run([program, "simulate", path, "/dev/null"])
-    lines = empty.stdout.splitlines()
-    threads = len(lines) - 2 - lines.index(b"threads")
+    with open(path, "rb") as file:
+        threads = re.findall(rb"\bthread\s+(\w+)", re.sub(rb"//[^\n]*", b"", file.read()), re.ASCII)
     with open(path + ".steps", "rb") as file:
-        fault = steps_fault(file.read(), threads)
+        steps = file.read()
+    fault = steps_fault(steps, threads)
     wanted = b"" if fault is None else b"%s.steps:%s\n" % (path.encode(), fault)
+    too_many = re.escape(path.encode()) + rb"\.steps:\d+:\d+: S3 too many steps\n"
+    if fault is None and steps_in(steps) is None and re.fullmatch(too_many, ended.stderr):
+        return None
     if ended.stderr != wanted:
         return f"{command}: {ended.stderr} where it should tell {wanted}"
     return wrong_trace(program, path, ended) if command == "trace" and fault is None else None

@@ -10,7 +10,7 @@
 # - a block ```text check, which is what `check` writes there;
 # - a block ```text simulate ITEMS, which is what `simulate` writes there after the steps of these items;
 # - a block ```text trace ITEMS, which is what `trace` writes there of these steps;
-# - a block ```text outcomes, which is what `outcomes` writes there;
+# - a block ```text outcomes, which is what `outcomes` writes there; words behind it come between `outcomes` and the file;
 # - a block ```text explain, which is what `explain` writes there; FILE stands for the file's name;
 # - or one line `FILE:..`, which both write to standard error; FILE stands for the file's name.
 #
@@ -58,7 +58,7 @@ awk '
         block = "text"
         accepted = 0
         of = substr($0, 9)
-        begin(of == "check" || of == "explain" || of == "outcomes" ? of : /^```text simulate / ? "simulate" : /^```text trace / ? "trace" : "serial" substr($0, 8))
+        begin(of == "check" || of == "explain" || of ~ /^outcomes( |$)/ ? of : /^```text simulate / ? "simulate" : /^```text trace / ? "trace" : "serial" substr($0, 8))
         if (/^```text simulate /) print substr($0, 18) >(run ".steps")
         if (/^```text trace /) print substr($0, 15) >(run ".steps")
     }

@@ -14,6 +14,11 @@ by, and just the cells that they end in, each once, and of each after how many o
 is asked to look at fewer orders than there are: it has to say `drawn`, and of as many orders cells that some of them end in.
 Where there are more orders than that, those that it tells are run.
 
+Of each program comparisons are drawn too, sums of its cells and of numbers, some past 64 bits. What `--expect` says of them has to
+be what the ends that are told say, by a reader of this script: that all ends meet it, or the first that doesn't, with its order
+and its cells. A table has texts that are no comparison, with the byte up to which they can be read, and names that stand for
+no sum.
+
 Exits with 1 where anything differs, and prints the program and what is wrong.
 """
 
@@ -182,6 +187,117 @@ class Judge:
         self.judge_ends(lines, "all" if number <= count else "drawn", count)
 
 
+NAMES = {"x": ("x",), "y": ("y",), "a": ("a[0]", "a[1]"), "a[1]": ("a[1]",), "p": ("p[0].v",), "p[0]": ("p[0].v",), "p[0].v": ("p[0].v",)}
+RELATIONS = {
+    "==": lambda a, b: a == b, "!=": lambda a, b: a != b, "<": lambda a, b: a < b,
+    "<=": lambda a, b: a <= b, ">": lambda a, b: a > b, ">=": lambda a, b: a >= b,
+}  # fmt: skip
+
+
+class Comparison:
+    """A drawn comparison: its text, the cells that it has, and whether cells meet it."""
+
+    def __init__(self, chance):
+        self.left, self.right = self.drawn_sum(chance), self.drawn_sum(chance)
+        self.relation = chance.choice(list(RELATIONS))
+        blank = lambda: chance.choice(("", " ", "\t", "  "))
+        text = blank()
+        for terms in (self.left, self.right):
+            for at, (sign, item) in enumerate(terms):
+                text += blank() + (sign if at or sign == "-" else "") + blank() + item
+            text += blank() + (self.relation if terms is self.left else "") + blank()
+        self.text = text
+        self.cells = {cell for _, item in self.left + self.right for cell in NAMES.get(item, ())}
+
+    @staticmethod
+    def drawn_sum(chance):
+        items = list(NAMES) * 2 + ["0", "1", "7", "007", "9223372036854775807"]
+        return [(chance.choice("+-"), chance.choice(items)) for _ in range(chance.choice((1, 1, 2, 3, 4)))]
+
+    def met_by(self, cells):
+        def value(terms):
+            sums = (sum(cells[cell] for cell in NAMES[item]) if item in NAMES else int(item) for _, item in terms)
+            return sum(-each if sign == "-" else each for (sign, _), each in zip(terms, sums))
+
+        return RELATIONS[self.relation](value(self.left), value(self.right))
+
+
+def values(lines):
+    return {name: int(value) for name, value in (line.split() for line in lines if line not in ("cells", "end"))}
+
+
+def judge_comparison(program, path, comparison, count):
+    """What `--expect` says of a drawn program that has been judged without it."""
+    words = ["--full", "--turns", str(TURNS), "--count", str(count), "--expect", comparison.text, path]
+    done = subprocess.run([program, "outcomes", *words], capture_output=True, timeout=120)
+    lines = done.stdout.decode("latin-1").split("\n")[:-1]
+    if done.returncode == 7:
+        return
+    number, scope = FIRST.match(lines[0]).groups()
+    at, breach = (2 if scope == "all" else 1), None
+    while at < len(lines) and lines[at].startswith("outcome "):
+        end = lines.index("end", at) + 1
+        cells = values(lines[at + 1 : end])
+        if set(cells) != comparison.cells:
+            raise Differs(f"--expect {comparison.text!r}: cells {sorted(cells)}")
+        if breach is None and not comparison.met_by(cells):
+            breach = [f"expected {comparison.text} fails after{OUTCOME.match(lines[at]).group(2)}"] + lines[at + 1 : end]
+        at = end
+    want = breach or [f"expected {comparison.text} holds in {'all orders' if scope == 'all' else 'the orders drawn'}"]
+    if lines[at:] != want or done.returncode != (9 if breach else 0) or done.stderr:
+        raise Differs(f"--expect {comparison.text!r}: status {done.returncode}: {lines[at:]} for {want}")
+    if scope == "all":
+        whole = subprocess.run([program, "outcomes", *words[:5], path], capture_output=True, timeout=120).stdout.decode("latin-1").splitlines()
+        starts = [place for place, line in enumerate(whole) if line.startswith("outcome ")]
+        met = all(comparison.met_by(values(whole[start + 1 : whole.index("end", start) + 1])) for start in starts)
+        if met != (breach is None):
+            raise Differs(f"--expect {comparison.text!r}: of the cells of all ends {'none' if met else 'one'} breaks it")
+
+
+# What is told of texts that are no comparison, and of names that stand for no sum.
+FAULTY = {
+    "": "no comparison, at byte 0",
+    "n": "no comparison, at byte 1",
+    "n ==": "no comparison, at byte 4",
+    "n == ": "no comparison, at byte 5",
+    "n = 1": "no comparison, at byte 2",
+    "n == 1 2": "no comparison, at byte 7",
+    "n == 1 == 1": "no comparison, at byte 7",
+    "n == --1": "no comparison, at byte 6",
+    "+n == 1": "no comparison, at byte 0",
+    "n + == 1": "no comparison, at byte 4",
+    "n == 1x": "no comparison, at byte 5",
+    "n == 9223372036854775808": "no comparison, at byte 5",
+    "n\n== 1": "no comparison, at byte 1",
+    "n == 1;": "no comparison, at byte 6",
+    "m == n": "no cell is named m",
+    "n == 1 + n[0]": "no cell is named n[0]",
+    "q == 0": "q holds no number",
+    "n - q[0].next == 0": "q[0].next holds no number",
+}
+
+
+def judge_faulty(program, folder):
+    """The faults of the table, and that there is no other one."""
+    path = os.path.join(folder, "faulty.al")
+    with open(path, "w", encoding="latin-1") as out:
+        out.write("lock G; global int n protected_by(G);\nstruct P { lock l; int v protected_by(l); ref P next protected_by(l); } pool P q[1];\n")
+        out.write("atomic f() { n = n + 1; }\nthread t { f(); }\n")
+    failed = 0
+    for text, want in FAULTY.items():
+        done = subprocess.run([program, "outcomes", "--expect", text, path], capture_output=True, timeout=120)
+        told = f"autolock: --expect: {text} is {want}\n" if want.startswith("no comparison") else f"autolock: {want}\n"
+        if (done.returncode, done.stdout, done.stderr.decode("latin-1")) != (6, b"", told):
+            print(f"FAILED --expect {text!r}: status {done.returncode}: {done.stderr} for {told!r}")
+            failed += 1
+    for text in ("n == 1", "q[0].v==0", "\t0<n ", "-1 + n - n - 9223372036854775807 - 9223372036854775807 <= -9223372036854775807 - 9223372036854775807 - 1"):
+        done = subprocess.run([program, "outcomes", "--expect", text, path], capture_output=True, timeout=120)
+        if done.returncode or not done.stdout.endswith(f"expected {text} holds in all orders\n".encode()):
+            print(f"FAILED --expect {text!r}: status {done.returncode}: {done.stdout}")
+            failed += 1
+    return failed
+
+
 STATEMENTS = (
     "x = k;", "x = x + k;", "x = y;", "y = x + 1;", "y = x - y;", "x = a[0]; a[0] = k;", "a[1] = a[0] + k;",
     "if (x < y) { x = y; } else { y = k; }", "y = 12 / x;", "a[x] = k;", "p[0].v = x + k;", "x = p[0].v;", "print x; x = 0 - x;",
@@ -214,13 +330,16 @@ def main():
     seed = random.randrange(2**32) if given.seed is None else given.seed
     print(f"seed {seed}")
     chance = random.Random(seed)
-    failed = judged = 0
+    judged = 0
     with tempfile.TemporaryDirectory() as folder:
+        failed = judge_faulty(os.path.abspath(given.program), folder)
+        small = set()
         for number in range(given.count):
             path = os.path.join(folder, f"drawn-{number}.al")
             with open(path, "w", encoding="latin-1") as out:
                 out.write(drawn(chance))
             given.files.append(path)
+            small.add(path)
         for path in given.files:
             judge = Judge(os.path.abspath(given.program), path, folder)
             try:
@@ -228,6 +347,8 @@ def main():
                     print(f"passed over {path}")
                     continue
                 judge.judge(given.most)
+                for _ in range(4 if path in small else 0):
+                    judge_comparison(judge.program, path, Comparison(chance), chance.choice((given.most, given.most, 2)))
                 judged += 1
             except Differs as wrong:
                 with open(path, encoding="latin-1") as source:

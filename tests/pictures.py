@@ -169,7 +169,7 @@ class Judge:
         choose = random.Random(seed)
         drawn = [f"{choose.randrange(threads)}*{choose.choice([1, 2, 5, 30])}" for _ in range(30)] if threads else []
         steps.write_text(" ".join(drawn))
-        text = self.said("trace", *["--sections"][: seed % 2], file, steps)
+        text = self.said("trace", *["--sections"][: seed % 2], *["--all"][: seed // 2 % 2], file, steps)
         trace = self.room / "trace"
         trace.write_text(text)
         lines = text[: text.index("simulation 1\n")].splitlines()

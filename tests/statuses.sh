@@ -31,6 +31,9 @@ printf 'section f\n0 acquire G\n1 int 1\n2 store n\n3 end\n' >listed
 printf 'history 1\ncall 0 0 f() ends\ncells\nn 1\nend\n' >history
 printf 'orders 1 all\nstates 2\noutcome 1 after 0\ncells\nn 1\nend\n' >outcomes
 printf 'autolock: no cell is named m\n' >no_cell
+printf 'autolock: --expect: n == is no comparison, at byte 4\n' >no_comparison
+{ cat outcomes; echo 'expected n == 1 holds in all orders'; } >expected
+{ cat outcomes; printf 'expected n > 1 fails after 0\ncells\nn 1\nend\n'; } >unexpected
 printf 'orders 0 drawn\n' >drawn
 printf 'history 1\nunsettled 0 0\n' >unsettled_call
 for name in missing.al folder; do echo "autolock: cannot read $name" >"no_$name"; done
@@ -97,6 +100,10 @@ run "turns" 0 history none serial --turns 0 right.al
 run "outcomes" 0 outcomes none outcomes right.al
 run "outcomes, of a cell" 0 outcomes none outcomes --cells n --full right.al
 run "outcomes, of a cell that is not there" 6 none no_cell outcomes --cells n,m right.al
+run "outcomes, as is expected" 0 expected none outcomes --expect 'n == 1' right.al
+run "outcomes, not as is expected" 9 unexpected none outcomes --expect 'n > 1' right.al
+run "outcomes, of a text that is no comparison" 6 none no_comparison outcomes --expect 'n ==' right.al
+run "outcomes, where a cell is expected that is not there" 6 none no_cell outcomes --expect 'm == 1' right.al
 run "outcomes, with more orders than are looked at" 0 drawn none outcomes --count 0 right.al
 run "check" 0 checked none check right.al
 run "explain" 0 accepted none explain right.al

@@ -7,10 +7,11 @@
 --count N   so many steps files for each program, by default 20
 FILE..      programs, by default those of examples/ that are accepted
 
-The text must end with what `simulate` writes, and have a line for each step ahead of it. A thread must begin its calls one
-after another and run, from the first instruction of the listing on, one that may come next; an `acquire` must stand at a
-place where `check` takes these paths; a lock that is got must be held by no other thread, and one that is waited for by
-the thread that is named; positions must rise by one. With --sections the same lines must come without those of `moved`.
+The text must end with what `simulate` writes, and with --all have a line for each step ahead of it. A thread must begin
+its calls one after another and run, from the first instruction of the listing on, one that may come next; an `acquire`
+must stand at a place where `check` takes these paths; a lock that is got must be held by no other thread, and one that is waited for by
+the thread that is named; positions must rise by one. With --sections the same lines must come without those of `moved`,
+and without --all without those of `idle`.
 The last line is 'N runs, M failed'; exit status 1 where M is not 0.
 """
 import argparse
@@ -85,16 +86,21 @@ def wrong_lines(lines, code, takes):
     return None
 
 
-def wrong_trace(count, trace, sections, simulation, code, takes):
-    """What is wrong with the texts of a steps file of so many steps, or nothing."""
-    if not trace.endswith(simulation) or not sections.endswith(simulation):
+# By the options: the words of the lines that are left out.
+LEFT_OUT = {"--all": (), "--sections --all": ("moved",), "": ("idle",), "--sections": ("moved", "idle")}
+
+
+def wrong_trace(count, traces, simulation, code, takes):
+    """What is wrong with the texts of a steps file of so many steps, by their options, or nothing."""
+    if not all(trace.endswith(simulation) for trace in traces.values()):
         return "the text does not end with the simulation text"
-    lines = trace[: len(trace) - len(simulation)].splitlines()
+    told = {options: trace[: len(trace) - len(simulation)].splitlines() for options, trace in traces.items()}
+    lines = told["--all"]
     if len(lines) != count:
         return f"{len(lines)} lines for {count} steps"
-    left = [line for line in lines if line.split()[1] != "moved"]
-    if sections[: len(sections) - len(simulation)].splitlines() != left:
-        return "--sections leaves out other lines than those of instructions"
+    for options, words in LEFT_OUT.items():
+        if told[options] != [line for line in lines if line.split()[1] not in words]:
+            return f"with '{options}' other lines are left out than those of {words}"
     return wrong_lines(lines, code, takes)
 
 
@@ -129,8 +135,10 @@ def main():
             for seed in range(a.seed, a.seed + a.count if threads else a.seed):
                 text, count = drawn(random.Random(seed), threads)
                 steps.write_text(text)
-                answers = [said("trace", file, steps), said("trace", "--sections", file, steps), said("simulate", file, steps)]
-                wrong = "a status or a message" if None in answers else wrong_trace(count, *answers, code, takes)
+                traces = {options: said("trace", *options.split(), file, steps) for options in LEFT_OUT}
+                simulation = said("simulate", file, steps)
+                silent = None in (simulation, *traces.values())
+                wrong = "a status or a message" if silent else wrong_trace(count, traces, simulation, code, takes)
                 runs += 1
                 if wrong:
                     failed += 1

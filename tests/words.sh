@@ -57,7 +57,7 @@ same -V
 same -hV
 same -Vh
 same -hx
-for command in check explain format order listing emit serial outcomes simulate trace run replay lsp; do
+for command in check explain format order listing emit serial outcomes schedule simulate trace run replay lsp; do
     same help "$command"
     same "$command" --help
     same "$command" -h
@@ -111,6 +111,72 @@ for word in chek Check CHECK checks c lis list listin lsiting seral seriall sim 
     rnu rum ordr oder orders replya repla expl explian foobar größe trcae traces tra prints seril stimulate outcome outcoms comes; do
     same "$word" right.al
 done
+
+# Options without a value, of commands that read one file.
+while read -r command flag; do
+    same "$command" "$flag"
+    same "$command" "$flag" missing.al
+    same "$command" missing.al "$flag"
+    same "$command" "$flag" "$flag" right.al
+    same "$command" "$flag=x" right.al
+    same "$command" "${flag%?}" right.al
+    same "$command" "$flag" right.al --foo
+    same "$command" "$flag" --hel
+    same "$command" "$flag" a b c
+    same check "$flag" right.al
+    same "$flag" "$command" right.al
+done <<'END'
+serial --changed
+schedule --worst
+trace --all
+END
+
+# Options with one.
+while read -r command option good bad; do
+    same "$command" "$option"
+    same "$command" "$option" "$good"
+    same "$command" "$option" "$good" missing.al
+    same "$command" "$option=$good" missing.al
+    same "$command" missing.al "$option" "$good"
+    same "$command" "$option" "$bad" missing.al
+    same "$command" "$option=$bad" missing.al
+    same "$command" "$option=" missing.al
+    same "$command" "$option" '' missing.al
+    same "$command" "$option" "$good" "$option" "$good" right.al
+    same "$command" "$option" -- right.al
+    same "$command" "$option" -h right.al
+    same "$command" "$option" -x right.al
+    same "$command" "$option" --help right.al
+    same "$command" "$option" "$option" right.al
+    same "$command" "${option%?}" "$good" right.al
+    same "$command" "$option" "$good" right.al --foo
+    same "$command" "$option" "$good" a b c
+    same check "$option" "$good" right.al
+    same "$option" "$good" "$command" right.al
+done <<'END'
+explain --color always red
+explain --color auto Always
+outcomes --expect a==3 1000000001
+schedule --seed 3 1000000001
+schedule --length 3 x
+run --seed 0 -1
+run --times 1 0
+run --times 1000000 1000001
+END
+same explain --json --color never missing.al
+same explain --color red E14
+same explain --color red E21
+same explain --color red
+same schedule --seed 3 --length 4 --worst missing.al
+same schedule --worst --seed 3 --foo missing.al
+same schedule --length 3 --worst
+same run --seed 3 --times 4 missing.al
+same run --times 4 --seed 3
+same trace --all --sections missing.al missing.al
+same trace --sections --all
+same serial --changed --turns 3 missing.al
+same serial --turns 3 --changed
+same outcomes --full --expect a==3 --cells a missing.al
 
 # Codes.
 for word in E00 E21 e99 E1 E011 F01 E0x; do
@@ -353,8 +419,8 @@ same serial --turns 3 missing.al
 # The completions and the manual page name what the help names.
 commands=$(sed -n '/^Commands:/,/^$/s/^  \([a-z]*\) .*/\1/p' "$top/script/help/autolock.txt")
 options=$(sed -n 's/^ *\(-[a-zA-Z], \)\{0,1\}--\([a-z]*\).*/\2/p' "$top"/script/help/*.txt | sort -u)
-[ "$(echo $commands)" = "check explain format order listing emit serial outcomes simulate trace run replay lsp help" ] || fail "the commands of the help: $commands"
-[ "$(echo $options)" = "answers cells count full header help json lines open places prefix sections seed turns version why" ] || fail "the options of the help: $options"
+[ "$(echo $commands)" = "check explain format order listing emit serial outcomes schedule simulate trace run replay lsp help" ] || fail "the commands of the help: $commands"
+[ "$(echo $options)" = "all answers cells changed color count expect full header help json length lines open places prefix sections seed times turns version why worst" ] || fail "the options of the help: $options"
 for file in completions/autolock.bash completions/_autolock completions/autolock.fish docs/autolock.1; do
     for word in $commands $options; do
         sed 's/\\-/-/g' "$top/$file" | grep -qw -- "$word" || fail "$file lacks $word"
@@ -381,11 +447,11 @@ completes() {
 }
 . "$top/completions/autolock.bash"
 : >x.steps
-completes "check emit explain format help listing lsp order outcomes replay run serial simulate trace" ''
-completes "serial simulate" s
+completes "check emit explain format help listing lsp order outcomes replay run schedule serial simulate trace" ''
+completes "schedule serial simulate" s
 completes "right.al" order r
 completes "--build --help --install --proved --uninstall --unproved --version -V -h" -
-completes "check emit explain format help listing lsp order outcomes replay run serial simulate trace" --unproved ''
+completes "check emit explain format help listing lsp order outcomes replay run schedule serial simulate trace" --unproved ''
 completes "--turns" serial --t
 completes "--header" emit --hea
 completes "--prefix" emit --p
@@ -397,6 +463,14 @@ completes "--cells --count" outcomes --c
 completes "--answers" outcomes --a
 completes "--full" outcomes --f
 completes "--seed" outcomes --s
+completes "--expect" outcomes --e
+completes "" outcomes --expect ''
+completes "--changed" serial --ch
+completes "--worst" schedule --w
+completes "--times" run --ti
+completes "--all" trace --a
+completes "--color" explain --c
+completes "always auto never" explain --color ''
 completes "right.al" outcomes r
 completes "folder right.al" outcomes --count 3 ''
 completes "" outcomes --seed ''

@@ -4,7 +4,8 @@
 //! It exits with 0 where what was asked for was written, 1 where the program's text has a fault (of `lsp`: where the editor left
 //! without asking to shut down), 2 where the words are none of its own, 3 where reading or writing failed, 4 where memory ran
 //! out, 5 where a recorded history differs, 6 where the steps file or the history file has a fault, 7 where a call is not settled
-//! by the given turns, 8 where a thread found another history than it had left; `--help` and `--version` exit with 0.
+//! by the given turns, 8 where a thread found another history than it had left, 9 where an end has not what is expected of it;
+//! `--help` and `--version` exit with 0.
 #![tactic(auto)]
 
 mod watch;
@@ -17,8 +18,9 @@ ghost use Rattle.driver.specs.{Tells, cannot_read, cannot_write, no_memory, name
 use clap::Error;
 use clap::error::ErrorKind;
 use driver::{Sink, SourceText, Status, Streams, explain_code, lsp, serve, serve_beside};
-use driver_words::{Line, Request, words};
+use driver_words::{Alone, Color, Line, Request, words};
 use std::alloc::{AllocError, Global};
+use std::env::VarError;
 use std::fs::File;
 use std::io::{BufReader, IsTerminal, Read, Write};
 use std::process::ExitCode;
@@ -35,6 +37,38 @@ fn source_text<'a>(rt: &HostRuntime, file: &'a str) -> SourceText<'a, File>
     match fs::open(rt, file) {
         Ok(opened) => SourceText::new(file, opened),
         Err(_) => SourceText::missing(file),
+    }
+}
+
+/// Whether standard output wants colours: it is a terminal, and `NO_COLOR` isn't set to anything.
+fn wants_color(rt: &HostRuntime) -> bool {
+    if !rt.stdout().is_terminal() {
+        return false;
+    }
+    match env::var(rt, "NO_COLOR") {
+        Ok(value) => value.is_empty(),
+        Err(VarError::NotPresent) => true,
+        Err(_) => false,
+    }
+}
+
+/// When a text is written in colours, with what is left to the terminal settled.
+fn settled(rt: &HostRuntime, color: Color) -> Color {
+    match color {
+        Color::Auto if wants_color(rt) => Color::Always,
+        Color::Auto => Color::Never,
+        Color::Always | Color::Never => color,
+    }
+}
+
+/// The same request, with its colours settled.
+fn with_settled_color<'a>(rt: &HostRuntime, request: Alone<'a>) -> Alone<'a> {
+    match request {
+        Alone::Explain { json, color } => Alone::Explain {
+            json,
+            color: settled(rt, color),
+        },
+        _ => request,
     }
 }
 
@@ -70,6 +104,7 @@ fn run_line<R: Threads + Wait + Sync, O: Write, E: Write>(
         Request::Lsp => serve_editor(rt, streams),
         Request::Alone(request) => {
             let mut source = source_text(rt, line.file);
+            let request = with_settled_color(rt, request);
             serve(threads, rt.alloc(), request, &mut source, streams)
         }
         Request::Beside(request, other_file) => {

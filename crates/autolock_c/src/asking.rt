@@ -11,7 +11,7 @@ ghost use Rattle.autolock_c.specs.Working.Answering.{IsAnswer, IsUnemitted};
 
 use crate::answer::Answer;
 use driver::{Sink, SourceText, Status, Streams, explain, serve_report};
-use driver_words::{Emission, Report, is_prefix};
+use driver_words::{Color, Emission, Report, is_prefix};
 use source::memory::NoMemory;
 use std::alloc::Global;
 
@@ -51,12 +51,12 @@ pub fn reported(alloc: Global, report: Report<'_>, text: &[u8]) -> Result<Answer
 ///
 /// `OutOfMemory`: memory was refused.
 pub fn explained(alloc: Global, text: &[u8]) -> Result<Answer, Status>
-    ensures answer { IfOk result (IsAnswer (ExplainAnswers true [] text.now)) }
+    ensures answer { IfOk result (IsAnswer (ExplainAnswers true Color.Never [] text.now)) }
     ensures memory { IfErr result (λ status. status ≡ Status.OutOfMemory) }
 {
     let mut source = SourceText::new("", text);
     let mut streams = outputs(alloc);
-    let status = explain(alloc, true, &mut source, &mut streams);
+    let status = explain(alloc, true, Color::Never, &mut source, &mut streams);
     match Answer::of(status, streams) {
         Ok(answer) => Ok(answer),
         Err(NoMemory) => Err(Status::OutOfMemory),

@@ -20,7 +20,7 @@ ghost use Rattle.autolock_c.specs.Given.{EmitAnswers, IsGiven, IsNothing};
 
 use answer::give;
 use asking::{emitted, explained, reported};
-use driver_words::Report;
+use driver_words::{Color, Report};
 use std::alloc::Global;
 
 /// Says of the program of a text in which order it takes its locks, and which ones before each statement, as `check`
@@ -55,7 +55,7 @@ pub extern "C" fn autolock_explain(
     out: &mut [u8],
     needed: &mut usize,
 ) -> u8
-    ensures given { result ≢ 4 → IsGiven (ExplainAnswers true [] text.now)
+    ensures given { result ≢ 4 → IsGiven (ExplainAnswers true Color.Never [] text.now)
         result out.old out.new needed.new }
     ensures memory { result ≡ 4 → IsNothing out.old out.new needed.new }
 {

@@ -14,3 +14,4 @@ pub mod AnswerLemmas
 pub mod AloneLemmas
 pub mod AddedTexts
 pub mod PageLemmas
+pub mod ThreadRunLemmas

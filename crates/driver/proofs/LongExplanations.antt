@@ -28,7 +28,8 @@ use Rattle.source.specs.Faults.{fault_text}
 use Rattle.source.specs.Texts.{SOURCE_LIMIT}
 use Rattle.driver.specs.declared.status.Status.{Status}
 use Rattle.driver.specs.declared.status.Status.TheVariants.{Refused}
-use Rattle.driver.specs.Explanations.{ExplainAnswers, faultless, explained, fault_told}
+use Rattle.driver.specs.Explanations.{ExplainAnswers, faultless, explained, fault_told, in_color}
+use Rattle.driver_words.specs.declared.line.Color.{Color}
 use Rattle.explanation.specs.Warnings.{Warning}
 use Rattle.explanations.specs.Told as told
 use Rattle.explanations.specs.Told.{IsToldOf, accepted, faulty}
@@ -72,11 +73,12 @@ AreAlike file t u =
     × ((fault : Fault) (notes : List Note) → fault.start ≡ 0 → AreOfWhole notes →
     fault_json file t fault notes nothing_further ≡ fault_json file u fault notes nothing_further)
 
-told_of_start : (json : Bool) (file t u : List ℕ) (fault : Fault) (notes : List Note) → fault.start ≡ 0 →
+told_of_start : (json : Bool) (color : Color) (file t u : List ℕ) (fault : Fault) (notes : List Note) → fault.start ≡ 0 →
     AreOfWhole notes → AreAlike file t u →
-    fault_told json file t fault notes nothing_further ≡ fault_told json file u fault notes nothing_further
-told_of_start true file t u fault notes first whole are = are.1 fault notes first whole
-told_of_start false file t u fault notes first whole are = explained_alike file t u fault notes first whole are.0
+    fault_told json color file t fault notes nothing_further ≡ fault_told json color file u fault notes nothing_further
+told_of_start true color file t u fault notes first whole are = are.1 fault notes first whole
+told_of_start false color file t u fault notes first whole are =
+    ap (in_color color) (explained_alike file t u fault notes first whole are.0)
 
 -- ---- texts that are too long
 
@@ -121,10 +123,10 @@ alone_of_long long (none_behind other) = refl
 pub no_cycle : (program : Typed) (fault : Fault) → fault.code ≡ LimitExceeded → IsFaultAtFirst program fault → ⊥
 no_cycle program fault limit (at_first c rest number used bound cycle makes starts code detail) = absurd cc
 
-module _ (json : Bool) (file t u : List ℕ) (status : Status) (out err : List ℕ) (long : IsLong t) (longer : IsLong u)
+module _ (json : Bool) (color : Color) (file t u : List ℕ) (status : Status) (out err : List ℕ) (long : IsLong t) (longer : IsLong u)
     (same : AreAlike file t u) where
   fault_of_long : (fault : Fault) (notes : List Note) (further : Further) → IsToldOf t (faulty fault notes further) → status ≡ Refused →
-      out ≡ fault_told json file t fault notes further → err ≡ [] → ExplainAnswers json file u status out err
+      out ≡ fault_told json color file t fault notes further → err ≡ [] → ExplainAnswers json color file u status out err
   fault_of_long fault notes further (told.explained is) ended written none =
       explained (record {
         fault = fault;
@@ -137,7 +139,7 @@ module _ (json : Bool) (file t u : List ℕ) (status : Status) (out err : List �
           others = none_behind (λ tokens decls few has first. absurd (omega arith));
         });
         ended = ended;
-        written = written ∙ ap (fault_told json file t fault notes) (alone_of_long long is.others) ∙ told_of_start json file t u fault notes (starts_at_0 t fault long is.given)
+        written = written ∙ ap (fault_told json color file t fault notes) (alone_of_long long is.others) ∙ told_of_start json color file t u fault notes (starts_at_0 t fault long is.given)
             (All-weaker (IsTrueTextNote t fault.code fault.start) (λ (note : Note). note.start ≡ None) (λ note true_note. of_whole long true_note)
             notes is.tell.are_true) same;
         told = none;
@@ -148,17 +150,17 @@ module _ (json : Bool) (file t u : List ℕ) (status : Status) (out err : List �
   not_accepted : (notes : List Note) (warnings : List Warning) → IsToldOf t (accepted notes warnings) → ⊥
   not_accepted notes warnings (told.faultless is) = none_accepted t is.program long is.accepts
 
-  explained_of_long : ExplainAnswers json file t status out err → ExplainAnswers json file u status out err
+  explained_of_long : ExplainAnswers json color file t status out err → ExplainAnswers json color file u status out err
   explained_of_long (faultless is) = absurd (not_accepted is.notes is.warnings is.tell)
   explained_of_long (explained is) = fault_of_long is.fault is.notes is.further is.tell is.ended is.written is.told
 
 -- what is answered for the beginning of a text is answered for the text
 pub explained_of_whole : ShownByFirstBytes → FaultByFirstBytes →
-    (json : Bool) (file t : List ℕ) (had : Option (List ℕ)) (status : Status) (out err : List ℕ) →
-    IfSome had (λ bytes. t ≡ take (SOURCE_LIMIT + 1) bytes) → ExplainAnswers json file t status out err →
-    (text : List ℕ) × IfSome had (λ bytes. text ≡ bytes) × ExplainAnswers json file text status out err
-explained_of_whole law by_first json file t None status out err read answers = (t, tt, answers)
-explained_of_whole law by_first json file t (Some bytes) status out err read answers =
+    (json : Bool) (color : Color) (file t : List ℕ) (had : Option (List ℕ)) (status : Status) (out err : List ℕ) →
+    IfSome had (λ bytes. t ≡ take (SOURCE_LIMIT + 1) bytes) → ExplainAnswers json color file t status out err →
+    (text : List ℕ) × IfSome had (λ bytes. text ≡ bytes) × ExplainAnswers json color file text status out err
+explained_of_whole law by_first json color file t None status out err read answers = (t, tt, answers)
+explained_of_whole law by_first json color file t (Some bytes) status out err read answers =
     ⊎_elim
     (λ (many : SOURCE_LIMIT < length bytes).
     let long : SOURCE_LIMIT < length t = rw read (omega (arith, length-take (SOURCE_LIMIT + 1) bytes)) in
@@ -167,7 +169,7 @@ explained_of_whole law by_first json file t (Some bytes) status out err read ans
     fault_json file t fault notes nothing_further ≡ fault_json file bytes fault notes nothing_further =
     λ fault notes first whole.
     ap (λ (x : List ℕ). fault_json file x fault notes nothing_further) read ∙ by_first (SOURCE_LIMIT + 1) file bytes fault notes (omega arith) first whole in
-    (bytes, refl, explained_of_long json file t bytes status out err long many (same, json_same) answers))
+    (bytes, refl, explained_of_long json color file t bytes status out err long many (same, json_same) answers))
     (λ (few : length bytes ≤ SOURCE_LIMIT).
     let same : t ≡ bytes = read ∙ take_all (SOURCE_LIMIT + 1) bytes (omega arith) in (t, same, answers))
     (cases_lt SOURCE_LIMIT (length bytes))

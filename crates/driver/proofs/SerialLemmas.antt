@@ -1,16 +1,15 @@
 -- The text of a run is the one of its serial meaning.
-use Rattle.std.proofs.Common.{◌≡◌, ◌∙◌, ℕ, List, [], ◌∷◌, ◌++◌, ap, sym, subst, refl, append-nil}
+use Rattle.std.proofs.Common.{◌≡◌, ◌∙◌, ℕ, Bool, List, [], ◌∷◌, ◌++◌, ap, sym, subst, refl, append-nil}
 use Rattle.std.proofs.lemmas.List.{map-append, append_cancel_right}
 use Rattle.core_lang.specs.declared.value.Value.{Value}
 use Rattle.core_lang.specs.declared.typed.Typed.{Typed}
 use Rattle.core_lang.specs.Laws.{SettledAreSerial}
 use Rattle.core_lang.specs.Serial.{Scheduled, Ended, all_calls, opening_heap, serial_run, Serial, SerialFromOpening}
-use Rattle.source_histories.specs.declared.format.Format.TheVariants.{One}
-use Rattle.report.specs.History.{history_of, unsettled_of}
+use Rattle.report.specs.History.{unsettled_of}
 use Rattle.driver.specs.declared.status.Status.{Status}
 use Rattle.driver.specs.declared.status.Status.TheVariants.{Done, Unsettled}
 use Rattle.driver.specs.Working.Running.{StopsAt, progress_of}
-use Rattle.driver.specs.Serial.{calls_of, entry, entries, IsHistory, StopsAtCall}
+use Rattle.driver.specs.Serial.{calls_of, entry, entries, serial_text, IsHistory, StopsAtCall}
 
 -- the calls ahead of those that the turns don't settle are run serially
 pub settled_ahead : SettledAreSerial → (turns : ℕ) (program : Typed) (ss before after : List Scheduled) →
@@ -35,12 +34,12 @@ entries_ahead program heap last (s ∷ before) after (e ∷ ends) ran =
     ap (λ es. entry s e ∷ es) (entries_ahead program ran.0.heap last before after ends ran.3)
 
 -- the turns settle all calls
-pub history_told : SettledAreSerial → (turns : ℕ) (program : Typed) (status : Status) (out err : List ℕ) →
+pub history_told : SettledAreSerial → (turns : ℕ) (changed : Bool) (program : Typed) (status : Status) (out err : List ℕ) →
     status ≡ Done →
     (serial_run program turns).unsettled ≡ [] →
-    out ≡ history_of One program (entries (all_calls program) (serial_run program turns).ends) (serial_run program turns).heap → err ≡ [] →
-    IsHistory turns program status out err
-history_told law turns program status out err done settled is none =
+    out ≡ serial_text changed program (entries (all_calls program) (serial_run program turns).ends) (serial_run program turns).heap → err ≡ [] →
+    IsHistory turns changed program status out err
+history_told law turns changed program status out err done settled is none =
     record {
       settled = settled;
       serial = settled_ahead law turns program (all_calls program) (all_calls program) [] (sym (append-nil (all_calls program))) settled;

@@ -7,7 +7,7 @@ use Rattle.driver.specs.declared.answer.Answer.{Answer}
 use Rattle.driver.specs.declared.streams.Streams.{Streams}
 use Rattle.driver.specs.declared.status.Status.{Status}
 use Rattle.driver.specs.declared.status.Status.TheVariants.{Done, Refused, BadWords, Failed, OutOfMemory, Differs}
-use Rattle.driver.specs.declared.status.Status.TheVariants.{BadInput, Unsettled, Strange}
+use Rattle.driver.specs.declared.status.Status.TheVariants.{BadInput, Unsettled, Strange, Unexpected}
 use Rattle.driver.specs.Engines.{Serves, Reading, Gave, first_unread, IsReadOut, IsReadOrLong}
 use Rattle.driver.specs.Messages.{cannot_read, no_memory}
 use Rattle.driver.specs.Working.Serving.{IsOut, GoesOut, IsGiven, IsUnread, of_reader, of_memory}
@@ -48,6 +48,9 @@ pub record IsRight (Answers : List ℕ → List (List ℕ) → Status → List �
 
 pub differs : {status : Status} → status ≡ Differs → IsAnswered status
 differs is = rw is (record { words = λ e. cc; failed = λ e. cc; memory = λ e. cc })
+
+pub unexpected : {status : Status} → status ≡ Unexpected → IsAnswered status
+unexpected is = rw is (record { words = λ e. cc; failed = λ e. cc; memory = λ e. cc })
 
 pub strange : {status : Status} → status ≡ Strange → IsAnswered status
 strange is = rw is (record { words = λ e. cc; failed = λ e. cc; memory = λ e. cc })

@@ -13,6 +13,7 @@ pub mod Outcomes
 pub mod Simulations
 pub mod Traces
 pub mod Replays
+pub mod Schedules
 pub mod ThreadRuns
 pub mod Requests
 pub mod Engines

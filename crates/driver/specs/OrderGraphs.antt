@@ -37,8 +37,9 @@ pub record IsOrderGraph (text : List ℕ) (status : Status) (out err : List ℕ)
 pub record IsCyclicGraph (file text : List ℕ) (status : Status) (out err : List ℕ) : Type 0 where
   pub fault : Fault
   pub given : IsOfFirstPass text fault
+  pub accepted : Typed
   pub program : Typed
-  pub meant : IsWrittenProgram text program
+  pub meant : IsWrittenProgram text accepted program
   pub of_order : IsFaultAtFirst program fault
   pub edges : List Edge
   pub cycle : IsCycleOf program edges

@@ -1,17 +1,23 @@
 -- What `outcomes` answers.
 use Rattle.std.specs.Prelude.{◌≡◌, ℕ, List, [], ◌∷◌, ◌++◌, slice_index, Option, Some, None, option_map, option_to_list, codes}
+use Rattle.std.specs.Prelude.{true, Result, Ok, Err, Contains}
+use Rattle.std.specs.Fmt.{decimal}
 use Rattle.code.specs.Listing.{line}
 use Rattle.core_lang.specs.declared.typed.Typed.{Typed}
 use Rattle.core_lang.specs.Serial.{Invocation, Scheduled}
 use Rattle.outcomes.specs.Ends.{Told, AreAllEnds, AreDrawnEnds, HasConfigurations, StopsAfter, done_after}
 use Rattle.outcomes.specs.Orders.{next_call, one_more, none_done}
 use Rattle.outcomes.specs.declared.outcome.Asked.{Asked}
-use Rattle.report_outcomes.specs.Names.{AreAsked, IsUnknownIn}
+use Rattle.report_outcomes.specs.Names.{names_together, AreAsked, IsUnknownIn}
 use Rattle.report_outcomes.specs.Outcomes.{outcomes_text}
 use Rattle.report.specs.History.{unsettled_of}
+use Rattle.expectations.specs.declared.comparison.Comparison.{Comparison}
+use Rattle.expectations.specs.Texts.{Said, meaning_of}
+use Rattle.expectations.specs.Cells.{has_reference, names_of, IsResolved}
+use Rattle.expectations.specs.Breaches.{breach_in, expected_text}
 use Rattle.driver_words.specs.declared.line.Looking.{Looking}
 use Rattle.driver.specs.declared.status.Status.{Status}
-use Rattle.driver.specs.declared.status.Status.TheVariants.{Done, BadInput, Unsettled}
+use Rattle.driver.specs.declared.status.Status.TheVariants.{Done, BadInput, Unsettled, Unexpected}
 use Rattle.driver.specs.Serial.{entries}
 
 -- the call that a thread makes next, where so many calls of each thread are done, with the thread and its number there
@@ -31,44 +37,118 @@ scheduled_in program order = scheduled_from program (none_done program) order
 abbrev pub names_given : Looking → Option (List ℕ)
 names_given looking = option_map (λ names. names.now) looking.cells
 
--- what ends are told apart by
-pub record IsAsked (looking : Looking) (program : Typed) (asked : Asked) : Type 0 where
-  pub cells : AreAsked program (names_given looking) asked.cells
+-- the text of what is expected, if anything is
+abbrev pub text_given : Looking → Option (List ℕ)
+text_given looking = option_map (λ text. text.now) looking.expect
+
+-- what is expected of ends: a text, what it means, and the same of the program's cells
+pub record Expected : Type 0 where
+  pub text : List ℕ
+  pub said : Said
+  pub comparison : Comparison
+
+-- this is expected, where this text is given; nothing, where none is
+abbrev pub IsExpected : Typed → Option (List ℕ) → Option Expected → Type 0
+IsExpected program None None = Unit {0}
+IsExpected program None (Some e) = ⊥
+IsExpected program (Some text) None = ⊥
+IsExpected program (Some text) (Some e) = (e.text ≡ text) × (meaning_of text ≡ Ok e.said) × IsResolved program e.said e.comparison
+
+-- what ends are told apart by: the cells that are given and those of what is expected; all, where neither are given
+pub record IsAsked (looking : Looking) (program : Typed) (expected : Option Expected) (asked : Asked) : Type 0 where
+  pub cells : AreAsked program (names_together (names_given looking) (option_map (λ (e : Expected). names_of e.said) expected)) asked.cells
   pub answers : asked.answers ≡ looking.answers
 
--- out tells the ends of all orders and how many states they come by, err is empty
+-- the first end that is not as expected
+abbrev pub breach_of : Option Expected → Asked → List Told → Option Told
+breach_of None asked ends = None
+breach_of (Some e) asked ends = breach_in asked.cells e.comparison ends
+
+-- what is told of that
+abbrev pub judged : Typed → Option Expected → Asked → Option ℕ → List Told → List ℕ
+judged program None asked states ends = []
+judged program (Some e) asked states ends =
+    expected_text program asked.cells e.text states (breach_in asked.cells e.comparison ends)
+
+-- the status where there is such an end, and where there is none
+abbrev pub ended_by : Option Told → Status
+ended_by None = Done
+ended_by (Some breach) = Unexpected
+
+-- out tells the ends of all orders and how many states they come by, and whether they are as expected; err is empty
 pub record TellsAll (looking : Looking) (program : Typed) (status : Status) (out err : List ℕ) : Type 0 where
+  pub expected : Option Expected
+  pub is_expected : IsExpected program (text_given looking) expected
   pub asked : Asked
-  pub is_asked : IsAsked looking program asked
+  pub is_asked : IsAsked looking program expected asked
   pub ends : List Told
   pub all : AreAllEnds program looking.turns asked ends
   pub states : ℕ
   pub counted : HasConfigurations program asked.answers states
-  pub ended : status ≡ Done
-  pub written : out ≡ outcomes_text program asked looking.full (Some states) ends
+  pub ended : status ≡ ended_by (breach_of expected asked ends)
+  pub written : out ≡ outcomes_text program asked looking.full (Some states) ends ++ judged program expected asked (Some states) ends
   pub told : err ≡ []
 
--- there are more orders than are looked at: out tells the ends of so many that were drawn, err is empty
+-- there are more orders than are looked at: out tells the ends of so many that were drawn, and whether they are as expected; err is
+-- empty
 pub record TellsDrawn (looking : Looking) (program : Typed) (status : Status) (out err : List ℕ) : Type 0 where
+  pub expected : Option Expected
+  pub is_expected : IsExpected program (text_given looking) expected
   pub asked : Asked
-  pub is_asked : IsAsked looking program asked
+  pub is_asked : IsAsked looking program expected asked
   pub ends : List Told
   pub drawn : AreDrawnEnds program looking.count asked ends
-  pub ended : status ≡ Done
-  pub written : out ≡ outcomes_text program asked looking.full None ends
+  pub ended : status ≡ ended_by (breach_of expected asked ends)
+  pub written : out ≡ outcomes_text program asked looking.full None ends ++ judged program expected asked None ends
   pub told : err ≡ []
 
 -- autolock: no cell is named NAME
 abbrev pub unknown_cell : List ℕ → List ℕ
 unknown_cell name = codes "autolock: no cell is named " ++ name
 
--- no cell is of one of the names that are given: nothing is written, and the name is told
+-- autolock: NAME holds no number
+abbrev pub no_number : List ℕ → List ℕ
+no_number name = codes "autolock: " ++ name ++ codes " holds no number"
+
+-- autolock: --expect: TEXT is no comparison, at byte N
+abbrev pub no_comparison : List ℕ → ℕ → List ℕ
+no_comparison text byte = codes "autolock: --expect: " ++ text ++ codes " is no comparison, at byte " ++ decimal byte
+
+-- the names that an expectation has, where one is given
+abbrev pub AreExpectedNames : Option (List ℕ) → Option (List (List ℕ)) → Type 0
+AreExpectedNames None names = names ≡ None
+AreExpectedNames (Some text) names = (said : Said) × (meaning_of text ≡ Ok said) × (names ≡ Some (names_of said))
+
+-- no cell is of one of the names that are given or expected: nothing is written, and the name is told
 pub record NamesNoCell (looking : Looking) (program : Typed) (status : Status) (out err : List ℕ) : Type 0 where
+  pub names : Option (List (List ℕ))
+  pub expected : AreExpectedNames (text_given looking) names
   pub name : List ℕ
-  pub unknown : IsUnknownIn program (names_given looking) name
+  pub unknown : IsUnknownIn program (names_together (names_given looking) names) name
   pub ended : status ≡ BadInput
   pub written : out ≡ []
   pub told : err ≡ line (unknown_cell name)
+
+-- a cell of a name that is expected holds a reference: nothing is written, and the name is told
+pub record NamesNoNumber (looking : Looking) (program : Typed) (status : Status) (out err : List ℕ) : Type 0 where
+  pub names : List (List ℕ)
+  pub expected : AreExpectedNames (text_given looking) (Some names)
+  pub name : List ℕ
+  pub named : Contains names name
+  pub reference : has_reference program name ≡ true
+  pub ended : status ≡ BadInput
+  pub written : out ≡ []
+  pub told : err ≡ line (no_number name)
+
+-- the text of what is expected means nothing: nothing is written, and it is told up to which byte it can be read
+pub record ExpectsNothing (looking : Looking) (status : Status) (out err : List ℕ) : Type 0 where
+  pub text : List ℕ
+  pub given : text_given looking ≡ Some text
+  pub byte : ℕ
+  pub bad : meaning_of text ≡ Err byte
+  pub ended : status ≡ BadInput
+  pub written : out ≡ []
+  pub told : err ≡ line (no_comparison text byte)
 
 -- after the calls of an order the next one of a thread meets a loop past the turns: out is the text of the serial meaning of
 -- those before, and names this one; err is empty
@@ -86,4 +166,6 @@ pub data IsLookedAt (looking : Looking) (program : Typed) (status : Status) (out
   all_told : TellsAll looking program status out err → IsLookedAt looking program status out err
   drawn_told : TellsDrawn looking program status out err → IsLookedAt looking program status out err
   unknown_named : NamesNoCell looking program status out err → IsLookedAt looking program status out err
+  numberless : NamesNoNumber looking program status out err → IsLookedAt looking program status out err
+  meaningless : ExpectsNothing looking status out err → IsLookedAt looking program status out err
   stopped : StopsInOrder looking.turns program status out err → IsLookedAt looking program status out err

@@ -5,7 +5,7 @@ use Rattle.driver_words.specs.declared.line.Alone.TheVariants as alone
 use Rattle.driver_words.specs.declared.line.Beside.{Beside}
 use Rattle.driver_words.specs.declared.line.Beside.TheVariants.{Simulate, Trace, Replay}
 use Rattle.driver_words.specs.declared.line.Report.{Report}
-use Rattle.driver_words.specs.declared.line.Report.TheVariants.{Check, Listing, Serial, Outcomes, Emit}
+use Rattle.driver_words.specs.declared.line.Report.TheVariants.{Check, Listing, Serial, Outcomes, Schedule, Emit}
 use Rattle.lowering.specs.Plans.{Plan}
 use Rattle.driver.specs.declared.status.Status.{Status}
 use Rattle.driver.specs.Answers.{TextAnswers}
@@ -17,6 +17,7 @@ use Rattle.driver.specs.Listings.{IsListed}
 use Rattle.driver.specs.OrderGraphs.{OrderAnswers}
 use Rattle.driver.specs.Outcomes.{IsLookedAt}
 use Rattle.driver.specs.Replays.{IsReplayed}
+use Rattle.driver.specs.Schedules.{IsScheduled}
 use Rattle.driver.specs.Serial.{IsRun}
 use Rattle.driver.specs.Simulations.{IsSimulated}
 use Rattle.driver.specs.ThreadRuns.{IsThreadsRun}
@@ -26,23 +27,24 @@ use Rattle.driver.specs.Traces.{IsTraceAnswer}
 abbrev pub IsReport : Report → List ℕ → Plan → Status → List ℕ → List ℕ → Type 0
 IsReport Check text plan = IsCheckReport text plan
 IsReport (Listing places) text plan = IsListed places text plan
-IsReport (Serial turns) text plan = IsRun turns plan.accepted
+IsReport (Serial turns changed) text plan = IsRun turns changed plan.accepted
 IsReport (Outcomes looking) text plan = IsLookedAt looking plan.accepted
+IsReport (Schedule scheduling) text plan = IsScheduled scheduling plan
 IsReport (Emit emission) text plan = IsEmitted emission text plan
 
 -- and beside another file, of this name and text
 abbrev pub IsReportBeside : Beside → List ℕ → List ℕ → List ℕ → Plan → Status → List ℕ → List ℕ → Type 0
 IsReportBeside Simulate text other_file other = IsSimulated other_file other
-IsReportBeside (Trace sections) text other_file other = IsTraceAnswer (not sections) other_file text other
+IsReportBeside (Trace sections all) text other_file other = IsTraceAnswer (not sections) all other_file text other
 IsReportBeside (Replay judging) text other_file other = IsReplayed judging other_file other
 
 -- what is answered for the text of a program's file, of this name
 abbrev pub AloneAnswers : Alone → List ℕ → List ℕ → Status → List ℕ → List ℕ → Type 0
 AloneAnswers (alone.Report report) file text = TextAnswers (IsReport report text) file text
 AloneAnswers alone.Order file text = OrderAnswers file text
-AloneAnswers (alone.Explain json) file text = ExplainAnswers json file text
+AloneAnswers (alone.Explain json color) file text = ExplainAnswers json color file text
 AloneAnswers alone.Format file text = FormatAnswers file text
-AloneAnswers alone.Run file text = TextAnswers IsThreadsRun file text
+AloneAnswers (alone.Run running) file text = TextAnswers (IsThreadsRun running.times) file text
 
 -- and for the texts of that and of another file, of these names
 abbrev pub BesideAnswers : Beside → List ℕ → List ℕ → List ℕ → List ℕ → Status → List ℕ → List ℕ → Type 0

@@ -1,11 +1,12 @@
 -- What `serial` answers.
-use Rattle.std.specs.Prelude.{◌≡◌, ℕ, List, [], ◌∷◌, ◌++◌, map}
+use Rattle.std.specs.Prelude.{◌≡◌, ℕ, Bool, if◌then◌else◌, List, [], ◌∷◌, ◌++◌, map}
 use Rattle.core_lang.specs.declared.typed.Typed.{Typed}
+use Rattle.core_lang.specs.declared.value.Value.{Value}
 use Rattle.core_lang.specs.Serial.{Scheduled, Invocation, Ended, all_calls, run_call, serial_run, SerialFromOpening}
 use Rattle.core_lang.specs.Whole.{Beyond_turns}
 use Rattle.source_histories.specs.declared.format.Format.TheVariants.{One}
 use Rattle.report.specs.Entry.{Entry}
-use Rattle.report.specs.History.{history_of, unsettled_of}
+use Rattle.report.specs.History.{changed_history_of, history_of, unsettled_of}
 use Rattle.driver.specs.declared.status.Status.{Status}
 use Rattle.driver.specs.declared.status.Status.TheVariants.{Done, Unsettled}
 
@@ -31,12 +32,17 @@ entries [] es = []
 entries (s ∷ ss) [] = []
 entries (s ∷ ss) (e ∷ es) = entry s e ∷ entries ss es
 
+-- the history text of calls, with all cells or with those that changed
+abbrev pub serial_text : Bool → Typed → List Entry → List Value → List ℕ
+serial_text changed program entries values =
+    if changed then changed_history_of program entries values else history_of One program entries values
+
 -- the turns settle all calls: out is the history text of their serial meaning, err is empty
-pub record IsHistory (turns : ℕ) (program : Typed) (status : Status) (out err : List ℕ) : Type 0 where
+pub record IsHistory (turns : ℕ) (changed : Bool) (program : Typed) (status : Status) (out err : List ℕ) : Type 0 where
   pub settled : (serial_run program turns).unsettled ≡ []
   pub serial : SerialFromOpening program (calls_of (all_calls program)) (serial_run program turns).ends (serial_run program turns).heap
   pub ended : status ≡ Done
-  pub written : out ≡ history_of One program (entries (all_calls program) (serial_run program turns).ends) (serial_run program turns).heap
+  pub written : out ≡ serial_text changed program (entries (all_calls program) (serial_run program turns).ends) (serial_run program turns).heap
   pub told : err ≡ []
 
 -- the turns settle the calls before this one, and this one meets a loop past them: out is the text of the serial meaning of
@@ -54,6 +60,6 @@ pub record StopsAtCall (turns : ℕ) (program : Typed) (status : Status) (out er
   pub told : err ≡ []
 
 -- what `serial` answers for a program
-pub data IsRun (turns : ℕ) (program : Typed) (status : Status) (out err : List ℕ) : Type 0 where
-  all_settled : IsHistory turns program status out err → IsRun turns program status out err
-  stopped : StopsAtCall turns program status out err → IsRun turns program status out err
+pub data IsRun (turns : ℕ) (changed : Bool) (program : Typed) (status : Status) (out err : List ℕ) : Type 0 where
+  all_settled : IsHistory turns changed program status out err → IsRun turns changed program status out err
+  stopped : StopsAtCall turns program status out err → IsRun turns changed program status out err

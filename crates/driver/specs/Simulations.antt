@@ -1,21 +1,22 @@
 -- What `simulate` answers.
-use Rattle.std.specs.Prelude.{◌≡◌, ℕ, List, [], length, Ok, Err}
+use Rattle.std.specs.Prelude.{◌≡◌, ℕ, List, [], Ok, Err}
 use Rattle.lowering.specs.Plans.{Plan}
 use Rattle.source_steps.specs.declared.turn.Turn.{Turn}
 use Rattle.source_steps.specs.declared.refusal.StepsFault.{StepsFault}
 use Rattle.source_steps.specs.Turns.{steps_of}
-use Rattle.source_steps.specs.Steps.{turns_in, steps_fault_text}
+use Rattle.source_steps.specs.Steps.{steps_fault_text}
 use Rattle.worlds.specs.Worlds.{final}
 use Rattle.worlds.specs.Claims.{Headline}
+use Rattle.interleavings.specs.Items.{turns_in}
 use Rattle.code.specs.Listing.{line}
 use Rattle.report_simulation.specs.Simulation.{simulation_of}
 use Rattle.driver.specs.declared.status.Status.{Status}
 use Rattle.driver.specs.declared.status.Status.TheVariants.{Done, BadInput}
 
--- the file says these turns: out is the text of the world after their steps, of which the headline holds; err is empty
+-- the file's items come to these turns: out is the text of the world after their steps, of which the headline holds; err is empty
 pub record IsWorldAfter (items : List ℕ) (plan : Plan) (status : Status) (out err : List ℕ) : Type 0 where
   pub turns : List Turn
-  pub said : turns_in (length plan.program.threads.items) items ≡ Ok turns
+  pub said : turns_in plan items ≡ Ok turns
   pub headline : Headline plan (steps_of turns)
   pub ended : status ≡ Done
   pub written : out ≡ simulation_of plan (final plan (steps_of turns))
@@ -24,7 +25,7 @@ pub record IsWorldAfter (items : List ℕ) (plan : Plan) (status : Status) (out 
 -- the steps file has a faulty item: out is empty, err is the line of the first one's fault
 pub record HasBadSteps (steps_file items : List ℕ) (plan : Plan) (status : Status) (out err : List ℕ) : Type 0 where
   pub fault : StepsFault
-  pub said : turns_in (length plan.program.threads.items) items ≡ Err fault
+  pub said : turns_in plan items ≡ Err fault
   pub ended : status ≡ BadInput
   pub written : out ≡ []
   pub told : err ≡ line (steps_fault_text steps_file items fault)

@@ -2,7 +2,7 @@
 use Rattle.std.specs.Prelude.{ℕ}
 use Rattle.driver.specs.declared.status.Status.{Status}
 use Rattle.driver.specs.declared.status.Status.TheVariants.{Done, Refused, BadWords, Failed, OutOfMemory, Differs}
-use Rattle.driver.specs.declared.status.Status.TheVariants.{BadInput, Unsettled, Strange}
+use Rattle.driver.specs.declared.status.Status.TheVariants.{BadInput, Unsettled, Strange, Unexpected}
 
 -- with which a process ends
 abbrev pub exit_status : Status → ℕ
@@ -15,3 +15,4 @@ exit_status Differs = 5
 exit_status BadInput = 6
 exit_status Unsettled = 7
 exit_status Strange = 8
+exit_status Unexpected = 9

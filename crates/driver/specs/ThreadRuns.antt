@@ -1,31 +1,45 @@
 -- What `run` answers.
-use Rattle.std.specs.Prelude.{◌≡◌, ◌<◌, ℕ, List, [], length, map}
-use Rattle.core_lang.specs.declared.value.Value.{Value}
-use Rattle.history.specs.Commits.{Commit}
+use Rattle.std.specs.Prelude.{◌≡◌, ◌<◌, ℕ, List, [], length, Option, Some, None}
+use Rattle.std.specs.List.{All}
 use Rattle.lowering.specs.Plans.{Plan}
-use Rattle.source_histories.specs.declared.format.Format.TheVariants.{Two}
 use Rattle.worlds.specs.Claims.{AreOfScripts}
-use Rattle.report.specs.Entry.{entry_of_commit}
-use Rattle.report.specs.History.{history_of}
+use Rattle.report_runs.specs.Runs.{Run, run_text, runs_text}
 use Rattle.workers.specs.Answers.{HasScript, IsHistoryOf, RunsAsAccepted}
 use Rattle.driver.specs.declared.status.Status.{Status}
 use Rattle.driver.specs.declared.status.Status.TheVariants.{Done, Strange}
 use Rattle.driver.specs.Messages.{strange}
 
--- a history of the program, whose calls, run whole one after another, end and print as it says and leave these cells; it
--- has each thread's script as that thread's entries, in order and each once, and no others: out is its text, err is empty
-pub record IsWrittenRun (plan : Plan) (status : Status) (out err : List ℕ) : Type 0 where
-  pub log : List Commit
-  pub values : List Value
-  pub history : IsHistoryOf plan log values
+-- a run of the program: its calls, run whole one after another, end and print as its history says and leave these values; it
+-- has each thread's script as that thread's entries, in order and each once, and no others
+pub record IsRunOf (plan : Plan) (run : Run) : Type 0 where
+  pub history : IsHistoryOf plan run.log run.values
   -- so they do on the program as it was accepted, with its helpers
-  pub accepted : RunsAsAccepted plan log values
-  pub scripts : (t : ℕ) → t < length plan.program.threads.items → HasScript plan log t
+  pub accepted : RunsAsAccepted plan run.log run.values
+  pub scripts : (t : ℕ) → t < length plan.program.threads.items → HasScript plan run.log t
   -- and no other entries
-  pub nobody_else : AreOfScripts plan log
+  pub nobody_else : AreOfScripts plan run.log
+
+-- there is such a run: out is its history text, err is empty
+pub record IsWrittenRun (plan : Plan) (status : Status) (out err : List ℕ) : Type 0 where
+  pub run : Run
+  pub is_run : IsRunOf plan run
   pub ended : status ≡ Done
-  pub written : out ≡ history_of Two plan.program (map entry_of_commit log) values
+  pub written : out ≡ run_text plan.program run
   pub told : err ≡ []
+
+-- there are so many of them: out is their text, err is empty
+pub record AreWrittenRuns (times : ℕ) (plan : Plan) (status : Status) (out err : List ℕ) : Type 0 where
+  pub runs : List Run
+  pub as_many : length runs ≡ times
+  pub are_runs : All (IsRunOf plan) runs
+  pub ended : status ≡ Done
+  pub written : out ≡ runs_text plan.program runs
+  pub told : err ≡ []
+
+-- what is written of one run, or of so many
+abbrev pub IsWritten : Option ℕ → Plan → Status → List ℕ → List ℕ → Type 0
+IsWritten None = IsWrittenRun
+IsWritten (Some times) = AreWrittenRuns times
 
 -- the history was not what a thread had left: out is empty, and that is told
 pub record IsStrange (status : Status) (out err : List ℕ) : Type 0 where
@@ -33,7 +47,7 @@ pub record IsStrange (status : Status) (out err : List ℕ) : Type 0 where
   pub written : out ≡ []
   pub told : err ≡ strange
 
--- what `run` answers for a program
-pub data IsThreadsRun (plan : Plan) (status : Status) (out err : List ℕ) : Type 0 where
-  written : IsWrittenRun plan status out err → IsThreadsRun plan status out err
-  was_strange : IsStrange status out err → IsThreadsRun plan status out err
+-- what `run` answers for a program: of one run, or of so many
+pub data IsThreadsRun (times : Option ℕ) (plan : Plan) (status : Status) (out err : List ℕ) : Type 0 where
+  written : IsWritten times plan status out err → IsThreadsRun times plan status out err
+  was_strange : IsStrange status out err → IsThreadsRun times plan status out err

@@ -1,6 +1,7 @@
 -- What the code computes and values of its types, for proofs and for the crates above. Nobody has to believe these files: no promise
 -- cites them.
 pub mod Running
+pub mod ThreadRunning
 pub mod Answering
 pub mod Serving
 pub mod PagesAnswered

@@ -1,9 +1,10 @@
 //! What an engine answers, as a function of the bytes that it read.
 
-ghost use Rattle.std.specs.Prelude.{◌≡◌, [], IfOk, string_bytes};
+ghost use Rattle.std.specs.Prelude.{◌≡◌, [], IfOk, length, map, string_bytes, vec_len};
 ghost use Rattle.code.specs.Listing.{line};
 ghost use Rattle.core_lang.specs.Expansion.{IsExpansion};
 ghost use Rattle.core_lang.specs.WellFormed.{IsChecked};
+ghost use Rattle.report.specs.{entry_of};
 ghost use Rattle.rope.specs.Working.Ropes.{rope_text};
 ghost use Rattle.driver.specs.Working.Answering.{Meets, IsAccepted, IsMessage};
 ghost use Rattle.driver.specs.Answers.{TextAnswers};
@@ -13,26 +14,28 @@ ghost use Rattle.c_text.specs.Files.{source_of};
 ghost use Rattle.driver.specs.Emissions as emissions;
 ghost use Rattle.driver.specs.Emissions.{IsEmitted, emitted_text};
 ghost use Rattle.driver.specs.Listings.{IsListed};
-ghost use Rattle.driver.specs.Serial.{IsRun};
+ghost use Rattle.driver.specs.Serial.{IsRun, serial_text};
 ghost use Rattle.driver.specs.ThreadRuns.{IsThreadsRun};
 
 use crate::exploring::Exploring;
 use crate::replaying::replayed;
 use crate::running::{prepared, run_scripts};
+use crate::scheduling::scheduled;
 use crate::simulating::simulated;
 use crate::status::Status;
-use crate::threads_run::run_by_threads;
+use crate::threads_run::ThreadRuns;
 use crate::tracing::traced;
 use c_text::{SourceFile, file, header};
 use c_threads::meaning::{sections_mean, threads_mean};
 use compiler::compile;
 use core_lang::laws;
 use core_lang::typed::Typed;
-use driver_words::{Beside, Emission, Report};
+use core_lang::value::Value;
+use driver_words::{Beside, Emission, Report, Running};
 use lowering::compiled::Program;
 use lowering::{listing, listing_with_places};
 use meaning_registers::prepared::Prepared;
-use report::{history_text, unsettled_text};
+use report::{Record, changed_text, history_text, unsettled_text};
 use report_check::Check;
 use report_trace::Trace;
 use rope::Rope;
@@ -182,23 +185,41 @@ fn emitted(
     Ok(Answer::done(alloc, Rope::of(alloc, made)))
 }
 
-/// The text of a program's run.
+/// The history text of calls, with the values of all cells, or of those that changed.
+fn serial_text(
+    alloc: Global,
+    changed: bool,
+    program: &Typed,
+    calls: &[Record<'_>],
+    values: &[Value],
+) -> Result<String, NoMemory>
+    requires { vec_len program.now.cells ≡ length values.now }
+    ensures { IfOk result (λ text. string_bytes text ≡ serial_text changed program.now (map entry_of calls.now) values.now) }
+{
+    if changed {
+        return changed_text(alloc, program, calls, values);
+    }
+    history_text(alloc, Format::One, program, calls, values)
+}
+
+/// The text of a program's run, with the values of all cells, or of those that changed.
 fn ran(
     alloc: Global,
     program: &Typed,
     prepared: &Prepared<'_>,
     turns: u64,
+    changed: bool,
 ) -> Result<Answer, NoMemory>
     requires checked { IsChecked program.now }
     requires same { prepared.now.program.now ≡ program.now }
     requires expansion { IsExpansion program.now prepared.now.written.now }
-    ensures { IfOk result (Meets (IsRun turns program.now)) }
+    ensures { IfOk result (Meets (IsRun turns changed program.now)) }
 {
     laws::settled_are_serial();
     let ran = run_scripts(alloc, program, prepared, turns)?;
     match ran.unsettled {
         None => {
-            let out = history_text(alloc, Format::One, program, &ran.records, ran.heap.cells())?;
+            let out = serial_text(alloc, changed, program, &ran.records, ran.heap.cells())?;
             Ok(Answer::done(alloc, Rope::of(alloc, out)))
         }
         Some((thread, step)) => {
@@ -220,9 +241,9 @@ fn reported(
     match report {
         Report::Check => checked(alloc, text, program),
         Report::Listing { places } => listed(alloc, places, text, program),
-        Report::Serial { turns } => {
+        Report::Serial { turns, changed } => {
             let prepared = prepared(alloc, program)?;
-            ran(alloc, program.typed(), &prepared, turns)
+            ran(alloc, program.typed(), &prepared, turns, changed)
         }
         Report::Outcomes(looking) => {
             let exploring = Exploring {
@@ -232,6 +253,7 @@ fn reported(
             };
             exploring.answer(alloc)
         }
+        Report::Schedule(scheduling) => scheduled(alloc, program, scheduling),
         Report::Emit(emission) => emitted(alloc, emission, text, program),
     }
 }
@@ -265,11 +287,12 @@ pub fn beside_answer(
     };
     match request {
         Beside::Simulate => simulated(alloc, &program, other),
-        Beside::Trace { sections } => {
+        Beside::Trace { sections, all } => {
             let trace = Trace {
                 text: source.text,
                 program: &program,
                 moves: !sections,
+                all,
             };
             traced(alloc, &trace, other)
         }
@@ -281,12 +304,22 @@ pub fn beside_answer(
 pub fn threads_answer<R: Threads + Wait + Sync>(
     rt: &R,
     alloc: Global,
+    running: Running,
     source: &Named<'_>,
 ) -> Result<Answer, NoMemory>
-    ensures { IfOk result (Meets (TextAnswers IsThreadsRun source.now.file.now source.now.text.now)) }
+    ensures { IfOk result (Meets (TextAnswers (IsThreadsRun running.times) source.now.file.now source.now.text.now)) }
 {
     match accepted(alloc, source)? {
-        Ok(program) => run_by_threads(rt, alloc, &program),
+        Ok(program) => {
+            let runs = ThreadRuns {
+                threads: rt,
+                alloc,
+                program: &program,
+                running,
+                hashing: KeyedState::of(source.text),
+            };
+            runs.answer()
+        }
         Err(answer) => Ok(answer),
     }
 }

@@ -13,7 +13,7 @@ use crate::ordering::order_graph;
 use crate::source_text::SourceText;
 use crate::status::Status;
 use crate::streams::Streams;
-use driver_words::{Alone, Beside, Judging, Report};
+use driver_words::{Alone, Beside, Judging, Report, Running};
 use std::alloc::Global;
 use std::io::{Read, Write};
 use std::sync::Wait;
@@ -55,9 +55,9 @@ pub fn serve<R: Threads + Wait + Sync, S: Read, O: Write, E: Write>(
     match request {
         Alone::Report(report) => serve_report(alloc, report, source, streams),
         Alone::Order => order_graph(alloc, source, streams),
-        Alone::Explain { json } => explain(alloc, json, source, streams),
+        Alone::Explain { json, color } => explain(alloc, json, color, source, streams),
         Alone::Format => format(alloc, source, streams),
-        Alone::Run => run(threads, alloc, source, streams),
+        Alone::Run(running) => run(threads, alloc, running, source, streams),
     }
 }
 
@@ -163,10 +163,14 @@ pub fn serial<S: Read, O: Write, E: Write>(
 ) -> Status
     requires readable { reading_failed source.old ≡ false }
     requires writable { writing_failed streams.old.out ≡ false }
-    ensures { Serves (OfOne (AloneAnswers (Alone.Report (Report.Serial turns)) (name_of source.old))) (reading_of S.remaining source.old source.new) []
+    ensures { Serves (OfOne (AloneAnswers (Alone.Report (Report.Serial turns false)) (name_of source.old))) (reading_of S.remaining source.old source.new) []
         O.contents E.contents streams.old streams.new result }
 {
-    serve_report(alloc, Report::Serial { turns }, source, streams)
+    let report = Report::Serial {
+        turns,
+        changed: false,
+    };
+    serve_report(alloc, report, source, streams)
 }
 
 /// Runs the steps that `steps` gives over the threads of the program that `source` gives, and writes the text of the world
@@ -207,16 +211,18 @@ pub fn replay<S: Read, T: Read, O: Write, E: Write>(
 }
 
 /// Runs the calls of each thread of the program that `source` gives in a thread of its own. Writes the history text, in the
-/// second format. Ends as [`serve`] does, where all calls do.
+/// second format; of so many runs as are asked for, the text that tells how they differ. Ends as [`serve`] does, where all
+/// calls do.
 pub fn run<R: Threads + Wait + Sync, S: Read, O: Write, E: Write>(
     rt: &R,
     alloc: Global,
+    running: Running,
     source: &mut SourceText<'_, S>,
     streams: &mut Streams<O, E>,
 ) -> Status
     requires readable { reading_failed source.old ≡ false }
     requires writable { writing_failed streams.old.out ≡ false }
-    ensures { Serves (OfOne (AloneAnswers Alone.Run (name_of source.old))) (reading_of S.remaining source.old source.new) []
+    ensures { Serves (OfOne (AloneAnswers (Alone.Run running) (name_of source.old))) (reading_of S.remaining source.old source.new) []
         O.contents E.contents streams.old streams.new result }
 {
     let text = match streams.read(alloc, source, MOST_BYTES) {
@@ -227,6 +233,6 @@ pub fn run<R: Threads + Wait + Sync, S: Read, O: Write, E: Write>(
         file: source.name(),
         text: &text,
     };
-    let answer = threads_answer(rt, alloc, &named);
+    let answer = threads_answer(rt, alloc, running, &named);
     streams.give(&answer)
 }

@@ -1,12 +1,14 @@
 //! The answer of `outcomes`.
 
-ghost use Rattle.std.specs.Prelude.{IfOk, map};
+ghost use Rattle.std.specs.Prelude.{◌≡◌, IfOk, map, option_map};
 ghost use Rattle.core_lang.specs.Expansion.{IsExpansion};
 ghost use Rattle.core_lang.specs.WellFormed.{IsChecked};
 ghost use Rattle.outcomes.specs.Ends.{Finds, StopsAfter, told_of};
 ghost use Rattle.code.specs.Listing.{line};
-ghost use Rattle.driver.specs.Working.Answering.{Meets, IsMessage, IsToldAnswer};
-ghost use Rattle.driver.specs.Outcomes.{IsLookedAt, StopsInOrder, unknown_cell};
+ghost use Rattle.expectations.specs.Texts.{said_of};
+ghost use Rattle.expectations.specs.Cells.{names_of};
+ghost use Rattle.driver.specs.Working.Answering.{Meets, IsMessage, IsToldAnswer, expected_of};
+ghost use Rattle.driver.specs.Outcomes.{IsLookedAt, IsExpected, StopsInOrder, text_given, ended_by, unknown_cell, no_number, no_comparison};
 
 use crate::answer::Answer;
 use crate::order_calls::order_calls;
@@ -15,6 +17,8 @@ use crate::status::Status;
 use core_lang::laws;
 use core_lang::typed::Typed;
 use driver_words::Looking;
+use expectations::expectation::{BadExpectation, ExpectationRefusal};
+use expectations::{BadName, Comparison, Expectation, ExpectedEnds, read};
 use meaning_registers::prepared::Prepared;
 use outcomes::outcome::{Asked, Found, Outcome};
 use outcomes::search::Search;
@@ -34,6 +38,51 @@ fn unknown_cell(alloc: Global, name: &str) -> Result<Answer, NoMemory>
     Answer::refused(alloc, Status::BadInput, message)
 }
 
+/// What is told of a name with a cell that holds a reference.
+fn no_number(alloc: Global, name: &str) -> Result<Answer, NoMemory>
+    ensures { IfOk result (IsMessage Status.BadInput (line (no_number name.now))) }
+{
+    let mut message = String::from_str(alloc, "autolock: ")?;
+    message.push_str(name)?;
+    message.push_str(" holds no number")?;
+    Answer::refused(alloc, Status::BadInput, message)
+}
+
+/// What is told of a text that is no comparison.
+fn no_comparison(alloc: Global, text: &str, bad: BadExpectation) -> Result<Answer, NoMemory>
+    ensures { IfOk result (IsMessage Status.BadInput (line (no_comparison text.now bad.start))) }
+{
+    let start = bad.start;
+    let mut message = String::from_str(alloc, "autolock: --expect: ")?;
+    message.push_str(text)?;
+    message.push_str(" is no comparison, at byte ")?;
+    write!(message, "{start}")?;
+    Answer::refused(alloc, Status::BadInput, message)
+}
+
+/// The status where this end is not as expected, or none.
+fn status_of(breach: Option<&Outcome>) -> Status
+    ensures { result ≡ ended_by (option_map (λ end. told_of end.now) breach.entry) }
+{
+    match breach {
+        Some(_) => Status::Unexpected,
+        None => Status::Done,
+    }
+}
+
+/// What is expected of ends.
+#[derive(Drop)]
+pub(crate) struct Expected<'t> {
+    /// As it was written.
+    pub(crate) text: &'t str,
+    /// What it means.
+    pub(crate) expectation: Expectation<'t>,
+    /// The same of the program's cells.
+    pub(crate) comparison: Comparison,
+    /// The names that it has.
+    pub(crate) names: Vec<&'t str>,
+}
+
 /// What is looked at: the orders of a program's calls.
 #[derive(Clone, Copy)]
 pub struct Exploring<'a> {
@@ -46,25 +95,51 @@ pub struct Exploring<'a> {
 }
 
 impl Exploring<'_> {
-    /// The text of ends; where all orders were looked at, with how many states they come by.
-    fn told(
-        &self,
-        alloc: Global,
-        asked: &Asked,
+    /// Ends, with what is told of them.
+    fn ends_of<'e>(
+        &'e self,
+        asked: &'e Asked,
         states: Option<usize>,
-        ends: &[Outcome],
-    ) -> Result<Answer, NoMemory>
-        ensures { IfOk result (IsToldAnswer self.now.prepared.now.program.now asked.now self.now.looking.full states (map told_of ends.now)) }
+        ends: &'e [Outcome],
+    ) -> Ends<'e>
+        ensures program { result.program.now ≡ self.entry.now.prepared.now.program.now }
+        ensures asked { result.asked.now ≡ asked.entry.now }
+        ensures full { result.full ≡ self.entry.now.looking.full }
+        ensures states { result.states ≡ states }
+        ensures ends { result.ends.now ≡ ends.entry.now }
     {
-        let ends = Ends {
+        Ends {
             program: self.prepared.program(),
             asked,
             full: self.looking.full,
             states,
             ends,
+        }
+    }
+
+    /// The text of ends, and whether they are as expected.
+    fn told(
+        &self,
+        alloc: Global,
+        ends: &Ends<'_>,
+        expected: Option<&Expected<'_>>,
+    ) -> Result<Answer, NoMemory>
+        ensures { IfOk result (IsToldAnswer ends.now.program.now ends.now.asked.now ends.now.full ends.now.states
+            (map told_of ends.now.ends.now) (option_map (λ e. expected_of e.now) expected.entry)) }
+    {
+        let mut text = ends.text(alloc)?;
+        let Some(expected) = expected else {
+            return Ok(Answer::done(alloc, Rope::of(alloc, text)));
         };
-        let text = ends.text(alloc)?;
-        Ok(Answer::done(alloc, Rope::of(alloc, text)))
+        let judged = ExpectedEnds {
+            ends,
+            text: expected.text,
+            comparison: &expected.comparison,
+        };
+        let said = judged.text(alloc)?;
+        text.push_str(&said)?;
+        let status = status_of(judged.breach());
+        Ok(Answer::written(alloc, status, Rope::of(alloc, text)))
     }
 
     /// What is found.
@@ -113,14 +188,21 @@ impl Exploring<'_> {
         Ok(Answer::written(alloc, Status::Unsettled, Rope::of(alloc, out)))
     }
 
-    /// How the cells, and if asked the calls, can end, over the orders that are looked at.
-    pub fn answer(&self, alloc: Global) -> Result<Answer, NoMemory>
+    /// How the cells, and if asked the calls, can end, over the orders that are looked at, and whether that is as expected.
+    fn explored(&self, alloc: Global, expected: Option<&Expected<'_>>) -> Result<Answer, NoMemory>
         requires checked { IsChecked self.now.prepared.now.program.now }
         requires expansion { IsExpansion self.now.prepared.now.program.now self.now.prepared.now.written.now }
+        requires expected { IsExpected self.now.prepared.now.program.now (text_given self.now.looking) (option_map (λ e. expected_of e.now) expected) }
+        requires names { option_map (λ e. map (λ name. name.now) e.now.names.items) expected
+            ≡ option_map (λ e. names_of (said_of e.now.expectation)) expected }
         ensures { IfOk result (Meets (IsLookedAt self.now.looking self.now.prepared.now.program.now)) }
     {
         let program = self.prepared.program();
-        let cells = match asked_cells(alloc, program, self.looking.cells)? {
+        let names = match expected {
+            Some(expected) => Some(expected.names.as_slice()),
+            None => None,
+        };
+        let cells = match asked_cells(alloc, program, self.looking.cells, names)? {
             Ok(cells) => cells,
             Err(name) => return unknown_cell(alloc, name),
         };
@@ -132,9 +214,56 @@ impl Exploring<'_> {
             Found::All {
                 ends,
                 configurations,
-            } => self.told(alloc, &asked, Some(configurations), &ends),
-            Found::Drawn(ends) => self.told(alloc, &asked, None, &ends),
+            } => {
+                let ends = self.ends_of(&asked, Some(configurations), &ends);
+                self.told(alloc, &ends, expected)
+            }
+            Found::Drawn(ends) => {
+                let ends = self.ends_of(&asked, None, &ends);
+                self.told(alloc, &ends, expected)
+            }
             Found::Unsettled { order, thread } => self.stopped(alloc, &order, thread),
+        }
+    }
+
+    /// The same where this is expected.
+    fn expecting(&self, alloc: Global, text: &str) -> Result<Answer, NoMemory>
+        requires checked { IsChecked self.now.prepared.now.program.now }
+        requires expansion { IsExpansion self.now.prepared.now.program.now self.now.prepared.now.written.now }
+        requires text { text_given self.now.looking ≡ Some text.now }
+        ensures { IfOk result (Meets (IsLookedAt self.now.looking self.now.prepared.now.program.now)) }
+    {
+        let expectation = match read(alloc, text) {
+            Ok(expectation) => expectation,
+            Err(ExpectationRefusal::Bad(bad)) => return no_comparison(alloc, text, bad),
+            Err(ExpectationRefusal::NoMemory) => return Err(NoMemory),
+        };
+        match expectation.of_program(alloc, self.prepared.program())? {
+            Ok(comparison) => {
+                let names = expectation.names(alloc)?;
+                let expected = Expected {
+                    text,
+                    expectation,
+                    comparison,
+                    names,
+                };
+                self.explored(alloc, Some(&expected))
+            }
+            Err(BadName::Unknown(name)) => unknown_cell(alloc, name),
+            Err(BadName::NoNumber(name)) => no_number(alloc, name),
+        }
+    }
+
+    /// How the cells, and if asked the calls, can end, over the orders that are looked at, and whether that is as expected, if
+    /// anything is expected.
+    pub fn answer(&self, alloc: Global) -> Result<Answer, NoMemory>
+        requires checked { IsChecked self.now.prepared.now.program.now }
+        requires expansion { IsExpansion self.now.prepared.now.program.now self.now.prepared.now.written.now }
+        ensures { IfOk result (Meets (IsLookedAt self.now.looking self.now.prepared.now.program.now)) }
+    {
+        match self.looking.expect {
+            Some(text) => self.expecting(alloc, text),
+            None => self.explored(alloc, None),
         }
     }
 }

@@ -10,12 +10,12 @@
 //!   before each statement, also as [`check`] (`Checks`); the instructions of each section, also as [`listing`] (`Listings`);
 //!   its sections in C (`Emissions`);
 //!   all its calls one after another, also as [`serial`] (`Serial`); how its cells can end, over the orders of its calls
-//!   (`Outcomes`).
+//!   (`Outcomes`); a steps file of it (`Schedules`).
 //! - [`order_graph`]: which lock class has to come before which, as a graph (`OrderGraphs`).
 //! - [`explain`]: the fault of a program, with its place in the source (`Explanations`). [`explain_code`]: what a code means (`Pages`).
 //! - [`format`]: the text in its layout (`Formats`).
 //! - [`lsp`]: an editor's messages, each answered in turn (`Editors`).
-//! - [`run`]: a history of the program's scripts, each run by a thread of its own (`ThreadRuns`).
+//! - [`run`]: a history of the program's scripts, each run by a thread of its own, or how many such runs differ (`ThreadRuns`).
 //! - [`simulate`]: the world after the steps of a steps file (`Simulations`). The steps one after another, and the world after
 //!   them (`Traces`). [`replay`]: the verdict on a recorded history, and why it differs (`Replays`).
 //! - [`Status`]: how a command ended, which is the exit status.
@@ -34,6 +34,7 @@ mod ordering;
 mod replaying;
 mod running;
 mod schedule;
+mod scheduling;
 mod simulating;
 mod sink;
 mod source_text;

@@ -3,18 +3,21 @@
 ghost use Rattle.std.specs.Prelude.{◌≡◌, IfOk, string_bytes};
 ghost use Rattle.driver.specs.Working.Answering.{Meets, IsMessage};
 ghost use Rattle.code.specs.Listing.{line};
-ghost use Rattle.source_steps.specs.Steps.{steps_fault_text};
+ghost use Rattle.interleavings.specs.Items.{turns_in};
+ghost use Rattle.source_steps.specs.Steps.{steps_fault_text, Answers};
 ghost use Rattle.driver.specs.Simulations.{IsSimulated};
 
 use crate::answer::{Answer, Named};
 use crate::status::Status;
+use interleavings::items::turns_of;
 use interleavings::world::run;
 use lowering::compiled::Program;
 use report_simulation::simulation_text;
 use rope::Rope;
 use source::memory::NoMemory;
 use source_steps::refusal::{StepsFault, StepsRefusal};
-use source_steps::{read_steps, steps_fault_line};
+use source_steps::turn::Turn;
+use source_steps::{read_items, steps_fault_line};
 use std::alloc::Global;
 
 /// The line of a fault of the steps file.
@@ -25,11 +28,26 @@ pub fn bad_steps(alloc: Global, steps: &Named<'_>, fault: StepsFault) -> Result<
     Answer::refused(alloc, Status::BadInput, line)
 }
 
+/// The turns that the items of a steps file come to. Where it has a `T!` or a `T+`, its steps are run for that, and once more by
+/// whoever takes the turns.
+///
+/// # Errors
+///
+/// The file's fault, or want of memory.
+pub fn turns_in(alloc: Global, program: &Program, text: &[u8]) -> Result<Vec<Turn>, StepsRefusal>
+    ensures { Answers result (turns_in program.now text.now) }
+{
+    match read_items(alloc, text, &program.expanded().threads) {
+        Ok(items) => turns_of(alloc, program, &items),
+        Err(refusal) => Err(refusal),
+    }
+}
+
 /// The text of the world after the steps of a steps file, or the line of its fault.
 pub fn simulated(alloc: Global, program: &Program, steps: &Named<'_>) -> Result<Answer, NoMemory>
     ensures { IfOk result (Meets (IsSimulated steps.now.file.now steps.now.text.now program.now)) }
 {
-    let turns = match read_steps(alloc, steps.text, program.threads()) {
+    let turns = match turns_in(alloc, program, steps.text) {
         Ok(turns) => turns,
         Err(StepsRefusal::Fault(fault)) => return bad_steps(alloc, steps, fault),
         Err(StepsRefusal::NoMemory) => return Err(NoMemory),

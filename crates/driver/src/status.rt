@@ -18,12 +18,15 @@ pub enum Status {
     OutOfMemory,
     /// 5: a line of the recorded history is another than may come there.
     Differs,
-    /// 6: the steps file or the history file has a fault, or no cell has a name of `--cells`, which standard error names.
+    /// 6: the steps file or the history file has a fault, no cell has a name of `--cells` or `--expect`, a cell of `--expect` holds
+    /// no number, or the text of `--expect` is no comparison, which standard error names.
     BadInput,
     /// 7: a call is not settled by the turns that were given.
     Unsettled,
     /// 8: a thread found another history than it had left.
     Strange,
+    /// 9: an end is not as `--expect` says.
+    Unexpected,
 }
 
 impl Status {
@@ -41,6 +44,7 @@ impl Status {
             Status::BadInput => 6,
             Status::Unsettled => 7,
             Status::Strange => 8,
+            Status::Unexpected => 9,
         }
     }
 }

@@ -5,21 +5,20 @@ ghost use Rattle.driver.specs.Working.Answering.{Meets};
 ghost use Rattle.driver.specs.Traces.{IsTraceAnswer};
 
 use crate::answer::{Answer, Named};
-use crate::simulating::bad_steps;
+use crate::simulating::{bad_steps, turns_in};
 use report_trace::Trace;
 use rope::Rope;
 use source::memory::NoMemory;
-use source_steps::read_steps;
 use source_steps::refusal::StepsRefusal;
 use std::alloc::Global;
 
-/// A line for each step of a steps file, and the text of the world after them; or the line of the file's fault.
+/// A line for each step of a steps file that is told, and the text of the world after them; or the line of the file's fault.
 pub fn traced(alloc: Global, trace: &Trace<'_>, steps: &Named<'_>) -> Result<Answer, NoMemory>
-    ensures { IfOk result (Meets (IsTraceAnswer trace.now.moves steps.now.file.now trace.now.text.now steps.now.text.now trace.now.program.now)) }
+    ensures { IfOk result (Meets (IsTraceAnswer trace.now.moves trace.now.all steps.now.file.now trace.now.text.now steps.now.text.now trace.now.program.now)) }
 {
     worlds::laws::every_run();
     let _typed = trace.program.expanded();
-    let turns = match read_steps(alloc, steps.text, trace.program.threads()) {
+    let turns = match turns_in(alloc, trace.program, steps.text) {
         Ok(turns) => turns,
         Err(StepsRefusal::Fault(fault)) => return bad_steps(alloc, steps, fault),
         Err(StepsRefusal::NoMemory) => return Err(NoMemory),

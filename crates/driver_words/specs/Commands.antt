@@ -43,6 +43,38 @@ prefix_rule = record (new_rule (codes "prefix")) {
   defaults = codes "al" ∷ [];
 }
 
+-- an option with a number from 0 to 1000000000, which may be left out
+abbrev pub choice_rule : Text → Rule
+choice_rule id = record (new_rule id) {
+  long = Some id;
+  value_names = 1;
+  parser = Some (vp.Unsigned 0 1000000000);
+}
+
+-- --times N, from 1 to 1000000
+abbrev pub times_rule : Rule
+times_rule = record (new_rule (codes "times")) {
+  long = Some (codes "times");
+  value_names = 1;
+  parser = Some (vp.Unsigned 1 1000000);
+}
+
+-- --length N, by default 100
+abbrev pub length_rule : Rule
+length_rule = number_rule (codes "length") (codes "100")
+
+-- --color WHEN, by default auto
+abbrev pub color_rule : Rule
+color_rule = record (new_rule (codes "color")) {
+  long = Some (codes "color");
+  value_names = 1;
+  defaults = codes "auto" ∷ [];
+}
+
+-- --expect COMPARISON
+abbrev pub expect_rule : Rule
+expect_rule = record (new_rule (codes "expect")) { long = Some (codes "expect"); value_names = 1 }
+
 -- --cells NAMES
 abbrev pub cells_rule : Rule
 cells_rule = record (new_rule (codes "cells")) { long = Some (codes "cells"); value_names = 1 }
@@ -99,6 +131,38 @@ with_sections app = with_rule app (flag_rule (codes "sections"))
 abbrev pub with_json : App → App
 with_json app = with_rule app (flag_rule (codes "json"))
 
+-- a command that takes --color WHEN besides
+abbrev pub with_color : App → App
+with_color app = with_rule app color_rule
+
+-- a command that takes --all besides
+abbrev pub with_all : App → App
+with_all app = with_rule app (flag_rule (codes "all"))
+
+-- a command that takes --expect COMPARISON besides
+abbrev pub with_expect : App → App
+with_expect app = with_rule app expect_rule
+
+-- a command that takes --seed N besides, which may be left out
+abbrev pub with_seed_choice : App → App
+with_seed_choice app = with_rule app (choice_rule (codes "seed"))
+
+-- a command that takes --times N besides
+abbrev pub with_times : App → App
+with_times app = with_rule app times_rule
+
+-- a command that takes --length N besides
+abbrev pub with_length : App → App
+with_length app = with_rule app length_rule
+
+-- a command that takes --worst besides
+abbrev pub with_worst : App → App
+with_worst app = with_rule app (flag_rule (codes "worst"))
+
+-- a command that takes --changed besides
+abbrev pub with_changed : App → App
+with_changed app = with_rule app (flag_rule (codes "changed"))
+
 -- a command that takes --places besides
 abbrev pub with_places : App → App
 with_places app = with_rule app (flag_rule (codes "places"))
@@ -131,9 +195,9 @@ program = needs_subcommand (with_version (new_app (codes "autolock")))
 abbrev pub with_check : App → App
 with_check app = with_subcommand app (with_file (codes "check")).top
 
--- autolock explain [--json] FILE
+-- autolock explain [--json] [--color WHEN] FILE
 abbrev pub with_explain : App → App
-with_explain app = with_subcommand app (with_json (with_file (codes "explain"))).top
+with_explain app = with_subcommand app (with_color (with_json (with_file (codes "explain")))).top
 
 -- autolock format FILE
 abbrev pub with_format : App → App
@@ -151,27 +215,31 @@ with_listing app = with_subcommand app (with_places (with_file (codes "listing")
 abbrev pub with_emit : App → App
 with_emit app = with_subcommand app (with_lines (with_prefix (with_header (with_file (codes "emit"))))).top
 
--- autolock serial [--turns N] FILE
+-- autolock serial [--turns N] [--changed] FILE
 abbrev pub with_serial : App → App
-with_serial app = with_subcommand app (with_turns (with_file (codes "serial"))).top
+with_serial app = with_subcommand app (with_changed (with_turns (with_file (codes "serial")))).top
 
--- autolock outcomes [--count N] [--seed N] [--turns N] [--cells NAMES] [--answers] [--full] FILE
+-- autolock outcomes [--count N] [--seed N] [--turns N] [--cells NAMES] [--answers] [--full] [--expect COMPARISON] FILE
 abbrev pub with_outcomes : App → App
 with_outcomes app =
     with_subcommand app
-    (with_full (with_answers (with_cells (with_turns (with_seed (with_count (with_file (codes "outcomes")))))))).top
+    (with_expect (with_full (with_answers (with_cells (with_turns (with_seed (with_count (with_file (codes "outcomes"))))))))).top
+
+-- autolock schedule [--seed N] [--length N] [--worst] FILE
+abbrev pub with_schedule : App → App
+with_schedule app = with_subcommand app (with_worst (with_length (with_seed (with_file (codes "schedule"))))).top
 
 -- autolock simulate FILE STEPS
 abbrev pub with_simulate : App → App
 with_simulate app = with_subcommand app (with_steps (with_file (codes "simulate"))).top
 
--- autolock trace [--sections] FILE STEPS
+-- autolock trace [--sections] [--all] FILE STEPS
 abbrev pub with_trace : App → App
-with_trace app = with_subcommand app (with_sections (with_steps (with_file (codes "trace")))).top
+with_trace app = with_subcommand app (with_all (with_sections (with_steps (with_file (codes "trace"))))).top
 
--- autolock run FILE
+-- autolock run [--seed N] [--times N] FILE
 abbrev pub with_run : App → App
-with_run app = with_subcommand app (with_file (codes "run")).top
+with_run app = with_subcommand app (with_times (with_seed_choice (with_file (codes "run")))).top
 
 -- autolock replay [--turns N] [--why] [--open] FILE HISTORY
 abbrev pub with_replay : App → App
@@ -184,8 +252,8 @@ with_lsp app = with_subcommand app (new_app (codes "lsp")).top
 -- the whole command line
 abbrev pub autolock : App
 autolock =
-    with_lsp (with_replay (with_run (with_trace (with_simulate (with_outcomes (with_serial (with_emit (with_listing (with_order
-    (with_format (with_explain (with_check program))))))))))))
+    with_lsp (with_replay (with_run (with_trace (with_simulate (with_schedule (with_outcomes (with_serial (with_emit (with_listing
+    (with_order (with_format (with_explain (with_check program)))))))))))))
 
 -- the command is that one, and has no global argument
 abbrev pub IsCommand : App → Command → Type 0

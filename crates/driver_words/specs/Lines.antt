@@ -1,8 +1,9 @@
 -- What a line says of the matches.
-use Rattle.std.specs.Prelude.{◌≡◌, ◌⊎◌, ℕ, ◌^◌, ◌<◌, leb, Bool, true, false, ◌&&◌, List, [], ◌∷◌, length, ⊤}
+use Rattle.std.specs.Prelude.{◌≡◌, ◌⊎◌, ℕ, ◌^◌, ◌<◌, leb, Bool, true, false, ◌&&◌, if◌then◌else◌, List, [], ◌∷◌, length, ⊤}
 use Rattle.std.specs.Prelude.{Option, Some, None, codes, unwrap_or, option_map}
 use Rattle.std.specs.Char.{is_ascii_alphabetic, is_ascii_alphanumeric}
 use Rattle.std.specs.List.{list_all}
+use Rattle.std.specs.Str.{bytes_eq}
 use Rattle.std.specs.Str.Parse.{IsNumeral, digits_value, without_leading_plus}
 use Rattle.clap.specs.Words.{HasKind, Row, Text, fault_of, first_of, one_of, subcommand_of}
 use Rattle.clap.specs.Values.{kind_of}
@@ -11,11 +12,13 @@ use Rattle.driver_words.specs.Codes.{code_named, is_code_word}
 use Rattle.driver_words.specs.Commands.{autolock}
 use Rattle.driver_words.specs.declared.line.Alone.{Alone}
 use Rattle.driver_words.specs.declared.line.Alone.TheVariants.{Report, Order, Explain, Format, Run}
+use Rattle.driver_words.specs.declared.line.Color.{Color}
+use Rattle.driver_words.specs.declared.line.Color.TheVariants.{Auto, Always, Never}
 use Rattle.driver_words.specs.declared.line.Beside.{Beside}
 use Rattle.driver_words.specs.declared.line.Beside.TheVariants.{Simulate, Trace, Replay}
 use Rattle.driver_words.specs.declared.line.Line.{Line}
 use Rattle.driver_words.specs.declared.line.Looking.{Looking}
-use Rattle.driver_words.specs.declared.line.Report.TheVariants.{Check, Listing, Serial, Outcomes, Emit}
+use Rattle.driver_words.specs.declared.line.Report.TheVariants.{Check, Listing, Serial, Outcomes, Schedule, Emit}
 use Rattle.driver_words.specs.declared.line.Request.{Request}
 use Rattle.driver_words.specs.declared.line.Request.TheVariants as request
 use Rattle.driver_words.specs.declared.unasked.Unasked.{Unasked}
@@ -36,6 +39,12 @@ pub record IsNumber (id : Text) (otherwise : ℕ) (rows : List Row) (number : �
 abbrev pub IsTurns : List Row → ℕ → Type 0
 IsTurns rows turns = IsNumber (codes "turns") 1000000 rows turns
 
+-- the number that the value of a name writes, where a plus may stand first; nothing without a value
+pub record IsChoice (id : Text) (rows : List Row) (choice : Option ℕ) : Type 0 where
+  pub given : (text : Text) → one_of id rows ≡ Some text → IsNumeral 10 (without_leading_plus text)
+      → digits_value 10 (without_leading_plus text) < 2 ^ 64 → choice ≡ Some (digits_value 10 (without_leading_plus text))
+  pub default : one_of id rows ≡ None → choice ≡ None
+
 -- whether a word that takes no value stands among the words, as clap tells it
 pub record IsFlag (id : Text) (rows : List Row) (is : Bool) : Type 0 where
   pub given : one_of id rows ≡ Some (codes "true") → is ≡ true
@@ -50,6 +59,18 @@ pub record IsLooking (rows : List Row) (looking : Looking) : Type 0 where
   pub cells : option_map (λ names. names.now) looking.cells ≡ first_of (codes "cells") rows
   pub answers : IsFlag (codes "answers") rows looking.answers
   pub full : IsFlag (codes "full") rows looking.full
+  pub expect : option_map (λ text. text.now) looking.expect ≡ first_of (codes "expect") rows
+
+-- when colours are wanted
+abbrev pub color_named : Text → Option Color
+color_named text =
+    if bytes_eq text (codes "auto") then Some Auto
+    else if bytes_eq text (codes "always") then Some Always
+    else if bytes_eq text (codes "never") then Some Never
+    else None
+
+abbrev pub IsColor : List Row → Color → Type 0
+IsColor rows color = color_named (name_in (codes "color") rows) ≡ Some color
 
 -- ---- codes
 
@@ -72,24 +93,31 @@ GivesFile json rows = (json ≡ true) ⊎ (is_code_word (word_in rows) ≡ false
 abbrev pub IsAlone : Text → List Row → Alone → Type 0
 IsAlone command rows (Report Check) = command ≡ codes "check"
 IsAlone command rows (Report (Listing places)) = (command ≡ codes "listing") × IsFlag (codes "places") rows places
-IsAlone command rows (Report (Serial turns)) = (command ≡ codes "serial") × IsTurns rows turns
+IsAlone command rows (Report (Serial turns changed)) =
+    (command ≡ codes "serial") × IsTurns rows turns × IsFlag (codes "changed") rows changed
 IsAlone command rows (Report (Outcomes looking)) =
     (command ≡ codes "outcomes") × IsLooking rows looking
+IsAlone command rows (Report (Schedule scheduling)) =
+    (command ≡ codes "schedule") × IsNumber (codes "seed") 0 rows scheduling.seed
+    × IsNumber (codes "length") 100 rows scheduling.length × IsFlag (codes "worst") rows scheduling.worst
 IsAlone command rows (Report (Emit emission)) =
     (command ≡ codes "emit") × IsFlag (codes "header") rows emission.header
     × (emission.prefix.now ≡ name_in (codes "prefix") rows)
     × IsFlag (codes "lines") rows emission.lines
     × (emission.file.now ≡ name_in (codes "FILE") rows)
 IsAlone command rows Order = command ≡ codes "order"
-IsAlone command rows (Explain json) = (command ≡ codes "explain") × IsFlag (codes "json") rows json × GivesFile json rows
+IsAlone command rows (Explain json color) =
+    (command ≡ codes "explain") × IsFlag (codes "json") rows json × IsColor rows color × GivesFile json rows
 IsAlone command rows Format = command ≡ codes "format"
-IsAlone command rows Run = command ≡ codes "run"
+IsAlone command rows (Run running) =
+    (command ≡ codes "run") × IsChoice (codes "seed") rows running.seed × IsChoice (codes "times") rows running.times
 
 -- what is asked of it and of another file is that command
 abbrev pub IsBeside : Text → List Row → Beside → Text → Type 0
 IsBeside command rows Simulate other = (command ≡ codes "simulate") × (other ≡ name_in (codes "STEPS") rows)
-IsBeside command rows (Trace sections) other =
-    (command ≡ codes "trace") × (other ≡ name_in (codes "STEPS") rows) × IsFlag (codes "sections") rows sections
+IsBeside command rows (Trace sections all) other =
+    (command ≡ codes "trace") × (other ≡ name_in (codes "STEPS") rows)
+    × IsFlag (codes "sections") rows sections × IsFlag (codes "all") rows all
 IsBeside command rows (Replay judging) other =
     (command ≡ codes "replay") × (other ≡ name_in (codes "HISTORY") rows)
     × IsTurns rows judging.turns × IsFlag (codes "why") rows judging.why × IsFlag (codes "open") rows judging.open
@@ -114,8 +142,8 @@ abbrev pub IsOwnName : Text → Type 0
 IsOwnName command =
     (command ≡ codes "check") ⊎ ((command ≡ codes "explain") ⊎ ((command ≡ codes "format") ⊎ ((command ≡ codes "order")
     ⊎ ((command ≡ codes "listing") ⊎ ((command ≡ codes "emit") ⊎ ((command ≡ codes "serial") ⊎ ((command ≡ codes "outcomes")
-    ⊎ ((command ≡ codes "simulate") ⊎ ((command ≡ codes "trace") ⊎ ((command ≡ codes "run") ⊎ ((command ≡ codes "replay")
-    ⊎ (command ≡ codes "lsp"))))))))))))
+    ⊎ ((command ≡ codes "schedule") ⊎ ((command ≡ codes "simulate") ⊎ ((command ≡ codes "trace") ⊎ ((command ≡ codes "run")
+    ⊎ ((command ≡ codes "replay") ⊎ (command ≡ codes "lsp")))))))))))))
 
 -- ---- what names of C begin with
 
@@ -147,11 +175,13 @@ pub record HasBadPrefix (command : Text) (rows : List Row) : Type 0 where
   pub meant : IsLine command rows line
   pub bad : HasPrefix line.request → ⊥
 
--- why a command asks for nothing: it is none of the program's own, it is given a code that there is not, or its prefix is none
+-- why a command asks for nothing: it is none of the program's own, it is given a code that there is not, its prefix is none, or it
+-- doesn't say so when colours are wanted
 abbrev pub IsUnasked : Text → List Row → Unasked → Type 0
 IsUnasked command rows unasked.NoCommand = IsOwnName command → ⊥
 IsUnasked command rows unasked.NoCode = GivesCode command rows × (code_named (word_in rows) ≡ None)
 IsUnasked command rows unasked.BadPrefix = HasBadPrefix command rows
+IsUnasked command rows unasked.BadColor = (command ≡ codes "explain") × (color_named (name_in (codes "color") rows) ≡ None)
 
 -- the same of the subcommand that was met
 abbrev pub IsUnaskedOf : Option (Text × List Row) → Unasked → Type 0

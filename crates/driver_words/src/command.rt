@@ -8,6 +8,9 @@ ghost use Rattle.driver_words.specs.Commands.{with_count, with_header, with_json
 ghost use Rattle.driver_words.specs.Commands.{with_sections};
 ghost use Rattle.driver_words.specs.Commands.{with_seed, with_turns, with_why};
 ghost use Rattle.driver_words.specs.Commands.{cells_rule, with_answers, with_cells, with_full};
+ghost use Rattle.driver_words.specs.Commands.{choice_rule, color_rule, expect_rule, length_rule, times_rule};
+ghost use Rattle.driver_words.specs.Commands.{with_all, with_changed, with_color, with_expect, with_length, with_seed_choice};
+ghost use Rattle.driver_words.specs.Commands.{with_times, with_worst};
 
 use clap::builder::ValueParser;
 use clap::{Arg, ArgAction, Command};
@@ -60,6 +63,69 @@ fn seed_argument<'a>(alloc: Global) -> Arg<'a>
     ensures local { result.global ≡ false }
 {
     number_argument(alloc, "seed", "0").help("Which orders to draw, where there are more")
+}
+
+/// `--seed N` of items.
+fn items_argument<'a>(alloc: Global) -> Arg<'a>
+    ensures rule { rule_of result ≡ seed_rule }
+    ensures local { result.global ≡ false }
+{
+    number_argument(alloc, "seed", "0").help("Which items to draw")
+}
+
+/// `--seed N`, where it may be left out.
+fn seed_choice_argument<'a>(alloc: Global) -> Arg<'a>
+    ensures rule { rule_of result ≡ choice_rule (codes "seed") }
+    ensures local { result.global ≡ false }
+{
+    Arg::new(alloc, "seed")
+        .long("seed")
+        .value_name("N")
+        .value_parser(ValueParser::unsigned(0, 1_000_000_000))
+        .help("Hold the threads up now and then, and by what")
+}
+
+/// `--times N`.
+fn times_argument<'a>(alloc: Global) -> Arg<'a>
+    ensures rule { rule_of result ≡ times_rule }
+    ensures local { result.global ≡ false }
+{
+    Arg::new(alloc, "times")
+        .long("times")
+        .value_name("N")
+        .value_parser(ValueParser::unsigned(1, 1_000_000))
+        .help("Run them so often, and tell each order of calls and each end that was seen")
+}
+
+/// `--length N`.
+fn length_argument<'a>(alloc: Global) -> Arg<'a>
+    ensures rule { rule_of result ≡ length_rule }
+    ensures local { result.global ≡ false }
+{
+    number_argument(alloc, "length", "100").help("How many items to write")
+}
+
+/// `--color WHEN`.
+fn color_argument<'a>(alloc: Global) -> Arg<'a>
+    ensures rule { rule_of result ≡ color_rule }
+    ensures local { result.global ≡ false }
+{
+    Arg::new(alloc, "color")
+        .long("color")
+        .value_name("WHEN")
+        .default_value("auto")
+        .help("Whether to write in colours: auto, always or never")
+}
+
+/// `--expect COMPARISON`.
+fn expect_argument<'a>(alloc: Global) -> Arg<'a>
+    ensures rule { rule_of result ≡ expect_rule }
+    ensures local { result.global ≡ false }
+{
+    Arg::new(alloc, "expect")
+        .long("expect")
+        .value_name("COMPARISON")
+        .help("What each end is to have, as 'a[0] + a[1] == 300'")
 }
 
 /// A word that takes no value, as `--json`.
@@ -122,18 +188,21 @@ fn steps_argument<'a>(alloc: Global) -> Arg<'a>
     ensures rule { rule_of result ≡ file_rule (codes "STEPS") }
     ensures local { result.global ≡ false }
 {
-    file_argument(alloc, "STEPS").help("Which thread makes how many steps: items T or T*N")
+    let help = "Which thread makes how many steps: items T, T*N, T! or T+";
+    file_argument(alloc, "STEPS").help(help)
 }
 
 /// `explain`.
 fn explain_command<'a>(alloc: Global) -> Result<Command<'a>, AllocError>
-    ensures { IfOk result (IsCommand (with_json (with_file (codes "explain")))) }
+    ensures { IfOk result (IsCommand (with_color (with_json (with_file (codes "explain"))))) }
 {
     let about =
         "Tell the fault of a program, with its place in the source and what can be done about it";
     let operand = "The program's text; or a code, E01 to E20, for what it means";
     let help = "Tell it as a JSON object, in one line";
-    operand_command(alloc, "explain", about, operand)?.arg(flag_argument(alloc, "json", help))
+    let command = operand_command(alloc, "explain", about, operand);
+    let command = with_argument(command, flag_argument(alloc, "json", help));
+    with_argument(command, color_argument(alloc))
 }
 
 /// `lsp`.
@@ -169,10 +238,26 @@ fn emit_command<'a>(alloc: Global) -> Result<Command<'a>, AllocError>
 
 /// `serial`.
 fn serial_command<'a>(alloc: Global) -> Result<Command<'a>, AllocError>
-    ensures { IfOk result (IsCommand (with_turns (with_file (codes "serial")))) }
+    ensures { IfOk result (IsCommand (with_changed (with_turns (with_file (codes "serial"))))) }
 {
     let about = "Run all calls one after another, and write the history";
-    file_command(alloc, "serial", about)?.arg(turns_argument(alloc))
+    let command = with_argument(file_command(alloc, "serial", about), turns_argument(alloc));
+    let help = "Leave out the cells that hold what they held at the opening";
+    with_argument(command, flag_argument(alloc, "changed", help))
+}
+
+/// `schedule`.
+fn schedule_command<'a>(alloc: Global) -> Result<Command<'a>, AllocError>
+    ensures { IfOk result (IsCommand (with_worst (with_length (with_seed (with_file (codes "schedule")))))) }
+{
+    let about = "Write a steps file whose items are drawn";
+    let command = with_argument(
+        file_command(alloc, "schedule", about),
+        items_argument(alloc),
+    );
+    let command = with_argument(command, length_argument(alloc));
+    let help = "Have threads wait for each other as much as can be";
+    with_argument(command, flag_argument(alloc, "worst", help))
 }
 
 /// `simulate`.
@@ -193,10 +278,14 @@ fn history_argument<'a>(alloc: Global) -> Arg<'a>
 
 /// `run`.
 fn run_command<'a>(alloc: Global) -> Result<Command<'a>, AllocError>
-    ensures { IfOk result (IsCommand (with_file (codes "run"))) }
+    ensures { IfOk result (IsCommand (with_times (with_seed_choice (with_file (codes "run"))))) }
 {
     let about = "Run the calls of each thread in a thread of its own, and write the history";
-    file_command(alloc, "run", about)
+    let command = with_argument(
+        file_command(alloc, "run", about),
+        seed_choice_argument(alloc),
+    );
+    with_argument(command, times_argument(alloc))
 }
 
 /// A command with one more argument, where it could be made.
@@ -212,7 +301,8 @@ fn with_argument<'a>(
 
 /// `outcomes`.
 fn outcomes_command<'a>(alloc: Global) -> Result<Command<'a>, AllocError>
-    ensures { IfOk result (IsCommand (with_full (with_answers (with_cells (with_turns (with_seed (with_count (with_file (codes "outcomes"))))))))) }
+    ensures { let counted = with_turns (with_seed (with_count (with_file (codes "outcomes")))) in
+        IfOk result (IsCommand (with_expect (with_full (with_answers (with_cells counted))))) }
 {
     let about =
         "Run all calls one after another in all orders, or in some, and write each way the cells end";
@@ -224,7 +314,8 @@ fn outcomes_command<'a>(alloc: Global) -> Result<Command<'a>, AllocError>
     let help = "Tell ends apart also by how the calls ended";
     let command = with_argument(command, flag_argument(alloc, "answers", help));
     let help = "Write all of each end, and not only what differs from the first";
-    with_argument(command, flag_argument(alloc, "full", help))
+    let command = with_argument(command, flag_argument(alloc, "full", help));
+    with_argument(command, expect_argument(alloc))
 }
 
 /// `replay`.
@@ -243,14 +334,16 @@ fn replay_command<'a>(alloc: Global) -> Result<Command<'a>, AllocError>
 
 /// `trace`.
 fn trace_command<'a>(alloc: Global) -> Result<Command<'a>, AllocError>
-    ensures { IfOk result (IsCommand (with_sections (with_steps (with_file (codes "trace"))))) }
+    ensures { IfOk result (IsCommand (with_all (with_sections (with_steps (with_file (codes "trace")))))) }
 {
     let about =
         "Run the steps of a steps file, and write a line for each, then what simulate writes";
     let command = file_command(alloc, "trace", about);
     let command = with_argument(command, steps_argument(alloc));
     let help = "Leave the instructions out";
-    with_argument(command, flag_argument(alloc, "sections", help))
+    let command = with_argument(command, flag_argument(alloc, "sections", help));
+    let help = "Tell also the steps that do nothing";
+    with_argument(command, flag_argument(alloc, "all", help))
 }
 
 /// A command line with one more command, where both could be made.
@@ -283,6 +376,7 @@ pub fn command<'a>(alloc: Global) -> Result<Command<'a>, AllocError>
     let line = with_command(line, emit_command(alloc));
     let line = with_command(line, serial_command(alloc));
     let line = with_command(line, outcomes_command(alloc));
+    let line = with_command(line, schedule_command(alloc));
     let line = with_command(line, simulate_command(alloc));
     let line = with_command(line, trace_command(alloc));
     let line = with_command(line, run_command(alloc));

@@ -13,7 +13,7 @@ mod reading;
 mod unasked;
 
 pub use line::{
-    Alone, Beside, DEFAULT_COUNT, DEFAULT_SEED, DEFAULT_TURNS, Emission, Judging, Line, Looking,
-    Report, Request,
+    Alone, Beside, Color, DEFAULT_COUNT, DEFAULT_LENGTH, DEFAULT_SEED, DEFAULT_TURNS, Emission,
+    Judging, Line, Looking, Report, Request, Running, Scheduling,
 };
 pub use reading::{is_prefix, words};

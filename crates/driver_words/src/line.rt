@@ -11,6 +11,9 @@ pub const DEFAULT_COUNT: u64 = 100_000;
 /// The seed of what is drawn where `--seed` is not given.
 pub const DEFAULT_SEED: u64 = 0;
 
+/// How many items a steps file gets where `--length` is not given.
+pub const DEFAULT_LENGTH: u64 = 100;
+
 /// A command over the program of a file, or one that reads none.
 #[derive(Clone, Copy, Debug, PartialEq, Eq)]
 pub struct Line<'a> {
@@ -44,11 +47,33 @@ pub enum Alone<'a> {
     Explain {
         /// Whether it is told as JSON.
         json: bool,
+        /// When it is told in colours.
+        color: Color,
     },
     /// `format`: the text in its layout.
     Format,
     /// `run`: run the calls of each thread in a thread of its own.
-    Run,
+    Run(Running),
+}
+
+/// When a text is written in colours.
+#[derive(Clone, Copy, Debug, PartialEq, Eq)]
+pub enum Color {
+    /// Where it goes to a terminal.
+    Auto,
+    /// Wherever it goes.
+    Always,
+    /// Nowhere.
+    Never,
+}
+
+/// How the calls of threads are run.
+#[derive(Clone, Copy, Debug, PartialEq, Eq)]
+pub struct Running {
+    /// By what the threads are held up, if they are.
+    pub seed: Option<u64>,
+    /// How often they are run, with what was seen told; once, with its history told, where that isn't given.
+    pub times: Option<u64>,
 }
 
 /// What is told of a program that is accepted.
@@ -65,11 +90,26 @@ pub enum Report<'a> {
     Serial {
         /// The most turns that each execution of a loop may make.
         turns: u64,
+        /// Whether cells are left out that hold what they held at the opening.
+        changed: bool,
     },
     /// `outcomes`: how its cells can end, over the orders of its calls.
     Outcomes(Looking<'a>),
+    /// `schedule`: a steps file of it.
+    Schedule(Scheduling),
     /// `emit`: its sections in C, with their locks placed.
     Emit(Emission<'a>),
+}
+
+/// Which steps file is written.
+#[derive(Clone, Copy, Debug, PartialEq, Eq)]
+pub struct Scheduling {
+    /// By what its items are drawn.
+    pub seed: u64,
+    /// How many items it has.
+    pub length: u64,
+    /// Whether threads are to wait for each other as much as can be.
+    pub worst: bool,
 }
 
 /// Which C text of a program is written.
@@ -100,6 +140,8 @@ pub struct Looking<'a> {
     pub answers: bool,
     /// Whether all of each end is told, and not only what differs from the first one.
     pub full: bool,
+    /// What each end is expected to have, if anything: a comparison of sums.
+    pub expect: Option<&'a str>,
 }
 
 /// What is told of a program that is accepted, and of another file.
@@ -111,6 +153,8 @@ pub enum Beside {
     Trace {
         /// Whether the instructions of sections are left out.
         sections: bool,
+        /// Whether steps that do nothing are told.
+        all: bool,
     },
     /// `replay`: whether a recorded history is one of the program's.
     Replay(Judging),

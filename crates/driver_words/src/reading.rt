@@ -3,7 +3,7 @@
 ghost use Rattle.std.specs.Prelude.{◌≡◌, ◌↔◌, IsTrue, IfOk, IfErr, OnOk, [], map, option_map};
 ghost use Rattle.clap.specs.Words.{fault_of, first_of, found_of, rows_of, subcommand_of, subcommand_rows_of};
 ghost use Rattle.driver_words.specs.Commands.{autolock};
-ghost use Rattle.driver_words.specs.Lines.{name_in, IsNumber, IsTurns, IsFlag, IsLooking, IsLine, IsLineOf, IsRefused, IsRequest, IsUnasked, IsUnaskedOf};
+ghost use Rattle.driver_words.specs.Lines.{name_in, IsNumber, IsTurns, IsFlag, IsChoice, IsLooking, IsLine, color_named, IsLineOf, IsRefused, IsRequest, IsUnasked, IsUnaskedOf};
 ghost use Rattle.driver_words.specs.Lines.{is_word, starts_with_letter, IsPrefix, HasPrefix};
 ghost use Rattle.std.specs.Prelude.{codes};
 ghost use Rattle.std.specs.Char.{is_ascii_alphanumeric};
@@ -12,8 +12,8 @@ ghost use Rattle.std.specs.List.{list_all};
 use crate::codes::{code_named, is_code_word};
 use crate::command::command;
 use crate::line::{
-    Alone, Beside, DEFAULT_COUNT, DEFAULT_SEED, DEFAULT_TURNS, Emission, Judging, Line, Looking,
-    Report, Request,
+    Alone, Beside, Color, DEFAULT_COUNT, DEFAULT_LENGTH, DEFAULT_SEED, DEFAULT_TURNS, Emission,
+    Judging, Line, Looking, Report, Request, Running, Scheduling,
 };
 use crate::unasked::Unasked;
 use clap::{ArgMatches, Error};
@@ -38,6 +38,13 @@ fn number(matches: &ArgMatches<'_>, id: &str, otherwise: u64) -> u64
     ensures { IsNumber id.now otherwise (rows_of (found_of matches.now)) result }
 {
     matches.get_one::<u64>(id).unwrap_or(otherwise)
+}
+
+/// The number of a name, if it has one.
+fn choice(matches: &ArgMatches<'_>, id: &str) -> Option<u64>
+    ensures { IsChoice id.now (rows_of (found_of matches.now)) result }
+{
+    matches.get_one::<u64>(id)
 }
 
 /// The number of `--turns`.
@@ -65,6 +72,19 @@ fn looking<'a>(matches: &ArgMatches<'a>) -> Looking<'a>
         cells: text(matches, "cells"),
         answers: flag(matches, "answers"),
         full: flag(matches, "full"),
+        expect: text(matches, "expect"),
+    }
+}
+
+/// When colours are wanted, by the word for that.
+fn color_named(word: &str) -> Option<Color>
+    ensures { result ≡ color_named word.now }
+{
+    match word {
+        "auto" => Some(Color::Auto),
+        "always" => Some(Color::Always),
+        "never" => Some(Color::Never),
+        _ => None,
     }
 }
 
@@ -74,9 +94,12 @@ fn explaining<'a>(matches: &ArgMatches<'a>) -> Result<Request<'a>, Unasked>
     ensures unasked { IfErr result (IsUnasked (codes "explain") (rows_of (found_of matches.now))) }
 {
     let json = flag(matches, "json");
+    let Some(color) = color_named(name(matches, "color")) else {
+        return Err(Unasked::BadColor);
+    };
     let word = name(matches, "FILE");
     if json || !is_code_word(word) {
-        return Ok(Request::Alone(Alone::Explain { json }));
+        return Ok(Request::Alone(Alone::Explain { json, color }));
     }
     match code_named(word) {
         Some(code) => Ok(Request::Code(code)),
@@ -99,7 +122,13 @@ fn request<'a>(command: &str, matches: &ArgMatches<'a>) -> Result<Request<'a>, U
         })),
         "serial" => Request::Alone(Alone::Report(Report::Serial {
             turns: turns(matches),
+            changed: flag(matches, "changed"),
         })),
+        "schedule" => Request::Alone(Alone::Report(Report::Schedule(Scheduling {
+            seed: number(matches, "seed", DEFAULT_SEED),
+            length: number(matches, "length", DEFAULT_LENGTH),
+            worst: flag(matches, "worst"),
+        }))),
         "outcomes" => Request::Alone(Alone::Report(Report::Outcomes(looking(matches)))),
         "emit" => Request::Alone(Alone::Report(Report::Emit(Emission {
             header: flag(matches, "header"),
@@ -107,11 +136,15 @@ fn request<'a>(command: &str, matches: &ArgMatches<'a>) -> Result<Request<'a>, U
             lines: flag(matches, "lines"),
             file: name(matches, "FILE"),
         }))),
-        "run" => Request::Alone(Alone::Run),
+        "run" => Request::Alone(Alone::Run(Running {
+            seed: choice(matches, "seed"),
+            times: choice(matches, "times"),
+        })),
         "simulate" => Request::Beside(Beside::Simulate, name(matches, "STEPS")),
         "trace" => {
             let sections = flag(matches, "sections");
-            Request::Beside(Beside::Trace { sections }, name(matches, "STEPS"))
+            let all = flag(matches, "all");
+            Request::Beside(Beside::Trace { sections, all }, name(matches, "STEPS"))
         }
         "replay" => {
             let judging = Judging {

@@ -14,6 +14,8 @@ pub enum Unasked {
     NoCode,
     /// Names of C can't begin so.
     BadPrefix,
+    /// It isn't said so when colours are wanted.
+    BadColor,
 }
 
 impl Unasked {
@@ -23,7 +25,7 @@ impl Unasked {
     {
         match self {
             Unasked::NoCommand => ErrorKind::MissingSubcommand,
-            Unasked::NoCode | Unasked::BadPrefix => ErrorKind::ValueValidation,
+            Unasked::NoCode | Unasked::BadPrefix | Unasked::BadColor => ErrorKind::ValueValidation,
         }
     }
 
@@ -37,6 +39,7 @@ impl Unasked {
             Unasked::BadPrefix => {
                 "--prefix takes a letter, then at most 31 letters and digits, and not AL or autolock"
             }
+            Unasked::BadColor => "--color takes auto, always or never",
         }
     }
 }

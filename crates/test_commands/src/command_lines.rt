@@ -45,8 +45,10 @@ fn reads_lines(rt: HostRuntime) -> Result<(), Fail> {
         rt.alloc(),
         "
 autolock check F => Line { file: \"F\", request: Alone(Report(Check)) }
-autolock explain F => Line { file: \"F\", request: Alone(Explain { json: false }) }
-autolock explain F --json => Line { file: \"F\", request: Alone(Explain { json: true }) }
+autolock explain F => Line { file: \"F\", request: Alone(Explain { json: false, color: Auto }) }
+autolock explain F --json => Line { file: \"F\", request: Alone(Explain { json: true, color: Auto }) }
+autolock explain --color always F => Line { file: \"F\", request: Alone(Explain { json: false, color: Always }) }
+autolock explain --color=never F => Line { file: \"F\", request: Alone(Explain { json: false, color: Never }) }
 autolock order F => Line { file: \"F\", request: Alone(Order) }
 autolock format F => Line { file: \"F\", request: Alone(Format) }
 autolock lsp => Line { file: \"\", request: Lsp }
@@ -55,19 +57,26 @@ autolock listing --places F => Line { file: \"F\", request: Alone(Report(Listing
 autolock emit F => Line { file: \"F\", request: Alone(Report(Emit(Emission { header: false, prefix: \"al\", lines: false, file: \"F\" }))) }
 autolock emit --header --prefix bank F => Line { file: \"F\", request: Alone(Report(Emit(Emission { header: true, prefix: \"bank\", lines: false, file: \"F\" }))) }
 autolock emit --lines F => Line { file: \"F\", request: Alone(Report(Emit(Emission { header: false, prefix: \"al\", lines: true, file: \"F\" }))) }
-autolock serial F => Line { file: \"F\", request: Alone(Report(Serial { turns: 1000000 })) }
-autolock serial --turns 7 F => Line { file: \"F\", request: Alone(Report(Serial { turns: 7 })) }
-autolock serial --turns=0 F => Line { file: \"F\", request: Alone(Report(Serial { turns: 0 })) }
-autolock serial --turns 1000000000 F => Line { file: \"F\", request: Alone(Report(Serial { turns: 1000000000 })) }
-autolock outcomes F => Line { file: \"F\", request: Alone(Report(Outcomes(Looking { turns: 1000000, count: 100000, seed: 0, cells: None, answers: false, full: false }))) }
-autolock outcomes --seed 5 --count 3 F => Line { file: \"F\", request: Alone(Report(Outcomes(Looking { turns: 1000000, count: 3, seed: 5, cells: None, answers: false, full: false }))) }
-autolock outcomes --cells n,a[0] F => Line { file: \"F\", request: Alone(Report(Outcomes(Looking { turns: 1000000, count: 100000, seed: 0, cells: Some(\"n,a[0]\"), answers: false, full: false }))) }
-autolock outcomes --answers --full F => Line { file: \"F\", request: Alone(Report(Outcomes(Looking { turns: 1000000, count: 100000, seed: 0, cells: None, answers: true, full: true }))) }
-autolock outcomes --turns 7 F => Line { file: \"F\", request: Alone(Report(Outcomes(Looking { turns: 7, count: 100000, seed: 0, cells: None, answers: false, full: false }))) }
+autolock serial F => Line { file: \"F\", request: Alone(Report(Serial { turns: 1000000, changed: false })) }
+autolock serial --turns 7 F => Line { file: \"F\", request: Alone(Report(Serial { turns: 7, changed: false })) }
+autolock serial --turns=0 F => Line { file: \"F\", request: Alone(Report(Serial { turns: 0, changed: false })) }
+autolock serial --turns 1000000000 F => Line { file: \"F\", request: Alone(Report(Serial { turns: 1000000000, changed: false })) }
+autolock serial --changed F => Line { file: \"F\", request: Alone(Report(Serial { turns: 1000000, changed: true })) }
+autolock outcomes F => Line { file: \"F\", request: Alone(Report(Outcomes(Looking { turns: 1000000, count: 100000, seed: 0, cells: None, answers: false, full: false, expect: None }))) }
+autolock outcomes --seed 5 --count 3 F => Line { file: \"F\", request: Alone(Report(Outcomes(Looking { turns: 1000000, count: 3, seed: 5, cells: None, answers: false, full: false, expect: None }))) }
+autolock outcomes --cells n,a[0] F => Line { file: \"F\", request: Alone(Report(Outcomes(Looking { turns: 1000000, count: 100000, seed: 0, cells: Some(\"n,a[0]\"), answers: false, full: false, expect: None }))) }
+autolock outcomes --answers --full F => Line { file: \"F\", request: Alone(Report(Outcomes(Looking { turns: 1000000, count: 100000, seed: 0, cells: None, answers: true, full: true, expect: None }))) }
+autolock outcomes --turns 7 F => Line { file: \"F\", request: Alone(Report(Outcomes(Looking { turns: 7, count: 100000, seed: 0, cells: None, answers: false, full: false, expect: None }))) }
+autolock outcomes --expect a==3 F => Line { file: \"F\", request: Alone(Report(Outcomes(Looking { turns: 1000000, count: 100000, seed: 0, cells: None, answers: false, full: false, expect: Some(\"a==3\") }))) }
+autolock schedule F => Line { file: \"F\", request: Alone(Report(Schedule(Scheduling { seed: 0, length: 100, worst: false }))) }
+autolock schedule --seed 3 --length 7 --worst F => Line { file: \"F\", request: Alone(Report(Schedule(Scheduling { seed: 3, length: 7, worst: true }))) }
 autolock simulate F S => Line { file: \"F\", request: Beside(Simulate, \"S\") }
-autolock trace F S => Line { file: \"F\", request: Beside(Trace { sections: false }, \"S\") }
-autolock trace F --sections S => Line { file: \"F\", request: Beside(Trace { sections: true }, \"S\") }
-autolock run F => Line { file: \"F\", request: Alone(Run) }
+autolock trace F S => Line { file: \"F\", request: Beside(Trace { sections: false, all: false }, \"S\") }
+autolock trace F --sections S => Line { file: \"F\", request: Beside(Trace { sections: true, all: false }, \"S\") }
+autolock run F => Line { file: \"F\", request: Alone(Run(Running { seed: None, times: None })) }
+autolock trace --all F S => Line { file: \"F\", request: Beside(Trace { sections: false, all: true }, \"S\") }
+autolock run --seed 3 F => Line { file: \"F\", request: Alone(Run(Running { seed: Some(3), times: None })) }
+autolock run --times 20 F => Line { file: \"F\", request: Alone(Run(Running { seed: None, times: Some(20) })) }
 autolock replay F H => Line { file: \"F\", request: Beside(Replay(Judging { turns: 1000000, why: false, open: false }), \"H\") }
 autolock replay F --turns 7 H => Line { file: \"F\", request: Beside(Replay(Judging { turns: 7, why: false, open: false }), \"H\") }
 autolock replay --why F H => Line { file: \"F\", request: Beside(Replay(Judging { turns: 1000000, why: true, open: false }), \"H\") }
@@ -93,6 +102,7 @@ autolock check --turns 3 F => UnknownArgument
 autolock check F G => UnknownArgument
 autolock explain => MissingRequiredArgument
 autolock explain F G => UnknownArgument
+autolock explain --color red F => ValueValidation
 autolock order => MissingRequiredArgument
 autolock order F G => UnknownArgument
 autolock serial => MissingRequiredArgument
@@ -103,6 +113,8 @@ autolock outcomes F G => UnknownArgument
 autolock outcomes --count 1000000001 F => ValueValidation
 autolock run => MissingRequiredArgument
 autolock run --turns 3 F => UnknownArgument
+autolock run --times 0 F => ValueValidation
+autolock run --times 1000001 F => ValueValidation
 autolock trace F => MissingRequiredArgument
 autolock replay F => MissingRequiredArgument
 autolock replay F G H => UnknownArgument

@@ -21,7 +21,7 @@ Named word result = record {
   graph : (result ≡ Some (Engine Graph)) ↔ (word ≡ codes "graph");
   listing : (result ≡ Some (Engine (Report (report.Listing false)))) ↔ (word ≡ codes "listing");
   places : (result ≡ Some (Engine (Report (report.Listing true)))) ↔ (word ≡ codes "places");
-  serial : (turns : ℕ) → (result ≡ Some (Engine (Report (report.Serial turns)))) ↔ IsSerial word turns;
+  serial : (turns : ℕ) → (result ≡ Some (Engine (Report (report.Serial turns false)))) ↔ IsSerial word turns;
   outcomes : (result ≡ Some (Engine (Report (report.Outcomes looking)))) ↔ (word ≡ codes "outcomes");
   simulate : (steps : Bor (List ℕ)) → result ≡ Some (Engine (Simulate steps)) → IsSimulate word steps.now;
   steps : (s : List ℕ) → IsSimulate word s → (steps : Bor (List ℕ)) × (result ≡ Some (Engine (Simulate steps)));

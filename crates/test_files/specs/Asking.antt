@@ -15,4 +15,4 @@ IsSimulate word steps = word ≡ codes "simulate " ++ steps
 
 -- How orders of calls are looked at where the word is `outcomes`.
 abbrev pub looking : Looking
-looking = record { turns = 1000; count = 1000; seed = 0; cells = None; answers = false; full = false }
+looking = record { turns = 1000; count = 1000; seed = 0; cells = None; answers = false; full = false; expect = None }

@@ -14,6 +14,7 @@ const LOOKING: Looking<'static> = Looking {
     cells: None,
     answers: false,
     full: false,
+    expect: None,
 };
 
 /// An engine of the crate `driver` that is run on the text, and what is asked of its answer.
@@ -65,7 +66,7 @@ impl Asked<'_> {
         ensures graph { (result ≡ Some (Asked.Engine Engine.Graph)) ↔ (word.now ≡ codes "graph") }
         ensures listing { (result ≡ Some (Asked.Engine (Engine.Report (Report.Listing false)))) ↔ (word.now ≡ codes "listing") }
         ensures places { (result ≡ Some (Asked.Engine (Engine.Report (Report.Listing true)))) ↔ (word.now ≡ codes "places") }
-        ensures serial { (turns : ℕ) → (result ≡ Some (Asked.Engine (Engine.Report (Report.Serial turns)))) ↔ IsSerial word.now turns }
+        ensures serial { (turns : ℕ) → (result ≡ Some (Asked.Engine (Engine.Report (Report.Serial turns false)))) ↔ IsSerial word.now turns }
         ensures outcomes { (result ≡ Some (Asked.Engine (Engine.Report (Report.Outcomes looking)))) ↔ (word.now ≡ codes "outcomes") }
         ensures simulate { (steps : Bor (List ℕ)) → result ≡ Some (Asked.Engine (Engine.Simulate steps)) → IsSimulate word.now steps.now }
         ensures steps { (s : List ℕ) → IsSimulate word.now s → (steps : Bor (List ℕ)) × (result ≡ Some (Asked.Engine (Engine.Simulate steps))) }
@@ -79,7 +80,10 @@ impl Asked<'_> {
     {
         if let Some(turns) = word.strip_prefix("serial ") {
             return match turns.parse::<u64>() {
-                Ok(turns) => Some(Asked::Engine(Engine::Report(Report::Serial { turns }))),
+                Ok(turns) => Some(Asked::Engine(Engine::Report(Report::Serial {
+                    turns,
+                    changed: false,
+                }))),
                 Err(_) => None,
             };
         }

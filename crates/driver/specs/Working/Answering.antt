@@ -1,5 +1,5 @@
 -- What this crate's functions compute of an answer. It mirrors the code: nobody has to believe it.
-use Rattle.std.specs.Prelude.{◌≡◌, ℕ, Bool, List, [], map, string_bytes, Option, Result, Ok, Err}
+use Rattle.std.specs.Prelude.{◌≡◌, ℕ, Bool, List, [], ◌++◌, map, string_bytes, Option, Result, Ok, Err}
 use Rattle.code.specs.Listing.{line}
 use Rattle.compiler.specs.Programs.{Accepts}
 use Rattle.core_lang.specs.declared.typed.Typed.{Typed}
@@ -17,6 +17,7 @@ use Rattle.source.specs.Faults.{fault_text}
 use Rattle.source_steps.specs.declared.refusal.StepsFault.{StepsFault}
 use Rattle.source_steps.specs.Steps.{steps_fault_text}
 use Rattle.rope.specs.Working.Ropes.{rope_text}
+use Rattle.driver_words.specs.declared.line.Color.{Color}
 use Rattle.driver.specs.declared.answer.Answer.{Answer}
 use Rattle.driver.specs.declared.status.Status.{Status}
 use Rattle.driver.specs.declared.status.Status.TheVariants.{Done, Refused, BadInput}
@@ -24,7 +25,9 @@ use Rattle.driver.specs.Answers.{IsRefused}
 use Rattle.driver.specs.Checks.{IsCheckReport}
 use Rattle.driver.specs.Explanations.{acceptance_told, fault_told}
 use Rattle.driver.specs.Listings.{IsListed}
-use Rattle.driver.specs.Outcomes.{IsLookedAt}
+use Rattle.driver.specs.declared.exploring.Expected as exploring
+use Rattle.driver.specs.Outcomes.{IsLookedAt, Expected, breach_of, judged, ended_by}
+use Rattle.expectations.specs.Texts.{said_of}
 use Rattle.driver.specs.Replays.{IsReplayed, verdict_status, judgement_text}
 use Rattle.driver.specs.Serial.{IsRun}
 use Rattle.driver.specs.Simulations.{IsSimulated}
@@ -44,21 +47,23 @@ IsMessage status message answer =
     (answer.status ≡ status) × (rope_text answer.out ≡ []) × (string_bytes answer.err ≡ message)
 
 -- what explains a fault, and what tells of a program without one, of values of the code
-abbrev pub fault_told_of : Bool → Explanation → List ℕ
-fault_told_of json x = fault_told json x.file.now x.text.now x.fault.now (map note_of x.notes.now) (further_of x.further.now)
+abbrev pub fault_told_of : Bool → Color → Explanation → List ℕ
+fault_told_of json color x =
+    fault_told json color x.file.now x.text.now x.fault.now (map note_of x.notes.now) (further_of x.further.now)
 
-abbrev pub acceptance_told_of : Bool → Acceptance → List ℕ
-acceptance_told_of json x = acceptance_told json x.file.now x.text.now (map note_of x.notes.now) (map warning_of x.warnings.now)
+abbrev pub acceptance_told_of : Bool → Color → Acceptance → List ℕ
+acceptance_told_of json color x =
+    acceptance_told json color x.file.now x.text.now (map note_of x.notes.now) (map warning_of x.warnings.now)
 
 -- to a fault that is explained
-abbrev pub IsExplainedAnswer : Bool → Explanation → Answer → Type 0
-IsExplainedAnswer json explanation answer =
-    (answer.status ≡ Refused) × (rope_text answer.out ≡ fault_told_of json explanation) × (string_bytes answer.err ≡ [])
+abbrev pub IsExplainedAnswer : Bool → Color → Explanation → Answer → Type 0
+IsExplainedAnswer json color explanation answer =
+    (answer.status ≡ Refused) × (rope_text answer.out ≡ fault_told_of json color explanation) × (string_bytes answer.err ≡ [])
 
 -- to a program without one
-abbrev pub IsAcceptedAnswer : Bool → Acceptance → Answer → Type 0
-IsAcceptedAnswer json acceptance answer =
-    (answer.status ≡ Done) × (rope_text answer.out ≡ acceptance_told_of json acceptance) × (string_bytes answer.err ≡ [])
+abbrev pub IsAcceptedAnswer : Bool → Color → Acceptance → Answer → Type 0
+IsAcceptedAnswer json color acceptance answer =
+    (answer.status ≡ Done) × (rope_text answer.out ≡ acceptance_told_of json color acceptance) × (string_bytes answer.err ≡ [])
 
 -- to a judgement on these lines
 abbrev pub IsJudgementAnswer : Bool → Judgement → List (List ℕ) → Answer → Type 0
@@ -66,10 +71,16 @@ IsJudgementAnswer why judgement lines answer =
     (answer.status ≡ verdict_status judgement.verdict)
     × (rope_text answer.out ≡ judgement_text why judgement.verdict judgement.wanted lines) × (string_bytes answer.err ≡ [])
 
--- to ends of all orders, or of some that were drawn
-abbrev pub IsToldAnswer : Typed → Asked → Bool → Option ℕ → List Told → Answer → Type 0
-IsToldAnswer program asked full states ends answer =
-    (answer.status ≡ Done) × (rope_text answer.out ≡ outcomes_text program asked full states ends) × (string_bytes answer.err ≡ [])
+-- what is expected, of values of the code
+abbrev pub expected_of : exploring.Expected → Expected
+expected_of e = record { text = e.text.now; said = said_of e.expectation; comparison = e.comparison }
+
+-- to ends of all orders, or of some that were drawn, with what is expected of them
+abbrev pub IsToldAnswer : Typed → Asked → Bool → Option ℕ → List Told → Option Expected → Answer → Type 0
+IsToldAnswer program asked full states ends expected answer =
+    (answer.status ≡ ended_by (breach_of expected asked ends))
+    × (rope_text answer.out ≡ outcomes_text program asked full states ends ++ judged program expected asked states ends)
+    × (string_bytes answer.err ≡ [])
 
 -- a text was accepted, or this is the answer to its fault
 abbrev pub IsAccepted : List ℕ → List ℕ → Result Plan Answer → Type 0

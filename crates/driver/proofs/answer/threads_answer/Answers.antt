@@ -5,4 +5,4 @@ use Rattle.driver.proofs.answer.threads_answer.Goals as goal
 pub returns-in-Ok : goal.returns-in-Ok
 returns-in-Ok g c =
     let is = rw c.in-Ok.is at c.in_ok-program.ensures in
-    IfOk-weaker c.run_by_threads.result _ _ (λ answer answers. accepted c.in-Ok.program is.0 is.1 answers) c.run_by_threads.ensures
+    IfOk-weaker c.answer.result _ _ (λ answer answers. accepted c.in-Ok.program is.0 is.1 answers) c.answer.ensures

@@ -9,6 +9,7 @@ pub returns : goal.returns
 returns c = graphs.cyclic (record {
   fault = c.args.found.now.fault;
   given = c.requires.first;
+  accepted = c.args.found.now.trees.accepted;
   program = program_of c.args.found.now.trees;
   meant = c.requires.program;
   of_order = c.requires.told;

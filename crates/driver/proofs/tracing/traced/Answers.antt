@@ -13,6 +13,6 @@ returns c = answer.traced (record {
   headline = search rules;
   ended = c.done.ensures.ended;
   written = c.done.ensures.written ∙ ap rope_text c.of.ensures ∙ c.in_ok-out.ensures
-      ∙ ap (λ (ts : List Turn). trace_text c.args.trace.now.text.now c.args.trace.now.program.now c.args.trace.now.moves (steps_of ts)) c.deref.ensures.value;
+      ∙ ap (λ (ts : List Turn). trace_text c.args.trace.now.text.now c.args.trace.now.program.now c.args.trace.now.moves c.args.trace.now.all (steps_of ts)) c.deref.ensures.value;
   told = c.done.ensures.told;
 })

@@ -1,8 +1,9 @@
-use Rattle.std.proofs.lemmas.Result.{IfOk-weaker}
-use Rattle.driver_words.proofs.CommandLemmas.{arg_is}
+use Rattle.std.specs.Prelude.{codes}
+use Rattle.driver_words.specs.Commands.{with_file, with_json}
+use Rattle.driver_words.proofs.CommandLemmas.{added}
 use Rattle.driver_words.proofs.command.explain_command.Goals as goal
 
 pub returns : goal.returns
 returns c =
-    IfOk-weaker c.arg.result _ _
-    (λ r adds. arg_is _ _ _ _ _ c.in_ok-operand_command.ensures c.flag_argument.ensures.rule c.flag_argument.ensures.local adds) c.arg.ensures
+    let one = added _ _ _ _ (with_file (codes "explain")) c.with_argument-command.ensures c.flag_argument.ensures.rule c.operand_command-command.ensures in
+    added _ _ _ _ (with_json (with_file (codes "explain"))) c.with_argument.ensures c.color_argument.ensures.rule one

@@ -1,25 +1,14 @@
-use Rattle.std.proofs.Common.{subst}
-use Rattle.std.specs.Prelude.{codes, IfOk}
-use Rattle.clap.specs.Words.{Rule, with_rule}
-use Rattle.driver_words.specs.Commands.{IsCommand, with_file, with_answers, with_cells, with_count, with_seed, with_turns}
+use Rattle.std.specs.Prelude.{codes}
+use Rattle.driver_words.specs.Commands.{with_file, with_answers, with_cells, with_count, with_full, with_seed, with_turns}
+use Rattle.driver_words.proofs.CommandLemmas.{added}
 use Rattle.driver_words.proofs.command.outcomes_command.Goals as goal
 
 pub returns : goal.returns
 returns c =
-    let file = with_file (codes "outcomes") in
-    let count = subst (λ (r : Rule). IfOk c.with_argument-command.result (IsCommand (with_rule file r)))
-    c.count_argument.ensures.rule (c.with_argument-command.ensures file c.file_command-command.ensures) in
-    let with_one = with_count file in
-    let seed = subst (λ (r : Rule). IfOk c.with_argument-command-2.result (IsCommand (with_rule with_one r)))
-    c.seed_argument.ensures.rule (c.with_argument-command-2.ensures with_one count) in
-    let with_two = with_seed with_one in
-    let turns = subst (λ (r : Rule). IfOk c.with_argument-command-3.result (IsCommand (with_rule with_two r)))
-    c.turns_argument.ensures.rule (c.with_argument-command-3.ensures with_two seed) in
-    let with_three = with_turns with_two in
-    let cells = subst (λ (r : Rule). IfOk c.with_argument-command-4.result (IsCommand (with_rule with_three r)))
-    c.cells_argument.ensures.rule (c.with_argument-command-4.ensures with_three turns) in
-    let with_four = with_cells with_three in
-    let answers = subst (λ (r : Rule). IfOk c.with_argument-command-5.result (IsCommand (with_rule with_four r)))
-    c.flag_argument.ensures.rule (c.with_argument-command-5.ensures with_four cells) in
-    subst (λ (r : Rule). IfOk c.with_argument.result (IsCommand (with_rule (with_answers with_four) r)))
-    c.flag_argument-2.ensures.rule (c.with_argument.ensures (with_answers with_four) answers)
+    let one = added _ _ _ _ (with_file (codes "outcomes")) c.with_argument-command.ensures c.count_argument.ensures.rule c.file_command-command.ensures in
+    let two = added _ _ _ _ (with_count (with_file (codes "outcomes"))) c.with_argument-command-2.ensures c.seed_argument.ensures.rule one in
+    let three = added _ _ _ _ (with_seed (with_count (with_file (codes "outcomes")))) c.with_argument-command-3.ensures c.turns_argument.ensures.rule two in
+    let four = added _ _ _ _ (with_turns (with_seed (with_count (with_file (codes "outcomes"))))) c.with_argument-command-4.ensures c.cells_argument.ensures.rule three in
+    let five = added _ _ _ _ (with_cells (with_turns (with_seed (with_count (with_file (codes "outcomes")))))) c.with_argument-command-5.ensures c.flag_argument.ensures.rule four in
+    let six = added _ _ _ _ (with_answers (with_cells (with_turns (with_seed (with_count (with_file (codes "outcomes"))))))) c.with_argument-command-6.ensures c.flag_argument-2.ensures.rule five in
+    added _ _ _ _ (with_full (with_answers (with_cells (with_turns (with_seed (with_count (with_file (codes "outcomes")))))))) c.with_argument.ensures c.expect_argument.ensures.rule six

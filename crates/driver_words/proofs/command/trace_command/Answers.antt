@@ -1,12 +1,10 @@
-use Rattle.std.proofs.Common.{subst}
-use Rattle.std.specs.Prelude.{codes, IfOk}
-use Rattle.clap.specs.Words.{Rule, with_rule}
-use Rattle.driver_words.specs.Commands.{IsCommand, with_file, with_steps}
+use Rattle.std.specs.Prelude.{codes}
+use Rattle.driver_words.specs.Commands.{with_file, with_sections, with_steps}
+use Rattle.driver_words.proofs.CommandLemmas.{added}
 use Rattle.driver_words.proofs.command.trace_command.Goals as goal
 
 pub returns : goal.returns
 returns c =
-    let steps = subst (λ (r : Rule). IfOk c.with_argument-command.result (IsCommand (with_rule (with_file (codes "trace")) r)))
-    c.steps_argument.ensures.rule (c.with_argument-command.ensures (with_file (codes "trace")) c.file_command-command.ensures) in
-    subst (λ (r : Rule). IfOk c.with_argument.result (IsCommand (with_rule (with_steps (with_file (codes "trace"))) r)))
-    c.flag_argument.ensures.rule (c.with_argument.ensures (with_steps (with_file (codes "trace"))) steps)
+    let one = added _ _ _ _ (with_file (codes "trace")) c.with_argument-command.ensures c.steps_argument.ensures.rule c.file_command-command.ensures in
+    let two = added _ _ _ _ (with_steps (with_file (codes "trace"))) c.with_argument-command-2.ensures c.flag_argument.ensures.rule one in
+    added _ _ _ _ (with_sections (with_steps (with_file (codes "trace")))) c.with_argument.ensures c.flag_argument-2.ensures.rule two
