@@ -18,9 +18,10 @@ use Rattle.core_lang.specs.Serial.{Ended, SerialFromOpening}
 use Rattle.core_lang.specs.WellFormed.{calls_together}
 use Rattle.outcomes.specs.declared.search.Search.{Search}
 use Rattle.outcomes.specs.declared.search.Work.{Work}
-use Rattle.outcomes.specs.Working.Steps.{GoesOn, made_from_all}
+use Rattle.outcomes.specs.Working.Steps.{GoesOn, Growth}
 use Rattle.outcomes.specs.Orders.{none_done, orders_of, calls_in}
 use Rattle.outcomes.specs.Ends.{done_after, end_in, Configuration, AreAllConfigurations, HasConfigurations}
+use Rattle.outcomes.specs.Ends.{LeadsTo, HasSomeConfigurations}
 use Rattle.outcomes.specs.Working.States.{Reached, left_with, at, nowhere}
 use Rattle.outcomes.specs.Working.Searching.{Leads, Summand, order_at, IsGood, AreGood, weight, total}
 use Rattle.outcomes.proofs.Leading.{leads_serially, leads_made}
@@ -31,13 +32,13 @@ use Rattle.outcomes.specs.Theory.Done.{sums}
 
 -- ---- a layer has all configurations of its depth
 
-same_counts : List ℕ → List ℕ → Bool
+pub same_counts : List ℕ → List ℕ → Bool
 same_counts [] [] = true
 same_counts [] (y ∷ ys) = false
 same_counts (x ∷ xs) [] = false
 same_counts (x ∷ xs) (y ∷ ys) = cond (nat_eq x y) (same_counts xs ys) false
 
-counts_are : (xs ys : List ℕ) → same_counts xs ys ≡ true → xs ≡ ys
+pub counts_are : (xs ys : List ℕ) → same_counts xs ys ≡ true → xs ≡ ys
 unfolding same_counts
 counts_are [] [] same = refl
 counts_are [] (y ∷ ys) same = cc
@@ -46,19 +47,19 @@ counts_are (x ∷ xs) (y ∷ ys) same =
     let both = both_true (nat_eq x y) (same_counts xs ys) same in
     ap (λ z. z ∷ xs) ((Decides-eqb x y).0 both.0) ∙ ap (λ zs. y ∷ zs) (counts_are xs ys both.1)
 
-counts_same : (xs : List ℕ) → same_counts xs xs ≡ true
+pub counts_same : (xs : List ℕ) → same_counts xs xs ≡ true
 unfolding same_counts
 counts_same [] = refl
 counts_same (x ∷ xs) = ap (λ b. cond b (same_counts xs xs) false) ((Decides-eqb x x).1 refl) ∙ counts_same xs
 
 -- the sum over a layer's states of those that pass a test
-passing : (List ℕ → Option Left → Bool) → Reached → ℕ
+unfoldable pub passing : (List ℕ → Option Left → Bool) → Reached → ℕ
 passing test s = cond (test s.done (Some s.left)) s.orders 0
 
-tested : (List ℕ → Option Left → Bool) → Summand
+unfoldable pub tested : (List ℕ → Option Left → Bool) → Summand
 tested test d o = cond (test d o) 1 0
 
-total_here : (program : Typed) (n : ℕ) (test : List ℕ → Option Left → Bool) (layer : List Reached) →
+pub total_here : (program : Typed) (n : ℕ) (test : List ℕ → Option Left → Bool) (layer : List Reached) →
     total program n (tested test) 0 layer ≡ sum_by (passing test) layer
 unfolding passing tested
 total_here program n test [] = refl
@@ -67,7 +68,7 @@ total_here program n test (s ∷ layer) =
     sum_by-cons g s layer ∙ ap (λ x. x + sum_by g layer) (counted (test s.done (Some s.left)) s.orders)
     ∙ ap (λ x. passing test s + x) (total_here program n test layer) ∙ sym (sum_by-cons (passing test) s layer)
 
-none_pass : (test : List ℕ → Option Left → Bool) (layer : List Reached) →
+pub none_pass : (test : List ℕ → Option Left → Bool) (layer : List Reached) →
     ((d : List ℕ) (heap : Left) → test d (Some heap) ≡ false) →
     sum_by (passing test) layer ≡ 0
 unfolding passing
@@ -88,10 +89,10 @@ order_passes program n answers depth test order there passes =
     let one : p (get_or (orders_of program depth (none_done program)) there.0 order) ≡ 1 = ap p there.2 ∙ ap (λ (b : Bool). cond b 1 0) passes in
     omega (arith, most, one)
 
-unsettled : List ℕ → Option Left → Bool
+unfoldable pub unsettled : List ℕ → Option Left → Bool
 unsettled d o = unsettled_end o
 
-ends_at : List ℕ → Left → List ℕ → Option Left → Bool
+unfoldable pub ends_at : List ℕ → Left → List ℕ → Option Left → Bool
 ends_at done heap d o = cond (same_counts d done) (ends_as heap o) false
 
 -- what the calls of an order leave
@@ -136,19 +137,26 @@ unfoldable pub IsLedBelow : Typed → ℕ → Bool → ℕ → Configuration →
 IsLedBelow program n answers depth configuration =
     (order : List ℕ) × (length order < depth) × Leads program n (none_done program) (opening_left program answers) order configuration.done configuration.left
 
--- the configurations that orders of fewer than so many calls lead to, each once
-pub record AreConfigurationsBelow (program : Typed) (n : ℕ) (answers : Bool) (depth : ℕ) (configurations : List Configuration) : Type 0 where
+-- so do they to each of these, and no two are alike
+pub record AreLedBelow (program : Typed) (n : ℕ) (answers : Bool) (depth : ℕ) (configurations : List Configuration) : Type 0 where
   pub each : All (IsLedBelow program n answers depth) configurations
   pub apart : AllPairs (λ (a b : Configuration). a ≢ b) configurations
+
+-- the configurations that orders of fewer than so many calls lead to, each once
+pub record AreConfigurationsBelow (program : Typed) (n : ℕ) (answers : Bool) (depth : ℕ) (configurations : List Configuration) : Type 0 where
+  pub led : AreLedBelow program n answers depth configurations
   pub all : (order : List ℕ) (ends : List Ended) (heap : List Value) → length order < depth →
       length (calls_in program order) ≡ length order →
       SerialFromOpening program (calls_in program order) ends heap → Contains configurations (record { done = done_after (none_done program) order; left = left_in program answers order ends heap })
 
+pub none_led : (program : Typed) (n : ℕ) (answers : Bool) → AreLedBelow program n answers 0 []
+none_led program n answers =
+    record { each = λ k d within. absurd (omega arith); apart = λ j k d below within. absurd (omega arith) }
+
 pub no_places : (program : Typed) (n : ℕ) (answers : Bool) → AreConfigurationsBelow program n answers 0 []
 no_places program n answers =
     record {
-      each = λ k d within. absurd (omega arith);
-      apart = λ j k d below within. absurd (omega arith);
+      led = none_led program n answers;
       all = λ order ends heap short. absurd (omega arith);
     }
 
@@ -211,7 +219,7 @@ layer_apart program n answers depth trail layer good j k d below within same =
     good.apart j k below inside (ap (λ (p : Configuration). p.done) is, ap (λ (p : Configuration). p.left) is)
 
 both_apart : (program : Typed) (n : ℕ) (answers : Bool) (depth : ℕ) (trail : List (List ℕ)) (layer : List Reached) (configurations : List Configuration) → AreGood program n depth (opening_left program answers) trail layer →
-    AreConfigurationsBelow program n answers depth configurations → AllPairs (λ (a b : Configuration). a ≢ b) (configurations ++ map configuration_of layer)
+    AreLedBelow program n answers depth configurations → AllPairs (λ (a b : Configuration). a ≢ b) (configurations ++ map configuration_of layer)
 both_apart program n answers depth trail layer configurations good before j k d below within same =
     let ys = map configuration_of layer in
     let early : j < length (configurations ++ ys) = omega arith in
@@ -235,6 +243,17 @@ configuration_at done left = record { done = done; left = left }
 place_is : (a b : List ℕ) (c d : Left) → a ≡ b → c ≡ d → configuration_at a c ≡ configuration_at b d
 place_is a b c d first second = ap (λ (x : List ℕ). configuration_at x c) first ∙ ap (configuration_at b) second
 
+-- with those of a layer
+pub led_more : (program : Typed) (n : ℕ) (answers : Bool) (depth : ℕ) (trail : List (List ℕ)) (layer : List Reached) (configurations : List Configuration) →
+    AreGood program n depth (opening_left program answers) trail layer →
+    AreLedBelow program n answers depth configurations → AreLedBelow program n answers (depth + 1) (configurations ++ map configuration_of layer)
+led_more program n answers depth trail layer configurations good before =
+    record {
+      each = All-append (IsLedBelow program n answers (depth + 1)) configurations (map configuration_of layer) (led_further program n answers depth configurations before.each)
+          (layer_led program n answers depth trail layer good);
+      apart = both_apart program n answers depth trail layer configurations good before;
+    }
+
 pub places_more : SettledAreSerial → HaveAtMostOneSerial →
     (program : Typed) (n : ℕ) (answers : Bool) (depth : ℕ) (trail : List (List ℕ)) (layer : List Reached) (configurations : List Configuration) →
     AreGood program n depth (opening_left program answers) trail layer →
@@ -242,9 +261,7 @@ pub places_more : SettledAreSerial → HaveAtMostOneSerial →
     AreConfigurationsBelow program n answers depth configurations → AreConfigurationsBelow program n answers (depth + 1) (configurations ++ map configuration_of layer)
 places_more settled once program n answers depth trail layer configurations good sums before =
     record {
-      each = All-append (IsLedBelow program n answers (depth + 1)) configurations (map configuration_of layer) (led_further program n answers depth configurations before.each)
-          (layer_led program n answers depth trail layer good);
-      apart = both_apart program n answers depth trail layer configurations good before;
+      led = led_more program n answers depth trail layer configurations good before.led;
       all = λ order ends heap short made serial. elim (less_or_not (length order) depth) [
         | inl less ↦ Contains-append_left configurations (map configuration_of layer) _ (before.all order ends heap less made serial)
         | inr not ↦ (let there = layer_has settled once program n answers depth layer sums order ends heap (omega arith) made serial in
@@ -255,24 +272,29 @@ places_more settled once program n answers depth trail layer configurations good
       ];
     }
 
+pub are_led : OverIsWhole → (program : Typed) (n : ℕ) (answers : Bool) (depth : ℕ) (configurations : List Configuration) →
+    AreLedBelow program n answers depth configurations → All (LeadsTo program answers) configurations
+unfolding IsLedBelow
+are_led law program n answers depth configurations below k d within =
+    let led = below.each k d within in
+    let configuration = get_or configurations k d in
+    let serial = leads_serially law program n (none_done program) (opening_left program answers) led.0 configuration.done configuration.left led.2 in
+    record {
+      order = led.0;
+      made = leads_made program n (none_done program) (opening_left program answers) led.0 configuration.done configuration.left led.2;
+      done = leads_done program n (none_done program) (opening_left program answers) led.0 configuration.done configuration.left led.2;
+      ends = serial.0;
+      serial = serial.1;
+      answered = serial.2;
+    }
+
 pub all_places : OverIsWhole → (program : Typed) (n : ℕ) (answers : Bool) (depth : ℕ) (configurations : List Configuration) →
     depth ≡ calls_together program.threads.items →
     AreConfigurationsBelow program n answers (depth + 1) configurations → AreAllConfigurations program answers configurations
-unfolding IsLedBelow
 all_places law program n answers depth configurations all below =
     record {
-      each = λ k d within. (let led = below.each k d within in
-          let configuration = get_or configurations k d in
-          let serial = leads_serially law program n (none_done program) (opening_left program answers) led.0 configuration.done configuration.left led.2 in
-          record {
-            order = led.0;
-            made = leads_made program n (none_done program) (opening_left program answers) led.0 configuration.done configuration.left led.2;
-            done = leads_done program n (none_done program) (opening_left program answers) led.0 configuration.done configuration.left led.2;
-            ends = serial.0;
-            serial = serial.1;
-            answered = serial.2;
-          });
-      apart = below.apart;
+      each = are_led law program n answers (depth + 1) configurations below.led;
+      apart = below.led.apart;
       all = λ configuration there. (let few = made_few program there.order there.made in
           subst (Contains configurations) (place_is _ _ _ _ there.done (both_left _ configuration.left refl (sym there.answered)))
           (below.all there.order there.ends configuration.left.cells (omega arith) there.made there.serial));
@@ -289,10 +311,22 @@ has_places law settled once program n answers depth count trail layer configurat
     let same : length ys ≡ length layer = length-map layer configuration_of in
     (configurations ++ ys, all_places law program n answers depth (configurations ++ ys) all (places_more settled once program n answers depth trail layer configurations good sums before), omega arith)
 
-pub before_more : (search : Search) (old new : Work) (configurations : List Configuration) (layer : List Reached) →
-    GoesOn search old new (made_from_all search layer) → old.next ≡ [] →
+-- so many as the states so far, where not all are known
+pub has_some_places : OverIsWhole →
+    (program : Typed) (n : ℕ) (answers : Bool) (depth count : ℕ) (trail : List (List ℕ)) (layer : List Reached) (configurations : List Configuration) →
+    AreGood program n depth (opening_left program answers) trail layer →
+    AreLedBelow program n answers depth configurations → length configurations + length layer ≡ count → HasSomeConfigurations program answers count
+has_some_places law program n answers depth count trail layer configurations good before sum =
+    let ys = map configuration_of layer in
+    let long : length (configurations ++ ys) ≡ length configurations + length ys = length-append configurations ys in
+    let same : length ys ≡ length layer = length-map layer configuration_of in
+    let all = led_more program n answers depth trail layer configurations good before in
+    (configurations ++ ys, record { each = are_led law program n answers (depth + 1) (configurations ++ ys) all; apart = all.apart }, omega arith)
+
+pub before_more : (search : Search) (old new : Work) (growth : Growth) (configurations : List Configuration) (layer : List Reached) →
+    GoesOn search old new growth → old.next ≡ [] →
     length configurations + length layer ≡ length old.trail → length (configurations ++ map configuration_of layer) + length new.next ≡ length new.trail
-before_more search old new configurations layer goes empty before =
+before_more search old new growth configurations layer goes empty before =
     let grown = goes.grown in
     let none : length old.next ≡ 0 = ap length empty in
     let long : length (configurations ++ map configuration_of layer) ≡ length configurations + length (map configuration_of layer) = length-append configurations (map configuration_of layer) in

@@ -33,7 +33,7 @@ sums_within (x ∷ xs) (y ∷ ys) long few =
     let rest = sums_within xs ys (omega arith) (λ k. few (suc k)) in let first = few 0 in omega arith
 
 -- with the same sum they are the same
-same_sums : (xs ys : List ℕ) → length xs ≡ length ys → Within xs ys → sums xs ≡ sums ys → xs ≡ ys
+pub same_sums : (xs ys : List ℕ) → length xs ≡ length ys → Within xs ys → sums xs ≡ sums ys → xs ≡ ys
 unfolding Within
 same_sums [] [] long few sum = refl
 same_sums [] (y ∷ ys) long few sum = cc
@@ -108,7 +108,7 @@ made_in_order program done (t ∷ order) made =
     (next_within program done t first.0 first.1) first.1 (made_in_order program (one_more done t) order first.2)
 
 -- what is done grows with each call, and to no more than there are
-made_fully : (program : Typed) (done order : List ℕ) → length (calls_of program done order) ≡ length order →
+pub made_fully : (program : Typed) (done order : List ℕ) → length (calls_of program done order) ≡ length order →
     length done ≡ length program.threads.items → Within done (lengths program.threads.items) →
     (length (done_after done order) ≡ length program.threads.items) × Within (done_after done order) (lengths program.threads.items)
     × (sums (done_after done order) ≡ sums done + length order)

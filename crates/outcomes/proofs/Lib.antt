@@ -9,3 +9,6 @@ pub mod Whole
 pub mod Drawn
 pub mod Configurations
 pub mod SeenEnds
+pub mod OrderParts
+pub mod Commuted
+pub mod Covering

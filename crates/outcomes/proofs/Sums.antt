@@ -11,7 +11,7 @@ use Rattle.outcomes.specs.Working.States.{Reached, at, nowhere, with_more}
 use Rattle.outcomes.specs.Working.Searching.{left_after, sum_over, weight, IsFound, IsAdded, Summand}
 
 -- where a call is over, an order that begins with it ends as the others end from there
-end_behind : (program : Typed) (n : ℕ) (done : List ℕ) (heap : Left) (t : ℕ) (call : Invocation) (finished : Finished) (order : List ℕ) →
+pub end_behind : (program : Typed) (n : ℕ) (done : List ℕ) (heap : Left) (t : ℕ) (call : Invocation) (finished : Finished) (order : List ℕ) →
     next_call program done t ≡ Some call → run_call program n call heap.cells ≡ Over finished →
     end_from program n done heap (t ∷ order) ≡ end_from program n (one_more done t) (left_after program done t finished heap) order
 end_behind program n done heap t call finished order next over =

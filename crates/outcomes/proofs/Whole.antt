@@ -28,7 +28,7 @@ use Rattle.outcomes.specs.declared.outcome.Cells.{Cells}
 use Rattle.std.specs.Option.{option_map}
 use Rattle.outcomes.specs.Working.States.{Reached, left_with, at, nowhere}
 use Rattle.outcomes.specs.Working.Searching.{order_at, IsGood, AreGood, weight, total, as_told, Summand}
-use Rattle.outcomes.specs.Working.Steps.{GoesOn, made_from_all, opening_state, IsBeyond, HasTooMany, one}
+use Rattle.outcomes.specs.Working.Steps.{GoesOn, Growth, made_from_all, opening_state, IsBeyond, HasTooMany, one}
 use Rattle.outcomes.specs.Working.Steps.{start_of, IsEnd, AreEnds, AreEndsOfStates, AreToldOfStates}
 use Rattle.outcomes.proofs.Leading.{leads_in_order, leads_serially, leads_made}
 use Rattle.outcomes.proofs.Full.{full, leads_done}
@@ -100,9 +100,9 @@ sums_of_more search old new layer depth goes empty sums f left =
     ∙ sums f (suc left)
     ∙ ap (λ (k : ℕ). weight search.program.now search.turns f k (none_done search.program.now) (start_of search)) (one_made depth left)
 
-pub good_of_more : (search : Search) (old new : Work) (layer : List Reached) (depth : ℕ) →
-    GoesOn search old new (made_from_all search layer) → old.depth ≡ depth → AreGood search.program.now search.turns (depth + 1) (start_of search) new.trail new.next
-good_of_more search old new layer depth goes is =
+pub good_of_more : (search : Search) (old new : Work) (growth : Growth) (depth : ℕ) →
+    GoesOn search old new growth → old.depth ≡ depth → AreGood search.program.now search.turns (depth + 1) (start_of search) new.trail new.next
+good_of_more search old new growth depth goes is =
     let same : suc new.depth ≡ depth + 1 = (let d : new.depth ≡ old.depth = goes.depth in omega (arith, d, is)) in
     subst (λ (k : ℕ). AreGood search.program.now search.turns k (start_of search) new.trail new.next) same goes.work.states
 

@@ -95,6 +95,11 @@ told_count test told = sum_by (λ (e : Told). if test (Some e.left) then e.count
 abbrev pub IsEndOf : Typed → Asked → Told → Type 0
 IsEndOf program asked e = (left : Left) × EndsIn program asked.answers e.order left × (e.left ≡ seen asked.cells left)
 
+-- whatever order the calls are run in, its end is told
+abbrev pub TellsEveryEnd : Typed → Asked → List Told → Type 0
+TellsEveryEnd program asked told =
+    (order : List ℕ) (left : Left) → EndsIn program asked.answers order left → Any (λ (e : Told). e.left ≡ seen asked.cells left) told
+
 -- the ends of all orders, each once, and after how many orders
 pub record AreAllEnds (program : Typed) (n : ℕ) (asked : Asked) (told : List Told) : Type 0 where
   -- each is the end of the order that is told with it
@@ -106,8 +111,24 @@ pub record AreAllEnds (program : Typed) (n : ℕ) (asked : Asked) (told : List T
       count_by (λ (order : List ℕ). test (option_map (seen asked.cells) (end_in program n asked.answers order))) (orders program)
       ≡ told_count test told
   -- and whatever order the calls are run in, its end is among them
-  pub all : (order : List ℕ) (left : Left) → EndsIn program asked.answers order left →
-      Any (λ (e : Told). e.left ≡ seen asked.cells left) told
+  pub all : TellsEveryEnd program asked told
+
+-- the turns settle an order's calls, and its end is told
+pub record IsTold (program : Typed) (n : ℕ) (asked : Asked) (told : List Told) (order : List ℕ) : Type 0 where
+  pub left : Left
+  pub end : end_in program n asked.answers order ≡ Some left
+  pub there : Any (λ (e : Told). e.left ≡ seen asked.cells left) told
+
+-- the ends of all orders, each once, where those stand for all that were looked at
+pub record AreEndsOfAll (program : Typed) (n : ℕ) (asked : Asked) (told : List Told) : Type 0 where
+  -- each is the end of the order that is told with it
+  pub each : All (IsEndOf program asked) told
+  -- no two are alike
+  pub apart : AllPairs (λ (a b : Told). a.left ≢ b.left) told
+  -- the turns settle the calls of every order, and its end is among them
+  pub settled : (order : List ℕ) → Contains (orders program) order → IsTold program n asked told order
+  -- and whatever order the calls are run in, its end is among them
+  pub all : TellsEveryEnd program asked told
 
 -- the ends of orders that were drawn, where there are more than are looked at
 pub record AreDrawnEnds (program : Typed) (most : ℕ) (asked : Asked) (told : List Told) : Type 0 where
@@ -162,9 +183,22 @@ abbrev pub HasConfigurations : Typed → Bool → ℕ → Type 0
 HasConfigurations program answers count =
     (configurations : List Configuration) × AreAllConfigurations program answers configurations × (length configurations ≡ count)
 
--- what is found: the ends of all orders, and how many configurations there are on the way; or the ends of orders that were drawn; or a call that n turns don't settle
+-- some such configurations, each once
+pub record AreConfigurations (program : Typed) (answers : Bool) (configurations : List Configuration) : Type 0 where
+  pub each : All (LeadsTo program answers) configurations
+  pub apart : AllPairs (λ (a b : Configuration). a ≢ b) configurations
+
+-- there are at least so many
+abbrev pub HasSomeConfigurations : Typed → Bool → ℕ → Type 0
+HasSomeConfigurations program answers count =
+    (configurations : List Configuration) × AreConfigurations program answers configurations × (length configurations ≡ count)
+
+-- what is found: the ends of all orders, and how many configurations there are on the way; or the same, where those stand for all
+-- orders that were looked at, and how many configurations there are on their way; or the ends of orders that were drawn; or a call that n turns don't settle
 abbrev pub Finds : Typed → ℕ → ℕ → Asked → Found → Type 0
 Finds program n most asked (found.All ends configurations) =
     AreAllEnds program n asked (map told_of ends.items) × HasConfigurations program asked.answers configurations
+Finds program n most asked (found.Reduced ends configurations) =
+    AreEndsOfAll program n asked (map told_of ends.items) × HasSomeConfigurations program asked.answers configurations
 Finds program n most asked (found.Drawn ends) = AreDrawnEnds program most asked (map told_of ends.items)
 Finds program n most asked (found.Unsettled order thread) = StopsAfter program n order.items thread

@@ -6,4 +6,5 @@ pub mod States
 pub mod Tables
 pub mod Searching
 pub mod Steps
+pub mod Reducing
 pub mod Drawing

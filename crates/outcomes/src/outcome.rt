@@ -46,6 +46,14 @@ pub enum Found {
         /// and, where ends are told apart by that, how the calls ended.
         configurations: usize,
     },
+    /// There are more orders than are looked at, and some of them, which were looked at, stand for all: calls that touch no
+    /// cell in common were made in one order alone.
+    Reduced {
+        /// How the cells can end, over all orders.
+        ends: Vec<Outcome>,
+        /// How many configurations the orders come by that were looked at.
+        configurations: usize,
+    },
     /// How they end after orders that were drawn, since there are more than are looked at.
     Drawn(Vec<Outcome>),
     /// After the calls of an order, the turns don't settle the next call of a thread.

@@ -11,6 +11,7 @@ ghost use Rattle.outcomes.specs.Working.Drawing.{calls_of_thread};
 ghost use Rattle.outcomes.specs.Working.Steps.{CanSearch, FindsOrHasMore, Leaves, Puts, IsNext, IsAtWork, IsReached, AreReached, Steps, made_by, made_from, made_from_all, opening_state, FirstsAre};
 ghost use Rattle.outcomes.specs.Ends.{Finds, told_of, no_answers, answered};
 ghost use Rattle.outcomes.specs.Working.Searching.{as_told};
+ghost use Rattle.outcomes.specs.Working.Reducing.{FindsIfAny};
 
 use crate::layer::Layer;
 use crate::outcome::{Asked, Found, Outcome};
@@ -202,7 +203,7 @@ impl Search<'_> {
     }
 
     /// Makes the next call of a thread, if it has one left, and puts where it leads among the states.
-    fn step(
+    pub(crate) fn step(
         &self,
         alloc: Global,
         work: &mut Work,
@@ -274,6 +275,14 @@ impl Search<'_> {
     }
 }
 
+/// Whether these are all the same.
+fn are_one(groups: &[usize]) -> bool {
+    match groups.first() {
+        Some(first) => groups.iter().all(|group| group == first),
+        None => true,
+    }
+}
+
 /// These answers with one in its place; none, where they have no place for it.
 pub(crate) fn answered(
     alloc: Global,
@@ -336,7 +345,7 @@ impl Search<'_> {
     }
 
     /// The state where no call is done.
-    fn opening(&self, alloc: Global, heap: &Heap) -> Result<Layer, NoMemory>
+    pub(crate) fn opening(&self, alloc: Global, heap: &Heap) -> Result<Layer, NoMemory>
         requires search { CanSearch self.now }
         requires heap { heap.now ≡ opening_heap self.now.program.now }
         ensures { IfOk result (λ layer. layer ≡ opening_state self.now ∷ []) }
@@ -389,8 +398,22 @@ impl Search<'_> {
         }))
     }
 
-    /// How the cells can end, over all orders, if there are at most as many as are looked at; else over so many that are
-    /// drawn, from the seed. Which are drawn no clause says.
+    /// The same by orders that stand for all, where some calls commute.
+    ///
+    /// Where all threads are in one group, these are the orders that there are too many of.
+    fn by_groups(&self, alloc: Global) -> Result<Option<Found>, NoMemory>
+        requires { CanSearch self.now }
+        ensures { IfOk result (FindsIfAny self.now) }
+    {
+        let groups = independence::groups::groups(alloc, self.program, self.prepared.written())?;
+        if are_one(&groups) {
+            return Ok(None);
+        }
+        self.reduced(alloc, &groups)
+    }
+
+    /// How the cells can end, over all orders, if they, or some that stand for them, are at most as many as are looked at;
+    /// else over so many that are drawn, from the seed. Which are drawn no clause says.
     ///
     /// # Errors
     ///
@@ -399,7 +422,10 @@ impl Search<'_> {
         requires { CanSearch self.now }
         ensures { IfOk result (Finds self.now.program.now self.now.turns self.now.most self.now.asked.now) }
     {
-        match self.all(alloc)? {
+        if let Some(found) = self.all(alloc)? {
+            return Ok(found);
+        }
+        match self.by_groups(alloc)? {
             Some(found) => Ok(found),
             None => self.drawn(alloc, seed),
         }

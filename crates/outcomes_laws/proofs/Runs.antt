@@ -120,7 +120,7 @@ at_the_end plan steps headline =
     subst (λ (xs : List ℕ). HeldCellsAre plan (final plan xs)) (take_all (length steps) steps (omega arith)) (headline.held_cells (length steps))
 
 pub told_so : EveryRunHasIt → EveryEndIsTold
-told_so law plan steps turns asked told compiled ended ends =
+told_so law plan steps asked told compiled ended ends =
     let headline = law plan steps compiled in
     let w = final plan steps in
     let program = plan.accepted in
@@ -137,7 +137,7 @@ told_so law plan steps turns asked told compiled ended ends =
       calls = is.calls;
       answers = headline.results_and_prints;
       cells = holds_heap plan w headline.heap compiled (at_the_end plan steps headline) headline.free_cells ended headline.all_cells;
-      end = ends.all (order_of w.history) (left_by plan asked.answers w.history headline.heap) (record {
+      end = ends (order_of w.history) (left_by plan asked.answers w.history headline.heap) (record {
         is_order = order;
         ends = map answer_of w.history;
         serial = subst (λ (cs : List Invocation). SerialFromOpening program cs (map answer_of w.history) headline.heap) (sym is.calls) headline.results_and_prints;

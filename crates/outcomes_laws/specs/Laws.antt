@@ -5,7 +5,7 @@ use Rattle.core_lang.specs.Serial.{SerialFromOpening}
 use Rattle.history.specs.Commits.{Commit, call_of, answer_of}
 use Rattle.lowering.specs.Plans.{Plan, IsCompiled}
 use Rattle.outcomes.specs.declared.outcome.Asked.{Asked}
-use Rattle.outcomes.specs.Ends.{Left, Told, AreAllEnds, answers_after, no_answers, seen}
+use Rattle.outcomes.specs.Ends.{Left, Told, TellsEveryEnd, answers_after, no_answers, seen}
 use Rattle.outcomes.specs.Orders.{orders, calls_in, none_done}
 use Rattle.worlds.specs.Worlds.{World, ThreadState, Activation, HasOpen, call_at, final}
 
@@ -42,9 +42,8 @@ pub record IsAmongTold (plan : Plan) (w : World) (asked : Asked) (told : List To
   pub cells : HoldsHeap plan w heap
   pub end : Any (λ (e : Told). e.left ≡ seen asked.cells (left_by plan asked.answers w.history heap)) told
 
--- so it is after every list of steps with which all calls have ended, whatever the turns for which all ends are told, and whatever they
--- are told apart by
+-- so it is after every list of steps with which all calls have ended, where every end is told, whatever they are told apart by
 abbrev pub EveryEndIsTold : Type 0
 EveryEndIsTold =
-    (plan : Plan) (steps : List ℕ) (turns : ℕ) (asked : Asked) (told : List Told) → IsCompiled plan →
-    AllHaveEnded plan (final plan steps) → AreAllEnds plan.accepted turns asked told → IsAmongTold plan (final plan steps) asked told
+    (plan : Plan) (steps : List ℕ) (asked : Asked) (told : List Told) → IsCompiled plan →
+    AllHaveEnded plan (final plan steps) → TellsEveryEnd plan.accepted asked told → IsAmongTold plan (final plan steps) asked told

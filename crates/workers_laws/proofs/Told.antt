@@ -20,10 +20,10 @@ same_calls (x ∷ xs) (y ∷ ys) same =
     ap (λ (s : Scheduled). s.call ∷ map call_of xs) first ∙ ap (λ (cs : List Invocation). call_of y ∷ cs) (same_calls xs ys rest)
 
 pub are_told : HaveAtMostOneSerial → ClosedRunsAreSimulated → EveryEndIsTold → ClosedEndsAreTold
-are_told one are_simulated every plan log values n asked told ok history accepted all ends =
+are_told one are_simulated every plan log values asked told ok history accepted all ends =
     let is = are_simulated plan log values ok history all in
     let w = simulated plan is.turns in
-    let found = every plan (steps_of is.turns) n asked told ok (record { none_open = is.rest.none_open; none_left = is.none_left }) ends in
+    let found = every plan (steps_of is.turns) asked told ok (record { none_open = is.rest.none_open; none_left = is.none_left }) ends in
     let calls : map call_of log ≡ map call_of w.history = sym (same_calls w.history log is.calls) in
     let again : SerialFromOpening plan.accepted (map call_of w.history) (map answer_of log) values =
     subst (λ (cs : List Invocation). SerialFromOpening plan.accepted cs (map answer_of log) values) calls accepted in

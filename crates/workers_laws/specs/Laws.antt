@@ -7,7 +7,7 @@ use Rattle.code.specs.Memory.{overwritten}
 use Rattle.history.specs.Commits.{Commit, call_of, script_call, answer_of, committed}
 use Rattle.lowering.specs.Plans.{Plan, IsCompiled}
 use Rattle.outcomes.specs.declared.outcome.Asked.{Asked}
-use Rattle.outcomes.specs.Ends.{Told, AreAllEnds, seen_cells}
+use Rattle.outcomes.specs.Ends.{Told, TellsEveryEnd, seen_cells}
 use Rattle.source_steps.specs.declared.turn.Turn.{Turn}
 use Rattle.source_steps.specs.Turns.{steps_of}
 use Rattle.worlds.specs.Claims.{AreOfScripts}
@@ -122,9 +122,9 @@ ClosedRunsAreSimulated =
     (plan : Plan) (log : List Commit) (values : List Value) → IsCompiled plan → IsHistoryOf plan log values →
     HasAllScripts plan log → IsSimulated plan log values
 
--- so what is asked for of the cells that such a run leaves is that of an end that is told, where the ends of all orders are
+-- so what is asked for of the cells that such a run leaves is that of an end that is told, where every end is
 abbrev pub ClosedEndsAreTold : Type 0
 ClosedEndsAreTold =
-    (plan : Plan) (log : List Commit) (values : List Value) (n : ℕ) (asked : Asked) (told : List Told) → IsCompiled plan →
+    (plan : Plan) (log : List Commit) (values : List Value) (asked : Asked) (told : List Told) → IsCompiled plan →
     IsHistoryOf plan log values → RunsAsAccepted plan log values → HasAllScripts plan log →
-    AreAllEnds plan.accepted n asked told → Any (λ (e : Told). e.left.cells ≡ seen_cells asked.cells values) told
+    TellsEveryEnd plan.accepted asked told → Any (λ (e : Told). e.left.cells ≡ seen_cells asked.cells values) told

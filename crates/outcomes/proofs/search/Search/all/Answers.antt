@@ -1,6 +1,6 @@
 use Rattle.std.proofs.Common.{◌≡◌, ◌∙◌, ℕ, ◌+◌, ◌-◌, [], ◌++◌, length, map, ap, sym, subst, refl, arith}
 use Rattle.core_lang.specs.WellFormed.{calls_together}
-use Rattle.outcomes.specs.Working.Steps.{start_of}
+use Rattle.outcomes.specs.Working.Steps.{start_of, made_from_all}
 use Rattle.outcomes.specs.declared.search.Work.{Work}
 use Rattle.outcomes.specs.Orders.{none_done}
 use Rattle.outcomes.specs.Working.Searching.{AreGood, order_at, weight}
@@ -48,7 +48,7 @@ loop-depth-preserved c =
       heap = goes.work.heap;
       empty = c.replace-layer.ensures.after ∙ c.new-in-loop-depth.ensures;
       layer = rw c.replace-layer.ensures.value
-          (good_of_more c.args.self.now old c.expand_all.new.work c.loop-depth.layer c.loop-depth.depth goes refl);
+          (good_of_more c.args.self.now old c.expand_all.new.work (made_from_all c.args.self.now c.loop-depth.layer) c.loop-depth.depth goes refl);
       sums = λ f left. rw c.replace-layer.ensures.value
           (sums_of_more c.args.self.now old c.expand_all.new.work c.loop-depth.layer c.loop-depth.depth goes c.loop-depth.invariant.empty
           c.loop-depth.invariant.sums f left);
@@ -58,7 +58,8 @@ loop-depth-preserved c =
             c.loop-depth.work.trail c.loop-depth.layer c.loop-depth.invariant.before.0 c.loop-depth.invariant.layer
             (λ f. c.loop-depth.invariant.sums f 0 ∙ ap (λ (k : ℕ). weight c.args.self.now.program.now c.args.self.now.turns f k (none_done c.args.self.now.program.now) (start_of c.args.self.now)) (omega arith))
             c.loop-depth.invariant.before.1,
-        before_more c.args.self.now old c.expand_all.new.work c.loop-depth.invariant.before.0 c.loop-depth.layer goes c.loop-depth.invariant.empty
+        before_more c.args.self.now old c.expand_all.new.work (made_from_all c.args.self.now c.loop-depth.layer)
+            c.loop-depth.invariant.before.0 c.loop-depth.layer goes c.loop-depth.invariant.empty
             c.loop-depth.invariant.before.2,
       );
     }

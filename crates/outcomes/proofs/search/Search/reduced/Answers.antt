@@ -1,0 +1,94 @@
+use Rattle.std.proofs.Common.{◌≡◌, ◌∙◌, ℕ, ◌+◌, ◌-◌, ◌<◌, suc, List, [], ◌++◌, length, map, ap, sym, subst, refl, arith}
+use Rattle.core_lang.specs.WellFormed.{calls_together}
+use Rattle.outcomes.specs.declared.search.Work.{Work}
+use Rattle.outcomes.specs.Working.Searching.{AreGood, order_at}
+use Rattle.outcomes.specs.Working.States.{Reached}
+use Rattle.outcomes.specs.Working.Steps.{start_of}
+use Rattle.outcomes.specs.Working.Reducing.{reduced_from_all, Covers}
+use Rattle.outcomes.proofs.Whole.{good_at_first, good_of_more, stops_after}
+use Rattle.outcomes.proofs.Configurations.{configuration_of, none_led, led_more, has_some_places, before_more}
+use Rattle.outcomes.proofs.Covering.{covers_first, covers_more, are_ends_of_all}
+use Rattle.outcomes.proofs.search.Search.reduced.Goals as goal
+
+none_off : (k : ℕ) → k ≡ k - 0
+none_off k = omega arith
+
+pub loop-depth-init : goal.loop-depth-init
+loop-depth-init c =
+    record {
+      heap = c.in_ok-heap.ensures.cells;
+      empty = c.new.ensures;
+      layer = good_at_first c.args.self.now c.new-2.result c.in_ok-layer.layer c.requires.search.checked c.new-2.ensures c.in_ok-layer.ensures;
+      covers = subst (λ (left : ℕ). Covers c.args.self.now left c.in_ok-layer.layer) (none_off (calls_together c.args.self.now.program.now.threads.items))
+          (covers_first c.args.self.now c.in_ok-layer.layer c.in_ok-layer.ensures);
+      before = (
+        [],
+        none_led c.args.self.now.program.now c.args.self.now.turns c.args.self.now.asked.now.answers,
+        (let one : length c.in_ok-layer.layer ≡ 1 = ap length c.in_ok-layer.ensures in let root : length c.new-2.result ≡ 1 = ap length c.new-2.ensures in omega (arith, one, root)),
+      );
+    }
+
+pub returns-in-Some-Beyond : goal.returns-in-Some-Beyond
+returns-in-Some-Beyond c =
+    let there = rw (c.in-Some-Beyond.is, c.in-Some-Beyond.field-0-is) at c.in_ok-expand_groups.ensures in
+    rw c.in_ok-order-in-Some-Beyond.ensures
+    (stops_after c.whole_within_some_turns.ensures.over c.args.self.now.program.now c.args.self.now.turns c.args.self.now.asked.now.answers
+    (order_at c.expand_groups.new.work.trail c.in-Some-Beyond.first) c.in-Some-Beyond.thread there.1)
+
+one_off : (all calls depth : ℕ) → calls ≡ all → depth < calls → all - depth ≡ suc (all - (depth + 1))
+one_off all calls depth is below = omega (arith, is, below)
+
+all_there : (all calls depth : ℕ) → calls ≡ all → depth < calls → depth + suc (all - (depth + 1)) ≡ all
+all_there all calls depth is below = omega (arith, is, below)
+
+pub loop-depth-preserved : goal.loop-depth-preserved
+loop-depth-preserved c =
+    let search = c.args.self.now in
+    let program = search.program.now in
+    let all = calls_together program.threads.items in
+    let depth = c.loop-depth.depth in
+    let goes = rw c.in-None.is at c.in_ok-expand_groups.ensures in
+    let old : Work = record { heap = c.loop-depth.work.heap; next = c.loop-depth.work.next; trail = c.loop-depth.work.trail; depth = depth } in
+    let growth = reduced_from_all search c.args.groups.now c.loop-depth.layer in
+    record {
+      heap = goes.work.heap;
+      empty = c.replace-layer.ensures.after ∙ c.new-in-loop-depth.ensures;
+      layer = rw c.replace-layer.ensures.value (good_of_more search old c.expand_groups.new.work growth depth goes refl);
+      covers = rw c.replace-layer.ensures.value
+          (covers_more search c.args.groups.now old c.expand_groups.new.work c.loop-depth.work.trail c.loop-depth.layer depth (all - (depth + 1))
+          c.requires.groups goes c.loop-depth.invariant.empty c.loop-depth.invariant.layer
+          (all_there all c.calls-calls.result depth c.calls-calls.ensures c.loop-depth-test.true)
+          (subst (λ (left : ℕ). Covers search left c.loop-depth.layer) (one_off all c.calls-calls.result depth c.calls-calls.ensures c.loop-depth-test.true)
+          c.loop-depth.invariant.covers));
+      before = rw c.replace-layer.ensures.value (
+        c.loop-depth.invariant.before.0 ++ map configuration_of c.loop-depth.layer,
+        led_more program search.turns search.asked.now.answers depth c.loop-depth.work.trail c.loop-depth.layer c.loop-depth.invariant.before.0
+            c.loop-depth.invariant.layer c.loop-depth.invariant.before.1,
+        before_more search old c.expand_groups.new.work growth c.loop-depth.invariant.before.0 c.loop-depth.layer goes c.loop-depth.invariant.empty
+            c.loop-depth.invariant.before.2,
+      );
+    }
+
+pub ends_of-requires : goal.ends_of-requires
+ends_of-requires c =
+    let at_end : c.loop-depth.depth ≡ c.calls-calls.result = omega arith in
+    subst (λ (k : ℕ). AreGood c.args.self.now.program.now c.args.self.now.turns k (start_of c.args.self.now) c.loop-depth.work.trail c.loop-depth.layer)
+    (at_end ∙ c.calls-calls.ensures) c.loop-depth.invariant.layer
+
+none_there : (all calls depth : ℕ) → calls ≡ all → depth ≡ calls → all - depth ≡ 0
+none_there all calls depth is same = omega (arith, is, same)
+
+pub returns : goal.returns
+returns c =
+    let search = c.args.self.now in
+    let program = search.program.now in
+    let at_end : c.loop-depth.depth ≡ c.calls-calls.result = omega arith in
+    let none = none_there (calls_together program.threads.items) c.calls-calls.result c.loop-depth.depth c.calls-calls.ensures at_end in (
+      are_ends_of_all c.whole_within_some_turns.ensures.over c.settled_are_serial.ensures c.at_most_one_serial.ensures search
+          c.loop-depth.work.trail c.loop-depth.layer _
+          (subst (λ (left : ℕ). Covers search left c.loop-depth.layer) none c.loop-depth.invariant.covers)
+          c.in_ok-ends.ensures,
+      has_some_places c.whole_within_some_turns.ensures.over program search.turns search.asked.now.answers c.loop-depth.depth
+          c.len-configurations.result c.loop-depth.work.trail c.loop-depth.layer c.loop-depth.invariant.before.0
+          c.loop-depth.invariant.layer c.loop-depth.invariant.before.1 (c.loop-depth.invariant.before.2 ∙ sym c.len-configurations.ensures),
+    )

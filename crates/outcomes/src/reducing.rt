@@ -1,0 +1,126 @@
+//! The search over some of the orders, which stand for all.
+
+ghost use Rattle.std.specs.Prelude.{◌≡◌, [], length, map, IfOk};
+ghost use Rattle.core_lang.specs.Typing.{HasCells};
+ghost use Rattle.core_lang.specs.WellFormed.{calls_together};
+ghost use Rattle.independence.specs.Commuting.{AreIndependent};
+ghost use Rattle.outcomes.specs.Ends.{told_of};
+ghost use Rattle.outcomes.specs.Working.States.{reached_of};
+ghost use Rattle.outcomes.specs.Working.Steps.{CanSearch, IsAtWork, IsReached, AreReached};
+ghost use Rattle.outcomes.specs.Working.Reducing.{first_ready, ReducesBy, reduced_from, reduced_from_all, FindsIfAny};
+
+use crate::layer::Layer;
+use crate::outcome::Found;
+use crate::search::{EarlyEnd, Search, Work};
+use crate::state::State;
+use crate::trail::Trail;
+use core_lang::laws;
+use meaning_trees::heap::Heap;
+use source::memory::NoMemory;
+use std::alloc::Global;
+use std::mem;
+
+impl Search<'_> {
+    /// The first thread that has a call left.
+    fn first_ready(&self, done: &[usize]) -> Option<usize>
+        requires search { CanSearch self.now }
+        requires threads { length done.now ≡ length self.now.program.now.threads.items }
+        ensures { result ≡ first_ready self.now.program.now done.now (length self.now.program.now.threads.items) }
+    {
+        for thread in 0..self.program.threads.len() {
+            if let Some(_next) = self.next(done, thread) {
+                return Some(thread);
+            }
+        }
+        None
+    }
+
+    /// Makes the next call of each thread of the first group that has a call left.
+    fn expand_group(
+        &self,
+        alloc: Global,
+        work: &mut Work,
+        from: &State,
+        groups: &[usize],
+    ) -> Result<Option<EarlyEnd>, NoMemory>
+        requires search { CanSearch self.now }
+        requires work { IsAtWork self.now work.old }
+        requires from { IsReached self.now work.old from.now }
+        requires groups { length groups.now ≡ length self.now.program.now.threads.items }
+        ensures { IfOk result (ReducesBy self.now work.old work.new (reduced_from self.now groups.now (reached_of from.now))) }
+    {
+        let Some(first) = self.first_ready(&from.done) else {
+            return Ok(None);
+        };
+        let group = groups[first];
+        for thread in 0..self.program.threads.len() {
+            if groups[thread] == group {
+                if let Some(stop) = self.step(alloc, work, from, thread)? {
+                    return Ok(Some(stop));
+                }
+            }
+        }
+        Ok(None)
+    }
+
+    /// The same from each of these states.
+    fn expand_groups(
+        &self,
+        alloc: Global,
+        work: &mut Work,
+        layer: &Layer,
+        groups: &[usize],
+    ) -> Result<Option<EarlyEnd>, NoMemory>
+        requires search { CanSearch self.now }
+        requires work { IsAtWork self.now work.old }
+        requires layer { AreReached self.now work.old layer.now }
+        requires groups { length groups.now ≡ length self.now.program.now.threads.items }
+        ensures { IfOk result (ReducesBy self.now work.old work.new (reduced_from_all self.now groups.now layer.now)) }
+    {
+        for number in 0..layer.len() {
+            if let Some(stop) = self.expand_group(alloc, work, layer.get(number), groups)? {
+                return Ok(Some(stop));
+            }
+        }
+        Ok(None)
+    }
+
+    /// How the cells can end, over all orders, by those in which each group's calls come before the next group's; nothing,
+    /// where these are more than are looked at.
+    pub(crate) fn reduced(&self, alloc: Global, groups: &[usize]) -> Result<Option<Found>, NoMemory>
+        requires search { CanSearch self.now }
+        requires groups { AreIndependent self.now.program.now groups.now }
+        ensures { IfOk result (FindsIfAny self.now) }
+    {
+        laws::whole_within_some_turns();
+        laws::settled_are_serial();
+        laws::at_most_one_serial();
+        let heap = Heap::open(alloc, self.program)?;
+        let mut layer = self.opening(alloc, &heap)?;
+        let mut work = Work {
+            heap,
+            next: Layer::new(alloc, self.hashing),
+            trail: Trail::new(alloc),
+            depth: 0,
+        };
+        let calls = self.calls();
+        for depth in 0..calls {
+            work.depth = depth;
+            match self.expand_groups(alloc, &mut work, &layer, groups)? {
+                None => {}
+                Some(EarlyEnd::TooMany) => return Ok(None),
+                Some(EarlyEnd::Beyond { first, thread }) => {
+                    let order = work.trail.order(alloc, first)?;
+                    return Ok(Some(Found::Unsettled { order, thread }));
+                }
+            }
+            layer = mem::replace(&mut work.next, Layer::new(alloc, self.hashing));
+        }
+        let ends = self.ends_of(alloc, &layer, &work.trail)?;
+        let configurations = work.trail.len();
+        Ok(Some(Found::Reduced {
+            ends,
+            configurations,
+        }))
+    }
+}
