@@ -5,6 +5,8 @@ use Rattle.core_lang.specs.declared.typed.Typed.{Typed}
 use Rattle.code.specs.Listing.{line}
 use Rattle.outcomes.specs.declared.outcome.Cells.{Cells}
 use Rattle.outcomes.specs.Ends.{Told}
+use Rattle.report_outcomes.specs.declared.ends.Scope.{Scope}
+use Rattle.report_outcomes.specs.declared.ends.Scope.TheVariants.{All as Every_order, Reduced, Drawn}
 use Rattle.report_outcomes.specs.Outcomes.{order_text, whole_cells_text}
 use Rattle.expectations.specs.declared.comparison.Comparison.{Comparison}
 use Rattle.expectations.specs.Sums.{holds}
@@ -13,14 +15,15 @@ use Rattle.expectations.specs.Sums.{holds}
 abbrev pub breach_in : Cells → Comparison → List Told → Option Told
 breach_in cells comparison ends = find (λ (end : Told). not (holds cells end.left.cells comparison)) ends
 
--- where the orders are counted that were looked at, these are all
-abbrev pub scope_text : Option ℕ → List ℕ
-scope_text (Some states) = codes "all orders"
-scope_text None = codes "the orders drawn"
+-- of which orders the ends are: where those that were looked at stand for all, of all
+abbrev pub scope_text : Scope → List ℕ
+scope_text (Every_order states) = codes "all orders"
+scope_text (Reduced states) = codes "all orders"
+scope_text Drawn = codes "the orders drawn"
 
 -- expected TEXT holds in all orders
-abbrev pub held_text : List ℕ → Option ℕ → List ℕ
-held_text text states = line (codes "expected " ++ text ++ codes " holds in " ++ scope_text states)
+abbrev pub held_text : List ℕ → Scope → List ℕ
+held_text text scope = line (codes "expected " ++ text ++ codes " holds in " ++ scope_text scope)
 
 -- expected TEXT fails after T T .., and the cells there
 abbrev pub broken_text : Typed → Cells → List ℕ → Told → List ℕ
@@ -28,6 +31,6 @@ broken_text program cells text end =
     line (codes "expected " ++ text ++ codes " fails after" ++ order_text end.order) ++ whole_cells_text program cells end.left.cells
 
 -- of the first end that doesn't meet it, if there is one
-abbrev pub expected_text : Typed → Cells → List ℕ → Option ℕ → Option Told → List ℕ
-expected_text program cells text states None = held_text text states
-expected_text program cells text states (Some end) = broken_text program cells text end
+abbrev pub expected_text : Typed → Cells → List ℕ → Scope → Option Told → List ℕ
+expected_text program cells text scope None = held_text text scope
+expected_text program cells text scope (Some end) = broken_text program cells text end

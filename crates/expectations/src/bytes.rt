@@ -32,12 +32,7 @@ fn blanks(text: &[u8]) -> usize
     ensures place { result ≡ prefix_len is_blank text.now }
     ensures bound { result ≤ length text.now }
 {
-    for (i, byte) in text.iter().enumerate() {
-        if !is_blank(*byte) {
-            return i;
-        }
-    }
-    text.len()
+    text.iter().take_while(|byte| is_blank(**byte)).count()
 }
 
 /// What is behind the blanks that a text begins with.
@@ -53,12 +48,7 @@ fn word_len(text: &[u8]) -> usize
     ensures place { result ≡ prefix_len is_word_byte text.now }
     ensures bound { result ≤ length text.now }
 {
-    for (i, byte) in text.iter().enumerate() {
-        if !is_word_byte(*byte) {
-            return i;
-        }
-    }
-    text.len()
+    text.iter().take_while(|byte| is_word_byte(**byte)).count()
 }
 
 /// The word that a text begins with, and what is behind it.

@@ -8,17 +8,17 @@ ghost use Rattle.expectations.specs.Breaches.{breach_in, scope_text, held_text, 
 
 use crate::comparison::Comparison;
 use outcomes::outcome::Outcome;
-use report_outcomes::{Ends, push_order};
+use report_outcomes::{Ends, Scope, push_order};
 use source::memory::NoMemory;
 use std::alloc::{AllocError, Global};
 
-/// Of which orders these are the ends, where so many states are counted if they are all.
-fn push_scope(out: &mut String, states: Option<usize>) -> Result<(), AllocError>
-    ensures { OnOk result (AddsText (scope_text states) out.old out.new) }
+/// Of which orders these are the ends.
+fn push_scope(out: &mut String, scope: Scope) -> Result<(), AllocError>
+    ensures { OnOk result (AddsText (scope_text scope) out.old out.new) }
 {
-    match states {
-        Some(_) => out.push_str("all orders"),
-        None => out.push_str("the orders drawn"),
+    match scope {
+        Scope::All(_) | Scope::Reduced(_) => out.push_str("all orders"),
+        Scope::Drawn => out.push_str("the orders drawn"),
     }
 }
 
@@ -50,12 +50,12 @@ impl ExpectedEnds<'_> {
 
     /// That all ends meet it.
     fn push_held(&self, out: &mut String) -> Result<(), AllocError>
-        ensures { OnOk result (AddsText (held_text self.now.text.now self.now.ends.now.states) out.old out.new) }
+        ensures { OnOk result (AddsText (held_text self.now.text.now self.now.ends.now.scope) out.old out.new) }
     {
         out.push_str("expected ")?;
         out.push_str(self.text)?;
         out.push_str(" holds in ")?;
-        push_scope(out, self.ends.states)?;
+        push_scope(out, self.ends.scope)?;
         out.push_str("\n")
     }
 
@@ -79,7 +79,7 @@ impl ExpectedEnds<'_> {
     /// Want of memory.
     pub fn text(&self, alloc: Global) -> Result<String, NoMemory>
         ensures { IfOk result (λ text. string_bytes text
-            ≡ expected_text self.now.ends.now.program.now self.now.ends.now.asked.now.cells self.now.text.now self.now.ends.now.states
+            ≡ expected_text self.now.ends.now.program.now self.now.ends.now.asked.now.cells self.now.text.now self.now.ends.now.scope
             (breach_in self.now.ends.now.asked.now.cells self.now.comparison.now (map told_of self.now.ends.now.ends.now))) }
     {
         let mut out = String::new(alloc);

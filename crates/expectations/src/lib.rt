@@ -4,15 +4,17 @@
 //! - [`Expectation::of_program`]: which cells its names are of.
 //! - [`Comparison::holds`]: whether an end meets it.
 //! - [`ExpectedEnds`]: what is told of all ends.
+//! - [`laws`]: what that says of every order.
 //!
 //! `specs/Texts.antt` says what a text means, `specs/Cells.antt` which cells its names are of, `specs/Sums.antt` when an end meets
-//! it, and `specs/Breaches.antt` defines byte for byte what is told.
+//! it, `specs/Breaches.antt` defines byte for byte what is told, and `specs/Laws.antt` is the law.
 #![tactic(auto)]
 
 mod bytes;
 pub mod comparison;
 mod ends;
 pub mod expectation;
+pub mod laws;
 mod reading;
 mod resolving;
 

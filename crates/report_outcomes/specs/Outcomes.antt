@@ -1,6 +1,6 @@
 -- The text of `outcomes`, as bytes: a line that says how many orders of a program's calls were looked at, and whether these are
--- all; if so a line with how many states they come by; then for each end a line with how many of these orders have it and one of
--- them, a line `cells`, a line for each cell that is asked for, if answers are asked for a line `answers` and a line for each call, a
+-- all, or that they stand for all; if so a line with how many states they come by; then for each end a line with how many of these
+-- orders have it, but where they stand for all, and one of them; a line `cells`, a line for each cell that is asked for, if answers are asked for a line `answers` and a line for each call, a
 -- line `end`. Of an end after the first one those lines are left out that say what the first one has, unless all are to be
 -- written.
 use Rattle.std.specs.Prelude.{ℕ, ◌+◌, Bool, true, false, if◌then◌else◌, nat_eq, List, [], ◌∷◌, ◌++◌, sum_by, codes}
@@ -19,6 +19,8 @@ use Rattle.outcomes.specs.declared.outcome.Asked.{Asked}
 use Rattle.outcomes.specs.declared.outcome.Cells.{Cells}
 use Rattle.outcomes.specs.declared.outcome.Cells.TheVariants.{Every, These}
 use Rattle.outcomes.specs.Ends.{Left, Told}
+use Rattle.report_outcomes.specs.declared.ends.Scope.{Scope}
+use Rattle.report_outcomes.specs.declared.ends.Scope.TheVariants.{All as Every_order, Reduced, Drawn}
 use Rattle.report.specs.History.{call_head, cell_line}
 use Rattle.report.specs.Pieces.{outcome_text}
 use Rattle.report.specs.Values.{is_value}
@@ -85,10 +87,16 @@ answers_text true program first answers = line (codes "answers") ++ answer_texts
 abbrev pub order_text : List ℕ → List ℕ
 order_text order = flat_map (λ thread. codes " " ++ decimal thread) order
 
+-- after how many orders, but where these stand for all
+abbrev pub count_text : Scope → ℕ → List ℕ
+count_text (Every_order states) count = decimal count ++ codes " "
+count_text (Reduced states) count = []
+count_text Drawn count = decimal count ++ codes " "
+
 -- outcome N after T T .., and what differs from the first end
-abbrev pub end_text : Typed → Asked → Left → Told → List ℕ
-end_text program asked first end =
-    line (codes "outcome " ++ decimal end.count ++ codes " after" ++ order_text end.order)
+abbrev pub end_text : Typed → Asked → Scope → Left → Told → List ℕ
+end_text program asked scope first end =
+    line (codes "outcome " ++ count_text scope end.count ++ codes "after" ++ order_text end.order)
     ++ line (codes "cells") ++ cell_texts program asked.cells first.cells 0 end.left.cells
     ++ answers_text asked.answers program first.answers end.left.answers ++ line (codes "end")
 
@@ -101,10 +109,10 @@ abbrev pub nothing : Left
 nothing = record { cells = []; answers = [] }
 
 -- each end: the first whole, and of the others what differs from it, or all
-abbrev pub ends_text : Typed → Asked → Bool → List Told → List ℕ
-ends_text program asked full [] = []
-ends_text program asked full (first ∷ others) =
-    end_text program asked nothing first ++ flat_map (end_text program asked (if full then nothing else first.left)) others
+abbrev pub ends_text : Typed → Asked → Bool → Scope → List Told → List ℕ
+ends_text program asked full scope [] = []
+ends_text program asked full scope (first ∷ others) =
+    end_text program asked scope nothing first ++ flat_map (end_text program asked scope (if full then nothing else first.left)) others
 
 -- ---- the text
 
@@ -112,11 +120,12 @@ ends_text program asked full (first ∷ others) =
 abbrev pub looked_at : List Told → ℕ
 looked_at ends = sum_by (λ (end : Told). end.count) ends
 
--- orders N all, and states S; or orders N drawn
-abbrev pub head_text : ℕ → Option ℕ → List ℕ
-head_text count (Some states) = line (codes "orders " ++ decimal count ++ codes " all") ++ line (codes "states " ++ decimal states)
-head_text count None = line (codes "orders " ++ decimal count ++ codes " drawn")
+-- orders N all, and states S; or orders reduced, and states S; or orders N drawn
+abbrev pub head_text : ℕ → Scope → List ℕ
+head_text count (Every_order states) = line (codes "orders " ++ decimal count ++ codes " all") ++ line (codes "states " ++ decimal states)
+head_text count (Reduced states) = line (codes "orders reduced") ++ line (codes "states " ++ decimal states)
+head_text count Drawn = line (codes "orders " ++ decimal count ++ codes " drawn")
 
--- the whole text: how many orders were looked at, and if these are all, how many states they come by; and each end
-abbrev pub outcomes_text : Typed → Asked → Bool → Option ℕ → List Told → List ℕ
-outcomes_text program asked full states ends = head_text (looked_at ends) states ++ ends_text program asked full ends
+-- the whole text: how many orders were looked at, and if these are all or stand for all, how many states they come by; and each end
+abbrev pub outcomes_text : Typed → Asked → Bool → Scope → List Told → List ℕ
+outcomes_text program asked full scope ends = head_text (looked_at ends) scope ++ ends_text program asked full scope ends

@@ -1,13 +1,15 @@
 //! The text of `outcomes`. The one error is a refused growth.
 
-ghost use Rattle.std.specs.Prelude.{◌≡◌, [], OnOk, IfOk, string_bytes, map, slice_get, slice_index_or, None, false, if◌then◌else◌};
+ghost use Rattle.std.specs.Prelude.{◌≡◌, [], ◌++◌, OnOk, IfOk, string_bytes, codes, map, slice_get, slice_index_or, None, false, if◌then◌else◌};
+ghost use Rattle.std.specs.Fmt.{decimal};
 ghost use Rattle.std.specs.List.{flat_map};
 ghost use Rattle.std.specs.Option.{option_eq, option_map_or};
 ghost use Rattle.core_lang.specs.Serial.{all_calls};
+ghost use Rattle.code.specs.Listing.{line};
 ghost use Rattle.locks.specs.Texts.{AddsText};
 ghost use Rattle.outcomes.specs.Ends.{told_of};
 ghost use Rattle.report.specs.Entry.{scheduled_called};
-ghost use Rattle.report_outcomes.specs.Outcomes.{order_text, end_text, ends_text, looked_at, head_text, outcomes_text, whole_cells_text};
+ghost use Rattle.report_outcomes.specs.Outcomes.{order_text, end_text, ends_text, looked_at, head_text, count_text, outcomes_text, whole_cells_text};
 ghost use Rattle.report_outcomes.specs.Outcomes.{number_in, cell_text, cell_texts, answer_text, answer_texts, answers_text};
 ghost use Rattle.report_outcomes.specs.Outcomes.{is_outcome, nothing, unless};
 ghost use Rattle.report.specs.Values.{is_value};
@@ -51,21 +53,60 @@ fn count(ends: &[Outcome]) -> Result<u64, NoMemory>
     Ok(count)
 }
 
-/// How many orders were looked at; if these are all, how many states they come by.
-fn push_head(out: &mut String, count: u64, states: Option<usize>) -> Result<(), AllocError>
-    ensures { OnOk result (AddsText (head_text count states) out.old out.new) }
+/// Of which orders the ends are.
+#[derive(Clone, Copy)]
+pub enum Scope {
+    /// Of all, which were looked at, and come by so many states.
+    All(usize),
+    /// Of all, for which those stand that were looked at, and come by so many states.
+    Reduced(usize),
+    /// Of those that were drawn.
+    Drawn,
+}
+
+/// By how many states orders come.
+fn push_states(out: &mut String, states: usize) -> Result<(), AllocError>
+    ensures { OnOk result (AddsText (line (codes "states " ++ decimal states)) out.old out.new) }
 {
-    match states {
-        Some(states) => {
+    write!(out, "states {states}")?;
+    out.push_str("\n")
+}
+
+/// That the orders that were looked at stand for all.
+fn push_reduced(out: &mut String) -> Result<(), AllocError>
+    ensures { OnOk result (AddsText (line (codes "orders reduced")) out.old out.new) }
+{
+    out.push_str("orders reduced\n")
+}
+
+/// How many orders were looked at; if these are all or stand for all, how many states they come by.
+fn push_head(out: &mut String, count: u64, scope: Scope) -> Result<(), AllocError>
+    ensures { OnOk result (AddsText (head_text count scope) out.old out.new) }
+{
+    match scope {
+        Scope::All(states) => {
             write!(out, "orders {count} all")?;
             out.push_str("\n")?;
-            write!(out, "states {states}")?;
-            out.push_str("\n")
+            push_states(out, states)
         }
-        None => {
+        Scope::Reduced(states) => {
+            push_reduced(out)?;
+            push_states(out, states)
+        }
+        Scope::Drawn => {
             write!(out, "orders {count} drawn")?;
             out.push_str("\n")
         }
+    }
+}
+
+/// After how many orders an end comes, but where these stand for all.
+fn push_count(out: &mut String, scope: Scope, count: u64) -> Result<(), AllocError>
+    ensures { OnOk result (AddsText (count_text scope count) out.old out.new) }
+{
+    match scope {
+        Scope::All(_) | Scope::Drawn => write!(out, "{count} "),
+        Scope::Reduced(_) => Ok(()),
     }
 }
 
@@ -115,8 +156,8 @@ pub struct Ends<'a> {
     pub asked: &'a Asked,
     /// Whether all of each end is told, and not only what differs from the first one.
     pub full: bool,
-    /// How many states the orders come by, if all were looked at.
-    pub states: Option<usize>,
+    /// Of which orders they are.
+    pub scope: Scope,
     /// The ends.
     pub ends: &'a [Outcome],
 }
@@ -247,9 +288,12 @@ impl Ends<'_> {
         calls: &[Called<'_>],
     ) -> Result<(), AllocError>
         requires { map scheduled_called calls.now ≡ all_calls self.now.program.now }
-        ensures { OnOk result (AddsText (end_text self.now.program.now self.now.asked.now (left_known known.entry) (told_of end.now)) out.old out.new) }
+        ensures { OnOk result (AddsText (end_text self.now.program.now self.now.asked.now self.now.scope (left_known known.entry)
+            (told_of end.now)) out.old out.new) }
     {
-        write!(out, "outcome {} after", end.count)?;
+        out.push_str("outcome ")?;
+        push_count(out, self.scope, end.count)?;
+        out.push_str("after")?;
         push_order(out, &end.order)?;
         out.push_str("\n")?;
         out.push_str("cells\n")?;
@@ -294,7 +338,8 @@ impl Ends<'_> {
         calls: &[Called<'_>],
     ) -> Result<(), AllocError>
         requires { map scheduled_called calls.now ≡ all_calls self.now.program.now }
-        ensures { OnOk result (AddsText (flat_map (end_text self.now.program.now self.now.asked.now (left_known known.entry)) (map told_of ends.now)) out.old out.new) }
+        ensures { OnOk result (AddsText (flat_map (end_text self.now.program.now self.now.asked.now self.now.scope (left_known known.entry))
+            (map told_of ends.now)) out.old out.new) }
     {
         for end in ends {
             self.push_end(out, known, end, calls)?;
@@ -305,7 +350,8 @@ impl Ends<'_> {
     /// Each end.
     fn push_ends(&self, out: &mut String, calls: &[Called<'_>]) -> Result<(), AllocError>
         requires { map scheduled_called calls.now ≡ all_calls self.now.program.now }
-        ensures { OnOk result (AddsText (ends_text self.now.program.now self.now.asked.now self.now.full (map told_of self.now.ends.now)) out.old out.new) }
+        ensures { OnOk result (AddsText (ends_text self.now.program.now self.now.asked.now self.now.full self.now.scope
+            (map told_of self.now.ends.now)) out.old out.new) }
     {
         match self.ends {
             [] => Ok(()),
@@ -320,18 +366,18 @@ impl Ends<'_> {
         }
     }
 
-    /// The text of `outcomes`: how many orders were looked at, and whether these are all, if so how many states they come by;
-    /// and for each end how many of these orders have it, one of them, what the cells hold that are asked for, and, if that is
+    /// The text of `outcomes`: how many orders were looked at, and whether these are all or stand for all, if so how many states
+    /// they come by; and for each end how many of these orders have it, but where they stand for all, one of them, what the cells hold that are asked for, and, if that is
     /// asked for, how the calls ended. The only error is a refused growth, of which a number of orders that can't be counted is
     /// a case.
     pub fn text(&self, alloc: Global) -> Result<String, NoMemory>
         ensures { IfOk result (λ text. string_bytes text
-            ≡ outcomes_text self.now.program.now self.now.asked.now self.now.full self.now.states (map told_of self.now.ends.now)) }
+            ≡ outcomes_text self.now.program.now self.now.asked.now self.now.full self.now.scope (map told_of self.now.ends.now)) }
     {
         let count = count(self.ends)?;
         let calls = calls_of(alloc, self.program)?;
         let mut out = String::new(alloc);
-        push_head(&mut out, count, self.states)?;
+        push_head(&mut out, count, self.scope)?;
         self.push_ends(&mut out, &calls)?;
         Ok(out)
     }

@@ -8,4 +8,4 @@ use Rattle.report_outcomes.proofs.ends.Ends.push_others.Given as goal
 abbrev pub invariant-loop-end : goal.invariant-loop-end
 invariant-loop-end l =
     string_bytes l.out
-    ≡ string_bytes l.initial.out ++ flat_map (end_text l.self.program.now l.self.asked.now (left_known l.known)) (map told_of (take l.end-index l.ends))
+    ≡ string_bytes l.initial.out ++ flat_map (end_text l.self.program.now l.self.asked.now l.self.scope (left_known l.known)) (map told_of (take l.end-index l.ends))
