@@ -1,11 +1,11 @@
 //! The turns that the items of a steps file come to.
 
-ghost use Rattle.std.specs.Prelude.{◌≡◌, ◌≤◌, ⊤, length, drop, true, IfOk, OnOk, MatchOption};
+ghost use Rattle.std.specs.Prelude.{◌≡◌, ◌≤◌, ⊤, length, drop, replicate, true, IfOk, OnOk, MatchOption};
 ghost use Rattle.source_steps.specs.Steps.{Answers, IfFault};
 ghost use Rattle.interleavings.specs.Items.{is_idle, is_stopped, until_stop, until_call_end, steps_until, turns_of};
 ghost use Rattle.interleavings.specs.Working.Found.{is_end, Takes, is_counted, are_counted, count_within, Adds, IsTooMuch};
 ghost use Rattle.interleavings.specs.Working.Found.{RunsItems, RunsFromOpening, RunIsTooMuch, CountsItems, CountIsTooMuch};
-ghost use Rattle.interleavings.specs.Threads.{at_opening};
+ghost use Rattle.interleavings.specs.Threads.{at_opening, with_steps};
 
 use crate::status::Status;
 use crate::world::World;
@@ -103,8 +103,12 @@ impl World<'_> {
         }
     }
 
-    // The same of any item.
-    fn steps_until(
+    /// Takes the steps of an item and says how many they are, if at most so many are. Of more it takes some.
+    ///
+    /// # Errors
+    ///
+    /// Want of memory, only where a step would begin a call; some of the steps before that one are taken.
+    pub fn steps_until(
         &mut self,
         alloc: Global,
         item: Item,
@@ -112,7 +116,8 @@ impl World<'_> {
     ) -> Result<Option<usize>, NoMemory>
         ensures count { IfOk result (λ count. count ≡ steps_until self.old.plan item.thread left self.old.world item.until) }
         ensures within { IfOk result (λ count. MatchOption count ⊤ (λ n. n ≤ left)) }
-        ensures world { IfOk result (λ count. Takes item.thread count self.old self.new) }
+        ensures world { IfOk result (λ count. MatchOption count ⊤ (λ n.
+            self.new ≡ with_steps self.old (replicate n item.thread))) }
     {
         let thread = item.thread;
         match item.until {

@@ -2,7 +2,7 @@
 //!
 //! - [`world::World`]: the threads of a compiled program; one step of one of them.
 //! - [`world::run`]: the world after turns, which are lists of steps, and what is claimed of it.
-//! - [`items::turns_of`]: the turns that the items of a steps file come to.
+//! - [`items::turns_of`]: the turns that the items of a steps file come to; [`world::World::steps_until`] takes those of one.
 //! - [`status::Status`]: how a thread stands. [`coming::Coming`]: what its next step takes up.
 //!
 //! `specs/` says what such a world is as a value (`Threads`), what a thread can do next (`Statuses`, `Coming`), and how many

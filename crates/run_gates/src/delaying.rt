@@ -1,7 +1,10 @@
 //! A gate whose delays are drawn.
 
-ghost use Rattle.std.specs.Prelude.{◌≤◌};
+ghost use Rattle.std.specs.Prelude.{◌≡◌, ◌≤◌};
+ghost use Rattle.run_gates.specs.Delays.{delay, mixed, turns_of};
 
+use rand_core::{Rng, SeedableRng};
+use rand_xoshiro::SplitMix64;
 use std::sync::atomic::{AtomicU64, Ordering};
 use std::thread::yield_now;
 use workers::gate::Gate;
@@ -25,33 +28,43 @@ pub struct DelayingGate {
 
 impl DelayingGate {
     /// Its delays are drawn from this seed.
-    pub fn new(seed: u64) -> DelayingGate {
+    pub fn new(seed: u64) -> DelayingGate
+        ensures { result.seed ≡ seed }
+    {
         DelayingGate {
             seed,
             passes: AtomicU64::new(0),
         }
+    }
+
+    /// How many turns a pass of a thread waits, whose call has come this far, where so many passes came before.
+    pub fn delay(&self, thread: u32, step: u32, pass: u64) -> u64
+        ensures turns { result ≡ delay self.now.seed thread step pass }
+        ensures most { result ≤ 2048 }
+    {
+        let place = mixed(mixed(self.seed, u64::from(thread)), u64::from(step));
+        turns_of(mixed(place, pass))
     }
 }
 
 impl Gate for DelayingGate {
     fn pass(&self, thread: u32, step: u32) {
         let pass = self.passes.fetch_add(1, Ordering::Relaxed);
-        let place = mixed(mixed(self.seed, u64::from(thread)), u64::from(step));
-        wait(turns_of(mixed(place, pass)));
+        wait(self.delay(thread, step, pass));
     }
 }
 
-/// A number in which each bit depends on all bits of both: the finisher of SplitMix64, over their combination.
-fn mixed(state: u64, word: u64) -> u64 {
-    let sum = state.wrapping_add(word).wrapping_add(0x9e37_79b9_7f4a_7c15);
-    let once = (sum ^ (sum >> 30)).wrapping_mul(0xbf58_476d_1ce4_e5b9);
-    let twice = (once ^ (once >> 27)).wrapping_mul(0x94d0_49bb_1331_11eb);
-    twice ^ (twice >> 31)
+/// A number in which each bit depends on all bits of both.
+fn mixed(state: u64, word: u64) -> u64
+    ensures { result ≡ mixed state word }
+{
+    SplitMix64::seed_from_u64(state.wrapping_add(word)).next_u64()
 }
 
 /// How many turns a pass waits for which this number was drawn.
 fn turns_of(drawn: u64) -> u64
-    ensures { result ≤ 2048 }
+    ensures turns { result ≡ turns_of drawn }
+    ensures most { result ≤ 2048 }
 {
     if drawn % ONE_IN != 0 {
         return 0;

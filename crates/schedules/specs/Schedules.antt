@@ -1,5 +1,5 @@
 -- Steps files that are made for a program.
-use Rattle.std.specs.Prelude.{◌<◌, ℕ, List, [], ◌++◌, All, length, slice_get, codes, string_bytes}
+use Rattle.std.specs.Prelude.{◌<◌, ℕ, List, [], ◌++◌, All, length, slice_get, codes, string_bytes, sum_by}
 use Rattle.std.specs.Fmt.{decimal}
 use Rattle.std.specs.List.{flat_map}
 use Rattle.std.specs.Option.{option_map_or}
@@ -9,12 +9,17 @@ use Rattle.core_lang.specs.declared.typed.Typed.{Typed}
 use Rattle.source_steps.specs.declared.item.Item.{Item}
 use Rattle.source_steps.specs.declared.item.Until.{Until}
 use Rattle.source_steps.specs.declared.item.Until.TheVariants.{Count, Stop, CallEnd}
+use Rattle.source_steps.specs.Steps.{counted}
 
 -- ---- which items
 
 -- each is of a thread of the program
 abbrev pub AreOfThreads : Typed → List Item → Type 0
 AreOfThreads program items = All (λ (item : Item). item.thread < length program.threads.items) items
+
+-- how many steps they count
+abbrev pub counted_in : List Item → ℕ
+counted_in items = sum_by (λ (item : Item). counted item.until) items
 
 -- ---- how they are written
 

@@ -1,6 +1,6 @@
 -- Runs of instructions, and what the search for turns has found on the way. Nobody has to believe this file.
 use Rattle.std.specs.Prelude.{◌≡◌, ◌<◌, ℕ, ◌+◌, ◌-◌, Bool, true, false, nat_le, if◌then◌else◌, List, [], ◌∷◌, ◌++◌, replicate, ⊤}
-use Rattle.std.specs.Prelude.{Option, Some, None, Result, Ok, Err}
+use Rattle.std.specs.Prelude.{Option, Some, None, MatchOption, Result, Ok, Err}
 use Rattle.std.specs.List.{list_all}
 use Rattle.lowering.specs.Plans.{Plan}
 use Rattle.source_steps.specs.declared.item.Item.{Item}
@@ -30,8 +30,7 @@ is_end _ = false
 
 -- so many steps of a thread were taken, where it is known how many
 abbrev pub Takes : ℕ → Option ℕ → ThreadsOf → ThreadsOf → Type 0
-Takes t None old new = ⊤
-Takes t (Some count) old new = new ≡ with_steps old (replicate count t)
+Takes t count old new = MatchOption count ⊤ (λ n. new ≡ with_steps old (replicate n t))
 
 -- so many more, where it is known how many
 abbrev pub plus : ℕ → Option ℕ → Option ℕ

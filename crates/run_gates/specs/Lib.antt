@@ -1,0 +1,3 @@
+pub mod Delays
+-- what the public clauses cite
+pub use Rattle.run_gates.specs.Delays.{delay}

@@ -1,0 +1,4 @@
+mod Draws
+mod ReadBack
+mod Contests
+mod SameTurns

@@ -1,5 +1,0 @@
-use Rattle.schedules.specs.Working.Contests.{Keeps}
-use Rattle.schedules.proofs.waiting.Contest.go_on.Given as goal
-
-abbrev pub invariant-loop : goal.invariant-loop
-invariant-loop l = Keeps l.initial.self l.self
