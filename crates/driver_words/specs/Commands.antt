@@ -163,6 +163,10 @@ with_worst app = with_rule app (flag_rule (codes "worst"))
 abbrev pub with_changed : App → App
 with_changed app = with_rule app (flag_rule (codes "changed"))
 
+-- a command that takes --source besides
+abbrev pub with_source : App → App
+with_source app = with_rule app (flag_rule (codes "source"))
+
 -- a command that takes --places besides
 abbrev pub with_places : App → App
 with_places app = with_rule app (flag_rule (codes "places"))
@@ -191,9 +195,9 @@ with_version app = record app { top = record app.top { has_version = true } }
 abbrev pub program : App
 program = needs_subcommand (with_version (new_app (codes "autolock")))
 
--- autolock check FILE
+-- autolock check [--source] FILE
 abbrev pub with_check : App → App
-with_check app = with_subcommand app (with_file (codes "check")).top
+with_check app = with_subcommand app (with_source (with_file (codes "check"))).top
 
 -- autolock explain [--json] [--color WHEN] FILE
 abbrev pub with_explain : App → App

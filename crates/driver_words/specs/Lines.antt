@@ -91,7 +91,7 @@ GivesFile json rows = (json ≡ true) ⊎ (is_code_word (word_in rows) ≡ false
 
 -- what is asked of the program's file alone is that command, with the values of its options
 abbrev pub IsAlone : Text → List Row → Alone → Type 0
-IsAlone command rows (Report Check) = command ≡ codes "check"
+IsAlone command rows (Report (Check source)) = (command ≡ codes "check") × IsFlag (codes "source") rows source
 IsAlone command rows (Report (Listing places)) = (command ≡ codes "listing") × IsFlag (codes "places") rows places
 IsAlone command rows (Report (Serial turns changed)) =
     (command ≡ codes "serial") × IsTurns rows turns × IsFlag (codes "changed") rows changed

@@ -5,7 +5,7 @@ ghost use Rattle.clap.specs.Words.{new_app, rule_of};
 ghost use Rattle.driver_words.specs.Commands.{Adds, AddsRule, IsCommand, autolock, with_file, with_steps, with_history};
 ghost use Rattle.driver_words.specs.Commands.{file_rule, flag_rule, number_rule, count_rule, prefix_rule, seed_rule, turns_rule};
 ghost use Rattle.driver_words.specs.Commands.{with_count, with_header, with_json, with_lines, with_open, with_places, with_prefix};
-ghost use Rattle.driver_words.specs.Commands.{with_sections};
+ghost use Rattle.driver_words.specs.Commands.{with_sections, with_source};
 ghost use Rattle.driver_words.specs.Commands.{with_seed, with_turns, with_why};
 ghost use Rattle.driver_words.specs.Commands.{cells_rule, with_answers, with_cells, with_full};
 ghost use Rattle.driver_words.specs.Commands.{choice_rule, color_rule, expect_rule, length_rule, times_rule};
@@ -192,6 +192,15 @@ fn steps_argument<'a>(alloc: Global) -> Arg<'a>
     file_argument(alloc, "STEPS").help(help)
 }
 
+/// `check`.
+fn check_command<'a>(alloc: Global) -> Result<Command<'a>, AllocError>
+    ensures { IfOk result (IsCommand (with_source (with_file (codes "check")))) }
+{
+    let about = "Say in which order locks are taken, and which ones before each statement";
+    let help = "Tell also the helper of each place, and the line of the source";
+    file_command(alloc, "check", about)?.arg(flag_argument(alloc, "source", help))
+}
+
 /// `explain`.
 fn explain_command<'a>(alloc: Global) -> Result<Command<'a>, AllocError>
     ensures { IfOk result (IsCommand (with_color (with_json (with_file (codes "explain"))))) }
@@ -364,8 +373,7 @@ pub fn command<'a>(alloc: Global) -> Result<Command<'a>, AllocError>
         .version(VERSION)
         .about("Programs with atomic sections: locks inferred from protected_by annotations")
         .subcommand_required(true);
-    let about = "Say in which order locks are taken, and which ones before each statement";
-    let line = with_command(Ok(line), file_command(alloc, "check", about));
+    let line = with_command(Ok(line), check_command(alloc));
     let line = with_command(line, explain_command(alloc));
     let about = "Write the program's text laid out anew, with its tokens and comments";
     let line = with_command(line, file_command(alloc, "format", about));

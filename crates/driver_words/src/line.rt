@@ -80,7 +80,10 @@ pub struct Running {
 #[derive(Clone, Copy, Debug, PartialEq, Eq)]
 pub enum Report<'a> {
     /// `check`: in which order it takes its locks, and which ones before each statement.
-    Check,
+    Check {
+        /// Whether each place is told with the helper that has it, and with its line in the source.
+        source: bool,
+    },
     /// `listing`: the instructions of its sections.
     Listing {
         /// Whether each is told with the line and the column of its statement.

@@ -113,7 +113,9 @@ fn request<'a>(command: &str, matches: &ArgMatches<'a>) -> Result<Request<'a>, U
     ensures unasked { IfErr result (IsUnasked command.now (rows_of (found_of matches.now))) }
 {
     let request = match command {
-        "check" => Request::Alone(Alone::Report(Report::Check)),
+        "check" => Request::Alone(Alone::Report(Report::Check {
+            source: flag(matches, "source"),
+        })),
         "explain" => return explaining(matches),
         "format" => Request::Alone(Alone::Format),
         "order" => Request::Alone(Alone::Order),

@@ -1,2 +1,4 @@
 pub mod Listed
 pub mod Uses
+mod Cuts
+mod FirstHelpers

@@ -35,26 +35,30 @@ take_text text program section start (i ∷ is) =
     line (codes "at " ++ position_text (line_of text start) (column_of text start)
     ++ codes " take" ++ paths_text program section (i ∷ is))
 
--- for each point, where its statement starts and with the list before it
+-- for each point what is written of it, by where its statement starts and the list before it
+abbrev pub takes_by : (ℕ → List ℕ → List ℕ) → List Point → List (List ℕ) → List ℕ
+takes_by take [] lists = []
+takes_by take (p ∷ ps) [] = []
+takes_by take (p ∷ ps) (list ∷ lists) = take (start_of p) list ++ takes_by take ps lists
+
 abbrev pub take_texts : List ℕ → Typed → Section → List Point → List (List ℕ) → List ℕ
-take_texts text program section [] lists = []
-take_texts text program section (p ∷ ps) [] = []
-take_texts text program section (p ∷ ps) (list ∷ lists) =
-    take_text text program section (start_of p) list ++ take_texts text program section ps lists
+take_texts text program section = takes_by (take_text text program section)
 
 -- section NAME, and its points
-abbrev pub section_text : List ℕ → Typed → Section → List (List ℕ) → List ℕ
-section_text text program section lists =
-    line (codes "section " ++ string_bytes section.name) ++ take_texts text program section (points section) lists
+abbrev pub section_by : (Section → ℕ → List ℕ → List ℕ) → Section → List (List ℕ) → List ℕ
+section_by take section lists =
+    line (codes "section " ++ string_bytes section.name) ++ takes_by (take section) (points section) lists
 
 -- for each section, with its lists
-abbrev pub section_texts : List ℕ → Typed → List Section → List (List (List ℕ)) → List ℕ
-section_texts text program [] lists = []
-section_texts text program (s ∷ ss) [] = []
-section_texts text program (s ∷ ss) (ls ∷ lists) = section_text text program s ls ++ section_texts text program ss lists
+abbrev pub sections_by : (Section → ℕ → List ℕ → List ℕ) → List Section → List (List (List ℕ)) → List ℕ
+sections_by take [] lists = []
+sections_by take (s ∷ ss) [] = []
+sections_by take (s ∷ ss) (ls ∷ lists) = section_by take s ls ++ sections_by take ss lists
 
 -- ---- the whole text, of a program with the rank of each class and the lists before the points of each section
+abbrev pub check_by : (Section → ℕ → List ℕ → List ℕ) → Typed → List ℕ → List (List (List ℕ)) → List ℕ
+check_by take program ranks lists =
+    line (codes "accepted") ++ rank_texts program ranks ++ sections_by take program.sections.items lists
+
 abbrev pub check_text : List ℕ → Typed → List ℕ → List (List (List ℕ)) → List ℕ
-check_text text program ranks lists =
-    line (codes "accepted") ++ rank_texts program ranks
-    ++ section_texts text program program.sections.items lists
+check_text text program = check_by (take_text text program) program

@@ -2,5 +2,6 @@
 -- cites them.
 pub mod Positions
 pub mod AllPoints
+pub mod HelperIndexes
 pub mod OrderValues
 pub mod Values

@@ -7,7 +7,9 @@ ghost use Rattle.rope.specs.Working.Ropes.{rope_text, Grows};
 ghost use Rattle.report_check.specs.Check.{ranked_class, rank_text, rank_texts};
 
 use crate::section_text::SectionText;
+use crate::sources::Sources;
 use code::path_texts;
+use core_lang::tree::Section;
 use core_lang::typed::Typed;
 use inserter::placed::Placed;
 use lockpaths::table::Paths;
@@ -80,12 +82,19 @@ pub struct Check<'a> {
 }
 
 impl Check<'_> {
-    ghost use Rattle.report_check.specs.Working.Values.{section_texts_of, check_text_of};
+    ghost use Rattle.report_check.specs.Working.Values.{AreOf, section_texts_of, told_text_of};
+    ghost use Rattle.report_check.specs.Working.Values.{check_text_of, sourced_check_text_of};
 
     // The lines of each section. Its statements stand behind those of the sections before it, so that the text is read
     // once.
-    fn push_sections(&self, alloc: Global, out: &mut Rope) -> Result<(), NoMemory>
-        ensures { OnOk result (Grows (section_texts_of self.now) out.old out.new) }
+    fn push_sections(
+        &self,
+        alloc: Global,
+        out: &mut Rope,
+        sources: Option<&Sources<'_>>,
+    ) -> Result<(), NoMemory>
+        requires { AreOf self.now.text.now sources }
+        ensures { OnOk result (Grows (section_texts_of sources.entry self.now) out.old out.new) }
     {
         let mut cursor = Cursor::new(self.text);
         for (i, section) in self.program.sections.iter().enumerate() {
@@ -98,10 +107,23 @@ impl Check<'_> {
                 section,
                 group: out.keep(paths)?,
                 lists,
+                sources,
             };
             lines.push(alloc, out, &mut cursor)?;
         }
         Ok(())
+    }
+
+    // The text, with what is told of places beside line and column.
+    fn told(&self, alloc: Global, sources: Option<&Sources<'_>>) -> Result<Rope, NoMemory>
+        requires { AreOf self.now.text.now sources }
+        ensures { IfOk result (λ text. rope_text text ≡ told_text_of sources.entry self.now) }
+    {
+        let mut ranks = String::from_str(alloc, "accepted\n")?;
+        push_ranks(&mut ranks, self.program, self.ranks)?;
+        let mut out = Rope::of(alloc, ranks);
+        self.push_sections(alloc, &mut out, sources)?;
+        Ok(out)
     }
 
     /// The text of `check`: that the program is accepted, the class of each rank, and for each section the points before
@@ -109,10 +131,15 @@ impl Check<'_> {
     pub fn text(&self, alloc: Global) -> Result<Rope, NoMemory>
         ensures { IfOk result (λ text. rope_text text ≡ check_text_of self.now) }
     {
-        let mut ranks = String::from_str(alloc, "accepted\n")?;
-        push_ranks(&mut ranks, self.program, self.ranks)?;
-        let mut out = Rope::of(alloc, ranks);
-        self.push_sections(alloc, &mut out)?;
-        Ok(out)
+        self.told(alloc, None)
+    }
+
+    /// The same, where each place at which a statement of one of these helpers starts has the helper's name behind it, and
+    /// behind each point comes the line of the source. The only error is a refused growth.
+    pub fn text_with_sources(&self, alloc: Global, helpers: &[Section]) -> Result<Rope, NoMemory>
+        ensures { IfOk result (λ text. rope_text text ≡ sourced_check_text_of helpers.now self.now) }
+    {
+        let sources = Sources::of(alloc, self.text, helpers)?;
+        self.told(alloc, Some(&sources))
     }
 }

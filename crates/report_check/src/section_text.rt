@@ -3,6 +3,7 @@
 ghost use Rattle.std.specs.Prelude.{◌≡◌, OnOk};
 ghost use Rattle.rope.specs.Working.Ropes.{AddsTo};
 
+use crate::sources::Sources;
 use core_lang::tree::Section;
 use core_lang::typed::Typed;
 use flow::points::{PointRef, points_of};
@@ -23,10 +24,51 @@ pub struct SectionText<'a> {
     pub group: usize,
     /// The lists before its points.
     pub lists: &'a SectionLists,
+    /// What is told of their places beside line and column, if it is.
+    pub sources: Option<&'a Sources<'a>>,
 }
 
 impl SectionText<'_> {
-    ghost use Rattle.report_check.specs.Working.Values.{HasPaths, taken_text_of, take_text_of, take_texts_of, section_text_of};
+    ghost use Rattle.report_check.specs.Working.Values.{AreOf, HasPaths, helper_text_of, line_text_of, at_text_of};
+    ghost use Rattle.report_check.specs.Working.Values.{taken_text_of, take_text_of, take_texts_of, section_text_of};
+
+    // The helper that has the place, if helpers are told and one has it.
+    fn push_helper(&self, out: &mut Rope, start: usize) -> Result<(), AllocError>
+        ensures { OnOk result (AddsTo (helper_text_of self.now.sources start) out.old out.new) }
+    {
+        match self.sources {
+            Some(sources) => sources.push_helper(out, start),
+            None => Ok(()),
+        }
+    }
+
+    // The line of the source at the place, if it is told.
+    fn push_line(&self, out: &mut Rope, start: usize) -> Result<(), AllocError>
+        ensures { OnOk result (AddsTo (line_text_of self.now.sources start) out.old out.new) }
+    {
+        match self.sources {
+            Some(sources) => sources.push_line(out, start),
+            None => Ok(()),
+        }
+    }
+
+    // The place.
+    fn push_at(
+        &self,
+        out: &mut Rope,
+        cursor: &mut Cursor<'_>,
+        start: usize,
+    ) -> Result<(), AllocError>
+        ensures same { cursor.new.text.now ≡ cursor.old.text.now }
+        ensures at { OnOk result (AddsTo (at_text_of cursor.old.text.now self.now.sources start) out.old out.new) }
+    {
+        cursor.go_to(start);
+        out.push_str("at ")?;
+        out.push_number(cursor.line)?;
+        out.push_str(":")?;
+        out.push_number(cursor.column)?;
+        self.push_helper(out, start)
+    }
 
     // The lock paths of a list, a space before each.
     fn push_taken(&self, out: &mut Rope, list: &[u8]) -> Result<(), AllocError>
@@ -40,7 +82,7 @@ impl SectionText<'_> {
         Ok(())
     }
 
-    // The line of a point whose statement starts at `start`, if its list is not empty.
+    // The line of a point whose statement starts at `start`, and that of the source, if its list is not empty.
     fn push_take(
         &self,
         out: &mut Rope,
@@ -48,21 +90,19 @@ impl SectionText<'_> {
         start: usize,
         list: &[u8],
     ) -> Result<(), AllocError>
-        requires { HasPaths self.now out.old }
+        requires of_text { AreOf cursor.old.text.now self.now.sources }
+        requires paths { HasPaths self.now out.old }
         ensures same { cursor.new.text.now ≡ cursor.old.text.now }
         ensures line { OnOk result (AddsTo (take_text_of cursor.old.text.now self.now start list.now) out.old out.new) }
     {
         if list.is_empty() {
             return Ok(());
         }
-        cursor.go_to(start);
-        out.push_str("at ")?;
-        out.push_number(cursor.line)?;
-        out.push_str(":")?;
-        out.push_number(cursor.column)?;
+        self.push_at(out, cursor, start)?;
         out.push_str(" take")?;
         self.push_taken(out, list)?;
-        out.push_str("\n")
+        out.push_str("\n")?;
+        self.push_line(out, start)
     }
 
     // The lines of points: of each whose list is not empty.
@@ -72,7 +112,8 @@ impl SectionText<'_> {
         cursor: &mut Cursor<'_>,
         points: &[PointRef<'_>],
     ) -> Result<(), AllocError>
-        requires { HasPaths self.now out.old }
+        requires of_text { AreOf cursor.old.text.now self.now.sources }
+        requires paths { HasPaths self.now out.old }
         ensures same { cursor.new.text.now ≡ cursor.old.text.now }
         ensures lines { OnOk result (AddsTo (take_texts_of cursor.old.text.now self.now points.now) out.old out.new) }
     {
@@ -92,7 +133,8 @@ impl SectionText<'_> {
         out: &mut Rope,
         cursor: &mut Cursor<'_>,
     ) -> Result<(), NoMemory>
-        requires { HasPaths self.now out.old }
+        requires of_text { AreOf cursor.old.text.now self.now.sources }
+        requires paths { HasPaths self.now out.old }
         ensures same { cursor.new.text.now ≡ cursor.old.text.now }
         ensures lines { OnOk result (AddsTo (section_text_of cursor.old.text.now self.now) out.old out.new) }
     {

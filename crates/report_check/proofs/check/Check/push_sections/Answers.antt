@@ -27,8 +27,8 @@ last_is : (groups : List (List (List ℕ))) (parts : List (List ℕ)) →
 last_is [] parts = refl
 last_is (g ∷ gs) parts = last_is gs parts
 
-pub push-requires : goal.push-requires
-push-requires c =
+pub push-requires-clause-paths : goal.push-requires-clause-paths
+push-requires-clause-paths c =
     let program = c.args.self.now.program.now in
     let paths = c.args.self.now.paths.now in
     let s = c.section-item.result in
