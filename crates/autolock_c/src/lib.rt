@@ -36,11 +36,12 @@ pub extern "C" fn autolock_check(
     out: &mut [u8],
     needed: &mut usize,
 ) -> u8
-    ensures given { result ≢ 4 → IsGiven (TextAnswers (IsCheckReport text.now) [] text.now)
+    ensures given { result ≢ 4 → IsGiven (TextAnswers (IsCheckReport false text.now) [] text.now)
         result out.old out.new needed.new }
     ensures memory { result ≡ 4 → IsNothing out.old out.new needed.new }
 {
-    give(&reported(alloc, Report::Check, text), out, needed)
+    let report = Report::Check { source: false };
+    give(&reported(alloc, report, text), out, needed)
 }
 
 /// Tells the fault of the program of a text, with its place in the text and what can be done about it; or that it has

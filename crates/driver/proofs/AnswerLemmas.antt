@@ -33,11 +33,12 @@ of_breach (Some breach) is = serving.unexpected is
 
 of_program : (report : Report) (text : List ℕ) (plan : Plan) (status : Status) (out err : List ℕ) →
     IsReport report text plan status out err → IsAnswered status
-of_program Check text plan status out err is = serving.done is.ended
+of_program (Check source) text plan status out err is = serving.done is.ended
 of_program (Listing places) text plan status out err is = serving.done is.ended
 of_program (Serial turns changed) text plan status out err (all_settled is) = serving.done is.ended
 of_program (Serial turns changed) text plan status out err (stopped is) = serving.unsettled is.ended
 of_program (Outcomes looking) text plan status out err (outcomes.all_told is) = of_breach (breach_of is.expected is.asked is.ends) is.ended
+of_program (Outcomes looking) text plan status out err (outcomes.reduced_told is) = of_breach (breach_of is.expected is.asked is.ends) is.ended
 of_program (Outcomes looking) text plan status out err (outcomes.drawn_told is) = of_breach (breach_of is.expected is.asked is.ends) is.ended
 of_program (Outcomes looking) text plan status out err (outcomes.meaningless is) = serving.bad_input is.ended
 of_program (Outcomes looking) text plan status out err (outcomes.numberless is) = serving.bad_input is.ended

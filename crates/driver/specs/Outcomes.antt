@@ -5,11 +5,14 @@ use Rattle.std.specs.Fmt.{decimal}
 use Rattle.code.specs.Listing.{line}
 use Rattle.core_lang.specs.declared.typed.Typed.{Typed}
 use Rattle.core_lang.specs.Serial.{Invocation, Scheduled}
-use Rattle.outcomes.specs.Ends.{Told, AreAllEnds, AreDrawnEnds, HasConfigurations, StopsAfter, done_after}
+use Rattle.outcomes.specs.Ends.{Told, AreAllEnds, AreEndsOfAll, AreDrawnEnds, HasConfigurations, HasSomeConfigurations}
+use Rattle.outcomes.specs.Ends.{StopsAfter, done_after}
 use Rattle.outcomes.specs.Orders.{next_call, one_more, none_done}
 use Rattle.outcomes.specs.declared.outcome.Asked.{Asked}
 use Rattle.report_outcomes.specs.Names.{names_together, AreAsked, IsUnknownIn}
 use Rattle.report_outcomes.specs.Outcomes.{outcomes_text}
+use Rattle.report_outcomes.specs.declared.ends.Scope.{Scope}
+use Rattle.report_outcomes.specs.declared.ends.Scope.TheVariants.{All as Every_order, Reduced, Drawn}
 use Rattle.report.specs.History.{unsettled_of}
 use Rattle.expectations.specs.declared.comparison.Comparison.{Comparison}
 use Rattle.expectations.specs.Texts.{Said, meaning_of}
@@ -65,10 +68,10 @@ breach_of None asked ends = None
 breach_of (Some e) asked ends = breach_in asked.cells e.comparison ends
 
 -- what is told of that
-abbrev pub judged : Typed → Option Expected → Asked → Option ℕ → List Told → List ℕ
-judged program None asked states ends = []
-judged program (Some e) asked states ends =
-    expected_text program asked.cells e.text states (breach_in asked.cells e.comparison ends)
+abbrev pub judged : Typed → Option Expected → Asked → Scope → List Told → List ℕ
+judged program None asked scope ends = []
+judged program (Some e) asked scope ends =
+    expected_text program asked.cells e.text scope (breach_in asked.cells e.comparison ends)
 
 -- the status where there is such an end, and where there is none
 abbrev pub ended_by : Option Told → Status
@@ -86,7 +89,22 @@ pub record TellsAll (looking : Looking) (program : Typed) (status : Status) (out
   pub states : ℕ
   pub counted : HasConfigurations program asked.answers states
   pub ended : status ≡ ended_by (breach_of expected asked ends)
-  pub written : out ≡ outcomes_text program asked looking.full (Some states) ends ++ judged program expected asked (Some states) ends
+  pub written : out ≡ outcomes_text program asked looking.full (Every_order states) ends ++ judged program expected asked (Every_order states) ends
+  pub told : err ≡ []
+
+-- there are more orders than are looked at, and some that were looked at stand for all: out tells the ends of all, how many states
+-- those come by that were looked at, and whether the ends are as expected; err is empty
+pub record TellsReduced (looking : Looking) (program : Typed) (status : Status) (out err : List ℕ) : Type 0 where
+  pub expected : Option Expected
+  pub is_expected : IsExpected program (text_given looking) expected
+  pub asked : Asked
+  pub is_asked : IsAsked looking program expected asked
+  pub ends : List Told
+  pub all : AreEndsOfAll program looking.turns asked ends
+  pub states : ℕ
+  pub counted : HasSomeConfigurations program asked.answers states
+  pub ended : status ≡ ended_by (breach_of expected asked ends)
+  pub written : out ≡ outcomes_text program asked looking.full (Reduced states) ends ++ judged program expected asked (Reduced states) ends
   pub told : err ≡ []
 
 -- there are more orders than are looked at: out tells the ends of so many that were drawn, and whether they are as expected; err is
@@ -99,7 +117,7 @@ pub record TellsDrawn (looking : Looking) (program : Typed) (status : Status) (o
   pub ends : List Told
   pub drawn : AreDrawnEnds program looking.count asked ends
   pub ended : status ≡ ended_by (breach_of expected asked ends)
-  pub written : out ≡ outcomes_text program asked looking.full None ends ++ judged program expected asked None ends
+  pub written : out ≡ outcomes_text program asked looking.full Drawn ends ++ judged program expected asked Drawn ends
   pub told : err ≡ []
 
 -- autolock: no cell is named NAME
@@ -164,6 +182,7 @@ pub record StopsInOrder (turns : ℕ) (program : Typed) (status : Status) (out e
 -- what `outcomes` answers for a program
 pub data IsLookedAt (looking : Looking) (program : Typed) (status : Status) (out err : List ℕ) : Type 0 where
   all_told : TellsAll looking program status out err → IsLookedAt looking program status out err
+  reduced_told : TellsReduced looking program status out err → IsLookedAt looking program status out err
   drawn_told : TellsDrawn looking program status out err → IsLookedAt looking program status out err
   unknown_named : NamesNoCell looking program status out err → IsLookedAt looking program status out err
   numberless : NamesNoNumber looking program status out err → IsLookedAt looking program status out err

@@ -25,7 +25,7 @@ use Rattle.driver.specs.Traces.{IsTraceAnswer}
 
 -- what is told of an accepted program with this text
 abbrev pub IsReport : Report → List ℕ → Plan → Status → List ℕ → List ℕ → Type 0
-IsReport Check text plan = IsCheckReport text plan
+IsReport (Check source) text plan = IsCheckReport source text plan
 IsReport (Listing places) text plan = IsListed places text plan
 IsReport (Serial turns changed) text plan = IsRun turns changed plan.accepted
 IsReport (Outcomes looking) text plan = IsLookedAt looking plan.accepted

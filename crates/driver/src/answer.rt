@@ -118,9 +118,9 @@ fn accepted(alloc: Global, source: &Named<'_>) -> Result<Result<Program, Answer>
     }
 }
 
-/// The text of what is found of a program.
-fn checked(alloc: Global, text: &[u8], program: &Program) -> Result<Answer, NoMemory>
-    ensures { IfOk result (Meets (IsCheckReport text.now program.now)) }
+/// The text of what is found of a program with this text, told with the lines of its source or without.
+fn checked(alloc: Global, source: bool, text: &[u8], program: &Program) -> Result<Answer, NoMemory>
+    ensures { IfOk result (Meets (IsCheckReport source text.now program.now)) }
 {
     let check = Check {
         text,
@@ -129,6 +129,10 @@ fn checked(alloc: Global, text: &[u8], program: &Program) -> Result<Answer, NoMe
         ranks: program.ranks(),
         placed: program.placed(),
     };
+    if source {
+        let helpers = &program.typed().shape.helpers;
+        return Ok(Answer::done(alloc, check.text_with_sources(alloc, helpers)?));
+    }
     Ok(Answer::done(alloc, check.text(alloc)?))
 }
 
@@ -239,7 +243,7 @@ fn reported(
     ensures { IfOk result (Meets (IsReport report.entry text.now program.now)) }
 {
     match report {
-        Report::Check => checked(alloc, text, program),
+        Report::Check { source } => checked(alloc, source, text, program),
         Report::Listing { places } => listed(alloc, places, text, program),
         Report::Serial { turns, changed } => {
             let prepared = prepared(alloc, program)?;

@@ -133,10 +133,11 @@ pub fn check<S: Read, O: Write, E: Write>(
 ) -> Status
     requires readable { reading_failed source.old ≡ false }
     requires writable { writing_failed streams.old.out ≡ false }
-    ensures { Serves (OfOne (AloneAnswers (Alone.Report Report.Check) (name_of source.old))) (reading_of S.remaining source.old source.new) []
+    ensures { Serves (OfOne (AloneAnswers (Alone.Report (Report.Check false)) (name_of source.old)))
+        (reading_of S.remaining source.old source.new) []
         O.contents E.contents streams.old streams.new result }
 {
-    serve_report(alloc, Report::Check, source, streams)
+    serve_report(alloc, Report::Check { source: false }, source, streams)
 }
 
 /// Writes the instructions of each section of the program that `source` gives. Ends as [`serve`] does.

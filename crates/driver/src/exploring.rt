@@ -8,7 +8,7 @@ ghost use Rattle.code.specs.Listing.{line};
 ghost use Rattle.expectations.specs.Texts.{said_of};
 ghost use Rattle.expectations.specs.Cells.{names_of};
 ghost use Rattle.driver.specs.Working.Answering.{Meets, IsMessage, IsToldAnswer, expected_of};
-ghost use Rattle.driver.specs.Outcomes.{IsLookedAt, IsExpected, StopsInOrder, text_given, ended_by, unknown_cell, no_number, no_comparison};
+ghost use Rattle.driver.specs.Outcomes.{IsLookedAt, IsAsked, IsExpected, StopsInOrder, text_given, ended_by, unknown_cell, no_number, no_comparison};
 
 use crate::answer::Answer;
 use crate::order_calls::order_calls;
@@ -23,7 +23,7 @@ use meaning_registers::prepared::Prepared;
 use outcomes::outcome::{Asked, Found, Outcome};
 use outcomes::search::Search;
 use report::unsettled_text;
-use report_outcomes::{Ends, asked_cells};
+use report_outcomes::{Ends, Scope, asked_cells};
 use rope::Rope;
 use source::keyed::KeyedState;
 use source::memory::NoMemory;
@@ -96,23 +96,18 @@ pub struct Exploring<'a> {
 
 impl Exploring<'_> {
     /// Ends, with what is told of them.
-    fn ends_of<'e>(
-        &'e self,
-        asked: &'e Asked,
-        states: Option<usize>,
-        ends: &'e [Outcome],
-    ) -> Ends<'e>
+    fn ends_of<'e>(&'e self, asked: &'e Asked, scope: Scope, ends: &'e [Outcome]) -> Ends<'e>
         ensures program { result.program.now ≡ self.entry.now.prepared.now.program.now }
         ensures asked { result.asked.now ≡ asked.entry.now }
         ensures full { result.full ≡ self.entry.now.looking.full }
-        ensures states { result.states ≡ states }
+        ensures scope { result.scope ≡ scope }
         ensures ends { result.ends.now ≡ ends.entry.now }
     {
         Ends {
             program: self.prepared.program(),
             asked,
             full: self.looking.full,
-            states,
+            scope,
             ends,
         }
     }
@@ -124,7 +119,7 @@ impl Exploring<'_> {
         ends: &Ends<'_>,
         expected: Option<&Expected<'_>>,
     ) -> Result<Answer, NoMemory>
-        ensures { IfOk result (IsToldAnswer ends.now.program.now ends.now.asked.now ends.now.full ends.now.states
+        ensures { IfOk result (IsToldAnswer ends.now.program.now ends.now.asked.now ends.now.full ends.now.scope
             (map told_of ends.now.ends.now) (option_map (λ e. expected_of e.now) expected.entry)) }
     {
         let mut text = ends.text(alloc)?;
@@ -188,6 +183,42 @@ impl Exploring<'_> {
         Ok(Answer::written(alloc, Status::Unsettled, Rope::of(alloc, out)))
     }
 
+    /// What is told of what is found, where ends are told apart by this.
+    fn looked_at(
+        &self,
+        alloc: Global,
+        asked: &Asked,
+        expected: Option<&Expected<'_>>,
+    ) -> Result<Answer, NoMemory>
+        requires checked { IsChecked self.now.prepared.now.program.now }
+        requires expansion { IsExpansion self.now.prepared.now.program.now self.now.prepared.now.written.now }
+        requires expected { IsExpected self.now.prepared.now.program.now (text_given self.now.looking) (option_map (λ e. expected_of e.now) expected) }
+        requires asked { IsAsked self.now.looking self.now.prepared.now.program.now (option_map (λ e. expected_of e.now) expected) asked.now }
+        ensures { IfOk result (Meets (IsLookedAt self.now.looking self.now.prepared.now.program.now)) }
+    {
+        match self.found(alloc, asked)? {
+            Found::All {
+                ends,
+                configurations,
+            } => {
+                let ends = self.ends_of(asked, Scope::All(configurations), &ends);
+                self.told(alloc, &ends, expected)
+            }
+            Found::Reduced {
+                ends,
+                configurations,
+            } => {
+                let ends = self.ends_of(asked, Scope::Reduced(configurations), &ends);
+                self.told(alloc, &ends, expected)
+            }
+            Found::Drawn(ends) => {
+                let ends = self.ends_of(asked, Scope::Drawn, &ends);
+                self.told(alloc, &ends, expected)
+            }
+            Found::Unsettled { order, thread } => self.stopped(alloc, &order, thread),
+        }
+    }
+
     /// How the cells, and if asked the calls, can end, over the orders that are looked at, and whether that is as expected.
     fn explored(&self, alloc: Global, expected: Option<&Expected<'_>>) -> Result<Answer, NoMemory>
         requires checked { IsChecked self.now.prepared.now.program.now }
@@ -210,20 +241,7 @@ impl Exploring<'_> {
             cells,
             answers: self.looking.answers,
         };
-        match self.found(alloc, &asked)? {
-            Found::All {
-                ends,
-                configurations,
-            } => {
-                let ends = self.ends_of(&asked, Some(configurations), &ends);
-                self.told(alloc, &ends, expected)
-            }
-            Found::Drawn(ends) => {
-                let ends = self.ends_of(&asked, None, &ends);
-                self.told(alloc, &ends, expected)
-            }
-            Found::Unsettled { order, thread } => self.stopped(alloc, &order, thread),
-        }
+        self.looked_at(alloc, &asked, expected)
     }
 
     /// The same where this is expected.

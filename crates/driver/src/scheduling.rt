@@ -2,7 +2,7 @@
 
 ghost use Rattle.std.specs.Prelude.{◌≡◌, IfOk};
 ghost use Rattle.driver.specs.Working.Answering.{Meets};
-ghost use Rattle.driver.specs.Schedules.{AreScheduled, IsScheduled};
+ghost use Rattle.driver.specs.Schedules.{IsScheduled, scheduled_items};
 
 use crate::answer::Answer;
 use driver_words::Scheduling;
@@ -15,7 +15,7 @@ use std::alloc::Global;
 
 /// The items of a steps file.
 fn items_of(alloc: Global, program: &Program, scheduling: Scheduling) -> Result<Vec<Item>, NoMemory>
-    ensures { IfOk result (λ items. AreScheduled scheduling program.now items.items) }
+    ensures { IfOk result (λ items. items.items ≡ scheduled_items scheduling program.now) }
 {
     let length = scheduling.length as usize;
     if scheduling.worst {

@@ -44,7 +44,8 @@ fn reads_lines(rt: HostRuntime) -> Result<(), Fail> {
     judge(
         rt.alloc(),
         "
-autolock check F => Line { file: \"F\", request: Alone(Report(Check)) }
+autolock check F => Line { file: \"F\", request: Alone(Report(Check { source: false })) }
+autolock check --source F => Line { file: \"F\", request: Alone(Report(Check { source: true })) }
 autolock explain F => Line { file: \"F\", request: Alone(Explain { json: false, color: Auto }) }
 autolock explain F --json => Line { file: \"F\", request: Alone(Explain { json: true, color: Auto }) }
 autolock explain --color always F => Line { file: \"F\", request: Alone(Explain { json: false, color: Always }) }
@@ -55,19 +56,26 @@ autolock lsp => Line { file: \"\", request: Lsp }
 autolock listing F => Line { file: \"F\", request: Alone(Report(Listing { places: false })) }
 autolock listing --places F => Line { file: \"F\", request: Alone(Report(Listing { places: true })) }
 autolock emit F => Line { file: \"F\", request: Alone(Report(Emit(Emission { header: false, prefix: \"al\", lines: false, file: \"F\" }))) }
-autolock emit --header --prefix bank F => Line { file: \"F\", request: Alone(Report(Emit(Emission { header: true, prefix: \"bank\", lines: false, file: \"F\" }))) }
+autolock emit --header --prefix bank F => Line { file: \"F\", request: Alone(Report(Emit(Emission { \
+    header: true, prefix: \"bank\", lines: false, file: \"F\" }))) }
 autolock emit --lines F => Line { file: \"F\", request: Alone(Report(Emit(Emission { header: false, prefix: \"al\", lines: true, file: \"F\" }))) }
 autolock serial F => Line { file: \"F\", request: Alone(Report(Serial { turns: 1000000, changed: false })) }
 autolock serial --turns 7 F => Line { file: \"F\", request: Alone(Report(Serial { turns: 7, changed: false })) }
 autolock serial --turns=0 F => Line { file: \"F\", request: Alone(Report(Serial { turns: 0, changed: false })) }
 autolock serial --turns 1000000000 F => Line { file: \"F\", request: Alone(Report(Serial { turns: 1000000000, changed: false })) }
 autolock serial --changed F => Line { file: \"F\", request: Alone(Report(Serial { turns: 1000000, changed: true })) }
-autolock outcomes F => Line { file: \"F\", request: Alone(Report(Outcomes(Looking { turns: 1000000, count: 100000, seed: 0, cells: None, answers: false, full: false, expect: None }))) }
-autolock outcomes --seed 5 --count 3 F => Line { file: \"F\", request: Alone(Report(Outcomes(Looking { turns: 1000000, count: 3, seed: 5, cells: None, answers: false, full: false, expect: None }))) }
-autolock outcomes --cells n,a[0] F => Line { file: \"F\", request: Alone(Report(Outcomes(Looking { turns: 1000000, count: 100000, seed: 0, cells: Some(\"n,a[0]\"), answers: false, full: false, expect: None }))) }
-autolock outcomes --answers --full F => Line { file: \"F\", request: Alone(Report(Outcomes(Looking { turns: 1000000, count: 100000, seed: 0, cells: None, answers: true, full: true, expect: None }))) }
-autolock outcomes --turns 7 F => Line { file: \"F\", request: Alone(Report(Outcomes(Looking { turns: 7, count: 100000, seed: 0, cells: None, answers: false, full: false, expect: None }))) }
-autolock outcomes --expect a==3 F => Line { file: \"F\", request: Alone(Report(Outcomes(Looking { turns: 1000000, count: 100000, seed: 0, cells: None, answers: false, full: false, expect: Some(\"a==3\") }))) }
+autolock outcomes F => Line { file: \"F\", request: Alone(Report(Outcomes(Looking { \
+    turns: 1000000, count: 100000, seed: 0, cells: None, answers: false, full: false, expect: None }))) }
+autolock outcomes --seed 5 --count 3 F => Line { file: \"F\", request: Alone(Report(Outcomes(Looking { \
+    turns: 1000000, count: 3, seed: 5, cells: None, answers: false, full: false, expect: None }))) }
+autolock outcomes --cells n,a[0] F => Line { file: \"F\", request: Alone(Report(Outcomes(Looking { \
+    turns: 1000000, count: 100000, seed: 0, cells: Some(\"n,a[0]\"), answers: false, full: false, expect: None }))) }
+autolock outcomes --answers --full F => Line { file: \"F\", request: Alone(Report(Outcomes(Looking { \
+    turns: 1000000, count: 100000, seed: 0, cells: None, answers: true, full: true, expect: None }))) }
+autolock outcomes --turns 7 F => Line { file: \"F\", request: Alone(Report(Outcomes(Looking { \
+    turns: 7, count: 100000, seed: 0, cells: None, answers: false, full: false, expect: None }))) }
+autolock outcomes --expect a==3 F => Line { file: \"F\", request: Alone(Report(Outcomes(Looking { \
+    turns: 1000000, count: 100000, seed: 0, cells: None, answers: false, full: false, expect: Some(\"a==3\") }))) }
 autolock schedule F => Line { file: \"F\", request: Alone(Report(Schedule(Scheduling { seed: 0, length: 100, worst: false }))) }
 autolock schedule --seed 3 --length 7 --worst F => Line { file: \"F\", request: Alone(Report(Schedule(Scheduling { seed: 3, length: 7, worst: true }))) }
 autolock simulate F S => Line { file: \"F\", request: Beside(Simulate, \"S\") }

@@ -17,7 +17,7 @@ use Rattle.driver_words.specs.declared.line.Report.TheVariants as report
 abbrev pub Named : List ℕ → Option Asked → Type 0
 Named word result = record {
   check : (result ≡ Some (Engine Check)) ↔ (word ≡ codes "check");
-  lists : (result ≡ Some (Engine (Report report.Check))) ↔ (word ≡ codes "lists");
+  lists : (result ≡ Some (Engine (Report (report.Check false)))) ↔ (word ≡ codes "lists");
   graph : (result ≡ Some (Engine Graph)) ↔ (word ≡ codes "graph");
   listing : (result ≡ Some (Engine (Report (report.Listing false)))) ↔ (word ≡ codes "listing");
   places : (result ≡ Some (Engine (Report (report.Listing true)))) ↔ (word ≡ codes "places");
@@ -37,7 +37,7 @@ Named word result = record {
 pub named_check : Named (codes "check") (Some (Engine Check))
 named_check = search rules
 
-pub named_lists : Named (codes "lists") (Some (Engine (Report report.Check)))
+pub named_lists : Named (codes "lists") (Some (Engine (Report (report.Check false))))
 named_lists = search rules
 
 pub named_graph : Named (codes "graph") (Some (Engine Graph))

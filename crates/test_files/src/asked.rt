@@ -62,7 +62,8 @@ impl Asked<'_> {
     /// What this word asks, if it is one of those below.
     pub fn named(word: &str) -> Option<Asked<'_>>
         ensures check { (result ≡ Some (Asked.Engine Engine.Check)) ↔ (word.now ≡ codes "check") }
-        ensures lists { (result ≡ Some (Asked.Engine (Engine.Report Report.Check))) ↔ (word.now ≡ codes "lists") }
+        ensures lists { (result ≡ Some (Asked.Engine (Engine.Report (Report.Check false))))
+            ↔ (word.now ≡ codes "lists") }
         ensures graph { (result ≡ Some (Asked.Engine Engine.Graph)) ↔ (word.now ≡ codes "graph") }
         ensures listing { (result ≡ Some (Asked.Engine (Engine.Report (Report.Listing false)))) ↔ (word.now ≡ codes "listing") }
         ensures places { (result ≡ Some (Asked.Engine (Engine.Report (Report.Listing true)))) ↔ (word.now ≡ codes "places") }
@@ -92,7 +93,7 @@ impl Asked<'_> {
         }
         match word {
             "check" => Some(Asked::Engine(Engine::Check)),
-            "lists" => Some(Asked::Engine(Engine::Report(Report::Check))),
+            "lists" => Some(Asked::Engine(Engine::Report(Report::Check { source: false }))),
             "graph" => Some(Asked::Engine(Engine::Graph)),
             "listing" => Some(listing(false)),
             "places" => Some(listing(true)),

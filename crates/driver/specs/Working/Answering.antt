@@ -6,6 +6,7 @@ use Rattle.core_lang.specs.declared.typed.Typed.{Typed}
 use Rattle.lowering.specs.Plans.{Plan, IsCompiled}
 use Rattle.outcomes.specs.declared.outcome.Asked.{Asked}
 use Rattle.outcomes.specs.Ends.{Told}
+use Rattle.report_outcomes.specs.declared.ends.Scope.{Scope}
 use Rattle.report_outcomes.specs.Outcomes.{outcomes_text}
 use Rattle.source.specs.declared.fault.Fault.{Fault}
 use Rattle.explanation.specs.declared.explanation.Acceptance.{Acceptance}
@@ -76,10 +77,10 @@ abbrev pub expected_of : exploring.Expected → Expected
 expected_of e = record { text = e.text.now; said = said_of e.expectation; comparison = e.comparison }
 
 -- to ends of all orders, or of some that were drawn, with what is expected of them
-abbrev pub IsToldAnswer : Typed → Asked → Bool → Option ℕ → List Told → Option Expected → Answer → Type 0
-IsToldAnswer program asked full states ends expected answer =
+abbrev pub IsToldAnswer : Typed → Asked → Bool → Scope → List Told → Option Expected → Answer → Type 0
+IsToldAnswer program asked full scope ends expected answer =
     (answer.status ≡ ended_by (breach_of expected asked ends))
-    × (rope_text answer.out ≡ outcomes_text program asked full states ends ++ judged program expected asked states ends)
+    × (rope_text answer.out ≡ outcomes_text program asked full scope ends ++ judged program expected asked scope ends)
     × (string_bytes answer.err ≡ [])
 
 -- a text was accepted, or this is the answer to its fault
