@@ -41,7 +41,8 @@ _autolock() {
         explain/-*) mapfile -t COMPREPLY < <(compgen -W "--json --color -h --help" -- "$word") ;;
         emit/-*) mapfile -t COMPREPLY < <(compgen -W "--header --prefix --lines -h --help" -- "$word") ;;
         listing/-*) mapfile -t COMPREPLY < <(compgen -W "--places -h --help" -- "$word") ;;
-        check/-* | format/-* | order/-* | simulate/-* | lsp/-*) mapfile -t COMPREPLY < <(compgen -W "-h --help" -- "$word") ;;
+        check/-*) mapfile -t COMPREPLY < <(compgen -W "--source -h --help" -- "$word") ;;
+        format/-* | order/-* | simulate/-* | lsp/-*) mapfile -t COMPREPLY < <(compgen -W "-h --help" -- "$word") ;;
         simulate/* | trace/*) if [ $at -gt 0 ]; then _autolock_files "$word" .steps; else _autolock_files "$word" .al; fi ;;
         replay/*)
             if [ "$before" = --turns ]; then :; elif [ $at -gt 0 ]; then _autolock_files "$word" ''; else _autolock_files "$word" .al; fi

@@ -41,6 +41,7 @@ complete -c autolock -n '__fish_seen_subcommand_from replay' -l why -d 'Say what
 complete -c autolock -n '__fish_seen_subcommand_from replay' -l open -d 'Take calls from outside: any threads call any sections, whatever the scripts are'
 complete -c autolock -n '__fish_seen_subcommand_from explain' -l json -d 'Tell it as a JSON object, in one line'
 complete -c autolock -n '__fish_seen_subcommand_from explain' -l color -x -a 'auto always never' -d 'Whether to write in colours: auto, always or never'
+complete -c autolock -n '__fish_seen_subcommand_from check' -l source -d 'Tell also the helper of each place, and the line of the source'
 complete -c autolock -n '__fish_seen_subcommand_from listing' -l places -d 'Tell where each instruction\'s statement starts'
 complete -c autolock -n '__fish_seen_subcommand_from emit' -l header -d 'Write the header of that C file'
 complete -c autolock -n '__fish_seen_subcommand_from emit' -l lines -d 'Tell debuggers and sanitizers the lines of FILE'

@@ -10,7 +10,7 @@
 command=
 commands=(check explain format order listing emit serial outcomes schedule simulate trace run replay lsp)
 turns= count= seed= length= times= prefix= cells= color= expect=
-json= places= header= lines= changed= answers= full= worst= sections= all= why= open=
+json= source= places= header= lines= changed= answers= full= worst= sections= all= why= open=
 has_prefix= has_cells= has_color= has_expect=
 used=
 settled=
@@ -71,6 +71,7 @@ names_of() {
 # The options of a command, in the order of its help.
 options_of() {
     case $1 in
+        check) echo source ;;
         explain) echo json color ;;
         listing) echo places ;;
         emit) echo header prefix lines ;;
@@ -118,9 +119,9 @@ with_value() {
 usage_of() {
     local option=${2-}
     case $1 in
-        check | format | order) echo "$1 ${option:+$option }<FILE>" ;;
+        format | order) echo "$1 ${option:+$option }<FILE>" ;;
         lsp) echo "$1${option:+ $option}" ;;
-        serial | explain | listing | emit | outcomes | schedule | run) echo "$1 ${option:-[OPTIONS]} <FILE>" ;;
+        check | serial | explain | listing | emit | outcomes | schedule | run) echo "$1 ${option:-[OPTIONS]} <FILE>" ;;
         replay) echo "replay ${option:-[OPTIONS]} <FILE> <HISTORY>" ;;
         trace) echo "trace ${option:-[OPTIONS]} <FILE> <STEPS>" ;;
         simulate) echo "simulate ${option:+$option }<FILE> <STEPS>" ;;

@@ -69,6 +69,8 @@ try tests/codes.py "$program"
 try tests/colors.py "$program"
 try tests/warnings.py "$program"
 try tests/ends_told.py "$program"
+try tests/outcomes.py "$program" --count 40
+try tests/sources.py "$program"
 try tests/runs.py "$program" --times 5 --transfers 200
 tests/rows.py --write "$room"
 try tests/failing.py --program "$program" --commands run --every 7 \
@@ -88,6 +90,7 @@ try tests/nvim.py "$program"
 for script in believed promises editors; do
     try "tests/$script.py"
 done
+try tests/edits.py --applies
 if [ $# = 0 ] && [ "$failed" = 0 ] && [ -z "$(git status --porcelain 2>/dev/null)" ]; then
     { git rev-parse HEAD && rt version && grep '^rt: ok' "$room/ci" && echo "$passed passed, $failed failed"; } >out/gate
 fi

@@ -41,8 +41,12 @@ PAGES = {"crates/driver/src/code_pages.rt": ["explain_code"]}
 EDITORS = {"crates/driver/src/editors.rt": ["lsp"]}
 # What C is given of that, beside what the engines do.
 LIBRARY = {"crates/autolock_c/src/lib.rt": None}
+# What `outcomes` says of orders that it didn't look at, beside what the engines do.
+ORDERS = {"crates/independence/src/laws.rt": None, "crates/independence/src/groups.rt": ["groups"], "crates/expectations/src/laws.rt": None}
 # What `emit` answers counts there, and not among the engines.
 ANSWERED = ("driver.specs.Emissions", "IsEmitted")
+# What crates below the driver promise their readers, though the driver passes none of it on.
+BESIDE = {"crates/schedules/src/laws.rt": None, "crates/run_gates/src/delaying.rt": None}
 THREADS = {
     "crates/workers/src/shared.rt": ["open", "call", "agree", "close"],
     "crates/workers/src/threads.rt": ["run_threads"],
@@ -261,7 +265,7 @@ def wrong_words(counted):
 
 def others():
     """All public calls of the crates that are no part of the engines, of those that are laws for their readers, and of
-    the command line, of which the engines have no more than the requests."""
+    the command line, of which the engines have no more than the requests; and what is promised beside the driver."""
     lines = re.findall(r"^(\w+)[^:\n]*:(.*)$", (TOP / "crates.txt").read_text(), re.M)
     below, todo = set(), ["driver"]
     deps = {name: names.split() for name, names in lines}
@@ -270,17 +274,18 @@ def others():
         if crate in deps and crate not in below:
             below.add(crate)
             todo += deps[crate]
-    return {str(it.relative_to(TOP)): None for crate in deps if crate not in below or crate.endswith("_laws") or crate == "driver_words" for it in (CRATES / crate).glob("src/**/*.rt")}
+    apart = [crate for crate in deps if crate not in below or crate.endswith("_laws") or crate == "driver_words"]
+    return {str(it.relative_to(TOP)): None for crate in apart for it in (CRATES / crate).glob("src/**/*.rt")} | BESIDE
 
 
 def main():
     reading, failed, tables, counted = Reading(), 0, [], {}
-    groups = (("The headline", HEADLINE), ("The compiler", COMPILER), ("All engines", engines()), ("Pages of codes", PAGES), ("Editors", EDITORS), ("The library for C", LIBRARY), ("Real threads", THREADS), ("Sections in C", EMITTED), ("Threads in C", IN_THREADS))
+    groups = (("The headline", HEADLINE), ("The compiler", COMPILER), ("All engines", engines()), ("Pages of codes", PAGES), ("Editors", EDITORS), ("The library for C", LIBRARY), ("Orders that are left out", ORDERS), ("Real threads", THREADS), ("Sections in C", EMITTED), ("Threads in C", IN_THREADS))
     believed = {module for module, _ in reading.begin(others()).seen}
     of_engines = {}
     for title, calls in groups:
         reading.begin(calls)
-        if calls is EDITORS or calls is LIBRARY:
+        if calls is EDITORS or calls is LIBRARY or calls is ORDERS:
             reading.seen = {name: lines for name, lines in reading.seen.items() if name not in of_engines}
         elif title == "All engines":
             of_engines = dict(reading.seen)

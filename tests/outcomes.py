@@ -11,8 +11,9 @@ The calls of each thread are what `serial` tells. An order of them is made the o
 own, and `serial` has to tell the cells that `outcomes` tells of it. Where the orders are at most `--most` (by default
 300), all of them are run so, with each of their beginnings: `outcomes` has to say `all`, to tell how many states these come
 by, and just the cells that they end in, each once, and of each after how many orders; and where some order meets a loop past its turns, the calls before that one and its place. Then it
-is asked to look at fewer orders than there are: it has to say `drawn`, and of as many orders cells that some of them end in.
-Where there are more orders than that, those that it tells are run.
+is asked to look at fewer orders than there are: it has to say `drawn`, and of as many orders cells that some of them end in; or
+`reduced`, and just the cells that all of them end in, by no more states than they have. Where there are more orders than that,
+those that it tells are run.
 
 Of each program comparisons are drawn too, sums of its cells and of numbers, some past 64 bits. What `--expect` says of them has to
 be what the ends that are told say, by a reader of this script: that all ends meet it, or the first that doesn't, with its order
@@ -34,9 +35,9 @@ import tempfile
 from schedules import without_threads
 
 CALL = re.compile(r"call (\d+) \d+ (.*\)) (ends|returns .*|traps \d+)$")
-FIRST = re.compile(r"orders (\d+) (all|drawn)$")
+FIRST = re.compile(r"orders (?:(\d+) (all|drawn)|reduced)$")
 STATES = re.compile(r"states (\d+)$")
-OUTCOME = re.compile(r"outcome (\d+) after((?: \d+)*)$")
+OUTCOME = re.compile(r"outcome (?:(\d+) )?after((?: \d+)*)$")
 TURNS = 50
 
 
@@ -62,6 +63,8 @@ def number_of_orders(lengths):
 
 
 class Judge:
+    reduced = 0
+
     def __init__(self, program, path, folder):
         self.program, self.path, self.folder = program, path, folder
         with open(path, encoding="latin-1") as source:
@@ -116,21 +119,25 @@ class Judge:
     def told(self, lines):
         """The first line's number and word, and of each outcome its count, its order and its cells."""
         number, scope = FIRST.match(lines[0]).groups()
+        scope = scope or "reduced"
         ends, at, self.states = [], 1, None
-        if scope == "all":
+        if scope != "drawn":
             at, self.states = 2, int(STATES.match(lines[1]).group(1))
         while at < len(lines):
             count, order = OUTCOME.match(lines[at]).groups()
+            if (count is None) != (scope == "reduced"):
+                raise Differs(f"{lines[at]} where orders are {scope}")
             end = lines.index("end", at) + 1
-            ends.append((int(count), tuple(map(int, order.split())), tuple(lines[at + 1 : end])))
+            ends.append((int(count or 1), tuple(map(int, order.split())), tuple(lines[at + 1 : end])))
             at = end
-        return int(number), scope, ends
+        return int(number or len(ends)), scope, ends
 
-    def judge_ends(self, lines, scope, number):
+    def judge_ends(self, lines, scopes, number):
         """Whether what is told is true, as far as its own orders go; and what is told."""
-        told_number, told_scope, ends = self.told(lines)
-        if (told_number, told_scope) != (number, scope):
-            raise Differs(f"{lines[0]}, and not {number} {scope}")
+        told_number, scope, ends = self.told(lines)
+        if scope not in scopes or scope != "reduced" and told_number != number:
+            raise Differs(f"{lines[0]}, and not {number} {scopes}")
+        self.scope, number = scope, told_number
         lengths = [len(script) for script in self.scripts]
         for count, order, cells in ends:
             if count < 1 or [order.count(t) for t in range(len(lengths))] != lengths or len(order) != sum(lengths):
@@ -164,16 +171,21 @@ class Judge:
         wanted = {}
         for order in orders:
             wanted[self.cells(order)] = wanted.get(self.cells(order), 0) + 1
-        if self.judge_ends(lines, "all", number) != wanted:
+        if self.judge_ends(lines, ("all",), number) != wanted:
             raise Differs("\n".join(lines) + f"\nbut all orders: {wanted}")
         states = {self.state(order[:length]) for order in orders for length in range(len(order) + 1)}
         if self.states != len(states):
             raise Differs(f"{self.states} states, and not {len(states)}")
         if number > 1:
             fewer = number - 1 if number < 5 else number // 2
-            drawn = self.judge_ends(self.outcomes(fewer)[1], "drawn", fewer)
-            if not drawn.keys() <= wanted.keys():
-                raise Differs("a drawn end that no order has")
+            lines = self.outcomes(fewer)[1]
+            some = self.judge_ends(lines, ("drawn", "reduced"), fewer)
+            if not some.keys() <= wanted.keys():
+                raise Differs("an end that no order has")
+            if self.scope == "reduced":
+                Judge.reduced += 1
+                if some.keys() != wanted.keys() or self.states > len(states):
+                    raise Differs("\n".join(lines) + f"\nbut all orders: {wanted}, by {len(states)} states")
 
     def judge(self, most):
         lengths = tuple(len(script) for script in self.scripts)
@@ -184,7 +196,7 @@ class Judge:
         status, lines = self.outcomes(count)
         if status == 7:
             return self.judge_stop(lines)
-        self.judge_ends(lines, "all" if number <= count else "drawn", count)
+        self.judge_ends(lines, ("all",) if number <= count else ("drawn", "reduced"), count)
 
 
 NAMES = {"x": ("x",), "y": ("y",), "a": ("a[0]", "a[1]"), "a[1]": ("a[1]",), "p": ("p[0].v",), "p[0]": ("p[0].v",), "p[0].v": ("p[0].v",)}
@@ -228,13 +240,13 @@ def values(lines):
 
 def judge_comparison(program, path, comparison, count):
     """What `--expect` says of a drawn program that has been judged without it."""
-    words = ["--full", "--turns", str(TURNS), "--count", str(count), "--expect", comparison.text, path]
+    words = ["--full", "--turns", str(TURNS), "--count", str(count), f"--expect={comparison.text}", path]
     done = subprocess.run([program, "outcomes", *words], capture_output=True, timeout=120)
     lines = done.stdout.decode("latin-1").split("\n")[:-1]
     if done.returncode == 7:
         return
-    number, scope = FIRST.match(lines[0]).groups()
-    at, breach = (2 if scope == "all" else 1), None
+    scope = FIRST.match(lines[0]).group(2) or "reduced"
+    at, breach = (1 if scope == "drawn" else 2), None
     while at < len(lines) and lines[at].startswith("outcome "):
         end = lines.index("end", at) + 1
         cells = values(lines[at + 1 : end])
@@ -243,10 +255,10 @@ def judge_comparison(program, path, comparison, count):
         if breach is None and not comparison.met_by(cells):
             breach = [f"expected {comparison.text} fails after{OUTCOME.match(lines[at]).group(2)}"] + lines[at + 1 : end]
         at = end
-    want = breach or [f"expected {comparison.text} holds in {'all orders' if scope == 'all' else 'the orders drawn'}"]
+    want = breach or [f"expected {comparison.text} holds in {'the orders drawn' if scope == 'drawn' else 'all orders'}"]
     if lines[at:] != want or done.returncode != (9 if breach else 0) or done.stderr:
         raise Differs(f"--expect {comparison.text!r}: status {done.returncode}: {lines[at:]} for {want}")
-    if scope == "all":
+    if scope != "drawn":
         whole = subprocess.run([program, "outcomes", *words[:5], path], capture_output=True, timeout=120).stdout.decode("latin-1").splitlines()
         starts = [place for place, line in enumerate(whole) if line.startswith("outcome ")]
         met = all(comparison.met_by(values(whole[start + 1 : whole.index("end", start) + 1])) for start in starts)
@@ -285,13 +297,13 @@ def judge_faulty(program, folder):
         out.write("atomic f() { n = n + 1; }\nthread t { f(); }\n")
     failed = 0
     for text, want in FAULTY.items():
-        done = subprocess.run([program, "outcomes", "--expect", text, path], capture_output=True, timeout=120)
+        done = subprocess.run([program, "outcomes", f"--expect={text}", path], capture_output=True, timeout=120)
         told = f"autolock: --expect: {text} is {want}\n" if want.startswith("no comparison") else f"autolock: {want}\n"
         if (done.returncode, done.stdout, done.stderr.decode("latin-1")) != (6, b"", told):
             print(f"FAILED --expect {text!r}: status {done.returncode}: {done.stderr} for {told!r}")
             failed += 1
     for text in ("n == 1", "q[0].v==0", "\t0<n ", "-1 + n - n - 9223372036854775807 - 9223372036854775807 <= -9223372036854775807 - 9223372036854775807 - 1"):
-        done = subprocess.run([program, "outcomes", "--expect", text, path], capture_output=True, timeout=120)
+        done = subprocess.run([program, "outcomes", f"--expect={text}", path], capture_output=True, timeout=120)
         if done.returncode or not done.stdout.endswith(f"expected {text} holds in all orders\n".encode()):
             print(f"FAILED --expect {text!r}: status {done.returncode}: {done.stdout}")
             failed += 1
@@ -305,10 +317,38 @@ STATEMENTS = (
 )
 
 
+# Statements of sections that touch no cell in common.
+APART = (
+    ("x = k;", "x = x + k;", "print x; x = 0 - x;", "if (x == 1) { x = k; }"),
+    ("y = y - k;", "y = 12 / y;", "if (0 < y) { y = k; } else { y = 0 - y; }", "var i: int = 0; while (i < y) { i = i + 1; y = y - k; }"),
+    ("p[0].v = p[0].v * k;", "a[1] = p[0].v;", "a[k] = p[0].v + 1;", "p[0].v = a[0] + a[1];"),
+)
+
+
+def drawn_apart(chance, text):
+    """A small program of threads whose sections mostly touch no cell in common."""
+    for number in range(6):
+        body = " ".join(chance.choice(APART[number % 3]).replace("p[0]", "q") for _ in range(chance.randint(1, 2)))
+        text += f"atomic f{number}(int k, ref P q) {{ {one_var(body)} }}\n"
+    for number, calls in enumerate(chance.choice([(1, 1, 1), (2, 1, 1), (2, 2, 1), (2, 3), (1, 1, 1, 1), (2, 0, 2)])):
+        own = number % 3 if chance.random() < 0.9 else chance.randrange(3)
+        script = " ".join(f"f{own + 3 * chance.randrange(2)}({chance.choice((0, 1, 2, -1, 70))}, p[0]);" for _ in range(calls))
+        text += f"thread t{number} {{ {script} }}\n"
+    return text
+
+
+def one_var(body):
+    """A body in which each loop has a variable of its own."""
+    parts = body.split("var i: int")
+    return parts[0] + "".join(f"var i{n}: int" + re.sub(r"\bi\b", f"i{n}", part) for n, part in enumerate(parts[1:]))
+
+
 def drawn(chance):
     """A small program."""
     text = "lock G; lock H; global int x protected_by(G); global int y protected_by(H); global int a[2] protected_by(G);\n"
     text += "struct P { lock l; int v protected_by(l); } pool P p[1];\n"
+    if chance.random() < 0.4:
+        return drawn_apart(chance, text)
     for number in range(4):
         body = " ".join(chance.choice(STATEMENTS).replace("var i", f"var i{n}").replace("(i <", f"(i{n} <").replace("i = i + 1", f"i{n} = i{n} + 1")
                         for n in range(chance.randint(1, 2)))
@@ -354,7 +394,7 @@ def main():
                 with open(path, encoding="latin-1") as source:
                     print(f"FAILED {path}\n{source.read()}\n{wrong}")
                 failed += 1
-    print(f"{judged} programs judged, {failed} failed")
+    print(f"{judged} programs judged, {Judge.reduced} of orders that stand for all, {failed} failed")
     sys.exit(1 if failed else 0)
 
 

@@ -4,7 +4,7 @@
     tests/pages.py BIN
 
 An example is an indented program, and an indented text after a line that ends in `it is`: what the command of the section
-writes of the program. A program that a page names a file for can be meant again by that name.
+writes of the program, with the option that stands ahead of these words. A program that a page names a file for can be meant again by that name.
 
 The last line is 'N passed, M failed'; the status is 1 where M is not 0.
 """
@@ -54,7 +54,8 @@ def examples(page):
             elif name:
                 named[file] = program
         elif before.rstrip().endswith("it is") and command:
-            yield command, file, program, text
+            option = re.search(r"with `(--[a-z]+)` it is$", before.rstrip())
+            yield command + ([option[1]] if option else []), file, program, text
         elif re.match(r"(lock|struct|global|pool|atomic) ", text):
             program = text
         before = "" if is_code else text

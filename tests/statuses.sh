@@ -24,6 +24,7 @@ mkdir folder
 echo 'wrong.al:2:12: E10 neither final nor protected' >fault
 echo 'cycle.al:3:3: E14 lock order cycle: Node.l -> Node.l' >circle
 printf 'accepted\nrank 0 G\nsection f\nat 3:14 take G\n' >checked
+{ cat checked; echo '  atomic f() { n = 1; }'; } >sourced
 printf 'digraph lock_order {\n  "G" [label="rank 0 G"];\n}\n' >ordered
 printf 'digraph lock_order {\n  "Node.l";\n  "Node.l" -> "Node.l" [label="walk:3:3", color="red"];\n}\n' >cyclic_order
 printf 'section f\n0 3:14 acquire G\n1 3:14 int 1\n2 3:14 store n\n3 3:14 end\n' >listed_places
@@ -106,6 +107,7 @@ run "outcomes, of a text that is no comparison" 6 none no_comparison outcomes --
 run "outcomes, where a cell is expected that is not there" 6 none no_cell outcomes --expect 'm == 1' right.al
 run "outcomes, with more orders than are looked at" 0 drawn none outcomes --count 0 right.al
 run "check" 0 checked none check right.al
+run "check, with the source" 0 sourced none check --source right.al
 run "explain" 0 accepted none explain right.al
 run "explain, as JSON" 0 accepted_json none explain --json right.al
 run "order" 0 ordered none order right.al

@@ -250,6 +250,16 @@ same check --json right.al
 same --json explain right.al
 same --jso explain right.al
 same explain --json missing.al
+same check --source
+same check --source missing.al
+same check missing.al --source
+same check --source --source right.al
+same check --source=x right.al
+same check --sourc right.al
+same check --source right.al --foo
+same check --source a b
+same listing --source right.al
+same --source check right.al
 same listing --places
 same listing --places missing.al
 same listing missing.al --places
@@ -420,7 +430,7 @@ same serial --turns 3 missing.al
 commands=$(sed -n '/^Commands:/,/^$/s/^  \([a-z]*\) .*/\1/p' "$top/script/help/autolock.txt")
 options=$(sed -n 's/^ *\(-[a-zA-Z], \)\{0,1\}--\([a-z]*\).*/\2/p' "$top"/script/help/*.txt | sort -u)
 [ "$(echo $commands)" = "check explain format order listing emit serial outcomes schedule simulate trace run replay lsp help" ] || fail "the commands of the help: $commands"
-[ "$(echo $options)" = "all answers cells changed color count expect full header help json length lines open places prefix sections seed times turns version why worst" ] || fail "the options of the help: $options"
+[ "$(echo $options)" = "all answers cells changed color count expect full header help json length lines open places prefix sections seed source times turns version why worst" ] || fail "the options of the help: $options"
 for file in completions/autolock.bash completions/_autolock completions/autolock.fish docs/autolock.1; do
     for word in $commands $options; do
         sed 's/\\-/-/g' "$top/$file" | grep -qw -- "$word" || fail "$file lacks $word"
@@ -458,6 +468,7 @@ completes "--prefix" emit --p
 completes "--lines" emit --l
 completes "" emit --prefix ''
 completes "--why" replay --w
+completes "--source" check --s
 completes "--json" explain --j
 completes "--cells --count" outcomes --c
 completes "--answers" outcomes --a
