@@ -1,9 +1,10 @@
 #!/usr/bin/env bash
-# The merge gate: proves every crate from nothing, tries its wrong bodies and runs its tests (`rt ci`); and then tries, over
-# the program that this built, what no clause says. docs/TESTING.md has the tests that take longer.
+# The merge gate: tries what needs no program; proves every crate from nothing, tries its wrong bodies and runs its tests
+# (`rt ci`); and then tries, over the program that this built, what no clause says. docs/TESTING.md has the tests that take
+# longer.
 #
 #     tests/all.sh            the gate
-#     tests/all.sh BIN        the scripts alone, over that program
+#     tests/all.sh BIN        all but the proofs, over that program
 #
 # The last line is 'N passed, M failed'; the status is 1 where M is not 0. What the gate of a commit came to is kept in
 # out/gate, for script/release.sh.
@@ -28,7 +29,7 @@ try() {
     fi
 }
 
-# (told before the proofs, which take an hour)
+# (all this is told before the proofs, which take an hour)
 for script in script/*.py tests/*.py tests/*.sh; do
     [ -x "$script" ] || ! head -n 1 "$script" | grep -q '^#!' || {
         echo "$script may not be run: chmod +x"
@@ -39,15 +40,27 @@ done
 if [ $# -gt 0 ]; then
     program=$(realpath -- "$1")
 else
-    mkdir -p out && rm -f out/gate && touch out/begun
     program=$PWD/crates/autolock/out/autolock
+    rm -f out/gate
+fi
+for script in heads believed promises editors style; do
+    try "tests/$script.py"
+done
+try script/docs.py --check
+try tests/edits.py --applies
+if [ $# = 0 ]; then
+    [ "$failed" = 0 ] || {
+        echo "$passed passed, $failed failed"
+        exit 1
+    }
+    mkdir -p out && touch out/begun
     script/ci.py | tee "$room/ci"
     counts=$(tail -n 1 "$room/ci")
     [[ $counts =~ ^([0-9]+)\ passed,\ ([0-9]+)\ failed ]] || {
         echo "script/ci.py did not end"
         exit 1
     }
-    passed=${BASH_REMATCH[1]} failed=${BASH_REMATCH[2]}
+    passed=$((passed + BASH_REMATCH[1])) failed=${BASH_REMATCH[2]}
     [ "$failed" = 0 ] || exit 1
     # What ./autolock runs from now on.
     top=$PWD proved=$program
@@ -60,6 +73,7 @@ fi
 for script in examples language statuses words limited_memory; do
     try "tests/$script.sh" "$program"
 done
+try tests/limits.py "$program"
 try tests/rows.py "$program"
 try tests/rows.py "$program" --cuts
 try tests/open.py "$program" examples/*.al
@@ -87,10 +101,6 @@ try tests/format.py "$program"
 try tests/lsp.py "$program"
 try tests/lsp_texts.py "$program"
 try tests/nvim.py "$program"
-for script in believed promises editors; do
-    try "tests/$script.py"
-done
-try tests/edits.py --applies
 if [ $# = 0 ] && [ "$failed" = 0 ] && [ -z "$(git status --porcelain 2>/dev/null)" ]; then
     { git rev-parse HEAD && rt version && grep '^rt: ok' "$room/ci" && echo "$passed passed, $failed failed"; } >out/gate
 fi

@@ -1,36 +1,46 @@
 #!/usr/bin/env python3
-"""What a reader has to believe: the definitions that the clauses of public calls say their promises in.
+"""What a reader has to believe: the definitions that the clauses of public calls state their promises in.
 
-    believed.py            fails where a definition that counts is in a folder Working or Theory, or its file's head says
-                           that nobody has to believe it; where a file of which none counts is in neither folder;
-                           where the list in docs/THEOREM.md is not that of today; or where docs/DEFINITIONS.md doesn't
-                           name a file that has one, or has a name that is none of its file's
-    believed.py --write    writes that list
-    believed.py --names    prints each file with the names that count
+    believed.py                   fails where a definition that counts is in a folder Working or Theory, or its file's
+                                  head says that nobody has to believe it; where a file without such a definition is in
+                                  neither folder; or where docs/BELIEVED.md is not today's. Prints how many definitions
+                                  that count have no comment
+    believed.py --write           writes docs/BELIEVED.md
+    believed.py --names [PART]    prints the definitions that count, each after its comment, in reading order: file after
+                                  file as the files build on each other. PART is a chapter (language, headline, reported,
+                                  threads, c) or a crate, of which it prints all that counts
+    believed.py --bare [PART]     prints those that have no comment, a line each
 
-Begins with the clauses of a call, and goes on to each definition that a definition names. For where a file is, what the
-crates promise that are no part of the engines counts too: the laws, the command line, the tests.
+The search begins with the clauses of a call and follows each definition that a definition names. To decide in which
+folder a file belongs, it also counts what the crates beside the engines promise: the laws, the command line, the tests.
 """
 import pathlib
 import re
+import signal
 import sys
+import textwrap
 
 TOP = pathlib.Path(__file__).resolve().parent.parent
 CRATES = TOP / "crates"
-THEOREM = TOP / "docs" / "THEOREM.md"
-DEFINITIONS = TOP / "docs" / "DEFINITIONS.md"
-BEGIN, END = "<!-- tests/believed.py writes from here -->\n", "<!-- to here -->\n"
+BELIEVED = TOP / "docs" / "BELIEVED.md"
+HEAD = """# Believed definitions
+
+A table for each group of promises, with a row for each crate: its files in `specs/`, each with the number of its lines
+that count, without comments and imports. docs/DEFINITIONS.md says how to read the definitions.
+`script/docs.py` writes this page.
+
+"""
 # The calls: a file and the names of its functions.
 HEADLINE = {"crates/interleavings/src/world.rt": ["run"], "crates/worlds/src/laws.rt": ["every_run"]}
 COMPILER = {"crates/compiler/src/passes.rt": ["compile"]}
 EMITTED = {
-    "crates/c_locks/src/laws.rt": [
+    "crates/c_threads/src/lock_laws.rt": [
         "acquire_texts_are_of_statements",
         "acquires_take_what_is_asked",
         "ends_give_back_what_is_held",
     ],
     "crates/c_language/src/laws.rt": ["statements_run_in_turn"],
-    "crates/c_groups/src/laws.rt": ["groups_do_alike", "runs_stand_alike", "sections_have_plans", "sections_behave_in_c"],
+    "crates/c_language/src/group_laws.rt": ["groups_do_alike", "runs_stand_alike", "sections_have_plans", "sections_behave_in_c"],
     "crates/c_text/src/files.rt": ["file", "header"],
     "crates/c_threads/src/meaning.rt": ["sections_mean"],
 }
@@ -42,11 +52,16 @@ EDITORS = {"crates/driver/src/editors.rt": ["lsp"]}
 # What C is given of that, beside what the engines do.
 LIBRARY = {"crates/autolock_c/src/lib.rt": None}
 # What `outcomes` says of orders that it didn't look at, beside what the engines do.
-ORDERS = {"crates/independence/src/laws.rt": None, "crates/independence/src/groups.rt": ["groups"], "crates/expectations/src/laws.rt": None}
+ORDERS = {"crates/outcomes/src/independence_laws.rt": None, "crates/outcomes/src/groups.rt": ["groups"], "crates/report_runs/src/expectation_laws.rt": None}
 # What `emit` answers counts there, and not among the engines.
 ANSWERED = ("driver.specs.Emissions", "IsEmitted")
 # What crates below the driver promise their readers, though the driver passes none of it on.
-BESIDE = {"crates/schedules/src/laws.rt": None, "crates/run_gates/src/delaying.rt": None}
+BESIDE = {
+    "crates/core_lang_helpers/src/laws.rt": None,
+    "crates/core_lang_helpers/src/prints.rt": None,
+    "crates/interleavings/src/schedule_laws.rt": None,
+    "crates/workers/src/delaying.rt": None,
+}
 THREADS = {
     "crates/workers/src/shared.rt": ["open", "call", "agree", "close"],
     "crates/workers/src/threads.rt": ["run_threads"],
@@ -69,6 +84,7 @@ class Module:
         self.is_working = "obody has to believe" in head or self.is_apart
         self.imports = imports_of(self.text)
         self.parts = parts_of(self.text)
+        self.title = " ".join(re.match(r"(?:--.*\n)*", self.text).group().replace("-- ", "").split())
 
 
 def imports_of(text):
@@ -110,6 +126,40 @@ def parts_of(text):
         if name:
             parts[name].append(bare)
     return parts
+
+
+def written_of(text):
+    """Each definition as it is written, by its name: its comment, whether one stands above it or above its block, and its
+    lines. A block is what `mutual` holds, or definitions that no empty line parts."""
+    found, name, block, pending, above, of_block = {}, None, None, [], False, False
+    for line in re.sub(r"\A(?:--.*\n)*", "", text).split("\n"):
+        bare = line.split("--")[0].rstrip()
+        if not line.strip():
+            name, pending, above = (name if block is not None else None), [], False
+            continue
+        if not bare:
+            pending += [] if line.strip().startswith("-- ----") else [line]
+            continue
+        indent = len(bare) - len(bare.lstrip())
+        if block is not None and indent <= block:
+            block = None
+        if bare.split()[-1] == "mutual":
+            name, block, of_block = None, indent, bool(pending)
+            continue
+        if bare.startswith(("use ", "pub use ", "pub mod ", "module ")):
+            name, pending = None, []
+            continue
+        begin = declared(bare, block)
+        if begin:
+            name = begin
+            above = above or bool(pending) or (block is not None and of_block)
+            words, has_one, lines = found.setdefault(name, [[], False, []])
+            found[name] = [words + [it.strip().removeprefix("--").strip() for it in pending], has_one or above, lines]
+            pending = []
+        if name in found:
+            found[name][2] += [*pending, line]
+            pending = []
+    return found
 
 
 def declared(line, block):
@@ -238,34 +288,9 @@ def engines():
     return {file: names for file, names in calls.items() if file not in PAGES and file not in EDITORS}
 
 
-def rows_in_words():
-    """The rows of docs/DEFINITIONS.md, each with its files and its names; a bold row names the files of those below it."""
-    files = []
-    for line in DEFINITIONS.read_text().splitlines():
-        first = line.split("|")[1].strip() if line.startswith("| ") else ""
-        marked = re.findall(r"`([^`]+)`", first)
-        if first.startswith("**"):
-            files = [name.replace("/", ".specs.", 1).replace("/", ".") for name in marked]
-            yield files, []
-        elif marked:
-            yield files, marked
-
-
-def wrong_words(counted):
-    """What is wrong with docs/DEFINITIONS.md, where these files have these names that count."""
-    lines, files = [], set()
-    for where, names in rows_in_words():
-        files.update(where)
-        known = set().union(*(counted.get(file, set()) for file in where))
-        lines += [f"{name} is no definition of {' or '.join(where)} that counts" for name in names if name not in known]
-    lines += [f"{file} has nothing that counts" for file in sorted(files - set(counted))]
-    lines += [f"{file} counts and is not named" for file in sorted(set(counted) - files)]
-    return [f"docs/DEFINITIONS.md: {line}" for line in lines]
-
-
 def others():
-    """All public calls of the crates that are no part of the engines, of those that are laws for their readers, and of
-    the command line, of which the engines have no more than the requests; and what is promised beside the driver."""
+    """All public calls of the crates that are no part of the engines, and of the command line, of which the engines have
+    no more than the requests; and what is promised beside the driver."""
     lines = re.findall(r"^(\w+)[^:\n]*:(.*)$", (TOP / "crates.txt").read_text(), re.M)
     below, todo = set(), ["driver"]
     deps = {name: names.split() for name, names in lines}
@@ -274,49 +299,159 @@ def others():
         if crate in deps and crate not in below:
             below.add(crate)
             todo += deps[crate]
-    apart = [crate for crate in deps if crate not in below or crate.endswith("_laws") or crate == "driver_words"]
+    apart = [crate for crate in deps if crate not in below or crate == "driver_words"]
     return {str(it.relative_to(TOP)): None for crate in apart for it in (CRATES / crate).glob("src/**/*.rt")} | BESIDE
 
 
-def main():
-    reading, failed, tables, counted = Reading(), 0, [], {}
-    groups = (("The headline", HEADLINE), ("The compiler", COMPILER), ("All engines", engines()), ("Pages of codes", PAGES), ("Editors", EDITORS), ("The library for C", LIBRARY), ("Orders that are left out", ORDERS), ("Real threads", THREADS), ("Sections in C", EMITTED), ("Threads in C", IN_THREADS))
-    believed = {module for module, _ in reading.begin(others()).seen}
+GROUPS = (
+    ("The headline", HEADLINE),
+    ("The compiler", COMPILER),
+    ("All engines", engines()),
+    ("Pages of codes", PAGES),
+    ("Editors", EDITORS),
+    ("The library for C", LIBRARY),
+    ("Orders that are left out", ORDERS),
+    ("Real threads", THREADS),
+    ("Sections in C", EMITTED),
+    ("Threads in C", IN_THREADS),
+)
+# The chapters of a reader: the groups of each; what the headline takes from these crates is a chapter of its own.
+LANGUAGE = {"source", "core_lang", "core_lang_helpers", "flow"}
+CHAPTERS = {
+    "language": ("The language and its meaning", ("The headline",)),
+    "headline": ("The headline", ("The headline",)),
+    "reported": ("What is reported", ("The compiler", "All engines", "Pages of codes", "Editors", "Orders that are left out")),
+    "threads": ("Real threads", ("Real threads",)),
+    "c": ("C", ("The library for C", "Sections in C", "Threads in C")),
+}
+
+
+def begun(reading):
+    """The groups one after another: the title of each, and the reading of it."""
     of_engines = {}
-    for title, calls in groups:
+    for title, calls in GROUPS:
         reading.begin(calls)
         if calls is EDITORS or calls is LIBRARY or calls is ORDERS:
             reading.seen = {name: lines for name, lines in reading.seen.items() if name not in of_engines}
         elif title == "All engines":
             of_engines = dict(reading.seen)
-        tables.append(reading.table(title))
-        believed |= {module for module, _ in reading.seen}
-        for module, names in reading.files().items():
-            counted.setdefault(module, set()).update(names)
-        for module in reading.wrong():
-            names = ", ".join(name for where, name in sorted(reading.seen) if where == module)
+        yield title, reading
+
+
+def page(reading=None):
+    """The text of docs/BELIEVED.md."""
+    return HEAD + "\n".join(it.table(title) for title, it in begun(reading or Reading()))
+
+
+def chapters(reading):
+    """The definitions that count, by chapter, each in the first chapter that has it."""
+    counted = {title: set(it.seen) for title, it in begun(reading)}
+    known, found = set(), {}
+    for key, (_, titles) in CHAPTERS.items():
+        names = set().union(*(counted[title] for title in titles)) - known
+        if key == "language":
+            names = {(module, name) for module, name in names if module.split(".")[0] in LANGUAGE}
+        found[key] = names
+        known |= names
+    return found
+
+
+def in_turn(reading, names):
+    """The files of these definitions, each after those whose definitions it uses; else in the order of crates.txt."""
+    crates = re.findall(r"^(\w+)[^:\n]*:", (TOP / "crates.txt").read_text(), re.M)
+    files, done = {}, []
+    for module, name in names:
+        files.setdefault(module, set()).add(name)
+
+    def visit(module):
+        if module in done:
+            return
+        it = reading.modules[module]
+        used = set(WORD.findall("\n".join(line for name in files[module] for line in it.parts[name])))
+        below = {source for own, (source, _) in it.imports.items() if own in {word.split(".")[0] for word in used}}
+        for other in sorted(below & set(files) - {module}, key=place):
+            visit(other)
+        done.append(module)
+
+    def place(module):
+        return crates.index(module.split(".")[0]), module
+
+    for module in sorted(files, key=place):
+        visit(module)
+    return [(module, [name for name in reading.modules[module].parts if name in files[module]]) for module in done]
+
+
+def path_of(module):
+    return module.replace(".specs.", "/specs/").replace(".", "/") + ".antt"
+
+
+def print_names(reading, part):
+    """Prints a chapter, or what counts of a crate, or all; whether there is such a part."""
+    printed = False
+    for key, names in chapters(reading).items():
+        if part in CHAPTERS and key != part:
+            continue
+        if part and part not in CHAPTERS:
+            names = {(module, name) for module, name in names if module.split(".")[0] == part}
+        if not names:
+            continue
+        printed = True
+        print(f"\n{'=' * 60}\n{CHAPTERS[key][0]}: {len(names)} definitions\n{'=' * 60}")
+        for module, own in in_turn(reading, names):
+            it = reading.modules[module]
+            print(f"\n{path_of(module)}\n{textwrap.fill(it.title, 100)}\n{'-' * 60}")
+            written = written_of(it.text)
+            for name in own:
+                words, _, lines = written.get(name, ([], False, it.parts[name]))
+                print("\n" + textwrap.fill(f"{name}: {' '.join(words)}".rstrip(": "), 120, break_long_words=False))
+                print(textwrap.indent(textwrap.dedent("\n".join(lines)), "    "))
+    return printed
+
+
+def bare(reading, part=None):
+    """The definitions that count and have no comment, and stand under none of their block."""
+    for names in chapters(reading).values():
+        for module, own in in_turn(reading, names):
+            if part is None or module.split(".")[0] == part:
+                written = written_of(reading.modules[module].text)
+                yield from ((module, name) for name in own if name in written and not written[name][1])
+
+
+def main():
+    args = sys.argv[1:]
+    reading, failed = Reading(), 0
+    part = args[1] if len(args) > 1 else None
+    if args[:1] == ["--names"]:
+        if not print_names(reading, part):
+            print(f"{part} is neither a chapter ({', '.join(CHAPTERS)}) nor a crate with a definition that counts")
+            return 2
+        return 0
+    if args[:1] == ["--bare"]:
+        for module, name in bare(reading, part):
+            print(f"{path_of(module)}: {name}")
+        return 0
+    believed = {module for module, _ in reading.begin(others()).seen}
+    for title, it in begun(reading):
+        believed |= {module for module, _ in it.seen}
+        for module in it.wrong():
+            names = ", ".join(name for where, name in sorted(it.seen) if where == module)
             print(f"{title}: nobody has to believe {module}, its head says, but these count: {names}")
             failed += 1
-        if "--names" in sys.argv[1:]:
-            for module, names in reading.files().items():
-                print(f"{title}: {module}: {', '.join(names)}")
     for module in reading.misplaced(believed):
         print(f"nobody has to believe {module}: no promise cites it, so it belongs into a folder Working or Theory")
         failed += 1
-    text = THEOREM.read_text()
-    before, rest = text.split(BEGIN)
-    new = before + BEGIN + "\n" + "\n".join(tables) + "\n" + END + rest.split(END)[1]
-    if "--write" in sys.argv[1:]:
-        THEOREM.write_text(new)
-    elif new != text:
-        print("docs/THEOREM.md has another list of what has to be believed: tests/believed.py --write")
+    text = page(reading)
+    if args[:1] == ["--write"]:
+        BELIEVED.write_text(text)
+    elif not BELIEVED.exists() or BELIEVED.read_text() != text:
+        print("docs/BELIEVED.md is not today's: script/docs.py")
         failed += 1
-    for line in wrong_words(counted):
-        print(line)
-        failed += 1
-    print(f"{sum(len(reading.begin(calls).seen) for _, calls in groups)} definitions, {failed} failed")
+    count = sum(len(names) for names in chapters(reading).values())
+    without = len(list(bare(reading)))
+    print(f"{count} definitions, {without} of them without a comment, {failed} failed")
     return 1 if failed else 0
 
 
 if __name__ == "__main__":
+    signal.signal(signal.SIGPIPE, signal.SIG_DFL)
     sys.exit(main())

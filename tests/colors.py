@@ -5,8 +5,8 @@
 
 With `--color always` the text is the one without colours, but for escape sequences; each place, code, caret, `note:`, `help:` and
 `warning:` is in its colour. Without the word there are colours where standard output is a terminal and NO_COLOR isn't set to
-anything, and else none. JSON never has any. The texts are the examples, and the faulty programs of docs/LANGUAGE.md by their
-codes. The last line is `N passed, M failed`.
+anything, and else none. JSON never has any. The texts are the examples, and the programs of docs/LANGUAGE.md and
+tests/explained/. The last line is `N passed, M failed`.
 """
 import glob
 import os
@@ -65,10 +65,14 @@ def on_terminal(program, words, environment):
     return said.decode().replace("\r\n", "\n")
 
 
-def faulty_programs():
-    """The programs of docs/LANGUAGE.md."""
+def programs():
+    """The programs of docs/LANGUAGE.md and of tests/explained/."""
     with open(f"{TOP}/docs/LANGUAGE.md", encoding="utf-8") as it:
-        return re.findall(r"(?:\A|\n)```\n(.*?)\n```|(?<=\n\n)((?:    .*\n)+)", it.read(), re.S)
+        texts = re.findall(r"^```al\n(.*?)^```$", it.read(), re.M | re.S)
+    for name in sorted(glob.glob(f"{TOP}/tests/explained/*.al")):
+        with open(name, encoding="utf-8") as it:
+            texts.append(it.read())
+    return texts
 
 
 def main():
@@ -84,10 +88,10 @@ def main():
     plain = {name: value for name, value in os.environ.items() if name != "NO_COLOR"}
     with tempfile.TemporaryDirectory() as room:
         files = sorted(glob.glob(f"{TOP}/examples/*.al"))
-        for number, found in enumerate(faulty_programs()):
+        for number, text in enumerate(programs()):
             name = f"{room}/{number}.al"
             with open(name, "w", encoding="utf-8") as it:
-                it.write(found[0] or "".join(line[4:] for line in found[1].splitlines(True)))
+                it.write(text)
             files.append(name)
         for name in files:
             status, text = explain(program, [name])

@@ -3,7 +3,8 @@
 
     tests/edits.py [CRATE ..]            tries them: `rt must-fail` in a copy of the repository
     tests/edits.py --list [CRATE ..]     names them
-    tests/edits.py --applies             whether each applies: its file is there, and has what is replaced just once
+    tests/edits.py --applies             whether each applies, and each of crates/CRATE/must-fail: its file is there, and has
+                                         what is replaced just once
 
 A file has a part for each wrong body: a line `== MODULE.FUNCTION.WHAT`, then the file of the crate that it changes and
 what it replaces by what, as `rt must-fail` reads it. Trying is no part of the gate, which tries those of
@@ -13,6 +14,7 @@ that only what they lack is proved first.
 Exits with 1 where a wrong body passes, or doesn't apply.
 """
 
+import glob
 import os
 import shutil
 import subprocess
@@ -55,8 +57,21 @@ def misfit(crate, text):
     return None if source is not None else "it names no file"
 
 
+def of_the_gate():
+    """The crate, the name and the text of each wrong body that the gate tries."""
+    for path in sorted(glob.glob(os.path.join(TOP, "crates", "*", "must-fail", "*.edit"))):
+        with open(path, encoding="utf-8") as file:
+            yield path.split(os.sep)[-3], os.path.basename(path), file.read()
+
+
 def applies():
     count = failed = 0
+    for crate, name, text in of_the_gate():
+        count += 1
+        why = misfit(crate, text)
+        if why:
+            failed += 1
+            print(f"FAILED {crate}: {name}: {why}")
     for crate in crates():
         names = set()
         for name, text in edits_of(crate):

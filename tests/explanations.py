@@ -3,7 +3,7 @@
 
     tests/explanations.py [--program BIN] [FILE..]
 
-FILE..    programs, by default those of examples/ and docs/LANGUAGE.md, some whose names and bytes need escapes, and some at limits of the
+FILE..    programs, by default those of examples/, tests/explained/ and docs/LANGUAGE.md, some whose names and bytes need escapes, and some at limits of the
           language and past them, whose notes must say which limit that is
 
 The line must be one JSON object. From it and the program's bytes the script makes the text of `explain`, which must be the
@@ -162,7 +162,8 @@ def main():
             (work / name).write_bytes(text)
         for i, text in enumerate(programs_of(TOP / "docs/LANGUAGE.md") if not args.files else ()):
             (work / f"language{i}.al").write_bytes(text)
-        files = args.files or sorted((TOP / "examples").glob("*.al")) + sorted(work.iterdir())
+        kept = sorted((TOP / "examples").glob("*.al")) + sorted((TOP / "tests/explained").glob("*.al"))
+        files = args.files or kept + sorted(work.iterdir())
         failed = 0
         for file in files:
             try:

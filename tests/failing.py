@@ -10,7 +10,7 @@
 --turns N       of serial, outcomes and replay, by default 1000; outcomes looks at 5 orders at most
 --every N       only every N-th growth
 --cases         the program `test_cases` over each of its files, and of its calls the growths alone
---unit-tests    the programs of the tests of `test_units`, `test_commands` and `test_workers`, and of their calls the
+--unit-tests    the programs of the tests of `test_units` and `test_workers`, and of their calls the
                 growths alone; of each test of `test_workers` some 300 growths, spread over all
 --test NAME     only this test, and each of its growths
 FILE..          programs, by default those of examples/; of `test_cases` files of crates/test_cases/data, by default all.
@@ -167,7 +167,7 @@ def of_cases(a):
 
 
 def of_unit_tests(a):
-    crates = [TOP / f"crates/{crate}/out/{crate}_tests" for crate in ("test_units", "test_commands", "test_workers")]
+    crates = [TOP / f"crates/{crate}/out/{crate}_tests" for crate in ("test_units", "test_workers")]
     for path in [a.program] if a.program else crates:
         program = str(path.resolve())
         most = 300 if path.name == "test_workers_tests" and not a.test else 1 << 62

@@ -3,7 +3,8 @@
 
     format.py BIN [--count N] [--seed N] [FILE ..]
 
-The programs are those of FILE .., else of examples/ and docs/LANGUAGE.md, and so many that are drawn. Each is formatted as
+The programs are those of FILE .., else of examples/, tests/explained/ and docs/LANGUAGE.md, and
+some that are drawn. Each is formatted as
 it is, and N times (by default 20) with other white space and comments between its tokens. Of each:
 
 - the tokens are the same, and the comments, but for blanks at their ends, in their places among the tokens;
@@ -216,7 +217,8 @@ def programs(files):
     if files:
         return [pathlib.Path(file).read_bytes() for file in files]
     page = (TOP / "docs/LANGUAGE.md").read_bytes()
-    return [path.read_bytes() for path in sorted((TOP / "examples").glob("*.al"))] + re.findall(rb"```al\n(.*?)```", page, re.S)
+    paths = sorted((TOP / "examples").glob("*.al")) + sorted((TOP / "tests/explained").glob("*.al"))
+    return [path.read_bytes() for path in paths] + re.findall(rb"```al\n(.*?)```", page, re.S)
 
 
 def main():

@@ -1,6 +1,6 @@
 #!/bin/sh
-# Runs each program of docs/LANGUAGE.md and README.md and compares what is written with what the page
-# says. Its argument is the program to run, by default ./autolock at the top.
+# Runs each program of docs/LANGUAGE.md, README.md and tests/explained/ and compares what is written with what stands there.
+# Its argument is the program to run, by default ./autolock at the top.
 #
 # A program is a block ```al. On the line after it begins its answer; after an answer may come
 # another one. An answer is
@@ -12,9 +12,11 @@
 # - a block ```text trace ITEMS, which is what `trace` writes there of these steps;
 # - a block ```text outcomes, which is what `outcomes` writes there; words behind it come between `outcomes` and the file;
 # - a block ```text explain, which is what `explain` writes there; FILE stands for the file's name;
-# - or one line `FILE:..`, which both write to standard error; FILE stands for the file's name.
+# - or one line `FILE:..`, which both write to standard error; FILE stands for the file's name. A line `help: ..` after it has
+#   to be in what `explain` writes.
 #
-# The other output has to be empty.
+# The other output has to be empty. The first program under a heading `### CODE` is also given to `explain`, which has to
+# write tests/explained/CODE.explained. Each tests/explained/NAME.al is a program of its own, for NAME.explained.
 set -u
 
 top=$(cd -- "$(dirname -- "$0")/.." && pwd -P)
@@ -48,11 +50,14 @@ awk '
         status = of == "explain" ? !accepted : /^unsettled / ? 7 : 0
         next
     }
+    /^### E[0-9][0-9] / { code = $2 }
+    /^## / { code = "" }
     /^```al$/ {
         block = "al"
         name = (FILENAME ~ /README/ ? "README-" : "") FNR
         runs = 0
         printf "" >(name ".al")
+        if (code) { print code >(name ".code"); code = "" }
     }
     answer && /^```text/ {
         block = "text"
@@ -67,8 +72,31 @@ awk '
         refuse("check", substr($0, 2, length($0) - 2))
         next
     }
+    answer && /^`help: .*`$/ { print substr($0, 2, length($0) - 2) >(name ".help"); next }
     { answer = 0 }
 ' "$top/docs/LANGUAGE.md" "$top/README.md"
+
+# What `explain` writes: a program, the run, and the file that has it.
+explained() {
+    echo explain >"$1.$2.words"
+    cp "$3" "$1.$2.out"
+    : >"$1.$2.err"
+    if head -n 1 "$3" | grep -qx accepted; then echo 0; else echo 1; fi >"$1.$2.status"
+}
+
+for file in *.code; do
+    number=${file%.code}
+    explained "$number" explain "$top/tests/explained/$(cat "$file").explained"
+    if [ -e "$number.help" ] && ! grep -qxFf "$number.help" "$number.explain.out"; then
+        echo "FAILED line $number: the help line is not in tests/explained/$(cat "$file").explained"
+        touch wrong_help
+    fi
+done
+for file in "$top"/tests/explained/*.al; do
+    number=$(basename "$file" .al)
+    cp "$file" .
+    explained "$number" 1 "${file%.al}.explained"
+done
 
 # One run, by its name.
 judge() {
@@ -88,6 +116,7 @@ judge() {
 }
 
 failed=0
+[ ! -e wrong_help ] || failed=1
 count=0
 for number in $(ls | sed -n 's/\.al$//p' | sort -n); do
     count=$((count + 1))

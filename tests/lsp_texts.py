@@ -1,7 +1,7 @@
 #!/usr/bin/env python3
 """Compares what the editors' server tells of texts with what the commands tell: tests/lsp_texts.py BIN.
 
-The texts are those of examples/, of tests/rows.json and of docs/LANGUAGE.md, some with other ends of lines, with comments in other
+The texts are those of examples/, of tests/rows.json and of tests/explained/, some with other ends of lines, with comments in other
 alphabets, and cut or changed by drawn edits. Of each:
 
 - the diagnostics are those of `explain --json`: code, words, severity, range and related places;
@@ -280,6 +280,8 @@ def main():
     cases = json.loads((TOP / "tests" / "rows.json").read_text())
     for case in cases:
         judge.text(case["files"].get("F", ""))
+    for path in sorted((TOP / "tests" / "explained").glob("*.al")):
+        judge.text(path.read_text())
     for text in FAULTY:
         judge.text(text)
         judge.text(text.replace("\n", " // \u4e16\u754c \U0001f512\r\n"))

@@ -1,10 +1,12 @@
 #!/usr/bin/env python3
-"""The examples of docs/FORMATS.md, over a built program; and the version, wherever it stands.
+"""The examples and notes of docs/FORMATS.md, over a built program; and the version, wherever it stands.
 
     tests/pages.py BIN
 
 An example is an indented program, and an indented text after a line that ends in `it is`: what the command of the section
-writes of the program, with the option that stands ahead of these words. A program that a page names a file for can be meant again by that name.
+writes of the program, with the option that stands ahead of these words. A program that a page names a file for can be meant
+again by that name. What the tables of notes and warnings have in code spans must stand in the strings of the crates that
+write them, piece by piece between what stands for names and numbers.
 
 The last line is 'N passed, M failed'; the status is 1 where M is not 0.
 """
@@ -61,6 +63,21 @@ def examples(page):
         before = "" if is_code else text
 
 
+def pieces(page):
+    """The fixed pieces of the notes and warnings that the tables of the page quote."""
+    for row in re.findall(r"(?m)^\|.*$", page.split("\n## Explanation text\n")[1].split("\n## ")[0]):
+        for double, single in re.findall(r"`` (.+?) ``|`([^`]+)`", row):
+            for piece in re.split(r"\b(?:[A-Z]+\b(?:\[N\])?|[0-9]+)|\.\.", double or single):
+                if len(piece.strip()) > 5:
+                    yield piece.strip()
+
+
+def strings():
+    """All strings of the crates that write notes and warnings, one in a line."""
+    files = [path for crate in ("explanation*", "source") for path in TOP.glob(f"crates/{crate}/src/*.rt")]
+    return "\n".join(string for path in files for string in re.findall(r'"((?:[^"\\]|\\.)*)"', path.read_text()))
+
+
 def main():
     program = str(pathlib.Path(sys.argv[1]).resolve())
     passed = failed = 0
@@ -71,6 +88,11 @@ def main():
             passed, failed = passed + (said == wanted), failed + (said != wanted)
             if said != wanted:
                 print(f"docs/FORMATS.md: {' '.join(command)} {file} writes\n{said}and not\n{wanted}")
+    written = strings()
+    for piece in pieces((TOP / "docs/FORMATS.md").read_text()):
+        passed, failed = passed + (piece in written), failed + (piece not in written)
+        if piece not in written:
+            print(f"docs/FORMATS.md: no note says: {piece}")
     version = (TOP / "VERSION").read_text().strip()
     for file, form in VERSIONS.items():
         stands = form.format(version) in (TOP / file).read_text()

@@ -40,15 +40,15 @@ make_program() {
     python3 script/unproved.py "$2" "crates/$1" "out/unproved/$1" $flag 2>&1
 }
 export -f make_program
-echo "making five programs without any proof, $jobs at a time"
-printf '%s\0' autolock test_cases test_workers test_commands test_units |
+echo "making four programs without any proof, $jobs at a time"
+printf '%s\0' autolock test_cases test_workers test_units |
     xargs -0 -P "$jobs" -I{} bash -c 'make_program "$1" "$2" || echo "FAILED $1 was not made"' bash {} "$kit/bin" |
     tee "$room/making"
 [ -z "$(grep '^FAILED' "$room/making")" ] || exit 1
 echo "== made in $(so_far)"
 
 # Tests of a crate, by the lines that the kit's runner writes.
-for name in test_units test_commands test_workers; do
+for name in test_units test_workers; do
     "$kit/bin/rattle-test" --seconds 60 "$made/$name" >"$room/said" 2>&1
     status=$?
     count=$(grep -c '^test .* ok' "$room/said")

@@ -1,6 +1,6 @@
 #!/usr/bin/env bash
 # Refuses each growth of memory in turn to `autolock` (every command, the programs of examples/), to the tests of
-# `test_units` and `test_commands`, and, each N-th one, to `test_cases` over its files; then limits the address space of
+# `test_units`, and, each N-th one, to `test_cases` over its files; then limits the address space of
 # `autolock`. The programs are those that `rt ci` leaves in crates/NAME/out.
 #
 #     tests/refused_memory.sh [N]      by default every 500th growth of `test_cases`

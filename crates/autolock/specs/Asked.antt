@@ -1,4 +1,4 @@
--- What the words ask for.
+-- The requests of a command line.
 use Rattle.std.specs.Prelude.{◌≡◌, ◌⊎◌, ℕ, List, [], ◌∷◌, codes}
 use Rattle.clap.specs.declared.error.kind.ErrorKind.{ErrorKind}
 use Rattle.clap.specs.declared.error.kind.ErrorKind.TheVariants.{DisplayHelp, DisplayVersion}
@@ -7,7 +7,7 @@ use Rattle.driver_words.specs.declared.line.Line.{Line}
 use Rattle.driver_words.specs.declared.line.Request.{Request}
 use Rattle.driver_words.specs.declared.line.Request.TheVariants.{Alone, Beside, Code, Lsp}
 
--- the names of what a request reads, of which the program's file is the first
+-- the names of the files that a request reads, the first of which is the program's file
 abbrev pub files_read : List ℕ → Request → List (List ℕ)
 files_read file (Code code) = []
 files_read file Lsp = codes "standard input" ∷ []
@@ -18,11 +18,11 @@ files_read file (Beside request other) = file ∷ other.now ∷ []
 abbrev pub files_of : Line → List (List ℕ)
 files_of line = files_read line.file.now line.request
 
--- a message names one of these files as one that can't be read
+-- a message reports one of these files as one that can't be read
 abbrev pub NamesOneOf : (List ℕ → Type 0) → List (List ℕ) → Type 0
 NamesOneOf Told [] = ⊥
 NamesOneOf Told (file ∷ files) = Told (cannot_read file) ⊎ NamesOneOf Told files
 
--- help or the version is asked for
+-- the command line asks for help or the version
 abbrev pub IsAsked : ErrorKind → Type 0
 IsAsked kind = (kind ≡ DisplayHelp) ⊎ (kind ≡ DisplayVersion)

@@ -1,11 +1,10 @@
-//! The program `autolock`: reads its words, opens the files that they name, and runs the engine of
-//! the command on them.
+//! The program `autolock`: reads its words, opens the files that they name, and runs the engine of the command.
 //!
-//! It exits with 0 where what was asked for was written, 1 where the program's text has a fault (of `lsp`: where the editor left
-//! without asking to shut down), 2 where the words are none of its own, 3 where reading or writing failed, 4 where memory ran
-//! out, 5 where a recorded history differs, 6 where the steps file or the history file has a fault, 7 where a call is not settled
-//! by the given turns, 8 where a thread found another history than it had left, 9 where an end has not what is expected of it;
-//! `--help` and `--version` exit with 0.
+//! It exits with 0 where what was asked for was written, 1 where the program's text has a fault (for `lsp`: where the editor
+//! left without asking to shut down), 2 where the command line is not one of its own, 3 where reading or writing failed, 4
+//! where memory ran out, 5 where a recorded history differs, 6 where the steps file or the history file has a fault, 7 where
+//! a call is not settled by the given turns, 8 where a thread found another history than it had left, 9 where an end is not
+//! as expected; `--help` and `--version` exit with 0.
 #![tactic(auto)]
 
 mod watch;
@@ -29,7 +28,7 @@ use std::thread::{Threads, join};
 use std::{env, fs, io};
 use watch::Work;
 
-/// The file of this name, which can be read where it can be opened.
+/// The file named `file`, which can be read if it can be opened.
 fn source_text<'a>(rt: &HostRuntime, file: &'a str) -> SourceText<'a, File>
     ensures name { name_of result ≡ file.entry.now }
     ensures readable { reading_failed result ≡ false }
@@ -40,7 +39,7 @@ fn source_text<'a>(rt: &HostRuntime, file: &'a str) -> SourceText<'a, File>
     }
 }
 
-/// Whether standard output wants colours: it is a terminal, and `NO_COLOR` isn't set to anything.
+/// Whether standard output should be coloured: it is a terminal, and `NO_COLOR` is unset or empty.
 fn wants_color(rt: &HostRuntime) -> bool {
     if !rt.stdout().is_terminal() {
         return false;
@@ -52,7 +51,7 @@ fn wants_color(rt: &HostRuntime) -> bool {
     }
 }
 
-/// When a text is written in colours, with what is left to the terminal settled.
+/// `color` with `Auto` replaced by what the terminal asks for.
 fn settled(rt: &HostRuntime, color: Color) -> Color {
     match color {
         Color::Auto if wants_color(rt) => Color::Always,
@@ -61,7 +60,7 @@ fn settled(rt: &HostRuntime, color: Color) -> Color {
     }
 }
 
-/// The same request, with its colours settled.
+/// `request` with its colours settled.
 fn with_settled_color<'a>(rt: &HostRuntime, request: Alone<'a>) -> Alone<'a> {
     match request {
         Alone::Explain { json, color } => Alone::Explain {
@@ -86,7 +85,9 @@ fn serve_editor<O: Write, E: Write>(rt: &HostRuntime, streams: &mut Streams<O, E
     lsp(rt.alloc(), &mut reader, &mut rt.stdout(), streams)
 }
 
-/// Opens the files of a line, and answers what it asks for, with threads from `threads`.
+/// Opens the files of a command line, and answers its request, with threads from `threads`. No line that was read ends
+/// with status 2. With status 3 standard error gets that one of its files was not read (no clause says which) or that
+/// writing failed; with status 4 that memory ran out.
 fn run_line<R: Threads + Wait + Sync, O: Write, E: Write>(
     rt: &HostRuntime,
     threads: &R,
@@ -115,8 +116,9 @@ fn run_line<R: Threads + Wait + Sync, O: Write, E: Write>(
     }
 }
 
-/// Prints what `clap` says of the words: help and the version on standard output, anything else on standard error.
-/// The streams get no more than a message, where memory ran out or what was asked for could not be written.
+/// Prints the report of `clap` on the command line: help and the version on standard output, anything else on standard
+/// error. It ends with status 4 where memory ran out, with 0 or 3 where help or the version was asked for, else with 2.
+/// The streams get at most a message, where memory ran out or the output could not be written.
 fn tell_words<O: Write, E: Write>(
     rt: &HostRuntime,
     error: &Error,
@@ -148,7 +150,7 @@ fn tell_words<O: Write, E: Write>(
     }
 }
 
-/// The words of the process, of which the first is the program's name.
+/// The words of the command line, the first of which is the program's name.
 fn arguments(rt: &HostRuntime) -> io::Result<Vec<String>> {
     let mut all = Vec::new(rt.alloc());
     for argument in env::args(rt)? {
@@ -168,7 +170,7 @@ fn slices(alloc: Global, arguments: &[String]) -> Result<Vec<&str>, AllocError>
     Ok(all)
 }
 
-/// Reads the words, and runs what they ask for.
+/// Reads the command line, and runs its command.
 fn run_words<R: Threads + Wait + Sync, O: Write, E: Write>(
     rt: &HostRuntime,
     threads: &R,
@@ -197,7 +199,7 @@ fn run_words<R: Threads + Wait + Sync, O: Write, E: Write>(
     }
 }
 
-/// Does what the words ask for, over the streams of the process. Answers the status.
+/// Runs the command of the command line over the streams of the process. Returns the exit status.
 fn work<R: Threads + Wait + Sync>(rt: &HostRuntime, threads: &R) -> u8 {
     let mut streams = Streams {
         out: Sink::new(rt.stdout()),

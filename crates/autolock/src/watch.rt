@@ -1,4 +1,4 @@
-//! A sign of life on standard error of what takes long.
+//! A sign of progress on standard error for work that takes long.
 
 use std::io::{Stderr, Write};
 use std::sync::Wait;
@@ -6,7 +6,7 @@ use std::sync::atomic::{AtomicBool, Ordering};
 use std::thread::Parker;
 use std::time::Duration;
 
-/// What tells one thread that another has ended its work.
+/// The state by which one thread learns that another has ended its work.
 #[derive(Drop)]
 pub struct Work {
     is_done: AtomicBool,
@@ -14,7 +14,7 @@ pub struct Work {
 }
 
 impl Work {
-    /// Work that goes on.
+    /// Work that has not ended.
     pub fn new() -> Work {
         Work {
             is_done: AtomicBool::new(false),
@@ -22,14 +22,14 @@ impl Work {
         }
     }
 
-    /// Says that the work has ended.
+    /// Reports that the work has ended.
     pub fn end(&self) {
         self.is_done.store(true, Ordering::SeqCst);
         self.parker.unpark();
     }
 
-    /// Once the work takes longer than two seconds, writes once a second for how many it has gone on, on one line, which is
-    /// taken away at its end. What can't be written is left out.
+    /// Once the work takes longer than two seconds, writes once a second how many seconds it has taken, on one line, which
+    /// is erased at its end. Ignores what can't be written.
     pub fn watch<R: Wait>(&self, rt: &R, err: &mut Stderr) {
         let mut seconds: u64 = 0;
         for _ in rt.forever() {

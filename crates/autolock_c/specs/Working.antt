@@ -1,3 +1,3 @@
--- What the code computes and values of its types, for proofs. Nobody has to believe these files: no promise cites
--- them.
+-- Definitions of what the code computes and of the values of its types, for proofs. Nobody has to believe these files: no
+-- promise cites them.
 pub mod Answering

@@ -1,4 +1,4 @@
-//! What an engine answered, and how it is handed out.
+//! An engine's answer, and its hand-over to the caller.
 
 ghost use Rattle.std.specs.Prelude.{◌≡◌, ◌≢◌, ◌++◌, false, IfOk, OnOk, length};
 ghost use Rattle.driver.specs.{exit_status, writer_of, writing_failed};
@@ -8,21 +8,21 @@ ghost use Rattle.autolock_c.specs.Working.Answering.{IsHandedOut};
 use driver::{Status, Streams};
 use source::memory::NoMemory;
 
-/// What an engine answered.
+/// An engine's answer.
 #[derive(Drop)]
 pub struct Answer {
-    /// How it ended.
+    /// How the engine ended.
     status: Status,
-    /// What it wrote, and behind that what it told.
+    /// The text that it wrote, followed by its message.
     text: Vec<u8>,
 }
 
 impl Answer {
-    /// What an engine that ended like this left in its outputs.
+    /// The answer of an engine that ended with `status` and left this in its outputs.
     ///
     /// # Errors
     ///
-    /// Memory was refused: to the engine, to an output, which fails for nothing else, or here.
+    /// A growth was refused: to the engine, to an output, which fails for no other reason, or here.
     pub fn of(status: Status, streams: Streams<Vec<u8>, Vec<u8>>) -> Result<Answer, NoMemory>
         ensures ended { IfOk result (λ answer. answer.status ≡ status) }
         ensures written { OnOk result (status ≢ Status.Failed) }
@@ -40,7 +40,8 @@ impl Answer {
         Ok(Answer { status, text })
     }
 
-    /// Hands it out: as much of its text as there is room for, and the length of all of it. Answers the exit status.
+    /// Copies as much of the text to `out` as fits, and sets `needed` to the length of all of it, in bytes. Returns the exit
+    /// status.
     fn give(&self, out: &mut [u8], needed: &mut usize) -> u8
         ensures code { result ≡ exit_status self.now.status }
         ensures whole { needed.new ≡ length self.now.text.items }
@@ -53,7 +54,7 @@ impl Answer {
     }
 }
 
-/// Hands an answer out, or nothing where there is none: then the exit status says why.
+/// Hands out an answer as the method does; without an answer writes nothing, and returns the exit status that says why.
 pub fn give(answer: &Result<Answer, Status>, out: &mut [u8], needed: &mut usize) -> u8
     ensures { IsHandedOut answer.now out.old out.new needed.new result }
 {

@@ -1,4 +1,4 @@
-//! What is asked of the engines for a text in memory.
+//! Requests to the engines for a text in memory.
 
 ghost use Rattle.std.specs.Prelude.{◌≡◌, [], false, true, IfOk, IfErr, MatchOption};
 ghost use Rattle.driver.specs.Answers.{TextAnswers};
@@ -15,7 +15,7 @@ use driver_words::{Color, Emission, Report, is_prefix};
 use source::memory::NoMemory;
 use std::alloc::Global;
 
-/// Two outputs in memory, in which nothing is yet.
+/// Two empty outputs in memory.
 fn outputs(alloc: Global) -> Streams<Vec<u8>, Vec<u8>>
     ensures out { (writer_of result.out).items ≡ [] }
     ensures err { (writer_of result.err).items ≡ [] }
@@ -27,11 +27,11 @@ fn outputs(alloc: Global) -> Streams<Vec<u8>, Vec<u8>>
     }
 }
 
-/// What is answered to a request for what is told of the program of a text.
+/// The answer to `report` for the program of `text`.
 ///
 /// # Errors
 ///
-/// `OutOfMemory`: memory was refused.
+/// `OutOfMemory`: a growth was refused.
 pub fn reported(alloc: Global, report: Report<'_>, text: &[u8]) -> Result<Answer, Status>
     ensures answer { IfOk result (IsAnswer (TextAnswers (IsReport report.entry text.now) [] text.now)) }
     ensures memory { IfErr result (λ status. status ≡ Status.OutOfMemory) }
@@ -45,11 +45,11 @@ pub fn reported(alloc: Global, report: Report<'_>, text: &[u8]) -> Result<Answer
     }
 }
 
-/// What explains the fault of the program of a text, or tells that it has none, as JSON.
+/// The explanation of the fault of the program of `text`, or the report that it is accepted, as JSON.
 ///
 /// # Errors
 ///
-/// `OutOfMemory`: memory was refused.
+/// `OutOfMemory`: a growth was refused.
 pub fn explained(alloc: Global, text: &[u8]) -> Result<Answer, Status>
     ensures answer { IfOk result (IsAnswer (ExplainAnswers true Color.Never [] text.now)) }
     ensures memory { IfErr result (λ status. status ≡ Status.OutOfMemory) }
@@ -63,7 +63,7 @@ pub fn explained(alloc: Global, text: &[u8]) -> Result<Answer, Status>
     }
 }
 
-/// The prefix that these bytes are, where names of C may begin with it.
+/// The prefix in `bytes`, if names of C may begin with it.
 #[tactic(auto, using(crate::proofs::Prefixes::prefixes_are_utf8))]
 fn prefix_of(bytes: &[u8]) -> Option<&str>
     ensures { MatchOption result (IsPrefix bytes.now → ⊥) (λ prefix. (prefix.now ≡ bytes.now) × IsPrefix bytes.now) }
@@ -78,12 +78,12 @@ fn prefix_of(bytes: &[u8]) -> Option<&str>
     }
 }
 
-/// The C of the program of a text, or its header, with names that begin with this prefix.
+/// The C of the program of `text`, or its header, with names that begin with `prefix`.
 ///
 /// # Errors
 ///
-/// - `BadWords`: the prefix is none.
-/// - `OutOfMemory`: it is one, and memory was refused.
+/// - `BadWords`: names of C may not begin with `prefix`.
+/// - `OutOfMemory`: they may, and a growth was refused.
 pub fn emitted(alloc: Global, header: bool, prefix: &[u8], text: &[u8]) -> Result<Answer, Status>
     ensures answer { IfOk result (IsAnswer (EmitAnswers header prefix.now text.now)) }
     ensures prefix { IfOk result (λ _. IsPrefix prefix.now) }

@@ -1,11 +1,15 @@
-//! `autolock` as a static library, for C and whatever calls C: what its commands answer for a text in memory. It opens
-//! no files, starts no threads, and keeps nothing from one call to the next.
+//! A static library for C: what `check`, `explain --json` and `emit` answer for a text in memory. It serves other
+//! languages that call C too. It opens no files, starts no threads, and keeps nothing from one call to the next.
 //!
-//! - [`autolock_check`]: what `check` answers. [`autolock_explain`]: what `explain --json` does.
-//! - [`autolock_emit`]: what `emit` answers. [`autolock_emit_header`]: what `emit --header` does.
+//! - [`autolock_check`]: the answer of `check`. [`autolock_explain`]: that of `explain --json`.
+//! - [`autolock_emit`]: the answer of `emit`. [`autolock_emit_header`]: that of `emit --header`.
 //!
-//! `include/autolock.h` declares them for C, and says what a caller keeps to. `specs/Given.antt` says what a caller is
-//! given.
+//! `include/autolock.h` declares the functions for C, and says what a caller has to observe. `specs/Given.antt` defines what
+//! a caller is given.
+//!
+//! How it is proved: the reader is a slice and the writers are vectors, which give their bytes, so what an engine
+//! promises of them names the text of the caller and what it is handed, with no lemma of its own. Only that a prefix is
+//! UTF-8, since its bytes are letters and digits, is shown by hand.
 #![tactic(auto)]
 
 mod answer;
@@ -23,12 +27,12 @@ use asking::{emitted, explained, reported};
 use driver_words::{Color, Report};
 use std::alloc::Global;
 
-/// Says of the program of a text in which order it takes its locks, and which ones before each statement, as `check`
-/// does; or tells the line of the text's fault, which names no file.
+/// Writes the order in which the program of `text` acquires its locks, and the locks that it acquires before each statement,
+/// as `check` does; or the line of the text's fault, with an empty file name.
 ///
-/// `out` gets as much of that as it has room for, and `needed` the length of all of it, in bytes. Answers the exit
-/// status of the command: 0 where the text is accepted, 1 where it has a fault, 4 where memory was refused: then `out`
-/// is as it was, and `needed` is 0. Of a text that is longer than 1,048,576 bytes the fault says that.
+/// `out` gets as much of that as fits, and `needed` the length of all of it, in bytes. Returns the exit status of the
+/// command: 0 where the text is accepted, 1 where it has a fault, 4 where memory was refused: then `out` is unchanged, and
+/// `needed` is 0. The fault of a text of more than 1,048,576 bytes says so.
 #[unsafe(no_mangle)]
 pub extern "C" fn autolock_check(
     alloc: Global,
@@ -44,11 +48,11 @@ pub extern "C" fn autolock_check(
     give(&reported(alloc, report, text), out, needed)
 }
 
-/// Tells the fault of the program of a text, with its place in the text and what can be done about it; or that it has
-/// none, with the order of its lock classes and warnings: a JSON object in one line, as `explain --json` does. Its
+/// Explains the fault of the program of `text`, with its place in the text and a suggested fix; or reports that it is
+/// accepted, with the order of its lock classes and warnings: a JSON object in one line, as `explain --json` does, whose
 /// `file` is empty.
 ///
-/// Hands that out as [`autolock_check`] does.
+/// Writes to `out` and `needed`, and returns, as [`autolock_check`] does.
 #[unsafe(no_mangle)]
 pub extern "C" fn autolock_explain(
     alloc: Global,
@@ -63,12 +67,12 @@ pub extern "C" fn autolock_explain(
     give(&explained(alloc, text), out, needed)
 }
 
-/// Writes the sections of the program of a text in C, with their locks placed, as `emit --prefix PREFIX` does; or
-/// tells the line of the text's fault, which names no file.
+/// Writes the sections of the program of `text` in C, with their locks placed, as `emit --prefix PREFIX` does; or the line
+/// of the text's fault, with an empty file name.
 ///
-/// Hands that out as [`autolock_check`] does. Answers 2 where the prefix is none that names of C may begin with (a
-/// letter, then letters and digits, at most 32 in all, and neither `AL` nor `autolock`): then `out` is as it was, and
-/// `needed` is 0.
+/// Writes to `out` and `needed`, and returns, as [`autolock_check`] does, or returns 2 where names of C may not begin with
+/// `prefix`: it has to be a letter, then letters and digits, at most 32 in all, and neither `AL` nor `autolock`. Then `out`
+/// is unchanged, and `needed` is 0.
 #[unsafe(no_mangle)]
 pub extern "C" fn autolock_emit(
     alloc: Global,
@@ -85,8 +89,8 @@ pub extern "C" fn autolock_emit(
     give(&emitted(alloc, false, prefix, text), out, needed)
 }
 
-/// Writes the header of that C text alone, as `emit --header --prefix PREFIX` does. Answers and hands out as
-/// [`autolock_emit`] does.
+/// Writes only the header of that C text, as `emit --header --prefix PREFIX` does. Writes to `out` and `needed`, and
+/// returns, as [`autolock_emit`] does.
 #[unsafe(no_mangle)]
 pub extern "C" fn autolock_emit_header(
     alloc: Global,

@@ -1,3 +1,3 @@
--- How bits are set and joined. Nobody has to believe these files: they are checked, and stand here for proofs of this crate
--- and of those above.
+-- How bits are set and joined. Nobody has to believe these files: they are checked, and are here for proofs of this
+-- crate and of those above.
 pub mod Bits

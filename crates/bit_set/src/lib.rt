@@ -1,5 +1,5 @@
-//! Sets of small numbers, such as those of helpers or of lock classes: [`set::BitSet`]. What is in one is `has_number` of
-//! `specs/Working/Sets.antt`.
+//! Sets of small numbers, such as helpers or lock classes: [`set::BitSet`]. `has_number` of `specs/Working/Sets.antt`
+//! says which numbers are in a set.
 #![tactic(auto)]
 
 pub mod set;

@@ -3,22 +3,22 @@
 ghost use Rattle.std.specs.Prelude.{◌≡◌, ◌<◌, ◌==◌, ◌||◌, false, ℕ};
 ghost use Rattle.bit_set.specs.Working.Sets.{has_number};
 
-/// Some of the numbers 0 to 127.
+/// A set of numbers from 0 to 127.
 #[derive(Clone, Copy)]
 pub struct BitSet {
-    /// Bit n stands for the number n.
+    /// Bit n is set if the number n is in the set.
     pub bits: u128,
 }
 
 impl BitSet {
-    /// None of them.
+    /// The empty set.
     pub fn new() -> BitSet
         ensures { (n : ℕ) → has_number result n ≡ false }
     {
         BitSet { bits: 0 }
     }
 
-    /// Whether a number is in it.
+    /// Whether `number` is in the set.
     pub fn contains(self, number: usize) -> bool
         requires { number < 128 }
         ensures { result ≡ has_number self number }
@@ -26,7 +26,7 @@ impl BitSet {
         (self.bits >> number) & 1 == 1
     }
 
-    /// With a number in it.
+    /// The set with `number` added.
     pub fn with(self, number: usize) -> BitSet
         requires { number < 128 }
         ensures { (n : ℕ) → has_number result n ≡ (has_number self n || n == number) }
@@ -36,7 +36,7 @@ impl BitSet {
         }
     }
 
-    /// The numbers of either.
+    /// The union of the two sets.
     pub fn union(self, other: BitSet) -> BitSet
         ensures { (n : ℕ) → has_number result n ≡ (has_number self n || has_number other n) }
     {

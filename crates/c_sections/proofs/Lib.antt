@@ -1,3 +1,2 @@
-mod Chains
 mod Loops
 mod Lines

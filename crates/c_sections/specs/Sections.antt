@@ -13,79 +13,93 @@ use Rattle.locks.specs.Texts.{struct_name}
 use Rattle.code.specs.declared.instr.Instr.{Instr}
 use Rattle.code.specs.Lowering.{section_code}
 use Rattle.c_language.specs.declared.statement.Temporary.{Temporary}
-use Rattle.c_sections.specs.Names.{named, own, type_text, zero_text, local_text, temporary_text}
-use Rattle.c_sections.specs.Statements.{line}
-use Rattle.c_sections.specs.Acquires.{numbered, downward, held}
+use Rattle.c_statements.specs.Names.{named, own, type_text, zero_text, local_text, temporary_text}
+use Rattle.c_statements.specs.Statements.{line}
+use Rattle.c_statements.specs.Acquires.{numbered, downward, held}
 use Rattle.c_sections.specs.Instructions.{where_true, prints, temporaries, body_text}
 
 -- ---- parameters
 
+-- the parameters of a section
 abbrev pub parameters : Section → List Local
 parameters section = take section.parameters section.locals.items
 
--- the locals behind them
+-- the locals after the parameters
 abbrev pub others : Section → List Local
 others section = drop section.parameters section.locals.items
 
+-- the type is one of references
 abbrev pub is_reference : ValueType → Bool
 is_reference Integer = false
 is_reference (Reference s) = true
 
+-- the local is a reference
 abbrev pub has_reference : Local → Bool
 has_reference local = is_reference local.value_type
 
 -- ---- what only some sections have
 
+-- the parameter for the prints, if the section prints
 abbrev pub out_text : Bool → List ℕ
 out_text prints = where_true prints (codes ", struct autolock_prints *out")
 
--- an array of pointers to locks, by its name, its length and what it holds at first
+-- an array of pointers to locks, by its name, its length and its initial value
 abbrev pub locks_line : List ℕ → ℕ → List ℕ → List ℕ
 locks_line name count first =
     line (codes "AL_MUTEX *" ++ name ++ codes "[" ++ decimal count ++ codes "]" ++ first ++ codes ";")
 
+-- a section with this number of lock paths has locks
 abbrev pub has_locks : ℕ → Bool
 has_locks count = if count == 0 then false else true
 
+-- the arrays of pointers to locks, if the section has locks
 abbrev pub locks_lines : ℕ → List ℕ
 locks_lines count =
     where_true (has_locks count)
     (locks_line (codes "h") count (codes " = { NULL }") ++ locks_line (codes "m") count [])
 
+-- the variable with the number of prints, if the section prints
 abbrev pub prints_line : Bool → List ℕ
 prints_line prints = where_true prints (line (codes "int prints = 0;"))
 
--- ---- what may not be used, so that no compiler warns
+-- ---- uses of what may be unused, so that no compiler warns
 
+-- a use of a variable
 abbrev pub used_line : List ℕ → List ℕ
 used_line name = line (codes "(void)" ++ name ++ codes ";")
 
+-- a use of a local
 abbrev pub used_local : ℕ → Local → List ℕ
 used_local k local = used_line (local_text k local)
 
+-- a use of each local
 abbrev pub used_locals : Section → List ℕ
 used_locals section = numbered used_local 0 section.locals.items
 
+-- uses of the arrays of pointers to locks
 abbrev pub used_locks : ℕ → List ℕ
 used_locks count = where_true (has_locks count) (used_line (codes "h") ++ used_line (codes "m"))
 
+-- uses of the state, the locals and the arrays of locks
 abbrev pub uses : Section → ℕ → List ℕ
 uses section count = used_line (codes "s") ++ used_locals section ++ used_locks count
 
--- ---- the history, where AL_HISTORY is defined
+-- ---- the history, if AL_HISTORY is defined
 
--- ahead of a value that is told as a number: a reference is told by its address
+-- the cast of a value to a number for the history: a reference is its address
 abbrev pub cast_text : ValueType → List ℕ
 cast_text Integer = []
 cast_text (Reference s) = codes "(int64_t)(uintptr_t)"
 
+-- an argument as a number, before others
 abbrev pub argument_text : ℕ → Local → List ℕ
 argument_text k local = cast_text local.value_type ++ local_text k local ++ codes ", "
 
+-- the arguments as numbers
 abbrev pub arguments_text : List Local → List ℕ
 arguments_text locals = numbered argument_text 0 locals
 
--- what is printed is kept, also where the caller does not ask for it
+-- prints are kept, even if the caller does not ask for them
 abbrev pub kept_line : Bool → List ℕ
 kept_line prints = where_true prints (line (codes "if (seat != NULL && out == NULL) out = &seat->prints;"))
 
@@ -93,7 +107,7 @@ kept_line prints = where_true prints (line (codes "if (seat != NULL && out == NU
 abbrev pub section_name : List ℕ → Section → List ℕ
 section_name prefix section = own prefix (codes "Section_") ++ string_bytes section.name
 
--- a call begins, with these arguments
+-- the begin of a call with these arguments
 abbrev pub begun_text : List ℕ → Section → Bool → List ℕ
 begun_text prefix section prints =
     codes "#ifdef AL_HISTORY\n  struct autolock_seat *seat = autolock_begin(s->history, "
@@ -101,15 +115,17 @@ begun_text prefix section prints =
     ++ (codes ", " ++ decimal (length (parameters section)) ++ codes ", (const int64_t[]) { ")
     ++ arguments_text (parameters section) ++ codes "0 });\n" ++ kept_line prints ++ codes "#endif\n"
 
+-- the result as a number, or 0 without one
 abbrev pub value_word : Option ValueType → List ℕ
 value_word None = codes "0"
 value_word (Some t) = cast_text t ++ codes "value"
 
+-- the number of prints and where they are, or none
 abbrev pub printed_words : Bool → List ℕ
 printed_words true = codes ", prints, out"
 printed_words false = codes ", 0, NULL"
 
--- it ends, in this way, and has all its locks
+-- the end of a call, when it has all its locks
 abbrev pub ended_text : Section → Bool → List ℕ
 ended_text section prints =
     codes "#ifdef AL_HISTORY\n  autolock_ended(seat, trap, " ++ value_word section.result_type
@@ -118,27 +134,30 @@ ended_text section prints =
 -- ---- the prototype
 
 module _ (prefix : List ℕ) (program : Typed) where
-  -- the struct of what a section gives back
+  -- the struct of a section's return type
   abbrev pub result_struct : Option ValueType → List ℕ
   result_struct None = codes "autolock_end"
   result_struct (Some Integer) = codes "autolock_int"
   result_struct (Some (Reference s)) = own prefix (codes "Ref_" ++ struct_name program s)
 
-  -- a local, with its type
+  -- a local with its type
   abbrev pub declared : ℕ → Local → List ℕ
   declared k local = type_text prefix program local.value_type ++ local_text k local
 
+  -- a parameter after others
   abbrev pub parameter_text : ℕ → Local → List ℕ
   parameter_text k local = codes ", " ++ declared k local
 
+  -- the parameters of a section
   abbrev pub parameters_text : Section → List ℕ
   parameters_text section = numbered parameter_text 0 (parameters section)
 
-  -- the name of a section's function, behind the struct of what it gives back
+  -- the name of a section's function, after the struct of its return type
   abbrev pub head_text : Section → List ℕ
   head_text section =
       codes "struct " ++ result_struct section.result_type ++ codes " " ++ named prefix (string_bytes section.name)
 
+  -- the prototype of a section, which prints or not
   abbrev pub prototype_text : Section → Bool → List ℕ
   prototype_text section prints =
       head_text section ++ codes "(struct " ++ own prefix (codes "State") ++ codes " *s"
@@ -146,72 +165,85 @@ module _ (prefix : List ℕ) (program : Typed) where
 
   -- ---- declarations
 
+  -- a local with its initial value
   abbrev pub local_line : ℕ → Local → List ℕ
   local_line k local = line (declared k local ++ codes " = " ++ zero_text local.value_type ++ codes ";")
 
+  -- a temporary
   abbrev pub temporary_line : Temporary → List ℕ
   temporary_line t = line (type_text prefix program t.holds ++ temporary_text program t ++ codes ";")
 
+  -- the variable of the result, if the section has one
   abbrev pub value_line : Option ValueType → List ℕ
   value_line None = []
   value_line (Some t) = line (type_text prefix program t ++ codes "value = " ++ zero_text t ++ codes ";")
 
+  -- the variable that the section returns
   abbrev pub result_line : Option ValueType → List ℕ
   result_line t = line (codes "struct " ++ result_struct t ++ codes " result;")
 
-  -- what isn't a local or a temporary, of a section with so many lock paths
+  -- the variables that are neither locals nor temporaries, of a section with this number of lock paths
   abbrev pub further_lines : Section → Bool → ℕ → List ℕ
   further_lines section prints count =
       locks_lines count ++ line (codes "int trap = 0;") ++ prints_line prints ++ value_line section.result_type
       ++ result_line section.result_type
 
+  -- the locals after the parameters
   abbrev pub locals_lines : Section → List ℕ
   locals_lines section = numbered local_line section.parameters (others section)
 
-  -- of a section with a code and so many lock paths
+  -- the variables of a section with a code and this number of lock paths
   abbrev pub declarations : Section → List Instr → ℕ → List ℕ
   declarations section code count =
       locals_lines section ++ flat_map temporary_line (temporaries program code)
       ++ further_lines section (prints code) count
 
-  -- ---- a test that arguments are null or objects of their struct
+  -- ---- tests that arguments are null or objects of their struct
 
+  -- the test of a parameter that refers to an object of a struct
   abbrev pub reference_line : ℕ → Local → ℕ → List ℕ
   reference_line k local s =
       line (codes "if (AL_RARE(!" ++ own prefix (codes "Is_" ++ struct_name program s) ++ codes "(s, "
       ++ local_text k local ++ codes "))) AL_TRAP(7);")
 
+  -- the test of a parameter of this type, if it is a reference
   abbrev pub check_of : ℕ → Local → ValueType → List ℕ
   check_of k local Integer = []
   check_of k local (Reference s) = reference_line k local s
 
+  -- the test of a parameter
   abbrev pub check_line : ℕ → Local → List ℕ
   check_line k local = check_of k local local.value_type
 
+  -- the tests of parameters, if AL_CHECK is defined
   abbrev pub check_lines : List Local → List ℕ
   check_lines locals = codes "#ifdef AL_CHECK\n" ++ numbered check_line 0 locals ++ codes "#endif\n"
 
+  -- the tests of a section's parameters, if some are references
   abbrev pub checks : Section → List ℕ
   checks section = where_true (list_any has_reference (parameters section)) (check_lines (parameters section))
 
 -- ---- the end
 
+-- the release of the lock of path k, if it is held
 abbrev pub unlock_line : ℕ → List ℕ
 unlock_line k = line (codes "if (" ++ held k ++ codes " != NULL) AL_UNLOCK(" ++ held k ++ codes ");")
 
+-- the caller gets the number of prints, if the section prints
 abbrev pub count_line : Bool → List ℕ
 count_line prints = where_true prints (line (codes "if (out != NULL) out->count = prints;"))
 
+-- the caller gets the result, if there is one
 abbrev pub give_line : Option ValueType → List ℕ
 give_line None = []
 give_line (Some t) = line (codes "result.value = value;")
 
--- and the instructions begin
+-- the end returns, and the instructions begin
 abbrev pub return_text : List ℕ
 return_text = codes "  return result;\nbegin:\n"
 
--- the call's entry comes into the history; then every lock is given back, the last first. The end stands ahead of the
--- instructions: a compiler then knows the label to which each trap jumps, and need not keep the jumps until it is there
+-- the end of a call: its entry is added to the history; then every lock is released, the last first. The end precedes
+-- the instructions, so that a C compiler knows the label of each trap before it comes to the jump
 abbrev pub end_text : Section → Bool → ℕ → List ℕ
 end_text section prints count =
     codes "  goto begin;\nend:\n" ++ ended_text section prints ++ downward unlock_line count ++ count_line prints
@@ -219,14 +251,14 @@ end_text section prints count =
 
 -- ---- a section
 
--- what stands ahead of its end
+-- what precedes the end of a section
 abbrev pub front_text : List ℕ → Typed → Section → List Instr → ℕ → List ℕ
 front_text prefix program section code count =
     prototype_text prefix program section (prints code) ++ codes "\n{\n"
     ++ declarations prefix program section code count ++ uses section count
     ++ begun_text prefix section (prints code)
 
--- with a code and its lock paths, and texts ahead of its instructions, if there are such
+-- a section with this code and these lock paths, with marks before its instructions if they are given
 abbrev pub text_of : List ℕ → Typed → Section → List (List ℕ) → List Instr → List LockPath → Option (ℕ → List ℕ) → List ℕ
 text_of prefix program section lists code paths mark =
     front_text prefix program section code (length paths)
@@ -235,6 +267,7 @@ text_of prefix program section lists code paths mark =
     ++ body_text program section lists paths mark code
     ++ codes "}\n"
 
+-- the text of a section, with marks if they are given
 abbrev pub section_text : List ℕ → Typed → Section → List (List ℕ) → Option (ℕ → List ℕ) → List ℕ
 section_text prefix program section lists mark =
     text_of prefix program section lists (section_code lists section) (lock_paths program section) mark

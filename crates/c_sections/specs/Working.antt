@@ -1,5 +1,3 @@
-pub mod Views
-pub mod Taken
 pub mod Codes
 pub mod Marked
 pub mod Bodies

@@ -1,26 +1,26 @@
-//! The instructions of a section as C text. The one error is a refused growth.
+//! Writes the instructions of a section as C text. The only error is a failed allocation.
 
 ghost use Rattle.std.specs.Prelude.{◌<◌, ◌+◌, length, OnOk, IfOk};
 ghost use Rattle.std.specs.List.Sorted.{IsNonDecreasing};
 ghost use Rattle.locks.specs.Texts.{AddsText};
 ghost use Rattle.c_sections.specs.Instructions as text;
 
-use crate::acquires::Acquires;
 use crate::groups::Groups;
-use crate::marks::{Marks, push_flat, push_unmarked};
-use crate::operands::Scope;
+use crate::marks::{LineMarks, push_flat, push_unmarked};
 use crate::targets::jump_targets;
 use c_language::statement::Statement;
+use c_statements::acquires::Acquires;
+use c_statements::operands::OperandScope;
 use code::Listed;
 use code::instr::Instr;
 use core_lang::typed::Typed;
 use source::memory::NoMemory;
 use std::alloc::{AllocError, Global};
 
-/// What the text of a section's instructions is made from.
+/// What the text of a section's instructions needs.
 #[derive(Drop)]
 pub struct InstructionLines<'a> {
-    scope: Scope<'a>,
+    scope: OperandScope<'a>,
     listed: Listed<'a>,
     // For each place, whether a jump leads there.
     targets: Vec<bool>,
@@ -32,7 +32,7 @@ impl<'a> InstructionLines<'a> {
     ghost use Rattle.c_sections.specs.Working.Bodies.{begins_of, body_of};
     ghost use Rattle.c_sections.specs.Working.Marked.{marks_of};
 
-    /// Of a section of the program.
+    /// The instructions of a section of the program.
     pub fn new(
         alloc: Global,
         program: &'a Typed,
@@ -43,7 +43,7 @@ impl<'a> InstructionLines<'a> {
     {
         let targets = jump_targets(alloc, &listed.code.instructions)?;
         Ok(InstructionLines {
-            scope: Scope {
+            scope: OperandScope {
                 program,
                 section: listed.section,
             },
@@ -52,7 +52,7 @@ impl<'a> InstructionLines<'a> {
         })
     }
 
-    // A label, where a jump leads to this place.
+    // Appends a label, if a jump leads to this place.
     fn push_label(&self, out: &mut String, place: usize) -> Result<(), AllocError>
         requires targets { HasTargets self.now }
         requires within { place < length (code_of self.now) }
@@ -64,7 +64,7 @@ impl<'a> InstructionLines<'a> {
         Ok(())
     }
 
-    // The locks that an instruction asks for.
+    // Appends the acquire of the locks that an instruction asks for.
     fn push_asked(&self, alloc: Global, out: &mut String, instr: Instr) -> Result<(), NoMemory>
         ensures { OnOk result (AddsText (asked_of self.now instr) out.old out.new) }
     {
@@ -78,7 +78,7 @@ impl<'a> InstructionLines<'a> {
         }
     }
 
-    // The statements of an instruction.
+    // Appends the statements of an instruction.
     fn push_group(&self, out: &mut String, group: &[Statement]) -> Result<(), AllocError>
         ensures { OnOk result (AddsText (group_of self.now group.now) out.old out.new) }
     {
@@ -88,7 +88,7 @@ impl<'a> InstructionLines<'a> {
         Ok(())
     }
 
-    // The next instruction.
+    // Appends the next instruction.
     fn push_next(
         &self,
         alloc: Global,
@@ -110,7 +110,7 @@ impl<'a> InstructionLines<'a> {
         Ok(())
     }
 
-    // The instructions.
+    // Appends the instructions.
     fn push_plain(&self, alloc: Global, out: &mut String) -> Result<(), NoMemory>
         requires targets { HasTargets self.now }
         requires plan { HasPlan self.now }
@@ -123,12 +123,13 @@ impl<'a> InstructionLines<'a> {
         Ok(())
     }
 
-    /// The instructions; with marks, each point's in one line, which is told to be of a line of the program's file.
+    /// Appends the instructions. With marks, those of each point are on one line, after a directive with the line of
+    /// the program's file.
     pub fn push(
         &self,
         alloc: Global,
         out: &mut String,
-        marks: Option<Marks<'_>>,
+        marks: Option<LineMarks<'_>>,
     ) -> Result<(), NoMemory>
         requires targets { HasTargets self.now }
         requires plan { HasPlan self.now }
@@ -142,18 +143,18 @@ impl<'a> InstructionLines<'a> {
     }
 }
 
-/// The text of a section's instructions, each in one line, behind the lines of the program's file that they are of.
+/// The text of a section's instructions, each on one line after the directives of its lines of the program's file.
 #[derive(Clone, Copy)]
 struct MarkedLines<'a> {
     lines: &'a InstructionLines<'a>,
-    marks: Marks<'a>,
+    marks: LineMarks<'a>,
 }
 
 impl MarkedLines<'_> {
     ghost use Rattle.c_sections.specs.Working.Bodies.{HasTargets, HasPlan, IsAt, marked_of, all_marked, begins_of, code_of};
     ghost use Rattle.c_sections.specs.Working.Marked.{mark_in};
 
-    // The next instruction.
+    // Appends the next instruction.
     fn push_next(
         &self,
         alloc: Global,
@@ -178,7 +179,7 @@ impl MarkedLines<'_> {
         Ok(())
     }
 
-    // The instructions.
+    // Appends the instructions.
     fn push(&self, alloc: Global, out: &mut String) -> Result<(), NoMemory>
         requires targets { HasTargets self.now.lines.now }
         requires plan { HasPlan self.now.lines.now }

@@ -1,4 +1,4 @@
-//! Which lines of the program's file the C of a section is told to be of. The one error is a refused growth.
+//! Marks the C of a section with the lines of the program's file. The only error is a failed allocation.
 
 ghost use Rattle.std.specs.Prelude.{◌≡◌, ◌<◌, [], ◌∷◌, OnOk};
 ghost use Rattle.std.specs.List.{flat_map};
@@ -11,14 +11,14 @@ use code::places::SectionPlaces;
 use code::section_code::SectionCode;
 use std::alloc::AllocError;
 
-/// Whether a byte stands for itself in a string of C, and begins nothing else there.
+/// Whether a byte stands for itself in a C string, and begins nothing else there.
 fn is_plain(byte: u8) -> bool
     ensures { result ≡ text.is_plain byte }
 {
     32 <= byte && byte <= 126 && byte != b'"' && byte != b'?' && byte != b'\\'
 }
 
-/// A byte that is not plain, by three octal digits.
+/// Appends a byte that is not plain, as three octal digits.
 fn push_octal(out: &mut String, byte: u8) -> Result<(), AllocError>
     ensures { OnOk result (AddsText (text.octal_text byte) out.old out.new) }
 {
@@ -26,7 +26,7 @@ fn push_octal(out: &mut String, byte: u8) -> Result<(), AllocError>
     write!(out, "\\{first}{second}{third}")
 }
 
-/// A byte of ASCII.
+/// Appends an ASCII byte.
 fn push_byte(out: &mut String, byte: u8) -> Result<(), AllocError>
     requires { byte < 128 }
     ensures { OnOk result (AddsText (byte ∷ []) out.old out.new) }
@@ -34,7 +34,7 @@ fn push_byte(out: &mut String, byte: u8) -> Result<(), AllocError>
     out.push(byte as char)
 }
 
-/// A byte of a file's name.
+/// Appends a byte of a file's name.
 fn push_quoted(out: &mut String, byte: u8) -> Result<(), AllocError>
     ensures { OnOk result (AddsText (text.quoted_byte byte) out.old out.new) }
 {
@@ -44,7 +44,7 @@ fn push_quoted(out: &mut String, byte: u8) -> Result<(), AllocError>
     push_octal(out, byte)
 }
 
-/// A file's name.
+/// Appends a file's name.
 fn push_name(out: &mut String, name: &str) -> Result<(), AllocError>
     ensures { OnOk result (AddsText (flat_map text.quoted_byte name.now) out.old out.new) }
 {
@@ -54,7 +54,7 @@ fn push_name(out: &mut String, name: &str) -> Result<(), AllocError>
     Ok(())
 }
 
-/// What follows is of this line of a file.
+/// Appends the directive that what follows is of this line of a file.
 fn push_directive(out: &mut String, name: &str, line: usize) -> Result<(), AllocError>
     ensures { OnOk result (AddsText (text.directive name.now line) out.old out.new) }
 {
@@ -63,14 +63,14 @@ fn push_directive(out: &mut String, name: &str, line: usize) -> Result<(), Alloc
     out.push_str("\"\n")
 }
 
-/// What follows is of no line of the program.
+/// Appends the directive that what follows is not of a line of the program.
 pub fn push_unmarked(out: &mut String) -> Result<(), AllocError>
     ensures { OnOk result (AddsText text.unmarked_text out.old out.new) }
 {
     out.push_str("\n#line 1 \"emitted\"\n")
 }
 
-/// A byte of a text in one line.
+/// Appends a byte of a text that is put on one line.
 fn push_flat_byte(out: &mut String, byte: u8) -> Result<(), AllocError>
     ensures { OnOk result (AddsText (text.flat_byte byte) out.old out.new) }
 {
@@ -83,7 +83,7 @@ fn push_flat_byte(out: &mut String, byte: u8) -> Result<(), AllocError>
     out.push_str("?")
 }
 
-/// A text in one line.
+/// Appends a text on one line.
 pub fn push_flat(out: &mut String, written: &str) -> Result<(), AllocError>
     ensures { OnOk result (AddsText (text.flat written.now) out.old out.new) }
 {
@@ -93,7 +93,7 @@ pub fn push_flat(out: &mut String, written: &str) -> Result<(), AllocError>
     Ok(())
 }
 
-/// Whether two instructions are of the same point, if they are of one.
+/// Whether two instructions are of the same point, or both of none.
 fn same_point(ahead: Option<usize>, here: Option<usize>) -> bool
     ensures { result ≡ text.same_point ahead here }
 {
@@ -104,7 +104,7 @@ fn same_point(ahead: Option<usize>, here: Option<usize>) -> bool
     }
 }
 
-/// The point of the instruction ahead of a place.
+/// The point of the instruction before a place.
 fn point_ahead(code: &SectionCode, place: usize) -> Option<usize>
     requires { IsNonDecreasing code.now.begins.items }
     ensures { result ≡ text.point_ahead code.now.begins.items place }
@@ -115,7 +115,7 @@ fn point_ahead(code: &SectionCode, place: usize) -> Option<usize>
     code.point_at(place - 1)
 }
 
-/// Whether the instruction at a place is of the point that the one ahead of it is of.
+/// Whether the instruction at a place is of the same point as the one before it.
 fn goes_on(code: &SectionCode, place: usize) -> bool
     requires { IsNonDecreasing code.now.begins.items }
     ensures { result ≡ text.goes_on code.now.begins.items place }
@@ -123,18 +123,18 @@ fn goes_on(code: &SectionCode, place: usize) -> bool
     same_point(point_ahead(code, place), code.point_at(place))
 }
 
-/// The lines of the program's file that a section's statements start in.
+/// The lines of the program's file in which a section's statements start.
 #[derive(Clone, Copy)]
-pub struct Marks<'a> {
+pub struct LineMarks<'a> {
     /// The file's name.
     pub name: &'a str,
-    /// Where the section's statements start.
+    /// The positions of the section's statements.
     pub places: &'a SectionPlaces,
 }
 
-impl Marks<'_> {
-    /// What stands ahead of the instruction at a place of the section's code: the line of its point, if another point's
-    /// instructions begin there.
+impl LineMarks<'_> {
+    /// Appends the directive before the instruction at `place` of the section's code: the line of its point, if the
+    /// instructions of another point begin there.
     pub fn push(&self, out: &mut String, code: &SectionCode, place: usize) -> Result<(), AllocError>
         requires { IsNonDecreasing code.now.begins.items }
         ensures { OnOk result (AddsText (mark_in self.now code.now.begins.items place) out.old out.new) }

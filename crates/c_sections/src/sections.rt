@@ -1,4 +1,4 @@
-//! Sections as C text. The one error is a refused growth.
+//! Writes sections as C text. The only error is a failed allocation.
 
 ghost use Rattle.std.specs.Prelude.{◌≡◌, OnOk, map};
 ghost use Rattle.std.specs.List.{flat_map, list_any};
@@ -7,7 +7,7 @@ ghost use Rattle.code.specs.Lowering.{section_code};
 ghost use Rattle.code.specs.Working.Asked.{lists_of};
 ghost use Rattle.locks.specs.LockPaths.{lock_path_of, lock_paths};
 ghost use Rattle.locks.specs.Texts.{AddsText};
-ghost use Rattle.c_sections.specs.Acquires.{numbered, downward};
+ghost use Rattle.c_statements.specs.Acquires.{numbered, downward};
 ghost use Rattle.c_sections.specs.Instructions.{is_print};
 ghost use Rattle.c_sections.specs.Instructions as instruction;
 ghost use Rattle.c_sections.specs.Sections as text;
@@ -15,11 +15,12 @@ ghost use Rattle.c_sections.specs.Sections.{has_reference};
 ghost use Rattle.c_sections.specs.Working.Marked.{marks_of};
 
 use crate::instructions::InstructionLines;
-use crate::marks::Marks;
-use crate::names::{Writer, push_local, push_struct, push_temporary, push_zero};
+use crate::marks::LineMarks;
+use crate::names::Writer;
 use crate::temporaries::temporaries_of;
-use c_groups::laws::sections_have_plans;
+use c_language::group_laws::sections_have_plans;
 use c_language::statement::Temporary;
+use c_statements::names::{push_local, push_struct, push_temporary, push_zero};
 use code::Listed;
 use code::instr::Instr;
 use core_lang::tree::{Local, Section};
@@ -46,7 +47,7 @@ fn parameters(section: &Section) -> &[Local]
     &locals[..section.parameters.min(locals.len())]
 }
 
-/// Whether it is a type of references.
+/// Whether the type is one of references.
 fn is_reference(value_type: ValueType) -> bool
     ensures { result ≡ text.is_reference value_type }
 {
@@ -67,14 +68,14 @@ fn some_reference(list: &[Local]) -> bool
     )
 }
 
-/// Whether a section with so many lock paths has locks.
+/// Whether a section with this number of lock paths has locks.
 fn has_locks(count: usize) -> bool
     ensures { result ≡ text.has_locks count }
 {
     count != 0
 }
 
-/// An array of pointers to locks, and what it holds at first.
+/// Appends an array of pointers to locks, and its initial value.
 fn push_locks_line(
     out: &mut String,
     name: &str,
@@ -86,7 +87,7 @@ fn push_locks_line(
     write!(out, "  AL_MUTEX *{name}[{count}]{first};\n")
 }
 
-/// Arrays of pointers to locks: those that are held, and those that a run asks for.
+/// Appends the arrays of pointers to locks: those that are held, and those that a run asks for.
 fn push_locks_lines(out: &mut String, count: usize) -> Result<(), AllocError>
     ensures { OnOk result (AddsText (text.locks_lines count) out.old out.new) }
 {
@@ -97,7 +98,7 @@ fn push_locks_lines(out: &mut String, count: usize) -> Result<(), AllocError>
     Ok(())
 }
 
-/// How many numbers were printed.
+/// Appends the variable with the number of prints.
 fn push_prints_line(out: &mut String, prints: bool) -> Result<(), AllocError>
     ensures { OnOk result (AddsText (text.prints_line prints) out.old out.new) }
 {
@@ -107,7 +108,7 @@ fn push_prints_line(out: &mut String, prints: bool) -> Result<(), AllocError>
     Ok(())
 }
 
-/// Each local is used.
+/// Appends a use of each local.
 fn push_used_locals(out: &mut String, section: &Section) -> Result<(), AllocError>
     ensures { OnOk result (AddsText (text.used_locals section.now) out.old out.new) }
 {
@@ -117,7 +118,7 @@ fn push_used_locals(out: &mut String, section: &Section) -> Result<(), AllocErro
     Ok(())
 }
 
-/// A local is used.
+/// Appends a use of a local.
 fn push_used_local(out: &mut String, number: usize, local: &Local) -> Result<(), AllocError>
     ensures { OnOk result (AddsText (text.used_local number local.now) out.old out.new) }
 {
@@ -126,7 +127,7 @@ fn push_used_local(out: &mut String, number: usize, local: &Local) -> Result<(),
     out.push_str(";\n")
 }
 
-/// The arrays of pointers to locks are used.
+/// Appends uses of the arrays of pointers to locks.
 fn push_used_locks(out: &mut String, count: usize) -> Result<(), AllocError>
     ensures { OnOk result (AddsText (text.used_locks count) out.old out.new) }
 {
@@ -136,7 +137,7 @@ fn push_used_locks(out: &mut String, count: usize) -> Result<(), AllocError>
     Ok(())
 }
 
-/// What may not be used is used, so that no compiler warns.
+/// Appends uses of what may be unused, so that no compiler warns.
 fn push_uses(out: &mut String, section: &Section, count: usize) -> Result<(), AllocError>
     ensures { OnOk result (AddsText (text.uses section.now count) out.old out.new) }
 {
@@ -145,14 +146,14 @@ fn push_uses(out: &mut String, section: &Section, count: usize) -> Result<(), Al
     push_used_locks(out, count)
 }
 
-/// A lock is given back, if it is held.
+/// Appends the release of a lock, if it is held.
 fn push_unlock(out: &mut String, number: usize) -> Result<(), AllocError>
     ensures { OnOk result (AddsText (text.unlock_line number) out.old out.new) }
 {
     write!(out, "  if (h[{number}] != NULL) AL_UNLOCK(h[{number}]);\n")
 }
 
-/// Every lock is given back, the last first.
+/// Appends the release of every lock, the last first.
 fn push_unlocks(out: &mut String, count: usize) -> Result<(), AllocError>
     ensures { OnOk result (AddsText (downward text.unlock_line count) out.old out.new) }
 {
@@ -162,7 +163,7 @@ fn push_unlocks(out: &mut String, count: usize) -> Result<(), AllocError>
     Ok(())
 }
 
-/// The caller gets the count of what was printed.
+/// Appends that the caller gets the number of prints.
 fn push_count_line(out: &mut String, prints: bool) -> Result<(), AllocError>
     ensures { OnOk result (AddsText (text.count_line prints) out.old out.new) }
 {
@@ -172,7 +173,7 @@ fn push_count_line(out: &mut String, prints: bool) -> Result<(), AllocError>
     Ok(())
 }
 
-/// The caller gets the result, where there is one.
+/// Appends that the caller gets the result, if there is one.
 fn push_give_line(out: &mut String, result_type: Option<ValueType>) -> Result<(), AllocError>
     ensures { OnOk result (AddsText (text.give_line result_type) out.old out.new) }
 {
@@ -182,7 +183,7 @@ fn push_give_line(out: &mut String, result_type: Option<ValueType>) -> Result<()
     }
 }
 
-/// What stands ahead of a value that is told as a number.
+/// Appends the cast of a value to a number for the history.
 pub fn push_cast(out: &mut String, value_type: ValueType) -> Result<(), AllocError>
     ensures { OnOk result (AddsText (text.cast_text value_type) out.old out.new) }
 {
@@ -192,7 +193,7 @@ pub fn push_cast(out: &mut String, value_type: ValueType) -> Result<(), AllocErr
     }
 }
 
-/// An argument as a number, ahead of others.
+/// Appends an argument as a number, before others.
 fn push_argument(out: &mut String, number: usize, local: &Local) -> Result<(), AllocError>
     ensures { OnOk result (AddsText (text.argument_text number local.now) out.old out.new) }
 {
@@ -201,7 +202,7 @@ fn push_argument(out: &mut String, number: usize, local: &Local) -> Result<(), A
     out.push_str(", ")
 }
 
-/// The arguments as numbers.
+/// Appends the arguments as numbers.
 fn push_arguments(out: &mut String, list: &[Local]) -> Result<(), AllocError>
     ensures { OnOk result (AddsText (text.arguments_text list.now) out.old out.new) }
 {
@@ -211,7 +212,7 @@ fn push_arguments(out: &mut String, list: &[Local]) -> Result<(), AllocError>
     Ok(())
 }
 
-/// What is printed is kept.
+/// Appends that prints are kept.
 fn push_kept(out: &mut String, prints: bool) -> Result<(), AllocError>
     ensures { OnOk result (AddsText (text.kept_line prints) out.old out.new) }
 {
@@ -221,7 +222,7 @@ fn push_kept(out: &mut String, prints: bool) -> Result<(), AllocError>
     Ok(())
 }
 
-/// The section's result as a number.
+/// Appends the section's result as a number.
 fn push_value_word(out: &mut String, result_type: Option<ValueType>) -> Result<(), AllocError>
     ensures { OnOk result (AddsText (text.value_word result_type) out.old out.new) }
 {
@@ -232,7 +233,7 @@ fn push_value_word(out: &mut String, result_type: Option<ValueType>) -> Result<(
     }
 }
 
-/// What was printed.
+/// Appends what was printed.
 fn push_printed(out: &mut String, prints: bool) -> Result<(), AllocError>
     ensures { OnOk result (AddsText (text.printed_words prints) out.old out.new) }
 {
@@ -242,7 +243,7 @@ fn push_printed(out: &mut String, prints: bool) -> Result<(), AllocError>
     out.push_str(", 0, NULL")
 }
 
-/// The call's entry in the history.
+/// Appends the call's entry in the history.
 fn push_ended(out: &mut String, section: &Section, prints: bool) -> Result<(), AllocError>
     ensures { OnOk result (AddsText (text.ended_text section.now prints) out.old out.new) }
 {
@@ -252,7 +253,7 @@ fn push_ended(out: &mut String, section: &Section, prints: bool) -> Result<(), A
     out.push_str(");\n#endif\n")
 }
 
-/// The end of a section with so many lock paths.
+/// Appends the end of a section with this number of lock paths.
 fn push_end(
     out: &mut String,
     section: &Section,
@@ -270,7 +271,7 @@ fn push_end(
     out.push_str("  return result;\nbegin:\n")
 }
 
-/// Behind the parameters: where the numbers go that are printed.
+/// Appends the parameter for the prints, after the others.
 fn push_out(out: &mut String, prints: bool) -> Result<(), AllocError>
     ensures { OnOk result (AddsText (text.out_text prints) out.old out.new) }
 {
@@ -287,7 +288,7 @@ impl Writer<'_> {
     ghost use Rattle.c_sections.specs.Working.Prototypes.{head_of, further_of, front_of, code_of, HasPlan};
     ghost use Rattle.c_sections.specs.Working.Prototypes.{section_name_of, begun_of};
 
-    // The struct of what a section gives back.
+    // Appends the struct of a section's return type.
     fn push_result_struct(
         &self,
         out: &mut String,
@@ -305,7 +306,7 @@ impl Writer<'_> {
         }
     }
 
-    // A local with its type.
+    // Appends a local with its type.
     fn push_declared(
         &self,
         out: &mut String,
@@ -318,7 +319,7 @@ impl Writer<'_> {
         push_local(out, number, local)
     }
 
-    // A parameter behind others.
+    // Appends a parameter after others.
     fn push_parameter(
         &self,
         out: &mut String,
@@ -331,7 +332,7 @@ impl Writer<'_> {
         self.push_declared(out, number, local)
     }
 
-    // The parameters of a section.
+    // Appends the parameters of a section.
     fn push_parameters(&self, out: &mut String, section: &Section) -> Result<(), AllocError>
         ensures { OnOk result (AddsText (parameters_of self.now section.now) out.old out.new) }
     {
@@ -341,7 +342,7 @@ impl Writer<'_> {
         Ok(())
     }
 
-    // The name of a section's function, behind the struct of what it gives back.
+    // Appends the name of a section's function, after the struct of its return type.
     fn push_head(&self, out: &mut String, section: &Section) -> Result<(), AllocError>
         ensures { OnOk result (AddsText (head_of self.now section.now) out.old out.new) }
     {
@@ -351,7 +352,7 @@ impl Writer<'_> {
         self.push_named(out, section.name.as_str())
     }
 
-    /// The prototype of a section, which prints or not.
+    /// Appends the prototype of a section, which prints or not.
     pub fn push_prototype(
         &self,
         out: &mut String,
@@ -370,7 +371,7 @@ impl Writer<'_> {
         out.push_str(")")
     }
 
-    // A local behind the parameters.
+    // Appends a local after the parameters.
     fn push_local_line(
         &self,
         out: &mut String,
@@ -386,7 +387,7 @@ impl Writer<'_> {
         out.push_str(";\n")
     }
 
-    // The locals behind the parameters.
+    // Appends the locals after the parameters.
     fn push_locals(&self, out: &mut String, section: &Section) -> Result<(), AllocError>
         ensures { OnOk result (AddsText (locals_of self.now section.now) out.old out.new) }
     {
@@ -397,7 +398,7 @@ impl Writer<'_> {
         Ok(())
     }
 
-    // A temporary.
+    // Appends a temporary.
     fn push_temporary_line(&self, out: &mut String, temporary: Temporary) -> Result<(), AllocError>
         ensures { OnOk result (AddsText (temporary_of self.now temporary) out.old out.new) }
     {
@@ -407,7 +408,7 @@ impl Writer<'_> {
         out.push_str(";\n")
     }
 
-    // The temporaries.
+    // Appends the temporaries.
     fn push_temporaries(&self, out: &mut String, list: &[Temporary]) -> Result<(), AllocError>
         ensures { OnOk result (AddsText (flat_map (temporary_of self.now) list.now) out.old out.new) }
     {
@@ -417,7 +418,7 @@ impl Writer<'_> {
         Ok(())
     }
 
-    // The section's result, where it has one.
+    // Appends the variable of the section's result, if it has one.
     fn push_value_line(
         &self,
         out: &mut String,
@@ -435,7 +436,7 @@ impl Writer<'_> {
         out.push_str(";\n")
     }
 
-    // What the section gives back.
+    // Appends the variable that the section returns.
     fn push_result_line(
         &self,
         out: &mut String,
@@ -448,7 +449,7 @@ impl Writer<'_> {
         out.push_str(" result;\n")
     }
 
-    // The variables of a section with so many lock paths, behind locals and temporaries.
+    // Appends the variables of a section with this number of lock paths that follow locals and temporaries.
     fn push_further(
         &self,
         out: &mut String,
@@ -465,7 +466,7 @@ impl Writer<'_> {
         self.push_result_line(out, section.result_type)
     }
 
-    // The variables of a section.
+    // Appends the variables of a section.
     fn push_declarations(
         &self,
         alloc: Global,
@@ -483,7 +484,7 @@ impl Writer<'_> {
         Ok(())
     }
 
-    // A parameter names an object of this struct, or is null.
+    // Appends the test that a parameter is null or refers to an object of this struct.
     fn push_check_of(
         &self,
         out: &mut String,
@@ -501,7 +502,7 @@ impl Writer<'_> {
         out.push_str("))) AL_TRAP(7);\n")
     }
 
-    // The test of a parameter, if it is a reference.
+    // Appends the test of a parameter, if it is a reference.
     fn push_check_line(
         &self,
         out: &mut String,
@@ -516,7 +517,7 @@ impl Writer<'_> {
         }
     }
 
-    // The tests of parameters.
+    // Appends the tests of parameters.
     fn push_check_lines(&self, out: &mut String, list: &[Local]) -> Result<(), AllocError>
         ensures { OnOk result (AddsText (numbered (check_line_of self.now) 0 list.now) out.old out.new) }
     {
@@ -526,7 +527,7 @@ impl Writer<'_> {
         Ok(())
     }
 
-    // The tests of parameters, which the macro puts in.
+    // Appends the tests of parameters, inside the `#ifdef` of the macro.
     fn push_guarded(&self, out: &mut String, list: &[Local]) -> Result<(), AllocError>
         ensures { OnOk result (AddsText (guarded_of self.now list.now) out.old out.new) }
     {
@@ -535,7 +536,7 @@ impl Writer<'_> {
         out.push_str("#endif\n")
     }
 
-    // The tests of parameters, where some are references.
+    // Appends the tests of parameters, if some are references.
     fn push_checks(&self, out: &mut String, section: &Section) -> Result<(), AllocError>
         ensures { OnOk result (AddsText (checks_of self.now section.now) out.old out.new) }
     {
@@ -546,7 +547,7 @@ impl Writer<'_> {
         Ok(())
     }
 
-    // The section's number.
+    // Appends the section's number.
     fn push_section_name(&self, out: &mut String, section: &Section) -> Result<(), AllocError>
         ensures { OnOk result (AddsText (section_name_of self.now section.now) out.old out.new) }
     {
@@ -554,7 +555,7 @@ impl Writer<'_> {
         out.push_str(section.name.as_str())
     }
 
-    // A call begins.
+    // Appends the begin of a call in the history.
     fn push_begun(
         &self,
         out: &mut String,
@@ -575,7 +576,7 @@ impl Writer<'_> {
         out.push_str("#endif\n")
     }
 
-    // What stands ahead of a section's end.
+    // Appends what precedes a section's end.
     fn push_front(
         &self,
         alloc: Global,
@@ -594,17 +595,17 @@ impl Writer<'_> {
         Ok(())
     }
 
-    /// A section; with marks, its C is told to be of those lines of the program's file.
+    /// Appends a section. With marks, its C is marked with those lines of the program's file.
     ///
     /// # Errors
     ///
-    /// Want of memory.
+    /// Out of memory.
     pub fn push_section(
         &self,
         alloc: Global,
         out: &mut String,
         listed: Listed<'_>,
-        marks: Option<Marks<'_>>,
+        marks: Option<LineMarks<'_>>,
     ) -> Result<(), NoMemory>
         requires paths { map lock_path_of listed.paths.now ≡ lock_paths self.now.program.now listed.section.now }
         requires code { listed.code.now.instructions.items ≡ section_code (lists_of listed) listed.section.now }

@@ -1,4 +1,4 @@
-//! Where the jumps of a code lead.
+//! The targets of a code's jumps.
 
 ghost use Rattle.std.specs.Prelude.{◌≡◌, IfOk};
 ghost use Rattle.c_sections.specs.Instructions as text;
@@ -8,13 +8,13 @@ use code::instr::Instr;
 use source::memory::NoMemory;
 use std::alloc::Global;
 
-/// Where the instruction at a place jumps to, if it is a jump.
+/// The place to which the instruction at `place` jumps, if it is a jump.
 fn jump_target(place: usize, instr: Instr) -> Option<u128>
     ensures { result ≡ text.jump_target place instr }
 {
     match instr {
         Instr::Jump(over) | Instr::JumpIfFalse(over) | Instr::JumpIfTrue(over) => {
-            // in 128 bits, so that there is no jump whose target does not fit
+            // in 128 bits, so that every jump's target fits
             Some(place as u128 + 1 + over as u128)
         }
         Instr::JumpBack(back) => Some(place.saturating_sub(back) as u128),
@@ -22,7 +22,7 @@ fn jump_target(place: usize, instr: Instr) -> Option<u128>
     }
 }
 
-/// Marks the place that the instruction at a place jumps to, if there is such a place.
+/// Marks the place to which the instruction at `place` jumps, if the code has that place.
 fn mark(flags: &mut [bool], place: usize, instr: Instr)
     ensures { Marks place instr flags.old flags.new }
 {

@@ -13,7 +13,7 @@ use Rattle.code.specs.Listing.{text_at}
 use Rattle.code.specs.Lowering.{section_code, lists_at}
 use Rattle.code.specs.Working.Asked.{lists_of}
 use Rattle.code.specs.Working.Places.{PlacesOf, position_in, position_at}
-use Rattle.c_sections.specs.Acquires.{numbered}
+use Rattle.c_statements.specs.Acquires.{numbered}
 use Rattle.c_sections.specs.Instructions.{prints}
 use Rattle.c_sections.specs.Marks.{mark, goes_on, line_in, directive_if}
 use Rattle.c_sections.specs.Working.Marked.{line_of}

@@ -3,9 +3,9 @@ use Rattle.std.specs.Prelude.{ℕ, List, [], ◌∷◌, codes}
 use Rattle.std.specs.List.{flat_map}
 use Rattle.code.specs.Listing.{line}
 
--- the types of all programs, and the words by which a lock is opened, closed, taken and given back. A reader
--- checks that the words are those of POSIX threads, unless others were set before; that a result is a number of 64
--- bits; and that there is room for 256 prints, as many as one run of a section can make
+-- the types of all programs, and the words that open, close, acquire and release a lock. A reader checks that the words are
+-- those of POSIX threads, unless others were set before; that a result is a number of 64 bits; and that the buffer has room
+-- for 256 prints, the most that one run of a section can make
 unfoldable pub types_text : List ℕ
 types_text =
     flat_map line
@@ -41,7 +41,7 @@ types_text =
     ∷ codes "#endif"
     ∷ [])
 
--- C++ is told that the names are those of C
+-- the declaration for C++ that the names are those of C
 unfoldable pub opened_text : List ℕ
 opened_text =
     flat_map line
@@ -50,7 +50,7 @@ opened_text =
     ∷ codes "#endif"
     ∷ [])
 
--- the end of that, and of the header
+-- the end of that declaration and of the header
 unfoldable pub closed_text : List ℕ
 closed_text =
     flat_map line
@@ -60,10 +60,10 @@ closed_text =
     ∷ codes "#endif"
     ∷ [])
 
--- sums, differences and products of 64 bits with a sign. A reader checks that each is 1 exactly where 64 bits do
--- not hold the result, and else puts it at r, by the compiler's words and by tests that do not overflow; that AL_TRAP
--- sets `trap` and goes to `end`, and the words below it do so where their comments say. The warnings that are turned off speak of tests that are always true, and
--- of divisions behind a test of their divisor
+-- sums, differences and products of signed 64-bit numbers. A reader checks that each returns 1 exactly where 64 bits do not
+-- hold the result, and otherwise writes it to r, by the compiler's built-ins and by tests that do not overflow; that AL_TRAP
+-- sets `trap` and goes to `end`, and the words below it do so where their comments say. The disabled warnings are about
+-- divisions after a test of their divisor
 unfoldable pub arithmetic_text : List ℕ
 arithmetic_text =
     flat_map line
@@ -119,9 +119,9 @@ arithmetic_text =
     ∷ codes "#endif"
     ∷ [])
 
--- lists of locks, some of them NULL. A reader checks that AL_ORDER puts two in order of their addresses; that
--- `autolock_drop` leaves of k locks none that is among the p held ones, and of equal ones the last; that
--- `autolock_order` sorts, and `autolock_lock` takes each that is there
+-- lists of locks, some of them NULL. A reader checks that AL_ORDER puts two locks in the order of their addresses; that
+-- `autolock_drop` removes from k locks those that are among the p held ones, and all but the last of equal ones; that
+-- `autolock_order` sorts, and `autolock_lock` acquires each lock that is not NULL
 unfoldable pub locking_text : List ℕ
 locking_text =
     flat_map line

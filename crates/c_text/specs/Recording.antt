@@ -1,11 +1,10 @@
--- The recorder: the part of the C text, the same in all programs, that keeps a history in memory, line by line. Each
--- thread has a seat, and puts its calls there; an entry's place in the history is drawn from one counter while the call
--- has all its locks.
+-- The recorder, line by line: the part of the C text, the same in all programs, that keeps a history in memory. Each thread
+-- has a seat for its calls; an entry's place in the history is drawn from one counter while the call has all its locks.
 use Rattle.std.specs.Prelude.{ℕ, List, [], ◌∷◌, ◌++◌, codes}
 use Rattle.std.specs.List.{flat_map}
 use Rattle.code.specs.Listing.{line}
 
--- what writes prints. A reader checks that there is a line `print N` for each number
+-- the functions that write prints. A reader checks that there is a line `print N` for each number
 unfoldable pub writing_text : List ℕ
 writing_text =
     flat_map line
@@ -21,8 +20,8 @@ writing_text =
     ∷ codes "#endif"
     ∷ [])
 
--- what a history is kept in. A reader checks that an entry with 8 arguments and 256 prints takes less than AL_ENTRY
--- bytes, and that the length stands in a cache line of its own
+-- the structs of a history. A reader checks that an entry with 8 arguments and 256 prints takes less than AL_ENTRY bytes,
+-- and that the length has a cache line of its own
 unfoldable pub entries_text : List ℕ
 entries_text =
     flat_map line
@@ -77,8 +76,8 @@ entries_text =
     ∷ codes "static _Thread_local struct { int64_t history; struct autolock_seat *seat; } autolock_here;"
     ∷ [])
 
--- its start and its end. A reader checks that the number is one that no other history has, and that everything is
--- given back at the end
+-- the functions that open and close a history. A reader checks that no other history has the same number, and that closing
+-- frees all memory
 unfoldable pub opening_text : List ℕ
 opening_text =
     flat_map line
@@ -112,8 +111,8 @@ opening_text =
     ∷ codes "}"
     ∷ [])
 
--- seats. A reader checks that `autolock_sit` answers the seat of the calling thread, with room for an entry; that only
--- it adds seats and blocks, under the lock; and that nothing is added once memory was refused
+-- the functions for seats. A reader checks that `autolock_sit` returns the seat of the calling thread, with room for an
+-- entry; that only it adds seats and blocks, under the lock; and that nothing is added once memory was refused
 unfoldable pub seats_text : List ℕ
 seats_text =
     flat_map line
@@ -171,9 +170,9 @@ seats_text =
     ∷ codes "}"
     ∷ [])
 
--- a call. A reader checks that `autolock_begin` notes a length that the history has while it runs, and puts the
--- arguments where `autolock_ended` leaves them; that this draws a place that no other entry has; and that what both
--- write is in the room that `autolock_sit` saw to
+-- the functions for calls. A reader checks that `autolock_begin` notes a length that the history has while it runs, and puts
+-- the arguments where `autolock_ended` leaves them; that `autolock_ended` draws a place that no other entry has; and that
+-- both write only to the room that `autolock_sit` has made
 unfoldable pub recording_text : List ℕ
 recording_text =
     flat_map line
@@ -213,8 +212,8 @@ recording_text =
     ∷ codes "}"
     ∷ [])
 
--- what reads a history. A reader checks that `autolock_places` answers NULL, unless each place has one entry, and that
--- the entries of a seat are read in their order
+-- the functions that read a history. A reader checks that `autolock_places` returns NULL unless each place has one entry,
+-- and that the entries of a seat are read in their order
 unfoldable pub reading_text : List ℕ
 reading_text =
     flat_map line
@@ -267,5 +266,6 @@ reading_text =
     ∷ codes "#endif"
     ∷ [])
 
+-- the whole recorder
 unfoldable pub recorder_text : List ℕ
 recorder_text = writing_text ++ entries_text ++ opening_text ++ seats_text ++ recording_text ++ reading_text

@@ -6,9 +6,9 @@ ghost use Rattle.c_text.specs.Fixed as fixed;
 ghost use Rattle.c_text.specs.Files as text;
 ghost use Rattle.c_text.specs.Histories as histories;
 ghost use Rattle.c_text.specs.Mains as mains;
-ghost use Rattle.c_text.specs.Openings as openings;
-ghost use Rattle.c_text.specs.Pools as pools;
-ghost use Rattle.c_text.specs.Types as types;
+ghost use Rattle.c_data.specs.Openings as openings;
+ghost use Rattle.c_data.specs.Pools as pools;
+ghost use Rattle.c_data.specs.Types as types;
 ghost use Rattle.c_text.specs.Files.{file_of, source_of};
 
 use crate::fixed::{
@@ -18,7 +18,8 @@ use crate::fixed::{
 use crate::histories::push_cases_end;
 use crate::recording::push_recorder;
 use crate::writer::FileWriter;
-use c_sections::marks::Marks;
+use c_data::writer::DataWriter;
+use c_sections::marks::LineMarks;
 use c_sections::names::Writer;
 use c_sections::sections::prints;
 use code::Listed;
@@ -31,9 +32,9 @@ use std::alloc::{AllocError, Global};
 /// The program's file.
 #[derive(Clone, Copy)]
 pub struct SourceFile<'a> {
-    /// Its name.
+    /// The file's name.
     pub name: &'a str,
-    /// Its text.
+    /// The file's text.
     pub text: &'a [u8],
 }
 
@@ -42,11 +43,11 @@ pub struct SourceFile<'a> {
 struct FileText<'a> {
     program: &'a Program,
     prefix: &'a str,
-    // The program's file, if its lines are told.
+    // The program's file, where its lines are to be marked.
     source: Option<SourceFile<'a>>,
 }
 
-/// Finds the lines of the program's file, section after section.
+/// A cursor over the lines of the program's file, for section after section.
 #[derive(Drop)]
 struct Marker<'a> {
     name: &'a str,
@@ -56,14 +57,14 @@ struct Marker<'a> {
 impl<'a> FileText<'a> {
     ghost use Rattle.c_text.specs.Working.Sections.{at_number, IsListed, file_in};
 
-    // How many sections there are.
+    // The number of sections.
     fn count(&self) -> usize
         ensures { result ≡ length self.now.program.now.program.sections.items }
     {
         self.program.expanded().sections.len()
     }
 
-    // The section of this number, with its code, its lists of lock paths and its lock paths.
+    // The section with the number `number`, with its code and its lock paths.
     fn listed(&self, number: usize) -> Listed<'a>
         requires { number < length self.now.program.now.program.sections.items }
         ensures { IsListed self.now.program.now.program self.now.program.now.lists number result }
@@ -76,7 +77,7 @@ impl<'a> FileText<'a> {
         }
     }
 
-    // What writes its parts.
+    // The writer of the file's parts.
     fn writer(&self) -> FileWriter<'a>
         ensures program { result.names.program.now ≡ self.now.program.now.program }
         ensures prefix { result.names.prefix.now ≡ self.now.prefix.now }
@@ -89,7 +90,7 @@ impl<'a> FileText<'a> {
         }
     }
 
-    // The prototype of the section of this number.
+    // Appends the prototype of the section with the number `number`.
     fn push_prototype(&self, out: &mut String, number: usize) -> Result<(), AllocError>
         requires { number < length self.now.program.now.program.sections.items }
         ensures { OnOk result (AddsText (at_number
@@ -104,7 +105,7 @@ impl<'a> FileText<'a> {
         out.push_str(";\n")
     }
 
-    // The section of this number.
+    // Appends the section with the number `number`.
     fn push_section(&self, alloc: Global, out: &mut String, number: usize) -> Result<(), NoMemory>
         requires { number < length self.now.program.now.program.sections.items }
         ensures { OnOk result (AddsText (at_number
@@ -116,7 +117,7 @@ impl<'a> FileText<'a> {
             .push_section(alloc, out, self.listed(number), None)
     }
 
-    // The same, with the lines of the program's file.
+    // Appends the section with the number `number`, with the lines of the program's file.
     fn push_marked_section(
         &self,
         alloc: Global,
@@ -132,7 +133,7 @@ impl<'a> FileText<'a> {
     {
         let listed = self.listed(number);
         let places = SectionPlaces::of(alloc, &mut marker.cursor, listed.section)?;
-        let marks = Marks {
+        let marks = LineMarks {
             name: marker.name,
             places: &places,
         };
@@ -141,7 +142,7 @@ impl<'a> FileText<'a> {
             .push_section(alloc, out, listed, Some(marks))
     }
 
-    // The call of the section of this number.
+    // Appends the call of the section with the number `number`.
     fn push_case(&self, out: &mut String, number: usize) -> Result<(), AllocError>
         requires { number < length self.now.program.now.program.sections.items }
         ensures { OnOk result (AddsText (at_number
@@ -154,7 +155,7 @@ impl<'a> FileText<'a> {
             .push_case(out, number, listed.section, printing)
     }
 
-    // The prototypes of all sections.
+    // Appends the prototypes of all sections.
     fn push_prototypes(&self, out: &mut String) -> Result<(), AllocError>
         ensures { OnOk result (AddsText
             (text.prototypes_text self.now.prefix.now self.now.program.now.program self.now.program.now.lists)
@@ -166,7 +167,7 @@ impl<'a> FileText<'a> {
         Ok(())
     }
 
-    // All sections.
+    // Appends all sections.
     fn push_plain_sections(&self, alloc: Global, out: &mut String) -> Result<(), NoMemory>
         ensures { OnOk result (AddsText
             (text.sections_text self.now.prefix.now self.now.program.now.program self.now.program.now.lists None)
@@ -178,7 +179,7 @@ impl<'a> FileText<'a> {
         Ok(())
     }
 
-    // The same, with the lines of the program's file.
+    // Appends all sections, with the lines of the program's file.
     fn push_marked_sections(
         &self,
         alloc: Global,
@@ -199,7 +200,7 @@ impl<'a> FileText<'a> {
         Ok(())
     }
 
-    // All sections, with the lines of the program's file, if they are told.
+    // Appends all sections, with the lines of the program's file where they are to be marked.
     fn push_sections(&self, alloc: Global, out: &mut String) -> Result<(), NoMemory>
         ensures { OnOk result (AddsText
             (text.sections_text self.now.prefix.now self.now.program.now.program self.now.program.now.lists
@@ -211,7 +212,7 @@ impl<'a> FileText<'a> {
         }
     }
 
-    // The calls of all sections.
+    // Appends the calls of all sections.
     fn push_cases(&self, out: &mut String) -> Result<(), AllocError>
         ensures { OnOk result (AddsText
             (text.cases_text self.now.prefix.now self.now.program.now.program self.now.program.now.lists)
@@ -223,7 +224,7 @@ impl<'a> FileText<'a> {
         Ok(())
     }
 
-    // The first lines.
+    // Appends the first lines.
     #[tactic(auto, unfolding(crate::specs::Files::head_text))]
     fn push_head(&self, out: &mut String) -> Result<(), AllocError>
         ensures { OnOk result (AddsText (text.head_text self.now.prefix.now) out.old out.new) }
@@ -235,31 +236,40 @@ impl<'a> FileText<'a> {
         )
     }
 
-    // All types.
+    // Appends all types.
     fn push_types(&self, out: &mut String) -> Result<(), AllocError>
         ensures { OnOk result (AddsText
             (types.types_text self.now.prefix.now self.now.program.now.program) out.old out.new) }
     {
-        self.writer().push_types(out)
+        DataWriter {
+            names: self.writer().names,
+        }
+        .push_types(out)
     }
 
-    // The tests of pointers.
+    // Appends the tests of pointers.
     fn push_pointer_tests(&self, out: &mut String) -> Result<(), AllocError>
         ensures { OnOk result (AddsText
             (pools.tests_text self.now.prefix.now self.now.program.now.program) out.old out.new) }
     {
-        self.writer().push_pointer_tests(out)
+        DataWriter {
+            names: self.writer().names,
+        }
+        .push_pointer_tests(out)
     }
 
-    // How the state is opened and closed.
+    // Appends the functions that open and close the state.
     fn push_openings(&self, out: &mut String) -> Result<(), AllocError>
         ensures { OnOk result (AddsText
             (openings.openings_text self.now.prefix.now self.now.program.now.program) out.old out.new) }
     {
-        self.writer().push_openings(out)
+        DataWriter {
+            names: self.writer().names,
+        }
+        .push_openings(out)
     }
 
-    // The numbers of the sections.
+    // Appends the numbers of the sections.
     fn push_numbers(&self, out: &mut String) -> Result<(), AllocError>
         ensures { OnOk result (AddsText
             (histories.numbers_text self.now.prefix.now self.now.program.now.program.sections.items)
@@ -268,7 +278,7 @@ impl<'a> FileText<'a> {
         self.writer().push_numbers_of_sections(out)
     }
 
-    // What writes calls and cells.
+    // Appends the functions that write calls and cells.
     fn push_shown(&self, out: &mut String) -> Result<(), AllocError>
         ensures { OnOk result (AddsText
             (histories.shown_text self.now.prefix.now self.now.program.now.program) out.old out.new) }
@@ -276,14 +286,14 @@ impl<'a> FileText<'a> {
         self.writer().push_shown(out)
     }
 
-    // What a caller asks the recorder for.
+    // Appends the functions of the recorder that a caller uses.
     fn push_histories(&self, out: &mut String) -> Result<(), AllocError>
         ensures { OnOk result (AddsText (histories.histories_text self.now.prefix.now) out.old out.new) }
     {
         self.writer().push_histories(out)
     }
 
-    // The calls of all threads.
+    // Appends the calls of all threads.
     fn push_scripts(&self, out: &mut String) -> Result<(), AllocError>
         ensures { OnOk result (AddsText
             (mains.scripts_text self.now.prefix.now self.now.program.now.program.threads.items) out.old out.new) }
@@ -291,21 +301,21 @@ impl<'a> FileText<'a> {
         self.writer().push_scripts(out)
     }
 
-    // What stands ahead of the calls of sections.
+    // Appends the text before the calls of sections.
     fn push_call_start(&self, out: &mut String) -> Result<(), AllocError>
         ensures { OnOk result (AddsText (mains.call_start self.now.prefix.now) out.old out.new) }
     {
         self.writer().push_call_start(out)
     }
 
-    // The run.
+    // Appends the run.
     fn push_run(&self, out: &mut String) -> Result<(), AllocError>
         ensures { OnOk result (AddsText (mains.run_all self.now.prefix.now) out.old out.new) }
     {
         self.writer().push_run_all(out)
     }
 
-    // The header.
+    // Appends the header.
     #[tactic(auto, unfolding(crate::specs::Files::header_text))]
     fn push_header(&self, out: &mut String) -> Result<(), AllocError>
         ensures { OnOk result (AddsText
@@ -320,7 +330,7 @@ impl<'a> FileText<'a> {
         push_closed(out)
     }
 
-    // The functions.
+    // Appends the functions.
     #[tactic(auto, unfolding(crate::specs::Files::functions_text))]
     fn push_functions(&self, alloc: Global, out: &mut String) -> Result<(), NoMemory>
         ensures { OnOk result (AddsText
@@ -336,7 +346,7 @@ impl<'a> FileText<'a> {
         self.push_sections(alloc, out)
     }
 
-    // The program that runs the threads.
+    // Appends the program that runs the threads.
     #[tactic(auto, unfolding(crate::specs::Files::main_text))]
     fn push_main(&self, out: &mut String) -> Result<(), AllocError>
         ensures { OnOk result (AddsText
@@ -352,12 +362,12 @@ impl<'a> FileText<'a> {
     }
 }
 
-/// What another C or C++ file can use of a program: its types, the functions that open and close the state, and the
-/// prototypes of its sections. Each name begins with the prefix, a word of letters and digits.
+/// The parts of a program that another C or C++ file can use: its types, the functions that open and close the state, and
+/// the prototypes of its sections. Each name begins with `prefix`, a word of letters and digits.
 ///
 /// # Errors
 ///
-/// Want of memory.
+/// `NoMemory`: a growth was refused.
 pub fn header<'a>(alloc: Global, program: &'a Program, prefix: &'a str) -> Result<String, NoMemory>
     ensures { IfOk result (λ made. string_bytes made
         ≡ text.header_text prefix.now program.now.program program.now.lists) }
@@ -372,13 +382,13 @@ pub fn header<'a>(alloc: Global, program: &'a Program, prefix: &'a str) -> Resul
     Ok(out)
 }
 
-/// The C file of a program, which begins with the header: all functions; where AL_HISTORY is defined, what keeps a
-/// history of the calls; where AL_MAIN is defined, a program that runs the threads. With the program's file, the C of
-/// each statement is told to be of the statement's line.
+/// The C file of a program, which begins with the header: all functions, where AL_HISTORY is defined also the recorder of a
+/// history of the calls, where AL_MAIN is defined also a program that runs the threads. Where `source` is given, `#line`
+/// directives give the C of each statement the statement's line.
 ///
 /// # Errors
 ///
-/// Want of memory.
+/// `NoMemory`: a growth was refused.
 #[tactic(auto, unfolding(crate::specs::Files::file_text))]
 pub fn file<'a>(
     alloc: Global,

@@ -6,7 +6,7 @@ ghost use Rattle.c_text.specs.Fixed as text;
 
 use std::alloc::AllocError;
 
-/// The types of all programs, and the words for locks.
+/// Appends the types of all programs, and the words for locks.
 #[tactic(auto, unfolding(crate::specs::Fixed::types_text))]
 pub fn push_types(out: &mut String) -> Result<(), AllocError>
     ensures { OnOk result (AddsText text.types_text out.old out.new) }
@@ -46,7 +46,7 @@ struct autolock_history;
     )
 }
 
-/// What stands ahead of the declarations.
+/// Appends the text before the declarations.
 #[tactic(auto, unfolding(crate::specs::Fixed::opened_text))]
 pub fn push_opened(out: &mut String) -> Result<(), AllocError>
     ensures { OnOk result (AddsText text.opened_text out.old out.new) }
@@ -59,7 +59,7 @@ extern "C" {
     )
 }
 
-/// What stands behind the declarations.
+/// Appends the text after the declarations.
 #[tactic(auto, unfolding(crate::specs::Fixed::closed_text))]
 pub fn push_closed(out: &mut String) -> Result<(), AllocError>
     ensures { OnOk result (AddsText text.closed_text out.old out.new) }
@@ -73,7 +73,7 @@ pub fn push_closed(out: &mut String) -> Result<(), AllocError>
     )
 }
 
-/// Sums, differences and products.
+/// Appends the functions for sums, differences and products.
 #[tactic(auto, unfolding(crate::specs::Fixed::arithmetic_text))]
 pub fn push_arithmetic(out: &mut String) -> Result<(), AllocError>
     ensures { OnOk result (AddsText text.arithmetic_text out.old out.new) }
@@ -133,7 +133,7 @@ AL_INLINE int autolock_mul(int64_t a, int64_t b, int64_t *r)
     )
 }
 
-/// Lists of locks.
+/// Appends the functions for lists of locks.
 #[tactic(auto, unfolding(crate::specs::Fixed::locking_text))]
 pub fn push_locking(out: &mut String) -> Result<(), AllocError>
     ensures { OnOk result (AddsText text.locking_text out.old out.new) }
@@ -166,7 +166,7 @@ AL_INLINE void autolock_lock(AL_MUTEX **m, int k)
     )
 }
 
-/// The start of the program that runs the threads.
+/// Appends the start of the program that runs the threads.
 #[tactic(auto, unfolding(crate::specs::Fixed::runs_text))]
 pub fn push_runs(out: &mut String) -> Result<(), AllocError>
     ensures { OnOk result (AddsText text.runs_text out.old out.new) }

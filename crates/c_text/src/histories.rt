@@ -1,4 +1,4 @@
-//! What writes a history. The one error is a refused growth.
+//! The functions that write a history. The one error is a refused growth.
 
 ghost use Rattle.std.specs.Prelude.{◌≡◌, OnOk};
 ghost use Rattle.locks.specs.Texts.{AddsText};
@@ -6,12 +6,13 @@ ghost use Rattle.c_text.specs.Histories as text;
 ghost use Rattle.c_sections.specs.Sections as sections;
 
 use crate::writer::FileWriter;
-use c_sections::names::push_struct;
+use c_data::writer::DataWriter;
+use c_statements::names::push_struct;
 use core_lang::tree::{Local, Section};
 use core_lang::value::ValueType;
 use std::alloc::AllocError;
 
-/// A comma, ahead of each argument but the first.
+/// Appends the comma before each argument but the first.
 #[tactic(auto, unfolding(crate::specs::Histories::comma_text))]
 fn push_comma(out: &mut String, number: usize) -> Result<(), AllocError>
     ensures { OnOk result (AddsText (text.comma_text number) out.old out.new) }
@@ -30,7 +31,7 @@ pub fn parameters(section: &Section) -> &[Local]
     &locals[..section.parameters.min(locals.len())]
 }
 
-/// The end of a function that tells sections apart by their numbers.
+/// Appends the end of a function that switches over the numbers of sections.
 #[tactic(auto, unfolding(crate::specs::Histories::cases_end))]
 pub fn push_cases_end(out: &mut String) -> Result<(), AllocError>
     ensures { OnOk result (AddsText text.cases_end out.old out.new) }
@@ -39,7 +40,7 @@ pub fn push_cases_end(out: &mut String) -> Result<(), AllocError>
 }
 
 impl FileWriter<'_> {
-    // The number of a section.
+    // Appends the number of a section.
     fn push_section_number(&self, out: &mut String, section: &Section) -> Result<(), AllocError>
         ensures { OnOk result (AddsText
             (text.section_number self.now.names.prefix.now section.now) out.old out.new) }
@@ -47,7 +48,7 @@ impl FileWriter<'_> {
         write!(out, "  {}Section_{},\n", self.names.prefix, section.name)
     }
 
-    // Those of all sections.
+    // Appends the numbers of all sections.
     fn push_section_numbers(&self, out: &mut String) -> Result<(), AllocError>
         ensures { OnOk result (AddsText
             (text.section_numbers self.now.names.prefix.now self.now.names.program.now.sections.items)
@@ -59,7 +60,7 @@ impl FileWriter<'_> {
         Ok(())
     }
 
-    /// The numbers of the sections. The one error is a refused growth.
+    /// Appends the enumeration of the sections' numbers. The one error is a refused growth.
     pub fn push_numbers_of_sections(&self, out: &mut String) -> Result<(), AllocError>
         ensures { OnOk result (AddsText
             (text.numbers_text self.now.names.prefix.now self.now.names.program.now.sections.items)
@@ -70,7 +71,7 @@ impl FileWriter<'_> {
         write!(out, "  {}Sections\n}};\n#endif\n", self.names.prefix)
     }
 
-    // What writes the object of a struct whose address is a number.
+    // Appends the call that writes an object of the struct with the number `structure`, whose address is a number.
     fn push_writer(&self, out: &mut String, structure: usize) -> Result<(), AllocError>
         ensures { OnOk result (AddsText
             (text.writer_text self.now.names.prefix.now self.now.names.program.now structure) out.old out.new) }
@@ -82,7 +83,7 @@ impl FileWriter<'_> {
         out.push_str(" *)(uintptr_t)")
     }
 
-    // What writes an argument that is a reference.
+    // Appends the statement that writes an argument that is a reference.
     fn push_written_reference(
         &self,
         out: &mut String,
@@ -98,7 +99,7 @@ impl FileWriter<'_> {
         write!(out, "a[{number}]);\n")
     }
 
-    // What writes an argument.
+    // Appends the statement that writes an argument.
     #[tactic(auto, unfolding(crate::specs::Histories::written_text))]
     fn push_written(
         &self,
@@ -116,7 +117,7 @@ impl FileWriter<'_> {
         }
     }
 
-    // The same, behind a comma.
+    // Appends the statement that writes an argument, after a comma.
     fn push_written_next(
         &self,
         out: &mut String,
@@ -131,7 +132,7 @@ impl FileWriter<'_> {
         self.push_written(out, number, local.value_type)
     }
 
-    // What writes those.
+    // Appends the statements that write the arguments `locals`.
     fn push_each_written(&self, out: &mut String, locals: &[Local]) -> Result<(), AllocError>
         ensures { OnOk result (AddsText
             (text.all_written self.now.names.prefix.now self.now.names.program.now locals.now) out.old out.new) }
@@ -142,7 +143,7 @@ impl FileWriter<'_> {
         Ok(())
     }
 
-    // What writes all arguments of a section.
+    // Appends the statements that write all arguments of a section.
     fn push_all_written(&self, out: &mut String, section: &Section) -> Result<(), AllocError>
         ensures { OnOk result (AddsText
             (text.all_written self.now.names.prefix.now self.now.names.program.now (sections.parameters section.now))
@@ -151,7 +152,7 @@ impl FileWriter<'_> {
         self.push_each_written(out, parameters(section))
     }
 
-    // How a call with a reference as its result ended.
+    // Appends the statement that writes how a call ended whose result is a reference.
     fn push_reference_ending(&self, out: &mut String, structure: usize) -> Result<(), AllocError>
         ensures { OnOk result (AddsText
             (text.reference_ending self.now.names.prefix.now self.now.names.program.now structure) out.old out.new) }
@@ -161,7 +162,7 @@ impl FileWriter<'_> {
         out.push_str("value);\n      fputs(\"\\n\", f);\n    }\n")
     }
 
-    // How a call ended, where no trap cut it short.
+    // Appends the statement that writes how a call ended without a trap.
     #[tactic(auto, unfolding(crate::specs::Histories::ending_text))]
     fn push_ending(
         &self,
@@ -180,7 +181,7 @@ impl FileWriter<'_> {
         }
     }
 
-    // The line of a call of the section of this number.
+    // Appends the case that writes the line of a call of the section with the number `number`.
     fn push_tell(
         &self,
         out: &mut String,
@@ -202,7 +203,7 @@ impl FileWriter<'_> {
         out.push_str("    break;\n")
     }
 
-    // Those of all sections.
+    // Appends the cases of all sections.
     fn push_all_tells(&self, out: &mut String) -> Result<(), AllocError>
         ensures { OnOk result (AddsText
             (text.all_tells self.now.names.prefix.now self.now.names.program.now) out.old out.new) }
@@ -213,19 +214,19 @@ impl FileWriter<'_> {
         Ok(())
     }
 
-    // What stands ahead of them.
+    // Appends the text before the cases.
     fn push_tell_start(&self, out: &mut String) -> Result<(), AllocError>
         ensures { OnOk result (AddsText (text.tell_start self.now.names.prefix.now) out.old out.new) }
     {
         write!(out, "AL_INLINE void {}Tell(FILE *f, ", self.names.prefix)?;
-        self.push_state_pointer(out)?;
+        DataWriter { names: self.names }.push_state_pointer(out)?;
         out.push_str(", int section, const int64_t *a, int trap, int64_t value)\n{\n")?;
         out.push_str(
             "  (void)f;\n  (void)s;\n  (void)a;\n  (void)trap;\n  (void)value;\n  switch (section) {\n",
         )
     }
 
-    // The function that writes a call's line.
+    // Appends the function that writes a call's line.
     #[tactic(auto, unfolding(crate::specs::Histories::tells_text))]
     fn push_tells(&self, out: &mut String) -> Result<(), AllocError>
         ensures { OnOk result (AddsText
@@ -236,19 +237,19 @@ impl FileWriter<'_> {
         push_cases_end(out)
     }
 
-    /// What writes calls and cells. The one error is a refused growth.
+    /// Appends the functions that write calls and cells. The one error is a refused growth.
     pub fn push_shown(&self, out: &mut String) -> Result<(), AllocError>
         ensures { OnOk result (AddsText
             (text.shown_text self.now.names.prefix.now self.now.names.program.now) out.old out.new) }
     {
         out.push_str("#if defined(AL_MAIN) || defined(AL_HISTORY)\n")?;
-        self.push_objects(out)?;
+        DataWriter { names: self.names }.push_objects(out)?;
         self.push_tells(out)?;
-        self.push_cells(out)?;
+        DataWriter { names: self.names }.push_cells(out)?;
         out.push_str("#endif\n")
     }
 
-    // A history begins.
+    // Appends the function that opens a history.
     fn push_history_open(&self, out: &mut String) -> Result<(), AllocError>
         ensures { OnOk result (AddsText (text.open_text self.now.names.prefix.now) out.old out.new) }
     {
@@ -265,7 +266,7 @@ int {prefix}HistoryOpen(struct {prefix}State *s)
         )
     }
 
-    // The number of the calling thread.
+    // Appends the function that returns the number of the calling thread.
     fn push_history_seat(&self, out: &mut String) -> Result<(), AllocError>
         ensures { OnOk result (AddsText (text.seat_text self.now.names.prefix.now) out.old out.new) }
     {
@@ -281,7 +282,7 @@ int {prefix}HistoryOpen(struct {prefix}State *s)
         )
     }
 
-    // The history is written.
+    // Appends the function that writes the history.
     fn push_history_write(&self, out: &mut String) -> Result<(), AllocError>
         ensures { OnOk result (AddsText (text.write_text self.now.names.prefix.now) out.old out.new) }
     {
@@ -308,7 +309,7 @@ int {prefix}HistoryOpen(struct {prefix}State *s)
         )
     }
 
-    // The history is dropped.
+    // Appends the function that drops the history.
     fn push_history_close(&self, out: &mut String) -> Result<(), AllocError>
         ensures { OnOk result (AddsText (text.close_text self.now.names.prefix.now) out.old out.new) }
     {
@@ -325,7 +326,7 @@ int {prefix}HistoryOpen(struct {prefix}State *s)
         )
     }
 
-    /// What a caller asks the recorder for. The one error is a refused growth.
+    /// Appends the functions of the recorder that a caller uses. The one error is a refused growth.
     #[tactic(auto, unfolding(crate::specs::Histories::histories_text))]
     pub fn push_histories(&self, out: &mut String) -> Result<(), AllocError>
         ensures { OnOk result (AddsText (text.histories_text self.now.names.prefix.now) out.old out.new) }

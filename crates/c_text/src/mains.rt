@@ -7,14 +7,15 @@ ghost use Rattle.c_sections.specs.Sections as sections;
 
 use crate::histories::parameters;
 use crate::writer::FileWriter;
-use c_sections::names::{push_number, push_struct};
+use c_data::writer::DataWriter;
 use c_sections::sections::push_cast;
+use c_statements::names::{push_number, push_struct};
 use core_lang::tree::{Local, Section};
 use core_lang::typed::{Call, Thread};
 use core_lang::value::{Value, ValueType};
 use std::alloc::AllocError;
 
-/// An argument: a number, or the number of an object, or -1 for null.
+/// Appends an argument: a number, or the number of an object, or -1 for null.
 fn push_argument(out: &mut String, value: Value) -> Result<(), AllocError>
     ensures { OnOk result (AddsText (text.argument_text value) out.old out.new) }
 {
@@ -25,7 +26,7 @@ fn push_argument(out: &mut String, value: Value) -> Result<(), AllocError>
     }
 }
 
-/// The arguments of a call, with a comma and a space between; 0 where there is none.
+/// Appends the arguments of a call, with a comma and a space between them, or 0 where there are none.
 fn push_arguments(out: &mut String, values: &[Value]) -> Result<(), AllocError>
     ensures { OnOk result (AddsText (text.arguments_text values.now) out.old out.new) }
 {
@@ -40,14 +41,14 @@ fn push_arguments(out: &mut String, values: &[Value]) -> Result<(), AllocError>
     Ok(())
 }
 
-/// Those of this call.
+/// Appends the arguments of `call`.
 fn push_arguments_of(out: &mut String, call: &Call) -> Result<(), AllocError>
     ensures { OnOk result (AddsText (text.arguments_text call.now.arguments.items) out.old out.new) }
 {
     push_arguments(out, &call.arguments)
 }
 
-/// A call.
+/// Appends a call.
 fn push_call(out: &mut String, call: &Call) -> Result<(), AllocError>
     ensures { OnOk result (AddsText (text.call_text call.now) out.old out.new) }
 {
@@ -56,7 +57,7 @@ fn push_call(out: &mut String, call: &Call) -> Result<(), AllocError>
     out.push_str(" } },\n")
 }
 
-/// The calls of a thread.
+/// Appends the calls of a thread.
 fn push_calls(out: &mut String, thread: &Thread) -> Result<(), AllocError>
     ensures { OnOk result (AddsText (text.calls_text thread.now.calls.items) out.old out.new) }
 {
@@ -66,7 +67,7 @@ fn push_calls(out: &mut String, thread: &Thread) -> Result<(), AllocError>
     Ok(())
 }
 
-/// What the section prints goes here, if it prints.
+/// Appends the declaration of the buffer for prints, if the section prints.
 #[tactic(auto, unfolding(crate::specs::Mains::prints_declared))]
 fn push_prints_declared(out: &mut String, prints: bool) -> Result<(), AllocError>
     ensures { OnOk result (AddsText (text.prints_declared prints) out.old out.new) }
@@ -77,7 +78,7 @@ fn push_prints_declared(out: &mut String, prints: bool) -> Result<(), AllocError
     Ok(())
 }
 
-/// The section is told where.
+/// Appends the pointer to the buffer as an argument, if the section prints.
 #[tactic(auto, unfolding(crate::specs::Mains::prints_passed))]
 fn push_prints_passed(out: &mut String, prints: bool) -> Result<(), AllocError>
     ensures { OnOk result (AddsText (text.prints_passed prints) out.old out.new) }
@@ -88,7 +89,7 @@ fn push_prints_passed(out: &mut String, prints: bool) -> Result<(), AllocError>
     Ok(())
 }
 
-/// What it printed is written.
+/// Appends the statement that writes the prints, if the section prints.
 #[tactic(auto, unfolding(crate::specs::Mains::prints_written))]
 fn push_prints_written(out: &mut String, prints: bool) -> Result<(), AllocError>
     ensures { OnOk result (AddsText (text.prints_written prints) out.old out.new) }
@@ -99,7 +100,7 @@ fn push_prints_written(out: &mut String, prints: bool) -> Result<(), AllocError>
     Ok(())
 }
 
-/// The result as a number.
+/// Appends the result as a number.
 fn push_result_word(out: &mut String, result_type: Option<ValueType>) -> Result<(), AllocError>
     ensures { OnOk result (AddsText (text.result_word result_type) out.old out.new) }
 {
@@ -111,7 +112,7 @@ fn push_result_word(out: &mut String, result_type: Option<ValueType>) -> Result<
 }
 
 impl FileWriter<'_> {
-    // The calls of the thread of this number.
+    // Appends the calls of the thread with the number `number`.
     fn push_script(
         &self,
         out: &mut String,
@@ -130,7 +131,7 @@ impl FileWriter<'_> {
         out.push_str("  { -1, { 0 } }\n};\n")
     }
 
-    // Its name.
+    // Appends the name of that list of calls.
     #[tactic(auto, unfolding(crate::specs::Mains::script_name))]
     fn push_script_name(
         &self,
@@ -145,7 +146,7 @@ impl FileWriter<'_> {
         write!(out, "  {}Script_{number},\n", self.names.prefix)
     }
 
-    // The calls of all threads.
+    // Appends the calls of all threads.
     fn push_all_scripts(&self, out: &mut String) -> Result<(), AllocError>
         ensures { OnOk result (AddsText
             (text.all_scripts self.now.names.prefix.now self.now.names.program.now.threads.items) out.old out.new) }
@@ -156,7 +157,7 @@ impl FileWriter<'_> {
         Ok(())
     }
 
-    // Their names.
+    // Appends the names of all lists of calls.
     fn push_script_names(&self, out: &mut String) -> Result<(), AllocError>
         ensures { OnOk result (AddsText
             (text.script_names self.now.names.prefix.now self.now.names.program.now.threads.items) out.old out.new) }
@@ -167,7 +168,7 @@ impl FileWriter<'_> {
         Ok(())
     }
 
-    /// The calls of all threads, and the list of them. The one error is a refused growth.
+    /// Appends the calls of all threads, and the list of these lists. The one error is a refused growth.
     pub fn push_scripts(&self, out: &mut String) -> Result<(), AllocError>
         ensures { OnOk result (AddsText
             (text.scripts_text self.now.names.prefix.now self.now.names.program.now.threads.items) out.old out.new) }
@@ -182,7 +183,7 @@ impl FileWriter<'_> {
         out.push_str("  NULL\n};\n")
     }
 
-    // An argument, by its number and its type.
+    // Appends an argument, by its number and its type.
     fn push_passed(
         &self,
         out: &mut String,
@@ -203,7 +204,7 @@ impl FileWriter<'_> {
         }
     }
 
-    // An argument behind others.
+    // Appends an argument after others.
     fn push_passed_next(
         &self,
         out: &mut String,
@@ -218,7 +219,7 @@ impl FileWriter<'_> {
         self.push_passed(out, number, local.value_type)
     }
 
-    // The arguments of these parameters.
+    // Appends the arguments for the parameters `locals`.
     fn push_each_passed(&self, out: &mut String, locals: &[Local]) -> Result<(), AllocError>
         ensures { OnOk result (AddsText
             (text.all_passed self.now.names.prefix.now self.now.names.program.now locals.now) out.old out.new) }
@@ -229,7 +230,7 @@ impl FileWriter<'_> {
         Ok(())
     }
 
-    // All arguments of a section.
+    // Appends all arguments of a section.
     fn push_all_passed(&self, out: &mut String, section: &Section) -> Result<(), AllocError>
         ensures { OnOk result (AddsText
             (text.all_passed self.now.names.prefix.now self.now.names.program.now (sections.parameters section.now))
@@ -238,7 +239,7 @@ impl FileWriter<'_> {
         self.push_each_passed(out, parameters(section))
     }
 
-    // The struct of what a section gives back.
+    // Appends the name of the struct that a section returns.
     fn push_result_struct(
         &self,
         out: &mut String,
@@ -258,7 +259,7 @@ impl FileWriter<'_> {
         }
     }
 
-    // The call of a section.
+    // Appends the call of a section.
     fn push_made(&self, out: &mut String, section: &Section, prints: bool) -> Result<(), AllocError>
         ensures { OnOk result (AddsText
             (text.made_text self.now.names.prefix.now self.now.names.program.now section.now prints)
@@ -273,7 +274,7 @@ impl FileWriter<'_> {
         out.push_str(");\n")
     }
 
-    // An argument as a number.
+    // Appends an argument as a number.
     fn push_word_next(
         &self,
         out: &mut String,
@@ -289,7 +290,7 @@ impl FileWriter<'_> {
         out.push_str(", ")
     }
 
-    // The arguments of these parameters as numbers.
+    // Appends the arguments for the parameters `locals` as numbers.
     fn push_each_word(&self, out: &mut String, locals: &[Local]) -> Result<(), AllocError>
         ensures { OnOk result (AddsText
             (text.all_words self.now.names.prefix.now self.now.names.program.now locals.now) out.old out.new) }
@@ -300,7 +301,7 @@ impl FileWriter<'_> {
         Ok(())
     }
 
-    // All arguments of a section as numbers.
+    // Appends all arguments of a section as numbers.
     fn push_all_words(&self, out: &mut String, section: &Section) -> Result<(), AllocError>
         ensures { OnOk result (AddsText
             (text.all_words self.now.names.prefix.now self.now.names.program.now (sections.parameters section.now))
@@ -309,7 +310,7 @@ impl FileWriter<'_> {
         self.push_each_word(out, parameters(section))
     }
 
-    // What is written of it.
+    // Appends the statements that write the lines of the call.
     fn push_told(&self, out: &mut String, section: &Section, prints: bool) -> Result<(), AllocError>
         ensures { OnOk result (AddsText
             (text.told_text self.now.names.prefix.now self.now.names.program.now section.now prints)
@@ -327,7 +328,8 @@ impl FileWriter<'_> {
         push_prints_written(out, prints)
     }
 
-    /// The call of the section of this number, and what is written of it. The one error is a refused growth.
+    /// Appends the case of the section with the number `number`: its call, and the lines of the call. The one error is a
+    /// refused growth.
     pub fn push_case(
         &self,
         out: &mut String,
@@ -346,18 +348,18 @@ impl FileWriter<'_> {
         out.push_str("    break;\n  }\n")
     }
 
-    /// The start of the function that makes a call. The one error is a refused growth.
+    /// Appends the start of the function that makes a call. The one error is a refused growth.
     pub fn push_call_start(&self, out: &mut String) -> Result<(), AllocError>
         ensures { OnOk result (AddsText (text.call_start self.now.names.prefix.now) out.old out.new) }
     {
         write!(out, "static void {}Call(FILE *f, ", self.names.prefix)?;
-        self.push_state_pointer(out)?;
+        DataWriter { names: self.names }.push_state_pointer(out)?;
         out.push_str(", int t, int64_t k, const struct autolock_call *c)\n{\n")?;
         out.push_str("  const int64_t *a = c->a;\n  (void)f;\n  (void)s;\n  (void)t;\n")?;
         out.push_str("  (void)k;\n  (void)a;\n  switch (c->section) {\n")
     }
 
-    // A thread.
+    // Appends the function that runs a thread.
     fn push_run(&self, out: &mut String) -> Result<(), AllocError>
         ensures { OnOk result (AddsText (text.run_text self.now.names.prefix.now) out.old out.new) }
     {
@@ -388,7 +390,7 @@ static void *{prefix}Run(void *start)
         )
     }
 
-    // All calls, thread after thread.
+    // Appends the function that makes all calls, thread after thread.
     fn push_serial(&self, out: &mut String) -> Result<(), AllocError>
         ensures { OnOk result (AddsText (text.serial_text self.now.names.prefix.now) out.old out.new) }
     {
@@ -412,7 +414,7 @@ static void *{prefix}Run(void *start)
         )
     }
 
-    // The start of the run.
+    // Appends the start of the run.
     fn push_start(&self, out: &mut String) -> Result<(), AllocError>
         ensures { OnOk result (AddsText (text.start_text self.now.names.prefix.now) out.old out.new) }
     {
@@ -434,7 +436,7 @@ static void *{prefix}Run(void *start)
         )
     }
 
-    // The threads.
+    // Appends the statements that start and join the threads.
     fn push_threads(&self, out: &mut String) -> Result<(), AllocError>
         ensures { OnOk result (AddsText (text.threads_text self.now.names.prefix.now) out.old out.new) }
     {
@@ -450,7 +452,7 @@ static void *{prefix}Run(void *start)
         )
     }
 
-    // The end of the run.
+    // Appends the end of the run.
     fn push_end(&self, out: &mut String) -> Result<(), AllocError>
         ensures { OnOk result (AddsText (text.end_text self.now.names.prefix.now) out.old out.new) }
     {
@@ -481,7 +483,7 @@ static void *{prefix}Run(void *start)
         )
     }
 
-    /// The run. The one error is a refused growth.
+    /// Appends the run. The one error is a refused growth.
     #[tactic(auto, unfolding(crate::specs::Mains::run_all))]
     pub fn push_run_all(&self, out: &mut String) -> Result<(), AllocError>
         ensures { OnOk result (AddsText (text.run_all self.now.names.prefix.now) out.old out.new) }

@@ -6,7 +6,7 @@ ghost use Rattle.c_text.specs.Recording as text;
 
 use std::alloc::AllocError;
 
-/// What writes prints.
+/// Appends the functions that write prints.
 #[tactic(auto, unfolding(crate::specs::Recording::writing_text))]
 fn push_writing(out: &mut String) -> Result<(), AllocError>
     ensures { OnOk result (AddsText text.writing_text out.old out.new) }
@@ -26,7 +26,7 @@ AL_INLINE void autolock_write_prints(FILE *f, int count, const int64_t *value)
     )
 }
 
-/// What a history is kept in.
+/// Appends the structs of a history.
 #[tactic(auto, unfolding(crate::specs::Recording::entries_text))]
 fn push_entries(out: &mut String) -> Result<(), AllocError>
     ensures { OnOk result (AddsText text.entries_text out.old out.new) }
@@ -85,7 +85,7 @@ static _Thread_local struct { int64_t history; struct autolock_seat *seat; } aut
     )
 }
 
-/// The start and the end of a history.
+/// Appends the functions that open and close a history.
 #[tactic(auto, unfolding(crate::specs::Recording::opening_text))]
 fn push_opening(out: &mut String) -> Result<(), AllocError>
     ensures { OnOk result (AddsText text.opening_text out.old out.new) }
@@ -123,7 +123,7 @@ AL_INLINE void autolock_history_close(struct autolock_history *h)
     )
 }
 
-/// Seats of threads.
+/// Appends the functions for the seats of threads.
 #[tactic(auto, unfolding(crate::specs::Recording::seats_text))]
 fn push_seats(out: &mut String) -> Result<(), AllocError>
     ensures { OnOk result (AddsText text.seats_text out.old out.new) }
@@ -185,7 +185,7 @@ static struct autolock_seat *autolock_sit(struct autolock_history *h, int64_t nu
     )
 }
 
-/// The begin and the end of a call.
+/// Appends the functions that record the begin and the end of a call.
 #[tactic(auto, unfolding(crate::specs::Recording::recording_text))]
 fn push_recording(out: &mut String) -> Result<(), AllocError>
     ensures { OnOk result (AddsText text.recording_text out.old out.new) }
@@ -229,7 +229,7 @@ AL_INLINE void autolock_ended(struct autolock_seat *seat, int trap, int64_t valu
     )
 }
 
-/// What reads a history.
+/// Appends the functions that read a history.
 #[tactic(auto, unfolding(crate::specs::Recording::reading_text))]
 fn push_reading(out: &mut String) -> Result<(), AllocError>
     ensures { OnOk result (AddsText text.reading_text out.old out.new) }
@@ -286,7 +286,7 @@ AL_INLINE struct autolock_seat **autolock_places(struct autolock_history *h)
     )
 }
 
-/// The recorder.
+/// Appends the recorder.
 #[tactic(auto, unfolding(crate::specs::Recording::recorder_text))]
 pub fn push_recorder(out: &mut String) -> Result<(), AllocError>
     ensures { OnOk result (AddsText text.recorder_text out.old out.new) }

@@ -1,10 +1,10 @@
-//! What writes the parts of a file.
+//! The writer of the parts of a file.
 
 use c_sections::names::Writer;
 
-/// Writes the C text of a program, part by part.
+/// A writer of the C text of a program, part by part.
 #[derive(Clone, Copy)]
 pub struct FileWriter<'a> {
-    /// Its names.
+    /// The writer of the program's names.
     pub names: Writer<'a>,
 }

@@ -1,4 +1,5 @@
--- A call in C beside an open section of a world, and one group of its statements beside the section's next instruction.
+-- A call in C and the open section of a world that it stands for: one group of its statements does what the section's
+-- next instruction does.
 use Rattle.std.proofs.Common.{◌≡◌, ℕ, ◌+◌, false, List, [], ◌∷◌, ◌++◌, Option, Some, None}
 use Rattle.std.proofs.Common.{slice_get, refl, sym, ap, ◌∙◌, subst, inl, inr}
 use Rattle.std.specs.Prelude.{unwrap_or}
@@ -21,14 +22,14 @@ use Rattle.worlds.specs.Working.States.{IsWell}
 use Rattle.worlds.specs.Working.Ahead.{SeesTyped, IsReady}
 use Rattle.c_language.specs.declared.statement.Operand.{Operand}
 use Rattle.c_language.specs.Meaning.{Frame, After, Next, At_label, At_end, Anything}
-use Rattle.c_groups.specs.Groups.{Group}
-use Rattle.c_groups.specs.Plans.{Spot, IsPlan, plan as spots, SectionsHavePlans}
-use Rattle.c_groups.specs.Alike.{machine_of, Hold, IsLow, AreFitting, Beside}
-use Rattle.c_groups.specs.Runs.{begin_group, GroupsLeadOn, LeadsOn, IsAcquire}
-use Rattle.c_locks.specs.Locking.{Acquired, acquired, no_notes}
+use Rattle.c_language.specs.Groups.{Group}
+use Rattle.c_language.specs.Plans.{Spot, IsPlan, plan as spots, SectionsHavePlans}
+use Rattle.c_language.specs.Alike.{machine_of, Hold, IsLow, AreFitting, Beside}
+use Rattle.c_language.specs.Runs.{begin_group, GroupsLeadOn, LeadsOn, IsAcquire}
+use Rattle.c_threads.specs.Locking.{Acquired, acquired, no_notes}
 use Rattle.core_lang.specs.Typing.{Fit}
 use Rattle.core_lang.specs.WellFormed.{CanCall}
-use Rattle.c_locks.specs.Working.Noted.{IsNoted, NotesStay}
+use Rattle.c_threads.specs.Working.Noted.{IsNoted, NotesStay}
 use Rattle.c_threads.specs.Threads.{now_at}
 use Rattle.c_threads.specs.Threads.{Taking, Over, CallInC, spots_at, group_in}
 use Rattle.c_threads.specs.Threads.{frame, come, acquired_at, begun_call}
@@ -191,7 +192,7 @@ module _ (laws : NotesStay) (plan : Plan) (ok : IsCompiled plan) (cells : List V
           (begin_group load_from store_to plan.program (group_in plan c.call.section c.place i) (frame c cells)) s.operands effect s.low s.beside s.leads
           (λ u. some (effect ∙ u)) (group_alike (group_in plan c.call.section c.place i)))
 
-      -- an acquire: what is noted behind it, and which calls of AL_LOCK are to be made
+      -- an acquire: what is noted after it, and which calls of AL_LOCK are to be made
       pub record Acquires (point : ℕ) : Type 0 where
         pub now : Acquired
         pub is : acquired_at plan c point ≡ Some now

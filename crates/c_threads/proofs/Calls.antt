@@ -1,4 +1,4 @@
--- Calls under way in C, and the open sections beside them.
+-- Calls under way in C, and the open sections that they stand for.
 use Rattle.std.proofs.Common.{◌≡◌, ℕ, Option, Some, None}
 use Rattle.std.proofs.Common.{slice_get, refl, sym, ap, ◌∙◌, subst}
 use Rattle.std.proofs.lemmas.Option.{none-some}

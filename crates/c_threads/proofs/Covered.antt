@@ -15,9 +15,9 @@ use Rattle.lowering.specs.Plans.{Plan, IsCompiled}
 use Rattle.worlds.specs.Worlds.{World, ThreadState, Activation, HasOpen, code_at, next_effect}
 use Rattle.c_language.specs.Meaning.{Frame, Anything}
 use Rattle.c_language.specs.declared.statement.Operand.{Operand}
-use Rattle.c_groups.specs.Groups.{Group}
-use Rattle.c_groups.specs.Alike.{machine_of, AreFitting, Beside}
-use Rattle.c_groups.specs.Runs.{begin_group, IsAcquire}
+use Rattle.c_language.specs.Groups.{Group}
+use Rattle.c_language.specs.Alike.{machine_of, AreFitting, Beside}
+use Rattle.c_language.specs.Runs.{begin_group, IsAcquire}
 use Rattle.c_threads.specs.Threads.{Progress, Taking, Over, Leaving, CallInC, ThreadInC, WorldInC}
 use Rattle.c_threads.specs.Threads.{spots_at, group_in, frame}
 use Rattle.c_threads.specs.Claims.{Runs, HasFittingNumbers, LocksAreApart, accessed_in, next_accesses, IsCovered, AccessesAreCovered, NoRaces}

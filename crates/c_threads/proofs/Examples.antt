@@ -1,5 +1,5 @@
--- A worked plan, written by hand, and what the definitions compute of its runs in C. Nothing rests on these: they show the definitions at
--- work.
+-- A worked plan, written by hand, and what the definitions compute for its runs in C. No proof depends on these: they
+-- show the definitions at work.
 use Rattle.std.specs.Prelude.{◌≡◌, ℕ, ◌<◌, ◌^◌, length, List, [], ◌∷◌, ◌++◌, replicate, map, Option, Some, None, pos, String}
 use Rattle.std.proofs.Common.{refl, Vec, Box, Global, arith}
 use denote.RawPtr.{null_ptr}
@@ -12,7 +12,7 @@ use Rattle.core_lang.specs.declared.tree.Expr.{Number, Global as GlobalExpr, Cha
 use Rattle.core_lang.specs.declared.tree.Action.{SetGlobal}
 use Rattle.core_lang.specs.declared.tree.Section.{Section}
 use Rattle.core_lang.specs.declared.typed.LockClass.TheVariants as class
-use Rattle.core_lang.specs.declared.typed.Owner.TheVariants as owner
+use Rattle.core_lang.specs.declared.typed.CellOwner.TheVariants as owner
 use Rattle.core_lang.specs.declared.typed.Thread.{Thread}
 use Rattle.core_lang.specs.declared.typed.Typed.{Typed}
 use Rattle.core_lang.specs.Serial.{Ended}
@@ -21,7 +21,7 @@ use Rattle.lowering.specs.Plans.{Plan}
 use Rattle.c_threads.specs.Threads.{Entry, CallInC, ThreadInC, WorldInC, Step, Idle, Waits, Goes, Breaks, State, At, Broken, locks, unlocks, step, final_in_c}
 use Rattle.c_threads.specs.Claims.{next_accesses}
 
--- so many steps of a thread
+-- the given number of steps of a thread
 abbrev times : ℕ → ℕ → List ℕ
 times t n = replicate n t
 

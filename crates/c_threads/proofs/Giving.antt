@@ -1,16 +1,16 @@
--- The calls of AL_UNLOCK at the end give back all that is locked, each one of it.
+-- The calls of AL_UNLOCK at the end release exactly the locked locks, each once.
 use Rattle.std.proofs.Common.{◌≡◌, ◌≢◌, suc, true, List, [], ◌∷◌, Option, sym, subst, arith, inl, inr}
 use Rattle.std.specs.List.{AllPairs, Contains}
 use Rattle.core_lang.specs.Theory.Items.{in_cases, in_first, in_rest, not_in_none, distinct_first}
 use Rattle.locks.specs.declared.lock.Lock.{Lock}
 use Rattle.locks.specs.Locks.{among}
 use Rattle.locks.specs.Theory.Order.{contains_among, among_contains}
-use Rattle.c_locks.specs.Locking.{NotesAre, given_back}
-use Rattle.c_locks.specs.Claims.{EndsGiveBackWhatIsHeld}
+use Rattle.c_threads.specs.Locking.{NotesAre, given_back}
+use Rattle.c_threads.specs.LockClaims.{EndsGiveBackWhatIsHeld}
 use Rattle.c_threads.specs.Threads.{without_lock}
 use Rattle.c_threads.proofs.Lists.{without_cases, without_keeps}
 
--- calls of AL_UNLOCK give back all that is locked: each gives back one of it
+-- calls of AL_UNLOCK release all locked locks: each call releases one of those left
 abbrev pub GivesBack : List Lock → List Lock → Type 0
 GivesBack locked [] = (lock : Lock) → among locked lock ≡ true → ⊥
 GivesBack locked (lock ∷ rest) = (among locked lock ≡ true) × GivesBack (without_lock locked lock) rest
@@ -18,7 +18,7 @@ GivesBack locked (lock ∷ rest) = (among locked lock ≡ true) × GivesBack (wi
 distinct_rest : {X : Type 0} (x : X) (xs : List X) → AllPairs ◌≢◌ (x ∷ xs) → AllPairs ◌≢◌ xs
 distinct_rest x xs pairs i j d less within = pairs (suc i) (suc j) d (omega (arith, less)) (omega (arith, within))
 
--- so do calls of which no two are of one lock, if they are of just what is locked
+-- calls for distinct locks do so, if these are exactly the locked ones
 gives_back : (locks locked : List Lock) → AllPairs ◌≢◌ locks → ((l : Lock) → among locked l ≡ true → Contains locks l) →
     ((l : Lock) → Contains locks l → among locked l ≡ true) → GivesBack locked locks
 gives_back [] locked pairs all each = λ lock h. not_in_none lock (all lock h)

@@ -1,4 +1,4 @@
--- What each world that threads in C reach says.
+-- The headline for each world that threads in C reach.
 use Rattle.std.proofs.Common.{◌≡◌, ◌<◌, ℕ, true, false, List, [], ◌∷◌, ◌++◌, length, map, Option, Some, None}
 use Rattle.std.proofs.Common.{slice_get, refl, sym, ap, ◌∙◌, subst, arith, inl, inr}
 use Rattle.std.specs.List.{Contains}
@@ -16,7 +16,7 @@ use Rattle.worlds.specs.Claims as sections
 use Rattle.c_language.specs.Meaning.{held}
 use Rattle.c_language.specs.declared.statement.Operand.{Operand}
 use Rattle.c_language.specs.declared.statement.Temporary.{Temporary}
-use Rattle.c_groups.specs.Alike.{Hold, IsFitting, AreFitting}
+use Rattle.c_language.specs.Alike.{Hold, IsFitting, AreFitting}
 use Rattle.c_threads.specs.Threads.{Entry, Taking, WorldInC, State, At}
 use Rattle.c_threads.specs.Threads.{is_locked, spots_at}
 use Rattle.c_threads.specs.Threads.{state_after, opening_in_c, happens as happens_in_c}

@@ -1,4 +1,4 @@
--- What holds of threads in C by themselves: no lock is locked by two, and the history has the entries of their calls.
+-- Facts about threads in C by themselves: no two have one lock locked, and the history has the entries of their calls.
 use Rattle.std.proofs.Common.{◌≡◌, ◌≢◌, ◌⊎◌, ◌<◌, ◌≤◌, ℕ, ◌+◌, true, false, List, [], ◌∷◌, ◌++◌, length, Option, Some, None}
 use Rattle.std.proofs.Common.{slice_get, set, refl, sym, ap, ◌∙◌, subst, arith, inl, inr, true≢false}
 use Rattle.std.specs.Prelude.{⊤}
@@ -13,7 +13,7 @@ use Rattle.locks.specs.declared.lock.Lock.{Lock}
 use Rattle.locks.specs.Locks.{among}
 use Rattle.lowering.specs.Plans.{Plan}
 use Rattle.worlds.specs.Worlds.{scripts, code_at, call_at}
-use Rattle.c_locks.specs.Locking.{given_back}
+use Rattle.c_threads.specs.Locking.{given_back}
 use Rattle.c_threads.specs.Threads.{now_at}
 use Rattle.c_threads.specs.Threads.{Entry, Progress, Taking, Over, Leaving, CallInC, ThreadInC, WorldInC, Step, Idle, Waits, Goes, Breaks}
 use Rattle.c_threads.specs.Threads.{with_thread, is_locked, answer, entry, step, at_first, opening_in_c, begun_call}
@@ -36,7 +36,7 @@ leaves_with (Some c) = leaves_by c.progress
 abbrev pub entered : ThreadInC → ℕ
 entered x = length x.answers + leaves_with x.active
 
--- an entry is of a call of its thread, which told no more entries than there were before it
+-- an entry is for a call of its thread, and the length of the history at its begin is at most its position
 pub record IsEntry (plan : Plan) (threads : List ThreadInC) (p : ℕ) (e : Entry) : Type 0 where
   pub by : ThreadInC
   pub is : slice_get threads e.thread ≡ Some by
@@ -44,7 +44,7 @@ pub record IsEntry (plan : Plan) (threads : List ThreadInC) (p : ℕ) (e : Entry
   pub scripted : call_at plan e.thread e.step ≡ Some e.call
   pub begun : e.begun ≤ p
 
--- beside a world before it, behind which a call that had not begun there notes at least its whole history
+-- beside a world before it, after which a call that had not begun there notes at least its whole history
 pub record InOrder (plan : Plan) (base w : WorldInC) : Type 0 where
   pub apart : (t u : ℕ) (x y : ThreadInC) (lock : Lock) → slice_get w.threads t ≡ Some x → slice_get w.threads u ≡ Some y →
       among x.locked lock ≡ true → among y.locked lock ≡ true → t ≡ u
@@ -65,7 +65,7 @@ pub record InOrder (plan : Plan) (base w : WorldInC) : Type 0 where
 abbrev changed : WorldInC → ℕ → ThreadInC → List Value → List Entry → WorldInC
 changed w t x cells history = record { cells = cells; history = history; threads = set w.threads t x }
 
--- what is asked of the thread behind the change, and of its entry
+-- the requirements of the thread after the change, and of its entry
 record Change (plan : Plan) (base w : WorldInC) (t : ℕ) (x y : ThreadInC) (history : List Entry) : Type 0 where
   at : slice_get w.threads t ≡ Some x
   locked : (lock : Lock) → among y.locked lock ≡ true → (among x.locked lock ≡ true) ⊎ (is_locked w.threads lock ≡ false)
@@ -468,7 +468,8 @@ module _ (plan : Plan) (base w : WorldInC) (order : InOrder plan base w) where
     noted = λ p e h fresh. absurd (none_yet p e h fresh);
   }
 
-  -- a call that returned at the base stands before one that hadn't begun there, and before what that notes of its begin
+  -- a call that had returned at the base precedes one that had not begun there, and is among the entries at that one's
+  -- begin
   pub ends_in_order : (was : InOrder plan base base) →
       ((p : ℕ) (e : Entry) → slice_get base.history p ≡ Some e → slice_get w.history p ≡ Some e) → EndsInOrder base w
   ends_in_order was old p q e d at at' done fresh =

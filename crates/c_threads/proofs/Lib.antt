@@ -1,17 +1,34 @@
-mod Lists
-mod Shared
-mod Turns
-mod InOrder
-mod Worlds
-mod Giving
+pub mod Acquires
+pub mod Addresses
+pub mod Arrays
 mod Beside
-mod Numbers
-mod Stands
 mod Calls
-mod Steps
-mod Runs
+pub mod ClassRuns
 mod Covered
-mod Waiting
-mod Headline
-mod Outside
 mod Examples
+mod Giving
+mod Headline
+mod InOrder
+mod Lists
+pub mod LockCalls
+pub mod LockExamples
+pub mod LockGiving
+pub mod LockRuns
+pub mod Loops
+pub mod Noting
+mod Numbers
+pub mod Orders
+mod OutsideCalls
+pub mod Roots
+mod Runs
+pub mod Same
+pub mod Scripts
+mod Shared
+pub mod Standing
+mod Stands
+mod Steps
+pub mod Taking
+pub mod Texts
+mod Turns
+mod Waiting
+mod Worlds

@@ -16,7 +16,7 @@ set_is [] i y z h = absurd (none-some z h)
 set_is (x ∷ xs) zero y z h = cc
 set_is (x ∷ xs) (suc i) y z h = set_is xs i y z h
 
--- what stands at a place: what was set there, or what stood there before
+-- the item at a place: the one that was set there, or the former one
 pub set_cases : {X : Type 0} (xs : List X) (i : ℕ) (y : X) (j : ℕ) (z : X) → slice_get (set xs i y) j ≡ Some z →
     ((i ≡ j) × (y ≡ z)) ⊎ ((i ≢ j) × (slice_get xs j ≡ Some z))
 set_cases xs i y j z h = elim (cases_eq i j) [

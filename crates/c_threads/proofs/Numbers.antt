@@ -1,4 +1,4 @@
--- Numbers have 64 bits in each sound world, where those that the program has do.
+-- Numbers have 64 bits in each sound world, if those of the program do.
 use Rattle.std.proofs.Common.{◌≡◌, ℕ, zero, suc, List, [], ◌∷◌, length, Option, Some, None, slice_get, refl, sym, ap, ◌∙◌, subst}
 use Rattle.std.specs.Prelude.{⊤}
 use Rattle.std.specs.Option.{option_map_or}
@@ -16,8 +16,8 @@ use Rattle.history.specs.Working.Laws.{CommittedKeepsSize}
 use Rattle.lowering.specs.Plans.{Plan, IsCompiled}
 use Rattle.worlds.specs.Worlds.{World, Activation, HasOpen, section_at, code_at, locals_at}
 use Rattle.worlds.specs.Working.States.{IsSound, standing}
-use Rattle.c_groups.specs.Alike.{IsFitting, AreFitting}
-use Rattle.c_groups.specs.InC.{AreShort, Fitting, StandsFitting, NumbersStayFitting, SectionsBehaveInC}
+use Rattle.c_language.specs.Alike.{IsFitting, AreFitting}
+use Rattle.c_language.specs.InC.{AreShort, Fitting, StandsFitting, NumbersStayFitting, SectionsBehaveInC}
 use Rattle.c_threads.specs.Claims.{HasFittingNumbers}
 use Rattle.code.specs.Theory.Values.{length-overwritten}
 

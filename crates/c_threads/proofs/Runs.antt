@@ -1,4 +1,4 @@
--- Runs of threads in C, by induction, and what each world that they reach says.
+-- Runs of threads in C, by induction, and the claim about each world that they reach.
 use Rattle.std.proofs.Common.{◌≡◌, ℕ, suc, List, [], ◌∷◌, length, Some, None}
 use Rattle.std.proofs.Common.{slice_get, refl, sym, ap, ◌∙◌, subst}
 use Rattle.std.specs.Prelude.{⊤}
@@ -14,8 +14,8 @@ use Rattle.lowering.specs.Plans.{Plan, IsCompiled}
 use Rattle.worlds.specs.Worlds as worlds
 use Rattle.worlds.specs.Worlds.{World, ThreadState, Activation, HasOpen, opening_world, final, scripts, call_at}
 use Rattle.worlds.specs.Working.States.{OpeningIsSound, standing}
-use Rattle.c_groups.specs.Alike.{AreFitting}
-use Rattle.c_groups.specs.InC.{NumbersStayFitting, SectionsBehaveInC, StandsFitting}
+use Rattle.c_language.specs.Alike.{AreFitting}
+use Rattle.c_language.specs.InC.{NumbersStayFitting, SectionsBehaveInC, StandsFitting}
 use Rattle.c_threads.specs.Threads.{Entry, ThreadInC, WorldInC, Step, Idle, Waits, Goes, Breaks}
 use Rattle.c_threads.specs.Threads.{State, At, step, stepped, state_after, at_first, opening_in_c}
 use Rattle.c_threads.specs.Claims.{entry_of, HasFittingNumbers}

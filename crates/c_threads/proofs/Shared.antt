@@ -1,5 +1,5 @@
--- Statements over the memory that all threads share do what they do over the cells that a section holds, and reach no
--- other cell.
+-- Statements over the memory that all threads share have the same effect as over the cells that a section holds, and
+-- reach no other cell.
 use Rattle.std.proofs.Common.{◌≡◌, ◌≢◌, ◌⊎◌, ℕ, ℤ, Bool, true, false, not, if◌then◌else◌, List, [], ◌∷◌, length, Option, Some, None}
 use Rattle.std.proofs.Common.{◌++◌, slice_get, refl, sym, ap, ◌∙◌, subst, inl, inr}
 use Rattle.std.specs.Prelude.{slice_set, nat_lt, ⊤}
@@ -61,7 +61,7 @@ kept_on a b c x y z k l = record {
   others = λ n none. (let one = k.others n none in let two = l.others n one.0 in (two.0, two.1 ∙ one.1));
 }
 
--- a cell that is held behind was held before
+-- a cell that is held after was held before
 pub held_before : (a b : List Value) (x y : HeldCells) (c : ℕ) (v : Value) → Kept a x b y → value_at y.cells c ≡ Some v →
     (w : Value) × (value_at x.cells c ≡ Some w)
 held_before a b x y c v k is = elim (some_or_none (value_at x.cells c)) [
@@ -85,7 +85,7 @@ written_kept cells held c old v now sees there is = record {
 
 -- ---- right sides
 
--- what is read of the memory is what is read of the held cells, if that is something
+-- a read of the memory has the value of the read of the held cells, if that has one
 abbrev ReadAlike : List Value → HeldCells → Option (Value × HeldCells) → Option (Value × List Value) → Type 0
 ReadAlike cells held None y = ⊤
 ReadAlike cells held (Some r) None = ⊥
@@ -117,7 +117,7 @@ lookup_alike cells held (Some c) sees = load_alike cells held c sees
 abbrev pub over : Frame HeldCells → List Value → Frame (List Value)
 over f cells = record { variables = f.variables; temporaries = f.temporaries; memory = cells; prints = f.prints }
 
--- a frame over the memory stands where one over held cells does, both behind others
+-- a frame over the memory is in the state of one over held cells, each after others
 pub record Together (cells : List Value) (held : HeldCells) (f : Frame HeldCells) (g : Frame (List Value)) : Type 0 where
   pub is : g ≡ over f g.memory
   pub kept : Kept cells held g.memory f.memory
@@ -253,7 +253,7 @@ module _ (shape : Shape) (f : Frame HeldCells) (cells : List Value) (sees : Sees
 
 -- ---- one after another
 
--- statements behind others
+-- statements after others
 alike_on : (a b : List Value) (x y : HeldCells) (u : After HeldCells) (v : After (List Value)) → Kept a x b y → Alike b y u v → Alike a x u v
 alike_on a b x y (Next f) (Next g) k h = record { is = h.is; kept = kept_on a b g.memory x y f.memory k h.kept }
 alike_on a b x y (Next f) (At_label label g) k h = absurd h

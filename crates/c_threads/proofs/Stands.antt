@@ -1,4 +1,16 @@
--- A world of threads in C beside a world of sections: what ties them, and how it is kept where a thread changes.
+-- A world of threads in C and the world of sections that it stands for: the relation between both, and how it is kept
+-- if a thread changes.
+--
+-- How the laws of threads are proved: two things are kept of each world. By itself (`proofs/InOrder`): no lock is
+-- locked by two threads; each entry is of a call past its end, and no call has two. What a call returned is in its
+-- entry, and a call that had not begun in an earlier world notes that world's whole history. A thread's change is one
+-- lemma. Beside a world of sections (here): the history is the same, a call is its thread's open section until its
+-- entry is made, and the memory has in each cell what the world has or its section holds. A call is tied to its section
+-- by the plan of the operand stack (`proofs/Beside`). A group over the memory does what it does over the cells that the
+-- section holds, and reaches no other cell (`proofs/Shared`). A step is one of the world's or none (`proofs/Steps`): a
+-- wait, an unlock after the first and the return are none. Someone goes on: a thread that releases locks can. Where
+-- none does, the locked locks are those that sections hold, and the section that goes on in the world does so in C
+-- (`proofs/Waiting`).
 use Rattle.std.proofs.Common.{◌≡◌, ◌≢◌, ◌<◌, ℕ, ◌+◌, true, false, List, [], length, map, Option, Some, None}
 use Rattle.std.proofs.Common.{slice_get, set, refl, sym, ap, ◌∙◌, subst, arith, inl, inr, true≢false}
 use Rattle.std.proofs.lemmas.List.{length-set}
@@ -130,7 +142,7 @@ module _ (plan : Plan) where
           let same = held_is_locked c.cells thread mine.0 mine.0.active a (s.threads t thread mine.0 at mine.1) is in
           nobody_locked c.threads t mine.0 lock free mine.1 (ap (λ xs. among xs lock) (sym same) ∙ h)
 
-  -- ---- where a thread changes
+  -- ---- if a thread changes
 
   pub record Changes (w : World) (c : WorldInC) (t : ℕ) (thread : ThreadState) (x : ThreadInC) (w_cells : List (Option Value)) (c_cells : List Value)
       (w_history : List Commit) (c_history : List Entry) : Type 0 where

@@ -1,4 +1,4 @@
--- Each step of a thread in C is a step of the world beside it, or none, and does nothing that C leaves undefined.
+-- Each step of a thread in C is one step of the world that stands for it, or none, and never undefined.
 use Rattle.std.proofs.Common.{◌≡◌, ◌≢◌, ℕ, ◌+◌, true, false, if◌then◌else◌, List, [], ◌∷◌, ◌++◌, length, map, Option, Some, None}
 use Rattle.std.proofs.Common.{slice_get, set, refl, sym, ap, ◌∙◌, subst, inl, inr}
 use Rattle.std.specs.Prelude.{⊤}
@@ -22,12 +22,12 @@ use Rattle.worlds.specs.Theory.Steps.{steps_more}
 use Rattle.worlds.specs.Working.States.{IsWell, StepsKeepSound}
 use Rattle.worlds.specs.Working.Ahead.{IsReady, WorldsStayReady}
 use Rattle.c_language.specs.Meaning.{After, Next, At_label, At_end, Anything}
-use Rattle.c_groups.specs.Alike.{AreFitting, IsLow, Hold}
-use Rattle.c_groups.specs.Plans.{SectionsHavePlans}
-use Rattle.c_groups.specs.Runs.{begin_group, GroupsLeadOn, IsAcquire}
-use Rattle.c_locks.specs.Locking.{given_back, NotesAre}
-use Rattle.c_locks.specs.Working.Noted.{IsNoted, NotesStay}
-use Rattle.c_locks.specs.Claims.{EndsGiveBackWhatIsHeld}
+use Rattle.c_language.specs.Alike.{AreFitting, IsLow, Hold}
+use Rattle.c_language.specs.Plans.{SectionsHavePlans}
+use Rattle.c_language.specs.Runs.{begin_group, GroupsLeadOn, IsAcquire}
+use Rattle.c_threads.specs.Locking.{given_back, NotesAre}
+use Rattle.c_threads.specs.Working.Noted.{IsNoted, NotesStay}
+use Rattle.c_threads.specs.LockClaims.{EndsGiveBackWhatIsHeld}
 use Rattle.c_threads.specs.Threads.{Entry, Progress, Taking, Over, Leaving, CallInC, ThreadInC, WorldInC, Step, Idle, Waits, Goes, Breaks}
 use Rattle.c_threads.specs.Threads.{with_thread, with_call, without_lock, unlocks, behind, come, acquires, does, group_in, frame, begun_call, answer, entry, ends, step, is_locked, spots_at}
 use Rattle.c_threads.specs.Threads.{with_locked, now_at}
@@ -262,7 +262,7 @@ module _ (laws : StepLaws) (plan : Plan) (ok : IsCompiled plan) where
         | inr none ↦ none
       ]
 
-      -- the section behind an instruction, and the call behind a group that wrote to this memory
+      -- the section after an instruction, and the call after a group that wrote to this memory
       arrives : (now : Activation) (next : CallInC) (mem : List Value) (held : HeldCells) → instructed plan here (next_effect plan here) ≡ now →
           Kept c.cells memory mem held →
           CallStands plan mem (record { step = thread.step; active = Some now }) (record x { active = Some next }) next next.progress →

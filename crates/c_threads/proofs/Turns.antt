@@ -12,8 +12,8 @@ use Rattle.code.specs.Memory.{load_from, store_to}
 use Rattle.lowering.specs.Plans.{Plan}
 use Rattle.worlds.specs.Worlds.{code_at, call_at}
 use Rattle.c_language.specs.Meaning.{After, Next, At_label, At_end, Anything}
-use Rattle.c_groups.specs.Runs.{begin_group}
-use Rattle.c_locks.specs.Locking.{Acquired}
+use Rattle.c_language.specs.Runs.{begin_group}
+use Rattle.c_threads.specs.Locking.{Acquired}
 use Rattle.c_threads.specs.Threads.{Progress, Taking, Over, Leaving, CallInC, ThreadInC, WorldInC, Step, Idle, Waits, Goes, Breaks}
 use Rattle.c_threads.specs.Threads.{with_thread, with_call, with_locked, now_at, is_locked, locks, without_lock, unlocks, behind, acquired_at, acquires, does, group_in}
 use Rattle.c_threads.proofs.Lists.{without_cases}

@@ -1,4 +1,4 @@
--- No threads wait in a circle, and where a call is under way some thread goes on.
+-- No threads wait in a cycle, and if a call is under way some thread goes on.
 use Rattle.std.proofs.Common.{◌≡◌, ◌⊎◌, ℕ, zero, suc, ◌+◌, Bool, true, false, if◌then◌else◌, List, [], ◌∷◌, ◌++◌, map, Option, Some, None}
 use Rattle.std.proofs.Common.{slice_get, refl, sym, ap, ◌∙◌, subst, inl, inr, true≢false}
 use Rattle.std.specs.List.{Contains}
@@ -18,7 +18,7 @@ use Rattle.worlds.specs.Waiting.{IsNoWait, RisingGoesOn}
 use Rattle.c_threads.specs.Threads.{Progress, Taking, Over, Leaving, CallInC, ThreadInC, WorldInC, Step, Waits, Goes, Breaks}
 use Rattle.c_threads.specs.Threads.{is_locked, goes_on, steps_with, thread_steps, step}
 use Rattle.c_threads.specs.Threads.{entry}
-use Rattle.c_locks.specs.Locking.{given_back as gives_back}
+use Rattle.c_threads.specs.Locking.{given_back as gives_back}
 use Rattle.c_threads.specs.Threads.{with_locked, now_at}
 use Rattle.c_threads.specs.Claims.{Runs, HasFittingNumbers}
 use Rattle.c_threads.specs.Claims.{next_lock, asks, asker, NobodyWaitsInACircle, SomeoneGoesOn, pending_of, IsOpen, StandsFor}
@@ -28,7 +28,7 @@ use Rattle.c_threads.proofs.Worlds.{happens_asks}
 use Rattle.c_threads.proofs.Calls.{section_of, section_at, section_is, given_back}
 use Rattle.c_threads.proofs.Runs.{RunLaws, Kept, KeptOn, kept_step}
 
--- ---- who gives back
+-- ---- threads that release their locks
 
 -- the next step of a thread, by how far its call has come
 step_is : (plan : Plan) (c : WorldInC) (t : ℕ) (x : ThreadInC) (call : CallInC) (p : Progress) → Runs c t x call → call.progress ≡ p →
@@ -84,7 +84,7 @@ find_leaver (y ∷ threads) = elim (leaving_by y) [
         (let same : y ≡ x = cc at in stays (call, outcome, left, ap (λ (z : ThreadInC). z.active) same ∙ is, e))
     none_leaves stays none (suc t) x call outcome left at is e = none t x call outcome left at is e
 
--- where there is no holder, no thread holds the lock
+-- without a holder, no thread holds the lock
 nobody_holds : (n : ℕ) (threads : List ThreadState) (lock : Lock) → holder_from n threads lock ≡ None → (t : ℕ) (thread : ThreadState) →
     slice_get threads t ≡ Some thread → holds lock thread ≡ true → ⊥
 nobody_holds n [] lock free t thread at h = none-some thread at
@@ -129,12 +129,12 @@ module _ (laws : WaitLaws) (plan : Plan) (ok : IsCompiled plan) (short : HasFitt
       let r = map_back asker c.threads t who at in
       asks_rise t r.0 r.1 r.0.active refl lock (ap (λ (z : Asker). z.ask) r.2 ∙ ask) other (subst (λ (z : Asker). Contains z.held other) (sym r.2) has))
 
-  -- ---- some thread goes on
+  -- ---- the next step of some thread is not a wait
 
   abbrev Leads : ℕ → Type 0
   Leads u = (next : WorldInC) × (step plan c u ≡ Goes next)
 
-  -- a step that is no wait, and that C defines
+  -- a step other than a wait, which C defines
   unlocked_leads : (u : ℕ) (from : WorldInC) (y : ThreadInC) (d : CallInC) (outcome : Outcome) (s : Step) → step plan c u ≡ s →
       Unlocked from u y d outcome s → KeptOn laws.runs plan ok short base c s → Leads u
   unlocked_leads u from y d outcome s is breaks_too kept = absurd kept
@@ -164,7 +164,7 @@ module _ (laws : WaitLaws) (plan : Plan) (ok : IsCompiled plan) (short : HasFitt
       let is = step_is plan c u y d (Taking []) h e in
       moved_leads u y d _ is (does_moved plan c u y d e (slice_get (code_at plan d.call.section) d.place)) (kept_at u _ is)
 
-  -- a lock that no section holds, no thread has locked, where none gives back
+  -- if no thread is releasing locks, no thread has locked a lock that no section holds
   none_has : NoLeaver c.threads → (lock : Lock) → holder w lock ≡ None → is_locked c.threads lock ≡ false
   none_has none lock free = none_locked c.threads lock (λ v z at m. by v z at m z.active refl)
     where

@@ -1,4 +1,4 @@
--- Steps of a world, as they are needed here: what each leaves, and which cells it moves.
+-- Steps of a world, as needed here: the parts that each step keeps, and the cells that it moves.
 use Rattle.std.proofs.Common.{◌≡◌, ◌⊎◌, ℕ, suc, ◌+◌, true, List, [], ◌∷◌, ◌++◌, length, Option, Some, None}
 use Rattle.std.proofs.Common.{slice_get, refl, sym, ap, ◌∙◌, inl, inr, nat_eq}
 use Rattle.std.proofs.lemmas.Bool.{cases_Bool, cond-true, cond-false, eq-eqb, eqb-true, ne_eqb}
@@ -50,7 +50,7 @@ module _ (plan : Plan) (w : World) (t : ℕ) (thread : ThreadState) (at : slice_
 
 -- ---- who holds a lock
 
--- where no thread holds it, there is no holder
+-- if no thread holds it, it has no holder
 pub no_holder : (n : ℕ) (threads : List ThreadState) (lock : Lock) →
     ((t : ℕ) (thread : ThreadState) → slice_get threads t ≡ Some thread → holds lock thread ≡ true → ⊥) → holder_from n threads lock ≡ None
 no_holder n [] lock none = refl

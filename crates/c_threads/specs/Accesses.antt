@@ -1,4 +1,4 @@
--- Which cells of the memory a group of statements reads or writes.
+-- The cells of the memory that a group of statements reads or writes.
 use Rattle.std.specs.Prelude.{ℕ, List, [], ◌∷◌, Option, Some, None}
 use Rattle.core_lang.specs.declared.value.Value.{Value}
 use Rattle.core_lang.specs.declared.shape.Shape.{Shape}
@@ -10,6 +10,7 @@ use Rattle.c_language.specs.declared.statement.RightSide.TheVariants.{Global, El
 use Rattle.c_language.specs.declared.statement.Statement.{Statement}
 use Rattle.c_language.specs.declared.statement.Statement.TheVariants.{Set, StoreGlobal, StoreElement, StoreField}
 
+-- the cell, if there is one, before these cells
 abbrev pub if_cell : Option ℕ → List ℕ → List ℕ
 if_cell (Some cell) cells = cell ∷ cells
 if_cell None cells = cells
@@ -30,6 +31,7 @@ module _ {M : Type 0} (load : M → ℕ → Option (Value × M)) (store : M → 
   accesses (StoreField base x a) f = lookup (pointer_in (value base f)) (λ r. field_of load store shape r x.number)
   accesses _ f = None
 
+  -- the cells of the statements after a statement; none if it leads elsewhere
   abbrev pub and_then : After M → (Frame M → List ℕ) → List ℕ
   and_then (Next f) go = go f
   and_then (At_label label f) go = []

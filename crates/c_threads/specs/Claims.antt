@@ -1,4 +1,4 @@
--- What is claimed of threads that run sections in C.
+-- The claims about threads that run sections in C.
 use Rattle.std.specs.Prelude.{◌≡◌, ◌<◌, ◌≤◌, ◌⊎◌, ℕ, false, List, [], ◌∷◌, ◌++◌, length, map, slice_get, Option, Some}
 use Rattle.std.specs.Prelude.{None, ⊤}
 use Rattle.std.proofs.Common.{Vec, Global}
@@ -15,19 +15,19 @@ use Rattle.code.specs.Memory.{load_from, store_to, value_at}
 use Rattle.history.specs.Commits.{Commit, call_of, answer_of}
 use Rattle.lowering.specs.Plans.{Plan, IsCompiled}
 use Rattle.worlds.specs.Worlds.{World, Activation, HasOpen, code_at, scripts, call_at, final}
-use Rattle.outside_calls.specs.Outside.{AreCallsOf, with_scripts}
+use Rattle.c_threads.specs.Outside.{AreCallsOf, with_scripts}
 use Rattle.c_language.specs.Meaning.{held}
 use Rattle.c_language.specs.declared.statement.Operand.{Operand}
-use Rattle.c_groups.specs.Groups.{Group}
-use Rattle.c_groups.specs.Alike.{IsFitting, AreFitting}
-use Rattle.c_groups.specs.InC.{AreShort}
+use Rattle.c_language.specs.Groups.{Group}
+use Rattle.c_language.specs.Alike.{IsFitting, AreFitting}
+use Rattle.c_language.specs.InC.{AreShort}
 use Rattle.c_threads.specs.Threads.{Entry, Progress, Taking, Over, Leaving, CallInC, ThreadInC, WorldInC, Goes, At}
 use Rattle.c_threads.specs.Threads.{is_locked, spots_at, group_in, frame, step, final_in_c}
 use Rattle.c_threads.specs.Accesses.{all_accesses}
 
 -- ---- words
 
--- steps of these threads lead to the world, and nothing on the way is left undefined by C
+-- steps of these threads lead to the world, and C defines all that they do
 abbrev pub Reaches : Plan → List ℕ → WorldInC → Type 0
 Reaches plan steps w = final_in_c plan steps ≡ At w
 
@@ -36,8 +36,8 @@ pub record Runs (w : WorldInC) (t : ℕ) (x : ThreadInC) (c : CallInC) : Type 0 
   pub at : slice_get w.threads t ≡ Some x
   pub is : x.active ≡ Some c
 
--- numbers have 64 bits: those that the code of sections pushes, those of each call's arguments, and those that cells
--- hold at first
+-- numbers have 64 bits: those that the code of sections pushes, those of each call's arguments, and those of the
+-- initial cells
 pub record HasFittingNumbers (plan : Plan) : Type 0 where
   pub code : (k : ℕ) → AreShort (code_at plan k)
   pub arguments : (t k : ℕ) (call : Invocation) → call_at plan t k ≡ Some call → AreFitting call.arguments
@@ -51,17 +51,17 @@ LocksAreApart w =
     (t u : ℕ) (x y : ThreadInC) (lock : Lock) → slice_get w.threads t ≡ Some x → slice_get w.threads u ≡ Some y →
     Contains x.locked lock → Contains y.locked lock → t ≡ u
 
--- a thread has a lock locked only while it has a call under way
+-- a thread has a lock locked only during a call
 abbrev pub LocksAreGivenBack : WorldInC → Type 0
 LocksAreGivenBack w = (t : ℕ) (x : ThreadInC) → slice_get w.threads t ≡ Some x → x.active ≡ None → x.locked ≡ []
 
+-- the cells that a group of a call reads or writes, if there is one
 abbrev pub accessed_in : WorldInC → Plan → CallInC → Option Group → List ℕ
 accessed_in w plan c None = []
 accessed_in w plan c (Some group) =
     all_accesses load_from store_to plan.program.shape group.statements (frame c w.cells)
 
--- the cells that the next group of a call reads or writes; no group is next, where a call of AL_LOCK is to be made, or
--- the last one is done
+-- the cells that the next group of a call reads or writes; none if a call of AL_LOCK is next, or the last group is done
 abbrev pub next_accesses : WorldInC → Plan → CallInC → Progress → List ℕ
 next_accesses w plan c (Taking []) =
     let k = c.call.section in
@@ -74,13 +74,13 @@ next_accesses w plan c (Leaving outcome locks) = []
 abbrev pub IsCovered : Plan → ThreadInC → ℕ → Type 0
 IsCovered plan x cell = (lock : Lock) × (lock_of_cell plan.program cell ≡ Some lock) × Contains x.locked lock
 
--- each cell that the next group of a thread reads or writes is so
+-- each cell that the next group of a thread reads or writes is protected by a lock that the thread has locked
 abbrev pub AccessesAreCovered : Plan → WorldInC → Type 0
 AccessesAreCovered plan w =
     (t : ℕ) (x : ThreadInC) (c : CallInC) (cell : ℕ) → Runs w t x c →
     Contains (next_accesses w plan c c.progress) cell → IsCovered plan x cell
 
--- so no two threads' next groups reach one cell: there is no data race
+-- no two threads' next groups access one cell: no data race occurs
 abbrev pub NoRaces : Plan → WorldInC → Type 0
 NoRaces plan w =
     (t u : ℕ) (x y : ThreadInC) (c d : CallInC) (cell : ℕ) → Runs w t x c → Runs w u y d →
@@ -95,19 +95,20 @@ next_lock (Taking []) = None
 next_lock (Over outcome) = None
 next_lock (Leaving outcome locks) = None
 
+-- the lock that a call calls AL_LOCK for next, if there is one
 abbrev pub asks : Option CallInC → Option Lock
 asks None = None
 asks (Some c) = next_lock c.progress
 
--- what a thread has locked, and the lock that it calls AL_LOCK for next
+-- the locks that a thread has locked, and the lock that it calls AL_LOCK for next
 abbrev pub asker : ThreadInC → Asker
 asker x = record { held = x.locked; ask = asks x.active }
 
--- no threads wait for each other in a circle, also while locks are given back one by one
+-- no threads wait for each other in a cycle, even while locks are released one by one
 abbrev pub NobodyWaitsInACircle : WorldInC → Type 0
 NobodyWaitsInACircle w = HasNoCycle (map asker w.threads)
 
--- where a call is under way, the next step of some thread leads on
+-- if a call is under way, the next step of some thread leads to a further world
 abbrev pub SomeoneGoesOn : Plan → WorldInC → Type 0
 SomeoneGoesOn plan w =
     (t : ℕ) (x : ThreadInC) (c : CallInC) → Runs w t x c → (u : ℕ) × (next : WorldInC) × (step plan w u ≡ Goes next)
@@ -129,24 +130,25 @@ pub record NumbersFit (plan : Plan) (w : WorldInC) : Type 0 where
 abbrev pub entry_of : Commit → Entry
 entry_of c = record { thread = c.thread; step = c.step; call = call_of c; begun = c.begun; answer = answer_of c }
 
--- the locks to be granted yet, and the outcome
+-- the locks that are still to be granted
 abbrev pub pending_of : Progress → List Lock
 pending_of (Taking locks) = locks
 pending_of (Over outcome) = []
 pending_of (Leaving outcome locks) = []
 
+-- the outcome of a call that is past its end
 abbrev pub outcome_of : Progress → Option Outcome
 outcome_of (Taking locks) = None
 outcome_of (Over outcome) = Some outcome
 outcome_of (Leaving outcome locks) = Some outcome
 
--- the entry of a call isn't made yet
+-- the entry of a call is not made yet
 abbrev pub IsOpen : Progress → Type 0
 IsOpen (Taking locks) = ⊤
 IsOpen (Over outcome) = ⊤
 IsOpen (Leaving outcome locks) = ⊥
 
--- a section of a world stands where a call in C does
+-- a section of a world is in the state of a call in C
 pub record StandsFor (a : Activation) (x : ThreadInC) (c : CallInC) : Type 0 where
   pub call : a.call ≡ c.call
   pub begun : a.begun ≡ c.begun
@@ -155,8 +157,8 @@ pub record StandsFor (a : Activation) (x : ThreadInC) (c : CallInC) : Type 0 whe
   pub outcome : a.outcome ≡ outcome_of c.progress
   pub prints : a.machine.prints ≡ c.prints
 
--- a world of `worlds` stands for one in C: the history is the same; the sections open there are the calls whose entry
--- isn't made yet; and the memory has in each cell what the world has there, or the section that holds it
+-- a world of `worlds` stands for one in C: the history is the same, the sections open there are the calls whose entry
+-- is not made yet, and each cell has in memory its value in the world, or in the section that holds it
 pub record WorldStandsFor (w : World) (c : WorldInC) : Type 0 where
   pub history : map entry_of w.history ≡ c.history
   pub open_in_c : (t : ℕ) (a : Activation) → HasOpen w t a →
@@ -168,8 +170,8 @@ pub record WorldStandsFor (w : World) (c : WorldInC) : Type 0 where
       value_at a.machine.memory.cells cell ≡ Some v → slice_get c.cells cell ≡ Some v
   pub all_cells : length c.cells ≡ length w.cells
 
--- every run in C is one of worlds: nothing that it does is left undefined by C, and some steps of the plan's world
--- lead to a world that stands for the one that is reached
+-- every run in C is one of worlds: C defines all that it does, and some steps of the plan's world lead to a world that
+-- stands for the one that is reached
 abbrev pub EveryRunIsOfWorlds : Type 0
 EveryRunIsOfWorlds =
     (plan : Plan) (steps : List ℕ) → IsCompiled plan → HasFittingNumbers plan →
@@ -177,14 +179,14 @@ EveryRunIsOfWorlds =
 
 -- ---- the history
 
--- the history's calls, run whole one after another from the opening cells, end and print as the history says, and leave
--- this heap: as calls of the program that was accepted
+-- the history's calls, run serially from the initial cells, end and print as the history says, and leave this heap: as
+-- calls of the accepted program
 abbrev pub IsSerial : Plan → WorldInC → List Value → Type 0
 IsSerial plan w heap =
     SerialFromOpening plan.accepted (map (λ (e : Entry). e.call) w.history) (map (λ (e : Entry). e.answer) w.history)
     heap
 
--- a cell whose lock no thread has locked is as the heap has it
+-- a cell whose lock no thread has locked has its value in the heap
 abbrev pub FreeCellsAre : Plan → WorldInC → List Value → Type 0
 FreeCellsAre plan w heap =
     (cell : ℕ) (lock : Lock) → lock_of_cell plan.program cell ≡ Some lock → is_locked w.threads lock ≡ false →
@@ -199,8 +201,8 @@ pub record HasEntry (w : WorldInC) (t k : ℕ) (answer : Ended) : Type 0 where
   pub number : entry.step ≡ k
   pub answered : entry.answer ≡ answer
 
--- what each call that has returned answered is what its entry says; each entry is of a call of its thread, and notes no
--- more entries than stand before it; and no call has two
+-- the answer of each call that has returned is that of its entry. Each entry is for a call of its thread, and the
+-- length of the history at its begin is at most the entry's position. No call has two entries
 pub record HasEntries (plan : Plan) (w : WorldInC) : Type 0 where
   pub returned : (t k : ℕ) (x : ThreadInC) (answer : Ended) → slice_get w.threads t ≡ Some x →
       slice_get x.answers k ≡ Some answer → HasEntry w t k answer
@@ -209,16 +211,17 @@ pub record HasEntries (plan : Plan) (w : WorldInC) : Type 0 where
   pub once : (p q : ℕ) (e d : Entry) → slice_get w.history p ≡ Some e → slice_get w.history q ≡ Some d →
       e.thread ≡ d.thread → e.step ≡ d.step → p ≡ q
 
--- the thread's call of this number has returned; it hasn't begun
+-- the thread's call of this number has returned
 abbrev pub HasReturned : WorldInC → ℕ → ℕ → Type 0
 HasReturned w t k = (x : ThreadInC) × (slice_get w.threads t ≡ Some x) × (k < length x.answers)
 
+-- the thread's call of this number has not begun
 abbrev pub HasNotBegun : WorldInC → ℕ → ℕ → Type 0
 HasNotBegun w t k =
     (x : ThreadInC) × (slice_get w.threads t ≡ Some x)
     × ((length x.answers < k) ⊎ ((length x.answers ≡ k) × (x.active ≡ None)))
 
--- a call that returned before another began stands before it, in each later world, and before the begin that it notes
+-- a call that returned before another began comes before it, in each later world, and before the begin that it notes
 abbrev pub EndsInOrder : WorldInC → WorldInC → Type 0
 EndsInOrder w later =
     (p q : ℕ) (e d : Entry) → slice_get later.history p ≡ Some e → slice_get later.history q ≡ Some d →
@@ -226,11 +229,11 @@ EndsInOrder w later =
 
 -- ---- the headline
 
--- of a world that steps of threads in C lead to: the answers of the calls that have returned, and every cell whose
--- lock no thread has locked, are those of running the history's calls whole, one after another, from the opening
--- cells; a call that returned before another began stands before it. Each access is under its lock, no two threads
--- have one lock locked, and so there is no data race; a thread with no call under way has no lock locked. No threads
--- wait for each other in a circle, and where a call is under way some thread goes on. All numbers have 64 bits
+-- a claim about a world that steps of threads in C lead to. The answers of the calls that have returned, and every cell
+-- whose lock no thread has locked, are those of a serial run of the history's calls from the initial cells. A call that
+-- returned before another began comes before it. Each access is under its lock, and no two threads have one lock
+-- locked, so that no data race occurs; a thread without a call has no lock locked. No threads wait for each other in a
+-- cycle, and if a call is under way some thread goes on. All numbers have 64 bits
 pub record HeadlineInC (plan : Plan) (steps : List ℕ) (w : WorldInC) : Type 0 where
   pub heap : List Value
   pub answers : IsSerial plan w heap
@@ -246,7 +249,7 @@ pub record HeadlineInC (plan : Plan) (steps : List ℕ) (w : WorldInC) : Type 0 
   pub goes_on : SomeoneGoesOn plan w
   pub numbers : NumbersFit plan w
 
--- every run in C has it, in each world on the way, and does nothing that C leaves undefined
+-- every run in C has it, in each world on the way, and C defines all that it does
 abbrev pub EveryRunInC : Type 0
 EveryRunInC =
     (plan : Plan) (steps : List ℕ) → IsCompiled plan → HasFittingNumbers plan →
@@ -260,14 +263,14 @@ HaveFittingArguments calls =
     (t k : ℕ) (script : List Invocation) (call : Invocation) → slice_get calls t ≡ Some script →
     slice_get script k ≡ Some call → AreFitting call.arguments
 
--- numbers have 64 bits: those that the code of sections pushes, those of these calls' arguments, and those that cells
--- hold at first
+-- numbers have 64 bits: those that the code of sections pushes, those of these calls' arguments, and those of the
+-- initial cells
 pub record HasFittingNumbersWith (plan : Plan) (calls : List (List Invocation)) : Type 0 where
   pub code : (k : ℕ) → AreShort (code_at plan k)
   pub arguments : HaveFittingArguments calls
   pub opening : AreFitting plan.layout.opening
 
--- threads that make these calls, in place of the plan's own, have the headline too
+-- threads that make these calls, instead of the plan's own, have the headline too
 pub record OutsideRun (plan : Plan) (calls : List (List Invocation)) (steps : List ℕ) : Type 0 where
   pub threads : Vec Thread Global
   pub are : scripts (with_scripts plan threads) ≡ calls
@@ -275,7 +278,7 @@ pub record OutsideRun (plan : Plan) (calls : List (List Invocation)) (steps : Li
   pub reaches : Reaches (with_scripts plan threads) steps world
   pub headline : HeadlineInC (with_scripts plan threads) steps world
 
--- so it is with any calls of the sections of a compiled plan
+-- the same holds for any calls of the sections of a compiled plan
 abbrev pub OutsideCallsRunInC : Type 0
 OutsideCallsRunInC =
     (plan : Plan) (calls : List (List Invocation)) (steps : List ℕ) → IsCompiled plan → AreCallsOf plan.accepted calls →

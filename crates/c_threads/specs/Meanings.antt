@@ -1,15 +1,15 @@
--- What the C of a compiled program means.
+-- The meaning of the C of a compiled program.
 use Rattle.std.specs.Prelude.{◌≡◌, ℕ, List, slice_get, Some}
 use Rattle.core_lang.specs.declared.tree.Section.{Section}
 use Rattle.core_lang.specs.Serial.{Invocation, opening_heap}
 use Rattle.code.specs.Lowering.{lists_at}
-use Rattle.c_groups.specs.Alike.{AreFitting}
-use Rattle.c_groups.specs.InC.{BehavesInC}
+use Rattle.c_language.specs.Alike.{AreFitting}
+use Rattle.c_language.specs.InC.{BehavesInC}
 use Rattle.lowering.specs.Plans.{Plan}
-use Rattle.outside_calls.specs.Outside.{AreCallsOf}
+use Rattle.c_threads.specs.Outside.{AreCallsOf}
 use Rattle.c_threads.specs.Claims.{HaveFittingArguments, OutsideRun}
 
--- numbers have 64 bits in the cells at first; and the C of each section, run alone, behaves as the section
+-- numbers have 64 bits in the initial cells; and the C of each section, run alone, behaves as the section
 pub record SectionsMean (plan : Plan) : Type 0 where
   pub opens : AreFitting (opening_heap plan.program)
   pub each : (k : ℕ) (section : Section) → slice_get plan.program.sections.items k ≡ Some section →

@@ -1,12 +1,12 @@
-//! What the sections of a compiled program mean in C.
+//! The meaning of a compiled program's sections in C.
 
 ghost use Rattle.std.specs.List.{All};
 ghost use Rattle.c_threads.specs.Meanings.{SectionsMean, ThreadsMean};
 ghost use Rattle.c_threads.specs.Working.Codes.{IsShortCode};
 
 use crate::laws::outside_calls_run_in_c;
-use c_groups::laws::sections_behave_in_c;
-use c_groups::numbers::{are_short, openings_fit};
+use c_language::group_laws::sections_behave_in_c;
+use c_language::numbers::{are_short, openings_fit};
 use code::section_code::ProgramCode;
 use lowering::compiled::Program;
 
@@ -19,8 +19,9 @@ fn all_are_short(code: &ProgramCode)
     }
 }
 
-/// Each section's C, run alone, comes to an end exactly where the section does, with the same outcome, prints and cells, and does
-/// nothing that C leaves undefined, where numbers have 64 bits; so they have in the cells at first, and then after each section.
+/// A law: the C of each section, run alone, comes to an end exactly if the section does, with the same outcome, prints
+/// and cells, and C defines all that it does, if numbers have 64 bits. They have them in the initial cells, and after
+/// each section.
 pub fn sections_mean(program: &Program)
     ensures { SectionsMean program.now }
 {
@@ -29,8 +30,8 @@ pub fn sections_mean(program: &Program)
     sections_behave_in_c::<u8>();
 }
 
-/// Threads that make any calls of the sections, with arguments of 64 bits, up to the limits on threads and calls, run in C as their
-/// calls one after another, without a race, a circle of waiting, or anything that C leaves undefined.
+/// A law: threads that make any calls of the sections, with arguments of 64 bits, up to the limits of threads and
+/// calls, run in C as a serial run of their calls, without a data race, a cycle of waiting, or undefined behavior.
 pub fn threads_mean(program: &Program)
     ensures { ThreadsMean program.now }
 {

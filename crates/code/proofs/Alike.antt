@@ -1,4 +1,4 @@
--- An instruction on held cells, beside the same instruction on a heap; and whole runs.
+-- An instruction on held cells and the same instruction on a heap, and whole runs of both.
 use Rattle.std.proofs.Common.{◌≡◌, ℕ, zero, suc, ◌+◌, ◌<◌, List, [], ◌∷◌, length, Option, Some, None, Bool, true, false}
 use Rattle.std.proofs.Common.{Result, Ok, Err, inl, inr, refl, sym, ap, ◌∙◌, subst, arith}
 use Rattle.std.specs.Prelude.{slice_get, slice_set, not, ⊤}
@@ -27,7 +27,7 @@ use Rattle.code.specs.Theory.Values.{set_same, set_other, changed_same, changed_
 use Rattle.code.specs.Theory.Values.{length-overwritten, written_cell, unwritten_cell, overwritten_with, agrees_noted}
 use Rattle.code.specs.Theory.Values.{noted_agrees, set_here, set_there}
 
--- ---- what a read and a write keep
+-- ---- properties of held cells that a read and a write keep
 
 keeps_all : (held : HeldCells) → Keeps held held
 keeps_all held = record { cells = refl; consistent = λ ok. ok; part = λ heap part. part; agreed = λ heap ok agrees. agrees }
@@ -103,7 +103,7 @@ keeps_wrote held c old v here = record {
 module _ (heap : List Value) (shape : Shape) where
   -- ---- one instruction
 
-  -- what an instruction does on held cells, beside what it does on the heap
+  -- the effect of an instruction on held cells, beside its effect on the heap
   abbrev pub Beside : Effect HeldCells → Effect (List Value) → Machine HeldCells → Type 0
   Beside (Moves next) y m =
       Keeps m.memory next.memory × (IsCovered m.memory.cells heap → IsCovered next.memory.cells heap)
@@ -154,7 +154,7 @@ module _ (heap : List Value) (shape : Shape) where
   noted_covered held c v (Some u) covered = covered
   noted_covered held c v None covered = covered
 
-  -- what is read is what the heap has, with the writes made
+  -- a read value is that of the heap with the writes made
   read_there : (held : HeldCells) (c : ℕ) (v : Value) (w : Option Value) → value_at held.cells c ≡ Some v →
       value_at held.writes c ≡ w →
       IsConsistent held → IsCovered held.cells heap → Agrees heap (noted held c v w).reads → slice_get (overwritten heap held.writes) c ≡ Some v
@@ -245,7 +245,7 @@ module _ (heap : List Value) (shape : Shape) where
 
   -- ---- runs
 
-  -- how a machine on held cells stands, beside the machine on the heap
+  -- the state of a machine on held cells, beside that of the machine on the heap
   abbrev pub StandsBeside : Standing HeldCells → Standing (List Value) → HeldCells → Type 0
   StandsBeside (At next) y from = Agrees heap next.memory.reads → Agrees heap from.reads × (y ≡ At (on_heap heap next))
   StandsBeside (Halted outcome held prints) y from =

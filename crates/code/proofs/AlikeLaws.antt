@@ -1,4 +1,4 @@
--- The laws of steps and of runs on held cells, from what stands beside them on a heap.
+-- The laws of steps and of runs on held cells, from the same steps and runs on a heap.
 use Rattle.std.proofs.Common.{◌≡◌, ℕ, List, [], Option, ℤ, subst}
 use Rattle.std.proofs.lemmas.Option.{none-some, slice_get_within}
 use Rattle.core_lang.specs.declared.value.Value.{Value}

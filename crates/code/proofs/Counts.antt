@@ -1,4 +1,4 @@
--- The point of partition counts what passes.
+-- The partition point is the number of items that pass.
 use Rattle.std.proofs.Common.{◌≡◌, ℕ, zero, suc, Bool, true, false, ◌+◌, ◌≤◌, List, [], ◌∷◌, length, refl, ap, ◌∙◌}
 use Rattle.std.proofs.Common.{arith, cond}
 use Rattle.std.specs.Prelude.{◌-◌, Option, Some, None}
@@ -30,7 +30,7 @@ counted p (x ∷ xs) (suc i) le parts =
     ((λ k d l m. parts.0 (suc k) d (omega arith) (omega arith)), (λ k d l m. parts.1 (suc k) d (omega arith) (omega arith))) in
     counts p x xs ∙ one_more (p x) (count_by p xs) (parts.0 0 0 (omega arith) (omega arith)) ∙ ap suc rest
 
--- what `checked_sub` answers of one less
+-- the result of `checked_sub` for one less
 pub one_less : (n : ℕ) (r : Option ℕ) → SomeIff r (1 ≤ n) (n - 1) → r ≡ last_of n
 one_less zero None h = refl
 one_less zero (Some m) h = let le = h.0 in absurd (omega (arith, le))

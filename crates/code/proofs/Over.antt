@@ -1,4 +1,4 @@
--- More instructions change nothing of a run that is over.
+-- A run that is over is the same after more instructions.
 use Rattle.std.proofs.Common.{◌≡◌, ℕ, zero, suc, ◌≤◌, List, Option, inl, inr, refl, sym, arith}
 use Rattle.std.specs.Prelude.{slice_get}
 use Rattle.std.proofs.lemmas.Bool.{cases_lt}

@@ -7,7 +7,7 @@ pub mod Alone
 pub mod Listing
 pub mod Working
 pub mod Theory
--- what the public clauses cite
+-- the definitions that public clauses cite
 pub use Rattle.code.specs.Memory.{HeldCells, opened, overwritten, Agrees, IsCovered, IsConsistent, IsPartOf, Keeps}
 pub use Rattle.code.specs.Working.Laws.{IsOver, InRuns, StaysOver, EndsOnce, HasWritten, KeepsUnwritten, KeepsSize}
 pub use Rattle.code.specs.Working.Laws.{on_heap}

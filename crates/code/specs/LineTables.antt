@@ -1,5 +1,4 @@
--- The line table of a section's code: where the code of each of its points begins, and so of which point each
--- instruction is.
+-- The line table of a section's code: where the code of each point begins, and thereby the point of each instruction.
 use Rattle.std.specs.Prelude.{ℕ, zero, suc, ◌+◌, leb, List, [], ◌∷◌, ◌++◌, length, slice_get, Option, Some, None}
 use Rattle.std.specs.Prelude.{option_and_then, option_map, codes}
 use Rattle.std.specs.List.{count_by}
@@ -16,18 +15,19 @@ use Rattle.code.specs.Lowering.{test_code, points_of, points_in, acquire_code, s
 
 -- ---- where points begin
 
--- the result is a point, and the end of a section without one is none
+-- a `return` is a point; the end of a section without a result is not
 abbrev pub end_begins : Option Result_of → ℕ → List ℕ
 end_begins None place = []
 end_begins (Some result) place = place ∷ []
 
--- over the lists of lock paths that stand before the points
+-- given the lists of lock paths before the points
 module _ {P : Type 0} (lists : List (List P)) where
-  -- the place behind a condition and its jump; n is the condition's number
+  -- the place after a condition and its jump; n is the condition's number
   abbrev pub behind_test : List Instr → ℕ → ℕ → ℕ
   behind_test test n place = place + length (acquire_code lists n ++ test) + 1
 
-  -- of a statement whose first point has number n, and whose code begins at a place; a point begins with its acquire
+  -- where the points of a statement begin, whose first point has number n and whose code begins at a place; a point
+  -- begins with its acquire
   abbrev mutual
     pub stmt_begins : Action → ℕ → ℕ → List ℕ
     stmt_begins (If' c m block) n place = place ∷ block_begins block (n + 1) (behind_test (test_code c) n place)
@@ -44,35 +44,36 @@ module _ {P : Type 0} (lists : List (List P)) where
         stmt_begins action n place
         ++ block_begins rest (n + points_of action) (place + length (stmt_code lists action n))
 
+  -- where the points of statements and of the result begin
   abbrev pub body_begins : List Stmt → ℕ → ℕ → Option Result_of → List ℕ
   body_begins [] n place result = end_begins result place
   body_begins (x ∷ xs) n place result =
       stmt_begins x.action n place
       ++ body_begins xs (n + points_of x.action) (place + length (stmt_code lists x.action n)) result
 
-  -- for each point of a section the place of its first instruction
+  -- for each point of a section, the place of its first instruction
   abbrev pub section_begins : Section → List ℕ
   section_begins section = body_begins section.body.items 0 0 section.result
 
 -- ---- the point of an instruction
 
--- the last of so many
+-- the last of the given number of items
 abbrev pub last_of : ℕ → Option ℕ
 last_of zero = None
 last_of (suc n) = Some n
 
--- an instruction is of the point that began last: of those that begin at its place or before it
+-- the point of an instruction: the last one that begins at its place or before it
 abbrev pub point_at : List ℕ → ℕ → Option ℕ
 point_at begins place = last_of (count_by (λ begin. leb begin place) begins)
 
--- ---- where it stands in the program's text
+-- ---- its position in the program's text
 
 -- LINE:COL
 abbrev pub position_text : ℕ → ℕ → List ℕ
 position_text line column = decimal line ++ codes ":" ++ decimal column
 
--- LINE:COL of where the statement of the point of the instruction at a place starts, and a space; nothing where the
--- section has no point
+-- LINE:COL of the statement of the point of the instruction at a place, and a space; nothing if the section has no
+-- point
 abbrev pub place_text : List ℕ → List (List ℕ) → Section → ℕ → List ℕ
 place_text text lists section place =
     option_map_or (λ start. position_text (line_of text start) (column_of text start) ++ codes " ")

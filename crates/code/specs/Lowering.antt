@@ -1,4 +1,4 @@
--- Which instructions a section is, given the lock paths that are acquired before each of its points.
+-- The instructions of a section, given the lock paths that are acquired before each of its points.
 use Rattle.std.specs.Prelude.{ℕ, ◌+◌, pos, List, [], ◌∷◌, ◌++◌, length, slice_get, unwrap_or, Option, Some, None}
 use Rattle.core_lang.specs.declared.tree.FieldStep.{FieldStep}
 use Rattle.core_lang.specs.declared.tree.FieldStep.TheVariants.{Final, Field}
@@ -28,10 +28,12 @@ fields_code [] = []
 fields_code (Final structure f ∷ fs) = LoadFinal f structure ∷ fields_code fs
 fields_code (Field structure f ∷ fs) = LoadField f structure ∷ fields_code fs
 
+-- the code of a path
 abbrev pub path_code : Path → List Instr
 path_code path = GetLocal path.local ∷ fields_code path.fields.items
 
 abbrev mutual
+  -- the code of an expression
   pub expr_code : Expr → List Instr
   expr_code (Number n) = PushNumber n ∷ []
   expr_code Null = PushNull ∷ []
@@ -48,15 +50,16 @@ abbrev mutual
   chain_code end_of-Operation = []
   chain_code (more_of-Operation operator operand rest) = (expr_code operand ++ Operate operator ∷ []) ++ chain_code rest
 
--- an operand of &&: where it is false, a jump past the further ones
+-- an operand of &&: if it is false, a jump past the further ones
 abbrev pub and_code : List Instr → List Instr → List Instr
 and_code c rest = c ++ (JumpIfFalse (length rest) ∷ rest)
 
--- an operand of ||: where it is true, a jump past the further ones
+-- an operand of ||: if it is true, a jump past the further ones
 abbrev pub or_code : List Instr → List Instr → List Instr
 or_code c rest = c ++ (JumpIfTrue (length rest) ∷ rest)
 
--- behind the last operand of && and || a jump passes the truth value of those that were cut short
+-- the code of a condition; after the last operand of && and || a jump skips the truth value of the operands that decide
+-- earlier
 abbrev mutual
   pub test_code : Condition → List Instr
   test_code (Compare comparison a b) = expr_code a ++ (expr_code b ++ Test comparison ∷ [])
@@ -74,10 +77,11 @@ abbrev mutual
 
 -- ---- points
 
--- how many points a statement has, with those of its blocks; and a block
+-- the number of points of a statement, with those of its blocks
 abbrev pub points_of : Action → ℕ
 points_of action = count (in_front action Nil)
 
+-- the number of points of a block
 abbrev pub points_in : {m : _} → Row_of-Stmt m → ℕ
 points_in row = count (block_skeleton row)
 
@@ -102,12 +106,14 @@ acquire_any None point = []
 acquire_any (Some []) point = []
 acquire_any (Some (path ∷ paths)) point = Acquire point ∷ []
 
--- over the lists of lock paths that stand before the points
+-- given the lists of lock paths before the points
 module _ {P : Type 0} (lists : List (List P)) where
+  -- the acquire before a point, if its list has a lock path
   abbrev pub acquire_code : ℕ → List Instr
   acquire_code point = acquire_any (slice_get lists point) point
 
-  -- a statement whose first point has this number; a point's acquire stands before everything else of it
+  -- the code of a statement whose first point has this number; the acquire of a point comes before everything else of
+  -- it
   abbrev mutual
     pub stmt_code : Action → ℕ → List Instr
     stmt_code (Bind k e) point = acquire_code point ++ (expr_code e ++ PutLocal k ∷ [])
@@ -117,7 +123,7 @@ module _ {P : Type 0} (lists : List (List P)) where
         acquire_code point ++ (expr_code i ++ (Bound array ∷ (expr_code e ++ PutElement array ∷ [])))
     stmt_code (SetField path structure f e) point =
         acquire_code point ++ (path_code path ++ (NonNull ∷ (expr_code e ++ PutField f structure ∷ [])))
-    -- a call has no code that means it: a section's helpers are written out before. This gets stuck
+    -- a call has no code of its own, since a section's helpers are expanded before. This code gets stuck
     stmt_code (Call helper arguments result) point = acquire_code point ++ (PushNull ∷ (PrintTop ∷ []))
     stmt_code (Print e) point = acquire_code point ++ (expr_code e ++ PrintTop ∷ [])
     stmt_code (If' c m block) point = if_code (acquire_code point ++ test_code c) (block_code block (point + 1))
@@ -131,19 +137,20 @@ module _ {P : Type 0} (lists : List (List P)) where
     block_code (more_of-Stmt start action rest) point =
         stmt_code action point ++ block_code rest (point + points_of action)
 
-  -- the result, or the end
+  -- the code of the result, or of the end
   abbrev pub end_code : Option Result_of → ℕ → List Instr
   end_code None point = End ∷ []
   end_code (Some result) point = acquire_code point ++ (expr_code result.value ++ Return ∷ [])
 
-  -- statements, and then the end of the section
+  -- the code of statements, and of the end of the section
   abbrev pub body_code : List Stmt → ℕ → Option Result_of → List Instr
   body_code [] point result = end_code result point
   body_code (x ∷ xs) point result = stmt_code x.action point ++ body_code xs (point + points_of x.action) result
 
+  -- the code of a section
   abbrev pub section_code : Section → List Instr
   section_code section = body_code section.body.items 0 section.result
 
--- the lists of the section of this number; none, where there are none for it
+-- the lists of the section of this number, or none if it has no lists
 abbrev pub lists_at : List (List (List ℕ)) → ℕ → List (List ℕ)
 lists_at lists k = unwrap_or (slice_get lists k) []

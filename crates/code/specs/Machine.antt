@@ -1,6 +1,7 @@
 -- What the instructions do, over any memory of cells.
 use Rattle.std.specs.Prelude.{ℕ, zero, suc, ◌+◌, ◌-◌, ℤ, pos, negsuc, Bool, true, false, not, nat_lt, if◌then◌else◌}
 use Rattle.std.specs.Prelude.{List, [], ◌∷◌, ◌++◌, length, slice_get, slice_set, Option, Some, None, Result, Ok, Err}
+use Rattle.source.specs.Limits.{PRINT_LIMIT}
 use Rattle.core_lang.specs.declared.value.Value.{Value}
 use Rattle.core_lang.specs.declared.value.Value.TheVariants.{Int, Ref}
 use Rattle.core_lang.specs.declared.value.Trap.TheVariants.{TooManyPrints}
@@ -26,15 +27,15 @@ pub record Machine (M : Type 0) : Type 0 where
   pub memory : M
   pub prints : List ℤ
 
--- what an instruction does: the machine moves; or it passes on, and locks are asked for before a point; or there is an
--- outcome; or the instruction has no case here
+-- the effect of an instruction: the machine moves on, or it asks for the locks before a point and moves on, or it comes
+-- to an outcome, or the instruction has no case here
 pub data Effect (M : Type 0) : Type 0 where
   Moves : Machine M → Effect M
   Asks : ℕ → Effect M
   Finishes : Outcome → Effect M
   Undefined : Effect M
 
--- how a machine stands after some instructions: somewhere, at an outcome, or where it has no next instruction
+-- the state of a machine after some instructions: at an instruction, at an outcome, or without a next instruction
 pub data Standing (M : Type 0) : Type 0 where
   At : Machine M → Standing M
   Halted : Outcome → M → List ℤ → Standing M
@@ -56,54 +57,55 @@ is_true (Ref r) = Err Wrong
 abbrev pub negation : Value → Result Value Failure
 negation v = with (is_true v) (λ b. Ok (truth (not b)))
 
--- the prints with one more number, of at most 256
+-- the prints with one more number, or a trap past the limit
 abbrev pub printed : List ℤ → Value → Result (List ℤ) Failure
-printed prints (Int n) = if nat_lt (length prints) 256 then Ok (prints ++ n ∷ []) else Err (Trap TooManyPrints)
+printed prints (Int n) = if nat_lt (length prints) PRINT_LIMIT then Ok (prints ++ n ∷ []) else Err (Trap TooManyPrints)
 printed prints (Ref r) = Err Wrong
 
--- at the next place
+-- the machine at the next place
 abbrev pub passed : {M : Type 0} → Machine M → Machine M
 passed m = record m { place = m.place + 1 }
 
--- at the next place, with this stack
+-- the machine at the next place, with this stack
 abbrev pub advances : {M : Type 0} → Machine M → List Value → Effect M
 advances m stack = Moves (record m { place = m.place + 1; stack = stack })
 
--- behind so many instructions, with this stack
+-- the machine after a jump over the given number of instructions, with this stack
 abbrev pub jumps : {M : Type 0} → Machine M → ℕ → List Value → Effect M
 jumps m over stack = Moves (record m { place = m.place + 1 + over; stack = stack })
 
--- jumps where the truth value says so, and goes on otherwise
+-- the machine after the jump if the truth value is true, else at the next place
 abbrev pub jumps_if : {M : Type 0} → Bool → Machine M → ℕ → List Value → Effect M
 jumps_if true m over stack = jumps m over stack
 jumps_if false m over stack = advances m stack
 
--- with what there is, or at a trap
+-- the effect of `go` on the value; if there is none, the end in its trap, or undefined
 abbrev pub or_trap : {A M : Type 0} → Result A Failure → (A → Effect M) → Effect M
 or_trap (Ok a) go = go a
 or_trap (Err (Trap t)) go = Finishes (Traps t)
 or_trap (Err Wrong) go = Undefined
 
--- with the top of the stack, and what is below
+-- the effect of `go` on the top of the stack and the values below it; undefined if the stack is empty
 abbrev pub on_top : {M : Type 0} → List Value → (Value → List Value → Effect M) → Effect M
 on_top [] go = Undefined
 on_top (top ∷ rest) go = go top rest
 
--- with the two on top, the left one below the right one, and what is below
+-- the effect of `go` on the two values on top, the left one below the right one, and those below; undefined with fewer
+-- than two
 abbrev pub on_two : {M : Type 0} → List Value → (Value → Value → List Value → Effect M) → Effect M
 on_two [] go = Undefined
 on_two (right ∷ []) go = Undefined
 on_two (right ∷ left ∷ rest) go = go left right rest
 
--- goes on with the memory that there is
+-- the effect of `go` on a value, if there is one; else undefined
 abbrev pub if_there : {A M : Type 0} → Option A → (A → Effect M) → Effect M
 if_there (Some a) go = go a
 if_there None go = Undefined
 
--- over a memory: what a cell holds, with the memory after reading it; and the memory after a write; neither where the
--- cell isn't there
+-- for a memory: the value of a cell, with the memory after the read, and the memory after a write; both fail if the
+-- cell does not exist
 module _ {M : Type 0} (load : M → ℕ → Option (Value × M)) (store : M → ℕ → Value → Option M) (shape : Shape) where
-  -- pushes what a cell holds
+  -- pushes the value of a cell
   abbrev pub loads : Machine M → ℕ → List Value → Effect M
   loads m cell rest = if_there (load m.memory cell) (λ r. advances (record m { memory = r.1 }) (r.0 ∷ rest))
 
@@ -111,7 +113,7 @@ module _ {M : Type 0} (load : M → ℕ → Option (Value × M)) (store : M → 
   abbrev pub stores : Machine M → ℕ → Value → List Value → Effect M
   stores m cell v rest = if_there (store m.memory cell v) (λ memory. advances (record m { memory = memory }) rest)
 
-  -- one instruction; past the code there is none
+  -- the effect of one instruction; past the code there is none
   abbrev pub act : Option Instr → Machine M → Effect M
   act None m = Undefined
   act (Some (PushNumber n)) m = advances m (Int n ∷ m.stack)
@@ -154,14 +156,15 @@ module _ {M : Type 0} (load : M → ℕ → Option (Value × M)) (store : M → 
   act (Some Return) m = on_top m.stack (λ v rest. Finishes (Returns v))
   act (Some End) m = Finishes Ends
 
-  -- goes on after an instruction; alone, a machine that asks for locks passes on
+  -- the state after the effect of an instruction, by `go` if the machine goes on; alone it passes an instruction that
+  -- asks for locks
   abbrev pub proceed : Machine M → Effect M → (Machine M → Standing M) → Standing M
   proceed m (Moves next) go = go next
   proceed m (Asks point) go = go (passed m)
   proceed m (Finishes outcome) go = Halted outcome m.memory m.prints
   proceed m Undefined go = Stuck
 
-  -- how a machine stands after n instructions of a code, or at the outcome that it came to before
+  -- the state of a machine after n instructions of a code, or at the outcome that it came to before
   abbrev pub exec : List Instr → ℕ → Machine M → Standing M
   exec code zero m = At m
   exec code (suc n) m = proceed m (act (slice_get code m.place) m) (exec code n)

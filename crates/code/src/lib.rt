@@ -1,19 +1,21 @@
-//! The instructions of a stack machine: what one does, and which of them a section is.
+//! The instruction set of a stack machine: what each instruction does, and the code of each section.
 //!
-//! - [`laws`]: what holds of every run of a code.
-//! - [`point_laws`]: what holds of the code of a section's points, and that it is never stuck.
+//! - [`laws`]: laws of every run of a code.
+//! - [`point_laws`]: laws of the code of a section's points, which is never stuck.
 //! - [`run_laws`]: a section's code behaves as the section.
 //! - [`instr::Instr`]: one instruction.
-//! - [`section_code::ProgramCode`]: the code of a program: instructions, line tables, depths of operand stacks.
-//! - [`places::SectionPlaces`]: where the instructions of a section stand in the program's text.
-//! - [`Lister`]: the listing of a section, a line for each instruction; single instructions, as it has them.
+//! - [`section_code::ProgramCode`], passed on as [`Code`]: the code of a program: instructions, line tables, depths of
+//!   operand stacks.
+//! - [`places::SectionPlaces`]: the positions of a section's instructions in the program's text.
+//! - [`Lister`]: writes the listing of a section, a line for each instruction, and single instructions. [`Listed`]: a
+//!   section with what its listing needs. [`path_texts`]: its lock paths as texts.
 //!
-//! `specs/` says what an instruction does over any memory (`Machine`), which memories there are (`Memory`) and what is
-//! seen of them (`Seen`), which instructions a section is (`Lowering`), of which point each is (`LineTables`), how deep
-//! its operand stack grows (`Needs`), what it is for a code to behave as its section (`Alone`), what is ahead of a
-//! machine (`Ahead`), what the laws claim (`Laws`, `PointLaws`, `RunLaws`), and the text of a program's listing
-//! (`Listing`). `Safety` has lemmas for the crates above; `Naming`, `Asked`, `Places` and `Sections` only say what the
-//! code has done.
+//! `specs/` defines what an instruction does over any memory (`Machine`), the memories (`Memory`) and what is seen of
+//! them (`Seen`), the instructions of a section (`Lowering`), the point of each (`LineTables`), the depth of its
+//! operand stack (`Needs`), a code that behaves as its section (`Alone`), the instructions ahead of a machine
+//! (`Ahead`), the claims of the laws (`Laws`, `PointLaws`, `RunLaws`), and the listing of a program (`Listing`).
+//! `Safety` has lemmas for the crates above; `Naming`, `Asked`, `Places` and `Sections` describe what the code has
+//! done.
 #![tactic(auto)]
 
 pub mod instr;

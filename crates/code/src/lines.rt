@@ -1,4 +1,4 @@
-//! The listing of a section, put together piece by piece. The one error is a refused growth.
+//! Writes the listing of a section, piece by piece. The only error is a failed allocation.
 
 ghost use Rattle.std.specs.Prelude.{◌≡◌, ◌+◌, ◌++◌, codes, map, OnOk, IfOk, string_bytes};
 ghost use Rattle.std.specs.Fmt.{decimal};
@@ -24,14 +24,14 @@ use rope::Rope;
 use source::memory::NoMemory;
 use std::alloc::{AllocError, Global};
 
-/// A number.
+/// Appends a number.
 fn push_number(out: &mut String, number: usize) -> Result<(), AllocError>
     ensures { OnOk result (AddsText (decimal number) out.old out.new) }
 {
     write!(out, "{number}")
 }
 
-/// The name of an array, by its number.
+/// Appends the name of an array, by its number.
 fn push_array(out: &mut String, program: &Typed, array: usize) -> Result<(), AllocError>
     ensures { OnOk result (AddsText (array_text program.now array) out.old out.new) }
 {
@@ -41,7 +41,7 @@ fn push_array(out: &mut String, program: &Typed, array: usize) -> Result<(), All
     }
 }
 
-/// The name of a pool, by its number.
+/// Appends the name of a pool, by its number.
 fn push_pool(out: &mut String, program: &Typed, pool: usize) -> Result<(), AllocError>
     ensures { OnOk result (AddsText (pool_text program.now pool) out.old out.new) }
 {
@@ -51,7 +51,7 @@ fn push_pool(out: &mut String, program: &Typed, pool: usize) -> Result<(), Alloc
     }
 }
 
-/// A final reference of a struct, as `S.f`, by its number.
+/// Appends a final reference of a struct, as `S.f`, by its number.
 fn push_final_of(out: &mut String, structure: &Struct, number: usize) -> Result<(), AllocError>
     ensures { OnOk result (AddsText (final_of structure.now number) out.old out.new) }
 {
@@ -63,7 +63,7 @@ fn push_final_of(out: &mut String, structure: &Struct, number: usize) -> Result<
     }
 }
 
-/// A final reference of a struct, as `S.f`, by the numbers of both.
+/// Appends a final reference of a struct, as `S.f`, by the numbers of both.
 fn push_final(
     out: &mut String,
     program: &Typed,
@@ -78,7 +78,7 @@ fn push_final(
     }
 }
 
-/// A final reference of a struct and a local, as `S.f 3`.
+/// Appends a final reference of a struct and a local, as `S.f 3`.
 fn push_where(
     out: &mut String,
     program: &Typed,
@@ -93,7 +93,7 @@ fn push_where(
     push_number(out, local)
 }
 
-/// A field of a struct, as `S.f`, by its number.
+/// Appends a field of a struct, as `S.f`, by its number.
 fn push_field_of(out: &mut String, structure: &Struct, number: usize) -> Result<(), AllocError>
     ensures { OnOk result (AddsText (field_of structure.now number) out.old out.new) }
 {
@@ -105,7 +105,7 @@ fn push_field_of(out: &mut String, structure: &Struct, number: usize) -> Result<
     }
 }
 
-/// A field of a struct, as `S.f`, by the numbers of both.
+/// Appends a field of a struct, as `S.f`, by the numbers of both.
 fn push_field(
     out: &mut String,
     program: &Typed,
@@ -120,11 +120,11 @@ fn push_field(
     }
 }
 
-/// The place behind `over` instructions after the one at `place`.
+/// Appends the place that is reached from `place` by skipping `over` instructions.
 fn push_target(out: &mut String, place: usize, over: usize) -> Result<(), AllocError>
     ensures { OnOk result (AddsText (decimal (place + 1 + over)) out.old out.new) }
 {
-    // in 128 bits, so that there is no jump whose target does not fit
+    // in 128 bits, so that every jump's target fits
     let target = place as u128 + 1 + over as u128;
     write!(out, "{target}")
 }
@@ -156,7 +156,7 @@ fn comparison_word(comparison: Comparison) -> &'static str
     }
 }
 
-/// The word for an instruction, with the space behind it where an operand follows.
+/// The word for an instruction, with the space after it if an operand follows.
 fn mnemonic(instr: Instr) -> &'static str
     ensures { IsMnemonic instr result.now }
 {
@@ -190,7 +190,7 @@ fn mnemonic(instr: Instr) -> &'static str
     }
 }
 
-/// For each cell the first global that has it. The one error is a refused growth.
+/// For each cell the first global that has it. The only error is a failed allocation.
 fn index_by_cell<'a>(
     alloc: Global,
     globals: &'a [GlobalVariable],
@@ -198,19 +198,20 @@ fn index_by_cell<'a>(
     ensures { IfOk result (IsIndexOf globals.now) }
 {
     let mut index = IndexMap::new(alloc);
-    // from the last on, so that the first of a cell is the one that stays
+    // from the last one on, so that the first global of a cell is the one that stays
     for global in globals.iter().rev() {
         index.insert(global.cell, global)?;
     }
     Ok(index)
 }
 
-/// What the texts of instructions are made from beside the sections.
+/// What the texts of instructions need beside the sections.
 #[derive(Drop)]
 pub struct Lister<'a> {
     /// The program, which has the names.
     program: &'a Typed,
-    /// For each cell the first global that has it. A line may name any global, so the globals are not gone through.
+    /// For each cell the first global that has it. A line may name any global, and a search through all of them would
+    /// be slow.
     globals: IndexMap<u32, &'a GlobalVariable>,
     ghost indexed: { IsIndexOf program.now.globals.items globals } by { Prim.hlevel props },
 }
@@ -221,7 +222,7 @@ impl<'a> Lister<'a> {
     ghost use Rattle.code.specs.Working.Asked.{lists_of};
     ghost use Rattle.code.specs.Working.Sections.{front_of};
 
-    /// Of the code of this program. The one error is a refused growth.
+    /// A lister for the code of `program`. The only error is a failed allocation.
     pub fn new(alloc: Global, program: &'a Typed) -> Result<Lister<'a>, AllocError>
         ensures { IfOk result (λ lister. program_of lister ≡ program.now) }
     {
@@ -229,7 +230,7 @@ impl<'a> Lister<'a> {
         Ok(Lister { program, globals })
     }
 
-    // The name of the global with a cell.
+    // Appends the name of the global with a cell.
     fn push_global(&self, out: &mut String, cell: u32) -> Result<(), AllocError>
         ensures { OnOk result (AddsText (global_text self.now.program.now cell) out.old out.new) }
     {
@@ -239,7 +240,7 @@ impl<'a> Lister<'a> {
         }
     }
 
-    // What stands behind the word of an instruction at this place of a section, but for lock paths.
+    // Appends what follows the word of an instruction at this place of a section, except lock paths.
     fn push_operand(&self, out: &mut String, place: usize, instr: Instr) -> Result<(), AllocError>
         ensures { OnOk result (AddsText (operand_text self.now.program.now place instr) out.old out.new) }
     {
@@ -273,12 +274,12 @@ impl<'a> Lister<'a> {
                 push_target(out, place, over)
             }
             Instr::JumpBack(back) => push_number(out, place.saturating_sub(back)),
-            // the others are words alone, but for the lock paths of an `acquire`
+            // the others are only words, except for the lock paths of an `acquire`
             _ => Ok(()),
         }
     }
 
-    /// An instruction, which stands at this place of a section, but for the lock paths that it asks for.
+    /// Appends an instruction at this place of a section, without the lock paths that it asks for.
     pub fn push_instr(&self, out: &mut String, place: usize, instr: Instr) -> Result<(), AllocError>
         ensures { OnOk result (AddsBare (program_of self.now) place instr out.old out.new) }
     {
@@ -286,11 +287,12 @@ impl<'a> Lister<'a> {
         self.push_operand(out, place, instr)
     }
 
-    /// The lines of a section; with its places in the program's text, each line with where its statement starts.
+    /// Appends the lines of a section. If its places in the program's text are given, each line has the position of its
+    /// statement.
     ///
     /// # Errors
     ///
-    /// Want of memory.
+    /// Out of memory.
     pub fn push(
         &self,
         alloc: Global,
@@ -318,13 +320,13 @@ impl<'a> Lister<'a> {
     }
 }
 
-/// What the lines of a section are made from.
+/// What the lines of a section need.
 #[derive(Drop)]
 struct SectionLines<'a> {
     lister: &'a Lister<'a>,
     listed: Listed<'a>,
     places: Option<&'a SectionPlaces>,
-    // The number of the group of parts that has the texts of the section's lock paths.
+    // The index of the group of parts with the texts of the section's lock paths.
     group: usize,
 }
 
@@ -332,7 +334,7 @@ impl SectionLines<'_> {
     ghost use Rattle.code.specs.Working.Sections.{HasPathsOf, paths_text_of, asked_text_of};
     ghost use Rattle.code.specs.Working.Sections.{front_text_of, line_text_of, instrs_text_of, begins_of};
 
-    // Lock paths, a space before each.
+    // Appends lock paths, with a space before each.
     fn push_paths(&self, out: &mut Rope, list: &[u8]) -> Result<(), AllocError>
         requires { HasPathsOf self.now out.old }
         ensures { OnOk result (AddsTo (paths_text_of self.now list.now) out.old out.new) }
@@ -344,7 +346,7 @@ impl SectionLines<'_> {
         Ok(())
     }
 
-    // The lock paths that an instruction asks for.
+    // Appends the lock paths that an instruction asks for.
     fn push_asked(&self, out: &mut Rope, instr: Instr) -> Result<(), AllocError>
         requires { HasPathsOf self.now out.old }
         ensures { OnOk result (AddsTo (asked_text_of self.now instr) out.old out.new) }
@@ -352,7 +354,7 @@ impl SectionLines<'_> {
         self.push_paths(out, self.listed.asked(instr))
     }
 
-    // Where the instruction at a place stands in the program's text, if that is told.
+    // Appends the position of the instruction in the program's text, if positions are given.
     fn push_front(&self, line: &mut String, place: usize) -> Result<(), AllocError>
         requires { IsNonDecreasing (begins_of self.now) }
         ensures { OnOk result (AddsText (front_text_of self.now place) line.old line.new) }
@@ -363,7 +365,7 @@ impl SectionLines<'_> {
         }
     }
 
-    // The line of an instruction. What stands in `line` doesn't matter.
+    // Appends the line of an instruction. The content of `line` does not matter.
     fn push_line(
         &self,
         out: &mut Rope,
@@ -385,7 +387,7 @@ impl SectionLines<'_> {
         out.push_str("\n")
     }
 
-    // The lines of the section's instructions.
+    // Appends the lines of the section's instructions.
     fn push(&self, alloc: Global, out: &mut Rope) -> Result<(), AllocError>
         requires paths { HasPathsOf self.now out.old }
         requires rises { IsNonDecreasing (begins_of self.now) }
@@ -399,11 +401,11 @@ impl SectionLines<'_> {
     }
 }
 
-/// The texts of lock paths of a section.
+/// The texts of the lock paths of a section.
 ///
 /// # Errors
 ///
-/// Want of memory.
+/// Out of memory.
 pub fn path_texts(
     alloc: Global,
     program: &Typed,

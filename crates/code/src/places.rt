@@ -1,4 +1,4 @@
-//! Where the instructions of a section stand in the program's text.
+//! The positions of a section's instructions in the program's text.
 
 ghost use Rattle.std.specs.Prelude.{◌≡◌, IfOk, OnOk, slice_get};
 ghost use Rattle.std.specs.List.Sorted.{IsNonDecreasing};
@@ -13,28 +13,28 @@ use std::alloc::{AllocError, Global};
 
 /// A line and a column of a text, both from 1.
 #[derive(Clone, Copy)]
-pub struct Position {
+pub struct LineColumn {
     /// The line.
     pub line: usize,
     /// The column, in bytes.
     pub column: usize,
 }
 
-/// Where the statements of a section's points start in the program's text.
+/// The positions of the statements of a section's points in the program's text.
 #[derive(Drop)]
 pub struct SectionPlaces {
-    // By point.
-    positions: Vec<Position>,
+    // The position of each point's statement.
+    positions: Vec<LineColumn>,
 }
 
 impl SectionPlaces {
     ghost use Rattle.code.specs.Working.Places.{PlacesOf, position_at, table_text};
 
-    /// Of a section of the program with the cursor's text. The cursor stands anywhere in it.
+    /// The positions for a section of the program with the cursor's text. The cursor may be anywhere in it.
     ///
     /// # Errors
     ///
-    /// Want of memory.
+    /// Out of memory.
     pub fn of(
         alloc: Global,
         cursor: &mut Cursor<'_>,
@@ -47,7 +47,7 @@ impl SectionPlaces {
         let mut positions = Vec::with_capacity(alloc, points.len())?;
         for point in &points {
             cursor.go_to(point.start());
-            positions.push(Position {
+            positions.push(LineColumn {
                 line: cursor.line,
                 column: cursor.column,
             })?;
@@ -55,22 +55,23 @@ impl SectionPlaces {
         Ok(SectionPlaces { positions })
     }
 
-    /// Where the statement of a point starts, if the section has that point.
-    pub fn of_point(&self, point: usize) -> Option<Position>
+    /// The position of the statement of a point, if the section has that point.
+    pub fn of_point(&self, point: usize) -> Option<LineColumn>
         ensures { result ≡ slice_get self.now.positions.items point }
     {
         self.positions.get(point).copied()
     }
 
-    /// Where the statement of the instruction at a place of the section's code starts; nothing where the section has no point.
-    pub fn at(&self, code: &SectionCode, place: usize) -> Option<Position>
+    /// The position of the statement of the instruction at `place` of the section's code. `None` if the section has no
+    /// point.
+    pub fn at(&self, code: &SectionCode, place: usize) -> Option<LineColumn>
         requires { IsNonDecreasing code.now.begins.items }
         ensures { result ≡ position_at self.now code.now.begins.items place }
     {
         self.of_point(code.point_at(place)?)
     }
 
-    /// Where the instruction at a place of the section's code stands in the text, and a space.
+    /// Appends the position of the instruction at `place` of the section's code, and a space.
     pub fn push(&self, out: &mut String, code: &SectionCode, place: usize) -> Result<(), AllocError>
         requires { IsNonDecreasing code.now.begins.items }
         ensures { OnOk result (AddsText (table_text self.now code.now.begins.items place) out.old out.new) }

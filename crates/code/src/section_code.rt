@@ -7,9 +7,9 @@ use crate::instr::Instr;
 pub struct SectionCode {
     /// Its instructions.
     pub instructions: Vec<Instr>,
-    /// Its line table: for each point the place of its first instruction.
+    /// Its line table: for each point, the place of its first instruction.
     pub begins: Vec<usize>,
-    /// How many operands its stack has at most.
+    /// The greatest number of operands on its stack.
     pub operands: usize,
 }
 
@@ -18,7 +18,7 @@ impl SectionCode {
     ghost use Rattle.std.specs.List.Sorted.{IsNonDecreasing};
     ghost use Rattle.code.specs.LineTables as tables;
 
-    /// The point of the instruction at a place: of those that begin there or before, the last; nothing where none does.
+    /// The point of the instruction at `place`: the last one that begins there or before. `None` if none does.
     pub fn point_at(&self, place: usize) -> Option<usize>
         requires { IsNonDecreasing self.now.begins.items }
         ensures { result ≡ tables.point_at self.now.begins.items place }

@@ -1,4 +1,5 @@
--- Programs that stand for one resolved program have the same accesses, lock paths and faults of these, wherever they lie in memory.
+-- Programs that stand for one resolved program have the same accesses, lock paths and faults of these, wherever they
+-- are in memory.
 use Rattle.std.proofs.Common.{◌≡◌, ℕ, List, [], ◌∷◌, ◌++◌, length, Option, Some, None, if◌then◌else◌, refl, sym, ap}
 use Rattle.std.proofs.Common.{subst, ◌∙◌}
 use Rattle.std.specs.Prelude.{map, option_map, slice_get, ◌==◌}
@@ -17,8 +18,8 @@ use Rattle.core_lang.specs.declared.tree.Action.{Bind, SetLocal, SetGlobal, SetE
 use Rattle.core_lang.specs.declared.tree.Action.{If', IfElse', While', Row_of-Stmt, end_of-Stmt, more_of-Stmt}
 use Rattle.core_lang.specs.declared.tree.Return as the_return
 use Rattle.core_lang.specs.declared.tree.Section as the_section
-use Rattle.core_lang.specs.declared.typed.Owner.{Owner}
-use Rattle.core_lang.specs.declared.typed.Owner.TheVariants as owner
+use Rattle.core_lang.specs.declared.typed.CellOwner.{CellOwner}
+use Rattle.core_lang.specs.declared.typed.CellOwner.TheVariants as owner
 use Rattle.core_lang.specs.declared.typed.Cell.{Cell}
 use Rattle.core_lang.specs.declared.typed.LockClass as the_class
 use Rattle.core_lang.specs.declared.typed.LockClass.TheVariants as class_case
@@ -73,7 +74,7 @@ viewed : {A B C : Type 0} (f : B → C) (o : Option A) (g : A → Option B) →
 viewed f (Some x) g = refl
 viewed f None g = refl
 
--- ---- the accesses of what is resolved
+-- ---- the accesses of a resolved program
 
 abbrev mutual
   of_expr : Expr → List Access
@@ -378,12 +379,12 @@ under_alike : (x : the_class.LockClass) (p : the_protection.Protection) (base : 
 under_alike (class_case.Global name) p base = refl
 under_alike (class_case.Field k l) p base = refl
 
-abbrev class_by : Program → Owner → Option ℕ
+abbrev class_by : Program → CellOwner → Option ℕ
 class_by program (owner.Global g) = lookup (slice_get program.globals g) (λ (x : GlobalVariable). Some x.class)
 class_by program (owner.Element array index) = None
 class_by program (owner.Field o f) = None
 
-class_alike : (program : Typed) (o : Owner) → class_if_global program o ≡ class_by (core_of program) o
+class_alike : (program : Typed) (o : CellOwner) → class_if_global program o ≡ class_by (core_of program) o
 class_alike program (owner.Global g) = sym (looked_at core_global program.globals.items g (λ (x : GlobalVariable). Some x.class))
 class_alike program (owner.Element array index) = refl
 class_alike program (owner.Field o f) = refl

@@ -11,10 +11,10 @@ use Rattle.core_lang.specs.declared.typed.Struct as the_struct
 use Rattle.core_lang.specs.declared.typed.Thread as the_thread
 use Rattle.core_lang.specs.Expansion.{ArrayData, array_data, PoolData, pool_data, IsWrittenOut}
 use Rattle.core_lang.specs.WrittenLocals.{AreWrittenLocals}
-use Rattle.core_lang_expansion.specs.Data.{Numbered, lock_field_data, final_data, ClassData, NamedLock, FieldLock}
-use Rattle.core_lang_expansion.specs.Data.{class_data, FieldData, field_data, StructData, struct_data, GlobalData}
-use Rattle.core_lang_expansion.specs.Data.{global_data, CallData, call_data, ThreadData, thread_data, HeadData}
-use Rattle.core_lang_expansion.specs.Data.{head_data, IsExpanded}
+use Rattle.core_lang_helpers.specs.Data.{Numbered, lock_field_data, final_data, ClassData, NamedLock, FieldLock}
+use Rattle.core_lang_helpers.specs.Data.{class_data, FieldData, field_data, StructData, struct_data, GlobalData}
+use Rattle.core_lang_helpers.specs.Data.{global_data, CallData, call_data, ThreadData, thread_data, HeadData}
+use Rattle.core_lang_helpers.specs.Data.{head_data, IsExpanded}
 use Rattle.resolution.specs.Core.{Section, LockClass, global_lock, lock_field, LockField, FinalField, Field, Struct}
 use Rattle.resolution.specs.Core.{GlobalVariable, Array, Pool, Call, Thread, Program}
 use Rattle.resolution.specs.CoreViews.{core_section, core_class, core_lock, core_final, core_field, core_struct}

@@ -1,4 +1,4 @@
--- Where each pass answers, the text has no fault.
+-- If each pass succeeds, the text has no fault.
 use Rattle.std.proofs.Common.{◌≡◌, ℕ, ◌<◌, ◌≤◌, List, length, inl, inr, refl, sym, subst, arith}
 use Rattle.std.proofs.lemmas.Bool.{cases_lt}
 use Rattle.source.specs.declared.fault.Code.{Code}
@@ -7,7 +7,7 @@ use Rattle.source.specs.Tokens.{Tok}
 use Rattle.source.specs.Texts as text
 use Rattle.source.specs.Texts.{AreTokens, at_end, token, too_big, SOURCE_LIMIT}
 use Rattle.syntax.specs.Trees.{Decl}
-use Rattle.syntax.specs.Grammar.{nesting, LIMIT}
+use Rattle.syntax.specs.Grammar.{nesting, NESTING_LIMIT}
 use Rattle.syntax.specs.Faults as grammar
 use Rattle.syntax.specs.Faults.{NoEnd, IsMisplaced, unended, unexpected, too_deep, misplaced}
 use Rattle.resolution.specs.Faults as names
@@ -16,7 +16,7 @@ use Rattle.resolution.specs.CoreViews.{core_of}
 use Rattle.resolution.specs.Tables.{AreTables}
 use Rattle.resolution.specs.Working.Laws.{StandsForOne}
 use Rattle.resolution.specs.Resolved.{Resolves}
-use Rattle.core_lang_expansion.specs.Data.{IsExpanded}
+use Rattle.core_lang_helpers.specs.Data.{IsExpanded}
 use Rattle.locks.specs.Faults as paths
 use Rattle.lockorder.specs.Faults as order
 use Rattle.compiler.specs.Programs.{HasFault, of_text, of_tokens, of_tree, of_paths, of_order}
@@ -37,7 +37,7 @@ tokens_faultless source ts tree _ _ has right placed (unended none) = tokens_end
 tokens_faultless source ts tree _ _ has right placed (unexpected u) =
     u.no_program tree u.after (rw u.parts at right.0.0)
 tokens_faultless source ts tree _ _ has right placed (too_deep d) =
-    let shallow : nesting 0 d.before < LIMIT = right.0.1 d.before d.after d.token d.parts d.opens in
+    let shallow : nesting 0 d.before < NESTING_LIMIT = right.0.1 d.before d.after d.token d.parts d.opens in
     let deep = d.deep in absurd (omega arith)
 tokens_faultless source ts tree _ start has right placed (misplaced m) = placed start m
 

@@ -1,4 +1,4 @@
--- The locals of a section that is written out depend on the resolved program alone.
+-- The locals of a section with its helpers expanded depend on the resolved program alone.
 use Rattle.std.proofs.Common.{◌≡◌, ℕ, zero, suc, List, [], ◌∷◌, ◌++◌, map, take, Option, Some, None, refl, sym, ap, ◌∙◌}
 use Rattle.std.specs.Prelude.{slice_get, option_map}
 use Rattle.core_lang.specs.declared.value.ValueType.{ValueType}

@@ -1,4 +1,5 @@
--- Programs that stand for one resolved program have the same order of lock classes and the same cycles, wherever they lie in memory.
+-- Programs that stand for one resolved program have the same order of lock classes and the same cycles, wherever they
+-- are in memory.
 use Rattle.std.proofs.Common.{◌≡◌, ℕ, List, [], ◌∷◌, ◌++◌, Option, Some, None, refl, sym, ap, subst, ◌∙◌}
 use Rattle.std.specs.Prelude.{map, option_map, slice_get, codes, ◌⊎◌, string_bytes}
 use Rattle.std.specs.List.{Contains}
@@ -33,7 +34,7 @@ use Rattle.compiler.proofs.Alike.{looked_at, Spot, at_statement, at_return, spot
 use Rattle.compiler.proofs.Alike.{accesses_at_alike, section_at, paths_same}
 use Rattle.core_lang.specs.Theory.Items.{get_mapped, map_some}
 
--- ---- skeletons of what is resolved
+-- ---- skeletons of resolved sections
 
 abbrev mutual
   front_of : Action → Skeleton → Skeleton
@@ -85,7 +86,7 @@ skeleton_of x = all_of x.body (return_of x.result)
 skeleton_alike : (x : the_section.Section) → skeleton x ≡ skeleton_of (core_section x)
 skeleton_alike x = all_alike x.body.items (return_skeleton x.result) ∙ ap (all_of (core_stmts x.body.items)) (return_alike x.result)
 
--- ---- what its points bind, and where they start
+-- ---- the bindings and the positions of its points
 
 abbrev bound_of : Spot → Option ℕ
 bound_of (at_statement start (bind local x)) = Some local

@@ -9,7 +9,7 @@ use Rattle.syntax.specs.Faults as grammar
 use Rattle.resolution.specs.Faults as names
 use Rattle.resolution.specs.Resolved.{Resolves}
 use Rattle.core_lang.specs.declared.typed.Typed.{Typed}
-use Rattle.core_lang_expansion.specs.Data.{IsExpanded}
+use Rattle.core_lang_helpers.specs.Data.{IsExpanded}
 use Rattle.locks.specs.Faults as paths
 use Rattle.source.specs.Mistakes.{IsLeastOf}
 use Rattle.compiler.specs.Programs.{IsRefusal, HasNoTextFault, HasNoTokenFault, in_text, in_tokens}
@@ -40,7 +40,7 @@ paths_refused source tokens tree program written NoMemory no_text has no_token r
 paths_refused source tokens tree program written (Fault fault) no_text has no_token right no_name means expanded refused least =
     in_paths tokens tree program written no_text has no_token right no_name means expanded refused least
 
--- want of memory is one at any pass
+-- a failed allocation is a refusal of any pass
 pub no_memory_refused : (source : List ℕ) (e : Refusal) → e ≡ NoMemory → IsRefusal source e
 no_memory_refused source NoMemory is = tt
 no_memory_refused source (Fault fault) is = absurd cc

@@ -1,4 +1,4 @@
--- What a section is written out as depends on the resolved program alone, not on where it lies in memory.
+-- The expansion of a section depends on the resolved program alone, not on where it is in memory.
 use Rattle.std.proofs.Common.{◌≡◌, ℕ, zero, suc, ◌+◌, ◌<◌, ◌≤◌, List, [], ◌∷◌, ◌++◌, length, map, Option, Some, None}
 use Rattle.std.proofs.Common.{if◌then◌else◌, Bool, true, false, refl, sym, ap, ◌∙◌, subst, arith, Vec, Global}
 use Rattle.std.specs.Prelude.{slice_get, option_map, ⊤}

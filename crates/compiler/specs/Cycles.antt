@@ -1,8 +1,8 @@
--- What is known of a text whose lock classes have no order.
+-- The facts about a text whose lock classes have a cycle.
 use Rattle.std.specs.Prelude.{◌≡◌, ℕ, List, [], string_bytes}
 use Rattle.core_lang.specs.declared.typed.Typed.{Typed}
 use Rattle.core_lang.specs.WellFormed.{IsWellFormed}
-use Rattle.core_lang_expansion.specs.Data.{IsExpanded}
+use Rattle.core_lang_helpers.specs.Data.{IsExpanded}
 use Rattle.lockorder.specs.Faults.{IsCycleOf, IsFaultAtFirst}
 use Rattle.lockpaths.specs.Paths.{ArePaths}
 use Rattle.resolution.specs.Resolved.{Resolves}
@@ -16,12 +16,12 @@ use Rattle.lowering.specs.Working.Compiled.{program_of}
 use Rattle.compiler.specs.declared.passes.Cyclic.{Cyclic}
 use Rattle.compiler.specs.Programs.{IsOfFirstPass}
 
--- a fault with no detail, as all but that of a cycle have none; or want of memory
+-- a fault without detail, which only that of a cycle has; or the failure of an allocation
 abbrev pub IsBare : Refusal → Type 0
 IsBare NoMemory = Unit {0}
 IsBare (Fault fault) = string_bytes fault.detail ≡ []
 
--- the program is what the text means, and the second one is it with its helpers written out
+-- the program is what the text means, and the second one is it with its helpers expanded
 pub record IsWrittenProgram (source : List ℕ) (program written : Typed) : Type 0 where
   pub tokens : List Tok
   pub tree : List Decl
@@ -30,7 +30,7 @@ pub record IsWrittenProgram (source : List ℕ) (program written : Typed) : Type
   pub resolves : Resolves tree program
   pub expanded : IsExpanded program written
 
--- the text's fault is that of a cycle of its program's lock classes, of which these are the edges
+-- the text's fault is that of a cycle of its program's lock classes, which has these edges
 pub record IsCyclic (source : List ℕ) (cyclic : Cyclic) : Type 0 where
   pub program : IsWrittenProgram source cyclic.trees.accepted (program_of cyclic.trees)
   pub well_formed : IsWellFormed (program_of cyclic.trees)

@@ -1,7 +1,7 @@
 pub mod Programs
 pub mod Cycles
 pub mod Working
--- what the public clauses cite
+-- the definitions that public clauses cite
 pub use Rattle.compiler.specs.Cycles.{IsBare, IsWrittenProgram, IsCyclic}
 pub use Rattle.compiler.specs.Working.Orders.{IsOrdered}
 pub use Rattle.compiler.specs.Programs.{HasFault, Accepts, IsOfFirstPass, IsRefusal}

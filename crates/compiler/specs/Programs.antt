@@ -1,4 +1,4 @@
--- From a text to its program, or to its fault.
+-- The program of a text, or its fault.
 use Rattle.std.specs.Prelude.{◌≡◌, ℕ, List}
 use Rattle.source.specs.declared.fault.Code.{Code}
 use Rattle.core_lang.specs.declared.typed.Typed.{Typed}
@@ -12,12 +12,12 @@ use Rattle.syntax.specs.Faults as grammar
 use Rattle.resolution.specs.Faults as names
 use Rattle.source.specs.Mistakes.{IsLeastOf}
 use Rattle.resolution.specs.Resolved.{Resolves}
-use Rattle.core_lang_expansion.specs.Data.{IsExpanded}
+use Rattle.core_lang_helpers.specs.Data.{IsExpanded}
 use Rattle.locks.specs.Faults as paths
 use Rattle.lockorder.specs.Faults as order
 
--- a fault of the text; of the tokens of a text that has some; of the tree of tokens that have one; of the program that a tree means,
--- with its helpers written out, in its lock paths or the order of its locks
+-- a fault of the text, of its tokens, of its tree; or, in the program that the tree means with its helpers expanded,
+-- one of its lock paths or of the order of its locks
 pub data HasFault (source : List ℕ) (fault : the_fault.Fault) : Type 0 where
   of_text : text.IsRefusal source (Fault fault) → HasFault source fault
   of_tokens : (tokens : List Tok) → text.HasTokens source tokens → grammar.IsRefusal tokens (Fault fault) →
@@ -31,7 +31,7 @@ pub data HasFault (source : List ℕ) (fault : the_fault.Fault) : Type 0 where
       grammar.HasRightTree tokens tree
       → Resolves tree program → IsExpanded program written → order.IsFault written fault → HasFault source fault
 
--- the text has these tokens, the tokens this tree, and the program is what the tree means; and the text has no fault
+-- the text has these tokens, the tokens this tree, and the program is what the tree means; the text has no fault
 pub record Accepts (source : List ℕ) (program : Typed) : Type 0 where
   pub tokens : List Tok
   pub tree : List Decl
@@ -40,16 +40,17 @@ pub record Accepts (source : List ℕ) (program : Typed) : Type 0 where
   pub resolves : Resolves tree program
   pub faultless : (fault : the_fault.Fault) → HasFault source fault → ⊥
 
--- the text has no fault of its own; the tokens have none
+-- the text has no fault of its own
 abbrev pub HasNoTextFault : List ℕ → Type 0
 HasNoTextFault source = (code : Code) (start : ℕ) → text.IsFault source code start → ⊥
 
+-- the tokens have no fault
 abbrev pub HasNoTokenFault : List Tok → Type 0
 HasNoTokenFault tokens = (code : Code) (start : ℕ) → grammar.IsFault tokens code start → ⊥
 
--- a true fault of the first pass that has any: of a text, which has one fault of its own at most; of its tokens; of its tree, and there
--- the least; of the lock paths of the program that the tree means, with its helpers written out, and there the least; or of the order
--- of its locks, and there at the first point that makes the cycle's first edge
+-- a fault of the first pass that has one. A text has at most one fault of its own. Of the tree, and of the lock paths
+-- of the program with its helpers expanded, it is the least fault. Of the order of locks, it is at the first point that
+-- makes the cycle's first edge
 pub data IsOfFirstPass (source : List ℕ) (fault : the_fault.Fault) : Type 0 where
   in_text : text.IsRefusal source (Fault fault) → IsOfFirstPass source fault
   in_tokens : (tokens : List Tok) → HasNoTextFault source → text.HasTokens source tokens
@@ -66,11 +67,11 @@ pub data IsOfFirstPass (source : List ℕ) (fault : the_fault.Fault) : Type 0 wh
       → HasNoTokenFault tokens → grammar.HasRightTree tokens tree → names.HasNoFault tree → Resolves tree program → IsExpanded program written
       → paths.HasNoFault written → order.IsFaultAtFirst written fault → IsOfFirstPass source fault
 
--- a text was refused for such a fault, or for want of memory
+-- the refusal is such a fault, or the failure of an allocation
 abbrev pub IsRefusal : List ℕ → Refusal → Type 0
 IsRefusal source NoMemory = Unit {0}
 IsRefusal source (Fault fault) = IsOfFirstPass source fault
 
--- for want of memory
+-- the refusal is the failure of an allocation
 abbrev pub IsForMemory : Refusal → Type 0
 IsForMemory refusal = refusal ≡ NoMemory

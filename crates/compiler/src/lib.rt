@@ -1,10 +1,10 @@
-//! From the bytes of a text to a compiled program.
+//! The compiler's passes in order: from the bytes of a source text to a compiled program, or to its first fault.
 //!
-//! - [`compile`]: the passes in order, or the fault of the first that has one.
-//! - [`examine`]: the same without code, and with what is known of the order of lock classes, or of a cycle of them.
+//! - [`compile`]: the compiled program, or the fault of the first pass that has one.
+//! - [`examine`]: the same without code, with the order of lock classes or a cycle of them: [`Ordered`], [`Cyclic`].
 //!
-//! `specs/` says which program a text is and which fault it has (`Programs`), what is known of the order
-//! of lock classes (`Orders`), and of a cycle (`Cycles`). What a compiled program is, says `lowering`.
+//! `specs/` defines the program and the fault of a text (`Programs`), the facts about the order of its lock classes
+//! (`Orders`), and about a cycle (`Cycles`). `lowering` defines compiled programs.
 #![tactic(auto)]
 
 mod passes;

@@ -2,7 +2,7 @@
 
 ghost use Rattle.std.specs.Prelude.{◌≡◌, IfOk, IfErr};
 ghost use Rattle.core_lang.specs.WellFormed.{IsChecked, IsWellFormed};
-ghost use Rattle.core_lang_expansion.specs.Data.{IsExpanded};
+ghost use Rattle.core_lang_helpers.specs.Data.{IsExpanded};
 ghost use Rattle.lockorder.specs.Faults.{IsCycleOf, IsFaultAtFirst};
 ghost use Rattle.lockpaths.specs.Paths.{ArePaths};
 ghost use Rattle.lowering.specs.Plans.{IsCompiled};
@@ -13,14 +13,14 @@ ghost use Rattle.compiler.specs.Programs.{Accepts, IsForMemory, IsRefusal};
 ghost use Rattle.compiler.specs.Working.Orders.{IsOrdered};
 
 use core_lang::typed::Typed;
-use core_lang_expansion::program::expand;
-use core_lang_laws::laws::a_program_without_helpers_is_its_own_expansion;
+use core_lang_helpers::laws::a_program_without_helpers_is_its_own_expansion;
+use core_lang_helpers::program::expand;
 use lexer::lex;
 use lockorder::order_by;
 use lockorder::ranks::{Cycle, Edge, OrderRefusal, Ranks};
 use lockpaths::paths;
 use lockpaths::table::Paths;
-use lowering::compiled::{Found, Program, Trees};
+use lowering::compiled::{Analyses, Program, Trees};
 use parser::parse;
 use points::all_points;
 use points::table::Points;
@@ -30,23 +30,23 @@ use source::memory::NoMemory;
 use std::alloc::Global;
 use types::program::check;
 
-/// A text's program whose lock classes have an order.
+/// The program of a text, with an order of its lock classes.
 #[derive(Drop)]
 pub struct Ordered {
-    /// The program as it was accepted, and with its helpers written out.
+    /// The accepted program, and the same with its helpers expanded.
     pub trees: Trees,
     /// Its lock paths.
     pub paths: Paths,
     /// The points of each of its sections.
     pub points: Vec<Points>,
-    /// For each lock class its rank.
+    /// The rank of each lock class.
     pub ranks: Ranks,
 }
 
-/// A text's program whose lock classes have none.
+/// The program of a text, with a cycle of its lock classes.
 #[derive(Drop)]
 pub struct Cyclic {
-    /// The program as it was checked, and with its helpers written out.
+    /// The checked program, and the same with its helpers expanded.
     pub trees: Trees,
     /// Its lock paths.
     pub paths: Paths,
@@ -56,7 +56,7 @@ pub struct Cyclic {
     pub fault: Fault,
 }
 
-// The program with its helpers written out.
+// The program with its helpers expanded.
 fn written_out(alloc: Global, program: &Typed) -> Result<Typed, Refusal>
     requires { IsChecked program.now }
     ensures expanded { IfOk result (IsExpanded program.now) }
@@ -69,7 +69,7 @@ fn written_out(alloc: Global, program: &Typed) -> Result<Typed, Refusal>
     }
 }
 
-// The program as it was accepted, and the same with its helpers written out; one tree where it has none.
+// The accepted program, and the same with its helpers expanded; one tree if it has none.
 fn trees(alloc: Global, accepted: Typed) -> Result<Trees, Refusal>
     requires { IsChecked accepted }
     ensures accepted { IfOk result (λ trees. trees.accepted ≡ accepted) }
@@ -103,7 +103,7 @@ fn points_found(alloc: Global, program: &Typed, paths: &Paths) -> Result<Vec<Poi
     }
 }
 
-// What is known of a program whose lock classes are on a cycle.
+// The facts about a program whose lock classes have a cycle.
 fn with_cycle(alloc: Global, trees: Trees, paths: Paths, cycle: Cycle) -> Result<Cyclic, Refusal>
     requires { IsCycleOf (program_of trees) cycle.edges.items }
     ensures trees { IfOk result (λ found. found.trees ≡ trees) }
@@ -128,11 +128,11 @@ fn with_cycle(alloc: Global, trees: Trees, paths: Paths, cycle: Cycle) -> Result
     }
 }
 
-/// Whether a text is accepted: its program, with the order of the classes of its locks; or a cycle of them.
+/// The program of a text with the order of its lock classes, or with a cycle of them.
 ///
 /// # Errors
 ///
-/// The fault of the first pass that has one, where that is none of the order of locks; or want of memory.
+/// The fault of the first pass that has one, if it is not a fault of the order of locks; or out of memory.
 pub fn examine(alloc: Global, text: &[u8]) -> Result<Result<Ordered, Cyclic>, Refusal>
     ensures order { IfOk result (λ found. IfOk found (IsOrdered text.now)) }
     ensures cycle { IfOk result (λ found. IfErr found (IsCyclic text.now)) }
@@ -171,11 +171,11 @@ pub fn examine(alloc: Global, text: &[u8]) -> Result<Result<Ordered, Cyclic>, Re
     }
 }
 
-/// The program that the text means, compiled; or the fault of the first pass that has one.
+/// The compiled program that the text means.
 ///
 /// # Errors
 ///
-/// The fault, or want of memory.
+/// The fault of the first pass that has one, or out of memory.
 pub fn compile(alloc: Global, text: &[u8]) -> Result<Program, Refusal>
     ensures accepts { IfOk result (λ made. Accepts text.now made.accepted) }
     ensures compiled { IfOk result IsCompiled }
@@ -183,7 +183,7 @@ pub fn compile(alloc: Global, text: &[u8]) -> Result<Program, Refusal>
 {
     match examine(alloc, text)? {
         Ok(ordered) => {
-            let found = Found {
+            let found = Analyses {
                 paths: ordered.paths,
                 points: ordered.points,
                 ranks: ordered.ranks,

@@ -1,4 +1,4 @@
--- A program may be lent to many threads: it is made of numbers, names and lists of these.
+-- A program may be shared by many threads: it consists of numbers, names and lists of these.
 use denote.Param.Send.{IsSync, IsSend, sendable, recorded_sync, struct_sync, AllSync}
 use denote.Struct.Declared.{shape}
 use Rattle.std.proofs.Crossing.{crosses}

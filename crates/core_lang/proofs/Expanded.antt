@@ -1,4 +1,4 @@
--- Calls run serially on an expansion as on the program.
+-- Calls have the same serial runs on a program and on its expansion.
 use Rattle.std.proofs.Common.{◌≡◌, List, [], ◌∷◌, length, Some, sym, ◌∙◌}
 use Rattle.std.specs.Prelude.{slice_get}
 use Rattle.core_lang.specs.declared.value.Value.{Value}

@@ -1,4 +1,4 @@
--- Renamed expressions and conditions have the values of their own.
+-- Renamed expressions and conditions have the same values.
 use Rattle.std.proofs.Common.{◌≡◌, ℕ, ◌+◌, List, [], ◌∷◌, Some, None, Option, Result, Ok, Err, Bool, refl, sym, ap, ◌∙◌}
 use Rattle.std.specs.Prelude.{slice_get, not, map, option_map}
 use Rattle.std.specs.List.{Contains}

@@ -32,8 +32,8 @@ use Rattle.core_lang.specs.declared.tree.Action.{Action, Bind, SetLocal, SetGlob
 use Rattle.core_lang.specs.declared.tree.Action.{If', IfElse', While', Row_of-Stmt, end_of-Stmt, more_of-Stmt}
 use Rattle.core_lang.specs.declared.tree.Return.{Return}
 use Rattle.core_lang.specs.declared.typed.Cell.{Cell}
-use Rattle.core_lang.specs.declared.typed.Owner.{Owner}
-use Rattle.core_lang.specs.declared.typed.Owner.TheVariants as owner
+use Rattle.core_lang.specs.declared.typed.CellOwner.{CellOwner}
+use Rattle.core_lang.specs.declared.typed.CellOwner.TheVariants as owner
 use Rattle.core_lang.specs.declared.typed.Typed.{Typed}
 use Rattle.core_lang.specs.Arithmetic.{fits, is_zero, number_of, arithmetic, on_values, negated, compared}
 use Rattle.core_lang.specs.Cells.{with, found, at_index, element_cell, reference_to, member_of, field_cell, final_value}
@@ -185,7 +185,7 @@ member_struct shape o object p pool here same there =
     ∙ ap (λ (q : ℕ). lookup (slice_get shape.pools.items q) (λ (y : Pool). Some y.structure)) same
     ∙ ap (λ (r : Option Pool). lookup r (λ (y : Pool). Some y.structure)) there
 
--- what a helper comes to stays typed, where its arguments fit it
+-- the end of a helper is well typed, if its arguments fit it
 abbrev HelpersSound : Typed → (ℕ → Type 0) → Helpers → Type 0
 HelpersSound program P call =
     (k : ℕ) → P k → (h : Section) → slice_get program.shape.helpers.items k ≡ Some h → (vs heap : List Value) (prints : List ℤ) →
@@ -199,10 +199,10 @@ module _ (program : Typed) (types : List ValueType) (laid : IsLaidOut program) (
   abbrev IsCellOf : ValueType → ℕ → Type 0
   IsCellOf t cell = slice_get (cell_types program) cell ≡ Some t
 
-  cell_type : (place : ℕ) (owner : Owner) (t : ValueType) → IsCell program place owner t → IsCellOf t place
+  cell_type : (place : ℕ) (owner : CellOwner) (t : ValueType) → IsCell program place owner t → IsCellOf t place
   cell_type place owner t is = map_at (λ (cell : Cell). cell.value_type) program.cells.items place is.cell is.here ∙ ap Some is.typed
 
-  global_owner : (o : Owner) (s t : ValueType) → if_global o s ≡ Some t → s ≡ t
+  global_owner : (o : CellOwner) (s t : ValueType) → if_global o s ≡ Some t → s ≡ t
   global_owner (owner.Global g) s t e = cc
   global_owner (owner.Element array index) s t e = cc
   global_owner (owner.Field object field) s t e = cc

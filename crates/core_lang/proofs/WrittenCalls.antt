@@ -1,4 +1,4 @@
--- What is written out has no calls.
+-- An expansion has no calls.
 use Rattle.std.proofs.Common.{◌≡◌, ℕ, zero, suc, List, [], ◌∷◌, ◌++◌, length, Option, Some, None, sym, subst, Vec}
 use Rattle.std.proofs.Common.{Global}
 use mathlib.Core.Former.{Count}

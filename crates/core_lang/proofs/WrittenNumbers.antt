@@ -1,4 +1,4 @@
--- What is written out binds the next numbers, in the order of its text.
+-- An expansion binds the next numbers, in the order of its text.
 use Rattle.std.proofs.Common.{◌≡◌, ℕ, zero, suc, ◌+◌, List, [], ◌∷◌, ◌++◌, length, Option, Some, None, refl, sym, ap}
 use Rattle.std.proofs.Common.{◌∙◌, subst, arith, append_assoc, Vec, Global}
 use mathlib.Core.Former.{Count}

@@ -1,4 +1,4 @@
--- A section with its helpers written out means what it meant.
+-- A section with its helpers expanded has the same meaning.
 use Rattle.std.proofs.Common.{◌≡◌, ℕ, zero, suc, ◌+◌, ◌<◌, ◌≤◌, ℤ, List, [], ◌∷◌, ◌++◌, length, map, drop, Option, Some}
 use Rattle.std.proofs.Common.{None, Result, Ok, Err, Bool, true, false, refl, sym, ap, ◌∙◌, subst, arith, inl, inr}
 use Rattle.std.specs.Prelude.{slice_get, slice_set, nat_lt, if◌then◌else◌, ⊤}
@@ -76,7 +76,7 @@ abbrev Placed : List Value → ℕ → List Value → Type 0
 Placed locals first [] = ⊤
 Placed locals first (v ∷ vs) = (slice_get locals first ≡ Some v) × Placed locals (first + 1) vs
 
--- a helper's body, written out, comes to what the helper does
+-- the expanded body of a helper ends as the helper does
 abbrev BodiesMean : Shape → ℕ → Helpers → Bodies → Type 0
 BodiesMean shape' n call Body =
     (helper count first : ℕ) (body : List Stmt) (r : Option Return) (fresh : ℕ) → Body helper count first body r fresh → (vs : List Value) (t : State) → length vs ≡ count →
@@ -292,7 +292,7 @@ module _ (shape shape' : Shape) (same : HasSamePlaces shape shape') (n : ℕ) (c
       (argument_on (value_of e shape s.locals s.heap) scope own es fresh rest s s' o (omega (arith, le)) l
       (λ next linked. arguments_linked start scope own es (fresh + 1) rest s next ws (raised first own fresh own (fresh + 1) scope (omega arith) (omega arith) o) (omega (arith, le)) linked)))
 
-  -- the state behind a call: the caller's locals, with the heap and the prints of the written tree
+  -- the state after a call: the caller's locals, with the heap and the prints of the written tree
   abbrev returns_to : State → State → State
   returns_to s u = record s { heap = u.heap; prints = u.prints }
 

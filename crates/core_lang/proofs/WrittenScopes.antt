@@ -1,4 +1,4 @@
--- How scopes grow where helpers are written out, and which locals a write leaves.
+-- How scopes grow in an expansion, and the locals that a write does not change.
 use Rattle.std.proofs.Common.{◌≡◌, ℕ, zero, suc, ◌+◌, ◌<◌, ◌≤◌, List, [], ◌∷◌, length, Option, Some, None, ◌⊎◌, inl}
 use Rattle.std.proofs.Common.{inr, refl, sym, ap, ◌∙◌, subst, arith}
 use Rattle.std.specs.Prelude.{slice_get, slice_set}
@@ -179,7 +179,7 @@ grows_on first a b c g h =
       ordered = λ o. h.ordered (g.ordered o);
     }
 
--- a block's locals are left behind
+-- after a block, its locals are out of scope
 blocks : (first : ℕ) (a b c : At) → Grows first a b → c ≡ behind_block a b → Grows first a c
 blocks first a b c g e =
     subst (Grows first a) (sym e) (record {

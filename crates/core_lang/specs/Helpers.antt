@@ -6,7 +6,7 @@ use Rattle.core_lang.specs.declared.tree.Stmt.{Stmt}
 use Rattle.core_lang.specs.declared.tree.Section.{Section}
 use Rattle.core_lang.specs.declared.shape.Shape.{Shape}
 
--- each helper that a statement calls is such a one
+-- each helper that a statement calls has the property
 abbrev mutual
   pub CallsOnly : (ℕ → Type 0) → Action → Type 0
   CallsOnly P (Call helper arguments result) = P helper
@@ -19,19 +19,20 @@ abbrev mutual
   AllCallOnly P end_of-Stmt = ⊤
   AllCallOnly P (more_of-Stmt start action rest) = CallsOnly P action × AllCallOnly P rest
 
--- the same of a list of statements
+-- each helper that a list of statements calls has the property
 abbrev pub EachCallsOnly : (ℕ → Type 0) → List Stmt → Type 0
 EachCallsOnly P [] = ⊤
 EachCallsOnly P (x ∷ xs) = CallsOnly P x.action × EachCallsOnly P xs
 
--- a section that calls no helper
+-- no helper, so that what calls only these calls none
 abbrev pub NoHelper : ℕ → Type 0
 NoHelper helper = ⊥
 
 abbrev pub CallsNothing : Section → Type 0
 CallsNothing section = EachCallsOnly NoHelper section.body.items
 
--- a helper whose calls go at most so deep: it calls only helpers whose calls go one less deep. So none calls itself, over whatever others
+-- the calls of a helper go at most `depth` deep: it calls only helpers whose calls go one less deep. Hence it does not
+-- reach itself by calls
 abbrev pub IsAtMostDeep : Shape → ℕ → ℕ → Type 0
 IsAtMostDeep shape zero helper = ⊥
 IsAtMostDeep shape (suc depth) helper =

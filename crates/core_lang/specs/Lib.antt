@@ -1,20 +1,20 @@
-pub mod Traps
+-- the definitions that public clauses cite
 pub mod Arithmetic
 pub mod Cells
-pub mod Meaning
-pub mod Whole
-pub mod Serial
-pub mod Typing
-pub mod Scopes
-pub mod Helpers
 pub mod Expansion
+pub mod Helpers
+pub mod Laws
+pub mod Meaning
+pub mod Scopes
+pub mod Serial
+pub mod Theory
+pub mod Traps
+pub mod Typing
+pub mod WellFormed
+pub mod Whole
+pub mod Working
 pub mod WrittenLocals
 pub mod WrittenPoints
-pub mod WellFormed
-pub mod Laws
-pub mod Working
-pub mod Theory
--- what public clauses cite
 pub use Rattle.core_lang.specs.Traps.{trap_number}
 pub use Rattle.core_lang.specs.Meaning.{State, value_of, truth_of, effect_of, sequence}
 pub use Rattle.core_lang.specs.Whole.{Finished, Run, Over, Beyond_turns, Gone_astray, run_of}

@@ -1,5 +1,5 @@
 -- Lemmas, which are proved here for proofs of the crates above. Nobody has to believe these files: they are checked.
-pub mod Items
 pub mod Checked
+pub mod Items
 pub mod Lists
 pub mod Openings

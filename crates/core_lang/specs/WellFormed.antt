@@ -1,5 +1,7 @@
--- Programs within the limits, whose numbers all name what they should, and whose sections and helpers are well typed.
+-- Programs within the limits, whose numbers are all valid, and whose sections and helpers are well typed.
 use Rattle.std.specs.Prelude.{◌≡◌, ℕ, ◌+◌, ◌<◌, ◌≤◌, List, [], ◌∷◌, length, slice_get, Some, ⊤}
+use Rattle.source.specs.Limits.{PARAMETER_LIMIT, LOCAL_LIMIT, POINT_LIMIT, CALL_LIMIT}
+use Rattle.source.specs.Limits.{STRUCT_LIMIT, MEMBER_LIMIT, FINAL_LIMIT, CLASS_LIMIT, OBJECT_LIMIT, CELL_LIMIT, SECTION_LIMIT, THREAD_LIMIT}
 use Rattle.core_lang.specs.declared.value.Value.{Value}
 use Rattle.core_lang.specs.declared.value.ValueType.{ValueType}
 use Rattle.core_lang.specs.declared.shape.Array.{Array}
@@ -13,8 +15,8 @@ use Rattle.core_lang.specs.declared.typed.Protection.{Protection}
 use Rattle.core_lang.specs.declared.typed.Field.{Field}
 use Rattle.core_lang.specs.declared.typed.Struct.{Struct}
 use Rattle.core_lang.specs.declared.typed.GlobalVariable.{GlobalVariable}
-use Rattle.core_lang.specs.declared.typed.Owner.{Owner}
-use Rattle.core_lang.specs.declared.typed.Owner.TheVariants as owner
+use Rattle.core_lang.specs.declared.typed.CellOwner.{CellOwner}
+use Rattle.core_lang.specs.declared.typed.CellOwner.TheVariants as owner
 use Rattle.core_lang.specs.declared.typed.Call.{Call}
 use Rattle.core_lang.specs.declared.typed.Cell.{Cell}
 use Rattle.core_lang.specs.declared.typed.Thread.{Thread}
@@ -29,15 +31,15 @@ use Rattle.core_lang.specs.Typing.{struct_of, final_target, field_type, IsHeap, 
 
 -- ---- where things lie
 
--- at a place there is a cell, which is part of the owner and has the type
-pub record IsCell (program : Typed) (place : ℕ) (owner : Owner) (t : ValueType) : Type 0 where
+-- the cell at this place has this owner and this type
+pub record IsCell (program : Typed) (place : ℕ) (owner : CellOwner) (t : ValueType) : Type 0 where
   pub cell : Cell
   pub here : slice_get program.cells.items place ≡ Some cell
   pub owned : cell.owner ≡ owner
   pub typed : cell.value_type ≡ t
 
--- a cell is where its owner has it
-abbrev pub IsCellOf : Typed → ℕ → Owner → Type 0
+-- the owner of a cell has it at this place
+abbrev pub IsCellOf : Typed → ℕ → CellOwner → Type 0
 IsCellOf program place (owner.Global g) =
     (global : GlobalVariable) × (slice_get program.globals.items g ≡ Some global) × (place ≡ global.cell)
 IsCellOf program place (owner.Element array index) =
@@ -46,7 +48,8 @@ IsCellOf program place (owner.Field object field) =
     (o : Object) × (slice_get program.shape.objects.items object ≡ Some o) × (place ≡ o.cells + field) ×
     ((s : ℕ) × (t : ValueType) × (struct_of program.shape object ≡ Some s) × (field_type program s field ≡ Some t))
 
--- each global, array, pool and object has its cells, its members and its final references, and no cell is part of anything else
+-- each global, array, pool and object has its cells, its members and its final references, and each cell belongs to a
+-- global, an array or an object
 pub record IsLaidOut (program : Typed) : Type 0 where
   pub global : (g : ℕ) (x : GlobalVariable) → slice_get program.globals.items g ≡ Some x →
       (t : ValueType) × IsCell program x.cell (owner.Global g) t
@@ -69,15 +72,15 @@ pub record IsLaidOut (program : Typed) : Type 0 where
 
 -- ---- what protects the cells
 
--- final references that lead from one struct to another
+-- the final references lead from one struct to another
 abbrev pub FinalsLead : Typed → ℕ → List ℕ → ℕ → Type 0
 FinalsLead program from [] to = from ≡ to
 FinalsLead program from (f ∷ fs) to = (next : ℕ) × (final_target program from f ≡ Some next) × FinalsLead program next fs to
 
--- final references, at most three, that lead from a struct to one with the lock; none lead to a global lock
+-- the final references, at most three, lead from a struct to one with the lock; a global lock needs none
 abbrev pub EndsAt : Typed → ℕ → List ℕ → LockClass → Type 0
 EndsAt program s through (class.Global name) = through ≡ []
-EndsAt program s through (class.Field structure lock) = (length through ≤ 3) × FinalsLead program s through structure
+EndsAt program s through (class.Field structure lock) = (length through ≤ FINAL_LIMIT) × FinalsLead program s through structure
 
 -- an annotation that a field of the struct may have
 abbrev pub Protects : Typed → ℕ → Protection → Type 0
@@ -93,14 +96,14 @@ IsGlobalLock (class.Field structure lock) = ⊥
 abbrev pub IsGlobalClass : Typed → ℕ → Type 0
 IsGlobalClass program number = (c : LockClass) × (slice_get program.classes.items number ≡ Some c) × IsGlobalLock c
 
--- a class of a lock field: the struct has the field, and the field this class
+-- the class of a lock field: the struct has the field, and the field has this class
 abbrev pub IsClassOf : Typed → ℕ → LockClass → Type 0
 IsClassOf program number (class.Global name) = ⊤
 IsClassOf program number (class.Field structure lock) =
     (s : Struct) × (slice_get program.structs.items structure ≡ Some s) ×
     ((field : LockField) × (slice_get s.locks.items lock ≡ Some field) × (field.class ≡ number))
 
--- globals, arrays and fields have each a lock that may protect them
+-- each global, array and field has a lock that may protect it
 pub record IsProtected (program : Typed) : Type 0 where
   pub global : (g : ℕ) (x : GlobalVariable) → slice_get program.globals.items g ≡ Some x → IsGlobalClass program x.class
   pub array : (a : ℕ) (x : Array) → slice_get program.shape.arrays.items a ≡ Some x → IsGlobalClass program x.class
@@ -115,34 +118,34 @@ pub record IsProtected (program : Typed) : Type 0 where
 
 -- ---- the whole
 
--- a section of this number may be called with these arguments: the program has it, and they fit it
+-- a section of this number may be called with these arguments: the program has it, and the arguments fit its parameters
 unfoldable pub CanCall : Typed → ℕ → List Value → Type 0
 CanCall program number arguments =
     (section : Section) × (slice_get program.sections.items number ≡ Some section) × Fit program section arguments
 
--- how many calls threads make together
+-- the number of calls of all threads together
 abbrev pub calls_together : List Thread → ℕ
 calls_together [] = 0
 calls_together (thread ∷ threads) = length thread.calls.items + calls_together threads
 
--- of what the language limits, the program has no more than it allows
+-- the program keeps the limits of the language
 pub record IsWithinLimits (program : Typed) : Type 0 where
-  pub classes : length program.classes.items ≤ 128
-  pub structs : length program.structs.items ≤ 64
+  pub classes : length program.classes.items ≤ CLASS_LIMIT
+  pub structs : length program.structs.items ≤ STRUCT_LIMIT
   -- a struct's members, of all three kinds together
   pub members : (s : ℕ) (x : Struct) → slice_get program.structs.items s ≡ Some x →
-      length x.locks.items + length x.finals.items + length x.fields.items ≤ 32
-  pub objects : length program.shape.objects.items ≤ 65536
-  pub cells : length program.cells.items ≤ 262144
+      length x.locks.items + length x.finals.items + length x.fields.items ≤ MEMBER_LIMIT
+  pub objects : length program.shape.objects.items ≤ OBJECT_LIMIT
+  pub cells : length program.cells.items ≤ CELL_LIMIT
   -- sections and helpers together
-  pub sections : length program.sections.items + length program.shape.helpers.items ≤ 256
-  pub parameters : (k : ℕ) (x : Section) → slice_get program.sections.items k ≡ Some x → x.parameters ≤ 8
+  pub sections : length program.sections.items + length program.shape.helpers.items ≤ SECTION_LIMIT
+  pub parameters : (k : ℕ) (x : Section) → slice_get program.sections.items k ≡ Some x → x.parameters ≤ PARAMETER_LIMIT
   -- the parameters are among the locals
-  pub locals : (k : ℕ) (x : Section) → slice_get program.sections.items k ≡ Some x → length x.locals.items ≤ 64
-  pub threads : length program.threads.items ≤ 64
-  pub calls : calls_together program.threads.items ≤ 100000
+  pub locals : (k : ℕ) (x : Section) → slice_get program.sections.items k ≡ Some x → length x.locals.items ≤ LOCAL_LIMIT
+  pub threads : length program.threads.items ≤ THREAD_LIMIT
+  pub calls : calls_together program.threads.items ≤ CALL_LIMIT
 
--- each part of the program is as it should be: what is accepted, with its helpers
+-- each part of the program is well formed, with the helpers not expanded: such a program may be accepted
 pub record IsChecked (program : Typed) : Type 0 where
   pub within : IsWithinLimits program
   pub laid_out : IsLaidOut program
@@ -157,16 +160,16 @@ pub record IsChecked (program : Typed) : Type 0 where
       IsWellScoped helper
   pub helper_depths : (k : ℕ) (helper : Section) → slice_get program.shape.helpers.items k ≡ Some helper →
       IsAtMostDeep program.shape deepest k
-  -- with what the helpers bring
+  -- with the locals and points that its helpers bring
   pub written_locals : (k : ℕ) (section : Section) → slice_get program.sections.items k ≡ Some section →
-      length (written_locals program.shape section) ≤ 64
+      length (written_locals program.shape section) ≤ LOCAL_LIMIT
   pub helper_points : (k : ℕ) (section : Section) → slice_get program.sections.items k ≡ Some section →
-      helper_points program.shape section ≤ 65536
+      helper_points program.shape section ≤ POINT_LIMIT
   pub scripts : (t k : ℕ) (thread : Thread) (call : Call) → slice_get program.threads.items t ≡ Some thread →
       slice_get thread.calls.items k ≡ Some call →
       CanCall program call.section call.arguments.items
 
--- the same of a program whose helpers are written out: it has none left
+-- a program of that kind whose helpers are expanded, so that it has no helpers
 pub record IsWellFormed (program : Typed) : Type 0 where
   pub within : IsWithinLimits program
   pub laid_out : IsLaidOut program

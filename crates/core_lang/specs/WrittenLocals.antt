@@ -1,4 +1,4 @@
--- The locals of a section with its helpers written out: their names, kinds and types.
+-- The locals of a section with its helpers expanded: their names, kinds and types.
 use Rattle.std.specs.Prelude.{◌≡◌, ℕ, zero, suc, List, [], ◌∷◌, ◌++◌, map, take, slice_get, Option, Some, None}
 use Rattle.std.specs.Prelude.{string_bytes}
 use Rattle.core_lang.specs.declared.value.ValueType.{ValueType}
@@ -18,14 +18,15 @@ pub record LocalData : Type 0 where
   pub kind : LocalKind
   pub value_type : ValueType
 
+-- the data of a local
 abbrev pub local_data : Local → LocalData
 local_data local = record { name = string_bytes local.name; kind = local.kind; value_type = local.value_type }
 
--- a parameter of a helper: it is a `let` of the argument
+-- a parameter of a helper, which is a `let` of the argument
 abbrev pub parameter_data : Local → LocalData
 parameter_data local = record { name = string_bytes local.name; kind = Let; value_type = local.value_type }
 
--- the local of this number, if there is one
+-- the local of this number, if it exists
 abbrev pub own_local : Option Local → List LocalData
 own_local (Some local) = local_data local ∷ []
 own_local None = []
@@ -35,12 +36,12 @@ abbrev pub hidden_local : Option ValueType → List LocalData
 hidden_local (Some t) = record { name = []; kind = Let; value_type = t } ∷ []
 hidden_local None = []
 
--- what a helper brings with its body, and the type of its result
+-- the locals that the call of a helper brings, and the type of its result
 pub record Brought : Type 0 where
   pub locals : List LocalData
   pub result_type : Option ValueType
 
--- over what helpers bring, and the locals of the tree
+-- the locals that a statement binds in the expansion, given what helpers bring and the locals of the tree
 abbrev mutual
   pub locals_by : (ℕ → Brought) → List Local → Action → List LocalData
   locals_by brings own (Bind k e) = own_local (slice_get own k)
@@ -55,14 +56,17 @@ abbrev mutual
   locals_in brings own end_of-Stmt = []
   locals_in brings own (more_of-Stmt start action rest) = locals_by brings own action ++ locals_in brings own rest
 
+-- the locals that a list of statements binds in the expansion
 abbrev pub locals_in_all : (ℕ → Brought) → List Local → List Stmt → List LocalData
 locals_in_all brings own [] = []
 locals_in_all brings own (x ∷ xs) = locals_by brings own x.action ++ locals_in_all brings own xs
 
+-- what a helper brings, which is nothing if it does not exist
 abbrev pub brought_by : Option Section → (Section → Brought) → Brought
 brought_by (Some helper) go = go helper
 brought_by None go = record { locals = []; result_type = None }
 
+-- the locals that a helper brings, with calls followed to this depth
 abbrev pub brought : ℕ → Shape → ℕ → Brought
 brought zero shape helper = record { locals = []; result_type = None }
 brought (suc depth) shape helper =
@@ -71,11 +75,11 @@ brought (suc depth) shape helper =
       result_type = h.result_type;
     })
 
--- parameters first, then what is bound in the order of the text
+-- the locals of a section in the expansion: the parameters, then those that are bound, in the order of the text
 abbrev pub written_locals : Shape → Section → List LocalData
 written_locals shape section =
     map local_data (take section.parameters section.locals.items) ++ locals_in_all (brought deepest shape) section.locals.items section.body.items
 
--- the locals of a section are those of another one with its helpers written out
+-- the second section has the locals that the first has with its helpers expanded
 abbrev pub AreWrittenLocals : Shape → Section → Section → Type 0
 AreWrittenLocals shape section section' = map local_data section'.locals.items ≡ written_locals shape section

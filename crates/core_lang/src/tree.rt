@@ -1,8 +1,8 @@
-//! The statements and expressions of a section, with numbers in place of names.
+//! The statements and expressions of a section, with numbers instead of names.
 //!
-//! Chains of operators and of fields are lists, so only parentheses, indexes, prefix signs and blocks nest. A `start`
-//! is a byte of the source text, counted from 0; what a section means does not depend on it. What numbers name, the
-//! order of locals and the bounds on how many there are hold of well-formed programs (`specs/WellFormed.antt`).
+//! Chains of operators and of fields are lists, so that only parentheses, indexes, prefix signs and blocks nest. A
+//! `start` is a byte of the source text, from 0; the meaning of a section does not depend on it. Which numbers are
+//! valid, the order of locals and the limits are properties of well-formed programs (`specs/WellFormed.antt`).
 
 use crate::value::ValueType;
 
@@ -21,7 +21,7 @@ pub enum Operator {
     Rem,
 }
 
-/// A comparison of two values: of two numbers, and the first two also of two references.
+/// A comparison of two numbers. `==` and `!=` also compare two references.
 #[derive(Clone, Copy, PartialEq, Eq, Debug)]
 pub enum Comparison {
     /// `==`
@@ -57,20 +57,20 @@ pub enum FieldStep {
     },
 }
 
-/// A local and the fields that lead on from it, as `a.owner.next`. Each of its fields that is not final is an access.
+/// A local and a path of fields from it, as `a.owner.next`. Each field on the path that is not final is an access.
 #[derive(Drop)]
 pub struct Path {
-    /// Where the local's name starts.
+    /// The first byte of the local's name.
     pub start: usize,
     /// The local, an index into [`Section::locals`].
     pub local: usize,
-    /// The fields, in the order in which they are followed. May be empty.
+    /// The fields, in the order in which they are followed, or none.
     pub fields: Vec<FieldStep>,
-    /// Whether parentheses stand around it, as in `(a)`, which is not a stable path. Its value is the same.
+    /// Whether it is in parentheses, as `(a)`, which is not a stable path. The value is the same.
     pub in_parentheses: bool,
 }
 
-/// What gives a number or a reference.
+/// An expression, whose value is a number or a reference.
 #[derive(Drop)]
 #[cycle(expr)]
 pub enum Expr {
@@ -80,41 +80,41 @@ pub enum Expr {
     Null,
     /// A local, or a field at the end of a path.
     Place(Path),
-    /// A global that is no array.
+    /// A global that is not an array.
     Global {
-        /// Where its name starts.
+        /// The first byte of its name.
         start: usize,
         /// Its cell, an index into [`crate::typed::Typed::cells`].
         cell: u32,
     },
     /// An element of an array.
     Element {
-        /// Where the array's name starts.
+        /// The first byte of the array's name.
         start: usize,
         /// The array, an index into [`crate::shape::Shape::arrays`].
         array: usize,
-        /// Which element, from 0.
+        /// The index of the element, from 0.
         index: Box<Expr>,
     },
-    /// The reference to a member of a pool. It is no access.
+    /// The reference to a member of a pool, which is not an access.
     Member {
         /// The pool, an index into [`crate::shape::Shape::pools`].
         pool: usize,
-        /// Which member, from 0.
+        /// The index of the member, from 0.
         index: Box<Expr>,
     },
-    /// A number with the other sign.
+    /// The negated number.
     Negate(Box<Expr>),
-    /// A reference whose final reference names what a local does, as in `e where owner == b`. Null is one too; any other
-    /// reference is cut short by a trap.
+    /// A reference whose final reference has to equal a local, as in `e where owner == b`. Null is accepted; any other
+    /// reference traps.
     Owned {
-        /// What is tested, and is the value.
+        /// The expression that is tested, and whose value this is.
         value: Box<Expr>,
         /// Its struct, an index into [`crate::typed::Typed::structs`].
         structure: u32,
         /// The final reference, by its number among the struct's final references.
         number: u32,
-        /// Where the local's name starts.
+        /// The first byte of the local's name.
         start: usize,
         /// The local, an index into [`Section::locals`].
         owner: u32,
@@ -138,7 +138,7 @@ pub struct Operation {
     pub operand: Expr,
 }
 
-/// What is true or false.
+/// A condition, which is true or false.
 #[derive(Drop)]
 pub enum Condition {
     /// A comparison of two expressions.
@@ -155,55 +155,55 @@ pub enum Condition {
 #[derive(Drop)]
 #[cycle(stmt)]
 pub struct Stmt {
-    /// Where it starts: its first word, or the first name of what it assigns to.
+    /// The first byte of its first word, or of the first name of an assignment's target.
     pub start: usize,
     /// What it does.
     pub action: Action,
 }
 
-/// What a statement does. What an assignment writes starts where the statement does.
+/// What a statement does. The left side of an assignment starts where the statement does.
 #[derive(Drop)]
 #[cycle(stmt)]
 pub enum Action {
-    /// A `let` or a `var`: which of them, says the local's kind.
+    /// A `let` or a `var`, as the local's kind says.
     Bind {
         /// The local, an index into [`Section::locals`]. Each is bound by one statement of the section.
         local: usize,
-        /// What it is bound to.
+        /// The value that it is bound to.
         value: Expr,
     },
     /// An assignment to a `var`.
     SetLocal {
         /// The local, an index into [`Section::locals`].
         local: usize,
-        /// What is assigned.
+        /// The assigned value.
         value: Expr,
     },
-    /// An assignment to a global that is no array.
+    /// An assignment to a global that is not an array.
     SetGlobal {
         /// Its cell, an index into [`crate::typed::Typed::cells`].
         cell: u32,
-        /// What is assigned.
+        /// The assigned value.
         value: Expr,
     },
     /// An assignment to an element of an array.
     SetElement {
         /// The array, an index into [`crate::shape::Shape::arrays`].
         array: usize,
-        /// Which element, from 0.
+        /// The index of the element, from 0.
         index: Expr,
-        /// What is assigned.
+        /// The assigned value.
         value: Expr,
     },
     /// An assignment to a field that is not final.
     SetField {
-        /// What leads to the object.
+        /// The path to the object.
         base: Path,
         /// The object's struct, an index into [`crate::typed::Typed::structs`].
         structure: usize,
         /// The field, by its number among the struct's fields.
         field: u32,
-        /// What is assigned.
+        /// The assigned value.
         value: Expr,
     },
     /// A call of a helper.
@@ -212,7 +212,7 @@ pub enum Action {
         helper: usize,
         /// A value for each of its parameters.
         arguments: Vec<Expr>,
-        /// The `let` that its value is bound to, an index into [`Section::locals`]; where there is none, the value is dropped.
+        /// The `let` that the value is bound to, an index into [`Section::locals`]; without one, the value is dropped.
         result: Option<usize>,
     },
     /// `print`
@@ -226,37 +226,37 @@ pub enum Action {
     },
     /// An `if` with an `else`.
     IfElse {
-        /// Which block is run.
+        /// Which of the blocks is run.
         condition: Condition,
-        /// The block that is run where the condition is true.
+        /// The block that is run if the condition is true.
         block: Vec<Stmt>,
-        /// The block that is run where it is false.
+        /// The block that is run if it is false.
         otherwise: Vec<Stmt>,
     },
     /// A `while`.
     While {
-        /// Whether a further turn is made.
+        /// Whether another turn is made.
         condition: Condition,
-        /// What a turn runs.
+        /// The body of a turn.
         body: Vec<Stmt>,
     },
 }
 
-/// What a section gives back at the end of its body.
+/// The `return` at the end of a section's body.
 #[derive(Drop)]
 pub struct Return {
-    /// Where the word `return` starts.
+    /// The first byte of the word `return`.
     pub start: usize,
     /// The result.
     pub value: Expr,
 }
 
-/// Where a local's value comes from.
+/// The kind of a local: where its value comes from.
 #[derive(Clone, Copy, PartialEq, Eq, Debug)]
 pub enum LocalKind {
     /// The call.
     Parameter,
-    /// One `let`; it is never assigned to.
+    /// One `let`, which is never assigned to.
     Let,
     /// A `var`, and assignments.
     Var,
@@ -269,7 +269,7 @@ pub struct Local {
     pub name: String,
     /// Where its value comes from.
     pub kind: LocalKind,
-    /// What it may hold.
+    /// Its type.
     pub value_type: ValueType,
 }
 
@@ -278,7 +278,7 @@ pub struct Local {
 pub struct Section {
     /// Its name.
     pub name: String,
-    /// How many of the locals are parameters: 0 to 8. They stand first, in their order.
+    /// The number of parameters, 0 to 8. They are the first locals, in order.
     pub parameters: usize,
     /// Its locals by number, parameters first, then each `let` and `var` in the order of the text; at most 64.
     pub locals: Vec<Local>,
@@ -286,6 +286,6 @@ pub struct Section {
     pub result_type: Option<ValueType>,
     /// Its statements, without the `return`.
     pub body: Vec<Stmt>,
-    /// The `return` at the end of its body, where it has a result.
+    /// The `return` at the end of its body, if it has a result.
     pub result: Option<Return>,
 }

@@ -11,8 +11,8 @@ use Rattle.explanation.specs.Explanation.{explanation_text}
 use Rattle.explanation.specs.Working.Laws.{ShownByFirstBytes}
 use Rattle.explanation.specs.Remedies.{remedy_text}
 use Rattle.explanation.specs.Shown.{shown_place}
-use Rattle.explanation_json.specs.Json.{fault_json}
-use Rattle.explanation_json.specs.Working.Laws.{FaultByFirstBytes}
+use Rattle.explanation.specs.Json.{fault_json}
+use Rattle.explanation.specs.Working.JsonLaws.{FaultByFirstBytes}
 use Rattle.explanation.specs.Further.{Further, nothing_further}
 use Rattle.explanation_faults.specs.FurtherFaults.{AreFurther, others, none as none_behind}
 use Rattle.explanation.specs.Notes.{Note, note_text, told_text}

@@ -7,10 +7,10 @@ use Rattle.driver.specs.declared.streams.Streams.{Streams}
 use Rattle.driver.specs.Messages.{cannot_read, cannot_write, no_memory}
 use Rattle.driver.specs.Streams.{Tells}
 use Rattle.language_server.specs.Serving.{ServesEditor}
-use Rattle.lsp_loop.specs.declared.serving.End.{End}
-use Rattle.lsp_loop.specs.declared.serving.End.TheVariants.{Exit, Input, Unread, Unwritten, OutOfMemory}
+use Rattle.lsp_protocol.specs.declared.serving.End.{End}
+use Rattle.lsp_protocol.specs.declared.serving.End.TheVariants.{Exit, Input, Unread, Unwritten, OutOfMemory}
 
--- the status by which end: done, where the editor asked for it and had asked to shut down before
+-- the status of an end: `Done` where the editor asked to exit after it had asked to shut down
 abbrev pub status_for : End → Status
 status_for (Exit true) = Done
 status_for (Exit false) = Refused
@@ -19,7 +19,7 @@ status_for Unread = Failed
 status_for Unwritten = Failed
 status_for OutOfMemory = status.OutOfMemory
 
--- what is told of it
+-- the message of an end
 abbrev pub message_for : End → List ℕ
 message_for (Exit shut_down) = []
 message_for Input = []
@@ -27,7 +27,7 @@ message_for Unread = cannot_read (codes "standard input")
 message_for Unwritten = cannot_write
 message_for OutOfMemory = no_memory
 
--- the editor was served, and that is how it ended; `old_output` and `output` is what the writer to the editor holds
+-- the editor was served until this end; `old_output` and `output` are what the writer to the editor held and holds
 pub record IsServed {O E : Type 0} (input old_output output : Option (List ℕ)) (told : E → Option (List ℕ))
     (old new : Streams O E) (status : Status) : Type 0 where
   pub ended : End

@@ -1,10 +1,10 @@
--- What `explain` answers.
+-- The answers of `explain`.
 use Rattle.std.specs.Prelude.{◌≡◌, ℕ, Bool, List, [], if◌then◌else◌}
 use Rattle.explanation.specs.Explanation.{accepted_text, explanation_text}
 use Rattle.explanation.specs.Further.{Further}
 use Rattle.explanation.specs.Notes.{Note}
 use Rattle.explanation.specs.Warnings.{Warning}
-use Rattle.explanation_json.specs.Json.{accepted_json, fault_json}
+use Rattle.explanation.specs.Json.{accepted_json, fault_json}
 use Rattle.explanations.specs.Told.{IsToldOf, accepted, faulty}
 use Rattle.source.specs.declared.fault.Fault.{Fault}
 use Rattle.driver_words.specs.declared.line.Color.{Color}
@@ -13,23 +13,24 @@ use Rattle.painting.specs.Painted.{painted}
 use Rattle.driver.specs.declared.status.Status.{Status}
 use Rattle.driver.specs.declared.status.Status.TheVariants.{Done, Refused}
 
--- a text in colours, where they are wanted; what is left open here the program has settled before
+-- a text in colours, where they are asked for; the program has settled `Auto` before
 abbrev pub in_color : Color → List ℕ → List ℕ
 in_color Always text = painted text
 in_color Auto text = text
 in_color Never text = text
 
--- what explains a fault, and what tells of a program without one: as JSON, or as a text
+-- the explanation of a fault, and the report of an accepted program: as JSON, or as a text
 abbrev pub fault_told : Bool → Color → List ℕ → List ℕ → Fault → List Note → Further → List ℕ
 fault_told json color file text fault notes further =
     if json then fault_json file text fault notes further
     else in_color color (explanation_text file text fault notes further)
 
+-- the text of `explain` on an accepted program, as JSON or in colours
 abbrev pub acceptance_told : Bool → Color → List ℕ → List ℕ → List Note → List Warning → List ℕ
 acceptance_told json color file text notes warnings =
     if json then accepted_json file text notes warnings else in_color color (accepted_text file text notes warnings)
 
--- a fault of the text with notes on it and further ones: out explains it; err is empty
+-- the text has a fault, with notes and further faults: out explains it; err is empty
 pub record IsExplained (json : Bool) (color : Color) (file text : List ℕ) (status : Status) (out err : List ℕ) : Type 0 where
   pub fault : Fault
   pub notes : List Note
@@ -48,7 +49,7 @@ pub record IsFaultless (json : Bool) (color : Color) (file text : List ℕ) (sta
   pub written : out ≡ acceptance_told json color file text notes warnings
   pub told : err ≡ []
 
--- what `explain` answers for a text
+-- the answers of `explain` for a text
 pub data ExplainAnswers (json : Bool) (color : Color) (file text : List ℕ) (status : Status) (out err : List ℕ) : Type 0 where
   faultless : IsFaultless json color file text status out err → ExplainAnswers json color file text status out err
   explained : IsExplained json color file text status out err → ExplainAnswers json color file text status out err

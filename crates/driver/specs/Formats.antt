@@ -1,4 +1,4 @@
--- What `format` answers.
+-- The answers of `format`.
 use Rattle.std.specs.Prelude.{◌≡◌, ℕ, List, [], string_bytes}
 use Rattle.code.specs.Listing.{line}
 use Rattle.formatting.specs.Formatted.{HasFault, IsFormatted, IsProgram}
@@ -14,7 +14,7 @@ pub record IsLaidOut (text : List ℕ) (status : Status) (out err : List ℕ) : 
   pub written : IsFormatted text out
   pub told : err ≡ []
 
--- a true fault of the text or of its tokens, with no detail: nothing is written, and its line is told
+-- the text or its tokens have a true fault, without a detail: nothing is written, and the fault's line is reported
 pub record IsUnformatted (file text : List ℕ) (status : Status) (out err : List ℕ) : Type 0 where
   pub fault : Fault
   pub given : HasFault text fault.code fault.start
@@ -23,6 +23,7 @@ pub record IsUnformatted (file text : List ℕ) (status : Status) (out err : Lis
   pub written : out ≡ []
   pub told : err ≡ line (fault_text file text fault)
 
+-- what `format` answers: the layout of the text, or its fault
 pub data FormatAnswers (file text : List ℕ) (status : Status) (out err : List ℕ) : Type 0 where
   laid_out : IsLaidOut text status out err → FormatAnswers file text status out err
   unformatted : IsUnformatted file text status out err → FormatAnswers file text status out err

@@ -20,7 +20,7 @@ pub mod Engines
 pub mod Editors
 pub mod Pages
 pub mod Working
--- what the public clauses cite
+-- the definitions that the public clauses cite
 pub use Rattle.driver.specs.Statuses.{exit_status}
 pub use Rattle.driver.specs.Streams.{name_of, reader_of, left_in, reading_failed, writer_of, writing_failed, Writes, Tells}
 pub use Rattle.driver.specs.Messages.{cannot_read, cannot_write, no_memory, strange}

@@ -1,10 +1,10 @@
--- What `order` answers.
+-- The answers of `order`.
 use Rattle.std.specs.Prelude.{◌≡◌, ℕ, List, [], string_bytes}
 use Rattle.code.specs.Listing.{line}
 use Rattle.compiler.specs.Cycles.{IsWrittenProgram}
 use Rattle.compiler.specs.Programs.{Accepts, IsOfFirstPass}
 use Rattle.core_lang.specs.declared.typed.Typed.{Typed}
-use Rattle.core_lang_expansion.specs.Data.{IsExpanded}
+use Rattle.core_lang_helpers.specs.Data.{IsExpanded}
 use Rattle.lockorder.specs.declared.ranks.ClassPair.{ClassPair}
 use Rattle.lockorder.specs.declared.ranks.Edge.{Edge}
 use Rattle.lockorder.specs.ClassPairs.{AreClassPairs}
@@ -17,8 +17,8 @@ use Rattle.driver.specs.declared.status.Status.{Status}
 use Rattle.driver.specs.declared.status.Status.TheVariants.{Done, Refused}
 use Rattle.driver.specs.Answers.{IsRefused}
 
--- the text is accepted: out says the ranks of the lock classes of its program with helpers written out, and the pairs of which the first
--- has to come before the second, each with what makes it so; err is empty
+-- the text is accepted: out has the ranks of the lock classes of its expanded program, and the pairs of classes of which the
+-- first has to come before the second, each with its reason; err is empty
 pub record IsOrderGraph (text : List ℕ) (status : Status) (out err : List ℕ) : Type 0 where
   pub program : Typed
   pub accepts : Accepts text program
@@ -32,8 +32,8 @@ pub record IsOrderGraph (text : List ℕ) (status : Status) (out err : List ℕ)
   pub written : out ≡ order_text text written_out ranks pairs
   pub told : err ≡ []
 
--- a fault of the order of locks: out says the pairs of the program that the text means, with the edges of a cycle marked; the fault's
--- line is told
+-- the text has a fault of the order of locks: out has the pairs of the program that the text means, with the edges of a
+-- cycle marked; the fault's line is reported
 pub record IsCyclicGraph (file text : List ℕ) (status : Status) (out err : List ℕ) : Type 0 where
   pub fault : Fault
   pub given : IsOfFirstPass text fault
@@ -49,7 +49,7 @@ pub record IsCyclicGraph (file text : List ℕ) (status : Status) (out err : Lis
   pub written : out ≡ cyclic_order_text text program pairs edges
   pub told : err ≡ line (fault_text file text fault)
 
--- what `order` answers for a text; where the text has another fault, as all engines do
+-- the answers of `order` for a text; a text with another fault is answered as by all engines
 pub data OrderAnswers (file text : List ℕ) (status : Status) (out err : List ℕ) : Type 0 where
   ordered : IsOrderGraph text status out err → OrderAnswers file text status out err
   cyclic : IsCyclicGraph file text status out err → OrderAnswers file text status out err

@@ -1,4 +1,4 @@
--- What `outcomes` answers.
+-- The answers of `outcomes`.
 use Rattle.std.specs.Prelude.{◌≡◌, ℕ, List, [], ◌∷◌, ◌++◌, slice_index, Option, Some, None, option_map, option_to_list, codes}
 use Rattle.std.specs.Prelude.{true, Result, Ok, Err, Contains}
 use Rattle.std.specs.Fmt.{decimal}
@@ -9,56 +9,58 @@ use Rattle.outcomes.specs.Ends.{Told, AreAllEnds, AreEndsOfAll, AreDrawnEnds, Ha
 use Rattle.outcomes.specs.Ends.{StopsAfter, done_after}
 use Rattle.outcomes.specs.Orders.{next_call, one_more, none_done}
 use Rattle.outcomes.specs.declared.outcome.Asked.{Asked}
-use Rattle.report_outcomes.specs.Names.{names_together, AreAsked, IsUnknownIn}
-use Rattle.report_outcomes.specs.Outcomes.{outcomes_text}
-use Rattle.report_outcomes.specs.declared.ends.Scope.{Scope}
-use Rattle.report_outcomes.specs.declared.ends.Scope.TheVariants.{All as Every_order, Reduced, Drawn}
+use Rattle.report_runs.specs.Names.{names_together, AreAsked, IsUnknownIn}
+use Rattle.report_runs.specs.Outcomes.{outcomes_text}
+use Rattle.report_runs.specs.declared.ends.Scope.{Scope}
+use Rattle.report_runs.specs.declared.ends.Scope.TheVariants.{All as Every_order, Reduced, Drawn}
 use Rattle.report.specs.History.{unsettled_of}
-use Rattle.expectations.specs.declared.comparison.Comparison.{Comparison}
-use Rattle.expectations.specs.Texts.{Said, meaning_of}
-use Rattle.expectations.specs.Cells.{has_reference, names_of, IsResolved}
-use Rattle.expectations.specs.Breaches.{breach_in, expected_text}
-use Rattle.driver_words.specs.declared.line.Looking.{Looking}
+use Rattle.report_runs.specs.declared.comparison.Comparison.{Comparison}
+use Rattle.report_runs.specs.ExpectationTexts.{Said, meaning_of}
+use Rattle.report_runs.specs.ExpectationCells.{has_reference, names_of, IsResolved}
+use Rattle.report_runs.specs.Breaches.{breach_in, expected_text}
+use Rattle.driver_words.specs.declared.line.OutcomesOptions.{OutcomesOptions}
 use Rattle.driver.specs.declared.status.Status.{Status}
 use Rattle.driver.specs.declared.status.Status.TheVariants.{Done, BadInput, Unsettled, Unexpected}
 use Rattle.driver.specs.Serial.{entries}
 
--- the call that a thread makes next, where so many calls of each thread are done, with the thread and its number there
+-- the next call of a thread where the list has the number of finished calls of each thread, with the thread and the call's
+-- step
 abbrev pub scheduled_next : Typed → List ℕ → ℕ → Option Scheduled
 scheduled_next program done t =
     option_map (λ (call : Invocation). record { thread = t; step = slice_index done t; call = call }) (next_call program done t)
 
--- the calls of an order, where so many calls of each thread are done
+-- the calls of an order after the given number of finished calls of each thread
 abbrev pub scheduled_from : Typed → List ℕ → List ℕ → List Scheduled
 scheduled_from program done [] = []
 scheduled_from program done (t ∷ order) = option_to_list (scheduled_next program done t) ++ scheduled_from program (one_more done t) order
 
+-- the calls of an order from the opening on, each with its thread and its step
 abbrev pub scheduled_in : Typed → List ℕ → List Scheduled
 scheduled_in program order = scheduled_from program (none_done program) order
 
--- the names of cells that are given, if any are
-abbrev pub names_given : Looking → Option (List ℕ)
+-- the given names of cells, if any are given
+abbrev pub names_given : OutcomesOptions → Option (List ℕ)
 names_given looking = option_map (λ names. names.now) looking.cells
 
--- the text of what is expected, if anything is
-abbrev pub text_given : Looking → Option (List ℕ)
+-- the text of what is expected, if something is
+abbrev pub text_given : OutcomesOptions → Option (List ℕ)
 text_given looking = option_map (λ text. text.now) looking.expect
 
--- what is expected of ends: a text, what it means, and the same of the program's cells
+-- what is expected of ends: a text, its meaning, and the comparison over the program's cells
 pub record Expected : Type 0 where
   pub text : List ℕ
   pub said : Said
   pub comparison : Comparison
 
--- this is expected, where this text is given; nothing, where none is
+-- `e` is what the given text expects; nothing is expected where no text is given
 abbrev pub IsExpected : Typed → Option (List ℕ) → Option Expected → Type 0
 IsExpected program None None = Unit {0}
 IsExpected program None (Some e) = ⊥
 IsExpected program (Some text) None = ⊥
 IsExpected program (Some text) (Some e) = (e.text ≡ text) × (meaning_of text ≡ Ok e.said) × IsResolved program e.said e.comparison
 
--- what ends are told apart by: the cells that are given and those of what is expected; all, where neither are given
-pub record IsAsked (looking : Looking) (program : Typed) (expected : Option Expected) (asked : Asked) : Type 0 where
+-- what distinguishes ends: the given cells and those of what is expected; all cells, where neither is given
+pub record IsAsked (looking : OutcomesOptions) (program : Typed) (expected : Option Expected) (asked : Asked) : Type 0 where
   pub cells : AreAsked program (names_together (names_given looking) (option_map (λ (e : Expected). names_of e.said) expected)) asked.cells
   pub answers : asked.answers ≡ looking.answers
 
@@ -67,19 +69,19 @@ abbrev pub breach_of : Option Expected → Asked → List Told → Option Told
 breach_of None asked ends = None
 breach_of (Some e) asked ends = breach_in asked.cells e.comparison ends
 
--- what is told of that
+-- the report on that end
 abbrev pub judged : Typed → Option Expected → Asked → Scope → List Told → List ℕ
 judged program None asked scope ends = []
 judged program (Some e) asked scope ends =
     expected_text program asked.cells e.text scope (breach_in asked.cells e.comparison ends)
 
--- the status where there is such an end, and where there is none
+-- the status where an end is not as expected, and where all are
 abbrev pub ended_by : Option Told → Status
 ended_by None = Done
 ended_by (Some breach) = Unexpected
 
--- out tells the ends of all orders and how many states they come by, and whether they are as expected; err is empty
-pub record TellsAll (looking : Looking) (program : Typed) (status : Status) (out err : List ℕ) : Type 0 where
+-- out reports the ends of all orders, the number of states on them, and whether the ends are as expected; err is empty
+pub record TellsAll (looking : OutcomesOptions) (program : Typed) (status : Status) (out err : List ℕ) : Type 0 where
   pub expected : Option Expected
   pub is_expected : IsExpected program (text_given looking) expected
   pub asked : Asked
@@ -92,9 +94,9 @@ pub record TellsAll (looking : Looking) (program : Typed) (status : Status) (out
   pub written : out ≡ outcomes_text program asked looking.full (Every_order states) ends ++ judged program expected asked (Every_order states) ends
   pub told : err ≡ []
 
--- there are more orders than are looked at, and some that were looked at stand for all: out tells the ends of all, how many states
--- those come by that were looked at, and whether the ends are as expected; err is empty
-pub record TellsReduced (looking : Looking) (program : Typed) (status : Status) (out err : List ℕ) : Type 0 where
+-- there are more orders than are explored, and the explored ones represent all: out reports the ends of all orders, the
+-- number of explored states, and whether the ends are as expected; err is empty
+pub record TellsReduced (looking : OutcomesOptions) (program : Typed) (status : Status) (out err : List ℕ) : Type 0 where
   pub expected : Option Expected
   pub is_expected : IsExpected program (text_given looking) expected
   pub asked : Asked
@@ -107,9 +109,9 @@ pub record TellsReduced (looking : Looking) (program : Typed) (status : Status) 
   pub written : out ≡ outcomes_text program asked looking.full (Reduced states) ends ++ judged program expected asked (Reduced states) ends
   pub told : err ≡ []
 
--- there are more orders than are looked at: out tells the ends of so many that were drawn, and whether they are as expected; err is
--- empty
-pub record TellsDrawn (looking : Looking) (program : Typed) (status : Status) (out err : List ℕ) : Type 0 where
+-- there are more orders than are explored: out reports the ends of the given number of drawn orders, and whether they are as
+-- expected; err is empty
+pub record TellsDrawn (looking : OutcomesOptions) (program : Typed) (status : Status) (out err : List ℕ) : Type 0 where
   pub expected : Option Expected
   pub is_expected : IsExpected program (text_given looking) expected
   pub asked : Asked
@@ -132,13 +134,13 @@ no_number name = codes "autolock: " ++ name ++ codes " holds no number"
 abbrev pub no_comparison : List ℕ → ℕ → List ℕ
 no_comparison text byte = codes "autolock: --expect: " ++ text ++ codes " is no comparison, at byte " ++ decimal byte
 
--- the names that an expectation has, where one is given
+-- the names in what is expected, if something is
 abbrev pub AreExpectedNames : Option (List ℕ) → Option (List (List ℕ)) → Type 0
 AreExpectedNames None names = names ≡ None
 AreExpectedNames (Some text) names = (said : Said) × (meaning_of text ≡ Ok said) × (names ≡ Some (names_of said))
 
--- no cell is of one of the names that are given or expected: nothing is written, and the name is told
-pub record NamesNoCell (looking : Looking) (program : Typed) (status : Status) (out err : List ℕ) : Type 0 where
+-- one of the given or expected names does not have a cell: nothing is written, and the name is reported
+pub record NamesNoCell (looking : OutcomesOptions) (program : Typed) (status : Status) (out err : List ℕ) : Type 0 where
   pub names : Option (List (List ℕ))
   pub expected : AreExpectedNames (text_given looking) names
   pub name : List ℕ
@@ -147,8 +149,8 @@ pub record NamesNoCell (looking : Looking) (program : Typed) (status : Status) (
   pub written : out ≡ []
   pub told : err ≡ line (unknown_cell name)
 
--- a cell of a name that is expected holds a reference: nothing is written, and the name is told
-pub record NamesNoNumber (looking : Looking) (program : Typed) (status : Status) (out err : List ℕ) : Type 0 where
+-- a cell of an expected name holds a reference: nothing is written, and the name is reported
+pub record NamesNoNumber (looking : OutcomesOptions) (program : Typed) (status : Status) (out err : List ℕ) : Type 0 where
   pub names : List (List ℕ)
   pub expected : AreExpectedNames (text_given looking) (Some names)
   pub name : List ℕ
@@ -158,8 +160,9 @@ pub record NamesNoNumber (looking : Looking) (program : Typed) (status : Status)
   pub written : out ≡ []
   pub told : err ≡ line (no_number name)
 
--- the text of what is expected means nothing: nothing is written, and it is told up to which byte it can be read
-pub record ExpectsNothing (looking : Looking) (status : Status) (out err : List ℕ) : Type 0 where
+-- the text of what is expected does not have a meaning: nothing is written, and the byte up to which it can be read is
+-- reported
+pub record ExpectsNothing (looking : OutcomesOptions) (status : Status) (out err : List ℕ) : Type 0 where
   pub text : List ℕ
   pub given : text_given looking ≡ Some text
   pub byte : ℕ
@@ -168,8 +171,8 @@ pub record ExpectsNothing (looking : Looking) (status : Status) (out err : List 
   pub written : out ≡ []
   pub told : err ≡ line (no_comparison text byte)
 
--- after the calls of an order the next one of a thread meets a loop past the turns: out is the text of the serial meaning of
--- those before, and names this one; err is empty
+-- after the calls of an order the next call of a thread meets a loop that goes on after the turns: out is the text of the
+-- serial meaning of the calls before it, and names this call; err is empty
 pub record StopsInOrder (turns : ℕ) (program : Typed) (status : Status) (out err : List ℕ) : Type 0 where
   pub order : List ℕ
   pub thread : ℕ
@@ -179,8 +182,8 @@ pub record StopsInOrder (turns : ℕ) (program : Typed) (status : Status) (out e
       (slice_index (done_after (none_done program) order) thread)
   pub told : err ≡ []
 
--- what `outcomes` answers for a program
-pub data IsLookedAt (looking : Looking) (program : Typed) (status : Status) (out err : List ℕ) : Type 0 where
+-- the answers of `outcomes` for a program
+pub data IsLookedAt (looking : OutcomesOptions) (program : Typed) (status : Status) (out err : List ℕ) : Type 0 where
   all_told : TellsAll looking program status out err → IsLookedAt looking program status out err
   reduced_told : TellsReduced looking program status out err → IsLookedAt looking program status out err
   drawn_told : TellsDrawn looking program status out err → IsLookedAt looking program status out err

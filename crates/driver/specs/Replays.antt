@@ -1,4 +1,4 @@
--- What `replay` answers.
+-- The answers of `replay`.
 use Rattle.std.specs.Prelude.{◌≡◌, ℕ, ◌-◌, Bool, List, [], ◌++◌, slice_get, codes, string_bytes, Option, Some, None}
 use Rattle.std.specs.Prelude.{Ok, Err, if◌then◌else◌}
 use Rattle.std.specs.Fmt.{decimal}
@@ -7,11 +7,11 @@ use Rattle.std.specs.Option.{option_map_or}
 use Rattle.std.specs.Str.Lossy.{utf8_lossy}
 use Rattle.code.specs.Listing.{line}
 use Rattle.lowering.specs.Plans.{Plan}
-use Rattle.source_histories.specs.declared.format.Format.{Format}
-use Rattle.source_histories.specs.declared.format.Format.TheVariants.{One, Two}
-use Rattle.source_histories.specs.declared.refusal.HistoryFault.{HistoryFault}
-use Rattle.source_histories.specs.Histories.{history_in}
-use Rattle.source_histories.specs.Refusals.{history_fault_text}
+use Rattle.input_files.specs.declared.format.Format.{Format}
+use Rattle.input_files.specs.declared.format.Format.TheVariants.{One, Two}
+use Rattle.input_files.specs.declared.history_refusal.HistoryFault.{HistoryFault}
+use Rattle.input_files.specs.Histories.{history_in}
+use Rattle.input_files.specs.Refusals.{history_fault_text}
 use Rattle.replay.specs.declared.callers.Callers.{Callers}
 use Rattle.replay.specs.declared.callers.Callers.TheVariants.{Scripts, Anyone}
 use Rattle.replay.specs.declared.verdict.Verdict.{Verdict}
@@ -22,30 +22,31 @@ use Rattle.replay.specs.declared.wanted.Wanted.{Wanted}
 use Rattle.replay.specs.declared.wanted.Wanted.TheVariants as wanted
 use Rattle.replay.specs.Verdicts.{Holds}
 use Rattle.replay.specs.Wanted.{Explains}
-use Rattle.driver_words.specs.declared.line.Judging.{Judging}
+use Rattle.driver_words.specs.declared.line.ReplayOptions.{ReplayOptions}
 use Rattle.driver.specs.declared.status.Status.{Status}
 use Rattle.driver.specs.declared.status.Status.TheVariants.{Done, Differs, BadInput, Unsettled}
 
--- who calls: the scripts, or, with --open, anyone
+-- the callers: the scripts, or, with --open, anyone
 abbrev pub callers_of : Bool → Callers
 callers_of anyone = if anyone then Anyone else Scripts
 
--- what is written of a verdict
+-- the text of a verdict
 abbrev pub verdict_text : Verdict → List ℕ
 verdict_text verdict.Same = codes "same"
 verdict_text (verdict.Differs number) = codes "differs at line " ++ decimal number
 verdict_text (verdict.Unsettled number) = codes "unsettled at line " ++ decimal number
 
+-- the exit status of a verdict
 abbrev pub verdict_status : Verdict → Status
 verdict_status verdict.Same = Done
 verdict_status (verdict.Differs number) = Differs
 verdict_status (verdict.Unsettled number) = Unsettled
 
--- a call that may come, of which this is the line up to its end
+-- the line of a call that may come, given up to its end
 abbrev pub call_wanted : List ℕ → List ℕ
 call_wanted head = line (codes "wanted: " ++ head ++ codes "..")
 
--- words that say what may come
+-- the line of words that say what may come
 abbrev pub wanted_line : List ℕ → List ℕ
 wanted_line words = line (codes "wanted: " ++ words)
 
@@ -54,11 +55,11 @@ abbrev pub form_text : Format → List ℕ
 form_text One = codes "call T K NAME(ARGUMENTS) .."
 form_text Two = codes "call T K B NAME(ARGUMENTS) .."
 
--- from where to where a begin may be
+-- the range of the begins that a call may have
 abbrev pub begins_text : ℕ → ℕ → List ℕ
 begins_text least most = (codes "wanted: B from " ++ decimal least) ++ line (codes " to " ++ decimal most)
 
--- what a line lacks to be a call's, where anyone may call
+-- what a line lacks to be the line of a call, where anyone may call
 abbrev pub lack_text : Lack → List ℕ
 lack_text (lack.Form format) = wanted_line (form_text format) ++ wanted_line (codes "cells")
 lack_text lack.Thread = wanted_line (codes "T from 0 to 4294967295")
@@ -67,15 +68,15 @@ lack_text (lack.Begin least most) = begins_text least most
 lack_text lack.Section = wanted_line (codes "a section of the program")
 lack_text lack.Arguments = wanted_line (codes "arguments that fit the section")
 
--- what may come at a line: the line, or for each call that may come the line up to its end, or what the line lacks
+-- what may come at a line: that line, the line of each call that may come up to its end, or what the line lacks
 abbrev pub wanted_text : Wanted → List ℕ
 wanted_text (wanted.Line text) = wanted_line (string_bytes text)
 wanted_text (wanted.Calls heads) = flat_map (λ head. call_wanted (string_bytes head)) heads.items
 wanted_text (wanted.Open missing) = lack_text missing
 wanted_text wanted.Nothing = wanted_line (codes "no line")
 
--- what stands at the line with this number of a file, of which these are the lines after the first; in place of bytes that
--- are no text the sign for such
+-- the line of a file with the given number, where `lines` are the lines after the first; bytes that are not UTF-8 are
+-- replaced
 abbrev pub found_text : List (List ℕ) → ℕ → List ℕ
 found_text lines number = line (codes "found: " ++ option_map_or utf8_lossy (slice_get lines (number - 2)) (codes "no line"))
 
@@ -86,12 +87,12 @@ why_text (verdict.Differs number) None lines = []
 why_text verdict.Same wanted lines = []
 why_text (verdict.Unsettled number) wanted lines = []
 
--- what is written of a verdict on these lines, and of why, where that is asked for
+-- the text of a verdict on these lines, and the reason where it is asked for
 abbrev pub judgement_text : Bool → Verdict → Option Wanted → List (List ℕ) → List ℕ
 judgement_text why verdict wanted lines = line (verdict_text verdict) ++ (if why then why_text verdict wanted lines else [])
 
--- the text is a history: out is the verdict that holds of it, and why, where that is asked for; err is empty
-pub record IsJudged (judging : Judging) (text : List ℕ) (plan : Plan) (status : Status) (out err : List ℕ) : Type 0 where
+-- the text is a history: out is the verdict that holds of it, and the reason where it is asked for; err is empty
+pub record IsJudged (judging : ReplayOptions) (text : List ℕ) (plan : Plan) (status : Status) (out err : List ℕ) : Type 0 where
   pub format : Format
   pub lines : List (List ℕ)
   pub said : history_in text ≡ Ok (format, lines)
@@ -103,7 +104,7 @@ pub record IsJudged (judging : Judging) (text : List ℕ) (plan : Plan) (status 
   pub written : out ≡ judgement_text judging.why verdict wanted lines
   pub told : err ≡ []
 
--- the text is none: out is empty, err is the line of its first fault
+-- the text is not a history: out is empty, err is the line of its first fault
 pub record HasBadHistory (history_file text : List ℕ) (status : Status) (out err : List ℕ) : Type 0 where
   pub fault : HistoryFault
   pub said : history_in text ≡ Err fault
@@ -111,8 +112,8 @@ pub record HasBadHistory (history_file text : List ℕ) (status : Status) (out e
   pub written : out ≡ []
   pub told : err ≡ line (history_fault_text history_file fault)
 
--- what `replay` answers for a program and a history file's text
-pub data IsReplayed (judging : Judging) (history_file text : List ℕ) (plan : Plan) (status : Status) (out err : List ℕ) : Type 0 where
+-- the answers of `replay` for a program and a history file's text
+pub data IsReplayed (judging : ReplayOptions) (history_file text : List ℕ) (plan : Plan) (status : Status) (out err : List ℕ) : Type 0 where
   judged : IsJudged judging text plan status out err → IsReplayed judging history_file text plan status out err
   bad_history : HasBadHistory history_file text status out err →
       IsReplayed judging history_file text plan status out err

@@ -1,4 +1,4 @@
--- What each request is answered.
+-- The answer to each request.
 use Rattle.std.specs.Prelude.{ℕ, List, not}
 use Rattle.driver_words.specs.declared.line.Alone.{Alone}
 use Rattle.driver_words.specs.declared.line.Alone.TheVariants as alone
@@ -23,7 +23,7 @@ use Rattle.driver.specs.Simulations.{IsSimulated}
 use Rattle.driver.specs.ThreadRuns.{IsThreadsRun}
 use Rattle.driver.specs.Traces.{IsTraceAnswer}
 
--- what is told of an accepted program with this text
+-- the answer to a report on an accepted program with this text
 abbrev pub IsReport : Report → List ℕ → Plan → Status → List ℕ → List ℕ → Type 0
 IsReport (Check source) text plan = IsCheckReport source text plan
 IsReport (Listing places) text plan = IsListed places text plan
@@ -32,13 +32,13 @@ IsReport (Outcomes looking) text plan = IsLookedAt looking plan.accepted
 IsReport (Schedule scheduling) text plan = IsScheduled scheduling plan
 IsReport (Emit emission) text plan = IsEmitted emission text plan
 
--- and beside another file, of this name and text
+-- the answer to a request that reads another file too, which has this name and text
 abbrev pub IsReportBeside : Beside → List ℕ → List ℕ → List ℕ → Plan → Status → List ℕ → List ℕ → Type 0
 IsReportBeside Simulate text other_file other = IsSimulated other_file other
 IsReportBeside (Trace sections all) text other_file other = IsTraceAnswer (not sections) all other_file text other
 IsReportBeside (Replay judging) text other_file other = IsReplayed judging other_file other
 
--- what is answered for the text of a program's file, of this name
+-- the answer to a request for a program's file with this name and text
 abbrev pub AloneAnswers : Alone → List ℕ → List ℕ → Status → List ℕ → List ℕ → Type 0
 AloneAnswers (alone.Report report) file text = TextAnswers (IsReport report text) file text
 AloneAnswers alone.Order file text = OrderAnswers file text
@@ -46,6 +46,6 @@ AloneAnswers (alone.Explain json color) file text = ExplainAnswers json color fi
 AloneAnswers alone.Format file text = FormatAnswers file text
 AloneAnswers (alone.Run running) file text = TextAnswers (IsThreadsRun running.times) file text
 
--- and for the texts of that and of another file, of these names
+-- the answer to a request for a program's file and another file with these names and texts
 abbrev pub BesideAnswers : Beside → List ℕ → List ℕ → List ℕ → List ℕ → Status → List ℕ → List ℕ → Type 0
 BesideAnswers request file other_file text other = TextAnswers (IsReportBeside request text other_file other) file text

@@ -1,20 +1,20 @@
--- What `serial` answers.
+-- The answers of `serial`.
 use Rattle.std.specs.Prelude.{◌≡◌, ℕ, Bool, if◌then◌else◌, List, [], ◌∷◌, ◌++◌, map}
 use Rattle.core_lang.specs.declared.typed.Typed.{Typed}
 use Rattle.core_lang.specs.declared.value.Value.{Value}
 use Rattle.core_lang.specs.Serial.{Scheduled, Invocation, Ended, all_calls, run_call, serial_run, SerialFromOpening}
 use Rattle.core_lang.specs.Whole.{Beyond_turns}
-use Rattle.source_histories.specs.declared.format.Format.TheVariants.{One}
+use Rattle.input_files.specs.declared.format.Format.TheVariants.{One}
 use Rattle.report.specs.Entry.{Entry}
 use Rattle.report.specs.History.{changed_history_of, history_of, unsettled_of}
 use Rattle.driver.specs.declared.status.Status.{Status}
 use Rattle.driver.specs.declared.status.Status.TheVariants.{Done, Unsettled}
 
--- what is called
+-- the invocations of calls
 abbrev pub calls_of : List Scheduled → List Invocation
 calls_of ss = map (λ (s : Scheduled). s.call) ss
 
--- a call of a script and how it ended, as an entry of a text that doesn't tell when calls began
+-- a call of a script and how it ended, as an entry of a text without begins
 abbrev pub entry : Scheduled → Ended → Entry
 entry s e = record {
   thread = s.thread;
@@ -32,12 +32,12 @@ entries [] es = []
 entries (s ∷ ss) [] = []
 entries (s ∷ ss) (e ∷ es) = entry s e ∷ entries ss es
 
--- the history text of calls, with all cells or with those that changed
+-- the history text of calls, with all cells, or with the changed ones where `changed` is true
 abbrev pub serial_text : Bool → Typed → List Entry → List Value → List ℕ
 serial_text changed program entries values =
     if changed then changed_history_of program entries values else history_of One program entries values
 
--- the turns settle all calls: out is the history text of their serial meaning, err is empty
+-- the turns settle all calls: out is the history text of their serial meaning; err is empty
 pub record IsHistory (turns : ℕ) (changed : Bool) (program : Typed) (status : Status) (out err : List ℕ) : Type 0 where
   pub settled : (serial_run program turns).unsettled ≡ []
   pub serial : SerialFromOpening program (calls_of (all_calls program)) (serial_run program turns).ends (serial_run program turns).heap
@@ -45,8 +45,8 @@ pub record IsHistory (turns : ℕ) (changed : Bool) (program : Typed) (status : 
   pub written : out ≡ serial_text changed program (entries (all_calls program) (serial_run program turns).ends) (serial_run program turns).heap
   pub told : err ≡ []
 
--- the turns settle the calls before this one, and this one meets a loop past them: out is the text of the serial meaning of
--- those before, and names this one; err is empty
+-- the turns settle the calls before `this`, and `this` meets a loop that goes on after them: out is the text of the serial
+-- meaning of the calls before it, and names this call; err is empty
 pub record StopsAtCall (turns : ℕ) (program : Typed) (status : Status) (out err : List ℕ) : Type 0 where
   pub before : List Scheduled
   pub this : Scheduled
@@ -59,7 +59,7 @@ pub record StopsAtCall (turns : ℕ) (program : Typed) (status : Status) (out er
   pub written : out ≡ unsettled_of program (entries before (serial_run program turns).ends) this.thread this.step
   pub told : err ≡ []
 
--- what `serial` answers for a program
+-- the answers of `serial` for a program
 pub data IsRun (turns : ℕ) (changed : Bool) (program : Typed) (status : Status) (out err : List ℕ) : Type 0 where
   all_settled : IsHistory turns changed program status out err → IsRun turns changed program status out err
   stopped : StopsAtCall turns program status out err → IsRun turns changed program status out err

@@ -4,7 +4,7 @@ use Rattle.driver.specs.declared.status.Status.{Status}
 use Rattle.driver.specs.declared.status.Status.TheVariants.{Done, Refused, BadWords, Failed, OutOfMemory, Differs}
 use Rattle.driver.specs.declared.status.Status.TheVariants.{BadInput, Unsettled, Strange, Unexpected}
 
--- with which a process ends
+-- the number of a status, with which a process or a call from C ends
 abbrev pub exit_status : Status → ℕ
 exit_status Done = 0
 exit_status Refused = 1

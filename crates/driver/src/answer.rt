@@ -1,4 +1,4 @@
-//! What an engine answers, as a function of the bytes that it read.
+//! The answers of the engines, as a function of the bytes that it read.
 
 ghost use Rattle.std.specs.Prelude.{◌≡◌, [], IfOk, length, map, string_bytes, vec_len};
 ghost use Rattle.code.specs.Listing.{line};
@@ -31,36 +31,36 @@ use compiler::compile;
 use core_lang::laws;
 use core_lang::typed::Typed;
 use core_lang::value::Value;
-use driver_words::{Beside, Emission, Report, Running};
+use driver_words::{Beside, Emission, Report, RunOptions};
+use input_files::Format;
 use lowering::compiled::Program;
 use lowering::{listing, listing_with_places};
 use meaning_registers::prepared::Prepared;
 use report::{Record, changed_text, history_text, unsettled_text};
 use report_check::Check;
-use report_trace::Trace;
+use report_runs::Trace;
 use rope::Rope;
 use source::fault::Refusal;
 use source::keyed::KeyedState;
 use source::line::fault_line;
 use source::memory::NoMemory;
-use source_histories::Format;
 use std::alloc::Global;
 use std::sync::Wait;
 use std::thread::Threads;
 
-/// The status, and what goes to the two outputs.
+/// The status of a command, and what it writes to the two outputs.
 #[derive(Drop)]
 pub struct Answer {
     /// How the command ended.
     pub status: Status,
-    /// What goes to standard output.
+    /// The text for standard output.
     pub out: Rope,
-    /// What goes to standard error.
+    /// The message for standard error.
     pub err: String,
 }
 
 impl Answer {
-    /// What a command that ended like this writes: this text, and no message.
+    /// The answer that ends with `status` and writes `out`, without a message.
     pub fn written(alloc: Global, status: Status, out: Rope) -> Answer
         ensures ended { result.status ≡ status }
         ensures written { rope_text result.out ≡ rope_text out }
@@ -73,7 +73,7 @@ impl Answer {
         }
     }
 
-    /// What was asked for: this text.
+    /// The answer `Done` that writes `out`, without a message.
     pub fn done(alloc: Global, out: Rope) -> Answer
         ensures ended { result.status ≡ Status.Done }
         ensures written { rope_text result.out ≡ rope_text out }
@@ -82,7 +82,7 @@ impl Answer {
         Answer::written(alloc, Status::Done, out)
     }
 
-    /// Why nothing is written: this message, which gets a line feed.
+    /// The answer that ends with `status` and writes only `message`, followed by a line feed.
     pub fn refused(alloc: Global, status: Status, mut message: String) -> Result<Answer, NoMemory>
         ensures { IfOk result (IsMessage status (line (string_bytes message))) }
     {
@@ -104,7 +104,7 @@ pub struct Named<'a> {
     pub text: &'a [u8],
 }
 
-/// The program of a text, or the answer to its fault.
+/// The compiled program of `source`, or the answer that reports its fault.
 fn accepted(alloc: Global, source: &Named<'_>) -> Result<Result<Program, Answer>, NoMemory>
     ensures { IfOk result (IsAccepted source.now.file.now source.now.text.now) }
 {
@@ -118,7 +118,7 @@ fn accepted(alloc: Global, source: &Named<'_>) -> Result<Result<Program, Answer>
     }
 }
 
-/// The text of what is found of a program with this text, told with the lines of its source or without.
+/// The answer to `check`: the ranks and lists of `program`, with the lines of its source where `source` is true.
 fn checked(alloc: Global, source: bool, text: &[u8], program: &Program) -> Result<Answer, NoMemory>
     ensures { IfOk result (Meets (IsCheckReport source text.now program.now)) }
 {
@@ -136,7 +136,7 @@ fn checked(alloc: Global, source: bool, text: &[u8], program: &Program) -> Resul
     Ok(Answer::done(alloc, check.text(alloc)?))
 }
 
-/// The listing of a program with this text, with places or without.
+/// The answer to `listing`: the instructions of `program`, with the places of its statements where `places` is true.
 fn listed(alloc: Global, places: bool, text: &[u8], program: &Program) -> Result<Answer, NoMemory>
     ensures { IfOk result (Meets (IsListed places text.now program.now)) }
 {
@@ -146,7 +146,7 @@ fn listed(alloc: Global, places: bool, text: &[u8], program: &Program) -> Result
     Ok(Answer::done(alloc, listing(alloc, program)?))
 }
 
-/// The file of the program's text, if its lines are told.
+/// The name and text of the program's file, where `emission` asks for its lines.
 fn source_in<'a>(emission: Emission<'a>, text: &'a [u8]) -> Option<SourceFile<'a>>
     ensures { source_of result ≡ emissions.source_in emission.entry text.entry.now }
 {
@@ -159,7 +159,7 @@ fn source_in<'a>(emission: Emission<'a>, text: &'a [u8]) -> Option<SourceFile<'a
     })
 }
 
-/// The C text of a program with this text, or its header.
+/// The C text of `program`, or its header.
 fn c_of(
     alloc: Global,
     emission: Emission<'_>,
@@ -174,7 +174,7 @@ fn c_of(
     file(alloc, program, emission.prefix, source_in(emission, text))
 }
 
-/// The answer to `emit`.
+/// The answer to `emit` for `program`.
 fn emitted(
     alloc: Global,
     emission: Emission<'_>,
@@ -189,7 +189,7 @@ fn emitted(
     Ok(Answer::done(alloc, Rope::of(alloc, made)))
 }
 
-/// The history text of calls, with the values of all cells, or of those that changed.
+/// The history text of `calls`, with the values of all cells, or of the changed ones where `changed` is true.
 fn serial_text(
     alloc: Global,
     changed: bool,
@@ -206,7 +206,8 @@ fn serial_text(
     history_text(alloc, Format::One, program, calls, values)
 }
 
-/// The text of a program's run, with the values of all cells, or of those that changed.
+/// The answer to `serial`: the text of the run of `program`, with the values of all cells, or of the changed ones where
+/// `changed` is true.
 fn ran(
     alloc: Global,
     program: &Typed,
@@ -233,7 +234,7 @@ fn ran(
     }
 }
 
-/// What is told of a program with this text.
+/// The answer to `report` for `program`, which is compiled from `text`.
 fn reported(
     alloc: Global,
     report: Report<'_>,
@@ -262,7 +263,7 @@ fn reported(
     }
 }
 
-/// What is answered for a text of which that is to be told.
+/// The answer to `report` for the program of `source`, or the answer that reports the fault of `source`.
 pub fn report_answer(
     alloc: Global,
     report: Report<'_>,
@@ -276,7 +277,8 @@ pub fn report_answer(
     }
 }
 
-/// What is answered for a text of which that is to be told beside another file.
+/// The answer to `request` for the program of `source` and the file `other`, or the answer that reports the fault of
+/// `source`.
 pub fn beside_answer(
     alloc: Global,
     request: Beside,
@@ -304,11 +306,12 @@ pub fn beside_answer(
     }
 }
 
-/// What is answered for a text where each script of its program runs in a thread of its own.
+/// Runs each script of the program of `source` in a thread of its own, and returns the answer to `run`; or the answer that
+/// reports the fault of `source`.
 pub fn threads_answer<R: Threads + Wait + Sync>(
     rt: &R,
     alloc: Global,
-    running: Running,
+    running: RunOptions,
     source: &Named<'_>,
 ) -> Result<Answer, NoMemory>
     ensures { IfOk result (Meets (TextAnswers (IsThreadsRun running.times) source.now.file.now source.now.text.now)) }

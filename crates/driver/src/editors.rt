@@ -7,11 +7,11 @@ ghost use Rattle.driver.specs.Streams.{Tells};
 use crate::status::Status;
 use crate::streams::Streams;
 use language_server::serve;
-use lsp_loop::End;
+use lsp_protocol::End;
 use std::alloc::Global;
 use std::io::{BufRead, Write};
 
-/// The status by which the serving of an editor ended.
+/// The status with which `lsp` ends where the serving of an editor ended with `end`.
 fn status_of(end: End) -> Status
     ensures { result ≡ status_for end }
 {
@@ -23,7 +23,7 @@ fn status_of(end: End) -> Status
     }
 }
 
-/// Tells how the serving of an editor ended, where it failed.
+/// Reports on `err` how the serving of an editor ended, where `end` is a failure.
 fn tell_end<O: Write, E: Write>(end: End, streams: &mut Streams<O, E>)
     ensures out { streams.new.out ≡ streams.old.out }
     ensures told { Tells E.contents streams.old.err streams.new.err (message_for end) }
@@ -36,13 +36,14 @@ fn tell_end<O: Write, E: Write>(end: End, streams: &mut Streams<O, E>)
     }
 }
 
-/// Serves an editor by the language server protocol: reads its messages from `reader`, and writes the answers to `writer`, each
-/// before the next message is read. Of `streams` the errors alone are used. Answers how that ended:
+/// Serves an editor by the language server protocol: reads its messages from `reader`, and writes the answers to each
+/// message to `writer` before it reads the next one. Only `err` of `streams` is used. Returns how that ended:
 ///
-/// - `Done`: the editor asked for the end, and had asked to shut down before.
-/// - `Refused`: it asked for the end without; or what is left to read begins with no frame, where the input ended among others.
-/// - `Failed`: reading or writing failed, which is told on `err`.
-/// - `OutOfMemory`: a growth was refused, also for the answer that says so; that is told on `err`.
+/// - `Done`: the editor asked to exit, after it had asked to shut down.
+/// - `Refused`: the editor asked to exit without having asked to shut down; or the rest of the input does not begin with a
+///   frame, for example because the input ended.
+/// - `Failed`: reading or writing failed, which is reported on `err`.
+/// - `OutOfMemory`: a growth was refused, also for the answer that says so; that is reported on `err`.
 pub fn lsp<R: BufRead, W: Write, O: Write, E: Write>(
     alloc: Global,
     reader: &mut R,

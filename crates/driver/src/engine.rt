@@ -13,33 +13,37 @@ use crate::ordering::order_graph;
 use crate::source_text::SourceText;
 use crate::status::Status;
 use crate::streams::Streams;
-use driver_words::{Alone, Beside, Judging, Report, Running};
+use driver_words::{Alone, Beside, ReplayOptions, Report, RunOptions};
+use source::limits;
 use std::alloc::Global;
 use std::io::{Read, Write};
 use std::sync::Wait;
 use std::thread::Threads;
 
-/// How many bytes a program's text may have.
-pub(crate) const MOST_BYTES: u64 = 1_048_576;
+/// The limit on a program's text, in bytes.
+pub(crate) const SOURCE_LIMIT: u64 = limits::SOURCE_LIMIT as u64;
 
-/// More bytes than there are in any file.
+/// A number of bytes that no file exceeds.
 const ALL_BYTES: u64 = u64::MAX - 1;
 
-/// Answers a request that reads the program's file alone, which `source` gives, with threads from `threads`. Its text is
-/// written to `out`, its message to `err`. The status says how that ended:
+/// Answers a request that reads only the program's file, which is `source`. Threads come from `threads`. The text of the
+/// answer is written to `out`, its message to `err`. Returns how that ended:
 ///
 /// - `Done`: what was asked for was written to `out`.
-/// - `Refused`: the program has a fault, which is told on `err`, or, where it is to be explained, on `out`. Where its locks have
-///   no order, the graph of their classes is written all the same.
-/// - `Unsettled`: a call meets a loop past the turns that were given. The text is that of the calls before it, and a line
-///   that names it.
-/// - `Strange`: a thread found another history than it had left, which is told on `err`.
-/// - `Failed`: reading or writing failed, which is told on `err`.
-/// - `OutOfMemory`: a growth was refused, which is told on `err`; nothing was written to `out`. Threads that can't be started
-///   count as that.
+/// - `Refused`: the program has a fault, which is reported on `err`, or on `out` where it is to be explained. Where the
+///   locks have no order, the graph of their classes is written to `out` too.
+/// - `Unsettled`: a call meets a loop that goes on after the given number of turns. The text is that of the calls before
+///   this call, and a line that names it.
+/// - `Strange`: a thread found another history than it had left, which is reported on `err`.
+/// - `Failed`: exactly where a reader or `out` is marked as failed. The first file that was not read is reported on `err`,
+///   or that writing failed. Where reading failed, nothing was written to `out`. A file that can't be opened counts as one
+///   that can't be read.
+/// - `OutOfMemory`: a growth was refused, which is reported on `err`; nothing was written to `out`. A thread that can't be
+///   started has this status too.
 ///
-/// Whether `err` fails changes no answer. Of a text that is longer than a program may be no more is read than one byte past
-/// that; so it is in all engines. It returns where all calls that run in threads of their own do.
+/// With a status other than `Failed` and `OutOfMemory` the file was read to its end, unless the program is too long. A
+/// failure of `err` does not change the status. Like all engines, it reads at most one byte past the source limit. It
+/// returns if all calls that run in threads of their own return.
 pub fn serve<R: Threads + Wait + Sync, S: Read, O: Write, E: Write>(
     threads: &R,
     alloc: Global,
@@ -61,7 +65,7 @@ pub fn serve<R: Threads + Wait + Sync, S: Read, O: Write, E: Write>(
     }
 }
 
-/// Answers a request for what is told of the program that `source` gives, as [`serve`] does, and needs no threads.
+/// Answers `report` for the program of `source`, as [`serve`] does, without threads.
 pub fn serve_report<S: Read, O: Write, E: Write>(
     alloc: Global,
     report: Report<'_>,
@@ -73,7 +77,7 @@ pub fn serve_report<S: Read, O: Write, E: Write>(
     ensures { Serves (OfOne (AloneAnswers (Alone.Report report.entry) (name_of source.old))) (reading_of S.remaining source.old source.new) []
         O.contents E.contents streams.old streams.new result }
 {
-    let text = match streams.read(alloc, source, MOST_BYTES) {
+    let text = match streams.read(alloc, source, SOURCE_LIMIT) {
         Ok(text) => text,
         Err(status) => return status,
     };
@@ -85,11 +89,11 @@ pub fn serve_report<S: Read, O: Write, E: Write>(
     streams.give(&answer)
 }
 
-/// Answers a request for what is told of the program that `source` gives and of the file that `other` gives, both of which are
-/// read before either is judged. Ends as [`serve`] does, with besides:
+/// Answers a request that reads the program's file `source` and a second file `other`, both of which are read before either
+/// is judged. Ends as [`serve`] does, or with one of two more statuses:
 ///
-/// - `BadInput`: the other file has a fault, which is told on `err`.
-/// - `Differs`: a line of a history is another than may come there.
+/// - `BadInput`: `other` has a fault, which is reported on `err`.
+/// - `Differs`: a line of a history is not one that may come there.
 pub fn serve_beside<S: Read, T: Read, O: Write, E: Write>(
     alloc: Global,
     request: Beside,
@@ -104,7 +108,7 @@ pub fn serve_beside<S: Read, T: Read, O: Write, E: Write>(
         (reading_of S.remaining source.old source.new) (reading_of T.remaining other.old other.new ∷ [])
         O.contents E.contents streams.old streams.new result }
 {
-    let text = match streams.read(alloc, source, MOST_BYTES) {
+    let text = match streams.read(alloc, source, SOURCE_LIMIT) {
         Ok(text) => text,
         Err(status) => return status,
     };
@@ -124,8 +128,8 @@ pub fn serve_beside<S: Read, T: Read, O: Write, E: Write>(
     streams.give(&answer)
 }
 
-/// Says of the program that `source` gives in which order it takes its locks, and which ones before each statement. Ends as
-/// [`serve`] does.
+/// Writes the order in which the program of `source` acquires its locks, and the locks that it acquires before each
+/// statement. Ends as [`serve`] does.
 pub fn check<S: Read, O: Write, E: Write>(
     alloc: Global,
     source: &mut SourceText<'_, S>,
@@ -140,7 +144,7 @@ pub fn check<S: Read, O: Write, E: Write>(
     serve_report(alloc, Report::Check { source: false }, source, streams)
 }
 
-/// Writes the instructions of each section of the program that `source` gives. Ends as [`serve`] does.
+/// Writes the instructions of each section of the program of `source`. Ends as [`serve`] does.
 pub fn listing<S: Read, O: Write, E: Write>(
     alloc: Global,
     source: &mut SourceText<'_, S>,
@@ -154,8 +158,9 @@ pub fn listing<S: Read, O: Write, E: Write>(
     serve_report(alloc, Report::Listing { places: false }, source, streams)
 }
 
-/// Runs all calls of the program that `source` gives one after another, thread 0's whole script first, then thread 1's, and
-/// so on; each execution of a loop makes at most `turns` turns. Writes the history text. Ends as [`serve`] does.
+/// Runs all calls of the program of `source` one after another, thread 0's whole script first, then thread 1's, and so
+/// on. Each execution of a loop makes at most `turns` turns. Writes the history text; where the turns don't settle a
+/// call, it has the calls before that one. Ends as [`serve`] does.
 pub fn serial<S: Read, O: Write, E: Write>(
     alloc: Global,
     turns: u64,
@@ -174,8 +179,8 @@ pub fn serial<S: Read, O: Write, E: Write>(
     serve_report(alloc, report, source, streams)
 }
 
-/// Runs the steps that `steps` gives over the threads of the program that `source` gives, and writes the text of the world
-/// after them. Ends as [`serve_beside`] does.
+/// Runs the steps of the file `steps` over the threads of the program of `source`, and writes the text of the world after
+/// them. Ends as [`serve_beside`] does.
 pub fn simulate<S: Read, T: Read, O: Write, E: Write>(
     alloc: Global,
     source: &mut SourceText<'_, S>,
@@ -192,11 +197,11 @@ pub fn simulate<S: Read, T: Read, O: Write, E: Write>(
     serve_beside(alloc, Beside::Simulate, source, steps, streams)
 }
 
-/// Compares the history that `history` gives with what the calls of the program that `source` gives answer, one after
-/// another, and writes the verdict. Ends as [`serve_beside`] does.
+/// Compares the history in `history` with what the calls of the program of `source` answer, one after another, and writes
+/// the verdict. Ends as [`serve_beside`] does.
 pub fn replay<S: Read, T: Read, O: Write, E: Write>(
     alloc: Global,
-    judging: Judging,
+    judging: ReplayOptions,
     source: &mut SourceText<'_, S>,
     history: &mut SourceText<'_, T>,
     streams: &mut Streams<O, E>,
@@ -211,13 +216,13 @@ pub fn replay<S: Read, T: Read, O: Write, E: Write>(
     serve_beside(alloc, Beside::Replay(judging), source, history, streams)
 }
 
-/// Runs the calls of each thread of the program that `source` gives in a thread of its own. Writes the history text, in the
-/// second format; of so many runs as are asked for, the text that tells how they differ. Ends as [`serve`] does, where all
-/// calls do.
+/// Runs the script of each thread of the program of `source` in a thread of its own. Writes the history text in the
+/// second format, or, where a number of runs is given, the text of how these runs differ. Each history is one that
+/// `run_threads` promises. Ends as [`serve`] does, if all calls return.
 pub fn run<R: Threads + Wait + Sync, S: Read, O: Write, E: Write>(
     rt: &R,
     alloc: Global,
-    running: Running,
+    running: RunOptions,
     source: &mut SourceText<'_, S>,
     streams: &mut Streams<O, E>,
 ) -> Status
@@ -226,7 +231,7 @@ pub fn run<R: Threads + Wait + Sync, S: Read, O: Write, E: Write>(
     ensures { Serves (OfOne (AloneAnswers (Alone.Run running) (name_of source.old))) (reading_of S.remaining source.old source.new) []
         O.contents E.contents streams.old streams.new result }
 {
-    let text = match streams.read(alloc, source, MOST_BYTES) {
+    let text = match streams.read(alloc, source, SOURCE_LIMIT) {
         Ok(text) => text,
         Err(status) => return status,
     };

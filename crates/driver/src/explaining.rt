@@ -10,21 +10,20 @@ ghost use Rattle.driver.specs.Requests.{AloneAnswers};
 ghost use Rattle.driver.specs.Streams.{name_of, reading_failed, writing_failed};
 
 use crate::answer::{Answer, Named};
-use crate::engine::MOST_BYTES;
+use crate::engine::SOURCE_LIMIT;
 use crate::source_text::SourceText;
 use crate::status::Status;
 use crate::streams::Streams;
 use driver_words::{Alone, Color};
-use explanation::{Acceptance, Explanation};
-use explanation_json::{accepted_json, fault_json};
-use explanations::{Told, told_of};
+use explanation::{Acceptance, Explanation, accepted_json, fault_json};
+use explanations::{Diagnosis, told_of};
 use painting::painted;
 use rope::Rope;
 use source::memory::NoMemory;
 use std::alloc::Global;
 use std::io::{Read, Write};
 
-/// A text in colours, where they are wanted. Whether a terminal wants them the program has settled.
+/// `text`, in colours where `color` asks for them. `Auto` has been settled by the program, and leaves the text as it is.
 fn in_color(alloc: Global, color: Color, text: String) -> Result<String, NoMemory>
     ensures { IfOk result (λ out. string_bytes out ≡ in_color color (string_bytes text)) }
 {
@@ -34,7 +33,7 @@ fn in_color(alloc: Global, color: Color, text: String) -> Result<String, NoMemor
     }
 }
 
-/// What explains a fault.
+/// The explanation of a fault, as JSON or as a text.
 fn fault_told(
     alloc: Global,
     json: bool,
@@ -49,7 +48,7 @@ fn fault_told(
     in_color(alloc, color, explanation.text(alloc)?)
 }
 
-/// What tells of a program without a fault.
+/// The report of an accepted program, as JSON or as a text.
 fn acceptance_told(
     alloc: Global,
     json: bool,
@@ -64,7 +63,7 @@ fn acceptance_told(
     in_color(alloc, color, acceptance.text(alloc)?)
 }
 
-/// What is told of a fault.
+/// The answer to `explain` for a program with a fault.
 fn explained(
     alloc: Global,
     json: bool,
@@ -77,7 +76,7 @@ fn explained(
     Ok(Answer::written(alloc, Status::Refused, Rope::of(alloc, out)))
 }
 
-/// What is told of a program without one.
+/// The answer to `explain` for an accepted program.
 fn accepted(
     alloc: Global,
     json: bool,
@@ -90,7 +89,7 @@ fn accepted(
     Ok(Answer::done(alloc, Rope::of(alloc, out)))
 }
 
-/// What is answered for a text.
+/// The answer to `explain` for `source`.
 fn explain_answer(
     alloc: Global,
     json: bool,
@@ -101,7 +100,7 @@ fn explain_answer(
 {
     let Named { file, text } = *source;
     match told_of(alloc, text)? {
-        Told::Faulty {
+        Diagnosis::Faulty {
             fault,
             notes,
             further,
@@ -115,7 +114,7 @@ fn explain_answer(
             };
             explained(alloc, json, color, &explanation)
         }
-        Told::Accepted { notes, warnings } => {
+        Diagnosis::Accepted { notes, warnings } => {
             let acceptance = Acceptance {
                 file,
                 text,
@@ -127,13 +126,14 @@ fn explain_answer(
     }
 }
 
-/// Explains the fault of the program that `source` gives: writes to `out` the line that reports it, the line of the source
-/// that it is in, where a lock order cycle comes from, what can be done about it, and further faults of names and types, in
-/// colours where they are wanted; or, where `json` is true, the same as a JSON object in one line. Answers how that ended, as [`serve`](crate::serve) does, but:
+/// Explains the fault of the program of `source`: writes to `out` the line that reports the fault, its source line, notes on
+/// where a lock order cycle comes from, a suggested fix, and further faults of names and types, in colours where `color`
+/// asks for them. Where `json` is true, the same is written as a JSON object in one line. Returns how that ended, as
+/// [`serve`](crate::serve) does, but:
 ///
-/// - `Refused`: the program has a fault, and that was written to `out`; `err` gets nothing.
-/// - `Done`: the program has none. The line `accepted` was written to `out`, and the order of its lock classes: the class of
-///   each rank, and of each pair of classes of which the first has to come before the second what makes it so; then its warnings.
+/// - `Refused`: the program has a fault, and its explanation was written to `out`; nothing was written to `err`.
+/// - `Done`: the program does not have a fault. Written to `out` were the line `accepted`, the lock class of each rank, the
+///   reason of each pair of classes of which the first has to come before the second, and the warnings.
 pub fn explain<S: Read, O: Write, E: Write>(
     alloc: Global,
     json: bool,
@@ -147,8 +147,8 @@ pub fn explain<S: Read, O: Write, E: Write>(
         O.contents E.contents streams.old streams.new result }
 {
     explanation::laws::shown_by_first_bytes();
-    explanation_json::laws::fault_by_first_bytes();
-    let text = match streams.read(alloc, source, MOST_BYTES) {
+    explanation::json_laws::fault_by_first_bytes();
+    let text = match streams.read(alloc, source, SOURCE_LIMIT) {
         Ok(text) => text,
         Err(status) => return status,
     };

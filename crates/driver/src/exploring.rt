@@ -5,8 +5,8 @@ ghost use Rattle.core_lang.specs.Expansion.{IsExpansion};
 ghost use Rattle.core_lang.specs.WellFormed.{IsChecked};
 ghost use Rattle.outcomes.specs.Ends.{Finds, StopsAfter, told_of};
 ghost use Rattle.code.specs.Listing.{line};
-ghost use Rattle.expectations.specs.Texts.{said_of};
-ghost use Rattle.expectations.specs.Cells.{names_of};
+ghost use Rattle.report_runs.specs.ExpectationTexts.{said_of};
+ghost use Rattle.report_runs.specs.ExpectationCells.{names_of};
 ghost use Rattle.driver.specs.Working.Answering.{Meets, IsMessage, IsToldAnswer, expected_of};
 ghost use Rattle.driver.specs.Outcomes.{IsLookedAt, IsAsked, IsExpected, StopsInOrder, text_given, ended_by, unknown_cell, no_number, no_comparison};
 
@@ -16,20 +16,21 @@ use crate::running::run_calls;
 use crate::status::Status;
 use core_lang::laws;
 use core_lang::typed::Typed;
-use driver_words::Looking;
-use expectations::expectation::{BadExpectation, ExpectationRefusal};
-use expectations::{BadName, Comparison, Expectation, ExpectedEnds, read};
+use driver_words::OutcomesOptions;
 use meaning_registers::prepared::Prepared;
-use outcomes::outcome::{Asked, Found, Outcome};
+use outcomes::outcome::{Asked, FinalState, Found};
 use outcomes::search::Search;
 use report::unsettled_text;
-use report_outcomes::{Ends, Scope, asked_cells};
+use report_runs::expectation::{BadExpectation, ExpectationRefusal};
+use report_runs::{
+    BadName, Comparison, Ends, Expectation, ExpectedEnds, Scope, asked_cells, read_expectation,
+};
 use rope::Rope;
 use source::keyed::KeyedState;
 use source::memory::NoMemory;
 use std::alloc::Global;
 
-/// What is told of a name that no cell has.
+/// The answer that reports that no cell has the name `name`.
 fn unknown_cell(alloc: Global, name: &str) -> Result<Answer, NoMemory>
     ensures { IfOk result (IsMessage Status.BadInput (line (unknown_cell name.now))) }
 {
@@ -38,7 +39,7 @@ fn unknown_cell(alloc: Global, name: &str) -> Result<Answer, NoMemory>
     Answer::refused(alloc, Status::BadInput, message)
 }
 
-/// What is told of a name with a cell that holds a reference.
+/// The answer that reports that a cell named `name` holds a reference.
 fn no_number(alloc: Global, name: &str) -> Result<Answer, NoMemory>
     ensures { IfOk result (IsMessage Status.BadInput (line (no_number name.now))) }
 {
@@ -48,7 +49,7 @@ fn no_number(alloc: Global, name: &str) -> Result<Answer, NoMemory>
     Answer::refused(alloc, Status::BadInput, message)
 }
 
-/// What is told of a text that is no comparison.
+/// The answer that reports that `text` is not a comparison, with the byte up to which it can be read.
 fn no_comparison(alloc: Global, text: &str, bad: BadExpectation) -> Result<Answer, NoMemory>
     ensures { IfOk result (IsMessage Status.BadInput (line (no_comparison text.now bad.start))) }
 {
@@ -60,8 +61,8 @@ fn no_comparison(alloc: Global, text: &str, bad: BadExpectation) -> Result<Answe
     Answer::refused(alloc, Status::BadInput, message)
 }
 
-/// The status where this end is not as expected, or none.
-fn status_of(breach: Option<&Outcome>) -> Status
+/// The status of a search where `breach` is the first end that is not as expected.
+fn status_of(breach: Option<&FinalState>) -> Status
     ensures { result ≡ ended_by (option_map (λ end. told_of end.now) breach.entry) }
 {
     match breach {
@@ -70,33 +71,33 @@ fn status_of(breach: Option<&Outcome>) -> Status
     }
 }
 
-/// What is expected of ends.
+/// The expectation for the ends.
 #[derive(Drop)]
 pub(crate) struct Expected<'t> {
-    /// As it was written.
+    /// The text of the comparison, as it was given.
     pub(crate) text: &'t str,
-    /// What it means.
+    /// The meaning of the text.
     pub(crate) expectation: Expectation<'t>,
-    /// The same of the program's cells.
+    /// The comparison over the program's cells.
     pub(crate) comparison: Comparison,
-    /// The names that it has.
+    /// The names in the text.
     pub(crate) names: Vec<&'t str>,
 }
 
-/// What is looked at: the orders of a program's calls.
+/// The exploration of the orders of a program's calls.
 #[derive(Clone, Copy)]
 pub struct Exploring<'a> {
     /// The program, prepared for its calls.
     pub prepared: &'a Prepared<'a>,
-    /// How its orders are looked at.
-    pub looking: Looking<'a>,
+    /// The options: which orders are run, and what of the ends is reported.
+    pub looking: OutcomesOptions<'a>,
     /// How states are hashed: keyed by the program's text.
     pub hashing: KeyedState,
 }
 
 impl Exploring<'_> {
-    /// Ends, with what is told of them.
-    fn ends_of<'e>(&'e self, asked: &'e Asked, scope: Scope, ends: &'e [Outcome]) -> Ends<'e>
+    /// The report on `ends`, which are those of `scope`.
+    fn ends_of<'e>(&'e self, asked: &'e Asked, scope: Scope, ends: &'e [FinalState]) -> Ends<'e>
         ensures program { result.program.now ≡ self.entry.now.prepared.now.program.now }
         ensures asked { result.asked.now ≡ asked.entry.now }
         ensures full { result.full ≡ self.entry.now.looking.full }
@@ -112,7 +113,7 @@ impl Exploring<'_> {
         }
     }
 
-    /// The text of ends, and whether they are as expected.
+    /// The answer that reports `ends` and, where something is expected, whether they are as expected.
     fn told(
         &self,
         alloc: Global,
@@ -137,7 +138,7 @@ impl Exploring<'_> {
         Ok(Answer::written(alloc, status, Rope::of(alloc, text)))
     }
 
-    /// What is found.
+    /// The ends that the search finds.
     fn found(&self, alloc: Global, asked: &Asked) -> Result<Found, NoMemory>
         requires checked { IsChecked self.now.prepared.now.program.now }
         requires expansion { IsExpansion self.now.prepared.now.program.now self.now.prepared.now.written.now }
@@ -163,7 +164,7 @@ impl Exploring<'_> {
         found
     }
 
-    /// The calls of an order, and the next call of a thread, which the turns don't settle after them.
+    /// The answer that reports the calls of `order`, and the next call of `thread`, which the turns don't settle after them.
     fn stopped(&self, alloc: Global, order: &[usize], thread: usize) -> Result<Answer, NoMemory>
         requires checked { IsChecked self.now.prepared.now.program.now }
         requires expansion { IsExpansion self.now.prepared.now.program.now self.now.prepared.now.written.now }
@@ -183,7 +184,7 @@ impl Exploring<'_> {
         Ok(Answer::written(alloc, Status::Unsettled, Rope::of(alloc, out)))
     }
 
-    /// What is told of what is found, where ends are told apart by this.
+    /// The answer that reports the ends that the search finds, distinguished by `asked`, and whether they are as expected.
     fn looked_at(
         &self,
         alloc: Global,
@@ -219,7 +220,8 @@ impl Exploring<'_> {
         }
     }
 
-    /// How the cells, and if asked the calls, can end, over the orders that are looked at, and whether that is as expected.
+    /// The answer that reports how the cells, and if asked for the calls, can end over the explored orders, and whether that
+    /// is as expected.
     fn explored(&self, alloc: Global, expected: Option<&Expected<'_>>) -> Result<Answer, NoMemory>
         requires checked { IsChecked self.now.prepared.now.program.now }
         requires expansion { IsExpansion self.now.prepared.now.program.now self.now.prepared.now.written.now }
@@ -244,14 +246,14 @@ impl Exploring<'_> {
         self.looked_at(alloc, &asked, expected)
     }
 
-    /// The same where this is expected.
+    /// The answer where the comparison in `text` is expected of the ends.
     fn expecting(&self, alloc: Global, text: &str) -> Result<Answer, NoMemory>
         requires checked { IsChecked self.now.prepared.now.program.now }
         requires expansion { IsExpansion self.now.prepared.now.program.now self.now.prepared.now.written.now }
         requires text { text_given self.now.looking ≡ Some text.now }
         ensures { IfOk result (Meets (IsLookedAt self.now.looking self.now.prepared.now.program.now)) }
     {
-        let expectation = match read(alloc, text) {
+        let expectation = match read_expectation(alloc, text) {
             Ok(expectation) => expectation,
             Err(ExpectationRefusal::Bad(bad)) => return no_comparison(alloc, text, bad),
             Err(ExpectationRefusal::NoMemory) => return Err(NoMemory),
@@ -272,8 +274,8 @@ impl Exploring<'_> {
         }
     }
 
-    /// How the cells, and if asked the calls, can end, over the orders that are looked at, and whether that is as expected, if
-    /// anything is expected.
+    /// The answer to `outcomes`: how the cells, and if asked for the calls, can end over the explored orders, and, where
+    /// something is expected, whether that is as expected.
     pub fn answer(&self, alloc: Global) -> Result<Answer, NoMemory>
         requires checked { IsChecked self.now.prepared.now.program.now }
         requires expansion { IsExpansion self.now.prepared.now.program.now self.now.prepared.now.written.now }

@@ -9,7 +9,7 @@ ghost use Rattle.driver.specs.Streams.{name_of, reading_failed, writing_failed};
 ghost use Rattle.driver.specs.Working.Answering.{Meets};
 
 use crate::answer::{Answer, Named};
-use crate::engine::MOST_BYTES;
+use crate::engine::SOURCE_LIMIT;
 use crate::source_text::SourceText;
 use crate::status::Status;
 use crate::streams::Streams;
@@ -21,7 +21,7 @@ use source::memory::NoMemory;
 use std::alloc::Global;
 use std::io::{Read, Write};
 
-/// What is answered for a text.
+/// The answer to `format` for `source`.
 fn format_answer(alloc: Global, source: &Named<'_>) -> Result<Answer, NoMemory>
     ensures { IfOk result (Meets (FormatAnswers source.now.file.now source.now.text.now)) }
 {
@@ -35,11 +35,11 @@ fn format_answer(alloc: Global, source: &Named<'_>) -> Result<Answer, NoMemory>
     }
 }
 
-/// Writes the text that `source` gives to `out` in its layout: the same tokens and comments, with other gaps between them. Names
-/// and types are not looked at. Answers how that ended, as [`serve`](crate::serve) does:
+/// Writes the text of `source` to `out` in its layout: the same tokens and comments, with other gaps between them. Names and
+/// types are not checked. Returns how that ended, as [`serve`](crate::serve) does:
 ///
 /// - `Done`: the layout was written to `out`.
-/// - `Refused`: the text has a fault of its own, its tokens or its grammar, which is told on `err`.
+/// - `Refused`: the text has a lexical or a syntax fault, which is reported on `err`.
 pub fn format<S: Read, O: Write, E: Write>(
     alloc: Global,
     source: &mut SourceText<'_, S>,
@@ -50,7 +50,7 @@ pub fn format<S: Read, O: Write, E: Write>(
     ensures { Serves (OfOne (AloneAnswers Alone.Format (name_of source.old))) (reading_of S.remaining source.old source.new) []
         O.contents E.contents streams.old streams.new result }
 {
-    let text = match streams.read(alloc, source, MOST_BYTES) {
+    let text = match streams.read(alloc, source, SOURCE_LIMIT) {
         Ok(text) => text,
         Err(status) => return status,
     };

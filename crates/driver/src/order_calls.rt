@@ -11,17 +11,17 @@ use core_lang::typed::Typed;
 use source::memory::NoMemory;
 use std::alloc::Global;
 
-/// The calls of an order.
+/// The calls of an order, and the number of calls of each thread.
 #[derive(Drop)]
 pub struct OrderCalls<'a> {
     /// The calls, one after another.
     pub calls: Vec<ScheduledCall<'a>>,
-    /// How many of each thread's calls are done after them.
+    /// The number of calls of each thread in the order.
     pub done: Vec<usize>,
 }
 
 impl OrderCalls<'_> {
-    /// How many calls of a thread are done.
+    /// The number of calls of `thread` in the order; 0 for an unknown thread.
     pub fn done_of(&self, thread: usize) -> usize
         ensures { result ≡ slice_index self.now.done.items thread }
     {
@@ -29,7 +29,7 @@ impl OrderCalls<'_> {
     }
 }
 
-/// The call that a thread makes next, where so many calls of each thread are done.
+/// The next call of `thread` where `done` is the number of finished calls of each thread, if `thread` has a call left.
 fn next<'a>(program: &'a Typed, done: &[usize], thread: usize) -> Option<ScheduledCall<'a>>
     ensures next { option_map scheduled_of result ≡ scheduled_next program.entry.now done.now thread }
     ensures thread { IfSome result (λ _. thread < length program.entry.now.threads.items) }
@@ -40,7 +40,7 @@ fn next<'a>(program: &'a Typed, done: &[usize], thread: usize) -> Option<Schedul
     Some(ScheduledCall { thread, step, call })
 }
 
-/// The calls of an order each of whose threads has a call left there.
+/// The calls of `order`, each of whose threads has a call left when its turn comes.
 pub fn order_calls<'a>(
     alloc: Global,
     program: &'a Typed,

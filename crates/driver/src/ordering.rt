@@ -14,7 +14,7 @@ ghost use Rattle.driver.specs.Streams.{name_of, reading_failed, writing_failed};
 ghost use Rattle.driver.specs.Working.Answering.{Meets};
 
 use crate::answer::{Answer, Named};
-use crate::engine::MOST_BYTES;
+use crate::engine::SOURCE_LIMIT;
 use crate::source_text::SourceText;
 use crate::status::Status;
 use crate::streams::Streams;
@@ -29,7 +29,7 @@ use source::memory::NoMemory;
 use std::alloc::Global;
 use std::io::{Read, Write};
 
-/// The order of a program's lock classes.
+/// The answer to `order` for an accepted program: the graph of its lock classes.
 fn ordered(alloc: Global, source: &Named<'_>, found: &Ordered) -> Result<Answer, NoMemory>
     requires { IsOrdered source.now.text.now found.now }
     ensures { IfOk result (Meets (OrderAnswers source.now.file.now source.now.text.now)) }
@@ -45,7 +45,7 @@ fn ordered(alloc: Global, source: &Named<'_>, found: &Ordered) -> Result<Answer,
     Ok(Answer::done(alloc, Rope::of(alloc, order.text(alloc)?)))
 }
 
-/// The line of a fault, with a line feed.
+/// The line that reports `fault`, with a line feed.
 fn told_line(alloc: Global, source: &Named<'_>, fault: &Fault) -> Result<String, NoMemory>
     ensures { IfOk result (λ told. string_bytes told ≡ line (fault_text source.now.file.now source.now.text.now fault.now)) }
 {
@@ -54,7 +54,8 @@ fn told_line(alloc: Global, source: &Named<'_>, fault: &Fault) -> Result<String,
     Ok(told)
 }
 
-/// What has to come before what, where there is no order.
+/// The answer to `order` where the lock classes are on a cycle: the graph with the cycle's edges marked, and the fault's
+/// line.
 fn cyclic(alloc: Global, source: &Named<'_>, found: &Cyclic) -> Result<Answer, NoMemory>
     requires { IsCyclic source.now.text.now found.now }
     ensures { IfOk result (Meets (OrderAnswers source.now.file.now source.now.text.now)) }
@@ -75,7 +76,7 @@ fn cyclic(alloc: Global, source: &Named<'_>, found: &Cyclic) -> Result<Answer, N
     })
 }
 
-/// The line of a fault with no detail.
+/// The answer that reports `fault`, which is without a detail.
 fn faulty(alloc: Global, source: &Named<'_>, fault: &Fault) -> Result<Answer, NoMemory>
     requires given { IsOfFirstPass source.now.text.now fault.now }
     requires bare { string_bytes fault.now.detail ≡ [] }
@@ -85,7 +86,7 @@ fn faulty(alloc: Global, source: &Named<'_>, fault: &Fault) -> Result<Answer, No
     Answer::refused(alloc, Status::Refused, line)
 }
 
-/// What is answered for a text.
+/// The answer to `order` for `source`.
 fn order_answer(alloc: Global, source: &Named<'_>) -> Result<Answer, NoMemory>
     ensures { IfOk result (Meets (OrderAnswers source.now.file.now source.now.text.now)) }
 {
@@ -97,8 +98,8 @@ fn order_answer(alloc: Global, source: &Named<'_>) -> Result<Answer, NoMemory>
     }
 }
 
-/// Writes which lock class of the program that `source` gives has to come before which, as a graph. Ends as
-/// [`serve`](crate::serve) does; where the classes are on a cycle, with `Refused`, and the graph has the cycle's edges marked.
+/// Writes which lock class of the program of `source` has to come before which, as a graph. Ends as [`serve`](crate::serve)
+/// does. Where the classes are on a cycle, it ends with `Refused`, and the cycle's edges are marked in the graph.
 pub fn order_graph<S: Read, O: Write, E: Write>(
     alloc: Global,
     source: &mut SourceText<'_, S>,
@@ -109,7 +110,7 @@ pub fn order_graph<S: Read, O: Write, E: Write>(
     ensures { Serves (OfOne (AloneAnswers Alone.Order (name_of source.old))) (reading_of S.remaining source.old source.new) []
         O.contents E.contents streams.old streams.new result }
 {
-    let text = match streams.read(alloc, source, MOST_BYTES) {
+    let text = match streams.read(alloc, source, SOURCE_LIMIT) {
         Ok(text) => text,
         Err(status) => return status,
     };

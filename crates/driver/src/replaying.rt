@@ -1,8 +1,8 @@
-//! What `replay` answers for a program.
+//! The answers of `replay` for a program.
 
 ghost use Rattle.std.specs.Prelude.{◌≡◌, IfOk, string_bytes};
 ghost use Rattle.code.specs.Listing.{line};
-ghost use Rattle.source_histories.specs.Histories.{recorded_lines};
+ghost use Rattle.input_files.specs.Histories.{recorded_lines};
 ghost use Rattle.driver.specs.Working.Answering.{Meets, IsJudgementAnswer};
 ghost use Rattle.driver.specs.Replays.{IsReplayed, callers_of, verdict_status, verdict_text};
 
@@ -10,15 +10,15 @@ use crate::answer::{Answer, Named};
 use crate::running::prepared;
 use crate::status::Status;
 use crate::why::push_why;
-use driver_words::Judging;
+use driver_words::ReplayOptions;
+use input_files::{Recorded, history_fault_line, read_history};
 use lowering::compiled::Program;
 use replay::{Callers, Judgement, Terms, Verdict, judge};
 use rope::Rope;
 use source::memory::NoMemory;
-use source_histories::{Recorded, history_fault_line, read_history};
 use std::alloc::{AllocError, Global};
 
-/// The line of a verdict.
+/// The line of `verdict`.
 fn verdict_line(alloc: Global, verdict: Verdict) -> Result<String, AllocError>
     ensures { IfOk result (λ text. string_bytes text ≡ line (verdict_text verdict)) }
 {
@@ -29,7 +29,7 @@ fn verdict_line(alloc: Global, verdict: Verdict) -> Result<String, AllocError>
     }
 }
 
-/// The status of a verdict.
+/// The status of `verdict`.
 fn status_of(verdict: Verdict) -> Status
     ensures { result ≡ verdict_status verdict }
 {
@@ -40,7 +40,7 @@ fn status_of(verdict: Verdict) -> Status
     }
 }
 
-/// What is written of a judgement on a history, and of why, where that is asked for; and the status.
+/// The answer that reports `judgement`: the verdict and, where `why` is true, the reason.
 fn judged(
     alloc: Global,
     why: bool,
@@ -57,8 +57,8 @@ fn judged(
     Ok(Answer::written(alloc, status, Rope::of(alloc, out)))
 }
 
-/// On what terms a history is judged.
-fn terms(judging: Judging) -> Terms
+/// The terms on which a history is judged.
+fn terms(judging: ReplayOptions) -> Terms
     ensures turns { result.turns ≡ judging.turns }
     ensures callers { result.callers ≡ callers_of judging.open }
 {
@@ -73,11 +73,11 @@ fn terms(judging: Judging) -> Terms
     }
 }
 
-/// The verdict on a history file, or the line of its fault.
+/// The answer to `replay`: the verdict on `history`, or the fault of the history file.
 pub fn replayed(
     alloc: Global,
     program: &Program,
-    judging: Judging,
+    judging: ReplayOptions,
     history: &Named<'_>,
 ) -> Result<Answer, NoMemory>
     ensures { IfOk result (Meets (IsReplayed judging history.now.file.now history.now.text.now program.now)) }

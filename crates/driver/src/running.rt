@@ -12,37 +12,41 @@ ghost use Rattle.driver.specs.Serial.{entry};
 use crate::schedule::{ScheduledCall, schedule};
 use core_lang::typed::Typed;
 use lowering::compiled::Program;
+use meaning::heap::Heap;
 use meaning::run::End;
 use meaning_registers::prepared::Prepared;
-use meaning_trees::heap::Heap;
-use report::record::{Called, Record};
+use report::record::{CallRef, Record};
 use source::memory::NoMemory;
 use std::alloc::Global;
 
-/// How far the calls of a program came. What they were called with stands in the program.
+/// How far the calls of a program came. The program holds their arguments.
 #[derive(Drop)]
 pub struct Ran<'a> {
     /// The calls that were settled.
     pub records: Vec<Record<'a>>,
-    /// The values of all cells after them.
+    /// The values of all cells after the settled calls.
     pub heap: Heap,
-    /// The thread and the number of the first call that was not settled, if there is one.
+    /// The thread and the step of the first call that was not settled, if a call was not.
     pub unsettled: Option<(usize, usize)>,
 }
 
-/// What a text says of a call that ended like this.
+/// The record of the call `made`, which ended with `end`.
 fn record_of<'a>(made: &ScheduledCall<'a>, end: End) -> Record<'a>
     ensures { entry_of result ≡ entry (scheduled_of made.entry.now) (ended_of end) }
 {
-    let call = Called {
+    let call = CallRef {
         thread: made.thread,
         step: made.step,
-        // (the first format, in which alone these are told, says nothing of it)
+        // (only the first format reports these, and it leaves this out)
         begun: 0,
         section: made.call.section,
         arguments: &made.call.arguments,
     };
-    let End { outcome, prints } = end;
+    let End {
+        outcome,
+        prints,
+        ..
+    } = end;
     Record {
         call,
         outcome,
@@ -50,7 +54,7 @@ fn record_of<'a>(made: &ScheduledCall<'a>, end: End) -> Record<'a>
     }
 }
 
-/// A compiled program, prepared for its calls: those of the program as it was accepted.
+/// Prepares the program, as it was accepted, for its calls.
 pub fn prepared(alloc: Global, program: &Program) -> Result<Prepared<'_>, NoMemory>
     ensures program { IfOk result (λ prepared. prepared.program.now ≡ program.now.accepted) }
     ensures checked { IfOk result (λ prepared. IsChecked prepared.program.now) }
@@ -59,8 +63,8 @@ pub fn prepared(alloc: Global, program: &Program) -> Result<Prepared<'_>, NoMemo
     Prepared::new(alloc, program.typed(), program.expanded())
 }
 
-/// Runs calls of a program one after another from its opening heap, as far as so many turns of each execution of a loop
-/// settle them.
+/// Runs `calls` one after another from the opening heap, up to the first call that `turns` turns of each execution of a loop
+/// don't settle.
 pub fn run_calls<'a>(
     alloc: Global,
     prepared: &Prepared<'_>,
@@ -95,8 +99,8 @@ pub fn run_calls<'a>(
     })
 }
 
-/// Runs all calls of a program one after another, thread 0's whole script first, as far as so many
-/// turns of each execution of a loop settle them.
+/// Runs all calls of `program` one after another, thread 0's whole script first, up to the first call that `turns` turns of
+/// each execution of a loop don't settle.
 pub fn run_scripts<'a>(
     alloc: Global,
     program: &'a Typed,

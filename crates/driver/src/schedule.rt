@@ -13,13 +13,13 @@ use std::alloc::{AllocError, Global};
 pub struct ScheduledCall<'a> {
     /// The thread, in order of declaration, from 0.
     pub thread: usize,
-    /// Which of its thread's calls it is, from 0.
+    /// The number of the call in its thread's script, from 0.
     pub step: usize,
-    /// What is called.
+    /// The section and the arguments.
     pub call: &'a Call,
 }
 
-/// Puts the calls of a thread at the end.
+/// Appends the calls of `thread`.
 fn push_script<'a>(
     all: &mut Vec<ScheduledCall<'a>>,
     thread: usize,

@@ -1,26 +1,26 @@
-//! What `simulate` answers for a program.
+//! The answers of `simulate` for a program.
 
 ghost use Rattle.std.specs.Prelude.{◌≡◌, IfOk, string_bytes};
 ghost use Rattle.driver.specs.Working.Answering.{Meets, IsMessage};
 ghost use Rattle.code.specs.Listing.{line};
 ghost use Rattle.interleavings.specs.Items.{turns_in};
-ghost use Rattle.source_steps.specs.Steps.{steps_fault_text, Answers};
+ghost use Rattle.input_files.specs.Steps.{steps_fault_text, Answers};
 ghost use Rattle.driver.specs.Simulations.{IsSimulated};
 
 use crate::answer::{Answer, Named};
 use crate::status::Status;
+use input_files::steps_refusal::{StepsFault, StepsRefusal};
+use input_files::turn::Turn;
+use input_files::{read_items, steps_fault_line};
 use interleavings::items::turns_of;
 use interleavings::world::run;
 use lowering::compiled::Program;
-use report_simulation::simulation_text;
+use report_runs::simulation_text;
 use rope::Rope;
 use source::memory::NoMemory;
-use source_steps::refusal::{StepsFault, StepsRefusal};
-use source_steps::turn::Turn;
-use source_steps::{read_items, steps_fault_line};
 use std::alloc::Global;
 
-/// The line of a fault of the steps file.
+/// The answer that reports `fault` of the steps file.
 pub fn bad_steps(alloc: Global, steps: &Named<'_>, fault: StepsFault) -> Result<Answer, NoMemory>
     ensures { IfOk result (IsMessage Status.BadInput (line (steps_fault_text steps.now.file.now steps.now.text.now fault))) }
 {
@@ -28,12 +28,12 @@ pub fn bad_steps(alloc: Global, steps: &Named<'_>, fault: StepsFault) -> Result<
     Answer::refused(alloc, Status::BadInput, line)
 }
 
-/// The turns that the items of a steps file come to. Where it has a `T!` or a `T+`, its steps are run for that, and once more by
-/// whoever takes the turns.
+/// The turns that the items of a steps file expand to. Where the text has a `T!` or a `T+`, this runs the steps to find how
+/// many they are; the caller runs them once more.
 ///
 /// # Errors
 ///
-/// The file's fault, or want of memory.
+/// The fault of the steps file, or `NoMemory`.
 pub fn turns_in(alloc: Global, program: &Program, text: &[u8]) -> Result<Vec<Turn>, StepsRefusal>
     ensures { Answers result (turns_in program.now text.now) }
 {
@@ -43,7 +43,7 @@ pub fn turns_in(alloc: Global, program: &Program, text: &[u8]) -> Result<Vec<Tur
     }
 }
 
-/// The text of the world after the steps of a steps file, or the line of its fault.
+/// The answer to `simulate`: the text of the world after the steps, or the fault of the steps file.
 pub fn simulated(alloc: Global, program: &Program, steps: &Named<'_>) -> Result<Answer, NoMemory>
     ensures { IfOk result (Meets (IsSimulated steps.now.file.now steps.now.text.now program.now)) }
 {

@@ -3,7 +3,7 @@
 use rope::Rope;
 use std::io::Write;
 
-/// A writer, and whether writing to it failed. Nothing is written after that.
+/// A writer, and whether writing to it failed. After a failure nothing is written.
 #[derive(Drop)]
 pub struct Sink<W> {
     writer: W,
@@ -42,7 +42,7 @@ impl<W: Write> Sink<W> {
         writer
     }
 
-    /// Writes all the bytes; after a failure, none. The writer is not called for none.
+    /// Writes all of `bytes`, or nothing after a failure. Does not call the writer for an empty slice.
     pub fn put(&mut self, bytes: &[u8])
         ensures empty { bytes.now ≡ [] → self.new ≡ self.old }
         ensures stopped { writing_failed self.old ≡ true → writer_of self.new ≡ writer_of self.old }
@@ -57,7 +57,7 @@ impl<W: Write> Sink<W> {
         }
     }
 
-    /// Writes all of a text; after a failure, nothing.
+    /// Writes all of `text`, or nothing after a failure.
     pub fn put_text(&mut self, text: &Rope)
         ensures stopped { writing_failed self.old ≡ true → writer_of self.new ≡ writer_of self.old }
         ensures appends { writing_failed self.new ≡ false → Appends (W.contents (writer_of self.old)) (W.contents (writer_of self.new)) (rope_text text.now) }
@@ -70,7 +70,7 @@ impl<W: Write> Sink<W> {
         self.put(text.rest());
     }
 
-    /// Sends on what the writer keeps back; after a failure, nothing.
+    /// Flushes the writer, or does nothing after a failure.
     pub fn flush(&mut self)
         ensures stopped { writing_failed self.old ≡ true → writer_of self.new ≡ writer_of self.old }
         ensures keeps { writing_failed self.new ≡ false → Keeps (W.contents (writer_of self.old)) (W.contents (writer_of self.new)) }

@@ -1,4 +1,4 @@
-//! A file that is read.
+//! A file to read.
 
 ghost use Rattle.std.specs.Prelude.{◌≡◌, ◌<◌, ◌+◌, ◌⊎◌, ◌^◌, take, length, IfOk, IfSome};
 ghost use Rattle.std.specs.Io.KnownBytes.{IsAtEnd};
@@ -8,7 +8,7 @@ use std::alloc::Global;
 use std::io::{ErrorKind, Read, Take};
 use thiserror::Error;
 
-/// A file that is read: its name in messages, its reader, where it could be opened, and whether reading it failed.
+/// A file to read: its name in messages, its reader where it could be opened, and whether reading it failed.
 #[derive(Drop)]
 pub struct SourceText<'a, R> {
     name: &'a str,
@@ -19,16 +19,16 @@ pub struct SourceText<'a, R> {
 /// Why a text was not read.
 #[derive(Clone, Copy, Debug, PartialEq, Eq, Error)]
 pub enum ReadError {
-    /// The reader failed.
+    /// The file could not be opened, or the reader failed.
     #[error("cannot read")]
     Failed,
-    /// A growth was refused, or the reader answered that it was out of memory.
+    /// A growth was refused, or the reader reported that it was out of memory.
     #[error("no memory")]
     OutOfMemory,
 }
 
-/// All the bytes that a reader has left; where they are more than `most`, the first `most + 1` of them. After an error the
-/// reader is somewhere in them, and is to be read no further.
+/// Reads all the bytes that `reader` has left, or the first `most + 1` of them where they are more than `most`. After an
+/// error the reader stands somewhere in them, and must not be read further.
 fn read_up_to<R: Read>(alloc: Global, reader: &mut Take<R>, most: u64) -> Result<Vec<u8>, ReadError>
     requires { most + 1 < 2 ^ 64 }
     ensures bytes { IfOk result (λ text. IfSome (R.remaining (take_inner reader.old)) (λ bytes. text.items ≡ take (most + 1) bytes)) }
@@ -37,7 +37,7 @@ fn read_up_to<R: Read>(alloc: Global, reader: &mut Take<R>, most: u64) -> Result
     let mut text = Vec::new(alloc);
     reader.set_limit(most + 1);
     match reader.read_to_end(&mut text) {
-        // (what no reader gives: its end was neither met nor is the limit reached)
+        // (no reader gives this: neither was its end met nor is the limit reached)
         Ok(_) if reader.limit() == 0 && text.len() as u64 <= most => Err(ReadError::Failed),
         Ok(_) => Ok(text),
         Err(error) if error.kind() == ErrorKind::OutOfMemory => Err(ReadError::OutOfMemory),
@@ -50,7 +50,7 @@ impl<'a, R: Read> SourceText<'a, R> {
     ghost use Rattle.std.specs.Option.{is_some};
     ghost use Rattle.driver.specs.Streams.{name_of, reader_of, left_in, reading_failed};
 
-    /// A file of this name that is open, of which no reading has failed.
+    /// An open file named `name`, no reading of which has failed.
     pub fn new(name: &'a str, reader: R) -> SourceText<'a, R>
         ensures name { name_of result ≡ name.entry.now }
         ensures reader { reader_of result ≡ Some reader }
@@ -63,7 +63,7 @@ impl<'a, R: Read> SourceText<'a, R> {
         }
     }
 
-    /// A file of this name that can't be opened: reading it fails.
+    /// A file named `name` that can't be opened: reading it fails.
     pub fn missing(name: &'a str) -> SourceText<'a, R>
         ensures name { name_of result ≡ name.entry.now }
         ensures reader { reader_of result ≡ None }
@@ -83,8 +83,8 @@ impl<'a, R: Read> SourceText<'a, R> {
         self.name
     }
 
-    /// All the bytes that are left; where they are more than `most`, the first `most + 1` of them. After an error the reader
-    /// is somewhere in them, and is to be read no further.
+    /// Reads all the bytes that are left, or the first `most + 1` of them where they are more than `most`. After an error
+    /// the reader stands somewhere in them, and must not be read further.
     ///
     /// # Errors
     ///

@@ -8,20 +8,20 @@ ghost use Rattle.driver.specs.Statuses.{exit_status};
 pub enum Status {
     /// 0: what was asked for was written.
     Done,
-    /// 1: the program's text has a fault, which standard error names.
+    /// 1: the program's text has a fault, which standard error reports.
     Refused,
-    /// 2: the words of the command line are none that this program reads.
+    /// 2: the command line is not one that this program reads.
     BadWords,
     /// 3: a file could not be opened, or a reader or the writer failed.
     Failed,
     /// 4: a growth was refused.
     OutOfMemory,
-    /// 5: a line of the recorded history is another than may come there.
+    /// 5: a line of the recorded history is not one that may come there.
     Differs,
-    /// 6: the steps file or the history file has a fault, no cell has a name of `--cells` or `--expect`, a cell of `--expect` holds
-    /// no number, or the text of `--expect` is no comparison, which standard error names.
+    /// 6: the steps file or the history file has a fault, no cell has a name of `--cells` or `--expect`, a cell of
+    /// `--expect` does not hold a number, or the text of `--expect` is not a comparison; standard error reports which.
     BadInput,
-    /// 7: a call is not settled by the turns that were given.
+    /// 7: a call is not settled by the given number of turns.
     Unsettled,
     /// 8: a thread found another history than it had left.
     Strange,

@@ -1,4 +1,4 @@
-//! The two outputs of a command, and what is told on them.
+//! The two outputs of a command, and the messages on them.
 
 ghost use Rattle.std.specs.Prelude.{◌≡◌, ◌<◌, ◌+◌, ◌⊎◌, ◌^◌, true, false, take, length, IfOk, IfErr, OnOk, IfSome};
 ghost use Rattle.std.specs.Option.{is_some};
@@ -18,14 +18,14 @@ use std::io::{Read, Write};
 /// The two outputs of a command.
 #[derive(Drop)]
 pub struct Streams<O, E> {
-    /// What was asked for goes there.
+    /// The output of what was asked for.
     pub out: Sink<O>,
-    /// Messages go there. Whether it fails changes no answer.
+    /// The output of messages. Its failure does not change the status.
     pub err: Sink<E>,
 }
 
 impl<O: Write, E: Write> Streams<O, E> {
-    /// Tells that the file of this name could not be opened or read: `autolock: cannot read NAME`.
+    /// Reports that the file named `file` could not be opened or read: `autolock: cannot read NAME`.
     pub fn tell_cannot_read(&mut self, file: &str)
         ensures out { self.new.out ≡ self.old.out }
         ensures told { Tells E.contents self.old.err self.new.err (cannot_read file.now) }
@@ -35,7 +35,7 @@ impl<O: Write, E: Write> Streams<O, E> {
         self.err.put(b"\n");
     }
 
-    /// Tells that a growth was refused: `autolock: no memory`.
+    /// Reports that a growth was refused: `autolock: no memory`.
     pub fn tell_no_memory(&mut self)
         ensures out { self.new.out ≡ self.old.out }
         ensures told { Tells E.contents self.old.err self.new.err no_memory }
@@ -43,7 +43,7 @@ impl<O: Write, E: Write> Streams<O, E> {
         self.err.put(b"autolock: no memory\n");
     }
 
-    /// Tells that writing failed: `autolock: cannot write`.
+    /// Reports that writing failed: `autolock: cannot write`.
     pub fn tell_cannot_write(&mut self)
         ensures out { self.new.out ≡ self.old.out }
         ensures told { Tells E.contents self.old.err self.new.err cannot_write }
@@ -51,8 +51,8 @@ impl<O: Write, E: Write> Streams<O, E> {
         self.err.put(b"autolock: cannot write\n");
     }
 
-    /// Reads a file, no further than one byte past so many. Where it is not read, the error is the status that the command
-    /// ends with, and that is told.
+    /// Reads a file, at most one byte past `most`. Where it is not read, that is reported, and the error is the status with
+    /// which the command ends.
     pub(crate) fn read<R: Read>(
         &mut self,
         alloc: Global,
@@ -83,7 +83,7 @@ impl<O: Write, E: Write> Streams<O, E> {
         }
     }
 
-    // Writes an answer: first its text to `out`, and, where that did not fail, its message to `err`.
+    // Writes an answer: its text to `out`, then, where that succeeded, its message to `err`.
     fn put(&mut self, answer: &Answer) -> Status
         requires { writing_failed self.old.out ≡ false }
         ensures { GoesOut O.contents E.contents answer.now self.old self.new result }
@@ -98,7 +98,7 @@ impl<O: Write, E: Write> Streams<O, E> {
         answer.status
     }
 
-    /// Writes an answer, or tells that memory ran out before there was one.
+    /// Writes an answer, or reports that memory ran out before there was one.
     pub(crate) fn give(&mut self, answer: &Result<Answer, NoMemory>) -> Status
         requires { writing_failed self.old.out ≡ false }
         ensures { IsGiven O.contents E.contents answer.now self.old self.new result }

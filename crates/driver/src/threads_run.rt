@@ -1,4 +1,4 @@
-//! What `run` answers for a program.
+//! The answers of `run` for a program.
 
 ghost use Rattle.std.specs.Prelude.{◌≡◌, IfOk, Some, None, length};
 ghost use Rattle.driver.specs.Working.Answering.{Meets};
@@ -8,31 +8,31 @@ ghost use Rattle.driver.specs.ThreadRuns.{IsStrange, IsThreadsRun};
 use crate::answer::Answer;
 use crate::status::Status;
 use core_lang::value::Value;
-use driver_words::Running;
+use driver_words::RunOptions;
+use input_files::Format;
 use lowering::compiled::Program;
 use report::entries_text;
 use report_runs::Seen;
 use rope::Rope;
-use run_gates::delaying::DelayingGate;
 use source::keyed::KeyedState;
 use source::memory::NoMemory;
-use source_histories::Format;
 use std::alloc::Global;
 use std::sync::Wait;
 use std::thread::Threads;
 use workers::closed::Closed;
+use workers::delaying::DelayingGate;
 use workers::gate::Gate;
 use workers::seat::CallRefusal;
 use workers::threads::run_threads;
 
-/// Holds threads up where there are delays, and else nobody.
+/// A gate that delays threads where `delays` is given, and lets them pass otherwise.
 #[derive(Drop)]
 struct RunGate {
     delays: Option<DelayingGate>,
 }
 
 impl RunGate {
-    /// The gate of a run before which there were so many: its delays are drawn from the seed, which goes up by one with each.
+    /// The gate of a run after `before` earlier runs: its delays are drawn from `seed` plus `before`.
     fn of(seed: Option<u64>, before: u64) -> RunGate {
         RunGate {
             delays: match seed {
@@ -51,7 +51,7 @@ impl Gate for RunGate {
     }
 }
 
-/// What a history that is over leaves in each of so many cells.
+/// The values that a closed history leaves in its cells, whose number is `cells`.
 fn values_of(alloc: Global, closed: &Closed<'_>, cells: usize) -> Result<Vec<Value>, NoMemory>
     requires { cells ≡ length closed.now.values }
     ensures { IfOk result (λ values. values.items ≡ closed.now.values) }
@@ -63,14 +63,14 @@ fn values_of(alloc: Global, closed: &Closed<'_>, cells: usize) -> Result<Vec<Val
     Ok(values)
 }
 
-/// A run that is over, with what it leaves in each cell.
+/// A finished run, with the values that it leaves in its cells.
 #[derive(Drop)]
 struct Ran<'p> {
     closed: Closed<'p>,
     values: Vec<Value>,
 }
 
-/// The answer to a refusal.
+/// The answer that reports a refusal.
 fn refused(alloc: Global, refusal: CallRefusal) -> Result<Answer, NoMemory>
     ensures { IfOk result (Meets IsStrange) }
 {
@@ -83,23 +83,23 @@ fn refused(alloc: Global, refusal: CallRefusal) -> Result<Answer, NoMemory>
     }
 }
 
-/// Runs the calls of a program, those of each thread in a thread of its own.
+/// Runs of a program's scripts, each script in a thread of its own.
 #[derive(Drop)]
 pub struct ThreadRuns<'p, 't, R: Threads + Wait + Sync> {
-    /// Where the threads come from.
+    /// The source of the threads.
     pub threads: &'t R,
     /// The allocator.
     pub alloc: Global,
     /// The program.
     pub program: &'p Program,
-    /// How they are run, and what is told.
-    pub running: Running,
-    /// By what hashes of runs are keyed.
+    /// The options: how often the scripts run, and with which delays.
+    pub running: RunOptions,
+    /// How runs are hashed: keyed by the program's text.
     pub hashing: KeyedState,
 }
 
 impl<'p, 't, R: Threads + Wait + Sync> ThreadRuns<'p, 't, R> {
-    /// A run, before which there were so many.
+    /// Runs all scripts once, after `before` earlier runs.
     fn once(&self, before: u64) -> Result<Ran<'p>, CallRefusal>
         ensures { IfOk result (is_run self.now.program.now) }
     {
@@ -110,7 +110,7 @@ impl<'p, 't, R: Threads + Wait + Sync> ThreadRuns<'p, 't, R> {
         Ok(Ran { closed, values })
     }
 
-    /// The history text of a run.
+    /// Runs all scripts once, and returns their history text.
     fn one(&self) -> Result<Answer, NoMemory>
         ensures { IfOk result (Meets (IsThreadsRun None self.now.program.now)) }
     {
@@ -124,7 +124,7 @@ impl<'p, 't, R: Threads + Wait + Sync> ThreadRuns<'p, 't, R> {
         Ok(Answer::done(self.alloc, Rope::of(self.alloc, out)))
     }
 
-    /// The text of so many runs.
+    /// Runs all scripts the given number of times, and returns the text of how these runs differ.
     fn all(&self, times: u64) -> Result<Answer, NoMemory>
         ensures { IfOk result (Meets (IsThreadsRun (Some times) self.now.program.now)) }
     {
@@ -139,7 +139,7 @@ impl<'p, 't, R: Threads + Wait + Sync> ThreadRuns<'p, 't, R> {
         Ok(Answer::done(self.alloc, Rope::of(self.alloc, out)))
     }
 
-    /// What is told of a run, or of so many. It returns where all calls do.
+    /// Runs all scripts as often as `running` asks, and returns the answer to `run`. It returns if all calls return.
     pub fn answer(&self) -> Result<Answer, NoMemory>
         ensures { IfOk result (Meets (IsThreadsRun self.now.running.times self.now.program.now)) }
     {

@@ -1,4 +1,4 @@
-//! What `trace` answers for a program.
+//! The answers of `trace` for a program.
 
 ghost use Rattle.std.specs.Prelude.{◌≡◌, IfOk, string_bytes};
 ghost use Rattle.driver.specs.Working.Answering.{Meets};
@@ -6,13 +6,14 @@ ghost use Rattle.driver.specs.Traces.{IsTraceAnswer};
 
 use crate::answer::{Answer, Named};
 use crate::simulating::{bad_steps, turns_in};
-use report_trace::Trace;
+use input_files::steps_refusal::StepsRefusal;
+use report_runs::Trace;
 use rope::Rope;
 use source::memory::NoMemory;
-use source_steps::refusal::StepsRefusal;
 use std::alloc::Global;
 
-/// A line for each step of a steps file that is told, and the text of the world after them; or the line of the file's fault.
+/// The answer to `trace`: a line for each reported step of a steps file, and the text of the world after them; or the fault
+/// of the file.
 pub fn traced(alloc: Global, trace: &Trace<'_>, steps: &Named<'_>) -> Result<Answer, NoMemory>
     ensures { IfOk result (Meets (IsTraceAnswer trace.now.moves trace.now.all steps.now.file.now trace.now.text.now steps.now.text.now trace.now.program.now)) }
 {

@@ -5,14 +5,14 @@ ghost use Rattle.std.specs.Fmt.{decimal};
 ghost use Rattle.std.specs.List.{flat_map};
 ghost use Rattle.code.specs.Listing.{line};
 ghost use Rattle.locks.specs.Texts.{AddsText};
-ghost use Rattle.source_histories.specs.Histories.{recorded_lines};
+ghost use Rattle.input_files.specs.Histories.{recorded_lines};
 ghost use Rattle.driver.specs.Replays.{begins_text, call_wanted, form_text, found_text, lack_text, wanted_line, wanted_text, why_text};
 
+use input_files::{Format, Recorded};
 use replay::{Judgement, Lack, Verdict, Wanted};
-use source_histories::{Format, Recorded};
 use std::alloc::{AllocError, Global};
 
-/// Puts the lines of calls up to their ends.
+/// Appends the lines of the calls that may come, each up to its end.
 fn push_calls(out: &mut String, heads: &[String]) -> Result<(), AllocError>
     ensures { OnOk result (AddsText (flat_map (λ head. call_wanted (string_bytes head)) heads.now) out.old out.new) }
 {
@@ -22,14 +22,14 @@ fn push_calls(out: &mut String, heads: &[String]) -> Result<(), AllocError>
     Ok(())
 }
 
-/// Puts words that say what may come.
+/// Appends the line of `words`, which say what may come.
 fn push_words(out: &mut String, words: &str) -> Result<(), AllocError>
     ensures { OnOk result (AddsText (wanted_line words.now) out.old out.new) }
 {
     writeln!(out, "wanted: {words}")
 }
 
-/// Puts the form of a call's line.
+/// Appends the form of a call's line.
 fn push_form(out: &mut String, format: Format) -> Result<(), AllocError>
     ensures { OnOk result (AddsText (wanted_line (form_text format)) out.old out.new) }
 {
@@ -39,7 +39,7 @@ fn push_form(out: &mut String, format: Format) -> Result<(), AllocError>
     }
 }
 
-/// Puts that a call may come, and `cells`.
+/// Appends the form of a call's line, and `cells`.
 fn push_open(out: &mut String, format: Format) -> Result<(), AllocError>
     ensures { OnOk result (AddsText (wanted_line (form_text format) ++ wanted_line (codes "cells")) out.old out.new) }
 {
@@ -47,21 +47,21 @@ fn push_open(out: &mut String, format: Format) -> Result<(), AllocError>
     push_words(out, "cells")
 }
 
-/// Puts from where on a begin may be.
+/// Appends the least begin that a call may have.
 fn push_least(out: &mut String, least: usize) -> Result<(), AllocError>
     ensures { OnOk result (AddsText (codes "wanted: B from " ++ decimal least) out.old out.new) }
 {
     write!(out, "wanted: B from {least}")
 }
 
-/// Puts up to where it may be.
+/// Appends the greatest begin that a call may have.
 fn push_most(out: &mut String, most: usize) -> Result<(), AllocError>
     ensures { OnOk result (AddsText (line (codes " to " ++ decimal most)) out.old out.new) }
 {
     writeln!(out, " to {most}")
 }
 
-/// Puts from where to where a begin may be.
+/// Appends the range of the begins that a call may have.
 fn push_begins(out: &mut String, least: usize, most: usize) -> Result<(), AllocError>
     ensures { OnOk result (AddsText (begins_text least most) out.old out.new) }
 {
@@ -69,7 +69,7 @@ fn push_begins(out: &mut String, least: usize, most: usize) -> Result<(), AllocE
     push_most(out, most)
 }
 
-/// Puts what a line lacks to be a call's.
+/// Appends what a line lacks to be the line of a call.
 fn push_lack(out: &mut String, lack: Lack) -> Result<(), AllocError>
     ensures { OnOk result (AddsText (lack_text lack) out.old out.new) }
 {
@@ -83,7 +83,7 @@ fn push_lack(out: &mut String, lack: Lack) -> Result<(), AllocError>
     }
 }
 
-/// Puts what may come.
+/// Appends what may come.
 fn push_wanted(out: &mut String, wanted: &Wanted) -> Result<(), AllocError>
     ensures { OnOk result (AddsText (wanted_text wanted.now) out.old out.new) }
 {
@@ -95,7 +95,7 @@ fn push_wanted(out: &mut String, wanted: &Wanted) -> Result<(), AllocError>
     }
 }
 
-/// Puts what stands at the line with this number of the file.
+/// Appends the line of the file with the number `number`.
 fn push_found(
     alloc: Global,
     out: &mut String,
@@ -111,7 +111,7 @@ fn push_found(
     writeln!(out, "found: {found}")
 }
 
-/// Puts why the history differs, if it does.
+/// Appends why the history differs, if it differs.
 pub fn push_why(
     alloc: Global,
     out: &mut String,

@@ -1,4 +1,4 @@
--- What a command is after one more argument or subcommand.
+-- A command after one more argument or subcommand.
 use Rattle.std.proofs.Common.{◌≡◌, ◌∙◌, ap, ap₂, refl, subst, true, false, Result}
 use Rattle.std.specs.Prelude.{IfOk}
 use Rattle.clap.specs.Words.{App, Rule, AddsArg, AddsSubcommand, is_simple, is_simple_and_free, rule_of, with_rule}
@@ -18,7 +18,7 @@ pub subcommand_is : (old sub new : Command) (a b : App) → IsCommand a old → 
 subcommand_is old sub new a b is sub_is adds =
     (adds.shape sub_is.1 ∙ ap₂ with_subcommand is.0 (ap (λ (x : App). x.top) sub_is.0), adds.globals ∙ rw (is.1, sub_is.1) refl)
 
--- an argument that is added is of its rule
+-- a command with an added argument is that with the argument's rule
 pub added : {E : Type 0} (command result : Result Command E) (rule is : Rule) (a : App) → AddsRule command rule result → rule ≡ is
     → IfOk command (IsCommand a) → IfOk result (IsCommand (with_rule a is))
 added command result rule is a adds same first =

@@ -1,4 +1,4 @@
--- The first of a list that a test takes, one more at a time.
+-- The first item of a list that passes a test, one more item at a time.
 use Rattle.std.proofs.Common.{◌≡◌, ◌∙◌, ℕ, zero, suc, ◌+◌, ◌<◌, Bool, true, false, cond, List, [], ◌∷◌, length, take, get_or}
 use Rattle.std.proofs.Common.{Option, Some, None, ap, arith}
 use Rattle.std.specs.List.{find}

@@ -12,7 +12,7 @@ pub met_rows : {Z : Type 0} (o : Option (Box SubCommand Z)) (name : Text) (rows 
 met_rows None name rows named given = cc
 met_rows (Some b) name rows named given = cc
 
--- none was met where it has no rows
+-- if no rows are seen, no subcommand was met
 pub not_met : {Z : Type 0} (o : Option (Box SubCommand Z)) → option_map (λ p. p.1) (subcommand_rows o) ≡ None →
     subcommand_rows o ≡ None
 not_met None given = refl

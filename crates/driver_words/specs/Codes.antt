@@ -19,7 +19,7 @@ all_codes =
     ∷ NotAssignable ∷ NeitherFinalNorProtected ∷ ProtectedByNoLock ∷ ProtectedByPassesNonFinal ∷ UnstableBase ∷ LockOrderCycle
     ∷ LimitExceeded ∷ FinalWithoutOpeningValue ∷ InitOutOfRangeOrRepeated ∷ MisplacedReturn ∷ LockAsValue ∷ RecursiveHelper ∷ []
 
--- `E` or `e`, and two digits
+-- the word is `E` or `e`, and two digits
 abbrev pub is_code_word : Text → Bool
 is_code_word (e ∷ tens ∷ ones ∷ []) = ((e == 69) || (e == 101)) && is_ascii_digit tens && is_ascii_digit ones
 is_code_word _ = false
@@ -29,7 +29,7 @@ abbrev pub rest : Text → Text
 rest [] = []
 rest (x ∷ xs) = xs
 
--- the word is the code's printed name, but for its first byte
+-- the word is the code's printed name, except for its first byte
 abbrev pub is_named : Text → Code → Bool
 is_named word code = bytes_eq (rest (code_name code)) (rest word)
 

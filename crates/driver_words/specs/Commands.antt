@@ -6,11 +6,11 @@ use Rattle.clap.specs.declared.builder.command.Command.{Command}
 use Rattle.clap.specs.declared.builder.command.Command.TheViews.{out-Command}
 use Rattle.clap.specs.declared.builder.value_parser.ValueParser.TheVariants as vp
 
--- a file's name, which must be given
+-- a required file name
 abbrev pub file_rule : Text → Rule
 file_rule id = record (new_rule id) { required = true }
 
--- an option with a number from 0 to 1000000000, and what stands for it where it isn't given
+-- an option with a number from 0 to 1000000000, and its default
 abbrev pub number_rule : Text → Text → Rule
 number_rule id default = record (new_rule id) {
   long = Some id;
@@ -31,7 +31,7 @@ count_rule = number_rule (codes "count") (codes "100000")
 abbrev pub seed_rule : Rule
 seed_rule = number_rule (codes "seed") (codes "0")
 
--- a word that takes no value
+-- a flag
 abbrev pub flag_rule : Text → Rule
 flag_rule id = record (new_rule id) { long = Some id; action = Some SetTrue }
 
@@ -83,103 +83,103 @@ cells_rule = record (new_rule (codes "cells")) { long = Some (codes "cells"); va
 abbrev pub with_file : Text → App
 with_file name = with_rule (new_app name) (file_rule (codes "FILE"))
 
--- a command that takes --turns N besides
+-- a command that also takes --turns N
 abbrev pub with_turns : App → App
 with_turns app = with_rule app turns_rule
 
--- a command that takes --count N besides
+-- a command that also takes --count N
 abbrev pub with_count : App → App
 with_count app = with_rule app count_rule
 
--- a command that takes --seed N besides
+-- a command that also takes --seed N
 abbrev pub with_seed : App → App
 with_seed app = with_rule app seed_rule
 
--- a command that takes --cells NAMES besides
+-- a command that also takes --cells NAMES
 abbrev pub with_cells : App → App
 with_cells app = with_rule app cells_rule
 
--- a command that takes --answers besides
+-- a command that also takes --answers
 abbrev pub with_answers : App → App
 with_answers app = with_rule app (flag_rule (codes "answers"))
 
--- a command that takes --full besides
+-- a command that also takes --full
 abbrev pub with_full : App → App
 with_full app = with_rule app (flag_rule (codes "full"))
 
--- a command that takes a steps file besides
+-- a command that also takes a steps file
 abbrev pub with_steps : App → App
 with_steps app = with_rule app (file_rule (codes "STEPS"))
 
--- a command that takes a history file besides
+-- a command that also takes a history file
 abbrev pub with_history : App → App
 with_history app = with_rule app (file_rule (codes "HISTORY"))
 
--- a command that takes --why besides
+-- a command that also takes --why
 abbrev pub with_why : App → App
 with_why app = with_rule app (flag_rule (codes "why"))
 
--- a command that takes --open besides
+-- a command that also takes --open
 abbrev pub with_open : App → App
 with_open app = with_rule app (flag_rule (codes "open"))
 
--- a command that takes --sections besides
+-- a command that also takes --sections
 abbrev pub with_sections : App → App
 with_sections app = with_rule app (flag_rule (codes "sections"))
 
--- a command that takes --json besides
+-- a command that also takes --json
 abbrev pub with_json : App → App
 with_json app = with_rule app (flag_rule (codes "json"))
 
--- a command that takes --color WHEN besides
+-- a command that also takes --color WHEN
 abbrev pub with_color : App → App
 with_color app = with_rule app color_rule
 
--- a command that takes --all besides
+-- a command that also takes --all
 abbrev pub with_all : App → App
 with_all app = with_rule app (flag_rule (codes "all"))
 
--- a command that takes --expect COMPARISON besides
+-- a command that also takes --expect COMPARISON
 abbrev pub with_expect : App → App
 with_expect app = with_rule app expect_rule
 
--- a command that takes --seed N besides, which may be left out
+-- a command that also takes --seed N, which may be left out
 abbrev pub with_seed_choice : App → App
 with_seed_choice app = with_rule app (choice_rule (codes "seed"))
 
--- a command that takes --times N besides
+-- a command that also takes --times N
 abbrev pub with_times : App → App
 with_times app = with_rule app times_rule
 
--- a command that takes --length N besides
+-- a command that also takes --length N
 abbrev pub with_length : App → App
 with_length app = with_rule app length_rule
 
--- a command that takes --worst besides
+-- a command that also takes --worst
 abbrev pub with_worst : App → App
 with_worst app = with_rule app (flag_rule (codes "worst"))
 
--- a command that takes --changed besides
+-- a command that also takes --changed
 abbrev pub with_changed : App → App
 with_changed app = with_rule app (flag_rule (codes "changed"))
 
--- a command that takes --source besides
+-- a command that also takes --source
 abbrev pub with_source : App → App
 with_source app = with_rule app (flag_rule (codes "source"))
 
--- a command that takes --places besides
+-- a command that also takes --places
 abbrev pub with_places : App → App
 with_places app = with_rule app (flag_rule (codes "places"))
 
--- a command that takes --header besides
+-- a command that also takes --header
 abbrev pub with_header : App → App
 with_header app = with_rule app (flag_rule (codes "header"))
 
--- a command that takes --prefix NAME besides
+-- a command that also takes --prefix NAME
 abbrev pub with_prefix : App → App
 with_prefix app = with_rule app prefix_rule
 
--- a command that takes --lines besides
+-- a command that also takes --lines
 abbrev pub with_lines : App → App
 with_lines app = with_rule app (flag_rule (codes "lines"))
 
@@ -187,11 +187,11 @@ with_lines app = with_rule app (flag_rule (codes "lines"))
 abbrev pub needs_subcommand : App → App
 needs_subcommand app = record app { top = record app.top { subcommand_required = true } }
 
--- a command that tells its version
+-- a command with a version
 abbrev pub with_version : App → App
 with_version app = record app { top = record app.top { has_version = true } }
 
--- the program's own name, a version, and a subcommand that must be there
+-- the program's own name, a version, and a required subcommand
 abbrev pub program : App
 program = needs_subcommand (with_version (new_app (codes "autolock")))
 
@@ -259,15 +259,15 @@ autolock =
     with_lsp (with_replay (with_run (with_trace (with_simulate (with_schedule (with_outcomes (with_serial (with_emit (with_listing
     (with_order (with_format (with_explain (with_check program)))))))))))))
 
--- the command is that one, and has no global argument
+-- the command is this one, and has no global argument
 abbrev pub IsCommand : App → Command → Type 0
 IsCommand app command = (app_of command ≡ app) × ((out-Command command).has_globals ≡ false)
 
--- a command that is added to a command line, where both could be made
+-- a command that is added to a command line, if both could be made
 abbrev pub Adds : {E : Type 0} → Result Command E → Result Command E → Result Command E → Type 0
 Adds line command result =
     (a b : App) → IfOk line (IsCommand a) → IfOk command (IsCommand b) → IfOk result (IsCommand (with_subcommand a b.top))
 
--- an argument that is added to a command, where that could be made
+-- an argument that is added to a command, if that could be made
 abbrev pub AddsRule : {E : Type 0} → Result Command E → Rule → Result Command E → Type 0
 AddsRule command rule result = (a : App) → IfOk command (IsCommand a) → IfOk result (IsCommand (with_rule a rule))

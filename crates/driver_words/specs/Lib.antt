@@ -2,6 +2,6 @@ pub mod Codes
 pub mod Commands
 pub mod Unasked
 pub mod Lines
--- what the public clauses cite
+-- the definitions that public clauses cite
 pub use Rattle.driver_words.specs.Commands.{autolock}
 pub use Rattle.driver_words.specs.Lines.{IsLineOf, IsRefused}

@@ -1,4 +1,4 @@
--- The kind of error with which words are refused that ask for nothing.
+-- The kind of error for words that request nothing.
 use Rattle.clap.specs.declared.error.kind.ErrorKind.{ErrorKind}
 use Rattle.clap.specs.declared.error.kind.ErrorKind.TheVariants.{MissingSubcommand, ValueValidation}
 use Rattle.driver_words.specs.declared.unasked.Unasked.{Unasked}

@@ -5,7 +5,7 @@ ghost use Rattle.driver_words.specs.Codes.{all_codes, code_named, is_code_word, 
 
 use source::fault::Code;
 
-/// All codes, in their order.
+/// All codes, in order.
 const ALL: [Code; 20] = [
     Code::BadCharacter,
     Code::NumberTooLarge,
@@ -29,7 +29,7 @@ const ALL: [Code; 20] = [
     Code::RecursiveHelper,
 ];
 
-/// Whether a word is written as codes are: `E` or `e`, and two digits.
+/// Whether a word is written like a code: `E` or `e`, and two digits.
 pub fn is_code_word(word: &str) -> bool
     ensures { result ≡ is_code_word word.now }
 {
@@ -51,7 +51,7 @@ fn rest(bytes: &[u8]) -> &[u8]
     }
 }
 
-/// Whether the code's printed name is the word, but for the first byte.
+/// Whether the word is the code's printed name, except for the first byte.
 fn is_named(word: &str, code: Code) -> bool
     ensures { result ≡ is_named word.now code }
 {

@@ -16,10 +16,10 @@ use clap::builder::ValueParser;
 use clap::{Arg, ArgAction, Command};
 use std::alloc::{AllocError, Global};
 
-/// The version that `--version` prints behind the program's name.
+/// The version that `--version` prints after the program's name.
 const VERSION: &str = "0.2.0";
 
-/// An argument that must be given, and stands for itself.
+/// A required argument without a flag.
 fn file_argument<'a>(alloc: Global, id: &'a str) -> Arg<'a>
     ensures rule { rule_of result ≡ file_rule id.entry.now }
     ensures local { result.global ≡ false }
@@ -27,7 +27,7 @@ fn file_argument<'a>(alloc: Global, id: &'a str) -> Arg<'a>
     Arg::new(alloc, id).required(true)
 }
 
-/// An option with a number, and what stands for it where it isn't given.
+/// An option with a number, and its default.
 fn number_argument<'a>(alloc: Global, id: &'a str, default: &'a str) -> Arg<'a>
     ensures rule { rule_of result ≡ number_rule id.entry.now default.entry.now }
     ensures local { result.global ≡ false }
@@ -73,7 +73,7 @@ fn items_argument<'a>(alloc: Global) -> Arg<'a>
     number_argument(alloc, "seed", "0").help("Which items to draw")
 }
 
-/// `--seed N`, where it may be left out.
+/// `--seed N`, which may be left out.
 fn seed_choice_argument<'a>(alloc: Global) -> Arg<'a>
     ensures rule { rule_of result ≡ choice_rule (codes "seed") }
     ensures local { result.global ≡ false }
@@ -162,7 +162,7 @@ fn cells_argument<'a>(alloc: Global) -> Arg<'a>
         .help("Which cells ends are told apart by, as n,a,a[0],p[1].x")
 }
 
-/// A command over one file, or over what may stand in its place.
+/// A command over one file, or over another argument in its place.
 fn operand_command<'a>(
     alloc: Global,
     name: &'a str,
@@ -297,7 +297,7 @@ fn run_command<'a>(alloc: Global) -> Result<Command<'a>, AllocError>
     with_argument(command, times_argument(alloc))
 }
 
-/// A command with one more argument, where it could be made.
+/// A command with one more argument, if both could be made.
 fn with_argument<'a>(
     command: Result<Command<'a>, AllocError>,
     argument: Arg<'a>,
@@ -355,7 +355,7 @@ fn trace_command<'a>(alloc: Global) -> Result<Command<'a>, AllocError>
     with_argument(command, flag_argument(alloc, "all", help))
 }
 
-/// A command line with one more command, where both could be made.
+/// A command line with one more command, if both could be made.
 fn with_command<'a>(
     line: Result<Command<'a>, AllocError>,
     command: Result<Command<'a>, AllocError>,

@@ -1,153 +1,154 @@
-//! What a command line asks for.
+//! What a command line requests.
 
 use source::fault::Code;
 
-/// The turns that each execution of a loop may take where `--turns` is not given.
+/// The default of `--turns`: the most turns of each execution of a loop.
 pub const DEFAULT_TURNS: u64 = 1_000_000;
 
-/// How many orders are looked at, at most, where `--count` is not given.
+/// The default of `--count`: the most orders that are tried.
 pub const DEFAULT_COUNT: u64 = 100_000;
 
-/// The seed of what is drawn where `--seed` is not given.
+/// The default of `--seed`: the seed of random choices.
 pub const DEFAULT_SEED: u64 = 0;
 
-/// How many items a steps file gets where `--length` is not given.
+/// The default of `--length`: the number of items of a steps file.
 pub const DEFAULT_LENGTH: u64 = 100;
 
-/// A command over the program of a file, or one that reads none.
+/// A command line: a request, and the program's file.
 #[derive(Clone, Copy, Debug, PartialEq, Eq)]
 pub struct Line<'a> {
-    /// The name of the file of the program's text, as it was given; of a command that reads none, what stands in its place.
+    /// The name of the file with the program's text, as given; for a request that reads none, the argument in its
+    /// place.
     pub file: &'a str,
-    /// What is asked for.
+    /// The request.
     pub request: Request<'a>,
 }
 
-/// What is asked for, by which files are read.
+/// A request, by the files that it reads.
 #[derive(Clone, Copy, Debug, PartialEq, Eq)]
 pub enum Request<'a> {
-    /// `explain CODE`: what a code of a fault means. No file is read.
+    /// `explain CODE`: the meaning of a code. No file is read.
     Code(Code),
-    /// `lsp`: serve an editor, over the input and the output of the process. No file is read.
+    /// `lsp`: serve an editor over the input and the output of the process. No file is read.
     Lsp,
-    /// A command that reads the program's file alone.
+    /// A request that reads the program's file alone.
     Alone(Alone<'a>),
-    /// A command that reads another file beside it, of this name, as it was given.
+    /// A request that also reads another file, with this name as given.
     Beside(Beside, &'a str),
 }
 
-/// What is asked of a program's file alone.
+/// A request that reads the program's file alone.
 #[derive(Clone, Copy, Debug, PartialEq, Eq)]
 pub enum Alone<'a> {
-    /// What is told of the program, where it is accepted.
+    /// A text about the program, if it is accepted.
     Report(Report<'a>),
-    /// `order`: the order of the program's lock classes, as a graph, also where they are on a cycle.
+    /// `order`: the order of the program's lock classes as a graph, even if it has a cycle.
     Order,
-    /// `explain`: tell the fault of the program, with its place in the source and what can be done about it.
+    /// `explain`: the fault of the program, with its place in the source and a remedy.
     Explain {
-        /// Whether it is told as JSON.
+        /// Whether it is written as JSON.
         json: bool,
-        /// When it is told in colours.
+        /// When it is written in colours.
         color: Color,
     },
     /// `format`: the text in its layout.
     Format,
     /// `run`: run the calls of each thread in a thread of its own.
-    Run(Running),
+    Run(RunOptions),
 }
 
 /// When a text is written in colours.
 #[derive(Clone, Copy, Debug, PartialEq, Eq)]
 pub enum Color {
-    /// Where it goes to a terminal.
+    /// If it is written to a terminal.
     Auto,
-    /// Wherever it goes.
+    /// Always.
     Always,
-    /// Nowhere.
+    /// Never.
     Never,
 }
 
 /// How the calls of threads are run.
 #[derive(Clone, Copy, Debug, PartialEq, Eq)]
-pub struct Running {
-    /// By what the threads are held up, if they are.
+pub struct RunOptions {
+    /// The seed of the delays of threads, if they are delayed.
     pub seed: Option<u64>,
-    /// How often they are run, with what was seen told; once, with its history told, where that isn't given.
+    /// The number of runs, whose results are written together; without it, one run, whose history is written.
     pub times: Option<u64>,
 }
 
-/// What is told of a program that is accepted.
+/// A text about an accepted program.
 #[derive(Clone, Copy, Debug, PartialEq, Eq)]
 pub enum Report<'a> {
-    /// `check`: in which order it takes its locks, and which ones before each statement.
+    /// `check`: the order of its locks, and which ones are acquired before each statement.
     Check {
-        /// Whether each place is told with the helper that has it, and with its line in the source.
+        /// Whether each place has the helper that it is in, and its line in the source.
         source: bool,
     },
     /// `listing`: the instructions of its sections.
     Listing {
-        /// Whether each is told with the line and the column of its statement.
+        /// Whether each has the line and the column of its statement.
         places: bool,
     },
     /// `serial`: the history of all its calls, run one after another.
     Serial {
-        /// The most turns that each execution of a loop may make.
+        /// The most turns of each execution of a loop.
         turns: u64,
-        /// Whether cells are left out that hold what they held at the opening.
+        /// Whether cells that have their initial value are left out.
         changed: bool,
     },
-    /// `outcomes`: how its cells can end, over the orders of its calls.
-    Outcomes(Looking<'a>),
-    /// `schedule`: a steps file of it.
-    Schedule(Scheduling),
-    /// `emit`: its sections in C, with their locks placed.
+    /// `outcomes`: the final values of its cells, over the orders of its calls.
+    Outcomes(OutcomesOptions<'a>),
+    /// `schedule`: a steps file for it.
+    Schedule(ScheduleOptions),
+    /// `emit`: its sections in C, with their locks.
     Emit(Emission<'a>),
 }
 
-/// Which steps file is written.
+/// The options of a steps file that is written.
 #[derive(Clone, Copy, Debug, PartialEq, Eq)]
-pub struct Scheduling {
-    /// By what its items are drawn.
+pub struct ScheduleOptions {
+    /// The seed of its items.
     pub seed: u64,
-    /// How many items it has.
+    /// The number of its items.
     pub length: u64,
-    /// Whether threads are to wait for each other as much as can be.
+    /// Whether it makes threads wait for each other as much as possible.
     pub worst: bool,
 }
 
-/// Which C text of a program is written.
+/// The options of the C text of a program.
 #[derive(Clone, Copy, Debug, PartialEq, Eq)]
 pub struct Emission<'a> {
-    /// Whether it is the header alone.
+    /// Whether it is only the header.
     pub header: bool,
-    /// What the names of C begin with: a letter, then letters and digits; at most 32 bytes.
+    /// The prefix of names in C: a letter, then letters and digits, at most 32 bytes.
     pub prefix: &'a str,
-    /// Whether the C of each statement is told to be of the statement's line, for debuggers and sanitizers.
+    /// Whether the C of each statement is marked with the statement's line, for debuggers and sanitizers.
     pub lines: bool,
-    /// The name of the program's file, as it was given, which is told with its lines.
+    /// The name of the program's file, as given, for these marks.
     pub file: &'a str,
 }
 
-/// How the orders of a program's calls are looked at, and what is told of their ends.
+/// The options of the orders of a program's calls, and of the text about their ends.
 #[derive(Clone, Copy, Debug, PartialEq, Eq)]
-pub struct Looking<'a> {
-    /// The most turns that each execution of a loop may make.
+pub struct OutcomesOptions<'a> {
+    /// The most turns of each execution of a loop.
     pub turns: u64,
-    /// The most orders that are looked at.
+    /// The most orders that are tried.
     pub count: u64,
-    /// Which orders are drawn, where there are more.
+    /// The seed of random orders, if the program has more.
     pub seed: u64,
-    /// The names of the cells that ends are told apart by, with a comma between; all cells, where none are given.
+    /// The names of the cells by which ends differ, with commas between them; without it, all cells.
     pub cells: Option<&'a str>,
-    /// Whether ends are also told apart by how the calls ended.
+    /// Whether ends also differ by how the calls ended.
     pub answers: bool,
-    /// Whether all of each end is told, and not only what differs from the first one.
+    /// Whether each end is written in full, and not only its differences from the first one.
     pub full: bool,
-    /// What each end is expected to have, if anything: a comparison of sums.
+    /// A comparison of sums that each end is expected to satisfy, if any.
     pub expect: Option<&'a str>,
 }
 
-/// What is told of a program that is accepted, and of another file.
+/// A request about an accepted program and another file.
 #[derive(Clone, Copy, Debug, PartialEq, Eq)]
 pub enum Beside {
     /// `simulate`: the world after the steps of a steps file.
@@ -156,20 +157,20 @@ pub enum Beside {
     Trace {
         /// Whether the instructions of sections are left out.
         sections: bool,
-        /// Whether steps that do nothing are told.
+        /// Whether steps that do nothing are written.
         all: bool,
     },
     /// `replay`: whether a recorded history is one of the program's.
-    Replay(Judging),
+    Replay(ReplayOptions),
 }
 
-/// How a recorded history is judged.
+/// The options of the check of a recorded history.
 #[derive(Clone, Copy, Debug, PartialEq, Eq)]
-pub struct Judging {
-    /// The most turns that each execution of a loop may make.
+pub struct ReplayOptions {
+    /// The most turns of each execution of a loop.
     pub turns: u64,
-    /// Whether what may come at a line that differs is told.
+    /// Whether the lines that may be at the place of a differing one are written.
     pub why: bool,
-    /// Whether its calls may be anyone's, and not those of the program's scripts.
+    /// Whether its calls may be any calls, and not only those of the program's scripts.
     pub open: bool,
 }

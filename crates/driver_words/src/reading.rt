@@ -1,4 +1,4 @@
-//! From words to a line.
+//! From words to a request.
 
 ghost use Rattle.std.specs.Prelude.{◌≡◌, ◌↔◌, IsTrue, IfOk, IfErr, OnOk, [], map, option_map};
 ghost use Rattle.clap.specs.Words.{fault_of, first_of, found_of, rows_of, subcommand_of, subcommand_rows_of};
@@ -13,13 +13,13 @@ use crate::codes::{code_named, is_code_word};
 use crate::command::command;
 use crate::line::{
     Alone, Beside, Color, DEFAULT_COUNT, DEFAULT_LENGTH, DEFAULT_SEED, DEFAULT_TURNS, Emission,
-    Judging, Line, Looking, Report, Request, Running, Scheduling,
+    Line, OutcomesOptions, ReplayOptions, Report, Request, RunOptions, ScheduleOptions,
 };
 use crate::unasked::Unasked;
 use clap::{ArgMatches, Error};
 use std::alloc::Global;
 
-/// The value of a name, or nothing where it has none.
+/// The value of a name, or the empty text without one.
 fn name<'a>(matches: &ArgMatches<'a>, id: &str) -> &'a str
     ensures { result.now ≡ name_in id.now (rows_of (found_of matches.now)) }
 {
@@ -33,7 +33,7 @@ fn text<'a>(matches: &ArgMatches<'a>, id: &str) -> Option<&'a str>
     matches.get_str(id)
 }
 
-/// The number of a name, or this one where it has none.
+/// The number of a name, or `otherwise` without one.
 fn number(matches: &ArgMatches<'_>, id: &str, otherwise: u64) -> u64
     ensures { IsNumber id.now otherwise (rows_of (found_of matches.now)) result }
 {
@@ -54,7 +54,7 @@ fn turns(matches: &ArgMatches<'_>) -> u64
     number(matches, "turns", DEFAULT_TURNS)
 }
 
-/// Whether a word that takes no value is given.
+/// Whether a flag is given.
 fn flag(matches: &ArgMatches<'_>, id: &str) -> bool
     ensures { IsFlag id.now (rows_of (found_of matches.now)) result }
 {
@@ -62,10 +62,10 @@ fn flag(matches: &ArgMatches<'_>, id: &str) -> bool
 }
 
 /// The options of `outcomes`.
-fn looking<'a>(matches: &ArgMatches<'a>) -> Looking<'a>
+fn looking<'a>(matches: &ArgMatches<'a>) -> OutcomesOptions<'a>
     ensures { IsLooking (rows_of (found_of matches.now)) result }
 {
-    Looking {
+    OutcomesOptions {
         turns: turns(matches),
         count: number(matches, "count", DEFAULT_COUNT),
         seed: number(matches, "seed", DEFAULT_SEED),
@@ -76,7 +76,7 @@ fn looking<'a>(matches: &ArgMatches<'a>) -> Looking<'a>
     }
 }
 
-/// When colours are wanted, by the word for that.
+/// When colours are used, by the word for that.
 fn color_named(word: &str) -> Option<Color>
     ensures { result ≡ color_named word.now }
 {
@@ -88,7 +88,7 @@ fn color_named(word: &str) -> Option<Color>
     }
 }
 
-/// What `explain` asks for: a word that is written as codes are is one, unless JSON is asked for.
+/// The request of `explain`: a word that is written like a code is one, unless JSON is requested.
 fn explaining<'a>(matches: &ArgMatches<'a>) -> Result<Request<'a>, Unasked>
     ensures request { IfOk result (IsRequest (codes "explain") (rows_of (found_of matches.now))) }
     ensures unasked { IfErr result (IsUnasked (codes "explain") (rows_of (found_of matches.now))) }
@@ -107,7 +107,7 @@ fn explaining<'a>(matches: &ArgMatches<'a>) -> Result<Request<'a>, Unasked>
     }
 }
 
-/// What a command asks for.
+/// The request of a command.
 fn request<'a>(command: &str, matches: &ArgMatches<'a>) -> Result<Request<'a>, Unasked>
     ensures request { IfOk result (IsRequest command.now (rows_of (found_of matches.now))) }
     ensures unasked { IfErr result (IsUnasked command.now (rows_of (found_of matches.now))) }
@@ -126,7 +126,7 @@ fn request<'a>(command: &str, matches: &ArgMatches<'a>) -> Result<Request<'a>, U
             turns: turns(matches),
             changed: flag(matches, "changed"),
         })),
-        "schedule" => Request::Alone(Alone::Report(Report::Schedule(Scheduling {
+        "schedule" => Request::Alone(Alone::Report(Report::Schedule(ScheduleOptions {
             seed: number(matches, "seed", DEFAULT_SEED),
             length: number(matches, "length", DEFAULT_LENGTH),
             worst: flag(matches, "worst"),
@@ -138,7 +138,7 @@ fn request<'a>(command: &str, matches: &ArgMatches<'a>) -> Result<Request<'a>, U
             lines: flag(matches, "lines"),
             file: name(matches, "FILE"),
         }))),
-        "run" => Request::Alone(Alone::Run(Running {
+        "run" => Request::Alone(Alone::Run(RunOptions {
             seed: choice(matches, "seed"),
             times: choice(matches, "times"),
         })),
@@ -149,7 +149,7 @@ fn request<'a>(command: &str, matches: &ArgMatches<'a>) -> Result<Request<'a>, U
             Request::Beside(Beside::Trace { sections, all }, name(matches, "STEPS"))
         }
         "replay" => {
-            let judging = Judging {
+            let judging = ReplayOptions {
                 turns: turns(matches),
                 why: flag(matches, "why"),
                 open: flag(matches, "open"),
@@ -195,7 +195,7 @@ fn is_alphanumeric(text: &[u8]) -> bool
     )
 }
 
-/// Whether it is a letter, then letters and digits, at most 32 in all.
+/// Whether the text is a letter, then letters and digits, at most 32 in all.
 fn is_word(prefix: &str) -> bool
     ensures { result ≡ is_word prefix.now }
 {
@@ -203,8 +203,8 @@ fn is_word(prefix: &str) -> bool
     starts_with_letter(bytes) && is_alphanumeric(bytes) && bytes.len() <= 32
 }
 
-/// Whether the names of a C text may begin with it: a letter, then letters and digits, at most 32 in all, and neither
-/// `AL` nor `autolock`, with which the names that are the same in all such texts begin.
+/// Whether the names of a C text may begin with `prefix`: a letter, then letters and digits, at most 32 in all, and
+/// neither `AL` nor `autolock`, which are the prefixes of the names that all such texts share.
 pub fn is_prefix(prefix: &str) -> bool
     ensures { IsTrue result ↔ IsPrefix prefix.now }
 {
@@ -214,7 +214,7 @@ pub fn is_prefix(prefix: &str) -> bool
     }
 }
 
-/// Whether the prefix of a request is one, where it has one.
+/// Whether the prefix of a request is valid, if it has one.
 fn has_prefix(request: &Request<'_>) -> bool
     ensures { IsTrue result ↔ HasPrefix request.now }
 {
@@ -224,7 +224,7 @@ fn has_prefix(request: &Request<'_>) -> bool
     }
 }
 
-/// What the command that was met asks for.
+/// The line of the command that was matched.
 fn line_met<'a>(matches: &ArgMatches<'a>) -> Result<Line<'a>, Unasked>
     ensures line { IfOk result (IsLineOf (subcommand_rows_of matches.now)) }
     ensures prefix { IfOk result (λ line. HasPrefix line.request) }
@@ -241,10 +241,12 @@ fn line_met<'a>(matches: &ArgMatches<'a>) -> Result<Line<'a>, Unasked>
     }
 }
 
-/// What the words of a command line ask for, of which the first is the program's name.
+/// The request of the words of a command line, of which the first is the program's name.
 ///
-/// An error is `clap`'s: its kind says whether help was asked for, memory was refused, or the words
-/// are no line; its text is what a user is to see.
+/// # Errors
+///
+/// An error of `clap`: its kind is a request for help, a failed allocation, or words that are not a command line; its
+/// text is for the user.
 pub fn words<'a>(alloc: Global, words: &'a [&'a str]) -> Result<Line<'a>, Error>
     ensures line { IfOk result (IsLineOf (subcommand_of autolock (map (λ word. word.now) words.entry.now))) }
     ensures prefix { IfOk result (λ line. HasPrefix line.request) }

@@ -1,20 +1,20 @@
-//! Why words that `clap` takes ask for nothing.
+//! The reasons why words that `clap` accepts request nothing.
 
 ghost use Rattle.std.specs.Prelude.{◌≡◌};
 ghost use Rattle.driver_words.specs.Unasked.{kind_for};
 
 use clap::error::ErrorKind;
 
-/// Why words ask for nothing.
+/// The reason why words request nothing.
 #[derive(Clone, Copy)]
 pub enum Unasked {
-    /// There is no such command.
+    /// The command does not exist.
     NoCommand,
-    /// There is no such code.
+    /// The code does not exist.
     NoCode,
-    /// Names of C can't begin so.
+    /// The prefix is invalid for names of C.
     BadPrefix,
-    /// It isn't said so when colours are wanted.
+    /// The word for when colours are used is invalid.
     BadColor,
 }
 
@@ -29,7 +29,7 @@ impl Unasked {
         }
     }
 
-    /// What the user is told.
+    /// The message for the user.
     pub fn text(self) -> &'static str {
         match self {
             Unasked::NoCommand => "a command is missing",

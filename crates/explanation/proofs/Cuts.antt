@@ -1,4 +1,4 @@
--- A line that is cut to one byte more than is shown is shown alike.
+-- A line that is cut to one byte more than is shown is shown in the same way.
 use Rattle.std.proofs.Common.{◌≡◌, ◌∙◌, ◌<◌, ◌≤◌, ◌+◌, ◌-◌, ◌++◌, ℕ, Bool, true, false, List, [], ◌∷◌, zero, suc}
 use Rattle.std.proofs.Common.{cond, take, drop, length, min, reverse, refl, sym, ap, arith, ⊎_elim, lt-ltb}
 use Rattle.std.proofs.Common.{length-drop}
@@ -31,7 +31,7 @@ dots_alike n k lt =
     (λ (few : k ≤ n). let whole : min n k ≡ k = omega arith in rw whole refl)
     (cases_lt n k)
 
--- the last of a list, from behind
+-- the last of a list, from after
 last_reversed : (n : ℕ) (xs : List ℕ) → reverse (drop (length xs - n) xs) ≡ take n (reverse xs)
 last_reversed n xs =
     let k = length xs - n in
@@ -58,6 +58,6 @@ suffix_of_last n xs =
     let same : length xs - min (length xs) n ≡ length xs - n = omega arith in
     ap (λ i. suffix_len is_in_line (drop i xs)) same ∙ suffix_of_drop n xs
 
--- so many of them are shown
+-- the given number of them is shown
 pub shown_alike : (n k : ℕ) → SIDE < n → min SIDE (min n k) ≡ min SIDE k
 shown_alike n k more = omega arith

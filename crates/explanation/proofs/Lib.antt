@@ -1,2 +1,4 @@
-pub mod Lines
 mod Cuts
+pub mod Ends
+pub mod Floats
+pub mod Lines

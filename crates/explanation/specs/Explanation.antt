@@ -1,4 +1,4 @@
--- The text that explains a fault, and that of a program without one.
+-- The text that explains a fault, and the text of a program without one.
 use Rattle.std.specs.Prelude.{ℕ, List, ◌++◌, codes}
 use Rattle.std.specs.List.{flat_map}
 use Rattle.code.specs.Listing.{line}
@@ -10,13 +10,13 @@ use Rattle.explanation.specs.Remedies.{remedy_text}
 use Rattle.explanation.specs.Shown.{shown_place}
 use Rattle.explanation.specs.Warnings.{Warning, warning_text}
 
--- the line of the fault, its place in the source, what is told beyond that, what can be done about it, and further faults
+-- the line of the fault, its place in the source, the notes, the remedy, and further faults
 abbrev pub explanation_text : List ℕ → List ℕ → Fault → List Note → Further → List ℕ
 explanation_text file text fault notes further =
     line (fault_text file text fault) ++ shown_place text fault.start ++ flat_map (note_text file text) notes ++ remedy_text fault.code
     ++ further_text file text further
 
--- of a program without a fault: that it is accepted, and what is told beyond that; then its warnings
+-- the text of a program without a fault: that it is accepted, and the notes; then its warnings
 abbrev pub accepted_text : List ℕ → List ℕ → List Note → List Warning → List ℕ
 accepted_text file text notes warnings =
     line (codes "accepted") ++ flat_map (note_text file text) notes ++ flat_map (warning_text file text) warnings

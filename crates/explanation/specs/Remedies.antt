@@ -1,4 +1,4 @@
--- What can be done about a fault, by its code.
+-- The remedy of a fault, by its code.
 use Rattle.std.specs.Prelude.{ℕ, List, ◌++◌, codes}
 use Rattle.code.specs.Listing.{line}
 use Rattle.source.specs.declared.fault.Code.{Code}
@@ -10,6 +10,7 @@ use Rattle.source.specs.declared.fault.Code.TheVariants.{LimitExceeded, FinalWit
 use Rattle.source.specs.declared.fault.Code.TheVariants.{InitOutOfRangeOrRepeated, MisplacedReturn, LockAsValue}
 use Rattle.source.specs.declared.fault.Code.TheVariants.{RecursiveHelper}
 
+-- what can be done about a fault of this code
 abbrev pub remedy : Code → List ℕ
 remedy BadCharacter = codes "write && for &, || for |, // for #; names have ASCII letters only, and there are no strings"
 remedy NumberTooLarge = codes "9223372036854775807 is the greatest number; in a section -9223372036854775807 - 1 is the least"

@@ -1,34 +1,34 @@
--- What is told of an accepted program that may not be as it was meant.
+-- Warnings about an accepted program that may not be as meant.
 use Rattle.std.specs.Prelude.{ℕ, List, ◌++◌, codes, string_bytes}
 use Rattle.explanation.specs.declared.warning.Warned as written_words
 use Rattle.explanation.specs.declared.warning.Warned.TheVariants as says
 use Rattle.explanation.specs.declared.warning.Warning as written
 use Rattle.explanation.specs.Notes.{labelled_text}
 
--- what is said of a place of the source text
+-- a warning about a place of the source text
 pub record Warning : Type 0 where
   pub start : ℕ
   pub words : List ℕ
 
 -- ---- words
 
--- of a lock
+-- the words of a warning about a lock
 abbrev pub useless_words : List ℕ → List ℕ
 useless_words name = name ++ codes " protects nothing"
 
--- of a local
+-- the words of a warning about a local
 abbrev pub unused_words : List ℕ → List ℕ
 unused_words name = name ++ codes " is never used"
 
--- of a helper
+-- the words of a warning about a helper
 abbrev pub uncalled_words : List ℕ → List ℕ
 uncalled_words name = name ++ codes " is never called"
 
--- of a section
+-- the words of a warning about a section
 abbrev pub idle_words : List ℕ → List ℕ
 idle_words name = name ++ codes " is called by no thread"
 
--- of a loop
+-- the words of a warning about a loop
 abbrev pub unchanged_words : List ℕ
 unchanged_words = codes "nothing in this loop changes its condition: once entered, it ends only by a trap"
 

@@ -1,6 +1,8 @@
--- What the code computes and values of its types, for proofs and for the crates above. Nobody has to believe these files: no promise
--- cites them.
+-- What the code computes, and values of its types, for proofs and for the crates above. Nobody has to believe these
+-- files: no promise cites them.
+pub mod JsonLaws
+pub mod JsonValues
 pub mod Laws
-pub mod Values
 pub mod Lines
 pub mod Marks
+pub mod Values

@@ -1,4 +1,4 @@
-//! The text that explains a fault, and that of a program without one.
+//! The text that explains a fault, and the text of a program without one.
 
 ghost use Rattle.std.specs.Prelude.{◌≡◌, IfOk, string_bytes};
 
@@ -13,7 +13,7 @@ use source::line::fault_line;
 use source::memory::NoMemory;
 use std::alloc::Global;
 
-/// What is told of a fault.
+/// The explanation of a fault.
 #[derive(Drop)]
 pub struct Explanation<'a> {
     /// The name of the text's file.
@@ -22,23 +22,23 @@ pub struct Explanation<'a> {
     pub text: &'a [u8],
     /// The fault.
     pub fault: &'a Fault,
-    /// What is told beyond its line.
+    /// The notes beyond its line.
     pub notes: &'a [Note],
-    /// The faults behind it.
+    /// The faults after it.
     pub further: &'a Further,
 }
 
 impl Explanation<'_> {
     ghost use Rattle.explanation.specs.Working.Values.{explanation_text_of};
 
-    /// The line that reports the fault, as [`fault_line`] gives it; the line of the source that it is in, and below it a
-    /// caret under the place; a line for each note, and its place in the same form, if it has one; what can be done; and
-    /// the line and the place of each further fault, and whether there are more. Of a line of the source at most 60 bytes
-    /// before the place and 60 from it on are shown.
+    /// The line that reports the fault, as [`fault_line`] gives it. The line of the source, and below it a caret under
+    /// the place. A line for each note, and its place in the same form, if it has one. The remedy. The line and the
+    /// place of each further fault, and whether more were found. A line of the source is shown up to 60 bytes before
+    /// the place and 60 from it on.
     ///
     /// # Errors
     ///
-    /// Want of memory.
+    /// Out of memory.
     pub fn text(&self, alloc: Global) -> Result<String, NoMemory>
         ensures { IfOk result (λ text. string_bytes text ≡ explanation_text_of self.now) }
     {
@@ -53,28 +53,28 @@ impl Explanation<'_> {
     }
 }
 
-/// What is told of a program without a fault.
+/// The notes and warnings of a program without a fault.
 #[derive(Drop)]
 pub struct Acceptance<'a> {
     /// The name of the text's file.
     pub file: &'a str,
     /// The text.
     pub text: &'a [u8],
-    /// What is told beyond that it is accepted.
+    /// The notes beyond that it is accepted.
     pub notes: &'a [Note],
-    /// What may not be as it was meant.
+    /// The parts of the program that may not be as meant.
     pub warnings: &'a [Warning],
 }
 
 impl Acceptance<'_> {
     ghost use Rattle.explanation.specs.Working.Values.{accepted_text_of};
 
-    /// The line `accepted`; for each note what [`Explanation::text`] writes of one; and for each warning the same, with the
-    /// word `warning` in the place of `note`.
+    /// The line `accepted`, for each note what [`Explanation::text`] writes of it, and for each warning the same, with
+    /// the word `warning` instead of `note`.
     ///
     /// # Errors
     ///
-    /// Want of memory.
+    /// Out of memory.
     pub fn text(&self, alloc: Global) -> Result<String, NoMemory>
         ensures { IfOk result (λ text. string_bytes text ≡ accepted_text_of self.now) }
     {

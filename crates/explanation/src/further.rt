@@ -1,4 +1,4 @@
-//! Faults that are told with another.
+//! Faults that are reported with another.
 
 ghost use Rattle.std.specs.Prelude.{◌≡◌};
 ghost use Rattle.explanation.specs.Further.{further_of, nothing_further};
@@ -6,17 +6,17 @@ ghost use Rattle.explanation.specs.Further.{further_of, nothing_further};
 use source::mistake::Mistake;
 use std::alloc::Global;
 
-/// The faults behind the one that is told, of the pass that found it.
+/// The faults after the reported one, of the pass that found it.
 #[derive(Debug, Drop)]
 pub struct Further {
-    /// The faults, by rising place.
+    /// The faults, ordered by place.
     pub faults: Vec<Mistake>,
-    /// Whether there are more than these.
+    /// Whether more were found.
     pub has_more: bool,
 }
 
 impl Further {
-    /// None. Takes no memory.
+    /// No faults. It allocates nothing.
     pub fn none(alloc: Global) -> Further
         ensures { further_of result ≡ nothing_further }
     {

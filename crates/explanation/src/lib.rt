@@ -1,27 +1,43 @@
-//! The text that explains a fault to a person: the line that reports it, the line of the source with a caret under the
-//! place, and what can be done about it. And the text that tells of a program without a fault why it is accepted.
+//! Explanations for a person: the line that reports a fault, the line of the source with a caret under the place, notes
+//! and a remedy; and for a program without a fault, notes on why it is accepted, and warnings.
 //!
-//! - [`Explanation`], [`Acceptance`]: those texts, as `specs/Explanation.antt` defines them byte for byte.
-//! - [`Further`]: the faults that are told with another.
-//! - [`laws`]: what holds of every shown place.
-//! - [`Note`]: what is told of a further place, or of the text as a whole. [`Warning`]: what is told of an accepted program that may
-//!   not be as it was meant; `specs/Warnings.antt` has its words.
-//! - `specs/Shown.antt`: how a line of the source is shown. `specs/Remedies.antt`: what is said of each code.
+//! - [`Explanation`], [`Acceptance`]: those texts, as `specs/Explanation` defines them byte for byte.
+//! - [`Further`]: the faults that are reported with another.
+//! - [`laws`]: a law of every shown place.
+//! - [`Note`]: a note on a further place, or on the text as a whole. [`Warning`]: a warning about an accepted program
+//!   that may not be as meant, and [`Warned`] what it says; `specs/Warnings` has its words.
+//! - [`fault_json`], [`accepted_json`]: the same as a JSON object on one line, which `specs/Json` defines. [`end_of`]:
+//!   where a place ends. [`fault_words`]: the message of a fault. [`json_laws`]: laws of the JSON of every fault.
+//! - [`page`]: the page of a code, as `explain CODE` writes it; `specs/CodePages` has it line by line. [`remedy_of`]:
+//!   what can be done about a fault of a code.
+//! - [`CursorMarks`]: a text with marks, to find many positions in any order.
+//! - [`push_source_line`]: the line of the source at a place.
+//!
+//! `specs/Shown` defines how a line of the source is shown, and `specs/Remedies` has the remedy of each code.
 #![tactic(auto)]
 
+mod code_page;
+mod code_texts;
 mod explanation;
 mod further;
+pub mod json_laws;
+mod json_objects;
 pub mod laws;
 mod marks;
 mod note;
 mod notes;
+mod place_ends;
 mod remedy;
 mod shown;
 mod warning;
 
-pub use explanation::{Acceptance, Explanation};
+pub use crate::explanation::{Acceptance, Explanation};
+pub use code_page::page;
 pub use further::Further;
-pub use marks::Marks;
+pub use json_objects::{accepted_json, fault_json, fault_words};
+pub use marks::CursorMarks;
 pub use note::Note;
+pub use place_ends::end_of;
 pub use remedy::remedy_of;
+pub use shown::push_source_line;
 pub use warning::{Warned, Warning};

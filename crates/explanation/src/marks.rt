@@ -8,21 +8,21 @@ use source::cursor::Cursor;
 use source::memory::NoMemory;
 use std::alloc::Global;
 
-/// How many bytes lie between two marks.
+/// The number of bytes between two marks.
 const STRIDE: usize = 4096;
 
-/// A text, with the line and column of a byte every so often. So that many places in any order are found, the text is read
-/// once.
+/// A text, with marks at regular distances that have the line and column of their byte. The text is read once, and
+/// positions can be looked up in any order.
 #[derive(Drop)]
-pub struct Marks<'a> {
+pub struct CursorMarks<'a> {
     text: &'a [u8],
     each: Vec<Cursor<'a>>,
     ghost of_text: { AreOf text.now each.items },
 }
 
-impl<'a> Marks<'a> {
-    /// In a text.
-    pub fn of(alloc: Global, text: &'a [u8]) -> Result<Marks<'a>, NoMemory>
+impl<'a> CursorMarks<'a> {
+    /// The marks of `text`.
+    pub fn of(alloc: Global, text: &'a [u8]) -> Result<CursorMarks<'a>, NoMemory>
         ensures { IfOk result (λ marks. marks.text.now ≡ text.entry.now) }
     {
         let mut cursor = Cursor::new(text);
@@ -31,10 +31,10 @@ impl<'a> Marks<'a> {
             cursor.go_to(number * STRIDE);
             each.push(cursor)?;
         }
-        Ok(Marks { text, each })
+        Ok(CursorMarks { text, each })
     }
 
-    /// The line and column of the byte at a place, or of the end of the text where that lies before it.
+    /// The line and column of the byte at `place`, or of the end of the text if `place` lies past it.
     pub fn at(&self, place: usize) -> Cursor<'a>
         ensures line { result.line ≡ line_of self.now.text.now place }
         ensures column { result.column ≡ column_of self.now.text.now place }

@@ -1,10 +1,10 @@
-//! What is told of a fault beyond its line.
+//! Notes on a fault beyond its line.
 
-/// What is said of a place of a source text, or of the fault as a whole.
+/// A note on a place of a source text, or on the fault as a whole.
 #[derive(Debug, Drop)]
 pub struct Note {
-    /// The byte of the text, counted from 0, if it is said of one.
+    /// The byte of the text, from 0, if the note is on a place.
     pub start: Option<usize>,
-    /// What is said.
+    /// The words of the note.
     pub words: String,
 }

@@ -9,7 +9,7 @@ ghost use Rattle.explanation.specs.Notes.{note_of, said_text};
 ghost use Rattle.explanation.specs.Warnings.{warning_of};
 
 use crate::further::Further;
-use crate::marks::Marks;
+use crate::marks::CursorMarks;
 use crate::note::Note;
 use crate::shown::push_place;
 use crate::warning::Warning;
@@ -18,7 +18,7 @@ use source::memory::NoMemory;
 use source::mistake::Mistake;
 use std::alloc::{AllocError, Global};
 
-/// The line of a note on no place.
+/// Appends the line of a note without a place.
 fn push_said(out: &mut String, words: &str) -> Result<(), AllocError>
     ensures { OnOk result (AddsText (said_text words.now) out.old out.new) }
 {
@@ -27,7 +27,7 @@ fn push_said(out: &mut String, words: &str) -> Result<(), AllocError>
     out.push_str("\n")
 }
 
-/// Whether there are more faults.
+/// Appends that more faults were found, if so.
 fn push_more(out: &mut String, has_more: bool) -> Result<(), AllocError>
     ensures { OnOk result (AddsText (more_text has_more) out.old out.new) }
 {
@@ -37,7 +37,7 @@ fn push_more(out: &mut String, has_more: bool) -> Result<(), AllocError>
     Ok(())
 }
 
-/// FILE:LINE:COL: LABEL WORDS
+/// The line FILE:LINE:COL: LABEL WORDS.
 fn line_at(
     alloc: Global,
     file: &str,
@@ -62,7 +62,7 @@ pub struct Places<'a> {
     alloc: Global,
     file: &'a str,
     text: &'a [u8],
-    marks: Marks<'a>,
+    marks: CursorMarks<'a>,
     ghost same: { marks.text.now ≡ text.now },
 }
 
@@ -70,7 +70,7 @@ impl<'a> Places<'a> {
     ghost use Rattle.explanation.specs.Working.Values.{labelled_text_of, note_text_of, note_texts_of, warning_text_of, warning_texts_of};
     ghost use Rattle.explanation.specs.Working.Values.{further_fault_text_of, further_fault_texts_of, further_text_of};
 
-    /// Of a text.
+    /// The places of `text`.
     pub fn of(alloc: Global, file: &'a str, text: &'a [u8]) -> Result<Places<'a>, NoMemory>
         ensures file { IfOk result (λ places. places.file.now ≡ file.entry.now) }
         ensures text { IfOk result (λ places. places.text.now ≡ text.entry.now) }
@@ -79,7 +79,7 @@ impl<'a> Places<'a> {
             alloc,
             file,
             text,
-            marks: Marks::of(alloc, text)?,
+            marks: CursorMarks::of(alloc, text)?,
         })
     }
 
@@ -91,7 +91,7 @@ impl<'a> Places<'a> {
         line_at(self.alloc, self.file, at, label, words)
     }
 
-    // The line, and the place.
+    // Appends the line, and the place.
     fn push_placed(
         &self,
         out: &mut String,
@@ -107,7 +107,7 @@ impl<'a> Places<'a> {
         push_place(out, self.text, start)
     }
 
-    // The line of a note, and its place, if it has one.
+    // Appends the line of a note, and its place, if it has one.
     fn push_note(&self, out: &mut String, note: &Note) -> Result<(), AllocError>
         ensures { OnOk result (AddsText (note_text_of self.now (note_of note.now)) out.old out.new) }
     {
@@ -117,7 +117,7 @@ impl<'a> Places<'a> {
         }
     }
 
-    // The line of a warning, and its place.
+    // Appends the line of a warning, and its place.
     fn push_warning(&self, out: &mut String, warning: &Warning) -> Result<(), AllocError>
         ensures { OnOk result (AddsText (warning_text_of self.now (warning_of warning.now)) out.old out.new) }
     {
@@ -125,7 +125,7 @@ impl<'a> Places<'a> {
         self.push_placed(out, warning.start, "warning:", words.as_str())
     }
 
-    /// Notes, one after another.
+    /// Appends notes, one after another.
     pub fn push_notes(&self, out: &mut String, notes: &[Note]) -> Result<(), AllocError>
         ensures { OnOk result (AddsText (note_texts_of self.now (map note_of notes.now)) out.old out.new) }
     {
@@ -135,7 +135,7 @@ impl<'a> Places<'a> {
         Ok(())
     }
 
-    /// Warnings, one after another.
+    /// Appends warnings, one after another.
     pub fn push_warnings(&self, out: &mut String, warnings: &[Warning]) -> Result<(), AllocError>
         ensures { OnOk result (AddsText (warning_texts_of self.now (map warning_of warnings.now)) out.old out.new) }
     {
@@ -145,14 +145,14 @@ impl<'a> Places<'a> {
         Ok(())
     }
 
-    // The line of a further fault, and its place.
+    // Appends the line of a further fault, and its place.
     fn push_further_fault(&self, out: &mut String, fault: Mistake) -> Result<(), AllocError>
         ensures { OnOk result (AddsText (further_fault_text_of self.now fault) out.old out.new) }
     {
         self.push_placed(out, fault.start, fault.code.name(), fault.code.text())
     }
 
-    // Further faults, one after another.
+    // Appends further faults, one after another.
     fn push_further_faults(&self, out: &mut String, faults: &[Mistake]) -> Result<(), AllocError>
         ensures { OnOk result (AddsText (further_fault_texts_of self.now faults.now) out.old out.new) }
     {
@@ -162,7 +162,7 @@ impl<'a> Places<'a> {
         Ok(())
     }
 
-    /// Further faults, and whether there are more.
+    /// Appends further faults, and whether more were found.
     pub fn push_further(&self, out: &mut String, further: &Further) -> Result<(), AllocError>
         ensures { OnOk result (AddsText (further_text_of self.now (further_of further.now)) out.old out.new) }
     {

@@ -1,4 +1,4 @@
-//! What can be done about a fault.
+//! The remedy of each code.
 
 ghost use Rattle.std.specs.Prelude.{◌≡◌, OnOk};
 ghost use Rattle.locks.specs.Texts.{AddsText};
@@ -67,7 +67,7 @@ pub fn remedy_of(code: Code) -> &'static str
     }
 }
 
-/// The line of what can be done.
+/// Appends the line of the remedy.
 pub fn push_remedy(out: &mut String, code: Code) -> Result<(), AllocError>
     ensures { OnOk result (AddsText (remedy_text code) out.old out.new) }
 {

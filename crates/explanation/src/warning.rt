@@ -1,10 +1,10 @@
-//! What is told of an accepted program that may not be as it was meant.
+//! Warnings about an accepted program that may not be as meant.
 
 ghost use Rattle.std.specs.Prelude.{◌≡◌, ◌++◌, IfOk, string_bytes};
 
 use std::alloc::{AllocError, Global};
 
-// NAME WORDS
+// The text NAME WORDS.
 fn said_of(alloc: Global, name: &str, words: &str) -> Result<String, AllocError>
     ensures { IfOk result (λ said. string_bytes said ≡ name.now ++ words.now) }
 {
@@ -13,25 +13,25 @@ fn said_of(alloc: Global, name: &str, words: &str) -> Result<String, AllocError>
     Ok(said)
 }
 
-/// What a warning says, with the name of what it is said of.
+/// What a warning says, with the name that it is about.
 #[derive(Debug, Drop)]
 pub enum Warned {
     /// No annotation ends at the lock of this name.
     UselessLock(String),
     /// Nothing reads the `let` or `var` of this name.
     UnusedLocal(String),
-    /// No call of the helper of this name stands in the program.
+    /// The program has no call of the helper of this name.
     UncalledHelper(String),
-    /// No call of the section of this name stands in a thread, and there are threads.
+    /// No thread calls the section of this name, and the program has threads.
     UncalledSection(String),
-    /// Nothing in the loop changes what its condition reads.
+    /// The loop does not change what its condition reads.
     UnchangedCondition,
 }
 
 /// A warning of a place of a source text.
 #[derive(Debug, Drop)]
 pub struct Warning {
-    /// The byte of the text, counted from 0.
+    /// The byte of the text, from 0.
     pub start: usize,
     /// What it says.
     pub what: Warned,
@@ -40,11 +40,11 @@ pub struct Warning {
 impl Warned {
     ghost use Rattle.explanation.specs.Warnings.{words_of};
 
-    /// It in words.
+    /// The words of the warning.
     ///
     /// # Errors
     ///
-    /// A refused growth.
+    /// A failed allocation.
     pub fn words(&self, alloc: Global) -> Result<String, AllocError>
         ensures { IfOk result (λ words. string_bytes words ≡ words_of self.now) }
     {

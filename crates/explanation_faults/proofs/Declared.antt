@@ -5,10 +5,10 @@ use denote.Ref.{Bor}
 use Rattle.syntax.specs.declared.tree.Name.{Name}
 use Rattle.syntax.specs.Trees.{Ident, Decl}
 use Rattle.resolution.specs.Scopes.{has_body}
-use Rattle.explanation_faults.specs.NameSpaces.{inner_names, top_names, Repeats, Bears, IsDeclaredIn, inside, outside}
-use Rattle.explanation_faults.specs.NameSpaces.{IsDeclaredAs, at_the_top, in_one}
+use Rattle.explanation_names.specs.NameSpaces.{inner_names, top_names, Repeats, Bears, IsDeclaredIn, inside, outside}
+use Rattle.explanation_names.specs.NameSpaces.{IsDeclaredAs, at_the_top, in_one}
 use Rattle.explanation_faults.proofs.Places.{has_at}
-use Rattle.explanation_faults.specs.Working.Values.{FoundName}
+use Rattle.explanation_names.specs.Working.Viewed.{FoundName}
 
 pub found_alike : (P Q : Ident → Type 0) (o : Option (Bor Name)) → ((x : Ident) → P x → Q x) →
     ((x : Ident) → Q x → P x) → FoundName P o → FoundName Q o

@@ -15,12 +15,12 @@ use Rattle.resolution.specs.Scopes.{the_decl, the_member}
 use Rattle.resolution.specs.Where.{Has, annotates}
 use Rattle.syntax.specs.Trees.{Ident, Field, Final, Protection, Struct, Member, lock_member, final_member, field_member}
 use Rattle.syntax.specs.Trees.{Decl, lock, struct, global, array, pool, init, atomic, helper, thread}
-use Rattle.explanation_faults.specs.FirstBy.{first_by}
+use Rattle.explanation_names.specs.FirstBy.{first_by}
 use Rattle.explanation_faults.specs.LimitsPassed.{AreFinalsPassed, finals_passed}
-use Rattle.explanation_faults.specs.Working.PassedFound.{beyond, met_along, met_at, met_by, met_for, met_of}
-use Rattle.explanation_faults.specs.PassedMembers.{next_members, passed_along, passed_at, passed_by, passed_for}
-use Rattle.explanation_faults.specs.PassedMembers.{passed_of, stopped_at}
-use Rattle.explanation_faults.specs.declared.passed_members.Sought.TheVariants.{NonFinal, FinalTooMany}
+use Rattle.explanation_names.specs.Working.PassedFound.{beyond, met_along, met_at, met_by, met_for, met_of}
+use Rattle.explanation_names.specs.PassedMembers.{next_members, passed_along, passed_at, passed_by, passed_for}
+use Rattle.explanation_names.specs.PassedMembers.{passed_of, stopped_at}
+use Rattle.explanation_names.specs.declared.passed_members.Sought.TheVariants.{NonFinal, FinalTooMany}
 use Rattle.explanation_faults.proofs.FirstBy.{some_first, first_from}
 use Rattle.explanation_faults.proofs.PassedMembers.{gone_on}
 use Rattle.explanation_faults.proofs.Places.{at_has, has_at}

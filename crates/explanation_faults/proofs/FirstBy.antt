@@ -5,7 +5,7 @@ use Rattle.std.specs.List.{cons_option, filter_map}
 use Rattle.std.specs.Prelude.{slice_get}
 use Rattle.core_lang.specs.Theory.Items.{next_of}
 use Rattle.resolution.specs.Where.{Has, first, further}
-use Rattle.explanation_faults.specs.FirstBy.{first_by, IsFirst}
+use Rattle.explanation_names.specs.FirstBy.{first_by, IsFirst}
 
 module _ {A B : Type 0} (f : A → Option B) where
   of_front : (o : Option B) (y : B) (ys : List B) → o ≡ Some y → slice_get (cons_option o ys) 0 ≡ Some y

@@ -2,14 +2,14 @@
 use Rattle.std.proofs.Common.{◌≡◌, ◌∙◌, ℕ, ◌<◌, List, ◌∷◌, Option, Some, None, true, false, inl, inr, refl, sym, ap, subst, arith, lt-ltb}
 use Rattle.std.specs.Prelude.{◌==◌, min, nat_lt}
 use Rattle.std.proofs.lemmas.Bool.{ltb-true, both_ways, or_right, and_from, eq-eqb}
-use Rattle.core_lang_calls.specs.Depths.{depth, is_endless}
-use Rattle.core_lang_calls.specs.Working.FaultLists.{graph_faults}
-use Rattle.core_lang_calls.specs.Faults.{DEPTH_LIMIT, IsGraphFault, over_limit, IsOverLimit, too_deep, too_many_locals}
-use Rattle.core_lang_calls.specs.Faults.{too_many_points}
-use Rattle.core_lang_calls.specs.Graphs.{Body, Graph}
-use Rattle.core_lang_calls.specs.Working.Tables.{IsExtents, IsExtentOf, extent_at, is_deep_by}
-use Rattle.core_lang_calls.specs.declared.extents.Extent.{Extent}
-use Rattle.core_lang_calls.specs.Working.Laws.{FaultsAreListed, ListedAreFaults}
+use Rattle.core_lang_helpers.specs.Depths.{depth, is_endless}
+use Rattle.core_lang_helpers.specs.Working.FaultLists.{graph_faults}
+use Rattle.core_lang_helpers.specs.Faults.{DEPTH_LIMIT, IsGraphFault, over_limit, IsOverLimit, too_deep, too_many_locals}
+use Rattle.core_lang_helpers.specs.Faults.{too_many_points}
+use Rattle.core_lang_helpers.specs.Graphs.{Body, Graph}
+use Rattle.core_lang_helpers.specs.Working.Tables.{IsExtents, IsExtentOf, extent_at, is_deep_by}
+use Rattle.core_lang_helpers.specs.declared.extents.Extent.{Extent}
+use Rattle.core_lang_helpers.specs.Working.Laws.{FaultsAreListed, ListedAreFaults}
 use Rattle.resolution.specs.CallGraphs.{tree_graph}
 use Rattle.source.specs.Theory.Leasts.{least_in, neither_before, none_before, some_least}
 use Rattle.source.specs.Mistakes.{code_number, goes_before, least_of}

@@ -1,10 +1,7 @@
-pub mod Grown
-pub mod Firsts
 pub mod Places
 pub mod Declared
 pub mod Scopes
 pub mod Twice
-pub mod Ends
 pub mod FirstInits
 pub mod FirstBy
 pub mod Given
@@ -16,7 +13,6 @@ pub mod LocksAtHand
 pub mod PassedMembers
 pub mod FinalsPassed
 pub mod MissingInits
-pub mod Structs
 pub mod VarsNoted
 pub mod VarsThere
 pub mod Telling

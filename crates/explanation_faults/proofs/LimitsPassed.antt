@@ -11,13 +11,13 @@ use Rattle.resolution.specs.Limits.{PARAMETER_LIMIT, LOCAL_LIMIT}
 use Rattle.resolution.specs.Scopes.{member_name}
 use Rattle.resolution.specs.Where.{Has}
 use Rattle.syntax.specs.Trees.{Ident, Decl, lock, struct, global, array, pool, init, atomic, helper, thread}
-use Rattle.explanation_faults.specs.FirstBy.{first_by}
+use Rattle.explanation_names.specs.FirstBy.{first_by}
 use Rattle.explanation_faults.specs.Working.LimitsFound.{some_starts, is_past, said_if, limit_of_all, limit_in}
 use Rattle.explanation_faults.specs.Working.LimitsFound.{limit_passed}
 use Rattle.explanation_faults.specs.LimitsPassed.{IsPast, IsCountPassed, structs, bodies, threads, classes, members}
 use Rattle.explanation_faults.specs.LimitsPassed.{parameters, locals, struct_name, body_name, thread_name, lock_names}
 use Rattle.explanation_faults.specs.LimitsPassed.{parameter_names}
-use Rattle.explanation_faults.specs.NameSpaces.{local_names}
+use Rattle.explanation_names.specs.NameSpaces.{local_names}
 use Rattle.explanation_faults.proofs.FirstBy.{some_first, first_from}
 
 -- ---- names past a limit

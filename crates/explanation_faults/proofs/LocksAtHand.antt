@@ -8,7 +8,7 @@ use Rattle.resolution.specs.Where.{Has, first, further}
 use Rattle.syntax.specs.Trees.{Ident, Protection, Field, Member, lock_member, final_member, field_member, Struct, Decl}
 use Rattle.syntax.specs.Trees.{lock, struct, global, array, pool, init, atomic, helper, thread}
 use Rattle.core_lang.specs.Theory.Items.{if_some}
-use Rattle.explanation_faults.specs.FirstBy.{IsFirst}
+use Rattle.explanation_names.specs.FirstBy.{IsFirst}
 use Rattle.explanation_faults.specs.LocksAtHand.{IsNearest, inside, outside, IsAtHand, for_global, for_array, for_field}
 use Rattle.explanation_faults.specs.Working.LocksFound.{field_lacks_lock, global_lock, lacks_lock, lock_at_hand}
 use Rattle.explanation_faults.specs.Working.LocksFound.{lock_for, lock_in, own_lock, some_lacks_lock}

@@ -6,8 +6,8 @@ use Rattle.syntax.specs.Trees.{Decl}
 use Rattle.explanation_names.specs.NearNames.{CouldStand, IsNear}
 use Rattle.explanation_names.specs.Working.Values.{NoneIsNear}
 use Rattle.explanation_faults.specs.FaultNotes.{HasNearName}
-use Rattle.explanation_faults.specs.NullMeant.{IsNullMeant, IsNullMeantBy}
-use Rattle.explanation_faults.specs.TokensThere.{name_there}
+use Rattle.explanation_names.specs.NullMeant.{IsNullMeant, IsNullMeantBy}
+use Rattle.explanation_names.specs.TokensThere.{name_there}
 
 module _ (tokens : List Tok) (decls : List Decl) (at : ℕ) where
   pub no_name : None ≡ name_there at tokens → HasNearName tokens decls at → ⊥

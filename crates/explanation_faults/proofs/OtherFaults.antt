@@ -8,7 +8,7 @@ use Rattle.resolution.specs.FirstFaults.{AreFirstFaults, Firsts, mistake_of}
 use Rattle.resolution.specs.Working.Findings.{first, first_of}
 use Rattle.source.specs.declared.fault.Code.{Code}
 use Rattle.source.specs.declared.fault.Code.TheVariants.{BadCharacter}
-use Rattle.core_lang_calls.specs.Faults.{IsGraphFault, recursive, over_limit}
+use Rattle.core_lang_helpers.specs.Faults.{IsGraphFault, recursive, over_limit}
 use Rattle.resolution.specs.CallGraphs.{tree_graph}
 use Rattle.resolution.specs.Faults as names
 use Rattle.resolution.specs.Faults.{IsFault}

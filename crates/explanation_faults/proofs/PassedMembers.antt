@@ -11,8 +11,8 @@ use Rattle.resolution.specs.Scopes.{the_decl, the_member}
 use Rattle.resolution.specs.Where.{annotates}
 use Rattle.syntax.specs.Trees.{Ident, Member, lock_member, final_member, field_member, Decl, lock, struct, global}
 use Rattle.syntax.specs.Trees.{array, pool, init, atomic, helper, thread}
-use Rattle.explanation_faults.specs.PassedMembers.{next_members, passed_along, passed_at, passed_by, passed_for}
-use Rattle.explanation_faults.specs.PassedMembers.{passed_of, stopped_at}
+use Rattle.explanation_names.specs.PassedMembers.{next_members, passed_along, passed_at, passed_by, passed_for}
+use Rattle.explanation_names.specs.PassedMembers.{passed_of, stopped_at}
 use Rattle.explanation_faults.proofs.FirstBy.{some_first}
 use Rattle.explanation_faults.proofs.Places.{at_has}
 

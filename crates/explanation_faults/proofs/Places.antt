@@ -1,10 +1,8 @@
 -- Elements of lists by their places, and the first of those that pass a test.
-use Rattle.std.proofs.Common.{◌≡◌, ◌∙◌, ◌+◌, ℕ, zero, suc, Bool, true, false, List, [], ◌∷◌, ◌++◌, length, take, map}
-use Rattle.std.proofs.Common.{get_or, Option, Some, None, refl, sym, ap, ◌<◌, arith}
+use Rattle.std.proofs.Common.{◌≡◌, ◌∙◌, ◌+◌, ℕ, zero, suc, Bool, true, false, List, [], ◌∷◌, ◌++◌, length, take}
+use Rattle.std.proofs.Common.{Option, Some, None, refl, ap, arith}
 use Rattle.std.specs.Prelude.{slice_get, ◌||◌, if◌then◌else◌}
-use Rattle.std.specs.Option.{option_map}
-use Rattle.std.proofs.lemmas.List.{length-map}
-use Rattle.std.proofs.lemmas.Option.{same_Some, slice_get_read, slice_get_within, slice_get-map}
+use Rattle.std.proofs.lemmas.Option.{same_Some}
 use Rattle.resolution.specs.Scopes.{◌>>=◌, named, place_from, place_of}
 use Rattle.resolution.specs.Where.{Has, first, further}
 
@@ -17,17 +15,6 @@ pub at_has : {A : Type 0} (xs : List A) (k : ℕ) (x : A) → slice_get xs k ≡
 at_has [] k x e = absurd cc
 at_has (y ∷ xs) zero x e = rw (same_Some y x e) first
 at_has (y ∷ xs) (suc k) x e = further (at_has xs k x e)
-
--- an element of what is seen by a view
-pub viewed_at : {A B : Type 0} (view : A → B) (xs ys : List A) (k : ℕ) (x : A) → ys ≡ xs → x ≡ get_or ys k x →
-    k < length ys →
-    slice_get (map view xs) k ≡ Some (view x)
-viewed_at view xs ys k x same is lt =
-    ap (λ l. slice_get (map view l) k) (sym same) ∙ slice_get-map view ys k ∙ ap (option_map view) (slice_get_read ys (length ys) k x refl lt is)
-
-pub within_view : {A B : Type 0} (view : A → B) (xs ys : List A) (k : ℕ) (y : B) → ys ≡ xs →
-    slice_get (map view xs) k ≡ Some y → k < length ys
-within_view view xs ys k y same at = omega (arith, slice_get_within (map view xs) k y at, length-map xs view, ap length same)
 
 -- the element behind some others
 pub at_front : {A : Type 0} (before behind : List A) (x : A) → slice_get (before ++ x ∷ behind) (length before) ≡ Some x

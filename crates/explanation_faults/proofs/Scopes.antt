@@ -13,7 +13,7 @@ use Rattle.core_lang.specs.declared.tree.LocalKind.TheVariants.{Parameter}
 use Rattle.resolution.specs.Statements.{after, after_else, after_all}
 use Rattle.resolution.specs.Where.{Has, HasBody, of_section, of_helper, HasStmt, in_body, Among, here, later, in_then}
 use Rattle.resolution.specs.Where.{in_else, in_while, Binds, parameter, a_let, an_owned_let, a_called_let, a_var}
-use Rattle.explanation_faults.specs.NameSpaces.{bound_names, names_in_else, names_among, local_names, inner_names}
+use Rattle.explanation_names.specs.NameSpaces.{bound_names, names_in_else, names_among, local_names, inner_names}
 
 abbrev Texts : Type 0
 Texts = List (List ℕ)

@@ -8,8 +8,8 @@ use Rattle.core_lang.specs.Theory.Items.{still_at}
 use Rattle.resolution.specs.Faults.{IsDeclaredTwice, two_decls, two_members, two_locals, top_level}
 use Rattle.resolution.specs.Scopes as scopes
 use Rattle.resolution.specs.Scopes.{bears, declared, is_called, local_bears, member_bears, member_name, named}
-use Rattle.explanation_faults.specs.NameSpaces.{with_name, top_names, inner_names, ident_bears, Repeats, Bears, inside}
-use Rattle.explanation_faults.specs.NameSpaces.{outside, IsDeclaredAs, at_the_top, in_one}
+use Rattle.explanation_names.specs.NameSpaces.{with_name, top_names, inner_names, ident_bears, Repeats, Bears, inside}
+use Rattle.explanation_names.specs.NameSpaces.{outside, IsDeclaredAs, at_the_top, in_one}
 use Rattle.explanation_faults.proofs.Places.{some_pass, found_passes, passing, passing_at, named_passes, at_front}
 use Rattle.explanation_faults.proofs.Places.{take_front}
 use Rattle.explanation_faults.proofs.Scopes as locals

@@ -12,13 +12,15 @@ use Rattle.resolution.specs.Where.{Has, first, further}
 use Rattle.source.specs.Tokens.{Tok}
 use Rattle.syntax.specs.Trees.{Ident, lone, element, path, Expr, Local, Stmt, let_local, let_owned, let_call}
 use Rattle.syntax.specs.Trees.{var_local, assign, if_then, while, print, return_value, call, Section, Decl}
-use Rattle.explanation_faults.specs.FirstBy.{first_by}
-use Rattle.explanation_faults.specs.MissingReturns.{body_of}
-use Rattle.explanation_faults.specs.TokensThere.{token_at, name_of, has_two_fields}
-use Rattle.explanation_faults.specs.Vars.{all_of, Encloses, IsAssigned, IsIn, IsVar, IsVarNote, IsVarThere, needed}
-use Rattle.explanation_faults.specs.Vars.{not_needed, var_note, fixed_note}
-use Rattle.explanation_faults.specs.Working.VarsFound.{assigns, encloses, section_if, section_there, some_assigns}
-use Rattle.explanation_faults.specs.Working.VarsFound.{var_in, var_noted}
+use Rattle.explanation_names.specs.FirstBy.{first_by}
+use Rattle.explanation_names.specs.MissingReturns.{body_of}
+use Rattle.explanation_names.specs.TokensThere.{token_at, name_of, has_two_fields}
+use Rattle.explanation_names.specs.Vars.{all_of, Encloses, IsAssigned, IsIn, IsVar}
+use Rattle.explanation_faults.specs.VarNotes.{IsVarNote, IsVarThere, needed}
+use Rattle.explanation_faults.specs.VarNotes.{not_needed, var_note, fixed_note}
+use Rattle.explanation_names.specs.Working.VarsFound.{assigns, encloses, section_if, section_there, some_assigns}
+use Rattle.explanation_names.specs.Working.VarsFound.{var_in}
+use Rattle.explanation_faults.specs.Working.VarsFound.{var_noted}
 use Rattle.explanation_faults.proofs.FirstBy.{given_by, given_back}
 use Rattle.explanation_faults.proofs.VarsNoted.{noted_by}
 

@@ -1,11 +1,11 @@
--- Which limit on objects, cells or calls is passed.
+-- The limit on objects, cells or calls that is exceeded.
 use Rattle.std.specs.Prelude.{◌≡◌, ◌+◌, ◌<◌, ◌≤◌, ℕ, List, take, slice_get, Some, codes}
 use Rattle.resolution.specs.Limits.{OBJECT_LIMIT, CELL_LIMIT, CALL_LIMIT}
 use Rattle.resolution.specs.Numbers.{objects_of, cells_of, calls_of, total}
 use Rattle.resolution.specs.Scopes.{declared}
 use Rattle.syntax.specs.Trees.{Ident, Decl}
 
--- the declaration whose name begins there is the one with which there is first more than the limit, of what declarations have
+-- the declaration whose name begins at this byte is the first one with which the sum of `of` exceeds the limit
 pub record IsFirstOver (of : Decl → ℕ) (decls : List Decl) (at limit : ℕ) : Type 0 where
   pub place : ℕ
   pub decl : Decl
@@ -16,7 +16,7 @@ pub record IsFirstOver (of : Decl → ℕ) (decls : List Decl) (at limit : ℕ) 
   pub few : total of (take place decls) ≤ limit
   pub many : limit < total of (take place decls) + of decl
 
--- what is said of such a limit that is passed there
+-- the words on such a limit that is exceeded at this byte
 pub data IsAmountPassed (decls : List Decl) (at : ℕ) : List ℕ → Type 0 where
   objects : IsFirstOver objects_of decls at OBJECT_LIMIT →
       IsAmountPassed decls at (codes "a program has at most 65536 objects")

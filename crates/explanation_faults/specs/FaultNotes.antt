@@ -1,4 +1,4 @@
--- What is told of a fault beyond its line.
+-- The notes on a fault.
 use Rattle.std.specs.Fmt.{decimal}
 use Rattle.std.specs.Prelude.{◌≡◌, ◌≤◌, ◌⊎◌, ℕ, List, ◌∷◌, ◌++◌, Some, None, All, false, codes, length}
 use Rattle.explanation.specs.Notes.{Note}
@@ -23,72 +23,87 @@ use Rattle.explanation_faults.specs.HelperLimits.{IsFirstOfHelpers, IsHelperLimi
 use Rattle.explanation_faults.specs.LimitsPassed.{AreFinalsPassed, IsCountPassed}
 use Rattle.explanation_faults.specs.LocksAtHand.{IsAtHand}
 use Rattle.explanation_faults.specs.MissingInits.{IsGap, IsNullGiven}
-use Rattle.explanation_faults.specs.MissingReturns.{IsLacking}
-use Rattle.explanation_faults.specs.NameSpaces.{IsDeclaredAs}
-use Rattle.explanation_faults.specs.NullMeant.{IsNullMeant}
-use Rattle.explanation_faults.specs.PassedMembers.{passed_at}
+use Rattle.explanation_names.specs.MissingReturns.{IsLacking}
+use Rattle.explanation_names.specs.NameSpaces.{IsDeclaredAs}
+use Rattle.explanation_names.specs.NullMeant.{IsNullMeant}
+use Rattle.explanation_names.specs.PassedMembers.{passed_at}
 use Rattle.explanation_faults.specs.PathsPassed.{ArePathsFirst, ArePathsPast}
-use Rattle.explanation_faults.specs.TokensThere.{name_there}
-use Rattle.explanation_faults.specs.Vars.{IsIn, IsVarNote, IsVarThere}
+use Rattle.explanation_names.specs.TokensThere.{name_there}
+use Rattle.explanation_names.specs.Vars.{IsIn}
+use Rattle.explanation_faults.specs.VarNotes.{IsVarNote, IsVarThere}
 use Rattle.explanation_faults.specs.Words.{name_note, note_on, note_of_all}
 
 -- ---- words
 
+-- the note on the declaration of a name
 abbrev pub declared_note : Ident → Note
 declared_note x = name_note x (codes " is declared here")
 
+-- the note on a declared name that could be meant
 abbrev pub near_note : Ident → Note
 near_note x = name_note x (codes " could be meant, and is declared here")
 
+-- the note that `null` could be meant
 abbrev pub null_meant_note : Note
 null_meant_note = note_of_all (codes "`null` could be meant")
 
+-- the words on a lock that could protect something
 abbrev pub lock_words : Ident → List ℕ
 lock_words x = codes " could protect it: protected_by(" ++ x.text ++ codes ")"
 
+-- the note on such a lock
 abbrev pub lock_note : Ident → Note
 lock_note x = name_note x (lock_words x)
 
+-- the note on a member that is not a final reference
 abbrev pub passed_note : Member → Note
 passed_note m = name_note (member_name m) (codes " is declared here, and is no final reference")
 
--- of the member P[N] of a pool
+-- the words on the member P[N] of a pool
 abbrev pub gap_words : Pool → ℕ → List ℕ
 gap_words p n = codes " is final, and no init gives it for " ++ p.name.text ++ codes "[" ++ decimal n ++ codes "]"
 
+-- the note on a final reference that no `init` gives for the member P[N]
 abbrev pub gap_note : Pool → ℕ → Final → Note
 gap_note p n f = name_note f.name (gap_words p n)
 
+-- the note on a final reference that is set to null
 abbrev pub null_note : Final → Note
 null_note f = name_note f.name (codes " is final, and is never null")
 
+-- the note on an earlier `init` of a field
 abbrev pub given_note : Init → Note
 given_note i = note_on i.start.start (i.field.text ++ codes " is given here")
 
+-- the note on a name whose body lacks its `return`
 abbrev pub missing_note : Ident → Note
 missing_note x = name_note x (codes " has a result, and its body does not end in a return")
 
+-- the note on a name that lacks its result type
 abbrev pub typeless_note : Ident → Note
 typeless_note x = name_note x (codes " has no result type: write one after its parameters, as : int")
 
+-- the note on a misplaced `return`
 abbrev pub misplaced_note : Note
 misplaced_note = note_of_all (codes "this return is not the last statement of a body with a result")
 
+-- the words on the limit of final references
 abbrev pub finals_words : List ℕ
 finals_words = codes "an annotation goes over at most 3 final references"
 
+-- the words on the limit of lock paths
 abbrev pub path_words : List ℕ
 path_words = codes "a section has at most 64 lock paths that differ"
 
--- ---- truth, by the fault's code
+-- ---- truth, given the fault's code
 
--- E05: where the name is declared that this one is the same as
+-- E05: the place of the declaration with the same name
 pub record IsDeclaredNote (decls : List Decl) (at : ℕ) (note : Note) : Type 0 where
   pub name : Ident
   pub declared : IsDeclaredAs decls at name
   pub said : note ≡ declared_note name
 
--- near the name there is one that could stand in its place
+-- a name that could stand in place of this one is similar to it
 pub record HasNearName (tokens : List Tok) (decls : List Decl) (at : ℕ) : Type 0 where
   pub unknown : List ℕ
   pub there : name_there at tokens ≡ Some unknown
@@ -96,7 +111,7 @@ pub record HasNearName (tokens : List Tok) (decls : List Decl) (at : ℕ) : Type
   pub could : CouldStand decls at name
   pub near : IsNear unknown name.text
 
--- E06: of the names that could stand in the place of the unknown one the nearest
+-- E06: the most similar of the names that could stand in place of the unknown one
 pub record IsNearNote (tokens : List Tok) (decls : List Decl) (at : ℕ) (note : Note) : Type 0 where
   pub unknown : List ℕ
   pub there : name_there at tokens ≡ Some unknown
@@ -104,25 +119,25 @@ pub record IsNearNote (tokens : List Tok) (decls : List Decl) (at : ℕ) (note :
   pub nearest : IsNearestOf (CouldStand decls at) unknown name
   pub said : note ≡ near_note name
 
--- where none is near, `null`
+-- `null`, where no name is similar
 pub record IsNullMeantNote (tokens : List Tok) (decls : List Decl) (at : ℕ) (note : Note) : Type 0 where
   pub none : HasNearName tokens decls at → ⊥
   pub meant : IsNullMeant tokens at
   pub said : note ≡ null_meant_note
 
--- E10: the lock that could protect it
+-- E10: a lock that could protect it
 pub record IsLockNote (decls : List Decl) (at : ℕ) (note : Note) : Type 0 where
   pub name : Ident
   pub at_hand : IsAtHand decls at name
   pub said : note ≡ lock_note name
 
--- E12: where the member is declared that is passed
+-- E12: the place of the declaration of the member that the annotation passes
 pub record IsPassedNote (decls : List Decl) (at : ℕ) (note : Note) : Type 0 where
   pub member : Member
   pub passed : passed_at decls at ≡ Some member
   pub said : note ≡ passed_note member
 
--- E15: which limit is passed
+-- E15: the exceeded limit
 pub data IsLimitPassed (tokens : List Tok) (decls : List Decl) (at : ℕ) : List ℕ → Type 0 where
   of_count : {words : List ℕ} → IsCountPassed decls at words → IsLimitPassed tokens decls at words
   of_amount : {words : List ℕ} → IsAmountPassed decls at words → IsLimitPassed tokens decls at words
@@ -130,24 +145,25 @@ pub data IsLimitPassed (tokens : List Tok) (decls : List Decl) (at : ℕ) : List
   of_helpers : {words : List ℕ} → IsHelperLimit decls at words → IsLimitPassed tokens decls at words
   of_paths : ArePathsPast tokens at → IsLimitPassed tokens decls at path_words
 
+-- E15: the words on the exceeded limit
 pub record IsLimitNote (tokens : List Tok) (decls : List Decl) (at : ℕ) (note : Note) : Type 0 where
   pub words : List ℕ
   pub passed : IsLimitPassed tokens decls at words
   pub said : note ≡ note_of_all words
 
--- E16: which `init` is missing; or the final reference that is given null
+-- E16: the missing `init`; or the final reference that is set to null
 pub data IsFinalNote (decls : List Decl) (at : ℕ) : Note → Type 0 where
   gap : {p : Pool} {n : ℕ} {f : Final} → IsGap decls at p n f → IsFinalNote decls at (gap_note p n f)
   null : {f : Final} → IsNullGiven decls at f → IsFinalNote decls at (null_note f)
 
--- E17: where the first `init` is that gives what this one gives
+-- E17: the place of the first `init` of the same field
 pub record IsGivenNote (decls : List Decl) (at : ℕ) (note : Note) : Type 0 where
   pub first : Init
   pub given : IsGivenFirst decls at first
   pub said : note ≡ given_note first
 
--- E18: a section or a helper whose return is missing; or, where none is missing there, the one that the place is in, if that has no result
--- type, else that the return there is misplaced
+-- E18: a section or a helper whose return is missing. Where none is missing there, it is the enclosing section or helper, if
+-- that is without a result type, and otherwise that the return is misplaced
 pub data IsReturnNote (decls : List Decl) (at : ℕ) : Note → Type 0 where
   missing : {x : Ident} → IsLacking decls at x → IsReturnNote decls at (missing_note x)
   typeless : {s : Section} → ((x : Ident) → IsLacking decls at x → ⊥) → IsIn decls at s → s.result ≡ None →
@@ -155,7 +171,7 @@ pub data IsReturnNote (decls : List Decl) (at : ℕ) : Note → Type 0 where
   misplaced : ((x : Ident) → IsLacking decls at x → ⊥) → ((s : Section) → IsIn decls at s → s.result ≡ None → ⊥) →
       IsReturnNote decls at misplaced_note
 
--- of a fault of this code at this byte of the tokens and their tree, the note says what is so
+-- the note is true for a fault of this code at this byte of the tokens and their tree
 abbrev pub IsTrueNote : List Tok → List Decl → Code → ℕ → Note → Type 0
 IsTrueNote tokens decls DeclaredTwice at note = IsDeclaredNote decls at note
 IsTrueNote tokens decls UnknownName at note = IsNearNote tokens decls at note ⊎ IsNullMeantNote tokens decls at note
@@ -171,26 +187,26 @@ IsTrueNote tokens decls InitOutOfRangeOrRepeated at note = IsGivenNote decls at 
 IsTrueNote tokens decls MisplacedReturn at note = IsReturnNote decls at note
 IsTrueNote tokens decls code at note = ⊥
 
--- ---- where one must be told
+-- ---- required notes
 
--- a fault of this code stands there, and none of the program goes before it
+-- a fault of this code stands at this byte, and no fault of the program goes before it
 pub record IsFirstFault (decls : List Decl) (code : Code) (at : ℕ) : Type 0 where
   pub is_fault : IsFault decls code at
   pub first : (other : Code) (p : ℕ) → IsFault decls other p →
       goes_before (record { code = other; start = p }) (record { code = code; start = at }) ≡ false
 
--- something there lacks an annotation, and a lock could protect it
+-- something at this byte lacks an annotation, and a lock could protect it
 pub record IsLockWanted (decls : List Decl) (at : ℕ) : Type 0 where
   pub name : Ident
   pub at_hand : IsAtHand decls at name
 
--- an `init` there gives what one before it gives
+-- an `init` at this byte sets the same field as an earlier one
 pub data IsGivenAgain (decls : List Decl) : ℕ → Type 0 where
   given_again : (before behind : List Decl) (j : Init) {g : InitTarget} {e : ℕ × Decl} →
       decls ≡ before ++ init j ∷ behind → init_target_of decls j ≡ Some g → giver decls before g ≡ Some e →
       IsGivenAgain decls j.start.start
 
--- a limit that is passed there; of those on helpers and on lock paths one that is the first fault of its kind
+-- a limit that is exceeded at this byte; for the limits on helpers and on lock paths it is the first fault of its kind
 pub data IsLimitTold (tokens : List Tok) (decls : List Decl) (at : ℕ) : Type 0 where
   count_told : {words : List ℕ} → IsCountPassed decls at words → IsLimitTold tokens decls at
   amount_told : {words : List ℕ} → IsAmountPassed decls at words → IsLimitTold tokens decls at
@@ -198,6 +214,7 @@ pub data IsLimitTold (tokens : List Tok) (decls : List Decl) (at : ℕ) : Type 0
   helpers_told : IsFirstOfHelpers decls at → IsLimitTold tokens decls at
   paths_told : ArePathsFirst tokens at → IsLimitTold tokens decls at
 
+-- when a fault of this code at this byte has to have a note
 abbrev pub IsTold : List Tok → List Decl → Code → ℕ → Type 0
 IsTold tokens decls DeclaredTwice at = IsDeclaredTwice decls at
 IsTold tokens decls UnknownName at = HasNearName tokens decls at ⊎ IsNullMeant tokens at
@@ -213,7 +230,7 @@ IsTold tokens decls InitOutOfRangeOrRepeated at = IsGivenAgain decls at
 IsTold tokens decls MisplacedReturn at = Unit {0}
 IsTold tokens decls code at = ⊥
 
--- the notes are true, and there is one where there must be
+-- the notes are true, and there is one where one is required
 pub record AreNotes (tokens : List Tok) (decls : List Decl) (code : Code) (at : ℕ) (notes : List Note) : Type 0 where
   pub are_true : All (IsTrueNote tokens decls code at) notes
   pub told : IsTold tokens decls code at → 1 ≤ length notes

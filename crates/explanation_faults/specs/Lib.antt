@@ -1,23 +1,17 @@
-pub mod NameSpaces
 pub mod Inits
-pub mod MissingReturns
-pub mod FirstBy
 pub mod LimitsPassed
 pub mod AmountsPassed
 pub mod HelperLimits
 pub mod PathsPassed
-pub mod TokensThere
-pub mod Vars
 pub mod Words
+pub mod VarNotes
 pub mod ReasonNotes
 pub mod LocksAtHand
-pub mod PassedMembers
 pub mod MissingInits
-pub mod NullMeant
 pub mod FaultNotes
 pub mod TextNotes
 pub mod FurtherFaults
 pub mod Working
--- what the public clauses cite
+-- the definitions that the public clauses cite
 pub use Rattle.explanation_faults.specs.TextNotes.{AreTextNotes}
 pub use Rattle.explanation_faults.specs.FurtherFaults.{AreFurther}

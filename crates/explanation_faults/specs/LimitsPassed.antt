@@ -1,4 +1,4 @@
--- Which limit on declarations, members, locals or the final references of an annotation is passed.
+-- The limit on declarations, members, locals or the final references of an annotation that is exceeded.
 use Rattle.std.specs.List.{filter_map, flat_map}
 use Rattle.std.specs.Prelude.{◌≡◌, ◌≤◌, ℕ, List, [], ◌∷◌, ◌++◌, length, map, Option, Some, None, codes}
 use Rattle.resolution.specs.Annotations.{AnnotationCursor}
@@ -9,44 +9,48 @@ use Rattle.resolution.specs.Scopes.{member_name, the_member}
 use Rattle.resolution.specs.Where.{Has}
 use Rattle.syntax.specs.Trees.{Ident, Protection, Final, Member, lock_member, final_member, Param, Struct, Section}
 use Rattle.syntax.specs.Trees.{Decl, lock, struct, atomic, helper, thread}
-use Rattle.explanation_faults.specs.NameSpaces.{local_names}
+use Rattle.explanation_names.specs.NameSpaces.{local_names}
 
 -- ---- names of a kind
 
+-- the name of a struct
 abbrev pub struct_name : Decl → Option Ident
 struct_name (struct s) = Some s.name
 struct_name _ = None
 
--- of a section or a helper
+-- the name of a section or a helper
 abbrev pub body_name : Decl → Option Ident
 body_name (atomic s) = Some s.name
 body_name (helper s) = Some s.name
 body_name _ = None
 
+-- the name of a thread
 abbrev pub thread_name : Decl → Option Ident
 thread_name (thread t) = Some t.name
 thread_name _ = None
 
+-- the name of the lock that a member is, if it is one
 abbrev pub own_lock_in : Member → Option Ident
 own_lock_in (lock_member x) = Some x
 own_lock_in _ = None
 
--- of the locks of a struct
+-- the names of the locks of a struct
 abbrev pub own_lock_names : List Member → List Ident
 own_lock_names members = filter_map own_lock_in members
 
--- of the locks that a declaration has
+-- the names of the locks that a declaration has
 abbrev pub lock_names : Decl → List Ident
 lock_names (lock x) = x ∷ []
 lock_names (struct s) = own_lock_names s.members
 lock_names _ = []
 
+-- the names of parameters
 abbrev pub parameter_names : List Param → List Ident
 parameter_names params = map (λ (p : Param). p.name) params
 
--- ---- which are too many
+-- ---- exceeded limits
 
--- one of these names begins there, and ahead of it are as many as there may be
+-- one of these names begins at this byte, and the limit is reached before it
 pub record IsPast (at limit : ℕ) (names : List Ident) : Type 0 where
   pub before : List Ident
   pub name : Ident
@@ -55,7 +59,7 @@ pub record IsPast (at limit : ℕ) (names : List Ident) : Type 0 where
   pub many : limit ≤ length before
   pub starts : name.span.start ≡ at
 
--- what is said of such a limit that is passed there
+-- the words on such a limit that is exceeded at this byte
 pub data IsCountPassed (decls : List Decl) (at : ℕ) : List ℕ → Type 0 where
   structs : IsPast at STRUCT_LIMIT (filter_map struct_name decls) →
       IsCountPassed decls at (codes "a program has at most 64 structs")
@@ -72,7 +76,7 @@ pub data IsCountPassed (decls : List Decl) (at : ℕ) : List ℕ → Type 0 wher
   locals : {s : Section} → Has decls (atomic s) → IsPast at LOCAL_LIMIT (local_names s) →
       IsCountPassed decls at (codes "a section has at most 64 locals, parameters included")
 
--- a field's annotation that begins there goes over a final reference, and over as many as there may be ahead of it
+-- a field's annotation that begins at this byte goes over a final reference, and has reached the limit of these before it
 pub data AreFinalsPassed (decls : List Decl) : ℕ → Type 0 where
   finals_passed : {p : Protection} {st : AnnotationCursor} {y z : Ident} {zs : List Ident} {i : ℕ} {f : Final} →
       Walks decls p st y (z ∷ zs) → the_member st.members y.text ≡ Some (i, final_member f) → FINAL_LIMIT ≤ length st.through →

@@ -1,16 +1,18 @@
--- Which lock could protect what has none.
+-- The lock that could protect what does not have one.
 use Rattle.std.specs.Prelude.{◌≡◌, ℕ, List, None}
 use Rattle.resolution.specs.Where.{Has}
 use Rattle.syntax.specs.Trees.{Ident, Field, Member, lock_member, field_member, Struct, Variable, Array, Decl, lock}
 use Rattle.syntax.specs.Trees.{struct, global, array}
-use Rattle.explanation_faults.specs.FirstBy.{IsFirst}
+use Rattle.explanation_names.specs.FirstBy.{IsFirst}
 
--- of a struct with these members: its first lock, or if it has none, the first of the top level
+-- the lock for a field of a struct with these members: the struct's first lock, or, if it does not have one, the first of
+-- the top level
 pub data IsNearest (decls : List Decl) (members : List Member) (x : Ident) : Type 0 where
   inside : IsFirst lock_member members x → IsNearest decls members x
   outside : ((y : Ident) → Has members (lock_member y) → ⊥) → IsFirst lock decls x → IsNearest decls members x
 
--- of what has its name there and no annotation: of a field the nearest lock, of a global or an array the first of the top level
+-- the lock for what has its name at this byte and no annotation: for a field the nearest lock, for a global or an array the
+-- first of the top level
 pub data IsAtHand (decls : List Decl) (at : ℕ) (x : Ident) : Type 0 where
   for_global : {v : Variable} → Has decls (global v) → v.protection ≡ None → v.name.span.start ≡ at →
       IsFirst lock decls x → IsAtHand decls at x

@@ -1,7 +1,7 @@
 -- Whether a section has too many lock paths.
 use Rattle.std.specs.Prelude.{◌≡◌, ℕ, List, false}
 use Rattle.core_lang.specs.declared.typed.Typed.{Typed}
-use Rattle.core_lang_expansion.specs.Data.{IsExpanded}
+use Rattle.core_lang_helpers.specs.Data.{IsExpanded}
 use Rattle.locks.specs.Faults.{IsFault, IsOverLimit}
 use Rattle.resolution.specs.Faults.{HasNoFault}
 use Rattle.resolution.specs.Resolved.{Resolves}
@@ -12,7 +12,7 @@ use Rattle.source.specs.declared.fault.Code.TheVariants.{LimitExceeded}
 use Rattle.syntax.specs.Faults.{HasRightTree}
 use Rattle.syntax.specs.Trees.{Decl}
 
--- the program is what the tokens mean, with its helpers written out
+-- the program is the expansion of what the tokens mean
 pub record IsMeantProgram (tokens : List Tok) (written : Typed) : Type 0 where
   pub tree : List Decl
   pub program : Typed
@@ -20,7 +20,7 @@ pub record IsMeantProgram (tokens : List Tok) (written : Typed) : Type 0 where
   pub resolves : Resolves tree program
   pub expanded : IsExpanded program written
 
--- a section of it has more lock paths than it may, with the access that starts there for the first time
+-- with the access that starts at this byte, a section of the program first has more lock paths than the limit
 pub record ArePathsPast (tokens : List Tok) (at : ℕ) : Type 0 where
   pub written : Typed
   pub meant : IsMeantProgram tokens written
@@ -33,7 +33,7 @@ IsFirstOfPaths written at =
     × ((code : Code) (p : ℕ) → IsFault written code p →
     goes_before (record { code = code; start = p }) (record { code = LimitExceeded; start = at }) ≡ false)
 
--- the tokens mean a program, and whichever this is, too many lock paths are its first fault
+-- the tokens mean a program, and for each such program too many lock paths are the first fault
 pub record ArePathsFirst (tokens : List Tok) (at : ℕ) : Type 0 where
   pub tree : List Decl
   pub has_tree : HasRightTree tokens tree

@@ -1,4 +1,4 @@
--- What is said of a fault by its reason.
+-- The notes with the reasons of faults.
 use Rattle.std.specs.Fmt.{decimal}
 use Rattle.std.specs.Prelude.{◌≡◌, ℕ, List, [], ◌++◌, Option, Some, None, codes}
 use Rattle.core_lang.specs.declared.tree.LocalKind.TheVariants as local
@@ -25,6 +25,7 @@ use Rattle.explanation_faults.specs.Words.{note_of_all}
 
 -- ---- types in words
 
+-- the name of a struct; empty for none
 abbrev pub struct_words : Option Struct → List ℕ
 struct_words (Some s) = s.name.text
 struct_words None = []
@@ -34,14 +35,17 @@ abbrev pub type_words : List Decl → ValueType → List ℕ
 type_words decls Integer = codes "int"
 type_words decls (Reference k) = codes "ref " ++ struct_words (the_struct decls k)
 
+-- a value's sort: its type, or null
 abbrev pub sort_words : List Decl → Sort → List ℕ
 sort_words decls (sort.Of t) = type_words decls t
 sort_words decls sort.Null = codes "null"
 
+-- an expression's kind: the sort of its value, or a condition
 abbrev pub kind_words : List Decl → Kind → List ℕ
 kind_words decls (kind.Value s) = sort_words decls s
 kind_words decls kind.Condition = codes "a condition"
 
+-- what is expected
 abbrev pub want_words : List Decl → Want → List ℕ
 want_words decls want.Anything = codes "any value"
 want_words decls want.Condition = codes "a condition"
@@ -49,6 +53,7 @@ want_words decls (want.Value t) = type_words decls t
 
 -- ---- names in words
 
+-- what a name stands for
 abbrev pub referent_words : Referent → List ℕ
 referent_words stands.Nothing = codes "unknown"
 referent_words (stands.Local local.Parameter) = codes "a parameter"
@@ -63,6 +68,7 @@ referent_words stands.Section = codes "a section"
 referent_words stands.Helper = codes "a helper"
 referent_words stands.Thread = codes "a thread"
 
+-- what is expected of a name
 abbrev pub role_words : Role → List ℕ
 role_words role.Value = codes ", and a value is wanted"
 role_words role.Elements = codes ", and an array or a pool is wanted"
@@ -73,7 +79,7 @@ role_words role.Section = codes ", and a section is wanted"
 role_words role.Helper = codes ", and a helper is wanted"
 role_words role.Target = codes ", and keeps what it is"
 
--- what helps, where something is known to
+-- a hint, where there is one
 abbrev pub hint_words : Role → Referent → List ℕ
 hint_words role.Value stands.Array = codes ": take an element by its index"
 hint_words role.Value stands.Pool = codes ": take a member by its index"
@@ -91,22 +97,27 @@ hint_words _ _ = []
 
 -- ---- reasons in words
 
+-- wanted .., found ..
 abbrev pub unwanted_words : List Decl → Want → Kind → List ℕ
 unwanted_words decls w k = codes "wanted " ++ want_words decls w ++ codes ", found " ++ kind_words decls k
 
+-- what the left and the right side are
 abbrev pub side_words : List Decl → Kind → Kind → List ℕ
 side_words decls a b = (codes "the left side is " ++ kind_words decls a) ++ (codes ", the right side is " ++ kind_words decls b)
 
+-- that a result is expected, and the helper has none
 abbrev pub no_result_words : List Decl → ValueType → List ℕ
 no_result_words decls t = codes "wanted " ++ type_words decls t ++ codes ", found no result"
 
+-- what a name stands for and what is expected of it, with a hint where there is one
 abbrev pub misnamed_words : Role → Referent → List ℕ
 misnamed_words r s = codes "this is " ++ referent_words s ++ role_words r ++ hint_words r s
 
+-- how many arguments are expected, and how many are given
 abbrev pub count_words : ℕ → ℕ → List ℕ
 count_words n k = (codes "arguments wanted: " ++ decimal n) ++ (codes ", given: " ++ decimal k)
 
--- those in the same words always
+-- the words of reasons that do not have parameters
 abbrev pub fixed_words : Why → List ℕ
 fixed_words why.OwnedInt = codes "wanted a reference, found int"
 fixed_words why.OwnerField = codes "this field can change, and a final reference is wanted"
@@ -116,6 +127,8 @@ fixed_words why.OperatorOfConditions = codes "this operator stands between condi
 fixed_words why.FinalTarget = codes "this is a final reference, and keeps what it is"
 fixed_words _ = []
 
+-- a reason in words: what is expected and what was found, what both sides are, what a name stands for, how many
+-- arguments
 abbrev pub reason_words : List Decl → Why → List ℕ
 reason_words decls (why.Unwanted w k) = unwanted_words decls w k
 reason_words decls (why.Unlike a b) = side_words decls a b
@@ -124,12 +137,13 @@ reason_words decls (why.Misnamed r s) = misnamed_words r s
 reason_words decls (why.Counted n k) = count_words n k
 reason_words decls w = fixed_words w
 
+-- the note with the words of a reason
 abbrev pub reason_note : List Decl → Why → Note
 reason_note decls w = note_of_all (reason_words decls w)
 
 -- ---- truth
 
--- E07, E08, E09: why a fault of this code is one there
+-- E07, E08, E09: the reason of a fault of this code at this byte
 pub record IsReasonNote (decls : List Decl) (code : Code) (at : ℕ) (note : Note) : Type 0 where
   pub why : Why
   pub is_so : IsFaultFor decls code at why

@@ -1,4 +1,4 @@
--- What is told of a fault of a text beyond its line.
+-- The notes on a fault of a text.
 use Rattle.std.specs.List.{starts_with}
 use Rattle.std.specs.Prelude.{◌≡◌, ◌<◌, ◌≤◌, ℕ, Bool, true, ◌||◌, nat_eq, List, [], ◌∷◌, All, codes, length, slice_get, Some}
 use Rattle.explanation.specs.Notes.{Note}
@@ -19,7 +19,8 @@ pub record HasTextTree (text : List ℕ) (tokens : List Tok) (decls : List Decl)
   pub has_tokens : HasTokens text tokens
   pub has_tree : HasTree tokens decls
 
--- what is said of the text's own limit that is passed there: it is too long, which is its one fault; or a name of it is
+-- the words on the text's own limit that is exceeded at this byte: the text is too long, which is its one fault; or a name
+-- of it is
 pub data IsTextLimit (text : List ℕ) : ℕ → List ℕ → Type 0 where
   source : SOURCE_LIMIT < length text → IsTextLimit text 0 (codes "a source has at most 1048576 bytes")
   a_name : {at : ℕ} (x : List ℕ) →
@@ -37,10 +38,12 @@ pub record IsMarkFault (text : List ℕ) (code : Code) (at : ℕ) : Type 0 where
   pub first : at ≡ 0
   pub marked : has_mark text ≡ true
 
+-- the words on a byte order mark
 abbrev pub mark_words : List ℕ
 mark_words = codes "the file begins with a byte order mark: save it as ASCII or UTF-8 without one"
 
--- of a fault of this code at this byte of the text, the note says what is so; of a text that is too long only that is said
+-- the note is true for a fault of this code at this byte of the text; for a text that is too long it can only be the note
+-- that says so
 pub data IsTrueTextNote (text : List ℕ) (code : Code) (at : ℕ) (note : Note) : Type 0 where
   of_tree : {tokens : List Tok} {decls : List Decl} →
       length text ≤ SOURCE_LIMIT → HasTextTree text tokens decls → IsTrueNote tokens decls code at note → IsTrueTextNote text code at note
@@ -52,21 +55,22 @@ pub data IsTrueTextNote (text : List ℕ) (code : Code) (at : ℕ) (note : Note)
   of_limit : {words : List ℕ} →
       code ≡ LimitExceeded → IsTextLimit text at words → note ≡ note_of_all words → IsTrueTextNote text code at note
 
+-- all these notes are true for a fault of this code at this byte
 abbrev pub AreTrueTextNotes : List ℕ → Code → ℕ → List Note → Type 0
 AreTrueTextNotes text code at notes = All (IsTrueTextNote text code at) notes
 
--- at an unexpected token of the text there is one where its tokens tell one
+-- at an unexpected token of the text there is a note, where the tokens require one
 abbrev pub IsExpectedTold : List ℕ → Code → ℕ → List Note → Type 0
 IsExpectedTold text code at notes =
     (tokens : List Tok) → length text ≤ SOURCE_LIMIT → HasTokens text tokens → IsUnexpected tokens at → IsTokenTold tokens code at → 1 ≤ length notes
 
--- and what is advised on it, if anything is, is the first note
+-- the advice on an unexpected token, if there is one, is the first note
 abbrev pub IsAdviceTold : List ℕ → Code → ℕ → List Note → Type 0
 IsAdviceTold text code at notes =
     (tokens : List Tok) (note : Note) → length text ≤ SOURCE_LIMIT → HasTokens text tokens → IsUnexpected tokens at →
     IsAdvice tokens code at note → slice_get notes 0 ≡ Some note
 
--- the notes are true, and there is one where there must be
+-- the notes are true, and there is one where one is required
 pub record AreTextNotes (text : List ℕ) (code : Code) (at : ℕ) (notes : List Note) : Type 0 where
   pub are_true : AreTrueTextNotes text code at notes
   pub told : (tokens : List Tok) (decls : List Decl) → length text ≤ SOURCE_LIMIT → HasTextTree text tokens decls →

@@ -1,13 +1,13 @@
--- Notes in words.
+-- The words of notes.
 use Rattle.explanation.specs.Notes.{Note}
 use Rattle.std.specs.Prelude.{ℕ, List, ◌++◌, Some, None}
 use Rattle.syntax.specs.Trees.{Ident}
 
--- of a place
+-- a note on a place
 abbrev pub note_on : ℕ → List ℕ → Note
 note_on start words = record { start = Some start; words = words }
 
--- of the fault as a whole
+-- a note on the fault as a whole
 abbrev pub note_of_all : List ℕ → Note
 note_of_all words = record { start = None; words = words }
 

@@ -1,4 +1,4 @@
-//! Which limit on objects, cells or calls is passed.
+//! The limit on objects, cells or calls that is exceeded.
 
 ghost use Rattle.std.specs.Prelude.{◌≡◌, ◌<◌, ◌≤◌, [], Decides, IfOk, length, map};
 ghost use Rattle.resolution.specs.Limits.{CALL_LIMIT};
@@ -14,17 +14,18 @@ ghost use Rattle.explanation_faults.specs.Working.Values.{FoundWords};
 
 use explanation_names::declared;
 use resolution::finding::Firsts;
+use source::limits;
 use source::memory::NoMemory;
 use syntax::tree::{Decl, Member, Pool};
 use types_symbols::members::Structure;
 use types_symbols::names::TableMaker;
 use types_symbols::table::SymbolTable;
 
-const OBJECT_LIMIT: u64 = 65536;
+const OBJECT_LIMIT: u64 = limits::OBJECT_LIMIT as u64;
 
-const CELL_LIMIT: u64 = 262144;
+const CELL_LIMIT: u64 = limits::CELL_LIMIT as u64;
 
-/// What declarations have, and a program at most so much of.
+/// An amount of which declarations have some, and a program has only up to a limit.
 #[derive(Clone, Copy)]
 pub enum Amount {
     /// Objects.
@@ -33,7 +34,7 @@ pub enum Amount {
     Cells,
 }
 
-/// Whether the name of a declaration begins there.
+/// Whether the name of a declaration begins at byte `at`.
 fn begins_there(at: usize, decl: &Decl) -> bool
     ensures { result ≡ begins at (declared (decl_of decl.now)) }
 {
@@ -43,7 +44,7 @@ fn begins_there(at: usize, decl: &Decl) -> bool
     }
 }
 
-/// 1 for a field, at the place of the first member of its name.
+/// 1 for a field that is the first member of its name, otherwise 0.
 fn field_count(structure: &Structure, place: usize, member: &Member) -> u64
     ensures counted { result ≡ field_count (members_seen structure.now) place (member_of member.now) }
     ensures few { result ≤ 1 }
@@ -57,7 +58,7 @@ fn field_count(structure: &Structure, place: usize, member: &Member) -> u64
     }
 }
 
-/// The cells of an object of a struct.
+/// The number of cells of an object of a struct.
 fn width(structure: &Structure) -> u64
     ensures { result ≡ fields_from [] (members_seen structure.now) }
 {
@@ -110,7 +111,7 @@ fn cells_of(symbols: &SymbolTable, decl: &Decl) -> u64
     }
 }
 
-/// How much a declaration has of it.
+/// The amount that a declaration has.
 fn amount_of(symbols: &SymbolTable, amount: Amount, decl: &Decl) -> u64
     ensures { result ≡ most (amount_of amount (decls_of symbols.now) (decl_of decl.now)) }
 {
@@ -120,7 +121,7 @@ fn amount_of(symbols: &SymbolTable, amount: Amount, decl: &Decl) -> u64
     }
 }
 
-/// How much a program has of it at most.
+/// The limit of the amount in a program.
 fn limit_of(amount: Amount) -> u64
     ensures { result ≡ limit_of amount }
 {
@@ -130,7 +131,7 @@ fn limit_of(amount: Amount) -> u64
     }
 }
 
-/// Whether the declaration with which there is first too much of it begins there.
+/// Whether the first declaration with which the amount exceeds its limit begins at byte `at`.
 fn is_first_over(symbols: &SymbolTable, amount: Amount, at: usize) -> bool
     ensures { result ≡ first_over (amount_of amount (decls_of symbols.now)) at (limit_of amount) (decls_of symbols.now) }
 {
@@ -146,7 +147,7 @@ fn is_first_over(symbols: &SymbolTable, amount: Amount, at: usize) -> bool
     false
 }
 
-/// Whether the threads among these declarations make no more calls than they may.
+/// Whether the threads among `decls` make at most as many calls as the limit.
 fn has_few_calls(maker: TableMaker, decls: &[Decl]) -> Result<bool, NoMemory>
     ensures { IfOk result (λ few. few ≡ few_calls (map decl_of decls.now)) }
 {
@@ -155,7 +156,7 @@ fn has_few_calls(maker: TableMaker, decls: &[Decl]) -> Result<bool, NoMemory>
     Ok(symbols.has_few_calls())
 }
 
-/// Whether with the declaration at a place there are first too many calls.
+/// Whether the calls first exceed their limit with the declaration at `place`.
 fn ends_few_calls(maker: TableMaker, decls: &[Decl], place: usize) -> Result<bool, NoMemory>
     requires { place < length decls.now }
     ensures { IfOk result (λ ends. ends ≡ ends_few (map decl_of decls.now) place) }
@@ -166,7 +167,7 @@ fn ends_few_calls(maker: TableMaker, decls: &[Decl], place: usize) -> Result<boo
     has_few_calls(maker, &decls[..place])
 }
 
-/// Whether the thread with which there are first too many calls begins there.
+/// Whether the thread with which the calls first exceed their limit begins at byte `at`.
 fn are_calls_past(maker: TableMaker, decls: &[Decl], at: usize) -> Result<bool, NoMemory>
     ensures { IfOk result (λ is. Decides is (IsFirstOver calls_of (map decl_of decls.now) at CALL_LIMIT)) }
 {
@@ -180,7 +181,7 @@ fn are_calls_past(maker: TableMaker, decls: &[Decl], at: usize) -> Result<bool, 
     Ok(false)
 }
 
-/// The limit on objects, cells or calls that is passed there.
+/// The limit on objects, cells or calls that is exceeded at byte `at`.
 pub fn amount_passed(symbols: &SymbolTable, at: usize) -> Result<Option<&'static str>, NoMemory>
     ensures { IfOk result (FoundWords (IsAmountPassed (decls_of symbols.now) at)) }
 {

@@ -1,4 +1,4 @@
-//! Which of the `init`s of one field is the first.
+//! The first of the `init`s of one field.
 
 ghost use Rattle.std.specs.Prelude.{◌≡◌, map};
 ghost use Rattle.syntax.specs.Views.{decl_of, init_of};
@@ -16,7 +16,7 @@ fn is_same_target(a: &Init, b: &Init) -> bool
         && a.field.text.as_str() == b.field.text.as_str()
 }
 
-/// The first of the declarations that gives what this `init` gives.
+/// The first of `decls` that initializes the same field as `init`.
 fn first_giver<'a>(decls: &'a [Decl], init: &Init) -> Option<&'a Init>
     ensures { FoundInit (IsFirstGiver (map decl_of decls.now) (init_of init.now)) result }
 {
@@ -30,7 +30,7 @@ fn first_giver<'a>(decls: &'a [Decl], init: &Init) -> Option<&'a Init>
     None
 }
 
-/// Where an `init` starts there and some before it gives the same: the first of these.
+/// The first `init` that initializes the same field as a later one, which starts at byte `at`.
 pub fn first_given<'a>(decls: &'a [Decl], at: usize) -> Option<&'a Init>
     ensures { FoundInit (IsGivenFirst (map decl_of decls.now) at) result }
 {

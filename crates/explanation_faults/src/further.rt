@@ -1,4 +1,4 @@
-//! The faults that are told with another.
+//! The further faults of a text.
 
 ghost use Rattle.std.specs.Prelude.{◌≡◌, IfOk, map};
 ghost use Rattle.explanation.specs.Further.{further_of};
@@ -28,7 +28,7 @@ fn mistake_of(found: Finding) -> Mistake
     }
 }
 
-/// The same of several.
+/// The faults without their reasons.
 fn mistakes_of(alloc: Global, found: &[Finding]) -> Result<Vec<Mistake>, NoMemory>
     ensures { IfOk result (λ mistakes. mistakes.items ≡ map mistake_of found.now) }
 {
@@ -39,7 +39,7 @@ fn mistakes_of(alloc: Global, found: &[Finding]) -> Result<Vec<Mistake>, NoMemor
     Ok(mistakes)
 }
 
-/// Those behind the first, if that is this fault; else none.
+/// The faults after the first, if the first is `fault`; otherwise none.
 pub fn others_of(alloc: Global, firsts: &Firsts, fault: Mistake) -> Result<Further, NoMemory>
     ensures { IfOk result (λ told. further_of told ≡ others_of fault firsts.now.more firsts.now.kept) }
 {

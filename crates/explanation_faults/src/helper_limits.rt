@@ -1,34 +1,28 @@
-//! Which limit on what helpers call is passed.
+//! The limit on what helpers call that is exceeded.
 
 ghost use Rattle.std.specs.Prelude.{◌≡◌, Decides, IfOk};
-ghost use Rattle.core_lang_calls.specs.Graphs.{bodies_of};
+ghost use Rattle.core_lang_helpers.specs.Graphs.{bodies_of};
 ghost use Rattle.resolution.specs.CallGraphs.{helper_bodies};
 ghost use Rattle.types_symbols.specs.{decls_of};
 ghost use Rattle.explanation_faults.specs.Working.HelpersFound.{IsDeepThere, IsFirstThere, all_helpers};
 ghost use Rattle.explanation_faults.specs.Working.Values.{IsHelperIfTold};
 
-use core_lang_calls::callers::Callers;
-use core_lang_calls::extents::is_too_deep;
-use core_lang_calls::graph::Body;
-use core_lang_calls::settling::Extents;
-use resolution::body_limits::BodyLimits;
+use core_lang_helpers::callers::Callers;
+use core_lang_helpers::extents::is_too_deep;
+use core_lang_helpers::graph::CallerBody;
+use core_lang_helpers::settling::Extents;
+use resolution::body_limits::HELPER_LIMITS;
 use source::fault::Code;
 use source::memory::NoMemory;
 use source::mistake::Mistake;
 use std::alloc::Global;
 use syntax::tree::Decl;
-use types_calls::program::judge_calls;
-use types_calls::walk::Reader;
+use types::call_walk::Reader;
+use types::calls::check_calls;
 use types_symbols::table::SymbolTable;
 
-/// What a helper may have: no source is long enough for more.
-const HELPER_LIMITS: BodyLimits = BodyLimits {
-    parameters: 1048576,
-    locals: 1048576,
-};
-
-/// What counts of the helpers.
-fn helper_bodies(reader: &Reader) -> Result<Vec<Body>, NoMemory>
+/// The bodies of the helpers, with what counts for the limits.
+fn helper_bodies(reader: &Reader) -> Result<Vec<CallerBody>, NoMemory>
     ensures { IfOk result (λ bodies. bodies_of bodies.items ≡ all_helpers (decls_of reader.now.symbols.now)) }
 {
     let mut bodies = Vec::new(reader.alloc);
@@ -40,8 +34,8 @@ fn helper_bodies(reader: &Reader) -> Result<Vec<Body>, NoMemory>
     Ok(bodies)
 }
 
-/// Whether one of the helpers is declared there, and is too deep.
-fn is_deep_there(alloc: Global, helpers: &[Body], at: usize) -> Result<bool, NoMemory>
+/// Whether one of the helpers is declared at byte `at`, and its calls are too deep.
+fn is_deep_there(alloc: Global, helpers: &[CallerBody], at: usize) -> Result<bool, NoMemory>
     ensures { IfOk result (λ is. Decides is (IsDeepThere (bodies_of helpers.now) at)) }
 {
     let callers = Callers::new(alloc, helpers)?;
@@ -54,7 +48,8 @@ fn is_deep_there(alloc: Global, helpers: &[Body], at: usize) -> Result<bool, NoM
     Ok(false)
 }
 
-/// Whether the first fault of what sections and helpers call is one of a limit there. What comes behind it is not looked for.
+/// Whether the first fault of what sections and helpers call is an exceeded limit at byte `at`. Later faults are not
+/// searched for.
 fn is_first_there(alloc: Global, symbols: &SymbolTable, at: usize) -> Result<bool, NoMemory>
     ensures { IfOk result (λ is. Decides is (IsFirstThere (decls_of symbols.now) at)) }
 {
@@ -62,14 +57,14 @@ fn is_first_there(alloc: Global, symbols: &SymbolTable, at: usize) -> Result<boo
         code: Code::RecursiveHelper,
         start: at,
     });
-    judge_calls(alloc, symbols, &mut least)?;
+    check_calls(alloc, symbols, &mut least)?;
     match least {
         Some(found) => Ok(found.code == Code::LimitExceeded && found.start == at),
         None => Ok(false),
     }
 }
 
-/// The limit on what helpers call that is passed there.
+/// The limit on what helpers call that is exceeded at byte `at`.
 pub fn helper_limit(
     alloc: Global,
     symbols: &SymbolTable,
@@ -77,7 +72,7 @@ pub fn helper_limit(
 ) -> Result<Option<&'static str>, NoMemory>
     ensures { IfOk result (IsHelperIfTold (decls_of symbols.now) at) }
 {
-    core_lang_calls::laws::listed_faults();
+    core_lang_helpers::call_laws::listed_faults();
     let helpers = helper_bodies(&Reader { alloc, symbols })?;
     if is_deep_there(alloc, &helpers, at)? {
         return Ok(Some("calls of helpers go at most 8 deep"));

@@ -1,4 +1,4 @@
-//! Which limit on declarations, members or locals is passed.
+//! The limit on declarations, members or locals that is exceeded.
 
 ghost use Rattle.std.specs.Prelude.{◌≡◌, ◌++◌, IfOk, OnOk, map};
 ghost use Rattle.std.specs.List.{filter_map, flat_map};
@@ -7,27 +7,19 @@ ghost use Rattle.syntax.specs.Trees.{atomic, struct};
 ghost use Rattle.syntax.specs.Views.{decl_of, member_of, section_of, struct_of};
 ghost use Rattle.explanation_faults.specs.Working.LimitsFound.{is_past, limit_in, limit_of_all, limit_passed, some_starts};
 ghost use Rattle.explanation_faults.specs.LimitsPassed.{lock_names, own_lock_names};
-ghost use Rattle.explanation_faults.specs.Working.Values.{ident_at, idents, kind_name, text_at};
+ghost use Rattle.explanation_names.specs.Working.Values.{ident_at, idents};
+ghost use Rattle.explanation_faults.specs.Working.Values.{kind_name};
+ghost use Rattle.explanation_names.specs.Working.Viewed.{text_at};
 
 use crate::locks_at_hand::own_lock_in;
-use crate::name_spaces::{push_locals, push_members, push_params};
+use explanation_names::name_spaces::{push_locals, push_members, push_params};
+use source::limits::{
+    CLASS_LIMIT, LOCAL_LIMIT, MEMBER_LIMIT, PARAMETER_LIMIT, SECTION_LIMIT, STRUCT_LIMIT,
+    THREAD_LIMIT,
+};
 use source::memory::NoMemory;
 use std::alloc::Global;
 use syntax::tree::{Decl, Member, Name, Section, Struct};
-
-const STRUCT_LIMIT: usize = 64;
-
-const SECTION_LIMIT: usize = 256;
-
-const THREAD_LIMIT: usize = 64;
-
-const CLASS_LIMIT: usize = 128;
-
-const MEMBER_LIMIT: usize = 32;
-
-const PARAMETER_LIMIT: usize = 8;
-
-const LOCAL_LIMIT: usize = 64;
 
 /// A kind of declarations.
 #[derive(Clone, Copy)]
@@ -40,7 +32,7 @@ pub enum Kind {
     Threads,
 }
 
-/// The name of a declaration, if it is of this kind.
+/// The name of `decl`, if it is of the kind `kind`.
 fn kind_name(kind: Kind, decl: &Decl) -> Option<&Name>
     ensures { option_map ident_at result ≡ kind_name kind (decl_of decl.now) }
 {
@@ -52,7 +44,7 @@ fn kind_name(kind: Kind, decl: &Decl) -> Option<&Name>
     }
 }
 
-/// The names of the declarations of this kind.
+/// The names of the declarations of the kind `kind`.
 fn kind_names(alloc: Global, kind: Kind, decls: &[Decl]) -> Result<Vec<&Name>, NoMemory>
     ensures { IfOk result (λ names. idents names.items ≡ filter_map (kind_name kind) (map decl_of decls.now)) }
 {
@@ -95,7 +87,7 @@ fn push_locks<'a>(decl: &'a Decl, names: &mut Vec<&'a Name>) -> Result<(), NoMem
     }
 }
 
-/// The names of all locks, those of structs among them.
+/// The names of all locks, including those of structs.
 fn all_locks(alloc: Global, decls: &[Decl]) -> Result<Vec<&Name>, NoMemory>
     ensures { IfOk result (λ names. idents names.items ≡ flat_map lock_names (map decl_of decls.now)) }
 {
@@ -117,7 +109,7 @@ fn some_starts(at: usize, names: &[&Name]) -> bool
     false
 }
 
-/// Whether behind the first so many names one starts there.
+/// Whether a name after the first `limit` names starts at byte `at`.
 fn is_past(at: usize, limit: usize, names: &[&Name]) -> bool
     ensures { result ≡ is_past at limit (idents names.now) }
 {
@@ -127,7 +119,7 @@ fn is_past(at: usize, limit: usize, names: &[&Name]) -> bool
     some_starts(at, &names[limit..])
 }
 
-/// The limit of the program that is passed there.
+/// The limit of the program that is exceeded at byte `at`.
 fn limit_of_all(alloc: Global, at: usize, decls: &[Decl]) -> Result<Option<&'static str>, NoMemory>
     ensures { IfOk result (λ words. option_map text_at words ≡ limit_of_all at (map decl_of decls.now)) }
 {
@@ -185,7 +177,7 @@ fn limit_of_section(
     Ok(None)
 }
 
-/// The limit on names inside a declaration.
+/// The limit on names inside a declaration that is exceeded at byte `at`.
 fn limit_in(alloc: Global, at: usize, decl: &Decl) -> Result<Option<&'static str>, NoMemory>
     ensures { IfOk result (λ words. option_map text_at words ≡ limit_in at (decl_of decl.now)) }
 {
@@ -202,7 +194,7 @@ fn limit_in(alloc: Global, at: usize, decl: &Decl) -> Result<Option<&'static str
     }
 }
 
-/// The limit that is passed there.
+/// The limit that is exceeded at byte `at`.
 pub fn limit_passed(
     alloc: Global,
     decls: &[Decl],

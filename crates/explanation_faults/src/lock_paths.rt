@@ -7,7 +7,7 @@ ghost use Rattle.explanation_faults.specs.PathsPassed.{IsFirstOfPaths};
 ghost use Rattle.explanation_faults.specs.Working.Values.{IsLimitAt, IsMeant, TellsOfPaths};
 
 use core_lang::typed::Typed;
-use core_lang_expansion::program::expand;
+use core_lang_helpers::program::expand;
 use lockpaths::paths;
 use parser::{one_tree, parse};
 use source::fault::{Code, Fault, Refusal};
@@ -16,7 +16,7 @@ use source::token::Token;
 use std::alloc::Global;
 use types::program::check;
 
-/// The program that tokens mean, with its helpers written out, if it has no fault before its lock paths.
+/// The expanded program that tokens mean, if it does not have a fault before its lock paths.
 fn meant(alloc: Global, tokens: &[Token]) -> Result<Option<Typed>, NoMemory>
     ensures { IfOk result (IsMeant (seen tokens.now)) }
 {
@@ -35,14 +35,14 @@ fn meant(alloc: Global, tokens: &[Token]) -> Result<Option<Typed>, NoMemory>
     Ok(Some(written))
 }
 
-/// Whether a fault is one of a limit there.
+/// Whether `fault` is an exceeded limit at byte `at`.
 pub fn is_limit_at(fault: &Fault, at: usize) -> bool
     ensures { Decides result (IsLimitAt fault.now at) }
 {
     fault.code == Code::LimitExceeded && fault.start == at
 }
 
-/// Whether the first fault of the lock paths of a program is one of a limit there.
+/// Whether the first fault of the lock paths of a program is an exceeded limit at byte `at`.
 fn is_first_limit(alloc: Global, written: &Typed, at: usize) -> Result<bool, NoMemory>
     requires { IsWellFormed written.now }
     ensures { IfOk result (λ is. Decides is (IsFirstOfPaths written.now at)) }
@@ -54,7 +54,7 @@ fn is_first_limit(alloc: Global, written: &Typed, at: usize) -> Result<bool, NoM
     }
 }
 
-/// Whether the first fault of the lock paths of the program that tokens mean is one of their limit there.
+/// Whether the first fault of the lock paths of the program that tokens mean is their exceeded limit at byte `at`.
 pub fn are_paths_past(alloc: Global, tokens: &[Token], at: usize) -> Result<bool, NoMemory>
     ensures { IfOk result (TellsOfPaths (seen tokens.now) at) }
 {

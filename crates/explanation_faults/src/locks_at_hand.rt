@@ -1,11 +1,11 @@
-//! Which lock could protect what has none.
+//! The lock that could protect what does not have one.
 
 ghost use Rattle.std.specs.Prelude.{◌≡◌, None, if◌then◌else◌, map};
 ghost use Rattle.std.specs.Option.{option_map, option_or};
 ghost use Rattle.syntax.specs.Views.{decl_of, ident, member_of, option_of, protection_of};
 ghost use Rattle.explanation_faults.specs.Working.LocksFound.{field_lacks_lock, global_lock, lacks_lock, lock_at_hand, lock_for, lock_in, own_lock, some_lacks_lock};
 ghost use Rattle.explanation_faults.specs.LimitsPassed.{own_lock_in};
-ghost use Rattle.explanation_faults.specs.Working.Values.{ident_at};
+ghost use Rattle.explanation_names.specs.Working.Values.{ident_at};
 
 use syntax::tree::{Decl, Member, Name, Protection};
 
@@ -25,7 +25,7 @@ fn lock_in(decl: &Decl) -> Option<&Name>
     }
 }
 
-/// The lock that a member is.
+/// The name of the lock that `member` declares, if it declares one.
 pub fn own_lock_in(member: &Member) -> Option<&Name>
     ensures { option_map ident_at result ≡ own_lock_in (member_of member.now) }
 {
@@ -59,7 +59,7 @@ fn own_lock(members: &[Member]) -> Option<&Name>
     None
 }
 
-/// Whether the name stands there and has no annotation.
+/// Whether the name starts at byte `at` and does not have an annotation.
 fn lacks_lock(at: usize, name: &Name, protection: &Option<Protection>) -> bool
     ensures { result ≡ lacks_lock at (ident name.now) (option_of protection_of protection.now) }
 {
@@ -78,7 +78,7 @@ fn field_lacks_lock(at: usize, member: &Member) -> bool
     }
 }
 
-/// Whether a field of a struct has none, and its name stands there.
+/// Whether a field of a struct whose name starts at byte `at` does not have an annotation.
 fn some_lacks_lock(at: usize, members: &[Member]) -> bool
     ensures { result ≡ some_lacks_lock at (map member_of members.now) }
 {
@@ -90,7 +90,7 @@ fn some_lacks_lock(at: usize, members: &[Member]) -> bool
     false
 }
 
-/// The first global lock, if one is wanted.
+/// The first global lock, if `is_wanted` is true.
 fn global_lock_if(is_wanted: bool, decls: &[Decl]) -> Option<&Name>
     ensures { option_map ident_at result ≡ (if is_wanted then global_lock (map decl_of decls.now) else None) }
 {
@@ -107,7 +107,7 @@ fn lock_for_field<'a>(decls: &'a [Decl], members: &'a [Member]) -> Option<&'a Na
     }
 }
 
-/// The first lock that could protect what the declaration leaves without one there.
+/// The first lock that could protect what `decl` declares at byte `at` without an annotation.
 fn lock_for<'a>(decls: &'a [Decl], at: usize, decl: &'a Decl) -> Option<&'a Name>
     ensures { option_map ident_at result ≡ lock_for (map decl_of decls.now) at (decl_of decl.now) }
 {
@@ -129,7 +129,7 @@ fn lock_for<'a>(decls: &'a [Decl], at: usize, decl: &'a Decl) -> Option<&'a Name
     }
 }
 
-/// The first lock that could protect what is left without one there.
+/// The first lock that could protect what is declared at byte `at` without an annotation.
 pub fn lock_at_hand<'a>(decls: &'a [Decl], at: usize) -> Option<&'a Name>
     ensures { option_map ident_at result ≡ lock_at_hand (map decl_of decls.now) at }
 {

@@ -1,11 +1,12 @@
-//! Which final reference no `init` gives an object.
+//! The final reference that no `init` sets in an object.
 
 ghost use Rattle.std.specs.Prelude.{◌≡◌};
 ghost use Rattle.std.specs.Option.{option_map};
 ghost use Rattle.types_symbols.specs.{decls_of, members_seen};
 ghost use Rattle.syntax.specs.Views.{const_of, decl_of, member_of, pool_of};
 ghost use Rattle.explanation_faults.specs.Working.NullsFound.{final_in, is_null_at, null_given, null_given_in};
-ghost use Rattle.explanation_faults.specs.Working.Values.{FoundFirst, FoundGap, FoundGapOf, FoundMissing, due_final, final_at, member_found};
+ghost use Rattle.explanation_faults.specs.Working.Values.{FoundFirst, FoundGap, FoundGapOf, FoundMissing, due_final, final_at};
+ghost use Rattle.explanation_names.specs.Working.Viewed.{member_found};
 
 use resolution::init_target::InitTarget;
 use syntax::tree::{Const, Decl, Final, Member, Pool};
@@ -13,18 +14,18 @@ use types_symbols::first_inits::initialised;
 use types_symbols::members::Structure;
 use types_symbols::table::SymbolTable;
 
-/// A member of a pool to which a final reference is not given.
+/// A member of a pool whose final reference is not set.
 #[derive(Drop)]
-pub struct Gap<'t> {
+pub struct MissingInit<'t> {
     /// The pool.
     pub pool: &'t Pool,
-    /// Which of its members, counted from 0.
+    /// The index of the member, from 0.
     pub index: u64,
     /// The final reference.
     pub reference: &'t Final,
 }
 
-/// The first of so many members of the pool at a place to which the member at that place of the struct is not given.
+/// The index of the first of `length` pool members without an `init` for this struct member.
 fn first_without(symbols: &SymbolTable, pool: usize, member: usize, length: u64) -> Option<u64>
     ensures { FoundFirst (decls_of symbols.now) pool member length result }
 {
@@ -41,7 +42,7 @@ fn first_without(symbols: &SymbolTable, pool: usize, member: usize, length: u64)
     None
 }
 
-/// The member at a place of a struct, if it is a final reference and the first of its name.
+/// The struct member at `place`, if it is a final reference and the first of its name.
 fn due_final<'t>(structure: &Structure<'t>, place: usize, member: &'t Member) -> Option<&'t Final>
     ensures { option_map final_at result ≡ due_final (members_seen structure.now) place (member_of member.now) }
 {
@@ -55,7 +56,7 @@ fn due_final<'t>(structure: &Structure<'t>, place: usize, member: &'t Member) ->
     }
 }
 
-/// The first final reference that is not given to all of the members of the pool at a place, and the first of those.
+/// The first final reference that is not set in all members of the pool at `pool`, with the index of the first such member.
 fn missing_final<'t>(
     symbols: &SymbolTable<'t>,
     structure: &Structure<'t>,
@@ -75,7 +76,7 @@ fn missing_final<'t>(
     None
 }
 
-/// The same of the pool at a place and its struct, if the pool's name stands there.
+/// The first final reference that is not set in all members of the pool at `place`, if the pool's name starts at byte `at`.
 fn gap_of<'t>(
     symbols: &SymbolTable<'t>,
     place: usize,
@@ -91,15 +92,16 @@ fn gap_of<'t>(
     missing_final(symbols, structure, place, pool.length.value)
 }
 
-/// The same of the first pool whose name stands there and for which there is one.
-pub fn gap_at<'t>(symbols: &SymbolTable<'t>, at: usize) -> Option<Gap<'t>>
+/// The first final reference that is not set in all members of a pool, for the first such pool whose name starts at byte
+/// `at`.
+pub fn gap_at<'t>(symbols: &SymbolTable<'t>, at: usize) -> Option<MissingInit<'t>>
     ensures { FoundGap (decls_of symbols.now) at result }
 {
     let decls = symbols.items();
     for (place, decl) in decls.iter().enumerate() {
         if let Decl::Pool(pool) = decl {
             if let Some((index, reference)) = gap_of(symbols, place, pool, at) {
-                return Some(Gap {
+                return Some(MissingInit {
                     pool,
                     index,
                     reference,
@@ -110,7 +112,7 @@ pub fn gap_at<'t>(symbols: &SymbolTable<'t>, at: usize) -> Option<Gap<'t>>
     None
 }
 
-/// Whether it is a null that stands there.
+/// Whether `value` is a null at byte `at`.
 fn is_null_at(at: usize, value: &Const) -> bool
     ensures { result ≡ is_null_at at (const_of value.now) }
 {
@@ -120,7 +122,7 @@ fn is_null_at(at: usize, value: &Const) -> bool
     }
 }
 
-/// What is found, if it is a final reference.
+/// The member that was found, if it is a final reference.
 fn final_in<'t>(found: Option<(usize, &'t Member)>) -> Option<&'t Final>
     ensures { option_map final_at result ≡ final_in (option_map member_found found.entry) }
 {
@@ -130,7 +132,7 @@ fn final_in<'t>(found: Option<(usize, &'t Member)>) -> Option<&'t Final>
     }
 }
 
-/// The final reference that a declaration gives null there.
+/// The final reference that `decl` sets to a null at byte `at`.
 fn null_given_in<'t>(symbols: &SymbolTable<'t>, at: usize, decl: &Decl) -> Option<&'t Final>
     ensures { option_map final_at result ≡ null_given_in (decls_of symbols.now) at (decl_of decl.now) }
 {
@@ -150,7 +152,7 @@ fn null_given_in<'t>(symbols: &SymbolTable<'t>, at: usize, decl: &Decl) -> Optio
     }
 }
 
-/// The final reference that the first `init` of those that give one null there gives.
+/// The final reference of the first `init` that sets one to a null at byte `at`.
 pub fn null_given<'t>(symbols: &SymbolTable<'t>, at: usize) -> Option<&'t Final>
     ensures { option_map final_at result ≡ null_given (decls_of symbols.now) at }
 {

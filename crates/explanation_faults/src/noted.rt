@@ -1,4 +1,4 @@
-//! The notes on single things of a tree.
+//! The notes on single parts of a tree.
 
 ghost use Rattle.std.specs.Prelude.{◌≡◌, IfOk, string_bytes};
 ghost use Rattle.explanation.specs.Notes.{note_of};
@@ -7,13 +7,13 @@ ghost use Rattle.explanation_faults.specs.FaultNotes.{gap_words, given_note, loc
 ghost use Rattle.explanation_faults.specs.Working.Values.{gap_note_of};
 ghost use Rattle.explanation_faults.specs.Words.{name_note};
 
-use crate::missing_inits::Gap;
+use crate::missing_inits::MissingInit;
 use explanation::Note;
 use source::memory::NoMemory;
 use std::alloc::Global;
 use syntax::tree::{Init, Name};
 
-/// NAME WORDS, where the name stands.
+/// The note `NAME WORDS` at the name.
 pub fn name_note(alloc: Global, name: &Name, words: &str) -> Result<Note, NoMemory>
     ensures { IfOk result (λ note. note_of note ≡ name_note (ident name.now) words.now) }
 {
@@ -34,7 +34,7 @@ fn lock_words(alloc: Global, name: &Name) -> Result<String, NoMemory>
     Ok(words)
 }
 
-/// NAME could protect it, at a lock.
+/// The note `NAME could protect it` at a lock.
 pub fn lock_note(alloc: Global, name: &Name) -> Result<Note, NoMemory>
     ensures { IfOk result (λ note. note_of note ≡ lock_note (ident name.now)) }
 {
@@ -42,7 +42,7 @@ pub fn lock_note(alloc: Global, name: &Name) -> Result<Note, NoMemory>
     name_note(alloc, name, words.as_str())
 }
 
-fn gap_words(alloc: Global, gap: &Gap<'_>) -> Result<String, NoMemory>
+fn gap_words(alloc: Global, gap: &MissingInit<'_>) -> Result<String, NoMemory>
     ensures { IfOk result (λ words. string_bytes words ≡ gap_words (pool_of gap.now.pool.now) gap.now.index) }
 {
     let mut words = String::from_str(alloc, " is final, and no init gives it for ")?;
@@ -51,15 +51,15 @@ fn gap_words(alloc: Global, gap: &Gap<'_>) -> Result<String, NoMemory>
     Ok(words)
 }
 
-/// NAME is final, and no `init` gives it for a member of a pool, at a final reference.
-pub fn gap_note(alloc: Global, gap: &Gap<'_>) -> Result<Note, NoMemory>
+/// The note at a final reference that it is final, and no `init` gives it for a member of a pool.
+pub fn gap_note(alloc: Global, gap: &MissingInit<'_>) -> Result<Note, NoMemory>
     ensures { IfOk result (λ note. note_of note ≡ gap_note_of gap.now) }
 {
     let words = gap_words(alloc, gap)?;
     name_note(alloc, &gap.reference.name, words.as_str())
 }
 
-/// FIELD is given here, at an `init`.
+/// The note `FIELD is given here` at an `init`.
 pub fn init_note(alloc: Global, init: &Init) -> Result<Note, NoMemory>
     ensures { IfOk result (λ note. note_of note ≡ given_note (init_of init.now)) }
 {

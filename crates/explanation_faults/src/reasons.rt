@@ -1,4 +1,4 @@
-//! Why a fault of names and types is one, in words.
+//! The reason of a fault of names and types, in words.
 
 ghost use Rattle.std.specs.Prelude.{◌≡◌, ◌++◌, IfOk, OnOk, string_bytes};
 ghost use Rattle.std.specs.Fmt.{decimal};
@@ -22,7 +22,7 @@ use std::alloc::{AllocError, Global};
 use syntax::tree::Tree;
 use types_symbols::table::SymbolTable;
 
-/// The reason of this fault, if it is the first of these.
+/// The reason of `fault`, if it is the first of the faults.
 fn first_reason(firsts: &Firsts, fault: &Fault) -> Option<Why>
     ensures { IsReasonBy FoundReason firsts.now fault.now result }
 {
@@ -36,7 +36,7 @@ fn first_reason(firsts: &Firsts, fault: &Fault) -> Option<Why>
     None
 }
 
-/// The reason of this fault, if its code doesn't say all and it is the first of these.
+/// The reason of `fault`, if its code doesn't say all and it is the first of the faults.
 pub fn reason_of(firsts: &Firsts, fault: &Fault) -> Option<Why>
     ensures { IsReasonBy FoundWhy firsts.now fault.now result }
 {
@@ -153,7 +153,7 @@ fn push_want(symbols: &SymbolTable, want: Want, words: &mut String) -> Result<()
     }
 }
 
-/// What is said of a reason in the same words always.
+/// The words of a reason that does not have parameters.
 fn fixed_words(why: Why) -> &'static str
     ensures { result.now ≡ fixed_words why }
 {
@@ -173,7 +173,7 @@ fn fixed_words(why: Why) -> &'static str
     }
 }
 
-/// Wanted the one, found the other.
+/// Appends what was expected and what was found.
 fn push_unwanted(
     symbols: &SymbolTable,
     want: Want,
@@ -188,7 +188,7 @@ fn push_unwanted(
     push_kind(symbols, kind, words)
 }
 
-/// Words, and what something is.
+/// Appends the words `ahead`, and the kind of an expression.
 fn push_side(
     symbols: &SymbolTable,
     ahead: &str,
@@ -201,7 +201,7 @@ fn push_side(
     push_kind(symbols, kind, words)
 }
 
-/// What the sides of a comparison are.
+/// Appends the kinds of the sides of a comparison.
 fn push_sides(
     symbols: &SymbolTable,
     left: Kind,
@@ -231,7 +231,7 @@ fn push_misnamed(role: Role, referent: Referent, words: &mut String) -> Result<(
     words.push_str(hint_words(role, referent))
 }
 
-/// Words, and a number.
+/// Appends the words `ahead`, and a number.
 fn push_count(ahead: &str, count: usize, words: &mut String) -> Result<(), AllocError>
     ensures { OnOk result (string_bytes words.new ≡ string_bytes words.old ++ (ahead.now ++ decimal count)) }
 {
@@ -265,7 +265,7 @@ fn push_reason(symbols: &SymbolTable, why: Why, words: &mut String) -> Result<()
     }
 }
 
-/// Why the fault is one.
+/// The note with the reason of a fault.
 pub fn reason_note(alloc: Global, symbols: &SymbolTable, why: Why) -> Result<Note, NoMemory>
     ensures { IfOk result (λ note. note_of note ≡ reason_note (decls_of symbols.now) why) }
 {

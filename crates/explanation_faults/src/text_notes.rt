@@ -1,4 +1,4 @@
-//! What is told with a fault of a text.
+//! The notes on a fault of a text, and the further faults.
 
 ghost use Rattle.std.specs.Prelude.{◌≡◌, [], ◌∷◌, IfOk, IsTrue, map};
 ghost use Rattle.explanation.specs.Notes.{note_of};
@@ -23,6 +23,7 @@ use parser::{find_tree, one_tree};
 use resolution::finding::Firsts;
 use resolution::laws::{first_faults, least_fault, one_least};
 use source::fault::{Code, Fault, Refusal};
+use source::limits::SOURCE_LIMIT;
 use source::memory::NoMemory;
 use source::mistake::Mistake;
 use source::token::Token;
@@ -32,19 +33,16 @@ use types::program;
 use types_symbols::names::TableMaker;
 use types_symbols::table::SymbolTable;
 
-/// How many bytes a source may have.
-const MOST_BYTES: usize = 1_048_576;
-
-/// What is said of a byte order mark.
+/// The note on a byte order mark.
 const MARK: &str = "the file begins with a byte order mark: save it as ASCII or UTF-8 without one";
 
-/// What is said of the limit of a text itself that this fault passes, if the one that is found is that.
+/// The words on the limit of the text itself that `fault` exceeds, if it is the one that was found.
 fn text_limit(text: &[u8], found: &Fault, fault: &Fault) -> Option<&'static str>
     requires { IsItsFault text.now found.now }
     ensures { FoundTextLimit text.now fault.now result }
 {
     if is_limit_at(found, fault.start) && is_limit_at(fault, found.start) {
-        if text.len() > MOST_BYTES {
+        if text.len() > SOURCE_LIMIT {
             return Some("a source has at most 1048576 bytes");
         }
         return Some("a name has at most 64 bytes");
@@ -52,7 +50,7 @@ fn text_limit(text: &[u8], found: &Fault, fault: &Fault) -> Option<&'static str>
     None
 }
 
-/// What is told of this fault of a text without tokens, of which the one fault is found.
+/// The notes on `fault` in a text without tokens, whose one fault is `found`.
 fn limit_notes(
     alloc: Global,
     text: &[u8],
@@ -89,12 +87,12 @@ fn is_mark(text: &[u8], fault: &Fault) -> bool
     ensures no_mark { IsMarkFault text.now fault.now.code fault.now.start → IsTrue result }
 {
     match fault.code {
-        Code::BadCharacter => { fault.start == 0 && text.len() <= MOST_BYTES && has_mark(text) }
+        Code::BadCharacter => { fault.start == 0 && text.len() <= SOURCE_LIMIT && has_mark(text) }
         _ => false,
     }
 }
 
-/// What is told of a byte order mark.
+/// The notes on a byte order mark.
 fn mark_notes(alloc: Global) -> Result<Vec<Note>, NoMemory>
     ensures { IfOk result (λ notes. map note_of notes.items ≡ note_of_all mark_words ∷ []) }
 {
@@ -106,17 +104,17 @@ fn mark_notes(alloc: Global) -> Result<Vec<Note>, NoMemory>
     Ok(notes)
 }
 
-/// What is told with a fault of a text.
+/// The notes on a fault, and the further faults.
 #[derive(Debug, Drop)]
 pub struct FaultTold {
-    /// What is told of it beyond its line.
+    /// The notes.
     pub notes: Vec<Note>,
-    /// The faults that are told with it.
+    /// The further faults.
     pub further: Further,
 }
 
 impl FaultTold {
-    // Notes, and no further fault.
+    // The notes without a further fault.
     fn alone(alloc: Global, notes: Vec<Note>) -> FaultTold
         ensures notes { result.notes ≡ notes }
         ensures further { further_of result.further ≡ nothing_further }
@@ -128,7 +126,7 @@ impl FaultTold {
     }
 }
 
-/// What is told of a fault of a tree.
+/// The notes on a fault of a tree.
 fn notes_on_tree(
     alloc: Global,
     tokens: &[Token],
@@ -140,7 +138,7 @@ fn notes_on_tree(
         (map note_of notes.items)) }
 {
     let Judged { fault, firsts } = judged;
-    // (which needs no table of what is declared)
+    // (this does not need a table of the declarations)
     if let Code::MisplacedReturn = fault.code {
         return return_notes(alloc, &tree.decls, fault.start);
     }
@@ -161,7 +159,7 @@ struct Judged<'a> {
     firsts: &'a Firsts,
 }
 
-/// What is told of a fault that is no byte order mark.
+/// The notes on a fault that is not a byte order mark, and the further faults.
 fn other_told(alloc: Global, text: &[u8], fault: &Fault) -> Result<FaultTold, NoMemory>
     requires { IsMarkFault text.now fault.now.code fault.now.start → ⊥ }
     ensures notes { IfOk result (λ told. AreTextNotes text.now fault.now.code fault.now.start (map note_of told.notes.items)) }
@@ -197,16 +195,21 @@ fn other_told(alloc: Global, text: &[u8], fault: &Fault) -> Result<FaultTold, No
     Ok(FaultTold { notes, further })
 }
 
-/// What is told with this fault of the text. Beyond its line: what is advised on an unexpected token, and all that could come in its
-/// place; that the text begins with a byte order mark; where a name is declared first; which declared name could be meant by an
-/// unknown one; why it has the wrong type or count, or can't be assigned to; a lock that could protect it; which member an
-/// annotation passes; which `var` a name is; which limit is passed; which `init` is missing or the first; which `return` is missing.
-/// Only an unexpected token, a byte order mark and a fault of names, types, counts, annotations, bases, limits, `init`s or returns
-/// has such notes. And where it is the first fault of names and types, those behind it, at most nineteen, and whether there are more.
+/// The notes on `fault`, and the further faults. The notes report: what is advised on an unexpected token, and all that
+/// could come in its place; that the text begins with a byte order mark; where a name is declared first; which declared
+/// name could be meant by an unknown one; why it has the wrong type or count, or can't be assigned to; a lock that could
+/// protect it; which member an annotation passes; which `var` a name is; which limit is exceeded; which `init` is
+/// missing or the first; which `return` is missing. Only an unexpected token, a byte order mark and a fault of names,
+/// types, counts, annotations, bases, limits, `init`s or returns has such notes. Where `fault` is the first fault of
+/// names and types, the further faults are those after it, at most nineteen, and whether there are more.
+///
+/// Each note is true. `E06` has a note if a name is near, or `null` is near and could stand there. `E07` has one if
+/// something isn't what is expected or both sides are unlike, `E10` if a lock could protect the name, `E13` if the `var`
+/// is found, and `E15` on helpers or lock paths if that is the first fault of its kind.
 ///
 /// # Errors
 ///
-/// Want of memory.
+/// `NoMemory`: a growth was refused.
 pub fn fault_told(alloc: Global, text: &[u8], fault: &Fault) -> Result<FaultTold, NoMemory>
     ensures notes { IfOk result (λ told. AreTextNotes text.now fault.now.code fault.now.start (map note_of told.notes.items)) }
     ensures further { IfOk result (λ told. AreFurther text.now fault.now.code fault.now.start (further_of told.further)) }

@@ -1,4 +1,4 @@
-//! What a tree tells of its fault.
+//! The notes on a fault, given the tree.
 
 ghost use Rattle.std.specs.Prelude.{◌≡◌, Decides, IfOk, None, Some, map};
 ghost use Rattle.std.specs.Option.{option_map};
@@ -9,10 +9,12 @@ ghost use Rattle.syntax.specs.Views.{decl_of, section_of};
 ghost use Rattle.types_symbols.specs.{decls_of as decls_in};
 ghost use Rattle.resolution.specs.Scopes.{has_body};
 ghost use Rattle.explanation_faults.specs.FaultNotes.{AreNotes, HasNearName, IsDeclaredNote, IsGivenNote, IsLockNote, IsPassedNote, IsReturnNote};
-ghost use Rattle.explanation_faults.specs.NameSpaces.{IsDeclaredAs, IsDeclaredIn};
-ghost use Rattle.explanation_faults.specs.TokensThere.{name_there};
+ghost use Rattle.explanation_names.specs.NameSpaces.{IsDeclaredAs, IsDeclaredIn};
+ghost use Rattle.explanation_names.specs.TokensThere.{name_there};
 ghost use Rattle.explanation_faults.specs.Working.VarsFound.{note_of_var, var_noted};
-ghost use Rattle.explanation_faults.specs.Working.Values.{AreNotesOn, AreReturnNotes, IsKnownOf, LacksNone, FoundName, FoundNote, FoundReason, FoundWhy, IsReasonIfTold, IsLimitIfTold, IsNoteIfTold, decls_of, idents, stmt_at, tokens_of};
+ghost use Rattle.explanation_faults.specs.Working.Values.{AreNotesOn, AreReturnNotes, IsKnownOf, LacksNone, FoundNote, FoundReason, FoundWhy, IsReasonIfTold, IsLimitIfTold, IsNoteIfTold, decls_of, tokens_of};
+ghost use Rattle.explanation_names.specs.Working.Viewed.{FoundName, stmt_at};
+ghost use Rattle.explanation_names.specs.Working.Values.{idents};
 
 use crate::amounts_passed::amount_passed;
 use crate::first_inits::first_given;
@@ -21,17 +23,17 @@ use crate::limits_passed::limit_passed;
 use crate::lock_paths::are_paths_past;
 use crate::locks_at_hand::lock_at_hand;
 use crate::missing_inits::{gap_at, null_given};
-use crate::missing_returns::lacking;
-use crate::name_spaces::{inner_names_of, member_name, top_names_of};
 use crate::noted::{gap_note, init_note, lock_note, name_note};
-use crate::null_meant::is_null_meant;
-use crate::passed_members::{Sought, passed_member};
 use crate::reasons::reason_note;
-use crate::same_names::{first_of_others, first_of_same};
-use crate::tokens_there::{has_two_fields, name_of, name_there, token_at, token_of};
-use crate::vars::{all_of, section_there, some_assigns, var_named};
 use explanation::Note;
+use explanation_names::missing_returns::lacking;
+use explanation_names::name_spaces::{inner_names_of, member_name, top_names_of};
 use explanation_names::near_name;
+use explanation_names::null_meant::is_null_meant;
+use explanation_names::passed_members::{Sought, passed_member};
+use explanation_names::same_names::{first_of_others, first_of_same};
+use explanation_names::tokens_there::{has_two_fields, name_of, name_there, token_at, token_of};
+use explanation_names::vars::{all_of, section_there, some_assigns, var_named};
 use resolution::why::Why;
 use source::fault::{Code, Fault};
 use source::memory::NoMemory;
@@ -47,7 +49,7 @@ fn is_body(decl: &Decl) -> bool
     matches!(decl, Decl::Atomic(_) | Decl::Helper(_))
 }
 
-/// NAME is a `var`, of the `var` of this name among statements; and whether a `let` would do in its place.
+/// The note `NAME is a var` for the `var` of this name among statements, which says whether a `let` would do in its place.
 fn note_of_var(
     alloc: Global,
     is_long: bool,
@@ -68,14 +70,15 @@ fn note_of_var(
     Ok(Some(note))
 }
 
-/// Whether a section or a helper has no result type.
+/// Whether a section or a helper is without a result type.
 fn is_typeless(section: &Section) -> bool
     ensures { Decides result ((section_of section.now).result ≡ None) }
 {
     section.result.is_none()
 }
 
-/// That what the place is in has no result type, or that the `return` there is misplaced, where none is missing.
+/// The note that the section or helper at `at` is without a result type, or that the `return` is misplaced, where none is
+/// missing.
 fn note_of_misplaced(alloc: Global, decls: &[Decl], at: usize) -> Result<Note, NoMemory>
     requires { LacksNone (map decl_of decls.now) at }
     ensures { IfOk result (λ note. IsReturnNote (map decl_of decls.now) at (note_of note)) }
@@ -93,7 +96,7 @@ fn note_of_misplaced(alloc: Global, decls: &[Decl], at: usize) -> Result<Note, N
     })
 }
 
-/// Which `return` is missing, or what else is wrong with the one there.
+/// The note on the missing `return`, or on what else is wrong with the one at `at`.
 fn note_of_return(alloc: Global, decls: &[Decl], at: usize) -> Result<Note, NoMemory>
     ensures { IfOk result (λ note. IsReturnNote (map decl_of decls.now) at (note_of note)) }
 {
@@ -107,7 +110,7 @@ fn note_of_return(alloc: Global, decls: &[Decl], at: usize) -> Result<Note, NoMe
     )
 }
 
-/// What is told of a misplaced or missing `return` by the declarations of a tree.
+/// The notes on a misplaced or missing `return`, given the declarations of a tree.
 pub fn return_notes(alloc: Global, decls: &[Decl], at: usize) -> Result<Vec<Note>, NoMemory>
     ensures { IfOk result (λ notes. AreReturnNotes (map decl_of decls.now) at (map note_of notes.items)) }
 {
@@ -117,21 +120,21 @@ pub fn return_notes(alloc: Global, decls: &[Decl], at: usize) -> Result<Vec<Note
     Ok(notes)
 }
 
-/// Tokens with the declarations of their tree, and the place of its fault, with its reason.
+/// The tokens and the declarations of a tree, with the place of its fault and its reason.
 #[derive(Drop)]
 pub struct Faulty<'a> {
     /// The tokens.
     pub tokens: &'a [Token],
-    /// What is declared.
+    /// The declarations.
     pub symbols: &'a SymbolTable<'a>,
-    /// The byte at which the fault stands.
+    /// The byte at which the fault starts.
     pub at: usize,
-    /// Its reason, if its code doesn't say all and it is the first of its tree.
+    /// The reason of the fault, if its code doesn't say all and it is the first of its tree.
     pub why: Option<Why>,
 }
 
 impl<'a> Faulty<'a> {
-    // The first declaration of the name that starts at the place, if that is one of a declaration's inner names.
+    // The first declaration of the name that starts at `at`, if the name is an inner one of `decl`.
     fn declared_in(
         &self,
         alloc: Global,
@@ -150,7 +153,7 @@ impl<'a> Faulty<'a> {
         Ok(None)
     }
 
-    // The first declaration of the name that starts at the place.
+    // The first declaration of the name that starts at `at`.
     fn declared_first(&self, alloc: Global) -> Result<Option<&'a Name>, NoMemory>
         ensures { IfOk result (FoundName (IsDeclaredAs (decls_of self.now) self.now.at)) }
     {
@@ -167,7 +170,7 @@ impl<'a> Faulty<'a> {
         Ok(None)
     }
 
-    // NAME is declared here.
+    // The note `NAME is declared here`.
     fn declared_note(&self, alloc: Global) -> Result<Option<Note>, NoMemory>
         ensures { IfOk result (FoundNote (IsDeclaredNote (decls_of self.now) self.now.at)) }
     {
@@ -178,7 +181,7 @@ impl<'a> Faulty<'a> {
         Ok(Some(note))
     }
 
-    // NAME could be meant, and is declared here; or, where no name could, `null` could be.
+    // The note `NAME could be meant, and is declared here`; or that `null` could be meant, where no name could.
     fn near_note(&self, alloc: Global) -> Result<Option<Note>, NoMemory>
         ensures { IfOk result (IsNoteIfTold self.now UnknownName) }
     {
@@ -192,7 +195,7 @@ impl<'a> Faulty<'a> {
         Ok(Some(note))
     }
 
-    // `null` could be meant by this name, near which there is none.
+    // The note that `null` could be meant by a name without a similar one.
     fn null_note(&self, alloc: Global, name: &str) -> Result<Option<Note>, NoMemory>
         requires there { name_there self.now.at (tokens_of self.now) ≡ Some name.now }
         requires none { HasNearName (tokens_of self.now) (decls_of self.now) self.now.at → ⊥ }
@@ -207,7 +210,7 @@ impl<'a> Faulty<'a> {
         }))
     }
 
-    // NAME could protect it.
+    // The note `NAME could protect it`.
     fn lock_note(&self, alloc: Global) -> Result<Option<Note>, NoMemory>
         ensures { IfOk result (FoundNote (IsLockNote (decls_of self.now) self.now.at)) }
     {
@@ -218,7 +221,7 @@ impl<'a> Faulty<'a> {
         Ok(Some(note))
     }
 
-    // NAME is declared here, and is no final reference.
+    // The note that NAME is declared here, and is not a final reference.
     fn passed_note(&self, alloc: Global) -> Result<Option<Note>, NoMemory>
         ensures { IfOk result (FoundNote (IsPassedNote (decls_of self.now) self.now.at)) }
     {
@@ -230,7 +233,7 @@ impl<'a> Faulty<'a> {
         Ok(Some(note))
     }
 
-    // Why the fault of this code is one.
+    // The note with the reason of the fault with this code.
     fn reason_note(&self, alloc: Global, code: Code) -> Result<Option<Note>, NoMemory>
         requires { FoundReason (decls_of self.now) code self.now.at self.now.why }
         ensures { IfOk result (IsReasonIfTold self.now code) }
@@ -242,7 +245,7 @@ impl<'a> Faulty<'a> {
         Ok(Some(note))
     }
 
-    // NAME is a `var`, and whether a `let` would do.
+    // The note `NAME is a var`, which says whether a `let` would do.
     fn var_note(&self, alloc: Global) -> Result<Option<Note>, NoMemory>
         ensures { IfOk result (λ note. option_map note_of note ≡ var_noted (tokens_of self.now) (decls_of self.now) self.now.at) }
     {
@@ -255,11 +258,11 @@ impl<'a> Faulty<'a> {
         let Some(section) = section_there(self.symbols.items(), self.at) else {
             return Ok(None);
         };
-        let all = all_of(alloc, section)?;
+        let all = all_of(alloc, &section.body.stmts)?;
         note_of_var(alloc, has_two_fields(i, self.tokens), text, &all)
     }
 
-    // Which limit is passed.
+    // The words on the exceeded limit.
     fn limit(&self, alloc: Global) -> Result<Option<&'static str>, NoMemory>
         ensures { IfOk result (IsLimitIfTold self.now) }
     {
@@ -281,7 +284,7 @@ impl<'a> Faulty<'a> {
         Ok(None)
     }
 
-    // Which limit is passed.
+    // The note on the exceeded limit.
     fn limit_note(&self, alloc: Global) -> Result<Option<Note>, NoMemory>
         ensures { IfOk result (IsNoteIfTold self.now LimitExceeded) }
     {
@@ -294,7 +297,7 @@ impl<'a> Faulty<'a> {
         }))
     }
 
-    // Which `init` is missing, or which final reference is given null.
+    // The note on the missing `init`, or on the final reference that is set to null.
     fn final_note(&self, alloc: Global) -> Result<Option<Note>, NoMemory>
         ensures { IfOk result (IsNoteIfTold self.now FinalWithoutOpeningValue) }
     {
@@ -309,7 +312,7 @@ impl<'a> Faulty<'a> {
         Ok(None)
     }
 
-    // FIELD is given here.
+    // The note `FIELD is given here`.
     fn given_note(&self, alloc: Global) -> Result<Option<Note>, NoMemory>
         ensures { IfOk result (FoundNote (IsGivenNote (decls_of self.now) self.now.at)) }
     {
@@ -320,7 +323,7 @@ impl<'a> Faulty<'a> {
         Ok(Some(note))
     }
 
-    // Which `return` is missing, or that none is.
+    // The note on the missing `return`, or that none is missing.
     fn return_note(&self, alloc: Global) -> Result<Note, NoMemory>
         ensures { IfOk result (λ note. IsReturnNote (decls_of self.now) self.now.at (note_of note)) }
     {
@@ -328,7 +331,7 @@ impl<'a> Faulty<'a> {
         Ok(note)
     }
 
-    // What is told, if anything is.
+    // The note on the fault, if there is one.
     fn note(&self, alloc: Global, code: Code) -> Result<Option<Note>, NoMemory>
         requires { FoundWhy (decls_of self.now) code self.now.at self.now.why }
         ensures { IfOk result (IsNoteIfTold self.now code) }
@@ -354,16 +357,16 @@ impl<'a> Faulty<'a> {
     }
 }
 
-/// A fault, and why it is one, if its code doesn't say all and it is the first of its tree.
+/// A fault, and its reason, if its code doesn't say all and it is the first of its tree.
 #[derive(Clone, Copy)]
 pub struct Known<'a> {
     /// The fault.
     pub fault: &'a Fault,
-    /// Why it is one.
+    /// The reason.
     pub why: Option<Why>,
 }
 
-/// What is told of this fault by tokens and the declarations of their tree.
+/// The notes on a fault, given tokens and the declarations of their tree.
 pub fn tree_notes(
     alloc: Global,
     tokens: &[Token],

@@ -1,4 +1,4 @@
--- What is found, name by name and use by use.
+-- The names that are found, name by name and use by use.
 use Rattle.std.proofs.Common.{◌≡◌, ℕ, ◌<◌, ◌≤◌, ◌+◌, List, [], ◌∷◌, ◌++◌, Bool, true, false, length, get_or, drop}
 use Rattle.std.proofs.Common.{map, refl, sym, ap, ◌∙◌, append_assoc, subst, Option, Some, None, Vec, Global}
 use Rattle.std.specs.List.{cons_option, filter_map}
@@ -11,9 +11,9 @@ use Rattle.syntax.specs.Trees.{Ident}
 use Rattle.syntax.specs.declared.tree.Param as the_param
 use Rattle.syntax.specs.declared.tree.Stmt as the_stmt
 use Rattle.syntax.specs.Views.{param_of, stmt_of, stmts_of}
-use Rattle.explanation_names.specs.declared.found.Found.{Found}
+use Rattle.explanation_names.specs.declared.found.FoundNames.{FoundNames}
 use Rattle.explanation_names.specs.declared.search.LocalInScope as the_local
-use Rattle.explanation_names.specs.declared.search.Search.{Search}
+use Rattle.explanation_names.specs.declared.search.NameSearch.{NameSearch}
 use Rattle.explanation_names.specs.Working.Found.{meant_by}
 use Rattle.explanation_names.specs.Locals.{LocalInScope, declared_by, param_in_scope}
 use Rattle.explanation_names.specs.Sought.{Use}
@@ -21,42 +21,42 @@ use Rattle.explanation_names.specs.Working.UsesFound.{all_declared, uses_by, use
 use Rattle.explanation_names.specs.Working.Values.{Adds, Binds, Says, decls_at, ident_at, idents, meant_for}
 use Rattle.explanation_names.specs.Working.Values.{option_list, typed_seen}
 
-pub nothing_added : (p : Found) → Adds p p []
+pub nothing_added : (p : FoundNames) → Adds p p []
 nothing_added p = record { unrefused = λ ok. ok; names = λ ok. sym (append-nil (idents p.names.items)) }
 
--- some, and others behind them
-pub followed_by : {p q r : Found} {x y : List Ident} → Adds p q x → Adds q r y → Adds p r (x ++ y)
+-- some, and others after them
+pub followed_by : {p q r : FoundNames} {x y : List Ident} → Adds p q x → Adds q r y → Adds p r (x ++ y)
 followed_by {p = p} {x = x} {y = y} a b = record {
   unrefused = λ ok. a.unrefused (b.unrefused ok);
   names = λ ok. b.names ok ∙ ap (λ (l : List Ident). l ++ y) (a.names (b.unrefused ok)) ∙ append_assoc (idents p.names.items) x y;
 }
 
-pub spelled : {p q : Found} {x y : List Ident} → x ≡ y → Adds p q x → Adds p q y
+pub spelled : {p q : FoundNames} {x y : List Ident} → x ≡ y → Adds p q x → Adds p q y
 spelled {p = p} {q = q} e a = subst (Adds p q) e a
 
--- In a loop: what was found since it began, and the rest behind it, are the whole.
-pub record Leads (first here : Found) (rest whole : List Ident) : Type 0 where
+-- In a loop: what was found since it began, and the rest after it, are the whole.
+pub record Leads (first here : FoundNames) (rest whole : List Ident) : Type 0 where
   pub unrefused : here.is_refused ≡ false → first.is_refused ≡ false
   pub names : here.is_refused ≡ false → idents here.names.items ++ rest ≡ idents first.names.items ++ whole
 
-pub at_first : (p : Found) (whole : List Ident) → Leads p p whole whole
+pub at_first : (p : FoundNames) (whole : List Ident) → Leads p p whole whole
 at_first p whole = record { unrefused = λ ok. ok; names = λ ok. refl }
 
-pub one_further : {p q r : Found} {x rest whole : List Ident} → Leads p q (x ++ rest) whole → Adds q r x →
+pub one_further : {p q r : FoundNames} {x rest whole : List Ident} → Leads p q (x ++ rest) whole → Adds q r x →
     Leads p r rest whole
 one_further {q = q} {x = x} {rest = rest} l a = record {
   unrefused = λ ok. l.unrefused (a.unrefused ok);
   names = λ ok. ap (λ (s : List Ident). s ++ rest) (a.names ok) ∙ append_assoc (idents q.names.items) x rest ∙ l.names (a.unrefused ok);
 }
 
-pub at_last : {p q : Found} {whole : List Ident} → Leads p q [] whole → Adds p q whole
+pub at_last : {p q : FoundNames} {whole : List Ident} → Leads p q [] whole → Adds p q whole
 at_last {q = q} l = record {
   unrefused = l.unrefused;
   names = λ ok. sym (append-nil (idents q.names.items)) ∙ l.names ok;
 }
 
--- `rest` gives what is found in a list's rest, and `behind` what is found behind an item: one item further
-pub item_then : {B : Type 0} {p q r : Found} {piece whole : List Ident} (rest behind : List B →
+-- `rest` gives what is found in a list's rest, and `behind` what is found after an item: one item further
+pub item_then : {B : Type 0} {p q r : FoundNames} {piece whole : List Ident} (rest behind : List B →
     List Ident) (xs : List B) (i : ℕ) (x : B)
     → i < length xs → x ≡ get_or xs i x → rest (x ∷ drop (i + 1) xs) ≡ piece ++ behind (drop (i + 1) xs)
     → Leads p q (rest (drop i xs)) whole → Adds q r piece → Leads p r (behind (drop (i + 1) xs)) whole
@@ -64,25 +64,25 @@ item_then {p = p} {q = q} {whole = whole} rest behind xs i x below is begins l a
     let here = at_drop_more rest xs i x below ∙ ap (λ y. rest (y ∷ drop (i + 1) xs)) (sym is) ∙ begins in
     one_further (subst (λ (s : List Ident). Leads p q s whole) here l) a
 
-pub item_added : {B : Type 0} {p q r : Found} {piece whole : List Ident} (rest : List B →
+pub item_added : {B : Type 0} {p q r : FoundNames} {piece whole : List Ident} (rest : List B →
     List Ident) (xs : List B) (i : ℕ) (x : B)
     → i < length xs → x ≡ get_or xs i x → rest (x ∷ drop (i + 1) xs) ≡ piece ++ rest (drop (i + 1) xs)
     → Leads p q (rest (drop i xs)) whole → Adds q r piece → Leads p r (rest (drop (i + 1) xs)) whole
 item_added rest xs i x below is begins l a = item_then rest rest xs i x below is begins l a
 
 -- and at its end
-pub all_added : {B : Type 0} {p q : Found} {whole : List Ident} (rest : List B → List Ident) (xs : List B) (i : ℕ)
+pub all_added : {B : Type 0} {p q : FoundNames} {whole : List Ident} (rest : List B → List Ident) (xs : List B) (i : ℕ)
     → length xs ≤ i → rest [] ≡ [] → Leads p q (rest (drop i xs)) whole → Adds p q whole
 all_added {p = p} {q = q} {whole = whole} rest xs i above none l =
     at_last (subst (λ (s : List Ident). Leads p q s whole) (at_drop_all rest xs i above ∙ none) l)
 
 -- ---- one name
 
--- nothing is tried where memory was refused
-pub refused_before : (p : Found) (names : List Ident) → p.is_refused ≡ true → Adds p p names
+-- after a failed allocation nothing is tried
+pub refused_before : (p : FoundNames) (names : List Ident) → p.is_refused ≡ true → Adds p p names
 refused_before p names refused = record { unrefused = λ ok. ok; names = λ ok. absurd cc }
 
-pub tried : {p q : Found} {went_well : Bool} (name : Bor Name) → p.is_refused ≡ false → went_well ≡ not q.is_refused
+pub tried : {p q : FoundNames} {went_well : Bool} (name : Bor Name) → p.is_refused ≡ false → went_well ≡ not q.is_refused
     → q.names.items ≡ (if went_well then p.names.items ++ name ∷ [] else p.names.items) → Adds p q (ident_at name ∷ [])
 tried {p = p} {q = q} name fresh well e = record {
   unrefused = λ ok. fresh;
@@ -97,7 +97,7 @@ some_ahead (Some x) rest = refl
 some_ahead None rest = refl
 
 -- what a function gives of a list's items: one item further, and the end
-pub name_added : {A B : Type 0} {p q r : Found} {whole : List Ident} (f : A → Option Ident) (view : B →
+pub name_added : {A B : Type 0} {p q r : FoundNames} {whole : List Ident} (f : A → Option Ident) (view : B →
     A) (xs : List B) (i : ℕ) (x : B) (o : Option Ident)
     → i < length xs → x ≡ get_or xs i x → o ≡ f (view x) → Leads p q (filter_map f (map view (drop i xs))) whole → Adds q r (option_list o)
     → Leads p r (filter_map f (map view (drop (i + 1) xs))) whole
@@ -105,45 +105,45 @@ name_added f view xs i x o below is given l a =
     item_added (λ ys. filter_map f (map view ys)) xs i x below is
     (ap (λ (z : Option Ident). cons_option z (filter_map f (map view (drop (i + 1) xs)))) (sym given) ∙ some_ahead o (filter_map f (map view (drop (i + 1) xs)))) l a
 
-pub all_named : {A B : Type 0} {p q : Found} {whole : List Ident} (f : A → Option Ident) (view : B →
+pub all_named : {A B : Type 0} {p q : FoundNames} {whole : List Ident} (f : A → Option Ident) (view : B →
     A) (xs : List B) (i : ℕ)
     → length xs ≤ i → Leads p q (filter_map f (map view (drop i xs))) whole → Adds p q whole
 all_named f view xs i above = all_added (λ ys. filter_map f (map view ys)) xs i above refl
 
 -- the whole of what was added to none
-pub all_there : {p q : Found} {names : List Ident} → p.names.items ≡ [] → Adds p q names → q.is_refused ≡ false →
+pub all_there : {p q : FoundNames} {names : List Ident} → p.names.items ≡ [] → Adds p q names → q.is_refused ≡ false →
     idents q.names.items ≡ names
 all_there {names = names} none a ok = a.names ok ∙ ap (λ (xs : List (Bor Name)). idents xs ++ names) none
 
 -- ---- uses of names
 
-pub nothing_said : (s : Search) (p : Found) → Says s p p []
+pub nothing_said : (s : NameSearch) (p : FoundNames) → Says s p p []
 nothing_said s p = record { found = nothing_added p }
 
-pub both : {s : Search} {p q r : Found} {us vs : List Use} → Says s p q us → Says s q r vs → Says s p r (us ++ vs)
+pub both : {s : NameSearch} {p q r : FoundNames} {us vs : List Use} → Says s p q us → Says s q r vs → Says s p r (us ++ vs)
 both {s = s} {us = us} {vs = vs} a b = record { found = spelled (sym (flat_map-append (meant_by (decls_at s) s.at) us vs)) (followed_by a.found b.found) }
 
-pub said_as : {s : Search} {p q : Found} {us vs : List Use} → us ≡ vs → Says s p q us → Says s p q vs
+pub said_as : {s : NameSearch} {p q : FoundNames} {us vs : List Use} → us ≡ vs → Says s p q us → Says s p q vs
 said_as {s = s} {p = p} {q = q} e a = subst (Says s p q) e a
 
-pub one_use : (s : Search) {p q : Found} (u : Use) → Adds p q (meant_by (decls_at s) s.at u) → Says s p q (u ∷ [])
+pub one_use : (s : NameSearch) {p q : FoundNames} (u : Use) → Adds p q (meant_by (decls_at s) s.at u) → Says s p q (u ∷ [])
 one_use s u a = record { found = spelled (sym (append-nil (meant_by (decls_at s) s.at u))) a }
 
 -- in a loop: what is meant by the uses so far, and by those in the rest
-pub record Tells (s : Search) (first here : Found) (rest whole : List Use) : Type 0 where
+pub record Tells (s : NameSearch) (first here : FoundNames) (rest whole : List Use) : Type 0 where
   pub leads : Leads first here (meant_for s rest) (meant_for s whole)
 
-pub tells_first : (s : Search) (p : Found) (whole : List Use) → Tells s p p whole whole
+pub tells_first : (s : NameSearch) (p : FoundNames) (whole : List Use) → Tells s p p whole whole
 tells_first s p whole = record { leads = at_first p (meant_for s whole) }
 
-pub told_further : {s : Search} {p q r : Found} {us rest whole : List Use} → Tells s p q (us ++ rest) whole →
+pub told_further : {s : NameSearch} {p q r : FoundNames} {us rest whole : List Use} → Tells s p q (us ++ rest) whole →
     Says s q r us → Tells s p r rest whole
 told_further {s = s} {p = p} {q = q} {us = us} {rest = rest} {whole = whole} l a = record {
   leads = one_further (subst (λ (xs : List Ident). Leads p q xs (meant_for s whole)) (flat_map-append (meant_by (decls_at s) s.at) us rest) l.leads) a.found;
 }
 
--- `rest` gives the uses in a list's rest, and `behind` those behind an item: one item further
-pub item_said_then : {B : Type 0} {s : Search} {p q r : Found} {piece whole : List Use} (rest behind : List B →
+-- `rest` gives the uses in a list's rest, and `behind` those after an item: one item further
+pub item_said_then : {B : Type 0} {s : NameSearch} {p q r : FoundNames} {piece whole : List Use} (rest behind : List B →
     List Use) (xs : List B) (i : ℕ) (x : B)
     → i < length xs → x ≡ get_or xs i x → rest (x ∷ drop (i + 1) xs) ≡ piece ++ behind (drop (i + 1) xs)
     → Tells s p q (rest (drop i xs)) whole → Says s q r piece → Tells s p r (behind (drop (i + 1) xs)) whole
@@ -151,13 +151,13 @@ item_said_then {s = s} {p = p} {q = q} {whole = whole} rest behind xs i x below 
     let here = at_drop_more rest xs i x below ∙ ap (λ y. rest (y ∷ drop (i + 1) xs)) (sym is) ∙ begins in
     told_further (subst (λ (us : List Use). Tells s p q us whole) here l) a
 
-pub item_said : {B : Type 0} {s : Search} {p q r : Found} {piece whole : List Use} (rest : List B →
+pub item_said : {B : Type 0} {s : NameSearch} {p q r : FoundNames} {piece whole : List Use} (rest : List B →
     List Use) (xs : List B) (i : ℕ) (x : B)
     → i < length xs → x ≡ get_or xs i x → rest (x ∷ drop (i + 1) xs) ≡ piece ++ rest (drop (i + 1) xs)
     → Tells s p q (rest (drop i xs)) whole → Says s q r piece → Tells s p r (rest (drop (i + 1) xs)) whole
 item_said rest xs i x below is begins l a = item_said_then rest rest xs i x below is begins l a
 
-pub all_said : {B : Type 0} {s : Search} {p q : Found} {whole : List Use} (rest : List B →
+pub all_said : {B : Type 0} {s : NameSearch} {p q : FoundNames} {whole : List Use} (rest : List B →
     List Use) (xs : List B) (i : ℕ)
     → length xs ≤ i → rest [] ≡ [] → Tells s p q (rest (drop i xs)) whole → Says s p q whole
 all_said {s = s} {p = p} {q = q} {whole = whole} rest xs i above none l = record {
@@ -166,8 +166,8 @@ all_said {s = s} {p = p} {q = q} {whole = whole} rest xs i above none l = record
 
 -- ---- with locals that come into scope
 
--- the same uses, where no growth was refused before them
-pub said_when : {s : Search} {q r : Found} {us vs : List Use} → (q.is_refused ≡ false → us ≡ vs) → Says s q r us →
+-- the same uses, if no allocation failed before them
+pub said_when : {s : NameSearch} {q r : FoundNames} {us vs : List Use} → (q.is_refused ≡ false → us ≡ vs) → Says s q r us →
     Says s q r vs
 said_when {s = s} {q = q} e a = record {
   found = record {
@@ -176,7 +176,7 @@ said_when {s = s} {q = q} e a = record {
   };
 }
 
-pub told_when : {s : Search} {p q : Found} {us vs whole : List Use} → (q.is_refused ≡ false → us ≡ vs) →
+pub told_when : {s : NameSearch} {p q : FoundNames} {us vs whole : List Use} → (q.is_refused ≡ false → us ≡ vs) →
     Tells s p q us whole → Tells s p q vs whole
 told_when {s = s} {q = q} e l = record {
   leads = record {
@@ -185,18 +185,18 @@ told_when {s = s} {q = q} e l = record {
   };
 }
 
-pub after_binding : {a b : Vec the_local.LocalInScope Global} {s : Search} {p q r : Found} {us : List Use} {xs : List LocalInScope} → Says s p q us → Binds a b q r xs → Says s p r us
+pub after_binding : {a b : Vec the_local.LocalInScope Global} {s : NameSearch} {p q r : FoundNames} {us : List Use} {xs : List LocalInScope} → Says s p q us → Binds a b q r xs → Says s p r us
 after_binding {s = s} {us = us} says binds = record { found = spelled (append-nil (meant_for s us)) (followed_by says.found binds.adds) }
 
 -- one statement further
-module _ (s : Search) {q r t u : Found} {b d : Vec the_local.LocalInScope Global} (ss : List the_stmt.Stmt) (i : ℕ) (x : the_stmt.Stmt) (xs o : List LocalInScope)
+module _ (s : NameSearch) {q r t u : FoundNames} {b d : Vec the_local.LocalInScope Global} (ss : List the_stmt.Stmt) (i : ℕ) (x : the_stmt.Stmt) (xs o : List LocalInScope)
     (below : i < length ss) (is : x ≡ get_or ss i x) (declares : o ≡ declared_by (stmt_of x))
     (own : Says s q r (uses_by xs (stmt_of x))) (inner : Says s r t (uses_in_blocks xs (stmt_of x))) (keeps : t.is_refused ≡ false → typed_seen b.items ≡ xs)
     (binds : Binds b d t u o) where
   grown : u.is_refused ≡ false → typed_seen d.items ≡ xs ++ declared_by (stmt_of x)
   grown ok = binds.scope ok ∙ ap (λ (ys : List LocalInScope). ys ++ o) (keeps (binds.adds.unrefused ok)) ∙ ap (λ (ys : List LocalInScope). xs ++ ys) declares
 
-  pub stmt_said : {p : Found} {whole : List Use} → Tells s p q (uses_in_stmts xs (stmts_of (drop i ss))) whole →
+  pub stmt_said : {p : FoundNames} {whole : List Use} → Tells s p q (uses_in_stmts xs (stmts_of (drop i ss))) whole →
       Tells s p u (uses_in_stmts (typed_seen d.items) (stmts_of (drop (i + 1) ss))) whole
   stmt_said l =
       told_when (λ ok. ap (λ (ys : List LocalInScope). uses_in_stmts ys (stmts_of (drop (i + 1) ss))) (sym (grown ok)))
@@ -213,16 +213,16 @@ module _ (s : Search) {q r t u : Found} {b d : Vec the_local.LocalInScope Global
       ∙ so_far (own.found.unrefused (inner.found.unrefused (binds.adds.unrefused ok)))
 
 -- in a loop over parameters: those in scope so far and the rest are all, and no name is found
-pub record Binding (a b : Vec the_local.LocalInScope Global) (first here : Found) (rest whole : List LocalInScope) : Type 0 where
+pub record Binding (a b : Vec the_local.LocalInScope Global) (first here : FoundNames) (rest whole : List LocalInScope) : Type 0 where
   pub leads : Leads first here [] []
   pub scope : here.is_refused ≡ false → typed_seen b.items ++ rest ≡ typed_seen a.items ++ whole
 
-pub binds_first : (a : Vec the_local.LocalInScope Global) (p : Found) (whole : List LocalInScope) →
+pub binds_first : (a : Vec the_local.LocalInScope Global) (p : FoundNames) (whole : List LocalInScope) →
     Binding a a p p whole whole
 binds_first a p whole = record { leads = at_first p []; scope = λ ok. refl }
 
 -- one parameter further
-pub param_bound : {p q r : Found} {a b d : Vec the_local.LocalInScope Global} (ps : List the_param.Param) (i : ℕ) (x : the_param.Param) (o : List LocalInScope)
+pub param_bound : {p q r : FoundNames} {a b d : Vec the_local.LocalInScope Global} (ps : List the_param.Param) (i : ℕ) (x : the_param.Param) (o : List LocalInScope)
     → i < length ps → x ≡ get_or ps i x → o ≡ param_in_scope (param_of x) ∷ []
     → Binding a b p q (map param_in_scope (map param_of (drop i ps))) (map param_in_scope (map param_of ps)) → Binds b d q r o
     → Binding a d p r (map param_in_scope (map param_of (drop (i + 1) ps))) (map param_in_scope (map param_of ps))
@@ -236,7 +236,7 @@ param_bound {b = b} {d = d} ps i x o below is one l binds = record {
       ∙ l.scope (binds.adds.unrefused ok);
 }
 
-pub all_bound : {p q : Found} {a b : Vec the_local.LocalInScope Global} (ps : List the_param.Param) (i : ℕ) →
+pub all_bound : {p q : FoundNames} {a b : Vec the_local.LocalInScope Global} (ps : List the_param.Param) (i : ℕ) →
     length ps ≤ i
     → Binding a b p q (map param_in_scope (map param_of (drop i ps))) (map param_in_scope (map param_of ps)) → Binds a b p q (map param_in_scope (map param_of ps))
 all_bound {b = b} ps i above l = record {

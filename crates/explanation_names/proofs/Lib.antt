@@ -7,3 +7,8 @@ pub mod UsesAre
 pub mod Meant
 pub mod Choice
 pub mod Unknown
+pub mod Ends
+pub mod Firsts
+pub mod Grown
+pub mod Structs
+pub mod VarStatements

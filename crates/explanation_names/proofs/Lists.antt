@@ -1,4 +1,4 @@
--- What is in lists that stand one after another.
+-- The items of lists that follow one another.
 use Rattle.std.proofs.Common.{◌≡◌, List, [], ◌∷◌, ◌++◌, ◌⊎◌, inl, inr, Bool, true, false, Option, Some, None}
 use Rattle.std.proofs.Common.{if◌then◌else◌, take, length, map, refl, ap}
 use Rattle.std.specs.List.{cons_option, filter_map, flat_map}

@@ -41,7 +41,7 @@ blocks_seen xs ys s b x y is here there same =
     ∙ ap (λ (z : the_if.If). uses_in_stmts xs (stmts_of (out-If x).block.stmts.items) ++ uses_in_else xs (else_of (out-If z).otherwise)) (there ∙ sym here)
     ∙ ap (uses_in_blocks xs) (if_seen s b x is here)
 
--- locals behind others, taken off again
+-- locals after others, taken off again
 pub taken_off : (old new : List the_local.LocalInScope) (n : ℕ) (more : List LocalInScope) → n ≡ length old →
     typed_seen new ≡ typed_seen old ++ more → typed_seen (take n new) ≡ typed_seen old
 taken_off old new n more count made =

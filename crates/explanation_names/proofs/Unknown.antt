@@ -1,4 +1,4 @@
--- Where a name is unknown, something is looked for.
+-- Each unknown name is looked up in some use.
 use Rattle.std.proofs.Common.{◌≡◌, ℕ, zero, suc, List, [], ◌∷◌, ◌++◌, Option, Some, map, refl, sym, subst}
 use Rattle.std.specs.Prelude.{slice_get}
 use Rattle.resolution.specs.declared.wanted.Want.{Want}

@@ -18,7 +18,7 @@ use Rattle.syntax.specs.Trees.{Member, lock_member, final_member, field_member, 
 use Rattle.syntax.specs.Trees.{Item, call, repeat, Items, no_items, item, Decl, lock, struct, global, array, pool, init}
 use Rattle.syntax.specs.Trees.{atomic, helper, thread}
 use Rattle.syntax.specs.Trees as tree
-use Rattle.explanation_names.specs.declared.sought.Sought.TheVariants as kind
+use Rattle.explanation_names.specs.declared.sought.NameKind.TheVariants as kind
 use Rattle.explanation_names.specs.Locals.{LocalInScope, declared_by, param_in_scope, Stands, here, later, in_then}
 use Rattle.explanation_names.specs.Locals.{in_else, in_while, HasBody, of_section, of_helper, HasStmt, in_body}
 use Rattle.explanation_names.specs.Sought.{Use, of_kind, by_dots, by_init, by_owner, Uses, a_value, an_element, a_base}

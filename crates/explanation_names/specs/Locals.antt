@@ -1,4 +1,4 @@
--- Which locals are in scope where a statement stands.
+-- The locals in scope at a statement.
 use Rattle.std.specs.Prelude.{List, [], ◌∷◌, ◌++◌, map}
 use Rattle.resolution.specs.Where.{Has}
 use Rattle.source.specs.declared.span.Span.{Span}
@@ -10,10 +10,11 @@ pub record LocalInScope : Type 0 where
   pub name : Ident
   pub value_type : ValueType
 
+-- a parameter with its type
 abbrev pub param_in_scope : Param → LocalInScope
 param_in_scope p = record { name = p.name; value_type = p.value_type }
 
--- the local that a statement declares, if it does
+-- the local that a statement declares, if it declares one
 abbrev pub declared_by : Stmt → List LocalInScope
 declared_by (let_local l) = record { name = l.name; value_type = l.value_type } ∷ []
 declared_by (let_owned l o) = record { name = l.name; value_type = l.value_type } ∷ []
@@ -21,8 +22,8 @@ declared_by (let_call l) = record { name = l.name; value_type = l.value_type } �
 declared_by (var_local l) = record { name = l.name; value_type = l.value_type } ∷ []
 declared_by _ = []
 
--- among statements ahead of which these locals are in scope, a statement stands where those are: a local is in scope in
--- the statements behind its own, up to the end of its block
+-- a statement stands among statements with these locals in scope before it, given those in scope before the first: a
+-- local is in scope in the statements after its own, up to the end of its block
 pub data Stands : List LocalInScope → Stmts → List LocalInScope → Stmt → Type 0 where
   here : {xs : List LocalInScope} {s : Stmt} {rest : Stmts} → Stands xs (stmt s rest) xs s
   later : {xs ys : List LocalInScope} {s t : Stmt} {rest : Stmts} →
@@ -34,6 +35,7 @@ pub data Stands : List LocalInScope → Stmts → List LocalInScope → Stmt →
   in_while : {xs ys : List LocalInScope} {t : Stmt} {start close : Span} {e : Expr} {body rest : Stmts} →
       Stands xs body ys t → Stands xs (stmt (while start e body close) rest) ys t
 
+-- a section or a helper of the program
 pub data HasBody (decls : List Decl) : Section → Type 0 where
   of_section : {s : Section} → Has decls (atomic s) → HasBody decls s
   of_helper : {s : Section} → Has decls (helper s) → HasBody decls s

@@ -1,4 +1,4 @@
--- Among which members of a struct one is looked for at a byte.
+-- The members of a struct that are searched for a name at a byte.
 use Rattle.std.specs.Prelude.{◌≡◌, ℕ, List, ◌∷◌, Option, Some, None}
 use Rattle.resolution.specs.Constants.{members_of, pool_members}
 use Rattle.resolution.specs.Scopes.{the_decl, the_member}
@@ -15,21 +15,21 @@ abbrev pub members_behind : List Decl → ValueType → Option (List Member)
 members_behind decls int_type = None
 members_behind decls (ref_type x) = members_of decls x
 
--- of the one to which a member refers
+-- the members of the struct that a member refers to
 abbrev pub over : List Decl → Option (ℕ × Member) → Option (List Member)
 over decls (Some (i, lock_member x)) = None
 over decls (Some (i, final_member f)) = members_of decls f.target
 over decls (Some (i, field_member f)) = members_behind decls f.value_type
 over decls None = None
 
--- along these names, from a struct with these members: at the byte a name begins by which one of those is looked for
+-- along these names, from a struct with these members: a name begins at the byte that is looked up among those
 pub data Leads (decls : List Decl) (at : ℕ) : List Member → List Ident → List Member → Type 0 where
   there : {ms : List Member} {f : Ident} {fs : List Ident} → f.span.start ≡ at → Leads decls at ms (f ∷ fs) ms
   goes_on : {ms ns to : List Member} {f : Ident} {fs : List Ident} →
       over decls (the_member ms f.text) ≡ Some ns → Leads decls at ns fs to → Leads decls at ms (f ∷ fs) to
 
--- by such a use of a name that begins at the byte a member in this role is looked for among these: on the way behind a
--- local's name, in an `init`, on the way of an annotation from its own struct on, or behind `where`
+-- the use of a name looks up a member in this role among these, by a name that begins at the byte: after a local's
+-- name, in an `init`, along an annotation from its own struct on, or after `where`
 pub data IsAmong (decls : List Decl) (at : ℕ) : Use → Role → List Member → Type 0 where
   behind_dots : {xs : List LocalInScope} {l : LocalInScope} {x : Ident} {fs : List Ident} {ms to : List Member} →
       Has xs l → l.name.text ≡ x.text → members_behind decls l.value_type ≡ Some ms → Leads decls at ms fs to →
@@ -42,8 +42,8 @@ pub data IsAmong (decls : List Decl) (at : ℕ) : Use → Role → List Member �
   behind_where : {t : ValueType} {f : Ident} {ms : List Member} →
       f.span.start ≡ at → members_behind decls t ≡ Some ms → IsAmong decls at (by_owner t f) role.Owner ms
 
--- the name of a member, if it can be in this role: a value is a field or a final reference; in an annotation stands a
--- lock, or a final reference on the way to one; behind `where` a final reference
+-- the name of a member, if it can have this role. A value is a field or a final reference. An annotation has a lock, or
+-- a final reference on the way to one. After `where` is a final reference
 abbrev pub name_as : Role → Member → Option Ident
 name_as role.Value (lock_member x) = None
 name_as role.Value (final_member f) = Some f.name

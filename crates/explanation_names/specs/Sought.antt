@@ -1,4 +1,4 @@
--- What is looked for by the names of a program.
+-- What the names of a program are looked up as.
 use Rattle.std.specs.Prelude.{◌≡◌, List, [], Some}
 use Rattle.resolution.specs.declared.wanted.Want.{Want}
 use Rattle.resolution.specs.Where.{Has, Within, HasCall, HasLock}
@@ -10,15 +10,15 @@ use Rattle.syntax.specs.Trees.{var_local, assign, if_then, while, print, return_
 use Rattle.syntax.specs.Trees.{Final, Field, final_member, field_member, Struct, Variable, Array, Pool, Init, Param}
 use Rattle.syntax.specs.Trees.{Section, Call, Decl, struct, global, array, pool, init}
 use Rattle.syntax.specs.Trees as tree
-use Rattle.explanation_names.specs.declared.sought.Sought.{Sought}
-use Rattle.explanation_names.specs.declared.sought.Sought.TheVariants as kind
+use Rattle.explanation_names.specs.declared.sought.NameKind.{NameKind}
+use Rattle.explanation_names.specs.declared.sought.NameKind.TheVariants as kind
 use Rattle.explanation_names.specs.Locals.{LocalInScope, HasBody, HasStmt, declared_by}
 
--- what is looked for by a name: a thing of a kind, with these locals in scope; or a member of a struct, by the names behind
--- a local's, by the field that an `init` gives, by those of an annotation in a struct, or by the one behind `where` at a
--- local of this type
+-- the use of a name: it is looked up as a thing of a kind, with these locals in scope; or as a member of a struct, by
+-- the names after a local's, by the field that an `init` gives, by those of an annotation in a struct, or by the one
+-- after `where` at a local of this type
 pub data Use : Type 0 where
-  of_kind : Sought → List LocalInScope → (name : Ident) → Use
+  of_kind : NameKind → List LocalInScope → (name : Ident) → Use
   by_dots : List LocalInScope → (local : Ident) → (fields : List Ident) → Use
   by_init : (pool field : Ident) → Use
   by_annotation : (structure : Ident) → Protection → Use
@@ -30,7 +30,7 @@ pub data HasHelperCall (decls : List Decl) : List LocalInScope → HelperCall �
   by_itself : {xs : List LocalInScope} {start : Span} {c : HelperCall} →
       HasStmt decls xs (tree.call start c) → HasHelperCall decls xs c
 
--- an expression that is no part of another
+-- an expression that is not a part of another
 pub data HasExpr (decls : List Decl) : List LocalInScope → Expr → Type 0 where
   of_let : {xs : List LocalInScope} {l : Local} → HasStmt decls xs (let_local l) → HasExpr decls xs l.value
   of_owned : {xs : List LocalInScope} {l : Local} {o : Owner} → HasStmt decls xs (let_owned l o) →
@@ -80,10 +80,10 @@ pub data Guards (decls : List Decl) : Struct → Protection → Type 0 where
   guards : {s : Struct} {f : Field} {p : Protection} →
       Has decls (struct s) → Has s.members (field_member f) → f.protection ≡ Some p → Guards decls s p
 
--- so names are used in the program
+-- the uses of names in the program
 pub data Uses (decls : List Decl) : Use → Type 0 where
-  -- by a name alone a global or a local; ahead of an index an array or a pool; ahead of a dot a local, and behind it a
-  -- member
+  -- a name alone is that of a global or a local. A name before an index is that of an array or a pool, one before a dot
+  -- that of a local, and one after the dot that of a member
   a_value : {xs : List LocalInScope} {x : Ident} → HasPlace decls xs (lone x) → Uses decls (of_kind kind.Value xs x)
   an_element : {xs : List LocalInScope} {x : Ident} {e : Expr} →
       HasPlace decls xs (element x e) → Uses decls (of_kind kind.Indexed xs x)
@@ -91,23 +91,23 @@ pub data Uses (decls : List Decl) : Use → Type 0 where
       HasPlace decls xs (path x fs) → Uses decls (of_kind kind.Local xs x)
   a_way : {xs : List LocalInScope} {x : Ident} {fs : List Ident} → HasPlace decls xs (path x fs) →
       Uses decls (by_dots xs x fs)
-  -- behind `where` a final reference, and a local
+  -- after `where` are a final reference, and a local
   an_owner : {xs : List LocalInScope} {l : Local} {o : Owner} →
       HasStmt decls xs (let_owned l o) → Uses decls (by_owner l.value_type o.field)
   an_owner_local : {xs : List LocalInScope} {l : Local} {o : Owner} →
       HasStmt decls xs (let_owned l o) → Uses decls (of_kind kind.Local xs o.local)
-  -- in a type a struct
+  -- a type names a struct
   a_struct : {xs : List LocalInScope} {x : Ident} → HasType decls xs (ref_type x) →
       Uses decls (of_kind kind.Struct xs x)
-  -- in calls a helper, and a section
+  -- calls name a helper, or a section
   a_helper : {xs : List LocalInScope} {c : HelperCall} →
       HasHelperCall decls xs c → Uses decls (of_kind kind.Helper xs c.helper)
   a_section : {c : Call} → HasCall decls c → Uses decls (of_kind kind.Section [] c.section)
-  -- in a constant a pool; in an `init` a pool and a member
+  -- a constant names a pool; an `init` names a pool and a member
   a_pool : {p : Ident} {n : Number} → HasConst decls (member_const p n) → Uses decls (of_kind kind.Pool [] p)
   a_pool_given : {i : Init} → Has decls (init i) → Uses decls (of_kind kind.Pool [] i.pool)
   a_field_given : {i : Init} → Has decls (init i) → Uses decls (by_init i.pool i.field)
-  -- in an annotation a lock by the first name; in a struct a member by each
+  -- an annotation names a lock by its first name; in a struct, a member by each name
   a_lock : {p : Protection} → HasLock decls p → Uses decls (of_kind kind.Lock [] p.first)
   a_guard : {s : Struct} {p : Protection} → Guards decls s p → Uses decls (of_kind kind.Lock [] p.first)
   a_guard_way : {s : Struct} {p : Protection} → Guards decls s p → Uses decls (by_annotation s.name p)

@@ -1,4 +1,4 @@
-//! What is looked for in declarations.
+//! The searches for unknown names in declarations.
 
 ghost use Rattle.std.specs.List.{flat_map};
 ghost use Rattle.std.specs.Prelude.{map};
@@ -6,23 +6,23 @@ ghost use Rattle.syntax.specs.Views.{const_of, decl_of, ident, item_of, items_of
 ghost use Rattle.explanation_names.specs.Working.UsesFound.{uses_of_annotation, uses_of_const, uses_of_decl, uses_of_item, uses_of_items, uses_of_member, uses_of_param, uses_of_section};
 ghost use Rattle.explanation_names.specs.Working.Values.{Says, locals_at, uses_of_members};
 
-use crate::found::Found;
-use crate::search::Search;
-use crate::sought::Sought;
+use crate::found::FoundNames;
+use crate::search::NameSearch;
+use crate::sought::NameKind;
 use crate::statements::push_params;
 use syntax::tree::{Const, Decl, Item, Member, Name, Param, Protection, Section};
 
-impl<'s, 't> Search<'s, 't> {
-    fn in_const(&self, c: &Const, found: &mut Found<'t>)
+impl<'s, 't> NameSearch<'s, 't> {
+    fn in_const(&self, c: &Const, found: &mut FoundNames<'t>)
         ensures { Says self.now found.old found.new (uses_of_const (locals_at self.now) (const_of c.now)) }
     {
         match c {
-            Const::Member(pool, _) => self.of_kind(Sought::Pool, pool, found),
+            Const::Member(pool, _) => self.of_kind(NameKind::Pool, pool, found),
             Const::Int(_) | Const::Negative(_, _) | Const::Null(_) => {}
         }
     }
 
-    fn in_consts(&self, constants: &[Const], found: &mut Found<'t>)
+    fn in_consts(&self, constants: &[Const], found: &mut FoundNames<'t>)
         ensures { Says self.now found.old found.new (flat_map (uses_of_const (locals_at self.now)) (map const_of constants.now)) }
     {
         for c in constants {
@@ -31,12 +31,12 @@ impl<'s, 't> Search<'s, 't> {
     }
 
     #[cycle(items)]
-    fn in_item(&self, item: &Item, found: &mut Found<'t>)
+    fn in_item(&self, item: &Item, found: &mut FoundNames<'t>)
         ensures { Says self.now found.old found.new (uses_of_item (locals_at self.now) (item_of item.now)) }
     {
         match item {
             Item::Call(call) => {
-                self.of_kind(Sought::Section, &call.section, found);
+                self.of_kind(NameKind::Section, &call.section, found);
                 self.in_consts(&call.arguments, found);
             }
             Item::Repeat(_, items) => self.in_items(items, found),
@@ -44,7 +44,7 @@ impl<'s, 't> Search<'s, 't> {
     }
 
     #[cycle(items)]
-    fn in_items(&self, items: &[Item], found: &mut Found<'t>)
+    fn in_items(&self, items: &[Item], found: &mut FoundNames<'t>)
         ensures { Says self.now found.old found.new (uses_of_items (locals_at self.now) (items_of items.now)) }
     {
         'items: for item in items {
@@ -52,31 +52,31 @@ impl<'s, 't> Search<'s, 't> {
         }
     }
 
-    fn in_annotation(&self, protection: &Option<Protection>, found: &mut Found<'t>)
+    fn in_annotation(&self, protection: &Option<Protection>, found: &mut FoundNames<'t>)
         ensures { Says self.now found.old found.new (uses_of_annotation (locals_at self.now) (option_of protection_of protection.now)) }
     {
         if let Some(protection) = protection {
-            self.of_kind(Sought::Lock, &protection.first, found);
+            self.of_kind(NameKind::Lock, &protection.first, found);
         }
     }
 
-    fn in_member(&self, structure: &Name, member: &Member, found: &mut Found<'t>)
+    fn in_member(&self, structure: &Name, member: &Member, found: &mut FoundNames<'t>)
         ensures { Says self.now found.old found.new (uses_of_member (locals_at self.now) (ident structure.now) (member_of member.now)) }
     {
         match member {
             Member::Lock(_) => {}
-            Member::Final(reference) => self.of_kind(Sought::Struct, &reference.target, found),
+            Member::Final(reference) => self.of_kind(NameKind::Struct, &reference.target, found),
             Member::Field(field) => {
                 self.in_type(&field.value_type, found);
                 if let Some(protection) = &field.protection {
-                    self.of_kind(Sought::Lock, &protection.first, found);
+                    self.of_kind(NameKind::Lock, &protection.first, found);
                     self.by_annotation(structure, protection, found);
                 }
             }
         }
     }
 
-    fn in_members(&self, structure: &Name, members: &[Member], found: &mut Found<'t>)
+    fn in_members(&self, structure: &Name, members: &[Member], found: &mut FoundNames<'t>)
         ensures { Says self.now found.old found.new (uses_of_members self.now structure.now members.now) }
     {
         for member in members {
@@ -84,7 +84,7 @@ impl<'s, 't> Search<'s, 't> {
         }
     }
 
-    fn in_params(&self, params: &[Param], found: &mut Found<'t>)
+    fn in_params(&self, params: &[Param], found: &mut FoundNames<'t>)
         ensures { Says self.now found.old found.new (flat_map (uses_of_param (locals_at self.now)) (map param_of params.now)) }
     {
         for param in params {
@@ -92,7 +92,7 @@ impl<'s, 't> Search<'s, 't> {
         }
     }
 
-    fn in_section(&self, section: &'t Section, found: &mut Found<'t>)
+    fn in_section(&self, section: &'t Section, found: &mut FoundNames<'t>)
         ensures { Says self.now found.old found.new (uses_of_section (locals_at self.now) (section_of section.now)) }
     {
         let mut scope = Vec::new(self.alloc);
@@ -104,7 +104,7 @@ impl<'s, 't> Search<'s, 't> {
         }
     }
 
-    fn in_decl(&self, decl: &'t Decl, found: &mut Found<'t>)
+    fn in_decl(&self, decl: &'t Decl, found: &mut FoundNames<'t>)
         ensures { Says self.now found.old found.new (uses_of_decl (locals_at self.now) (decl_of decl.now)) }
     {
         match decl {
@@ -121,9 +121,9 @@ impl<'s, 't> Search<'s, 't> {
                 self.in_type(&array.value_type, found);
                 self.in_annotation(&array.protection, found);
             }
-            Decl::Pool(pool) => self.of_kind(Sought::Struct, &pool.target, found),
+            Decl::Pool(pool) => self.of_kind(NameKind::Struct, &pool.target, found),
             Decl::Init(init) => {
-                self.of_kind(Sought::Pool, &init.pool, found);
+                self.of_kind(NameKind::Pool, &init.pool, found);
                 self.by_init(init, found);
                 self.in_const(&init.value, found);
             }
@@ -133,8 +133,8 @@ impl<'s, 't> Search<'s, 't> {
         }
     }
 
-    /// In the declarations of a program.
-    pub fn in_decls(&self, decls: &'t [Decl], found: &mut Found<'t>)
+    /// Searches the declarations of a program.
+    pub fn in_decls(&self, decls: &'t [Decl], found: &mut FoundNames<'t>)
         ensures { Says self.now found.old found.new (flat_map (uses_of_decl (locals_at self.now)) (map decl_of decls.now)) }
     {
         for decl in decls {

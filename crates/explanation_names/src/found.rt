@@ -1,4 +1,4 @@
-//! Names that are found, until memory is refused.
+//! Names that were found, until an allocation fails.
 
 ghost use Rattle.std.specs.Option.{option_map};
 ghost use Rattle.std.specs.Prelude.{◌≡◌, ◌∷◌, [], IfOk, false};
@@ -9,21 +9,21 @@ use source::memory::NoMemory;
 use std::alloc::Global;
 use syntax::tree::Name;
 
-/// Names, and whether a growth was refused. From then on nothing is added, and `finish` gives the error, so what finds
-/// several has no way out behind each.
+/// Names, and whether an allocation has failed. After a failure nothing is added and `finish` returns the error, so
+/// that callers need not check after each name.
 #[derive(Drop)]
-pub struct Found<'t> {
+pub struct FoundNames<'t> {
     /// The names.
     pub names: Vec<&'t Name>,
-    /// Whether a growth was refused.
+    /// Whether an allocation has failed.
     pub is_refused: bool,
 }
 
-impl<'t> Found<'t> {
-    pub fn new(alloc: Global) -> Found<'t>
+impl<'t> FoundNames<'t> {
+    pub fn new(alloc: Global) -> FoundNames<'t>
         ensures { result.names.items ≡ [] }
     {
-        Found {
+        FoundNames {
             names: Vec::new(alloc),
             is_refused: false,
         }
@@ -47,7 +47,7 @@ impl<'t> Found<'t> {
         }
     }
 
-    /// The names, unless a growth was refused.
+    /// The names, or the error if an allocation has failed.
     pub fn finish(self) -> Result<Vec<&'t Name>, NoMemory>
         ensures { IfOk result (λ names. self.entry.is_refused ≡ false × (names ≡ self.entry.names)) }
     {

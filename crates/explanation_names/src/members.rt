@@ -1,4 +1,4 @@
-//! The members of a struct among which one is looked for.
+//! The members of a struct that are searched for a name.
 
 ghost use Rattle.std.specs.List.{filter_map};
 ghost use Rattle.std.specs.Option.{option_map};
@@ -11,20 +11,20 @@ ghost use Rattle.explanation_names.specs.Members.{members_behind, name_as};
 ghost use Rattle.explanation_names.specs.Sought.{by_annotation, by_init, by_owner};
 ghost use Rattle.explanation_names.specs.Working.Values.{Adds, Says, along_from, behind_one, dots_at, ident_at, members_at, members_in_pool, next_from};
 
-use crate::found::Found;
-use crate::search::{LocalInScope, Search, begins};
+use crate::found::FoundNames;
+use crate::search::{LocalInScope, NameSearch, begins};
 use syntax::tree::{Decl, Init, Member, Name, Path, Protection, ValueType};
 use types_symbols::members::Structure;
 use types_symbols::table::SymbolTable;
 
-/// What a member of a struct could be.
+/// The role that a member of a struct is looked up for.
 #[derive(Clone, Copy)]
 pub enum Role {
-    /// What is read, written or given: a field, or a final reference.
+    /// A value that is read, written or given: a field, or a final reference.
     Value,
     /// What an annotation names: a lock, or a final reference on the way to one.
     Lock,
-    /// What stands behind `where`: a final reference.
+    /// After `where`: a final reference.
     Owner,
 }
 
@@ -36,7 +36,7 @@ fn struct_named<'a, 't>(symbols: &'a SymbolTable<'t>, name: &Name) -> Option<&'a
     Some(structure)
 }
 
-/// The struct to which a type refers.
+/// The struct that a type refers to.
 fn struct_behind<'a, 't>(symbols: &'a SymbolTable<'t>, t: &ValueType) -> Option<&'a Structure<'t>>
     ensures { option_map members_at result ≡ members_behind (decls_of symbols.now) (type_of t.now) }
 {
@@ -46,7 +46,7 @@ fn struct_behind<'a, 't>(symbols: &'a SymbolTable<'t>, t: &ValueType) -> Option<
     }
 }
 
-/// The struct to which the member of this name refers.
+/// The struct that the member of this name refers to.
 fn next<'a, 't>(
     symbols: &'a SymbolTable<'t>,
     structure: Option<&'a Structure<'t>>,
@@ -93,8 +93,8 @@ fn name_as(role: Role, member: &Member) -> Option<&Name>
     }
 }
 
-/// The names of members that can be in this role.
-fn push_members<'t>(role: Role, members: &'t [Member], found: &mut Found<'t>)
+/// Adds the names of members that can have this role.
+fn push_members<'t>(role: Role, members: &'t [Member], found: &mut FoundNames<'t>)
     ensures { Adds found.old found.new (filter_map (name_as role) (map member_of members.now)) }
 {
     for member in members {
@@ -102,12 +102,12 @@ fn push_members<'t>(role: Role, members: &'t [Member], found: &mut Found<'t>)
     }
 }
 
-/// Those of a struct, if one of them is looked for.
+/// Adds the names of a struct's members that can have this role, if the struct is the one that is searched.
 fn push_if<'a, 't>(
     role: Role,
     is_sought: bool,
     structure: Option<&'a Structure<'t>>,
-    found: &mut Found<'t>,
+    found: &mut FoundNames<'t>,
 )
     ensures { Adds found.old found.new (names_if role is_sought (option_map members_at structure.entry)) }
 {
@@ -119,7 +119,7 @@ fn push_if<'a, 't>(
     }
 }
 
-/// Whether one of the names begins there.
+/// Whether one of the names begins at this byte.
 fn some_begin(at: usize, names: &[Name]) -> bool
     ensures { result ≡ some_begin at (map ident names.now) }
 {
@@ -131,14 +131,14 @@ fn some_begin(at: usize, names: &[Name]) -> bool
     false
 }
 
-impl<'s, 't> Search<'s, 't> {
-    // On the way along names, from a struct on, if there is one: the members among which one is looked for.
+impl<'s, 't> NameSearch<'s, 't> {
+    // Searches along names, from a struct on, if there is one.
     fn along<'a>(
         &self,
         role: Role,
         structure: Option<&'a Structure<'t>>,
         names: &[Name],
-        found: &mut Found<'t>,
+        found: &mut FoundNames<'t>,
     )
     where
         's: 'a,
@@ -151,8 +151,8 @@ impl<'s, 't> Search<'s, 't> {
         }
     }
 
-    // Behind a local, if it is the one that is named.
-    fn behind_one(&self, path: &Path, local: LocalInScope<'t>, found: &mut Found<'t>)
+    // Searches after a local, if it is the one that is named.
+    fn behind_one(&self, path: &Path, local: LocalInScope<'t>, found: &mut FoundNames<'t>)
         ensures { Adds found.old found.new (behind_one self.now path.now local.entry) }
     {
         if local.name.text.as_str() != path.first.text.as_str() {
@@ -162,8 +162,8 @@ impl<'s, 't> Search<'s, 't> {
         self.along(Role::Value, structure, &path.fields, found);
     }
 
-    /// Members are looked for by names behind dots.
-    pub fn by_dots(&self, path: &Path, found: &mut Found<'t>)
+    /// Searches members by names after dots.
+    pub fn by_dots(&self, path: &Path, found: &mut FoundNames<'t>)
         ensures { Says self.now found.old found.new (dots_at self.now path.now) }
     {
         if !some_begin(self.at, &path.fields) {
@@ -174,16 +174,21 @@ impl<'s, 't> Search<'s, 't> {
         }
     }
 
-    /// A member is looked for by the field of an `init`.
-    pub fn by_init(&self, init: &Init, found: &mut Found<'t>)
+    /// Searches a member by the field of an `init`.
+    pub fn by_init(&self, init: &Init, found: &mut FoundNames<'t>)
         ensures { Says self.now found.old found.new (by_init (init_of init.now).pool (init_of init.now).field ∷ []) }
     {
         let structure = struct_in_pool(self.symbols, &init.pool);
         push_if(Role::Value, begins(self.at, &init.field), structure, found);
     }
 
-    /// Members are looked for by an annotation in the struct of this name.
-    pub fn by_annotation(&self, structure: &Name, protection: &Protection, found: &mut Found<'t>)
+    /// Searches members by an annotation in the struct of this name.
+    pub fn by_annotation(
+        &self,
+        structure: &Name,
+        protection: &Protection,
+        found: &mut FoundNames<'t>,
+    )
         ensures { Says self.now found.old found.new (by_annotation (ident structure.now) (protection_of protection.now) ∷ []) }
     {
         let first = &protection.first;
@@ -193,8 +198,8 @@ impl<'s, 't> Search<'s, 't> {
         self.along(Role::Lock, behind, &protection.rest, found);
     }
 
-    /// A final reference is looked for behind `where`, at a local of this type.
-    pub fn by_owner(&self, t: &ValueType, field: &Name, found: &mut Found<'t>)
+    /// Searches a final reference after `where`, for a local of this type.
+    pub fn by_owner(&self, t: &ValueType, field: &Name, found: &mut FoundNames<'t>)
         ensures { Says self.now found.old found.new (by_owner (type_of t.now) (ident field.now) ∷ []) }
     {
         let structure = struct_behind(self.symbols, t);

@@ -1,4 +1,4 @@
-//! What could be meant by a name that begins at a byte.
+//! The search for what may be meant by a name that begins at a byte.
 
 ghost use Rattle.std.specs.List.{filter_map};
 ghost use Rattle.std.specs.Prelude.{◌≡◌, ◌∷◌, [], map};
@@ -8,8 +8,8 @@ ghost use Rattle.explanation_names.specs.Locals.{LocalInScope as LocalSeen};
 ghost use Rattle.explanation_names.specs.Sought.{of_kind};
 ghost use Rattle.explanation_names.specs.Working.Values.{Adds, Says, decls_at, locals_at};
 
-use crate::found::Found;
-use crate::sought::Sought;
+use crate::found::FoundNames;
+use crate::sought::NameKind;
 use std::alloc::Global;
 use syntax::tree::{Name, ValueType};
 use types_symbols::table::SymbolTable;
@@ -19,32 +19,32 @@ use types_symbols::table::SymbolTable;
 pub struct LocalInScope<'t> {
     /// Its name.
     pub name: &'t Name,
-    /// Its type, as it is written.
+    /// Its type, as written.
     pub value_type: &'t ValueType,
 }
 
-/// Where a name is looked for.
+/// The state of a search.
 #[derive(Clone, Copy)]
-pub struct Search<'s, 't> {
-    /// Where memory is taken.
+pub struct NameSearch<'s, 't> {
+    /// The allocator.
     pub alloc: Global,
-    /// What is declared.
+    /// The symbol table.
     pub symbols: &'s SymbolTable<'t>,
-    /// The byte.
+    /// The byte at which the unknown name begins.
     pub at: usize,
     /// The locals in scope.
     pub locals: &'s [LocalInScope<'t>],
 }
 
-/// Whether a name begins there.
+/// Whether the name begins at the byte `at`.
 pub fn begins(at: usize, name: &Name) -> bool
     ensures { result ≡ begins at (ident name.now) }
 {
     name.start as usize == at
 }
 
-impl<'s, 't> Search<'s, 't> {
-    fn push_declared(&self, sought: Sought, found: &mut Found<'t>)
+impl<'s, 't> NameSearch<'s, 't> {
+    fn push_declared(&self, sought: NameKind, found: &mut FoundNames<'t>)
         ensures { Adds found.old found.new (filter_map (declared_as sought) (decls_at self.now)) }
     {
         for decl in self.symbols.items() {
@@ -52,7 +52,7 @@ impl<'s, 't> Search<'s, 't> {
         }
     }
 
-    fn push_locals(&self, found: &mut Found<'t>)
+    fn push_locals(&self, found: &mut FoundNames<'t>)
         ensures { Adds found.old found.new (map (λ (l : LocalSeen). l.name) (locals_at self.now)) }
     {
         for local in self.locals {
@@ -60,7 +60,7 @@ impl<'s, 't> Search<'s, 't> {
         }
     }
 
-    fn push_names(&self, sought: Sought, found: &mut Found<'t>)
+    fn push_names(&self, sought: NameKind, found: &mut FoundNames<'t>)
         ensures { Adds found.old found.new (names_of (decls_at self.now) sought (locals_at self.now)) }
     {
         if !sought.can_be_local() {
@@ -71,8 +71,8 @@ impl<'s, 't> Search<'s, 't> {
         self.push_declared(sought, found);
     }
 
-    /// A thing of a kind is looked for by a name.
-    pub fn of_kind(&self, sought: Sought, name: &Name, found: &mut Found<'t>)
+    /// Adds the names of the kind `sought`, if `name` begins at the byte.
+    pub fn of_kind(&self, sought: NameKind, name: &Name, found: &mut FoundNames<'t>)
         ensures { Says self.now found.old found.new (of_kind sought (locals_at self.now) (ident name.now) ∷ []) }
     {
         if begins(self.at, name) {

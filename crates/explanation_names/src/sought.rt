@@ -1,4 +1,4 @@
-//! What is looked for by a name.
+//! The kinds of things that a name is looked up as.
 
 ghost use Rattle.std.specs.Option.{option_map};
 ghost use Rattle.std.specs.Prelude.{◌≡◌};
@@ -10,14 +10,14 @@ ghost use Rattle.explanation_names.specs.Working.Values.{ident_at};
 
 use syntax::tree::{Decl, Name};
 
-/// A kind of things that a name can be looked for.
+/// The kind of thing that a name is looked up as.
 #[derive(Clone, Copy)]
-pub enum Sought {
-    /// What a name alone reads or writes: a global, or a local.
+pub enum NameKind {
+    /// A value by its name alone: a global, or a local.
     Value,
-    /// What stands ahead of an index: an array, or a pool.
+    /// Something with an index: an array, or a pool.
     Indexed,
-    /// What stands ahead of a dot: a local.
+    /// Something before a dot: a local.
     Local,
     /// A struct.
     Struct,
@@ -31,12 +31,12 @@ pub enum Sought {
     Lock,
 }
 
-impl Sought {
+impl NameKind {
     /// Whether a local is of this kind.
     pub fn can_be_local(self) -> bool
         ensures { result ≡ can_be_local self }
     {
-        matches!(self, Sought::Value | Sought::Local)
+        matches!(self, NameKind::Value | NameKind::Local)
     }
 
     /// Whether a declaration is of this kind.
@@ -44,13 +44,13 @@ impl Sought {
         ensures { result ≡ declares (decl_of decl.now) self }
     {
         match decl {
-            Decl::Lock(_) => matches!(self, Sought::Lock),
-            Decl::Struct(_) => matches!(self, Sought::Struct),
-            Decl::Global(_) => matches!(self, Sought::Value),
-            Decl::Array(_) => matches!(self, Sought::Indexed),
-            Decl::Pool(_) => matches!(self, Sought::Indexed | Sought::Pool),
-            Decl::Atomic(_) => matches!(self, Sought::Section),
-            Decl::Helper(_) => matches!(self, Sought::Helper),
+            Decl::Lock(_) => matches!(self, NameKind::Lock),
+            Decl::Struct(_) => matches!(self, NameKind::Struct),
+            Decl::Global(_) => matches!(self, NameKind::Value),
+            Decl::Array(_) => matches!(self, NameKind::Indexed),
+            Decl::Pool(_) => matches!(self, NameKind::Indexed | NameKind::Pool),
+            Decl::Atomic(_) => matches!(self, NameKind::Section),
+            Decl::Helper(_) => matches!(self, NameKind::Helper),
             Decl::Init(_) | Decl::Thread(_) => false,
         }
     }

@@ -1,4 +1,4 @@
-//! What is looked for in statements and in those of their blocks, with the locals in scope at each.
+//! The searches in statements and in those of their blocks, with the locals in scope at each.
 
 ghost use Rattle.std.specs.Option.{option_map};
 ghost use Rattle.std.specs.Prelude.{◌≡◌, map};
@@ -7,11 +7,11 @@ ghost use Rattle.explanation_names.specs.Locals.{declared_by, param_in_scope};
 ghost use Rattle.explanation_names.specs.Working.UsesFound.{all_declared, uses_in_blocks, uses_in_else, uses_in_stmts};
 ghost use Rattle.explanation_names.specs.Working.Values.{Binds, Grows, Keeps, Says, option_list, typed_of, typed_seen};
 
-use crate::found::Found;
-use crate::search::{LocalInScope, Search};
+use crate::found::FoundNames;
+use crate::search::{LocalInScope, NameSearch};
 use syntax::tree::{Block, Param, Stmt};
 
-/// The local that a statement declares, if it does.
+/// The local that a statement declares, if it declares one.
 fn declared_by(s: &Stmt) -> Option<LocalInScope<'_>>
     ensures { option_list (option_map typed_of result) ≡ declared_by (stmt_of s.now) }
 {
@@ -41,11 +41,11 @@ fn declared_by(s: &Stmt) -> Option<LocalInScope<'_>>
     }
 }
 
-/// One more local is in scope, if there is one.
+/// Adds one more local to the scope, if there is one.
 fn bind<'t>(
     local: Option<LocalInScope<'t>>,
     scope: &mut Vec<LocalInScope<'t>>,
-    found: &mut Found<'t>,
+    found: &mut FoundNames<'t>,
 )
     ensures { Binds scope.old scope.new found.old found.new (option_list (option_map typed_of local.entry)) }
 {
@@ -56,11 +56,11 @@ fn bind<'t>(
     }
 }
 
-/// Parameters are in scope.
+/// Adds parameters to the scope.
 pub fn push_params<'t>(
     params: &'t [Param],
     scope: &mut Vec<LocalInScope<'t>>,
-    found: &mut Found<'t>,
+    found: &mut FoundNames<'t>,
 )
     ensures { Binds scope.old scope.new found.old found.new (map param_in_scope (map param_of params.now)) }
 {
@@ -73,20 +73,20 @@ pub fn push_params<'t>(
     }
 }
 
-impl<'s, 't> Search<'s, 't> {
-    /// In statements ahead of which these locals are in scope, behind which their own are.
+impl<'s, 't> NameSearch<'s, 't> {
+    /// Searches statements, with the locals that are in scope before them. Their own are in scope afterwards.
     #[cycle(stmts)]
     pub fn in_stmts(
         &self,
         stmts: &'t [Stmt],
         scope: &mut Vec<LocalInScope<'t>>,
-        found: &mut Found<'t>,
+        found: &mut FoundNames<'t>,
     )
         ensures found { Says self.now found.old found.new (uses_in_stmts (typed_seen scope.old.items) (stmts_of stmts.now)) }
         ensures scope { Grows found.new scope.old scope.new (all_declared (stmts_of stmts.now)) }
     {
         for s in stmts {
-            let here = Search {
+            let here = NameSearch {
                 alloc: self.alloc,
                 symbols: self.symbols,
                 at: self.at,
@@ -99,7 +99,7 @@ impl<'s, 't> Search<'s, 't> {
     }
 
     #[cycle(stmts)]
-    fn in_blocks(&self, s: &'t Stmt, scope: &mut Vec<LocalInScope<'t>>, found: &mut Found<'t>)
+    fn in_blocks(&self, s: &'t Stmt, scope: &mut Vec<LocalInScope<'t>>, found: &mut FoundNames<'t>)
         ensures found { Says self.now found.old found.new (uses_in_blocks (typed_seen scope.old.items) (stmt_of s.now)) }
         ensures scope { Keeps found.new scope.old scope.new }
     {
@@ -120,9 +120,14 @@ impl<'s, 't> Search<'s, 't> {
         }
     }
 
-    // The locals of a block are out of scope behind it.
+    // Removes the locals of a block from the scope after it.
     #[cycle(stmts)]
-    fn in_block(&self, block: &'t Block, scope: &mut Vec<LocalInScope<'t>>, found: &mut Found<'t>)
+    fn in_block(
+        &self,
+        block: &'t Block,
+        scope: &mut Vec<LocalInScope<'t>>,
+        found: &mut FoundNames<'t>,
+    )
         ensures found { Says self.now found.old found.new (uses_in_stmts (typed_seen scope.old.items) (stmts_of block.now.stmts.items)) }
         ensures scope { Keeps found.new scope.old scope.new }
     {
@@ -136,7 +141,7 @@ impl<'s, 't> Search<'s, 't> {
         &self,
         other: &'t Option<Block>,
         scope: &mut Vec<LocalInScope<'t>>,
-        found: &mut Found<'t>,
+        found: &mut FoundNames<'t>,
     )
         ensures found { Says self.now found.old found.new (uses_in_else (typed_seen scope.old.items) (else_of other.now)) }
         ensures scope { Keeps found.new scope.old scope.new }

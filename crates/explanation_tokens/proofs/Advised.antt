@@ -1,4 +1,4 @@
--- What is advised on the token at a place.
+-- The advice on the token at a place.
 use Rattle.std.proofs.Common.{◌≡◌, ◌∙◌, ℕ, ◌≤◌, zero, suc, List, [], length, Option, Some, None, option_to_list}
 use Rattle.std.proofs.Common.{ap, subst, refl, arith}
 use Rattle.std.specs.List.{All}
@@ -8,14 +8,14 @@ use Rattle.source.specs.declared.fault.Code.{Code}
 use Rattle.source.specs.declared.fault.Code.TheVariants.{UnexpectedToken}
 use Rattle.source.specs.declared.token.Token.{Token}
 use Rattle.source.specs.Tokens.{Tok, seen}
-use Rattle.explanation_tokens.specs.declared.trial.Spot.{Spot}
+use Rattle.explanation_tokens.specs.declared.trial.TokenPlace.{TokenPlace}
 use Rattle.explanation_tokens.specs.Advice.{advice_on}
 use Rattle.explanation_tokens.specs.Expected.{AreInOrder, IsBehind, StartBefore}
 use Rattle.explanation_tokens.specs.Told.{IsAdvice, IsAdvised}
 use Rattle.explanation_tokens.specs.Working.Trials.{IsPlace, before_in}
 use Rattle.explanation_tokens.proofs.Spots.{behind_place, place_behind, same_number}
 
--- where there is no place
+-- without a place
 pub none_advised : (ts : List Tok) (code : Code) (start : ℕ) →
     (AreInOrder ts start → code ≡ UnexpectedToken → (before : List Tok) → IsBehind ts start before → ⊥) → IsAdvised ts code start []
 none_advised ts code start none = record {
@@ -23,7 +23,7 @@ none_advised ts code start none = record {
   told = λ order is before behind. absurd (none order is before behind);
 }
 
-module _ (tokens : List Token) (start : ℕ) (place : Spot) (at : IsPlace tokens start place) where
+module _ (tokens : List Token) (start : ℕ) (place : TokenPlace) (at : IsPlace tokens start place) where
   as_many : length (before_in place tokens) ≡ place.number
   as_many = length-take-le place.number (seen tokens) (rw length-map at.behind.within)
 

@@ -7,7 +7,7 @@ use Rattle.std.proofs.Math.ListN.{get_or-map}
 use Rattle.source.specs.declared.token.Token.{Token}
 use Rattle.source.specs.Tokens.{Tok, seen, seen_token}
 use Rattle.explanation_tokens.specs.declared.candidate.Candidate.{Candidate}
-use Rattle.explanation_tokens.specs.declared.trial.Spot.{Spot}
+use Rattle.explanation_tokens.specs.declared.trial.TokenPlace.{TokenPlace}
 use Rattle.explanation_tokens.specs.Expected.{AreExpected, AreThose, CanCome, IsBehind, StartBefore, all_candidates}
 use Rattle.explanation_tokens.specs.Working.Trials.{IsPlace, before_in}
 
@@ -29,7 +29,7 @@ there_seen (x ∷ tokens) (suc n) t is = there_seen tokens n t is
 
 -- ---- it is the only one
 
--- where those before start before, one that does not is not among them
+-- if all tokens before a place start before it, one that does not is not among them
 not_before : (ts : List Tok) (n k start : ℕ) (t : Tok) → StartBefore (take n ts) start → slice_get ts k ≡ Some t →
     start ≤ t.span.start → n ≤ k
 not_before ts zero k start t all there late = omega arith
@@ -49,7 +49,7 @@ same_number ts n k start t u first other there here starts begins =
     let b = not_before ts k n start t other there (omega arith) in
     omega arith
 
-pub spot_is : (place : Spot) (number start : ℕ) → place.number ≡ number → place.span.start ≡ start →
+pub spot_is : (place : TokenPlace) (number start : ℕ) → place.number ≡ number → place.span.start ≡ start →
     place.span.end ≡ start + 1 →
     place ≡ record { number = number; span = record { start = start; end = start + 1 } }
 spot_is place number start n s e =
@@ -57,8 +57,8 @@ spot_is place number start n s e =
     ∙ ap (λ k. record { number = number; span = record { start = k; end = place.span.end } }) s
     ∙ ap (λ k. record { number = number; span = record { start = start; end = k } }) e
 
--- at a token that starts there, behind those that start before it, no other is the place
-pub only_place : (tokens : List Token) (start n : ℕ) (t : Tok) (place : Spot) →
+-- at a token that starts there, after those that start before it, no other is the place
+pub only_place : (tokens : List Token) (start n : ℕ) (t : Tok) (place : TokenPlace) →
     StartBefore (take n (seen tokens)) start → slice_get (seen tokens) n ≡ Some t →
     t.span.start ≡ start → IsPlace tokens start place → place ≡ record { number = n; span = record { start = start; end = start + 1 } }
 only_place tokens start n t place all there starts at =
@@ -66,8 +66,8 @@ only_place tokens start n t place all there starts at =
     spot_is place n start (same_number (seen tokens) place.number n start at.token t before all at.there there at.starts starts) at.same
     (at.behind.one ∙ ap (λ k. k + 1) at.same)
 
--- behind one that starts later, or behind the last, there is none
-pub none_later : (tokens : List Token) (start n : ℕ) (t : Tok) (place : Spot) →
+-- after one that starts later, or after the last, there is none
+pub none_later : (tokens : List Token) (start n : ℕ) (t : Tok) (place : TokenPlace) →
     StartBefore (take n (seen tokens)) start → slice_get (seen tokens) n ≡ Some t →
     start < t.span.start → IsPlace tokens start place → ⊥
 none_later tokens start n t place all there late at =
@@ -84,7 +84,7 @@ within_seen [] k t is = cc
 within_seen (x ∷ ts) zero t is = omega arith
 within_seen (x ∷ ts) (suc k) t is = let rest = within_seen ts k t is in omega arith
 
-pub none_behind : (tokens : List Token) (start n : ℕ) (place : Spot) → length tokens ≤ n →
+pub none_behind : (tokens : List Token) (start n : ℕ) (place : TokenPlace) → length tokens ≤ n →
     StartBefore (take n (seen tokens)) start → IsPlace tokens start place → ⊥
 none_behind tokens start n place all_read all at =
     let late = not_before (seen tokens) n place.number start at.token all at.there (omega (arith, at.starts)) in
@@ -99,14 +99,14 @@ split_at [] n t is = cc
 split_at (x ∷ ts) zero t is = (ts, let same : x ≡ t = cc in ap (λ (y : Tok). y ∷ ts) same)
 split_at (x ∷ ts) (suc n) t is = let rest = split_at ts n t is in (rest.0, ap (λ (l : List Tok). x ∷ l) rest.1)
 
--- it is behind those before it
-pub behind_place : (tokens : List Token) (start : ℕ) (place : Spot) → IsPlace tokens start place →
+-- it is after those before it
+pub behind_place : (tokens : List Token) (start : ℕ) (place : TokenPlace) → IsPlace tokens start place →
     IsBehind (seen tokens) start (before_in place tokens)
 behind_place tokens start place at =
     let parts = split_at (seen tokens) place.number at.token at.there in
     record { token = at.token; after = parts.0; parts = parts.1; place = at.starts }
 
-pub are_expected : (tokens : List Token) (start : ℕ) (place : Spot) (list : List Candidate) →
+pub are_expected : (tokens : List Token) (start : ℕ) (place : TokenPlace) (list : List Candidate) →
     IsPlace tokens start place →
     AreThose (CanCome (before_in place tokens) place.span.start) all_candidates list → AreExpected (seen tokens) start list
 are_expected tokens start place list at those =
@@ -124,7 +124,7 @@ there_at : (before : List Tok) (t : Tok) (after : List Tok) → slice_get (befor
 there_at [] t after = refl
 there_at (x ∷ xs) t after = there_at xs t after
 
-abbrev pub spot_behind : List Tok → ℕ → Spot
+abbrev pub spot_behind : List Tok → ℕ → TokenPlace
 spot_behind before start = record { number = length before; span = record { start = start; end = start + 1 } }
 
 pub before_spot : (tokens : List Token) (start : ℕ) (before : List Tok) → IsBehind (seen tokens) start before →

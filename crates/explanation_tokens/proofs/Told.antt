@@ -1,4 +1,4 @@
--- What is told of the ones that can come.
+-- The note lists the candidates that can come.
 use Rattle.std.proofs.Common.{◌≡◌, ℕ, ◌+◌, ◌<◌, ◌≤◌, zero, suc, List, [], ◌∷◌, ◌++◌, length, take, get_or, slice_get}
 use Rattle.std.proofs.Common.{Some, ap, sym, subst, refl, arith}
 use Rattle.std.specs.List.{All}
@@ -41,14 +41,14 @@ pub one_more_is_not : {A : Type 0} (Is : A → Type 0) (xs those : List A) (i : 
 one_more_is_not Is xs those i d within are is =
     subst (λ (l : List _). AreThose Is l those) (sym (take_more xs i d within)) (those_pass Is (get_or xs i d) are is)
 
--- where none is, no element is
+-- if no item has the property, no element has it
 none_there : {A : Type 0} (Is : A → Type 0) (xs : List A) (i : ℕ) (x : A) → AreThose Is xs [] →
     slice_get xs i ≡ Some x → Is x → ⊥
 none_there Is [] i x are there is = cc
 none_there Is (y ∷ ys) zero x (it_is_not was more) there is = was (let same : y ≡ x = cc in subst Is (sym same) is)
 none_there Is (y ∷ ys) (suc i) x (it_is_not was more) there is = none_there Is ys i x more there is
 
--- each candidate stands in the table
+-- each candidate is in the table
 where_is : (c : Candidate) → (i : ℕ) × (slice_get all_candidates i ≡ Some c)
 where_is Name = (0, refl)
 where_is Number = (1, refl)
@@ -100,7 +100,7 @@ where_is (Mark sign.And) = (46, refl)
 where_is (Mark sign.Or) = (47, refl)
 where_is (Mark sign.Not) = (48, refl)
 
--- so one that can come is told
+-- a candidate that can come is listed
 pub some_told : (Is : Candidate → Type 0) (list : List Candidate) (c : Candidate) → AreThose Is all_candidates list →
     Is c → 1 ≤ length (notes_on list)
 some_told Is [] c are is = let at = where_is c in absurd (none_there Is all_candidates at.0 c are at.1 is)
@@ -117,7 +117,7 @@ true_notes ts code start [] is are k d within = absurd (omega arith)
 true_notes ts code start (first ∷ others) is are zero d within = record { unexpected = is; first = first; others = others; expected = are; said = refl }
 true_notes ts code start (first ∷ others) is are (suc k) d within = absurd (omega arith)
 
--- where nothing must be told, nothing is
+-- if no note has to be given, none is
 pub none_expected : (ts : List Tok) (code : Code) (start : ℕ) → (AreInOrder ts start → IsTokenTold ts code start → ⊥) →
     AreTokenNotes ts code start []
 none_expected ts code start none = record {

@@ -1,4 +1,4 @@
--- What a parse of tokens with one that is tried says of it.
+-- The result of parsing tokens with a tried one, as a fact about that token.
 use Rattle.std.proofs.Common.{◌≡◌, ◌∙◌, ℕ, ◌+◌, ◌<◌, ◌≤◌, ◌==◌, zero, suc, Bool, true, false, List, [], ◌∷◌, ◌++◌}
 use Rattle.std.proofs.Common.{length, take, ap, sym, subst, refl, arith, append_assoc}
 use Rattle.std.proofs.lemmas.Bool.{eqb-true, eqb-false}
@@ -9,7 +9,7 @@ use Rattle.syntax.specs.Faults.{IsFault, IsUnexpected, IsTooDeep, NoEnd, unended
 use Rattle.syntax.specs.Grammar.{Spells, IsShallow, IsOpening, HasTree}
 use Rattle.syntax.specs.Trees.{Decl}
 use Rattle.explanation_tokens.specs.declared.candidate.Candidate.{Candidate}
-use Rattle.explanation_tokens.specs.declared.trial.Spot.{Spot}
+use Rattle.explanation_tokens.specs.declared.trial.TokenPlace.{TokenPlace}
 use Rattle.explanation_tokens.specs.Expected.{CanCome, StartBefore, token_at}
 use Rattle.explanation_tokens.specs.Working.Trials.{AreBefore, says_it_can}
 
@@ -66,7 +66,7 @@ has_end (x ∷ xs) last is none = has_end xs last is none.1
 
 -- ---- it can come
 
--- some program begins with those before and the one that is tried, where the one behind these is the first with which none does
+-- if the token after the tried one is the first unexpected token, the tried one can come
 comes_if_unexpected : (before : List Tok) (last : Tok) (start : ℕ) (candidate : Candidate) → StartBefore before start →
     IsUnexpected (before ++ token_at candidate start ∷ last ∷ []) (start + 1) → CanCome before start candidate
 comes_if_unexpected before last start candidate first fault =
@@ -108,7 +108,7 @@ none_if_unexpected before last start at candidate is_last differs fault can =
     (sym (append_assoc before (tried ∷ []) can.others) ∙ ap (λ (l : List Tok). l ++ can.others) found.1 ∙ append_assoc fault.before (fault.token ∷ mid) can.others)
     can.begins)
 
--- so that the one behind it is at fault
+-- so that the one after it is at fault
 unexpected_says : (b : Bool) (before : List Tok) (last : Tok) (start at : ℕ) (candidate : Candidate) →
     (at == start + 1) ≡ b → last.span.start ≡ start + 1 →
     IsUnexpected (before ++ token_at candidate start ∷ last ∷ []) at → CanCome before start candidate → (at == start + 1) ≡ true
@@ -126,7 +126,7 @@ none_if_deep before last start at candidate is_end fault can =
     let low = can.shallow fault.before found.0 fault.token found.1 fault.opens in
     omega (arith, low, fault.deep)
 
--- ---- what a parse says
+-- ---- the result of a parse
 
 -- those before, the one that is tried, the end
 abbrev pub Parts : List Tok → List Tok → Candidate → ℕ → Tok → Type 0
@@ -179,7 +179,7 @@ before_still zero old a b few = refl
 before_still (suc n) [] a b few = absurd (omega arith)
 before_still (suc n) (x ∷ old) a b few = ap (λ (l : List Tok). seen_token x ∷ l) (before_still n old a b (omega arith))
 
-pub behind_still : (place : Spot) (old : List Token) (a b : Token) → AreBefore place old →
+pub behind_still : (place : TokenPlace) (old : List Token) (a b : Token) → AreBefore place old →
     AreBefore place (tried_with place.number old a b)
 behind_still place old a b behind =
     record {

@@ -1,4 +1,4 @@
--- What is advised on an unexpected token: a table of rows, of which the first is told that fits.
+-- The advice on an unexpected token: a table of rows, of which the first that fits is reported.
 use Rattle.std.specs.Fmt.{decimal}
 use Rattle.std.specs.List.{flat_map}
 use Rattle.std.specs.Option.{option_map}
@@ -30,8 +30,8 @@ use Rattle.explanation_tokens.specs.Patterns.{fits_there}
 
 -- ---- the table
 
--- where the unexpected token stands; which sign is the last that is open there; what five tokens before it are, it, and one
--- behind it, in the order of the text; what is advised
+-- a row: the part of a declaration that the unexpected token is in, the innermost open sign, what five tokens before
+-- it, it and one after it have to be, in the order of the text, and the advice
 abbrev pub row : Area → Inner → Pattern → Pattern → Pattern → Pattern → Pattern → Pattern → Pattern → Advice → Row
 row area inner a b c d e f g told = record {
   0 = area;
@@ -40,7 +40,7 @@ row area inner a b c d e f g told = record {
   3 = told;
 }
 
--- what other languages have
+-- the rows on syntax of other languages
 unfoldable pub foreign_rows : List Row
 foreign_rows =
     row Body Either Any Any Any Starts (Spelt foreign.Do) (Mark sign.OpenBrace) Any advice.Do
@@ -54,7 +54,7 @@ foreign_rows =
     ∷ row Body Either Any Any Any Any Any (Word key.Lock) Any advice.NoLocking
     ∷ []
 
--- what is left out, or stands in another order
+-- the rows on what is left out, or written in another order
 unfoldable pub usual_rows : List Row
 usual_rows =
     row Anywhere Either Any Any Any Any Any (Mark sign.Slash) (Mark sign.Star) advice.Comment
@@ -179,16 +179,17 @@ usual_rows =
     ∷ row Anywhere Brace Any Any Any Any Any TextEnd Any advice.OpenBrace
     ∷ []
 
--- of these the first that fits is told
+-- all rows; the first that fits is reported
 abbrev pub rows : List Row
 rows = foreign_rows ++ usual_rows
 
--- ---- which row is told
+-- ---- which row is reported
 
--- the token at a column of a shape that is laid over the tokens, so that the one behind the first n is at column 5
+-- the token at a column of a shape that is laid over the tokens, so that the one after the first n is at column 5
 abbrev pub there : List Tok → ℕ → ℕ → Option Tok
 there ts n column = if nat_le 5 (n + column) then slice_get ts (n + column - 5) else None
 
+-- the tokens around the n-th fit the shape
 abbrev pub fits_shape : List Tok → ℕ → Shape → Bool
 fits_shape ts n s =
     fits_there s.5 (there ts n 5)
@@ -199,17 +200,18 @@ fits_shape ts n s =
     && fits_there s.1 (there ts n 1)
     && fits_there s.0 (there ts n 0)
 
--- the row fits the token behind the first n
+-- the row fits the token after the first n
 abbrev pub row_fits : List Tok → ℕ → Row → Bool
 row_fits ts n r =
     fits_area (area_of (around n ts)) r.0 && fits_inner (inner_of (around n ts).opened) r.1 && fits_shape ts n r.2
 
+-- the first row that fits the token after the first n
 abbrev pub first_row : List Tok → ℕ → Option Row
 first_row ts n = find (row_fits ts n) rows
 
 -- ---- words
 
--- `A` to `G` stand for the tokens of the shape
+-- the words of the advice, in which `A` to `G` stand for the tokens of the shape
 abbrev pub words : Advice → List ℕ
 words (advice.Meant w) = codes " could be meant"
 words advice.Do = codes "there is no `do`: write the block once ahead of `while (..) { .. }`"
@@ -277,7 +279,7 @@ words advice.CallBound = codes "bind the result first: `let y: int = call G(..);
 words advice.OpenParen = codes "this `(` is not closed"
 words advice.OpenBrace = codes "this `{` is not closed"
 
--- a token as it is written, but for leading zeros
+-- a token as it is written, without leading zeros
 abbrev pub lexeme_text : Lexeme → List ℕ
 lexeme_text (name x) = x
 lexeme_text (int n) = decimal n
@@ -285,6 +287,7 @@ lexeme_text (word w) = keyword_text w
 lexeme_text (mark s) = sign_text s
 lexeme_text end = []
 
+-- the text of a token
 abbrev pub token_text : Tok → List ℕ
 token_text t = lexeme_text t.kind
 
@@ -293,40 +296,44 @@ abbrev pub text_there : Option Tok → List ℕ
 text_there (Some t) = token_text t
 text_there None = []
 
+-- the text of the token at a column
 abbrev pub column_text : List Tok → ℕ → ℕ → List ℕ
 column_text ts n column = text_there (there ts n column)
 
--- a byte of the words, or the token for which it stands
+-- a byte of the words, or the token that it stands for
 abbrev pub filled : List Tok → ℕ → ℕ → List ℕ
 filled ts n b =
     if is_between 65 71 b then column_text ts n (b - 65) else if is_between 32 126 b then b ∷ [] else []
 
--- the keyword that could be meant stands before the words
+-- the keyword that may be meant, which precedes the words
 abbrev pub said_first : Advice → List ℕ
 said_first (advice.Meant w) = codes "`" ++ keyword_text w ++ codes "`"
 said_first _ = []
 
+-- the advice in words
 abbrev pub advice_words : List Tok → ℕ → Advice → List ℕ
 advice_words ts n told = said_first told ++ flat_map (filled ts n) (words told)
 
 -- ---- places
 
+-- the first byte of the open sign
 abbrev pub opened_start : Option Opened → Option ℕ
 opened_start (Some o) = Some o.start
 opened_start None = None
 
--- of the token before, of the sign that is open, or of the fault as a whole
+-- the place of the advice: the token before, the open sign, or none
 abbrev pub told_place : List Tok → ℕ → Option Opened → Advice → Option ℕ
 told_place ts n inner advice.Semicolon = option_map (λ (t : Tok). t.span.start) (there ts n 4)
 told_place ts n inner advice.OpenParen = opened_start inner
 told_place ts n inner advice.OpenBrace = opened_start inner
 told_place ts n inner _ = None
 
--- ---- what is told
+-- ---- the note
 
+-- the note of a row on the token after the first n
 abbrev pub note_of_row : List Tok → ℕ → Row → Note
 note_of_row ts n r = record { start = told_place ts n (inner_of (around n ts).opened) r.3; words = advice_words ts n r.3 }
 
--- the note on the token behind the first n, if a row fits it
+-- the note on the token after the first n, if a row fits it
 abbrev pub advice_on : List Tok → ℕ → Option Note
 advice_on ts n = option_map (note_of_row ts n) (first_row ts n)

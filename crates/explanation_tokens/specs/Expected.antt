@@ -1,4 +1,4 @@
--- What could come in the place of a token.
+-- The tokens that could be in the place of another.
 use Rattle.std.specs.Prelude.{◌≡◌, ℕ, ◌+◌, ◌<◌, ◌≤◌, List, [], ◌∷◌, ◌++◌, All, None, codes, length}
 use Rattle.std.specs.List.{flat_map}
 use Rattle.source.specs.declared.fault.Code.{Code}
@@ -13,9 +13,9 @@ use Rattle.explanation.specs.Notes.{Note}
 use Rattle.explanation_tokens.specs.declared.candidate.Candidate.{Candidate}
 use Rattle.explanation_tokens.specs.declared.candidate.Candidate.TheVariants.{Name, Number, Word, Mark}
 
--- ---- what a token can be
+-- ---- kinds of tokens
 
--- but for the end of the text: a name, a number, each reserved word, each sign
+-- all kinds but the end of the text: a name, a number, each reserved word, each sign
 abbrev pub all_candidates : List Candidate
 all_candidates =
     Name ∷ Number
@@ -28,40 +28,40 @@ all_candidates =
     ∷ Mark sign.Less ∷ Mark sign.LessEquals ∷ Mark sign.Greater ∷ Mark sign.GreaterEquals ∷ Mark sign.Plus ∷ Mark sign.Minus ∷ Mark sign.Star
     ∷ Mark sign.Slash ∷ Mark sign.Percent ∷ Mark sign.And ∷ Mark sign.Or ∷ Mark sign.Not ∷ []
 
--- `a` is taken for any name, and 0 for any number
+-- a token of this kind: `a` stands for any name, and 0 for any number
 abbrev pub lexeme_of : Candidate → Lexeme
 lexeme_of Name = name (codes "a")
 lexeme_of Number = int 0
 lexeme_of (Word w) = word w
 lexeme_of (Mark s) = mark s
 
--- such a token, which begins at this byte
+-- a token of this kind that begins at this byte
 abbrev pub token_at : Candidate → ℕ → Tok
 token_at candidate start = record { kind = lexeme_of candidate; span = record { start = start; end = start + 1 } }
 
 -- ---- what can come
 
--- with these tokens and such a one behind them some program begins, and no opening sign of theirs is too deep
+-- some program begins with these tokens and the candidate after them, and none of their opening signs is too deep
 pub record CanCome (before : List Tok) (start : ℕ) (candidate : Candidate) : Type 0 where
   pub decls : List Decl
   pub others : List Tok
   pub begins : Spells decls (before ++ token_at candidate start ∷ others)
   pub shallow : IsShallow (before ++ token_at candidate start ∷ [])
 
--- a token begins at this byte, behind these
+-- a token begins at this byte, after these
 pub record IsBehind (ts : List Tok) (start : ℕ) (before : List Tok) : Type 0 where
   pub token : Tok
   pub after : List Tok
   pub parts : ts ≡ before ++ token ∷ after
   pub place : token.span.start ≡ start
 
--- of a list the ones that are so, in its order
+-- the items of a list that have a property, in its order
 pub data AreThose {A : Type 0} (Is : A → Type 0) : List A → List A → Type 0 where
   no_more : AreThose Is [] []
   it_is : {x : A} {xs those : List A} → Is x → AreThose Is xs those → AreThose Is (x ∷ xs) (x ∷ those)
   it_is_not : {x : A} {xs those : List A} → (Is x → ⊥) → AreThose Is xs those → AreThose Is (x ∷ xs) those
 
--- all that can come in the place of the token that begins there
+-- all kinds of tokens that can be in the place of the one that begins there
 pub record AreExpected (ts : List Tok) (start : ℕ) (list : List Candidate) : Type 0 where
   pub before : List Tok
   pub place : IsBehind ts start before
@@ -69,14 +69,14 @@ pub record AreExpected (ts : List Tok) (start : ℕ) (list : List Candidate) : T
 
 -- ---- what is said
 
--- a name, a number, `;`
+-- a kind of token in words: a name, a number, or a word or sign in backquotes
 abbrev pub candidate_text : Candidate → List ℕ
 candidate_text Name = codes "a name"
 candidate_text Number = codes "a number"
 candidate_text (Word w) = codes "`" ++ keyword_text w ++ codes "`"
 candidate_text (Mark s) = codes "`" ++ sign_text s ++ codes "`"
 
--- each behind a comma
+-- the words for each kind, each after a comma
 abbrev pub candidate_texts : List Candidate → List ℕ
 candidate_texts others = flat_map (λ (candidate : Candidate). codes ", " ++ candidate_text candidate) others
 
@@ -84,7 +84,7 @@ candidate_texts others = flat_map (λ (candidate : Candidate). codes ", " ++ can
 abbrev pub expected_words : Candidate → List Candidate → List ℕ
 expected_words first others = codes "expected " ++ candidate_text first ++ candidate_texts others
 
--- a note on an unexpected token tells all that can come in its place
+-- a note on an unexpected token lists all kinds that can be in its place
 pub record IsTrueTokenNote (ts : List Tok) (code : Code) (start : ℕ) (note : Note) : Type 0 where
   pub unexpected : code ≡ UnexpectedToken
   pub first : Candidate
@@ -92,11 +92,12 @@ pub record IsTrueTokenNote (ts : List Tok) (code : Code) (start : ℕ) (note : N
   pub expected : AreExpected ts start (first ∷ others)
   pub said : note ≡ record { start = None; words = expected_words first others }
 
--- how many tokens are read again
+-- the most tokens that are read again
 abbrev pub READ_LIMIT : ℕ
 READ_LIMIT = 4096
 
--- where one must be told: at an unexpected token with no more before it, where something can come
+-- a note has to be given: on an unexpected token with at most that many tokens before it, if some kind can be in its
+-- place
 pub record IsTokenTold (ts : List Tok) (code : Code) (start : ℕ) : Type 0 where
   pub unexpected : code ≡ UnexpectedToken
   pub before : List Tok
@@ -109,12 +110,12 @@ pub record IsTokenTold (ts : List Tok) (code : Code) (start : ℕ) : Type 0 wher
 abbrev pub StartBefore : List Tok → ℕ → Type 0
 StartBefore ts start = All (λ (t : Tok). t.span.start < start) ts
 
--- as those of a text do: those before one that begins there begin before it, and a place may be behind it
+-- as in a text: the tokens before one that begins there begin before it, and the place is followed by another byte
 pub record AreInOrder (ts : List Tok) (start : ℕ) : Type 0 where
   pub low : start < 4294967295
   pub rise : (before : List Tok) → IsBehind ts start before → StartBefore before start
 
--- the notes are true, one at most, and of tokens in order there is one where there must be
+-- the notes are true, at most one is given, and for tokens in order one is given if it has to be
 pub record AreTokenNotes (ts : List Tok) (code : Code) (start : ℕ) (notes : List Note) : Type 0 where
   pub are_true : All (IsTrueTokenNote ts code start) notes
   pub few : length notes ≤ 1

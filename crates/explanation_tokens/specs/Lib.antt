@@ -4,6 +4,6 @@ pub mod Expected
 pub mod Patterns
 pub mod Told
 pub mod Working
--- what the public clauses cite
+-- the definitions that public clauses cite
 pub use Rattle.explanation_tokens.specs.Expected.{AreExpected, AreThose, AreTokenNotes, CanCome, IsTokenTold}
 pub use Rattle.explanation_tokens.specs.Expected.{IsTrueTokenNote}

@@ -1,4 +1,4 @@
-//! Pieces of advice, in words.
+//! Pieces of advice on unexpected tokens, and their words.
 
 ghost use Rattle.std.specs.Prelude.{◌≡◌, ◌≤◌, IfOk, OnOk, string_bytes};
 ghost use Rattle.std.specs.Fmt.{decimal};
@@ -16,10 +16,10 @@ use source::memory::NoMemory;
 use source::token::{Keyword, Token};
 use std::alloc::{AllocError, Global};
 
-/// What is advised.
+/// A piece of advice.
 #[derive(Clone, Copy)]
 pub enum Advice {
-    /// The keyword that a name could be meant for.
+    /// The keyword that may be meant by a name.
     Meant(Keyword),
     Do,
     Switch,
@@ -88,7 +88,7 @@ pub enum Advice {
 }
 
 impl Advice {
-    /// Its words, in which `A` to `G` stand for the seven tokens of a shape.
+    /// The words of the advice, in which `A` to `G` stand for the seven tokens of a shape.
     fn words(self) -> &'static str
         ensures { result.now ≡ words self }
     {
@@ -200,14 +200,14 @@ impl Advice {
     }
 }
 
-/// A number.
+/// Appends a number.
 fn push_number(out: &mut String, number: u64) -> Result<(), AllocError>
     ensures { OnOk result (AddsText (decimal number) out.old out.new) }
 {
     write!(out, "{number}")
 }
 
-/// A token as it is written, but for leading zeros.
+/// Appends a token as it is written, without leading zeros.
 fn push_token(out: &mut String, token: &Token) -> Result<(), AllocError>
     ensures { OnOk result (AddsText (token_text (seen_token token.now)) out.old out.new) }
 {
@@ -222,7 +222,7 @@ fn push_token(out: &mut String, token: &Token) -> Result<(), AllocError>
 }
 
 impl View<'_> {
-    /// The token at a column.
+    /// Appends the token at a column.
     fn push_column(&self, out: &mut String, column: usize) -> Result<(), AllocError>
         requires { column ≤ 6 }
         ensures { OnOk result (AddsText (column_text (seen self.now.tokens.now) self.now.number column) out.old out.new) }
@@ -233,7 +233,7 @@ impl View<'_> {
         }
     }
 
-    /// A byte of words, or the token for which it stands.
+    /// Appends a byte of the words, or the token that it stands for.
     fn push_byte(&self, out: &mut String, byte: u8) -> Result<(), AllocError>
         ensures { OnOk result (AddsText (filled (seen self.now.tokens.now) self.now.number byte) out.old out.new) }
     {
@@ -253,7 +253,7 @@ impl View<'_> {
         Ok(())
     }
 
-    /// What is advised, in words.
+    /// The advice in words.
     fn words(&self, alloc: Global, advice: Advice) -> Result<String, AllocError>
         ensures { IfOk result (λ text. string_bytes text ≡ advice_words (seen self.now.tokens.now) self.now.number advice) }
     {
@@ -267,7 +267,7 @@ impl View<'_> {
         Ok(out)
     }
 
-    /// The byte of which it is said, if it is said of one.
+    /// The byte of the text that the advice is about, if it is about one.
     fn start(&self, advice: Advice) -> Option<usize>
         ensures { result ≡ told_place (seen self.now.tokens.now) self.now.number self.now.inner advice }
     {

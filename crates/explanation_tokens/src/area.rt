@@ -1,4 +1,4 @@
-//! Where a token stands: which signs are open there, and in which part of a declaration it is.
+//! The context of a token: the open signs, and the part of a declaration.
 
 ghost use Rattle.std.specs.Prelude.{◌≡◌, OnOk};
 ghost use Rattle.source.specs.Tokens.{seen_token};
@@ -12,29 +12,29 @@ use source::memory::NoMemory;
 use source::token::{Keyword, Sign, Token};
 use std::alloc::Global;
 
-/// In which part of a declaration a token stands.
+/// The part of a declaration that a token is in.
 #[derive(Clone, Copy)]
 pub enum Area {
-    /// In any.
+    /// Any part.
     Anywhere,
-    /// Where no brace is open, and not behind the first word of a declaration that has braces.
+    /// Outside of all braces, and not after the first word of a declaration that has braces.
     Top,
     /// Between the first word of such a declaration and its brace.
     Head,
     /// In the braces of a struct.
     Fields,
-    /// In those of a thread.
+    /// In the braces of a thread.
     Calls,
-    /// Behind the condition of an `if` or a `while`, at once.
+    /// Right after the condition of an `if` or a `while`.
     Guarded,
     /// Anywhere else in a section or a helper.
     Body,
 }
 
-/// Which sign is the last that is open.
+/// The kind of the innermost open sign.
 #[derive(Clone, Copy)]
 pub enum Inner {
-    /// Any, or none.
+    /// Any sign, or none.
     Either,
     /// A brace.
     Brace,
@@ -53,10 +53,10 @@ pub enum Opener {
     Group,
 }
 
-/// A sign that is open.
+/// An open sign.
 #[derive(Clone, Copy)]
 pub struct Opened {
-    /// The byte where it stands.
+    /// The first byte of the sign.
     pub start: u32,
     /// What it opens.
     pub opener: Opener,
@@ -69,22 +69,22 @@ pub enum Last {
     Guard,
     /// The parenthesis that closes a condition.
     ConditionEnd,
-    /// Another one, or none.
+    /// Another token, or none.
     Other,
 }
 
-/// What the tokens so far are.
+/// The context after the tokens so far.
 #[derive(Drop)]
 pub struct Around {
-    /// The signs that are open, the last one last.
+    /// The open signs, the innermost last.
     opened: Vec<Opened>,
-    /// The word with which the declaration begins.
+    /// The first word of the declaration.
     word: Option<Keyword>,
     /// The last token.
     last: Last,
 }
 
-/// What it opens.
+/// What the token opens.
 fn opener_of(last: Last, token: &Token) -> Option<Opener>
     ensures { result ≡ opener_of last (seen_token token.now).kind }
 {
@@ -104,7 +104,7 @@ fn closes(token: &Token) -> bool
     matches!(token, Token::Mark(_, Sign::CloseBrace | Sign::CloseParen))
 }
 
-/// The last that is open.
+/// The innermost open sign.
 fn inner_of(opened: &[Opened]) -> Option<Opened>
     ensures { result ≡ inner_of opened.now }
 {
@@ -114,7 +114,7 @@ fn inner_of(opened: &[Opened]) -> Option<Opened>
     }
 }
 
-/// What a token is, as the last one.
+/// What the token is as the last one.
 fn last_after(opened: &[Opened], token: &Token) -> Last
     ensures { result ≡ last_after opened.now (seen_token token.now).kind }
 {
@@ -133,7 +133,7 @@ fn last_after(opened: &[Opened], token: &Token) -> Last
     }
 }
 
-/// The word with which a declaration begins, behind this token outside of all that is open.
+/// The first word of a declaration after this token, outside of all open signs.
 fn word_outside(word: Option<Keyword>, token: &Token) -> Option<Keyword>
     ensures { result ≡ word_outside word (seen_token token.now).kind }
 {
@@ -143,7 +143,7 @@ fn word_outside(word: Option<Keyword>, token: &Token) -> Option<Keyword>
     }
 }
 
-/// The word with which the declaration begins, behind this token.
+/// The first word of the declaration after this token.
 fn word_after(opened: &[Opened], word: Option<Keyword>, token: &Token) -> Option<Keyword>
     ensures { result ≡ word_after opened.now word (seen_token token.now).kind }
 {
@@ -157,7 +157,7 @@ fn word_after(opened: &[Opened], word: Option<Keyword>, token: &Token) -> Option
     }
 }
 
-/// The part of a declaration that begins with this word, outside of its braces.
+/// The part of a declaration with this first word, outside of its braces.
 fn area_outside(word: Option<Keyword>) -> Area
     ensures { result ≡ area_outside word }
 {
@@ -167,7 +167,7 @@ fn area_outside(word: Option<Keyword>) -> Area
     }
 }
 
-/// The same in its braces.
+/// The part of a declaration with this first word, in its braces.
 fn area_inside(word: Option<Keyword>, last: Last) -> Area
     ensures { result ≡ area_inside word last }
 {
@@ -182,7 +182,7 @@ fn area_inside(word: Option<Keyword>, last: Last) -> Area
 }
 
 impl Around {
-    /// Before the first token.
+    /// The context before the first token.
     pub fn new(alloc: Global) -> Self
         ensures { around_of result ≡ at_first }
     {
@@ -193,7 +193,7 @@ impl Around {
         }
     }
 
-    /// Goes on behind this token.
+    /// Moves past this token.
     pub fn step(&mut self, token: &Token) -> Result<(), NoMemory>
         ensures { OnOk result (around_of self.new ≡ step (around_of self.old) (seen_token token.now)) }
     {
@@ -226,7 +226,7 @@ impl Around {
         }
     }
 
-    /// The last sign that is open.
+    /// The innermost open sign.
     pub fn inner(&self) -> Option<Opened>
         ensures { result ≡ inner_of (around_of self.now).opened }
     {
@@ -234,7 +234,7 @@ impl Around {
     }
 }
 
-/// Whether a token there is in this part.
+/// Whether a token in the part `here` fits the part `area` of a row.
 pub fn fits_area(here: Area, area: Area) -> bool
     ensures { result ≡ fits_area here area }
 {
@@ -249,7 +249,7 @@ pub fn fits_area(here: Area, area: Area) -> bool
     }
 }
 
-/// Whether it is such a sign.
+/// Whether the innermost open sign is of this kind.
 pub fn fits_inner(here: Option<Opened>, inner: Inner) -> bool
     ensures { result ≡ fits_inner here inner }
 {

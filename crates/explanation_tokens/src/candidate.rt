@@ -1,4 +1,4 @@
-//! What a token can be.
+//! The kinds of tokens that may be tried at a place.
 
 ghost use Rattle.std.specs.Prelude.{◌≡◌, ◌+◌, IfOk, OnOk};
 ghost use Rattle.source.specs.Tokens.{seen_token};
@@ -10,7 +10,7 @@ use source::token::{Keyword, Sign, Token};
 use std::alloc::{AllocError, Global};
 use std::rc::RcStr;
 
-/// What a token can be.
+/// A kind of token.
 #[derive(Clone, Copy)]
 pub enum Candidate {
     /// A name.
@@ -24,7 +24,7 @@ pub enum Candidate {
 }
 
 impl Candidate {
-    /// Such a token, at this byte.
+    /// A token of this kind, at this byte.
     pub fn token(self, alloc: Global, span: Span) -> Result<Token, AllocError>
         requires { span.end ≡ span.start + 1 }
         ensures { IfOk result (λ token. seen_token token ≡ token_at self span.start) }
@@ -57,7 +57,7 @@ impl Candidate {
     }
 }
 
-/// The texts of what could come, each behind a comma.
+/// Appends the texts of the candidates, each after a comma.
 pub(crate) fn push_others(out: &mut String, others: &[Candidate]) -> Result<(), AllocError>
     ensures { OnOk result (AddsText (candidate_texts others.now) out.old out.new) }
 {
@@ -68,14 +68,14 @@ pub(crate) fn push_others(out: &mut String, others: &[Candidate]) -> Result<(), 
     Ok(())
 }
 
-/// The same of the first of them, without a comma.
+/// Appends the text of the first candidate, without a comma.
 pub(crate) fn push_first(out: &mut String, candidate: Candidate) -> Result<(), AllocError>
     ensures { OnOk result (AddsText (candidate_text candidate) out.old out.new) }
 {
     candidate.push(out)
 }
 
-/// All that a token can be but the end of the text, a name and a number first.
+/// All kinds of tokens but the end of the text, a name and a number first.
 pub const ALL: [Candidate; 49] = [
     Candidate::Name,
     Candidate::Number,

@@ -15,10 +15,10 @@ use source::memory::NoMemory;
 use source::token::Token;
 use std::alloc::Global;
 
-/// How many tokens before the unexpected one a shape has.
+/// The number of tokens of a shape before the unexpected one.
 const BEFORE: usize = 5;
 
-/// What these tokens are.
+/// The context after these tokens.
 fn around(alloc: Global, tokens: &[Token]) -> Result<Around, NoMemory>
     ensures { IfOk result (λ found. around_of found ≡ behind_all (seen tokens.now)) }
 {
@@ -30,11 +30,11 @@ fn around(alloc: Global, tokens: &[Token]) -> Result<Around, NoMemory>
 }
 
 impl<'a> View<'a> {
-    /// Behind the first so many tokens.
+    /// The view after the given number of tokens.
     ///
     /// # Errors
     ///
-    /// Want of memory.
+    /// Out of memory.
     pub fn of(alloc: Global, tokens: &'a [Token], number: usize) -> Result<View<'a>, NoMemory>
         requires { number ≤ length tokens.now }
         ensures { IfOk result (λ view. IsView view (seen tokens.entry.now) number) }

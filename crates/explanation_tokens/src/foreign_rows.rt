@@ -1,4 +1,4 @@
-//! The first rows of the table of advice: of what other languages have.
+//! The first rows of the table of advice, on syntax of other languages.
 
 use crate::advice::Advice;
 use crate::area::Area::{Anywhere, Body, Top};
@@ -9,7 +9,7 @@ use crate::rows::{Row, Shape};
 use source::token::Keyword::{Lock, Pool};
 use source::token::Sign::{CloseBrace, Dot, Equals, OpenBrace, OpenParen, Semicolon};
 
-/// These rows.
+/// The rows on syntax of other languages.
 pub const FOREIGN_ROWS: [Row; 9] = [
     Row(
         Body,

@@ -1,4 +1,4 @@
-//! The notes.
+//! The notes on an unexpected token.
 
 ghost use Rattle.std.specs.Prelude.{◌≡◌, ◌++◌, ◌≤◌, IfOk, OnOk, length, map, option_to_list, string_bytes};
 ghost use Rattle.explanation.specs.Notes.{note_of};
@@ -17,10 +17,10 @@ use source::memory::NoMemory;
 use source::token::Token;
 use std::alloc::{AllocError, Global};
 
-/// How many tokens are read again, once for each that could come.
+/// The most tokens that are read again, once for each candidate.
 const MOST_READ: usize = 4096;
 
-/// What is said where these could come.
+/// The words of a note on these candidates.
 fn words(alloc: Global, first: Candidate, others: &[Candidate]) -> Result<String, AllocError>
     ensures { IfOk result (λ text. string_bytes text ≡ expected_words first others.now) }
 {
@@ -30,7 +30,7 @@ fn words(alloc: Global, first: Candidate, others: &[Candidate]) -> Result<String
     Ok(out)
 }
 
-/// Adds the note that says where these could come; none where nothing could.
+/// Adds the note on these candidates, if there are any.
 fn push_expected(
     notes: &mut Vec<Note>,
     alloc: Global,
@@ -47,7 +47,7 @@ fn push_expected(
     Ok(())
 }
 
-/// What is advised on the token behind the first so many.
+/// The advice on the token after the first `number` ones.
 fn advice(alloc: Global, tokens: &[Token], number: usize) -> Result<Vec<Note>, NoMemory>
     requires { number ≤ length tokens.now }
     ensures { IfOk result (λ notes. map note_of notes.items ≡ option_to_list (advice_on (seen tokens.now) number)) }
@@ -60,13 +60,13 @@ fn advice(alloc: Global, tokens: &[Token], number: usize) -> Result<Vec<Note>, N
     Ok(notes)
 }
 
-/// What these tokens tell of a fault of theirs, beyond its line: of an `E03` first what is advised on the tokens around it, if a row
-/// of the table fits; then all that could come in the place of the token that is there, unless it has more than 4,096 before it, or
-/// nothing could.
+/// The notes that the tokens give on a fault beyond its line. For an `E03`, the first is the advice on the tokens
+/// around it, if a row of the table fits. Then come all tokens that could be there instead, if any could, unless more
+/// than 4,096 tokens come before the place.
 ///
 /// # Errors
 ///
-/// Want of memory.
+/// Out of memory.
 pub fn token_notes(alloc: Global, tokens: Vec<Token>, fault: &Fault) -> Result<Vec<Note>, NoMemory>
     ensures { IfOk result (λ notes. AreNotesOnTokens (seen tokens.items) fault.now.code fault.now.start (map note_of notes.items)) }
 {

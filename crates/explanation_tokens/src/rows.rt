@@ -1,4 +1,4 @@
-//! The table of advice: which tokens lead to which. The first row that fits tells its advice.
+//! The table of advice: which tokens lead to which advice. The first row that fits is reported.
 
 use crate::advice::Advice;
 use crate::area::Area::{self, Anywhere, Body, Calls, Fields, Guarded, Head, Top};
@@ -17,7 +17,7 @@ use source::token::Sign::{
     Minus, Not, OpenBrace, OpenBracket, OpenParen, Plus, Semicolon, Slash, Star,
 };
 
-/// What seven tokens are, in the order of the text: five before the unexpected one, that one, and one behind it.
+/// What seven tokens have to be, in the order of the text: five before the unexpected one, that one, and one after it.
 #[derive(Clone, Copy)]
 pub struct Shape(
     pub Pattern,
@@ -29,11 +29,13 @@ pub struct Shape(
     pub Pattern,
 );
 
-/// Where such tokens stand, and in which open sign; what they are; and the advice on them.
+/// A row: the part of a declaration and the open sign that the tokens are in, what they have to be, and the advice on
+/// them.
 #[derive(Clone, Copy)]
 pub struct Row(pub Area, pub Inner, pub Shape, pub Advice);
 
-/// The rows behind those of [`FOREIGN_ROWS`](crate::foreign_rows::FOREIGN_ROWS): of what is left out, or stands in another order.
+/// The rows after those of [`FOREIGN_ROWS`](crate::foreign_rows::FOREIGN_ROWS), on what is left out, or written in
+/// another order.
 pub const USUAL_ROWS: [Row; 120] = [
     Row(
         Anywhere,

@@ -14,24 +14,24 @@ use std::alloc::Global;
 
 /// A place among tokens.
 #[derive(Clone, Copy)]
-pub struct Spot {
-    /// How many tokens are before it.
+pub struct TokenPlace {
+    /// The number of tokens before it.
     pub number: usize,
-    /// The byte where the token there begins.
+    /// The byte where its token begins.
     pub span: Span,
 }
 
-/// The place of the token that begins at this byte, if there is one, all before it begin before it, and a token may begin at the
-/// byte behind it.
-pub fn place_of(tokens: &[Token], start: usize) -> Option<Spot>
+/// The place of the token that begins at this byte, if there is one, all tokens before it begin before it, and a token
+/// may begin at the byte after it.
+pub fn place_of(tokens: &[Token], start: usize) -> Option<TokenPlace>
     ensures found { IfSome result (IsPlace tokens.now start) }
-    ensures only { (place : Spot) → place.span.end < 4294967296 → IsPlace tokens.now start place → result ≡ Some place }
+    ensures only { (place : TokenPlace) → place.span.end < 4294967296 → IsPlace tokens.now start place → result ≡ Some place }
 {
     for (number, token) in tokens.iter().enumerate() {
         let at = token.start();
         if at as usize == start {
             let end = at.checked_add(1)?;
-            return Some(Spot {
+            return Some(TokenPlace {
                 number,
                 span: Span { start: at, end },
             });
@@ -43,8 +43,8 @@ pub fn place_of(tokens: &[Token], start: usize) -> Option<Spot>
     None
 }
 
-/// What a fault of the tokens with the one that is tried says of it, where the end of the text begins at the byte `end`: it can
-/// come where the end is what can't, or where all of them are a program but for its returns.
+/// Whether the fault of the tokens with the tried one shows that this can come. The end of the text begins at the byte
+/// `end`. The tried token can come if the end is what can't, or if the tokens are a program except for its returns.
 fn says_it_can(fault: &Fault, end: u32) -> bool
     ensures { result ≡ says_it_can fault.now.code fault.now.start end }
 {
@@ -55,15 +55,15 @@ fn says_it_can(fault: &Fault, end: u32) -> bool
     }
 }
 
-/// Whether such a token could come there. The tokens before the place stay, the others don't.
+/// Whether a token of this kind could come at the place. The tokens before the place stay, the others are dropped.
 ///
 /// # Errors
 ///
-/// Want of memory.
+/// Out of memory.
 pub fn can_come(
     alloc: Global,
     tokens: &mut Vec<Token>,
-    place: Spot,
+    place: TokenPlace,
     candidate: Candidate,
 ) -> Result<bool, NoMemory>
     requires { AreBefore place tokens.old.items }
@@ -86,12 +86,16 @@ pub fn can_come(
     }
 }
 
-/// All that could come there.
+/// All kinds of tokens that could come at the place.
 ///
 /// # Errors
 ///
-/// Want of memory.
-pub fn expected(alloc: Global, tokens: Vec<Token>, place: Spot) -> Result<Vec<Candidate>, NoMemory>
+/// Out of memory.
+pub fn expected(
+    alloc: Global,
+    tokens: Vec<Token>,
+    place: TokenPlace,
+) -> Result<Vec<Candidate>, NoMemory>
     requires { AreBefore place tokens.items }
     ensures { IfOk result (λ list. AreThose (CanCome (before_in place tokens.items) place.span.start) all_candidates list.items) }
 {

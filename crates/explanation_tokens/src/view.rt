@@ -5,16 +5,16 @@ ghost use Rattle.std.specs.Prelude.{◌≤◌, length};
 use crate::area::{Area, Opened};
 use source::token::Token;
 
-/// A place among tokens, and where it is.
+/// A place among tokens, with its context.
 #[derive(Drop)]
 pub struct View<'a> {
     /// The tokens.
     pub tokens: &'a [Token],
-    /// How many of them are before the place.
+    /// The number of tokens before the place.
     pub number: usize,
     /// The part of a declaration.
     pub area: Area,
-    /// The last sign that is open there.
+    /// The innermost open sign at the place.
     pub inner: Option<Opened>,
     ghost within: { number ≤ length tokens.now },
 }

@@ -1,0 +1,10 @@
+pub mod Added
+pub mod Cycles
+pub mod Found
+pub mod Leading
+pub mod Members
+pub mod Orders
+pub mod Seen
+pub mod Sets
+pub mod Sifted
+pub mod Structs

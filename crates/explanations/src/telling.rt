@@ -1,4 +1,4 @@
-//! The telling. The one error is want of memory.
+//! The report on a text. The one error is a refused growth.
 
 ghost use Rattle.std.specs.Prelude.{◌≡◌, [], IfOk, string_bytes};
 ghost use Rattle.compiler.specs.Cycles.{IsCyclic};
@@ -6,52 +6,54 @@ ghost use Rattle.compiler.specs.Programs.{IsOfFirstPass};
 ghost use Rattle.compiler.specs.Working.Orders.{IsOrdered};
 ghost use Rattle.explanations.specs.Told.{IsToldOf, said_by};
 
+use crate::cycle_calls::Calls;
+use crate::cycle_edges::cycle_notes;
+use crate::cycle_order::order_notes;
+use crate::text::text_warnings;
 use compiler::{Cyclic, Ordered, examine};
 use explanation::{Further, Note, Warning};
-use explanation_cycles::{Calls, cycle_notes, order_notes};
 use explanation_faults::fault_told;
-use explanation_warnings::text_warnings;
 use source::fault::{Fault, Refusal};
 use source::memory::NoMemory;
 use std::alloc::Global;
 
-/// What is told of a text.
+/// The report on a text.
 #[derive(Debug, Drop)]
-pub enum Told {
-    /// It has a fault: the one of the first pass that has any.
+pub enum Diagnosis {
+    /// The text has a fault: the one of the first pass that has any.
     Faulty {
         /// The fault.
         fault: Fault,
-        /// What is told beyond its line.
+        /// The notes on the fault.
         notes: Vec<Note>,
-        /// The faults that are told with it.
+        /// The further faults.
         further: Further,
     },
-    /// It is accepted.
+    /// The text is accepted.
     Accepted {
-        /// What is told of the order of its locks.
+        /// The notes on the order of its lock classes.
         notes: Vec<Note>,
-        /// What may not be as it was meant.
+        /// The warnings.
         warnings: Vec<Warning>,
     },
 }
 
-/// What is told of a fault with no detail.
-fn told_of_fault(alloc: Global, text: &[u8], fault: Fault) -> Result<Told, NoMemory>
+/// The report on a fault without a detail.
+fn told_of_fault(alloc: Global, text: &[u8], fault: Fault) -> Result<Diagnosis, NoMemory>
     requires given { IsOfFirstPass text.now fault }
     requires bare { string_bytes fault.detail ≡ [] }
     ensures { IfOk result (λ told. IsToldOf text.now (said_by told)) }
 {
     let told = fault_told(alloc, text, &fault)?;
-    Ok(Told::Faulty {
+    Ok(Diagnosis::Faulty {
         fault,
         notes: told.notes,
         further: told.further,
     })
 }
 
-/// What is told of a cycle.
-fn told_of_cycle(alloc: Global, text: &[u8], cyclic: Cyclic) -> Result<Told, NoMemory>
+/// The report on a cycle of lock classes.
+fn told_of_cycle(alloc: Global, text: &[u8], cyclic: Cyclic) -> Result<Diagnosis, NoMemory>
     requires { IsCyclic text.now cyclic }
     ensures { IfOk result (λ told. IsToldOf text.now (said_by told)) }
 {
@@ -61,15 +63,15 @@ fn told_of_cycle(alloc: Global, text: &[u8], cyclic: Cyclic) -> Result<Told, NoM
         program: &cyclic.trees.accepted,
     };
     calls.push(alloc, program, &cyclic.edges, &mut notes)?;
-    Ok(Told::Faulty {
+    Ok(Diagnosis::Faulty {
         fault: cyclic.fault,
         notes,
         further: Further::none(alloc),
     })
 }
 
-/// What is told of a text that is accepted.
-fn told_of_order(alloc: Global, text: &[u8], ordered: &Ordered) -> Result<Told, NoMemory>
+/// The report on an accepted text.
+fn told_of_order(alloc: Global, text: &[u8], ordered: &Ordered) -> Result<Diagnosis, NoMemory>
     requires { IsOrdered text.now ordered.now }
     ensures { IfOk result (λ told. IsToldOf text.now (said_by told)) }
 {
@@ -80,16 +82,16 @@ fn told_of_order(alloc: Global, text: &[u8], ordered: &Ordered) -> Result<Told, 
         &ordered.ranks,
     )?;
     let warnings = text_warnings(alloc, text)?;
-    Ok(Told::Accepted { notes, warnings })
+    Ok(Diagnosis::Accepted { notes, warnings })
 }
 
-/// What is told of a text: its fault, which is the one of the first pass that has any, with what is told beyond its
-/// line and the faults that are told with it; or, where it has none, the order of the locks of its program and its warnings.
+/// The report on `text`: the fault of the first pass that has any, with notes and further faults; or, for an accepted text,
+/// the order of the locks of its program and its warnings.
 ///
 /// # Errors
 ///
-/// Want of memory.
-pub fn told_of(alloc: Global, text: &[u8]) -> Result<Told, NoMemory>
+/// `NoMemory`: a growth was refused.
+pub fn told_of(alloc: Global, text: &[u8]) -> Result<Diagnosis, NoMemory>
     ensures { IfOk result (λ told. IsToldOf text.now (said_by told)) }
 {
     match examine(alloc, text) {

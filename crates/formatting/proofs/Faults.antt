@@ -1,4 +1,4 @@
--- The tokens of a text have one fault at most.
+-- The tokens of a text have at most one fault.
 use Rattle.std.proofs.Common.{◌≡◌, ◌≤◌, ℕ, List, length, refl, subst, arith}
 use Rattle.source.specs.declared.fault.Code.{Code}
 use Rattle.source.specs.declared.fault.Refusal.{Refusal}

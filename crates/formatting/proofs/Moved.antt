@@ -1,4 +1,4 @@
--- Tokens at other places spell the same tree, but for places.
+-- Tokens at other positions spell the same tree, except for positions.
 use Rattle.std.proofs.Common.{◌≡◌, ℕ, ◌+◌, ◌-◌, ◌<◌, ◌≤◌, true, false, length, length-append, arith, List, [], ◌∷◌, ◌++◌, map, Option, Some, None, refl, sym, ap, ◌∙◌, subst}
 use Rattle.std.specs.Prelude.{◌==◌, if◌then◌else◌}
 use Rattle.std.proofs.lemmas.Bool.Decides.{nat_tests}
@@ -30,7 +30,7 @@ use Rattle.syntax.specs.Grammar.{IsInit, is_init, IsParam, is_param, IsSection, 
 use Rattle.syntax.specs.Grammar.{is_call_item, is_repeat, IsItems, are_no_items, are_items, IsThread, is_thread, IsDecl}
 use Rattle.syntax.specs.Grammar.{is_lock, is_struct_decl, is_global, is_array_decl, is_pool_decl, is_init_decl, is_atomic}
 use Rattle.syntax.specs.Grammar.{is_helper, is_thread_decl, Spells, spells, nesting, open_after, IsShallow, HasTree}
-use Rattle.syntax.specs.Grammar.{ANY, LIMIT, IsOpening}
+use Rattle.syntax.specs.Grammar.{ANY, NESTING_LIMIT, IsOpening}
 use Rattle.syntax.specs.Returns as returns
 use Rattle.syntax.specs.Returns.{IsReturn, HasReturn, HasReturnInside, this_returns, returns_inside, later_returns, in_then}
 use Rattle.syntax.specs.Returns.{in_else, in_while, HasStrayReturn, this_early, stray_inside, later_stray, EndsInReturn}
@@ -403,7 +403,7 @@ module _ (f : Span → Span) where
   shallow_moved ts h before rest t e opens =
       let p = parts_of ts before t rest e in
       let deep = h p.front p.back p.token p.parts (subst IsOpening (sym (ap (λ (t : Tok). t.kind) p.same)) opens) in
-      subst (λ (n : ℕ). n < LIMIT) (sym (nesting_moved 0 p.front) ∙ ap (nesting 0) p.fronts) deep
+      subst (λ (n : ℕ). n < NESTING_LIMIT) (sym (nesting_moved 0 p.front) ∙ ap (nesting 0) p.fronts) deep
 
   pub tree_moved : (ds : List Decl) (ts : List Tok) → HasTree ts ds → HasTree (moved ts) (map m_decl ds)
   tree_moved ds ts h = (spells_moved ds ts h.0, shallow_moved ts h.1)
@@ -484,12 +484,12 @@ to [] us s = s
 to (t ∷ ts) [] s = s
 to (t ∷ ts) (u ∷ us) s = if t.span.start == s.start then u.span else to ts us s
 
--- each token begins behind this byte
+-- each token begins after this byte
 abbrev Behind : ℕ → List Tok → Type 0
 Behind n [] = Unit {0}
 Behind n (t ∷ ts) = (n < t.span.start) × Behind n ts
 
--- each token begins behind those before it
+-- each token begins after those before it
 abbrev Rise : List Tok → Type 0
 Rise [] = Unit {0}
 Rise (t ∷ ts) = Behind t.span.start ts × Rise ts

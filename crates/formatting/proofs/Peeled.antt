@@ -1,4 +1,4 @@
--- The first piece of a text, and what is behind it.
+-- The first piece of a text, and the text after it.
 use Rattle.std.proofs.Common.{◌≡◌, ℕ, ◌-◌, ◌<◌, ◌≤◌, true, false, cond, List, [], ◌∷◌, ◌++◌, length, take, drop}
 use Rattle.std.proofs.Common.{get_or, refl, sym, ap, ◌∙◌, subst, arith}
 use Rattle.std.specs.Prelude.{◌==◌}
@@ -8,7 +8,7 @@ use Rattle.std.proofs.lemmas.List.{take_all}
 use Rattle.lexer.specs.Working.Reading.{run_of, after_run}
 use Rattle.source.specs.Tokens.{Lexeme, Tok}
 use Rattle.source.specs.Texts.{is_white, is_in_line, IsLineEnd, BeginsComment, IsUnit, tok_at}
-use Rattle.formatting.specs.declared.kind.Kind.TheVariants.{Comment}
+use Rattle.formatting.specs.declared.kind.PieceKind.TheVariants.{Comment}
 use Rattle.formatting.specs.Kinds.{kind_of}
 use Rattle.formatting.specs.Pieces.{Piece, feed, item, is_blank, trimmed, ArePieces}
 use Rattle.formatting.specs.Pieces as cut
@@ -33,7 +33,7 @@ comment_is (a ∷ b ∷ bs) e =
 pub no_comment : (text : List ℕ) → begins_comment text ≡ false → BeginsComment text → ⊥
 no_comment text e c = let h : begins_comment text ≡ true = ap begins_comment c.1 in absurd cc
 
--- a line and what is behind it
+-- a line and what follows it
 pub line_front : (line text : List ℕ) → list_all is_in_line line ≡ true → IsLineEnd text →
     (run_of is_in_line (line ++ text) ≡ line) × (after_run is_in_line (line ++ text) ≡ text)
 line_front [] [] h e = (refl, refl)

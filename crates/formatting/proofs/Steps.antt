@@ -7,9 +7,9 @@ use Rattle.std.proofs.lemmas.List.{take_at, drop_at}
 use Rattle.lexer.specs.Working.Reading.{run_of, after_run}
 use Rattle.source.specs.Tokens.{Tok}
 use Rattle.source.specs.Texts.{is_in_line, BeginsComment, HasTokens, tok_at}
-use Rattle.formatting.specs.declared.kind.Kind.{Kind}
-use Rattle.formatting.specs.declared.kind.Kind.TheVariants.{Comment}
-use Rattle.formatting.specs.declared.state.State.{State}
+use Rattle.formatting.specs.declared.kind.PieceKind.{PieceKind}
+use Rattle.formatting.specs.declared.kind.PieceKind.TheVariants.{Comment}
+use Rattle.formatting.specs.declared.state.LayoutState.{LayoutState}
 use Rattle.formatting.specs.Kinds.{kind_of}
 use Rattle.formatting.specs.Pieces.{Piece, feed, item, is_blank, trimmed, ArePieces, HasPieces}
 use Rattle.formatting.specs.Pieces as cut
@@ -21,7 +21,7 @@ use Rattle.formatting.proofs.Tokens.{pieces_of}
 use Rattle.formatting.proofs.Peeled.{behind_first, in_front, un_end, un_blank, un_feed, un_comment, Taken, un_token}
 
 -- what was printed of a text, of which these bytes and tokens are left
-pub record Progress (text rest : List ℕ) (ts : List Tok) (out : List ℕ) (s : State) (found : ℕ) : Type 0 where
+pub record Progress (text rest : List ℕ) (ts : List Tok) (out : List ℕ) (s : LayoutState) (found : ℕ) : Type 0 where
   pub tokens : List Tok
   pub all : List Piece
   pub has : HasPieces text tokens all
@@ -46,7 +46,7 @@ line_some (a ∷ b ∷ bs) e =
     let t : after_run is_in_line (a ∷ b ∷ bs) ≡ after_run is_in_line bs = rw (eqb-true a 47 h.0, eqb-true b 47 h.1) refl in
     omega (arith, ap length t, ap length q, length-append (run_of is_in_line bs) (after_run is_in_line bs))
 
-module _ {text rest : List ℕ} {ts : List Tok} {out : List ℕ} {s : State} {found : ℕ} (p : Progress text rest ts out s found) where
+module _ {text rest : List ℕ} {ts : List Tok} {out : List ℕ} {s : LayoutState} {found : ℕ} (p : Progress text rest ts out s found) where
   pub ended : rest ≡ [] → IsFormatted text (out ++ ending s.has_begun)
   ended e = record {
     tokens = p.tokens;
@@ -83,9 +83,9 @@ module _ {text rest : List ℕ} {ts : List Tok} {out : List ℕ} {s : State} {fo
         }
 
   -- a token or a comment
-  item_step : (k : Kind) (bytes after : List ℕ) (us : List Tok) (qs : List Piece) → p.left ≡ item k bytes ∷ qs →
+  item_step : (k : PieceKind) (bytes after : List ℕ) (us : List Tok) (qs : List Piece) → p.left ≡ item k bytes ∷ qs →
       ArePieces (length text) after us qs → length after < length rest →
-      (new : List ℕ) (next : State) → new ≡ out ++ gap s k (slice_index bytes 0) (lines s k found) ++ bytes →
+      (new : List ℕ) (next : LayoutState) → new ≡ out ++ gap s k (slice_index bytes 0) (lines s k found) ++ bytes →
       next ≡ behind s k (slice_index bytes 0) (lines s k found) → next.depth + next.inline ≤ s.depth + s.inline + 1 →
       Progress text after us new next 0
   item_step k bytes after us qs e at less new next is state few = record {
@@ -98,7 +98,7 @@ module _ {text rest : List ℕ} {ts : List Tok} {out : List ℕ} {s : State} {fo
         let g : List ℕ = gap s k (slice_index bytes 0) (lines s k found) in
         let X : List ℕ = laid (behind s k (slice_index bytes 0) (lines s k found)) 0 qs in
         ap (λ (l : List ℕ). l ++ laid next 0 qs) is
-        ∙ ap (λ (t : State). (out ++ g ++ bytes) ++ laid t 0 qs) state
+        ∙ ap (λ (t : LayoutState). (out ++ g ++ bytes) ++ laid t 0 qs) state
         ∙ ap (λ (l : List ℕ). l ++ X) (append_assoc out g bytes)
         ∙ append_assoc out (g ++ bytes) X
         ∙ ap (λ (l : List Piece). out ++ laid s found l) (sym e)
@@ -107,7 +107,7 @@ module _ {text rest : List ℕ} {ts : List Tok} {out : List ℕ} {s : State} {fo
     few_feeds = let h = p.few_feeds in omega arith;
   }
 
-  pub comment_step : begins_comment rest ≡ true → (bytes after new : List ℕ) (next : State) →
+  pub comment_step : begins_comment rest ≡ true → (bytes after new : List ℕ) (next : LayoutState) →
       bytes ≡ trimmed (run_of is_in_line rest) → after ≡ after_run is_in_line rest →
       new ≡ out ++ gap s Comment (slice_index bytes 0) (lines s Comment found) ++ bytes →
       next ≡ behind s Comment (slice_index bytes 0) (lines s Comment found) → next.depth + next.inline ≤ s.depth + s.inline + 1 →
@@ -154,7 +154,7 @@ module _ {text rest : List ℕ} {ts : List Tok} {out : List ℕ} {s : State} {fo
     kind_is : kind_of t.kind ≡ kind_of taken.k
     kind_is = ap (λ (t : Tok). kind_of t.kind) is_token
 
-    pub token_step : (k : Kind) (bytes after new : List ℕ) (next : State) → k ≡ kind_of t.kind →
+    pub token_step : (k : PieceKind) (bytes after new : List ℕ) (next : LayoutState) → k ≡ kind_of t.kind →
         bytes ≡ take (t.span.end - t.span.start) rest → after ≡ drop (t.span.end - t.span.start) rest →
         new ≡ out ++ gap s k (slice_index bytes 0) (lines s k found) ++ bytes →
         next ≡ behind s k (slice_index bytes 0) (lines s k found) → next.depth + next.inline ≤ s.depth + s.inline + 1 →
@@ -163,7 +163,7 @@ module _ {text rest : List ℕ} {ts : List Tok} {out : List ℕ} {s : State} {fo
         let ks : kind_of taken.k ≡ k = sym kind_is ∙ sym kind in
         let bs : taken.bytes ≡ bytes = sym bytes_are ∙ sym b in
         item_step k bytes after others taken.qs
-        (taken.pieces ∙ ap (λ (k : Kind). item k taken.bytes ∷ taken.qs) ks ∙ ap (λ (l : List ℕ). item k l ∷ taken.qs) bs)
+        (taken.pieces ∙ ap (λ (k : PieceKind). item k taken.bytes ∷ taken.qs) ks ∙ ap (λ (l : List ℕ). item k l ∷ taken.qs) bs)
         (subst (λ (us : List Tok). ArePieces (length text) after us taken.qs) (sym are_others) (subst (λ (l : List ℕ). ArePieces (length text) l taken.us taken.qs) (sym (a ∙ rest_is)) taken.more))
         (let h = less in omega (arith, ap length a)) new next is state few
 

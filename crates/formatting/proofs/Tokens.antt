@@ -7,7 +7,7 @@ use Rattle.source.specs.Tokens.{Tok}
 use Rattle.source.specs.Texts.{is_white, is_in_line, IsLineEnd, IsGap, no_gap, white, AreTokens, at_end, token, IsNext, tok_at}
 use Rattle.source.specs.Texts.{end_at, IsWithin, HasTokens}
 use Rattle.source.specs.Texts as text
-use Rattle.formatting.specs.declared.kind.Kind.TheVariants.{Comment}
+use Rattle.formatting.specs.declared.kind.PieceKind.TheVariants.{Comment}
 use Rattle.formatting.specs.Pieces.{Piece, feed, item, is_blank, trimmed, ArePieces}
 use Rattle.formatting.specs.Pieces as cut
 

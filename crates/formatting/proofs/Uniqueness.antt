@@ -1,9 +1,9 @@
--- A text has one list of pieces at most.
+-- A text has at most one list of pieces.
 use Rattle.std.proofs.Common.{◌≡◌, ℕ, ◌-◌, ◌≤◌, Bool, true, false, List, [], ◌∷◌, ◌++◌, length, refl, sym, ap, ◌∙◌}
 use Rattle.std.proofs.Common.{subst, arith, length-append}
 use Rattle.source.specs.Tokens.{Lexeme, Tok}
 use Rattle.source.specs.Texts.{is_white, tok_at}
-use Rattle.formatting.specs.declared.kind.Kind.TheVariants.{Comment}
+use Rattle.formatting.specs.declared.kind.PieceKind.TheVariants.{Comment}
 use Rattle.formatting.specs.Kinds.{kind_of}
 use Rattle.formatting.specs.Pieces.{Piece, feed, item, is_blank, trimmed, ArePieces}
 use Rattle.formatting.specs.Pieces as cut

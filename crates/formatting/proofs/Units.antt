@@ -1,4 +1,4 @@
--- What tokens are made of, and which of them may touch.
+-- The bytes of tokens, and which tokens may touch.
 use Rattle.std.proofs.Common.{◌≡◌, ℕ, Bool, true, false, cond, List, [], ◌∷◌, ◌++◌, refl, sym, ◌∙◌, subst, arith}
 use Rattle.std.specs.Prelude.{not, ◌&&◌, ◌||◌, ◌==◌}
 use Rattle.std.specs.List.{list_all}
@@ -20,7 +20,7 @@ use Rattle.source.specs.Texts.{is_letter, is_digit, is_name_byte, is_white, keyw
 use Rattle.source.specs.Texts.{IsUnit, is_name, is_number, is_word, is_mark, IsLongest}
 use Rattle.formatting.specs.Layout.{is_second, is_apart}
 
--- letters and digits alone; or a sign, behind whose first byte stand only those that may be its second
+-- letters and digits alone; or a sign, whose first byte is followed only by bytes that may be its second
 abbrev pub is_unit_text : List ℕ → Bool
 is_unit_text [] = false
 is_unit_text (a ∷ xs) = not (is_white a) && (cond (is_name_byte a) (list_all is_name_byte xs) (list_all is_second xs))
@@ -124,7 +124,7 @@ begins (b ∷ bs) e =
 pub unit_begins : {bytes : List ℕ} {k : Lexeme} → IsUnit bytes k → Begins bytes
 unit_begins {bytes = bytes} u = begins bytes (unit_is u)
 
--- behind a token that begins with this byte stands nothing that makes a longer one of it
+-- no byte that would make the token longer follows a token that begins with this byte
 abbrev pub Parts : ℕ → List ℕ → Type 0
 Parts a [] = Unit {0}
 Parts a (b ∷ bs) = is_apart a b ≡ true

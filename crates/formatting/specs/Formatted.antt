@@ -11,7 +11,7 @@ use Rattle.syntax.specs.Faults as grammar
 use Rattle.formatting.specs.Pieces.{Piece, HasPieces, items_of}
 use Rattle.formatting.specs.Layout.{START, laid}
 
--- the text's pieces, laid out
+-- `out` is the layout of the text's pieces
 pub record IsFormatted (source out : List ℕ) : Type 0 where
   pub tokens : List Tok
   pub pieces : List Piece
@@ -26,22 +26,22 @@ pub record IsProgram (source : List ℕ) : Type 0 where
   pub has_tokens : text.HasTokens source tokens
   pub has_tree : grammar.HasRightTree tokens tree
 
--- a fault of the text; or one of its tokens, of a text within the limit that has some
+-- a fault of the text, or a fault of its tokens if the text is within the limit and has tokens
 pub data HasFault (source : List ℕ) (code : Code) (start : ℕ) : Type 0 where
   of_text : text.IsFault source code start → HasFault source code start
   of_tokens : (tokens : List Tok) → length source ≤ text.SOURCE_LIMIT → text.HasTokens source tokens →
       grammar.IsFault tokens code start → HasFault source code start
 
--- the refusal is such a fault, with no detail; or for want of memory
+-- the refusal is such a fault, with no detail, or the failure of an allocation
 abbrev pub IsRefusal : List ℕ → Refusal → Type 0
 IsRefusal source NoMemory = Unit {0}
 IsRefusal source (Fault f) = HasFault source f.code f.start × (string_bytes f.detail ≡ [])
 
--- what is returned is the refusal with this fault, unless memory ran out
+-- the result is a refusal with this fault, or the failure of an allocation
 abbrev pub IsRefusedAt : {X : Type 0} → Code → ℕ → Result X Refusal → Type 0
 IsRefusedAt code start r = MatchResult r (λ _. ⊥) (IsFaultAt code start)
 
--- what a token is
+-- the kind of a token
 abbrev pub kind : Tok → Lexeme
 kind t = t.kind
 

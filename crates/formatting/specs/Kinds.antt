@@ -1,4 +1,4 @@
--- What a token or a comment is to the layout.
+-- The kinds of tokens and comments for the layout.
 use Rattle.std.specs.Prelude.{ℕ, Bool, true, false, if◌then◌else◌}
 use Rattle.source.specs.declared.token.Keyword.{Keyword}
 use Rattle.source.specs.declared.token.Keyword.TheVariants.{If, While, Print, Return}
@@ -6,12 +6,13 @@ use Rattle.source.specs.declared.token.Keyword.TheVariants as keyword
 use Rattle.source.specs.declared.token.Sign.{Sign}
 use Rattle.source.specs.declared.token.Sign.TheVariants as sign
 use Rattle.source.specs.Tokens.{Lexeme, word, mark}
-use Rattle.formatting.specs.declared.kind.Kind.{Kind}
-use Rattle.formatting.specs.declared.kind.Kind.TheVariants.{OpenBrace, CloseBrace, OpenParen, OpenBracket, Closing}
-use Rattle.formatting.specs.declared.kind.Kind.TheVariants.{Semicolon, Comma, Colon, Dot, Minus, Prefix, Operator}
-use Rattle.formatting.specs.declared.kind.Kind.TheVariants.{Head, Else, Init, Word, Comment}
+use Rattle.formatting.specs.declared.kind.PieceKind.{PieceKind}
+use Rattle.formatting.specs.declared.kind.PieceKind.TheVariants.{OpenBrace, CloseBrace, OpenParen, OpenBracket, Closing}
+use Rattle.formatting.specs.declared.kind.PieceKind.TheVariants.{Semicolon, Comma, Colon, Dot, Minus, Prefix, Operator}
+use Rattle.formatting.specs.declared.kind.PieceKind.TheVariants.{Head, Else, Init, Word, Comment}
 
-abbrev pub sign_kind : Sign → Kind
+-- the kind of each sign
+abbrev pub sign_kind : Sign → PieceKind
 sign_kind sign.OpenBrace = OpenBrace
 sign_kind sign.CloseBrace = CloseBrace
 sign_kind sign.OpenParen = OpenParen
@@ -26,7 +27,8 @@ sign_kind sign.Minus = Minus
 sign_kind sign.Not = Prefix
 sign_kind _ = Operator
 
-abbrev pub word_kind : Keyword → Kind
+-- the kind of each keyword
+abbrev pub word_kind : Keyword → PieceKind
 word_kind If = Head
 word_kind While = Head
 word_kind Print = Head
@@ -35,55 +37,60 @@ word_kind keyword.Else = Else
 word_kind keyword.Init = Init
 word_kind _ = Word
 
-abbrev pub kind_of : Lexeme → Kind
+-- the kind of a token
+abbrev pub kind_of : Lexeme → PieceKind
 kind_of (mark s) = sign_kind s
 kind_of (word w) = word_kind w
 kind_of _ = Word
 
-abbrev pub is_open : Kind → Bool
+-- the piece is `{`
+abbrev pub is_open : PieceKind → Bool
 is_open OpenBrace = true
 is_open _ = false
 
-abbrev pub is_comment : Kind → Bool
+-- the piece is a comment
+abbrev pub is_comment : PieceKind → Bool
 is_comment Comment = true
 is_comment _ = false
 
-abbrev pub is_init : Kind → Bool
+-- the piece is the word `init`
+abbrev pub is_init : PieceKind → Bool
 is_init Init = true
 is_init _ = false
 
-abbrev pub is_close : Kind → Bool
+-- the piece is `}`
+abbrev pub is_close : PieceKind → Bool
 is_close CloseBrace = true
 is_close _ = false
 
--- it ends a statement or a declaration
-abbrev pub does_end : Kind → Bool
+-- the piece ends a statement or a declaration
+abbrev pub does_end : PieceKind → Bool
 does_end Semicolon = true
 does_end CloseBrace = true
 does_end _ = false
 
--- no statement or declaration has begun behind it
-abbrev pub is_ended : Kind → Bool
+-- no statement or declaration has begun after the piece
+abbrev pub is_ended : PieceKind → Bool
 is_ended OpenBrace = true
 is_ended Semicolon = true
 is_ended CloseBrace = true
 is_ended _ = false
 
--- behind an end it begins a line
-abbrev pub begins_line : Kind → Bool
+-- after the end of a statement or declaration, the piece begins a line
+abbrev pub begins_line : PieceKind → Bool
 begins_line Else = false
 begins_line Init = false
 begins_line Comment = false
 begins_line _ = true
 
--- it ends an operand, so that a `-` behind it is no prefix
-abbrev pub is_operand : Kind → Bool
+-- the piece ends an operand, so that a `-` after it is not a prefix
+abbrev pub is_operand : PieceKind → Bool
 is_operand Word = true
 is_operand Closing = true
 is_operand _ = false
 
--- no space is wanted in front of it, behind this one
-abbrev pub is_tight_before : Kind → Kind → Bool
+-- no space is written between the two pieces, if the first is neither an opening sign nor a dot nor a prefix
+abbrev pub is_tight_before : PieceKind → PieceKind → Bool
 is_tight_before last Semicolon = true
 is_tight_before last Comma = true
 is_tight_before last Closing = true
@@ -94,25 +101,25 @@ is_tight_before last Colon = true
 is_tight_before Word OpenParen = true
 is_tight_before last next = false
 
--- no space is wanted between the two
-abbrev pub is_tight : Kind → Kind → Bool
+-- no space is written between the two pieces
+abbrev pub is_tight : PieceKind → PieceKind → Bool
 is_tight OpenParen next = true
 is_tight OpenBracket next = true
 is_tight Dot next = true
 is_tight Prefix next = true
 is_tight last next = is_tight_before last next
 
--- how many line feeds may stand between the two where a line may end: no line is blank at either end of a block
-abbrev pub limit : Kind → Kind → ℕ
+-- the most line feeds between two pieces where a line may end: no line is blank at either end of a block
+abbrev pub limit : PieceKind → PieceKind → ℕ
 limit OpenBrace CloseBrace = 0
 limit OpenBrace next = 1
 limit last CloseBrace = 1
 limit last Else = 0
 limit last next = 2
 
--- what the next one is to those behind it: a `-` with no operand before it is a prefix; a comment within a statement is
--- passed over, and one between statements is like an end
-abbrev pub last_behind : Kind → Kind → Kind
+-- the kind by which the next piece counts for those after it: a `-` with no operand before it is a prefix, a comment
+-- within a statement is passed over, and one between statements counts as an end
+abbrev pub last_behind : PieceKind → PieceKind → PieceKind
 last_behind last Comment = if is_ended last then Semicolon else last
 last_behind last Minus = if is_operand last then Minus else Prefix
 last_behind last next = next

@@ -3,5 +3,5 @@ pub mod Pieces
 pub mod Layout
 pub mod Formatted
 pub mod Working
--- what public clauses cite
+-- the definitions that public clauses cite
 pub use Rattle.formatting.specs.Formatted.{IsFormatted, IsProgram, HasFault, IsRefusal, IsRefusedAt, KeepsTokens}

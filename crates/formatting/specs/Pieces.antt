@@ -3,20 +3,20 @@ use Rattle.std.specs.Prelude.{ℕ, ◌||◌, ◌==◌, Bool, List, [], ◌∷◌
 use Rattle.std.specs.List.{list_all}
 use Rattle.source.specs.Tokens.{Lexeme, Tok}
 use Rattle.source.specs.Texts.{is_in_line, IsLineEnd, BeginsComment, IsUnit, IsLongest, IsWithin, tok_at, end_at}
-use Rattle.formatting.specs.declared.kind.Kind.{Kind}
-use Rattle.formatting.specs.declared.kind.Kind.TheVariants.{Comment}
+use Rattle.formatting.specs.declared.kind.PieceKind.{PieceKind}
+use Rattle.formatting.specs.declared.kind.PieceKind.TheVariants.{Comment}
 use Rattle.formatting.specs.Kinds.{kind_of}
 
--- a line feed; or a token or a comment, by its bytes
+-- a line feed, or a token or a comment with its bytes
 pub data Piece : Type 0 where
   feed : Piece
-  item : (kind : Kind) (bytes : List ℕ) → Piece
+  item : (kind : PieceKind) (bytes : List ℕ) → Piece
 
--- space, tab, CR
+-- space, tab or carriage return
 abbrev pub is_blank : ℕ → Bool
 is_blank b = (b == 32) || (b == 9) || (b == 13)
 
--- a byte in front of others, unless it would be the last and a blank
+-- a byte before others, unless it is a blank at the end
 abbrev pub kept : ℕ → List ℕ → List ℕ
 kept b [] = if is_blank b then [] else b ∷ []
 kept b (c ∷ cs) = b ∷ c ∷ cs
@@ -26,8 +26,8 @@ abbrev pub trimmed : List ℕ → List ℕ
 trimmed [] = []
 trimmed (b ∷ bs) = kept b (trimmed bs)
 
--- the tokens and the pieces of what is left of a text of so many bytes; a comment goes up to its line's end, without the
--- blanks there
+-- the tokens and the pieces of the rest of a text with `total` bytes; a comment goes up to the end of its line, without
+-- the blanks there
 pub data ArePieces (total : ℕ) : List ℕ → List Tok → List Piece → Type 0 where
   at_end : ArePieces total [] (end_at total ∷ []) []
   blank : {b : ℕ} {text : List ℕ} {ts : List Tok} {ps : List Piece}

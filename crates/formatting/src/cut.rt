@@ -1,4 +1,4 @@
-//! Parts of a text.
+//! Cuts lines, comments and tokens out of a text.
 
 ghost use Rattle.std.specs.Prelude.{◌≡◌, ◌-◌};
 ghost use Rattle.source.specs.Tokens.{seen_token};
@@ -9,21 +9,21 @@ ghost use Rattle.formatting.specs.Working.Cutting.{begins_comment};
 
 use source::token::Token;
 
-/// A space, a tab or a carriage return.
+/// Whether the byte is a space, a tab or a carriage return.
 pub fn is_blank_byte(b: u8) -> bool
     ensures { result ≡ is_blank b }
 {
     matches!(b, b' ' | b'\t' | b'\r')
 }
 
-/// `//`.
+/// Whether the text begins with `//`.
 pub fn begins_comment(text: &[u8]) -> bool
     ensures { result ≡ begins_comment text.now }
 {
     matches!(text, [b'/', b'/', ..])
 }
 
-// The next line feed, and what is behind it.
+// The next line feed, and what follows it.
 fn after_line(text: &[u8]) -> &[u8]
     ensures { result.now ≡ after_run is_in_line text.now }
 {
@@ -61,7 +61,7 @@ pub fn without_blanks(line: &[u8]) -> &[u8]
     rest
 }
 
-/// How many bytes a token has.
+/// The number of bytes of a token.
 pub fn width(token: &Token) -> usize
     ensures { result ≡ (seen_token token.now).span.end - (seen_token token.now).span.start }
 {

@@ -1,4 +1,4 @@
-//! What tokens are to the layout.
+//! The kinds of tokens that the layout distinguishes.
 
 ghost use Rattle.std.specs.Prelude.{◌≡◌};
 ghost use Rattle.source.specs.Tokens.{seen_token};
@@ -7,9 +7,9 @@ ghost use Rattle.formatting.specs.Kinds.{is_operand, is_tight, last_behind, limi
 
 use source::token::{Keyword, Sign, Token};
 
-/// What a token is to the layout, or a comment.
+/// The kind of a token for the layout, or a comment.
 #[derive(Clone, Copy, Debug, PartialEq, Eq)]
-pub enum Kind {
+pub enum PieceKind {
     /// `{`
     OpenBrace,
     /// `}`
@@ -28,7 +28,7 @@ pub enum Kind {
     Colon,
     /// `.`
     Dot,
-    /// `-`, of which what stands before it says whether it is a prefix.
+    /// `-`. The piece before it says whether it is a prefix.
     Minus,
     /// `!`, or a `-` that is a prefix.
     Prefix,
@@ -46,135 +46,145 @@ pub enum Kind {
     Comment,
 }
 
-fn kind_of_sign(sign: Sign) -> Kind
+fn kind_of_sign(sign: Sign) -> PieceKind
     ensures { result ≡ sign_kind sign }
 {
     match sign {
-        Sign::OpenBrace => Kind::OpenBrace,
-        Sign::CloseBrace => Kind::CloseBrace,
-        Sign::OpenParen => Kind::OpenParen,
-        Sign::OpenBracket => Kind::OpenBracket,
-        Sign::CloseParen | Sign::CloseBracket => Kind::Closing,
-        Sign::Semicolon => Kind::Semicolon,
-        Sign::Comma => Kind::Comma,
-        Sign::Colon => Kind::Colon,
-        Sign::Dot => Kind::Dot,
-        Sign::Minus => Kind::Minus,
-        Sign::Not => Kind::Prefix,
-        _ => Kind::Operator,
+        Sign::OpenBrace => PieceKind::OpenBrace,
+        Sign::CloseBrace => PieceKind::CloseBrace,
+        Sign::OpenParen => PieceKind::OpenParen,
+        Sign::OpenBracket => PieceKind::OpenBracket,
+        Sign::CloseParen | Sign::CloseBracket => PieceKind::Closing,
+        Sign::Semicolon => PieceKind::Semicolon,
+        Sign::Comma => PieceKind::Comma,
+        Sign::Colon => PieceKind::Colon,
+        Sign::Dot => PieceKind::Dot,
+        Sign::Minus => PieceKind::Minus,
+        Sign::Not => PieceKind::Prefix,
+        _ => PieceKind::Operator,
     }
 }
 
-fn kind_of_word(word: Keyword) -> Kind
+fn kind_of_word(word: Keyword) -> PieceKind
     ensures { result ≡ word_kind word }
 {
     match word {
-        Keyword::If | Keyword::While | Keyword::Print | Keyword::Return => Kind::Head,
-        Keyword::Else => Kind::Else,
-        Keyword::Init => Kind::Init,
-        _ => Kind::Word,
+        Keyword::If | Keyword::While | Keyword::Print | Keyword::Return => PieceKind::Head,
+        Keyword::Else => PieceKind::Else,
+        Keyword::Init => PieceKind::Init,
+        _ => PieceKind::Word,
     }
 }
 
-impl Kind {
-    /// Of a token.
-    pub fn of(token: &Token) -> Kind
+impl PieceKind {
+    /// The kind of `token`.
+    pub fn of(token: &Token) -> PieceKind
         ensures { result ≡ kind_of (seen_token token.now).kind }
     {
         match token {
             Token::Mark(_, sign) => kind_of_sign(*sign),
             Token::Word(_, word) => kind_of_word(*word),
-            Token::Name(_, _) | Token::Int(_, _) | Token::Large(_) | Token::End(_) => Kind::Word,
+            Token::Name(_, _) | Token::Int(_, _) | Token::Large(_) | Token::End(_) =>
+                PieceKind::Word,
         }
     }
 
-    /// `{`.
+    /// Whether the piece is `{`.
     pub fn is_open(self) -> bool
         ensures { result ≡ is_open self }
     {
-        matches!(self, Kind::OpenBrace)
+        matches!(self, PieceKind::OpenBrace)
     }
 
     pub fn is_comment(self) -> bool
         ensures { result ≡ is_comment self }
     {
-        matches!(self, Kind::Comment)
+        matches!(self, PieceKind::Comment)
     }
 
-    /// No statement or declaration has begun behind it.
+    /// Whether no statement or declaration has begun after the piece.
     pub fn is_ended(self) -> bool
         ensures { result ≡ is_ended self }
     {
-        matches!(self, Kind::Semicolon | Kind::CloseBrace | Kind::OpenBrace)
+        matches!(
+            self,
+            PieceKind::Semicolon | PieceKind::CloseBrace | PieceKind::OpenBrace
+        )
     }
 
-    /// It ends a statement or a declaration.
+    /// Whether the piece ends a statement or a declaration.
     pub fn does_end(self) -> bool
         ensures { result ≡ does_end self }
     {
-        matches!(self, Kind::Semicolon | Kind::CloseBrace)
+        matches!(self, PieceKind::Semicolon | PieceKind::CloseBrace)
     }
 
-    /// Behind an end it begins a line.
+    /// Whether the piece begins a line after the end of a statement or declaration.
     pub fn begins_line(self) -> bool
         ensures { result ≡ begins_line self }
     {
-        !matches!(self, Kind::Else | Kind::Init | Kind::Comment)
+        !matches!(self, PieceKind::Else | PieceKind::Init | PieceKind::Comment)
     }
 
-    // It ends an operand, so that a `-` behind it is no prefix.
+    // Whether the piece ends an operand, so that a `-` after it is not a prefix.
     fn is_operand(self) -> bool
         ensures { result ≡ is_operand self }
     {
-        matches!(self, Kind::Word | Kind::Closing)
+        matches!(self, PieceKind::Word | PieceKind::Closing)
     }
 
-    /// No space is wanted between the two.
-    pub fn is_tight(self, next: Kind) -> bool
+    /// Whether no space is written between the piece and `next`.
+    pub fn is_tight(self, next: PieceKind) -> bool
         ensures { result ≡ is_tight self next }
     {
         match self {
-            Kind::OpenParen | Kind::OpenBracket | Kind::Dot | Kind::Prefix => return true,
+            PieceKind::OpenParen | PieceKind::OpenBracket | PieceKind::Dot | PieceKind::Prefix =>
+                return true,
             _ => {}
         }
         match next {
-            Kind::Semicolon | Kind::Comma | Kind::Closing | Kind::Dot | Kind::OpenBracket => true,
-            Kind::Colon => !matches!(self, Kind::Closing),
-            Kind::OpenParen => matches!(self, Kind::Word),
+            PieceKind::Semicolon
+            | PieceKind::Comma
+            | PieceKind::Closing
+            | PieceKind::Dot
+            | PieceKind::OpenBracket => true,
+            PieceKind::Colon => !matches!(self, PieceKind::Closing),
+            PieceKind::OpenParen => matches!(self, PieceKind::Word),
             _ => false,
         }
     }
 
-    /// How many line feeds may stand between the two where a line may end: none is blank at either end of a block.
-    pub fn limit(self, next: Kind) -> usize
+    /// The most line feeds between the piece and `next` where a line may end. No line is blank at either end of a
+    /// block.
+    pub fn limit(self, next: PieceKind) -> usize
         ensures { result ≡ limit self next }
     {
         match (self, next) {
-            (Kind::OpenBrace, Kind::CloseBrace) => 0,
-            (Kind::OpenBrace, _) => 1,
-            (_, Kind::CloseBrace) => 1,
-            (_, Kind::Else) => 0,
+            (PieceKind::OpenBrace, PieceKind::CloseBrace) => 0,
+            (PieceKind::OpenBrace, _) => 1,
+            (_, PieceKind::CloseBrace) => 1,
+            (_, PieceKind::Else) => 0,
             (_, _) => 2,
         }
     }
 
-    /// What the next piece is to those behind it.
-    pub fn behind(self, next: Kind) -> Kind
+    /// The kind by which `next` counts for the pieces after it.
+    pub fn behind(self, next: PieceKind) -> PieceKind
         ensures { result ≡ last_behind self next }
     {
         match next {
-            Kind::Comment => {
+            PieceKind::Comment => {
                 if self.is_ended() {
-                    Kind::Semicolon
+                    PieceKind::Semicolon
                 } else {
                     self
                 }
             }
-            Kind::Minus => {
+            PieceKind::Minus => {
                 if self.is_operand() {
-                    Kind::Minus
+                    PieceKind::Minus
                 } else {
-                    Kind::Prefix
+                    PieceKind::Prefix
                 }
             }
             _ => next,

@@ -5,8 +5,7 @@ ghost use Rattle.source.specs.Texts.{SOURCE_LIMIT};
 ghost use Rattle.formatting.specs.Formatted.{IsFormatted, IsProgram, KeepsTokens};
 ghost use Rattle.formatting.specs.Working.Faults.{HasOneFault, HasFaultOrTree};
 
-/// A law: a formatted text has the same tokens as the text, and the same tokens and comments, byte for byte and in the same
-/// order.
+/// A law: a formatted text has the same tokens and the same comments as the text, byte for byte and in the same order.
 pub fn keeps_tokens()
     ensures { (text out : List ℕ) → IsFormatted text out → KeepsTokens text out }
 {}
@@ -23,14 +22,14 @@ pub fn keeps_program()
     lexer::one_list();
 }
 
-/// A law: a text has one layout at most.
+/// A law: a text has at most one layout.
 pub fn one_layout()
     ensures { (text a b : List ℕ) → IsFormatted text a → IsFormatted text b → a ≡ b }
 {
     lexer::one_list();
 }
 
-/// A law: the tokens of a text have one fault at most, and none where they have a right tree.
+/// A law: the tokens of a text have at most one fault, and none if they have a right tree.
 pub fn one_token_fault()
     ensures one { (text : List ℕ) → HasOneFault text }
     ensures never { (text : List ℕ) → HasFaultOrTree text }

@@ -1,17 +1,18 @@
-//! Formatting: a source text, laid out anew.
+//! The formatter: writes a source text anew in the standard layout.
 //!
 //! - [`format`]: the text in the layout of `specs/Layout.antt`, or its fault of tokens or grammar.
-//! - [`keeps_tokens`]: the tokens and the comments stay, each byte for byte and in its place among the others.
-//! - [`formatted_twice`], [`keeps_program`]: formatting what was formatted changes nothing, and it is a program as before.
-//! - [`one_layout`]: a text has one layout at most.
+//! - [`keeps_tokens`]: formatting keeps the tokens and comments, byte for byte and in order.
+//! - [`formatted_twice`], [`keeps_program`]: formatting a formatted text changes nothing, and a formatted program is a
+//!   program.
+//! - [`one_layout`]: a text has at most one layout.
 //!
-//! What a text is cut into, tokens, comments and line feeds, stands in `specs/Pieces.antt`; what stands between two of
-//! them, in `specs/Layout.antt`; why a text has no layout, in `specs/Formatted.antt`.
+//! `specs/Pieces.antt` defines the pieces of a text: tokens, comments and line feeds. `specs/Layout.antt` defines the
+//! gap between two pieces, and `specs/Formatted.antt` why a text has no layout.
 //!
-//! - `kind`: what a token is to the layout.
-//! - `state`: what decides the gap in front of the next piece.
-//! - `cut`: parts of a text.
-//! - `printer`, `whole`: the pieces one after the other.
+//! - `kind`: the kinds of tokens that the layout distinguishes.
+//! - `state`: what decides the gap before the next piece.
+//! - `cut`: cuts lines, comments and tokens out of a text.
+//! - `printer`, `whole`: write the pieces one after another.
 #![tactic(auto)]
 
 mod cut;

@@ -1,24 +1,24 @@
-//! Pieces, one after the other.
+//! Writes pieces, one after another.
 
 ghost use Rattle.std.specs.Prelude.{◌≡◌, ◌+◌, ◌≤◌, ◌<◌, ◌++◌, [], OnOk, IfOk, suc, length};
 ghost use Rattle.source.specs.Texts.{SOURCE_LIMIT};
 ghost use Rattle.formatting.specs.Layout.{START, many, ending};
 ghost use Rattle.formatting.specs.Working.Printing.{levels, text_in_front, text_behind, state_behind};
 
-use crate::kind::Kind;
-use crate::state::State;
+use crate::kind::PieceKind;
+use crate::state::LayoutState;
 use std::alloc::{AllocError, Global};
 
-/// The text of the pieces so far.
+/// The text of the pieces so far, and the state that decides the next gap.
 #[derive(Drop)]
 pub struct Printer {
     text: Vec<u8>,
-    state: State,
-    /// How many line feeds were found behind the last of them.
+    state: LayoutState,
+    /// The number of line feeds found after the last piece.
     found: usize,
 }
 
-// A byte, so many times.
+// Appends a byte the given number of times.
 #[tactic(auto, using(crate::proofs::Cuts::many_more))]
 fn push_many(text: &mut Vec<u8>, count: usize, byte: u8) -> Result<(), AllocError>
     ensures { OnOk result (text.new.items ≡ text.old.items ++ many count byte) }
@@ -37,12 +37,12 @@ impl Printer {
     {
         Printer {
             text: Vec::new(alloc),
-            state: State::start(),
+            state: LayoutState::start(),
             found: 0,
         }
     }
 
-    /// A line feed.
+    /// Notes a line feed.
     pub fn note_feed(&mut self)
         requires { self.old.found < SOURCE_LIMIT }
         ensures text { self.new.text ≡ self.old.text }
@@ -52,9 +52,9 @@ impl Printer {
         self.found += 1;
     }
 
-    // What stands in front of the next piece.
+    // Appends the gap before the next piece.
     #[tactic(auto, unfolding(crate::specs::Layout::gap))]
-    fn push_gap(&mut self, next: Kind, first: u8, feeds: usize) -> Result<(), AllocError>
+    fn push_gap(&mut self, next: PieceKind, first: u8, feeds: usize) -> Result<(), AllocError>
         requires { levels self.old.state ≤ SOURCE_LIMIT }
         ensures text { OnOk result (self.new.text.items ≡ text_in_front self.old next first feeds) }
         ensures state { self.new.state ≡ self.old.state }
@@ -66,8 +66,8 @@ impl Printer {
         push_many(&mut self.text, self.state.indent(next, feeds), b' ')
     }
 
-    /// A token or a comment, which has a first byte.
-    pub fn push(&mut self, next: Kind, bytes: &[u8]) -> Result<(), AllocError>
+    /// Appends the gap and then a token or a comment, which has at least one byte.
+    pub fn push(&mut self, next: PieceKind, bytes: &[u8]) -> Result<(), AllocError>
         requires some { 0 < length bytes.now }
         requires room { levels self.old.state ≤ SOURCE_LIMIT }
         ensures text { OnOk result (self.new.text.items ≡ text_behind self.old next bytes.now) }
@@ -84,7 +84,7 @@ impl Printer {
         Ok(())
     }
 
-    /// The whole text, of which the last line has an end.
+    /// The whole text, with a line feed at its end.
     pub fn finish(self) -> Result<Vec<u8>, AllocError>
         ensures { IfOk result (λ text. text.items ≡ self.text.items ++ ending self.state.has_begun) }
     {

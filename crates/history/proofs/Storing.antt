@@ -1,4 +1,4 @@
--- Entries whose lists stand in the arrays, and one more.
+-- Entries whose lists stand in the arrays, and one more entry.
 use Rattle.std.proofs.Common.{◌≡◌, ◌+◌, ◌-◌, List, [], ◌∷◌, ◌++◌, length, take, drop, length-append, length-drop}
 use Rattle.std.proofs.Common.{refl, ap, ◌∙◌, subst, sym, arith}
 use Rattle.std.specs.List.{All}

@@ -7,9 +7,9 @@ use Rattle.core_lang.specs.Whole.{Finished}
 use Rattle.core_lang.specs.Serial.{Invocation, Ended, Scheduled, WholeCall}
 use Rattle.code.specs.Memory.{overwritten, Agrees}
 
--- a finished section: the thread, and which of its calls it was; what was called; how long the history was when it
--- began; each cell that it read before it wrote it, with the value found, and each that it wrote, with its last
--- value; how it ended, and what it printed
+-- a finished section: its thread, and the number of the call among the thread's calls. The section's number and its
+-- arguments. The length of the history when the section began. Each cell that it read before it wrote it, with the
+-- value found, and each cell that it wrote, with the last value written. How it ended, and what it printed
 pub record Commit : Type 0 where
   pub thread : ℕ
   pub step : ℕ
@@ -21,46 +21,47 @@ pub record Commit : Type 0 where
   pub outcome : Outcome
   pub prints : List ℤ
 
--- what was called
+-- the call: the section and its arguments
 abbrev pub call_of : Commit → Invocation
 call_of c = record { section = c.section; arguments = c.arguments }
 
--- which call of which thread it was
+-- the call with its thread and its number among the thread's calls
 abbrev pub script_call : Commit → Scheduled
 script_call c = record { thread = c.thread; step = c.step; call = call_of c }
 
--- how it ended, and what it printed
+-- how the section ended, and what it printed
 abbrev pub answer_of : Commit → Ended
 answer_of c = record { outcome = c.outcome; prints = c.prints }
 
--- the same, with the heap that it left
+-- how the section ended, what it printed, and the heap that it left
 abbrev pub finished_on : Commit → List Value → Finished
 finished_on c heap = record { outcome = c.outcome; prints = c.prints; heap = heap }
 
--- a heap after these commits
+-- a heap after the writes of these commits, in order
 abbrev pub committed : List Value → List Commit → List Value
 committed heap [] = heap
 committed heap (c ∷ cs) = committed (overwritten heap c.writes) cs
 
 -- ---- legal and true
 
--- each read what the heap held after the ones before it
+-- each commit read the values that the commits before it left
 abbrev pub IsLegal : List Value → List Commit → Type 0
 IsLegal heap [] = ⊤
 IsLegal heap (c ∷ cs) = Agrees heap c.reads × IsLegal (overwritten heap c.writes) cs
 
--- on every heap that agrees with its reads the call, run whole, ends and prints as it says, and leaves that heap with
--- its writes made
+-- on every heap that agrees with the commit's reads, the call, run alone from begin to end, ends and prints as the
+-- commit says, and leaves that heap with the commit's writes made
 abbrev pub IsTrueCommit : Typed → Commit → Type 0
 IsTrueCommit program c =
     (heap : List Value) → length heap ≡ length program.cells.items → Agrees heap c.reads →
     WholeCall program (call_of c) heap (finished_on c (overwritten heap c.writes))
 
+-- each of these commits is true
 abbrev pub AreTrue : Typed → List Commit → Type 0
 AreTrue program [] = ⊤
 AreTrue program (c ∷ cs) = IsTrueCommit program c × AreTrue program cs
 
--- ---- cells that are left alone
+-- ---- cells that are not written
 
 -- none of these writes is of the cell
 abbrev pub WritesNot : ℕ → List (ℕ × Value) → Type 0

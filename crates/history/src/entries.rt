@@ -3,17 +3,17 @@
 ghost use Rattle.std.specs.Prelude.{◌≡◌, ◌<◌, ◌+◌, [], ◌∷◌, ◌++◌, length, slice_get, Some, OnOk, OnErr};
 ghost use Rattle.history.specs.Working.Histories.{IsPromised, IsWithin, nothing_promised, with_promise};
 
-use crate::kept::Kept;
+use crate::kept::EntryRef;
 use crate::lists::{Lists, Packed};
 use source::memory::NoMemory;
 use std::alloc::Global;
 use std::marker::Model;
 
-/// The entries in the order in which their sections ended. Room for an entry is made before its section begins, so
-/// that the entry itself is never refused.
+/// The entries, in the order in which their sections ended, with the room for further ones. Room for an entry is made
+/// before its section begins, so that entering it takes no memory and can't fail.
 ///
-/// The lists of all entries stand in a few arrays that grow by doubling: an entry takes what its lists are long, and
-/// mostly no memory is taken for one.
+/// The lists of all entries of one kind stand in one array, which grows by doubling: an entry takes the length of its
+/// lists, and most entries allocate nothing.
 #[derive(Drop)]
 pub struct History {
     entries: Vec<Packed>,
@@ -37,7 +37,7 @@ impl Model for History {
 }
 
 impl History {
-    /// No entries.
+    /// A history without entries.
     pub fn new(alloc: Global) -> History
         ensures { result ≡ record { commits = []; promised = nothing_promised } }
     {
@@ -47,11 +47,11 @@ impl History {
         }
     }
 
-    /// Makes room for one entry more, of a section that can touch so many cells.
+    /// Makes room for one more entry, of a section that reads and writes at most `cells` cells.
     ///
     /// # Errors
     ///
-    /// Want of memory; the history is as it was.
+    /// Out of memory. The history is then unchanged.
     pub fn promise(&mut self, cells: usize) -> Result<(), NoMemory>
         ensures ok { OnOk result (self.new ≡ record self.old { promised = with_promise self.old.promised cells }) }
         ensures err { OnErr result (self.new ≡ self.old) }
@@ -60,8 +60,8 @@ impl History {
         self.lists.promise(cells)
     }
 
-    /// Enters a copy of a section that has ended, into room that was made for it.
-    pub fn enter(&mut self, cells: usize, entry: &Kept<'_>)
+    /// Appends a copy of a finished section, into room that was made for `cells` cells.
+    pub fn enter(&mut self, cells: usize, entry: &EntryRef<'_>)
         requires promised { IsPromised self.old.promised cells }
         requires within { IsWithin cells entry.now }
         ensures promised { self.old.promised ≡ with_promise self.new.promised cells }
@@ -74,7 +74,7 @@ impl History {
         }
     }
 
-    /// Forgoes room that was made for a section.
+    /// Gives up the room that was made for one entry of `cells` cells.
     pub fn forgo(&mut self, cells: usize)
         requires { IsPromised self.old.promised cells }
         ensures promised { self.old.promised ≡ with_promise self.new.promised cells }
@@ -83,7 +83,7 @@ impl History {
         self.lists.forgo(cells);
     }
 
-    /// How many entries there are.
+    /// The number of entries.
     #[inline]
     pub fn len(&self) -> usize
         ensures { result ≡ length self.now.commits }
@@ -91,9 +91,9 @@ impl History {
         self.entries.len()
     }
 
-    /// The entry at a position.
+    /// The entry at `position`, counted from 0.
     #[inline]
-    pub fn get(&self, position: usize) -> Kept<'_>
+    pub fn get(&self, position: usize) -> EntryRef<'_>
         requires { position < length self.now.commits }
         ensures { slice_get self.now.commits position ≡ Some result }
     {

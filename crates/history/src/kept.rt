@@ -3,34 +3,34 @@
 use core_lang::value::{Outcome, Value};
 use std::marker::Model;
 
-/// A cell, and a value of it.
+/// The number of a cell, and a value of the cell.
 pub type CellValue = (u32, Value);
 
-/// A finished section, lent: its lists stand elsewhere, as those of a history's entry among those of the others. So it is
-/// handed on and entered with nothing moved.
+/// A borrowed finished section: its lists stand elsewhere, as those of a history's entry stand in the history's arrays.
+/// Passing it on or entering it moves no list.
 #[derive(Drop)]
-pub struct Kept<'h> {
-    /// The thread that ran it.
+pub struct EntryRef<'h> {
+    /// The thread that ran the section.
     pub thread: u32,
-    /// Which of the thread's calls it was.
+    /// The number of the call among the thread's calls.
     pub step: usize,
-    /// The section.
+    /// The section, an index into the program's sections.
     pub section: usize,
-    /// What it was called with.
+    /// The arguments of the call.
     pub arguments: &'h [Value],
-    /// How long the history was when it began.
+    /// The length of the history when the section began.
     pub begun: usize,
     /// Each cell that it read before it wrote it, with the value that it found.
     pub reads: &'h [CellValue],
     /// Each cell that it wrote, with the value that it wrote last.
     pub writes: &'h [CellValue],
-    /// How it ended.
+    /// How the section ended.
     pub outcome: Outcome,
-    /// What it printed.
+    /// The numbers that it printed.
     pub prints: &'h [i64],
 }
 
-impl<'h> Model for Kept<'h> {
+impl<'h> Model for EntryRef<'h> {
     ghost use Rattle.history.specs.Commits.{Commit};
 
     ghost Value = { Commit };
@@ -48,10 +48,10 @@ impl<'h> Model for Kept<'h> {
     } };
 }
 
-impl<'h> Kept<'h> {
+impl<'h> EntryRef<'h> {
     ghost use Rattle.std.specs.Prelude.{◌≡◌};
 
-    /// The thread that ran it.
+    /// The thread that ran the section.
     #[inline]
     pub fn thread(&self) -> u32
         ensures { result ≡ self.now.thread }
@@ -59,7 +59,7 @@ impl<'h> Kept<'h> {
         self.thread
     }
 
-    /// Which of the thread's calls it was.
+    /// The number of the call among the thread's calls.
     #[inline]
     pub fn step(&self) -> usize
         ensures { result ≡ self.now.step }
@@ -67,7 +67,7 @@ impl<'h> Kept<'h> {
         self.step
     }
 
-    /// The section.
+    /// The section, an index into the program's sections.
     #[inline]
     pub fn section(&self) -> usize
         ensures { result ≡ self.now.section }
@@ -75,7 +75,7 @@ impl<'h> Kept<'h> {
         self.section
     }
 
-    /// What it was called with.
+    /// The arguments of the call.
     #[inline]
     pub fn arguments(&self) -> &'h [Value]
         ensures { result.now ≡ self.now.arguments }
@@ -83,7 +83,7 @@ impl<'h> Kept<'h> {
         self.arguments
     }
 
-    /// How long the history was when it began.
+    /// The length of the history when the section began.
     #[inline]
     pub fn begun(&self) -> usize
         ensures { result ≡ self.now.begun }
@@ -107,7 +107,7 @@ impl<'h> Kept<'h> {
         self.writes
     }
 
-    /// How it ended.
+    /// How the section ended.
     #[inline]
     pub fn outcome(&self) -> Outcome
         ensures { result ≡ self.now.outcome }
@@ -115,7 +115,7 @@ impl<'h> Kept<'h> {
         self.outcome
     }
 
-    /// What it printed.
+    /// The numbers that it printed.
     #[inline]
     pub fn prints(&self) -> &'h [i64]
         ensures { result.now ≡ self.now.prints }

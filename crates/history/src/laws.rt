@@ -1,8 +1,8 @@
-//! What holds of every history: functions that do nothing, and whose contracts are the laws.
+//! Laws of histories: functions that do nothing, whose contracts are the laws.
 
 ghost use Rattle.history.specs.Working.Laws.{WritesSpareOthers, Commuting, LegalIsSerial, CommittedOfOneMore, LegalOfOneMore, TrueOfOneMore, CommittedKeepsSize};
 
-/// Further entries that don't write a cell leave its value.
+/// Further entries that don't write a cell leave its value unchanged.
 pub fn commuting()
     ensures commits { Commuting }
     ensures writes { WritesSpareOthers }
@@ -14,7 +14,8 @@ pub fn legal_is_serial()
     ensures { LegalIsSerial }
 {}
 
-/// An entry that read what the heap held leaves the list legal, and the heap with its writes made.
+/// Appending a true entry that read what the heap held keeps the list legal and its entries true. The heap is then the
+/// one before with the entry's writes made.
 pub fn one_entry_more()
     ensures heap { CommittedOfOneMore }
     ensures legal { LegalOfOneMore }

@@ -1,63 +1,58 @@
-//! The lists of entries.
+//! The arrays that hold the lists of entries.
 
 ghost use Rattle.std.specs.Prelude.{◌≡◌, ◌≤◌, ◌+◌, ◌++◌, [], length, vec_len, vec_capacity, OnOk, OnErr};
 ghost use Rattle.history.specs.Working.Histories.{IsPromised, IsWithin, nothing_promised, with_promise};
 ghost use Rattle.history.specs.Working.Arrays.{with_room};
 ghost use Rattle.history.specs.Working.Lists.{part_behind, packed_commit, packed_behind, with_lists, IsPacked};
 
-use crate::kept::{CellValue, Kept};
+use crate::kept::{CellValue, EntryRef};
 use core_lang::value::{Outcome, Value};
+use source::limits::{PARAMETER_LIMIT, PRINT_LIMIT};
 use source::memory::NoMemory;
 use std::alloc::Global;
 use std::marker::Model;
 
-/// How many arguments a call can have.
-const MOST_ARGUMENTS: usize = 8;
-
-/// How many numbers one run of a section can print.
-const MOST_PRINTS: usize = 256;
-
-/// Where a list stands in the array of its kind.
+/// The range of a list in the array of its kind.
 #[derive(Clone, Copy)]
 pub struct Part {
-    /// Its first place.
+    /// The index of its first item.
     pub begin: usize,
-    /// The place behind its last.
+    /// The index after its last item.
     pub end: usize,
 }
 
 /// A finished section whose lists stand in the arrays.
 #[derive(Clone, Copy)]
 pub struct Packed {
-    /// The thread that ran it.
+    /// The thread that ran the section.
     pub thread: u32,
-    /// Which of the thread's calls it was.
+    /// The number of the call among the thread's calls.
     pub step: usize,
-    /// The section.
+    /// The section, an index into the program's sections.
     pub section: usize,
-    /// What it was called with.
+    /// The arguments of the call.
     pub arguments: Part,
-    /// How long the history was when it began.
+    /// The length of the history when the section began.
     pub begun: usize,
     /// Each cell that it read before it wrote it, with the value that it found.
     pub reads: Part,
     /// Each cell that it wrote, with the value that it wrote last.
     pub writes: Part,
-    /// How it ended.
+    /// How the section ended.
     pub outcome: Outcome,
-    /// What it printed.
+    /// The numbers that it printed.
     pub prints: Part,
 }
 
-/// The lists of entries, those of one kind one after another in one array, and the room that was made in them. What a
-/// section left unused of its room is there for the next one.
+/// The lists of entries, those of one kind one after another in one array, and the room that was made in them. Room that
+/// a section left unused serves the next one.
 #[derive(Drop)]
 pub struct Lists {
     arguments: Vec<Value>,
     reads: Vec<CellValue>,
     writes: Vec<CellValue>,
     prints: Vec<i64>,
-    // For how many more entries there is room, and for how many reads of these together, and as many writes.
+    // The number of entries for which room was made, and that of their reads together, which is also that of writes.
     entries: usize,
     cells: usize,
 }
@@ -84,7 +79,7 @@ impl Model for Lists {
 }
 
 impl Lists {
-    /// No lists.
+    /// Arrays without lists.
     pub fn new(alloc: Global) -> Lists
         ensures { result ≡ record { arguments = []; reads = []; writes = []; prints = []; promised = nothing_promised } }
     {
@@ -98,18 +93,18 @@ impl Lists {
         }
     }
 
-    /// For how many more entries there is room.
+    /// The number of further entries for which room was made.
     pub fn promised(&self) -> usize
         ensures { result ≡ self.now.promised.entries }
     {
         self.entries
     }
 
-    /// Makes room for the lists of one entry more, of a section that can touch so many cells.
+    /// Makes room for the lists of one more entry, of a section that reads and writes at most `cells` cells.
     ///
     /// # Errors
     ///
-    /// Want of memory; all is as it was.
+    /// Out of memory. The lists are then unchanged.
     pub fn promise(&mut self, cells: usize) -> Result<(), NoMemory>
         ensures ok { OnOk result (self.new ≡ with_room self.old cells) }
         ensures err { OnErr result (self.new ≡ self.old) }
@@ -118,16 +113,16 @@ impl Lists {
             return Err(NoMemory);
         };
         let entries = self.entries + 1;
-        self.arguments.reserve(MOST_ARGUMENTS * entries)?;
+        self.arguments.reserve(PARAMETER_LIMIT * entries)?;
         self.reads.reserve(cells)?;
         self.writes.reserve(cells)?;
-        self.prints.reserve(MOST_PRINTS * entries)?;
+        self.prints.reserve(PRINT_LIMIT * entries)?;
         self.entries = entries;
         self.cells = cells;
         Ok(())
     }
 
-    /// Forgoes the room that was made for an entry.
+    /// Gives up the room that was made for one entry of `cells` cells.
     pub fn forgo(&mut self, cells: usize)
         requires { IsPromised self.old.promised cells }
         ensures { self.old ≡ with_room self.new cells }
@@ -136,8 +131,8 @@ impl Lists {
         self.cells -= cells;
     }
 
-    /// Copies the lists of an entry into the room that was made for them.
-    pub fn pack(&mut self, cells: usize, entry: &Kept<'_>) -> Packed
+    /// Appends the lists of `entry` into the room that was made for them, and returns where they stand.
+    pub fn pack(&mut self, cells: usize, entry: &EntryRef<'_>) -> Packed
         requires promised { IsPromised self.old.promised cells }
         requires within { IsWithin cells entry.now }
         ensures packed { result ≡ packed_behind self.old entry.now }
@@ -159,13 +154,13 @@ impl Lists {
         }
     }
 
-    /// An entry whose lists stand here.
+    /// The entry whose lists stand at the places of `packed`.
     #[inline]
-    pub fn kept(&self, packed: &Packed) -> Kept<'_>
+    pub fn kept(&self, packed: &Packed) -> EntryRef<'_>
         requires { IsPacked self.now packed.now }
         ensures { result ≡ packed_commit self.now packed.now }
     {
-        Kept {
+        EntryRef {
             thread: packed.thread,
             step: packed.step,
             section: packed.section,
@@ -179,7 +174,7 @@ impl Lists {
     }
 }
 
-// Appends a list into room that is there, and says where it stands.
+// Appends `list` to `array`, which has room for it, and returns where it stands.
 fn append<T: Copy>(array: &mut Vec<T>, list: &[T]) -> Part
     requires { vec_len array.old + length list.now ≤ vec_capacity array.old }
     ensures items { array.new.items ≡ array.old.items ++ list.now }

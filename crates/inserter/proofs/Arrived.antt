@@ -1,4 +1,4 @@
--- What holds where a run comes to a point, before it asks for a lock there; and that it holds where a run begins.
+-- What holds when a run comes to a point, before it asks for a lock there; it holds at the begin of a run.
 use Rattle.std.proofs.Common.{◌≡◌, ℕ, ◌<◌, List, [], Some, ◌⊎◌}
 use Rattle.std.specs.Prelude.{slice_index}
 use Rattle.std.specs.List.{Contains}
@@ -35,7 +35,7 @@ module _ (program : Typed) (section : Section) (ranks : List ℕ) where
     -- all held ones are below a path whose root is bound here or later
     pub later : (path : LockPath) (user b : ℕ) → Uses program section user path → BindsRoot section b path →
         (p ≡ b) ⊎ Before (skeleton section) p b → AreBelow held path
-    -- what is surely held is held
+    -- the locks of surely held paths are held
     pub sure : (path : LockPath) (l : Lock) → IsSurelyHeld program section ranks p path →
         lock_named path program.shape locals ≡ Some l → Contains held l
     pub of_path : (h : Lock) → Contains held h → HasPath locals h

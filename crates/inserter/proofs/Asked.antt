@@ -1,4 +1,4 @@
--- Where a listed lock isn't held, there is a first one of those that aren't.
+-- If some listed lock is not held, there is a first one of those that are not.
 use Rattle.std.proofs.Common.{◌≡◌, ℕ, ◌<◌, List, [], ◌∷◌, length, Option, Some, None, ◌⊎◌, inl, inr, refl, sym, ap}
 use Rattle.std.proofs.Common.{◌∙◌, subst, arith}
 use Rattle.std.specs.Prelude.{slice_get, slice_index}
@@ -191,7 +191,7 @@ module _ (laws : PathLaws) (strict : PrecedesIsStrict) (program : Typed) (sectio
           by_path None e rest = passed i is (λ q l at named. absurd (none-some q (sym e ∙ at))) rest
           by_path (Some path) e rest = by_lock path e (lock_named path program.shape locals) refl rest
 
-    -- where a listed lock isn't held, a run asks for one
+    -- if a listed lock is not held, a run asks for one
     pub some_asked : (held : List Lock) (lock : Lock) → IsListed program section ranks lists p locals lock →
         (Contains held lock → ⊥) →
         (asked : Lock) × Asks program section ranks lists p locals held asked

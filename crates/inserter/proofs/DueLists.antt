@@ -1,4 +1,4 @@
--- The lists that the sets of wanted and of surely held paths leave are those before the points.
+-- The lists by the sets of wanted and of surely held paths are those before the points.
 use Rattle.std.proofs.Common.{◌≡◌, ◌<◌, ◌≤◌, ◌⊎◌, ◌++◌, ℕ, zero, suc, false, List, [], ◌∷◌, map, length, get_or, Some}
 use Rattle.std.proofs.Common.{inl, inr, sym, ap, ◌∙◌, subst, arith, refl}
 use Rattle.std.specs.Prelude.{slice_index, slice_get, not}

@@ -1,4 +1,4 @@
--- Distinct items of which each has a number below n, and no two have one number, are no more than n.
+-- Distinct items, each with a number below n and no two with the same number, are at most n.
 use Rattle.std.proofs.Common.{◌≡◌, ℕ, suc, ◌<◌, ◌≤◌, true, List, [], ◌∷◌, length, refl, sym, ap, subst, arith, inl, inr}
 use Rattle.std.specs.Prelude.{◌≢◌, ◌==◌}
 use Rattle.std.specs.List.{AllPairs, Contains, list_any}

@@ -1,4 +1,4 @@
--- From a point where all that is listed is held to one that follows: what holds on arrival goes on.
+-- From a point where all listed locks are held to one that follows: what holds on arrival holds there too.
 use Rattle.std.proofs.Common.{◌≡◌, ℕ, List, [], ◌∷◌, Some, ◌⊎◌, inl, inr, refl, sym, ◌∙◌, subst, arith}
 use Rattle.std.specs.Prelude.{slice_index}
 use Rattle.std.specs.List.{Contains}

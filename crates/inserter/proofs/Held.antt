@@ -1,4 +1,4 @@
--- Whether a list of locks has a lock is decided; and lists that have nothing twice.
+-- Membership of a lock in a list is decidable; and lists without repetitions.
 use Rattle.std.proofs.Common.{◌≡◌, ℕ, suc, ◌<◌, List, [], ◌∷◌, ◌++◌, length, get_or, ◌⊎◌, inl, inr, sym, ap, ◌∙◌, arith}
 use Rattle.std.specs.Prelude.{◌≢◌}
 use Rattle.std.specs.List.{AllPairs, Contains}

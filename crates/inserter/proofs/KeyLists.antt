@@ -1,4 +1,4 @@
--- The keys of a section's paths: each once, and in rising order when they are sorted; and the paths of a set in that order.
+-- The keys of a section's paths: each once, in rising order after sorting; and the paths of a set in that order.
 use Rattle.std.proofs.Common.{◌≡◌, ◌<◌, ◌≤◌, ◌+◌, ◌⊎◌, ℕ, zero, suc, Bool, true, false, List, [], ◌∷◌, length, get_or}
 use Rattle.std.proofs.Common.{if◌then◌else◌, inl, inr, sym, ap, ◌∙◌, subst, arith, refl}
 use Rattle.std.specs.Prelude.{slice_index, ◌==◌, ◌%◌}
@@ -127,7 +127,7 @@ in_numbers set (x ∷ ks) k c t =
       | inr m ↦ rest_if (has set (x % 64)) (x % 64) (k % 64) (numbers_in set ks) (in_numbers set ks k m t)
     ]
 
--- where the keys rise and are their paths', so do those of the listed paths
+-- if the keys rise and are those of their paths, the keys of the listed paths rise
 pub numbers_rise : (ranks : List ℕ) (set : PathSet) (keys : List ℕ) → AllPairs ◌<◌ keys →
     ((k : ℕ) → Contains keys k → k ≡ key_of ranks (k % 64)) →
     AllPairs (λ i j. key_of ranks i < key_of ranks j) (numbers_in set keys)

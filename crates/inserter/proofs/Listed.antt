@@ -1,4 +1,5 @@
--- What is listed before a point, by rank: it is wanted there, and of no greater rank than a path that is used there.
+-- The paths listed before a point, by rank: each is wanted there, and its rank is at most that of a path that is used
+-- there.
 use Rattle.std.proofs.Common.{◌≡◌, ℕ, ◌<◌, ◌≤◌, List, [], length, Some, ◌⊎◌, inl, inr, refl, sym, ap, ◌∙◌, subst, arith}
 use Rattle.std.specs.Prelude.{slice_get, slice_index}
 use Rattle.std.proofs.lemmas.Option.{same_Some, slice_get_within, slice_get-get_or}
@@ -37,7 +38,7 @@ module _ (laws : PathLaws) (program : Typed) (section : Section) (ranks : List �
       let lt : path.class < length ranks = omega (arith, slice_get_within program.classes.items path.class c.0 c.1, ok.ranked.long) in
       slice_get-get_or ranks path.class 0 lt
 
-  -- a path that is used at a point is of a lesser rank than one whose root is bound there or later
+  -- a path that is used at a point has a lesser rank than one whose root is bound there or later
   pub rises : (p b user : ℕ) (a path : LockPath) → Uses program section p a → Uses program section user path →
       BindsRoot section b path →
       (p ≡ b) ⊎ Before (skeleton section) p b → rank_of ranks a < rank_of ranks path
@@ -58,7 +59,7 @@ module _ (laws : PathLaws) (program : Typed) (section : Section) (ranks : List �
     below = (path, u, omega arith);
   }
 
-  -- ---- what is listed
+  -- ---- listed paths
 
   pub number_of : (user : ℕ) (path : LockPath) → Uses program section user path →
       (i : ℕ) × IsPath program section i path

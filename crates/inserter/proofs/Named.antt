@@ -1,4 +1,4 @@
--- The lock that a path names is of the path's class.
+-- The lock that a path names has the path's class.
 use Rattle.std.proofs.Common.{◌≡◌, ℕ, List, Option, Some, None, sym, ap}
 use Rattle.std.specs.Option.{option_map}
 use Rattle.std.proofs.lemmas.Option.{none-some, same_Some}

@@ -1,4 +1,4 @@
--- The lists of a placement are lists that the law of a run asks for.
+-- The lists of a placement satisfy what the law of runs requires.
 use Rattle.inserter.specs.Working.Laws.{PlacementsAreOrdered}
 
 pub placements_are_ordered : PlacementsAreOrdered

@@ -1,4 +1,4 @@
--- The laws of a run's locks: its asks rise, what it uses is held, and it holds few.
+-- The laws of a run's locks: each lock asked for comes after those held, used locks are held, and few are held.
 use Rattle.std.proofs.Common.{◌≡◌, ℕ, ◌<◌, List, [], ◌∷◌, ◌++◌, length, Some, inl, inr, sym, ap, ◌∙◌, subst, arith}
 use Rattle.std.specs.Prelude.{slice_index}
 use Rattle.std.specs.List.{Contains}

@@ -1,4 +1,4 @@
--- What holds where a run stands at a point, with some of the locks granted that are listed there.
+-- What holds while a run is at a point, with some of the locks granted that are listed there.
 use Rattle.std.proofs.Common.{◌≡◌, ℕ, List, Some, ◌⊎◌, inl, inr}
 use Rattle.std.specs.Prelude.{◌≢◌}
 use Rattle.std.specs.List.{AllPairs, Contains}
@@ -42,7 +42,7 @@ module _ (laws : PathLaws) (program : Typed) (section : Section) (ranks : List �
             record { path = x.path; user = user.0; uses = user.1; named = x.named }
       ]
 
-  -- where all that is listed is held, so is the lock of each path that is wanted
+  -- if all listed locks are held, so is the lock of each wanted path
   pub wanted_held : ((l : Lock) → IsListed program section ranks lists p locals l → Contains held l) →
       (path : LockPath) (l : Lock) →
       IsWanted program section ranks p path → lock_named path program.shape locals ≡ Some l → Contains held l

@@ -14,18 +14,18 @@ abbrev pub IsPath : Typed → Section → ℕ → LockPath → Type 0
 IsPath program section i path = slice_get (lock_paths program section) i ≡ Some path
 
 module _ (program : Typed) (section : Section) (ranks : List ℕ) where
-  -- it is wanted at the point, and some walk comes there on which it isn't taken
+  -- the path is wanted at the point, and some walk to the point does not take it
   pub record IsDue (p : ℕ) (path : LockPath) : Type 0 where
     pub wanted : IsWanted program section ranks p path
     pub missing : IsSurelyHeld program section ranks p path → ⊥
 
-  -- by rising rank; of one rank the path whose first access comes first, which has the lower number
+  -- by rising rank; of two paths with one rank, the path with the lower number, which is accessed first
   abbrev pub GoesBefore : ℕ → ℕ → Type 0
   GoesBefore i j =
       (a b : LockPath) → IsPath program section i a → IsPath program section j b →
       (rank_of ranks a < rank_of ranks b) ⊎ ((rank_of ranks a ≡ rank_of ranks b) × (i < j))
 
-  -- the list before a point: the numbers of the paths that are due there, each before all that go behind it
+  -- the list before a point: the numbers of the paths that are due there, in this order
   pub record IsListBefore (p : ℕ) (list : List ℕ) : Type 0 where
     pub only : (i : ℕ) → Contains list i → (path : LockPath) × IsPath program section i path × IsDue p path
     pub all : (i : ℕ) (path : LockPath) → IsPath program section i path → IsDue p path → Contains list i
@@ -36,7 +36,7 @@ module _ (program : Typed) (section : Section) (ranks : List ℕ) where
     pub long : length lists ≡ length (points section)
     pub each : (p : ℕ) (list : List ℕ) → slice_get lists p ≡ Some list → IsListBefore p list
 
--- those of all sections of a program
+-- the lists of all sections of a program
 pub record IsPlacement (program : Typed) (ranks : List ℕ) (lists : List (List (List ℕ))) : Type 0 where
   pub long : length lists ≡ length program.sections.items
   pub each : (k : ℕ) (section : Section) (ls : List (List ℕ)) → slice_get program.sections.items k ≡ Some section →

@@ -1,4 +1,4 @@
-//! The lock paths of a section in the order in which they are listed.
+//! The lock paths of a section in the order of lists.
 
 ghost use Rattle.std.specs.Prelude.{◌≤◌, length, map, slice_index, IfOk};
 ghost use Rattle.inserter.specs.Working.Keys.{AreKeys};
@@ -6,7 +6,7 @@ ghost use Rattle.inserter.specs.Working.Keys.{AreKeys};
 use source::memory::NoMemory;
 use std::alloc::Global;
 
-/// For each lock path a key, in rising order: 64 times the rank of its class, and its number.
+/// The keys of all lock paths in rising order. A key is 64 times the rank of the path's class plus the path's number.
 pub fn sorted_keys(alloc: Global, classes: &[usize], ranks: &[u32]) -> Result<Vec<u64>, NoMemory>
     requires { length classes.now ≤ 64 }
     ensures { IfOk result (λ keys. AreKeys (map (slice_index ranks.now) classes.now) keys.items) }

@@ -1,16 +1,16 @@
-//! What holds of the locks of every run: functions that do nothing, and whose contracts are the laws.
+//! Laws of the locks of every run: functions that do nothing, and whose contracts are the laws.
 
 ghost use Rattle.inserter.specs.Working.Laws.{PlacementsAreOrdered, InRuns, AsksRise, AsksForSome, UsedAreHeld, HeldAreNamed, FewAreHeld};
 
-/// The lists of a placement are ones that the law of a run asks for.
+/// A law: the lists of a placement satisfy what the law of runs requires.
 pub fn placements_are_ordered()
     ensures { PlacementsAreOrdered }
 {}
 
-/// In a section whose lists have all that is due before each point, and nothing that isn't wanted there, along every walk
-/// and whatever objects the roots name: where a listed lock isn't held, a run asks for one; each lock that it asks for comes
-/// after all that it holds; each access finds the lock held that its path names; each held lock is one that a lock path
-/// names; and no more locks are held than there are lock paths.
+/// A law about a section whose lists have all that is due before each point, and nothing that is not wanted there. It
+/// holds along every walk and for all objects that the roots refer to. If a listed lock is not held, a run asks for
+/// one. Each lock that it asks for comes after all that it holds. Each access finds the lock of its path held, and each
+/// held lock is named by a lock path. A run holds at most as many locks as the section has lock paths.
 pub fn asks_rise()
     ensures rise { InRuns AsksRise }
     ensures some { InRuns AsksForSome }

@@ -14,12 +14,12 @@ use points::table::Points;
 use source::memory::NoMemory;
 use std::alloc::Global;
 
-/// The lists of a program: before each point of each section the lock paths that are wanted there and not surely held,
-/// by rising rank, and of one rank in the order of their first accesses.
+/// The lists of a program: before each point of each section, the lock paths that are wanted there and not surely held,
+/// by rising rank, and those of one rank in the order of their first accesses.
 ///
 /// # Errors
 ///
-/// Want of memory.
+/// Out of memory.
 pub fn place(
     alloc: Global,
     program: &Typed,
@@ -33,11 +33,11 @@ pub fn place(
     place_by(alloc, program, &points, ranks)
 }
 
-/// The same as [`place`], by the points of all sections.
+/// The same as [`place`], given the points of all sections.
 ///
 /// # Errors
 ///
-/// Want of memory.
+/// Out of memory.
 pub fn place_by(
     alloc: Global,
     program: &Typed,

@@ -25,7 +25,7 @@ fn listed(alloc: Global, keys: &[u64], set: PathSet) -> Result<Vec<u8>, NoMemory
     Ok(list)
 }
 
-// For each point the paths that are wanted there and not surely held, in the order of their keys.
+// For each point, the paths that are wanted there and not surely held, in the order of their keys.
 fn due(
     alloc: Global,
     keys: &[u64],
@@ -42,8 +42,8 @@ fn due(
     Ok(lists)
 }
 
-/// The list before each point of a section: the paths that are wanted there and not surely held, by rising rank, and of one
-/// rank in the order of their first accesses.
+/// The list before each point of a section: the paths that are wanted there and not surely held, by rising rank, and
+/// those of one rank in the order of their first accesses.
 pub fn lists_before(alloc: Global, points: &Points, ranks: &[u32]) -> Result<SectionLists, NoMemory>
     ensures { IfOk result (λ lists. AreListsOf points.now ranks.now (lists_of lists)) }
 {

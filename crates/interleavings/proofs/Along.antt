@@ -18,8 +18,8 @@ use Rattle.worlds.specs.declared.event.Event.TheVariants as event
 use Rattle.worlds.specs.Worlds.{World, goes_on, happens, world_after}
 use Rattle.worlds.specs.Working.States.{StepsKeepSound}
 use Rattle.worlds.specs.Working.Ahead.{WorldsStayReady}
-use Rattle.interleavings.specs.declared.state.State.{State}
-use Rattle.interleavings.specs.declared.state.State.TheVariants as state
+use Rattle.interleavings.specs.declared.state.TypedState.{TypedState}
+use Rattle.interleavings.specs.declared.state.TypedState.TheVariants as state
 use Rattle.interleavings.specs.Working.Found.{AreMoves}
 use Rattle.interleavings.specs.Working.States.{state_of, thread_of, world_of, IsTied}
 use Rattle.interleavings.specs.Working.Steps.{Moved}
@@ -35,17 +35,17 @@ named_running (next.Running o) named running = refl
 named_running (next.Asking o) named running = absurd (named.0 running.0)
 named_running (next.Ended o) named running = absurd (named.1 running.1)
 
-module _ (plan : Plan) (m : Managed) (states : List State) (t : ℕ) (tied : IsTied plan m states) (kept : IsKept m)
+module _ (plan : Plan) (m : Managed) (states : List TypedState) (t : ℕ) (tied : IsTied plan m states) (kept : IsKept m)
     (size : CommittedKeepsSize) (sound : StepsKeepSound) (ready : WorldsStayReady) (strict : PrecedesIsStrict) where
-  -- so many steps lead to where the thread is in this state, and all else as it was
-  pub record RunTo (j : ℕ) (x : State) : Type 0 where
+  -- the given number of steps leads to where the thread is in this state, and all else as it was
+  pub record RunTo (j : ℕ) (x : TypedState) : Type 0 where
     pub tied_then : IsTied plan m (set states t x)
     pub world : world_after plan (world_of m states) (replicate j t) ≡ world_of m (set states t x)
 
   one_more : (j : ℕ) (o : OpenOf) (n : Next) → t < length states → RunTo j (state.Running o) → open_of n ≡ moved o →
       IsNamed n → RunTo (suc j) (state_of n)
   one_more j o n lt so_far is named =
-      let before : List State = set states t (state.Running o) in
+      let before : List TypedState = set states t (state.Running o) in
       let here : slice_get before t ≡ Some (state.Running o) = set_same states t (state.Running o) lt in
       let step : Moved m o (state_of n) m = record { next = n; state_is = refl; is = is; named = named; manager = refl } in
       let k : Done plan m before t event.Moved (state_of n) m =
@@ -75,8 +75,8 @@ module _ (plan : Plan) (m : Managed) (states : List State) (t : ℕ) (tied : IsT
       ((k : ℕ) → k < count → IsRunning (moved_by k o)) →
       (j : ℕ) → j < count → (happens plan (world_after plan (world_of m states) (replicate j t)) t).0 ≡ event.Moved
   each_moves count o here running j lt =
-      let x : State = state.Running (moved_by j o) in
-      let later : List State = set states t x in
+      let x : TypedState = state.Running (moved_by j o) in
+      let later : List TypedState = set states t x in
       let so_far : RunTo j x = all_along count o here running j lt in
       let here_later : slice_get later t ≡ Some x = set_same states t x (slice_get_within states t (state.Running o) here) in
       let is = running j lt in
@@ -95,9 +95,9 @@ module _ (plan : Plan) (m : Managed) (states : List State) (t : ℕ) (tied : IsT
       one_more c (moved_by c o) n (slice_get_within states t (state.Running o) here)
       (all_along (suc c) o here ran.running c (omega arith)) ran.is named
 
--- ---- the states of a world, with the thread's section so many instructions on
+-- ---- the states of a world, with the thread's section the given number of instructions on
 
-module _ (plan : Plan) (m : Managed) (states last : List State) (t : ℕ) (o : OpenOf) (n : Next) (now : ThreadsOf)
+module _ (plan : Plan) (m : Managed) (states last : List TypedState) (t : ℕ) (o : OpenOf) (n : Next) (now : ThreadsOf)
     (tied : IsTied plan m states) (kept : IsKept m) (size : CommittedKeepsSize) (sound : StepsKeepSound) (ready : WorldsStayReady)
     (strict : PrecedesIsStrict) (here : slice_get states t ≡ Some (state.Running o)) (is : last ≡ set states t (state_of n))
     (view : threads_of plan (world_of m states) ≡ now) where
@@ -112,7 +112,7 @@ module _ (plan : Plan) (m : Managed) (states last : List State) (t : ℕ) (o : O
       threads_of plan (world_of m last) ≡ with_steps now (replicate count t)
   ran_steps most count ran named =
       let k = run_to plan m states t tied kept size sound ready strict most count o n here runs ran named in
-      ap (λ (xs : List State). threads_of plan (world_of m xs)) is
+      ap (λ (xs : List TypedState). threads_of plan (world_of m xs)) is
       ∙ ap (threads_of plan) (sym k.world)
       ∙ ap (λ (w : ThreadsOf). with_steps w (replicate count t)) view
 
@@ -121,7 +121,7 @@ module _ (plan : Plan) (m : Managed) (states last : List State) (t : ℕ) (o : O
       subst (λ (w : ThreadsOf). AreMoves w t count) view
       (each_moves plan m states t tied kept size sound ready strict count o here ran.running)
 
--- ---- so many steps, and so many more
+-- ---- the given number of steps, and more
 
 replicate_more : (a b t : ℕ) → replicate (a + b) t ≡ replicate a t ++ replicate b t
 replicate_more zero b t = let number : zero + b ≡ b = omega arith in ap (λ n. replicate n t) number
@@ -134,7 +134,7 @@ pub further_steps : (w : ThreadsOf) (a b t : ℕ) →
 further_steps w a b t =
     ap (threads_of w.plan) (sym (steps_more w.plan w.world (replicate a t) (replicate b t)) ∙ ap (world_after w.plan w.world) (sym (replicate_more a b t)))
 
--- of a turn so many steps are left; with one more, and so many instructions, so many fewer are
+-- a turn has the given number of steps left; after one more, and the given number of instructions, fewer are left
 pub turn_on : (first w mid last : ThreadsOf) (count left more t : ℕ) (e : Event) → left ≤ count → 0 < left →
     more ≤ left - 1 →
     w ≡ with_steps first (replicate (count - left) t) → happens w.plan w.world t ≡ (e, mid.world) → mid.plan ≡ w.plan →

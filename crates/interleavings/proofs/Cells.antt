@@ -22,7 +22,7 @@ use Rattle.lock_manager.specs.Working.Managers.{IsKept, number_from, place_of, c
 use Rattle.lowering.specs.Plans.{Plan}
 use Rattle.worlds.specs.Worlds.{World, with_taken, taken}
 use Rattle.worlds.specs.Working.States.{IsSound, HoldsLockOf}
-use Rattle.interleavings.specs.declared.state.State.{State}
+use Rattle.interleavings.specs.declared.state.TypedState.{TypedState}
 use Rattle.interleavings.specs.Working.States.{thread_of, session_at, cells_seen}
 use Rattle.interleavings.proofs.Lists.{same_everywhere}
 use Rattle.locks.specs.Theory.Order.{contains_among, among_contains}
@@ -132,7 +132,7 @@ taken_from m lock values k size here =
 -- ---- all cells
 
 -- a world is sound, and has the manager's history, and threads with the sections that the manager knows
-pub record IsOne (plan : Plan) (w : World) (m : Managed) (states : List State) : Type 0 where
+pub record IsOne (plan : Plan) (w : World) (m : Managed) (states : List TypedState) : Type 0 where
   pub sound : IsSound plan w
   pub kept : IsKept m
   pub history : w.history ≡ m.history
@@ -150,7 +150,7 @@ has_place m lock k c =
     number_found 0 m.layout.locks lock at.0 k.distinct at.1 ∙ ap Some (let e : 0 + at.0 ≡ at.0 = omega arith in e) in
     (p.0, lookup_at (number_from 0 m.layout.locks lock) at.0 (λ (i : ℕ). slice_get m.places i) n ∙ p.1)
 
-module _ (plan : Plan) (w : World) (m : Managed) (states : List State) (one : IsOne plan w m states) (size : CommittedKeepsSize) where
+module _ (plan : Plan) (w : World) (m : Managed) (states : List TypedState) (one : IsOne plan w m states) (size : CommittedKeepsSize) where
   moved_cell : (cell : ℕ) → slice_get w.cells cell ≡ Some None → None ≡ cell_of m cell
   moved_cell cell e =
       let (t, a, is_open, has) = one.sound.somewhere cell e in

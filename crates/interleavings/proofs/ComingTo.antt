@@ -1,4 +1,4 @@
--- What the next step of a thread takes up, from its state.
+-- What the next step of a thread does, from its state.
 use Rattle.std.proofs.Common.{◌≡◌, ◌≢◌, ℕ, List, [], ◌∷◌, Option, Some, None, refl, sym, ap, ap₂, ◌∙◌}
 use Rattle.std.specs.Prelude.{slice_get}
 use Rattle.core_lang.specs.declared.value.Outcome.{Outcome}
@@ -7,8 +7,8 @@ use Rattle.lock_manager.specs.Manager.{Managed}
 use Rattle.lowering.specs.Plans.{Plan}
 use Rattle.worlds.specs.Worlds.{Activation}
 use Rattle.interleavings.specs.declared.coming.Coming.TheVariants as coming
-use Rattle.interleavings.specs.declared.state.State.{State}
-use Rattle.interleavings.specs.declared.state.State.TheVariants as state
+use Rattle.interleavings.specs.declared.state.TypedState.{TypedState}
+use Rattle.interleavings.specs.declared.state.TypedState.TheVariants as state
 use Rattle.interleavings.specs.Working.States.{thread_of, world_of, IsTied}
 use Rattle.interleavings.specs.Working.Steps.{coming_at}
 use Rattle.interleavings.specs.Coming.{section_comes, open_comes, thread_comes, coming_to}
@@ -26,8 +26,8 @@ comes_ended a [] None some = absurd (some refl)
 comes_ended a [] (Some outcome) some = refl
 comes_ended a (lock ∷ rest) outcome some = refl
 
-module _ (plan : Plan) (m : Managed) (states : List State) (t : ℕ) (tied : IsTied plan m states) where
-  coming_by_state : (y : State) → slice_get states t ≡ Some y →
+module _ (plan : Plan) (m : Managed) (states : List TypedState) (t : ℕ) (tied : IsTied plan m states) where
+  coming_by_state : (y : TypedState) → slice_get states t ≡ Some y →
       coming_at y ≡ open_comes (thread_of y).step (thread_of y).active
   coming_by_state state.Away h = absurd (tied.at t state.Away h)
   coming_by_state (state.Ready r) h = refl
@@ -38,5 +38,5 @@ module _ (plan : Plan) (m : Managed) (states : List State) (t : ℕ) (tied : IsT
   coming_by_state (state.Ended o) h =
       sym (comes_ended o.activation o.activation.pending o.activation.outcome (tied.at t (state.Ended o) h).2)
 
-  pub coming_is : (y : State) → slice_get states t ≡ Some y → coming_at y ≡ coming_to (world_of m states) t
+  pub coming_is : (y : TypedState) → slice_get states t ≡ Some y → coming_at y ≡ coming_to (world_of m states) t
   coming_is y h = coming_by_state y h ∙ sym (ap thread_comes (map_at thread_of states t y h))

@@ -17,7 +17,7 @@ use Rattle.layout.specs.Layouts.{AreDistinct}
 use Rattle.code.specs.Memory.{value_at, overwritten, Agrees}
 use Rattle.moved_cells.specs.Working.Grants.{GrantOf, IsWhole, numbered, cells_in, locks_of}
 use Rattle.moved_cells.specs.Working.Laws.{OffsetsFindValues}
-use Rattle.runner_cells.specs.Working.Held.{cells_granted}
+use Rattle.runner_machine.specs.Working.Held.{cells_granted}
 use Rattle.history.specs.Commits.{committed}
 use Rattle.lock_manager.specs.Manager.{Managed}
 use Rattle.lock_manager.specs.Working.Managers.{IsKept}
@@ -67,7 +67,7 @@ numbered_only (d ∷ ds) (w ∷ ws) c v h = elim (eqb_tells d c) [
 
 -- ---- the cells of grants
 
--- a cell's value in one of the grants is its value in all of them, where each lock stands once
+-- a cell's value in one of the grants is its value in all of them, if their locks are distinct
 granted_value : (cell_locks : List Lock) (gs : List GrantOf) (g : GrantOf) (cell : ℕ) (v : Value) →
     AreDistinct (locks_of gs) → Contains gs g →
     slice_get cell_locks cell ≡ Some g.lock → value_at (cells_in cell_locks g) cell ≡ Some v → value_at (cells_granted cell_locks gs) cell ≡ Some v
@@ -118,7 +118,7 @@ are_own cell_locks held grants same whole = record {
   whole = whole;
 }
 
--- what a section wrote is of cells of its locks
+-- a section's writes are to cells of its locks
 own_writes : (plan : Plan) (a : Activation) → IsWell plan a →
     All (IsOwnWrite plan.layout.cell_locks a.held) a.machine.memory.writes
 own_writes plan a well = all_from (IsOwnWrite plan.layout.cell_locks a.held) a.machine.memory.writes (λ w c.

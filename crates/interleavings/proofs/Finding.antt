@@ -4,16 +4,16 @@ use Rattle.std.proofs.Common.{replicate, Option, Some, None, Result, Ok, Err, re
 use Rattle.std.proofs.lemmas.Bool.{and_parts}
 use Rattle.std.proofs.lemmas.List.{take_all, take_more, append-nil, take-append-drop, length-drop}
 use Rattle.lowering.specs.Plans.{Plan}
-use Rattle.source_steps.specs.declared.item.Item.{Item}
-use Rattle.source_steps.specs.declared.item.Until.{Until}
-use Rattle.source_steps.specs.declared.item.Until.TheVariants.{Count, Stop, CallEnd}
-use Rattle.source_steps.specs.declared.refusal.StepsFault.{StepsFault}
-use Rattle.source_steps.specs.declared.turn.Turn.{Turn}
-use Rattle.source_steps.specs.declared.refusal.StepsRefusal.{StepsRefusal}
-use Rattle.source_steps.specs.declared.refusal.StepsRefusal.TheVariants.{Fault, NoMemory}
-use Rattle.source_steps.specs.Steps.{in_front, most_steps, Answers, IfFault}
+use Rattle.input_files.specs.declared.item.Item.{Item}
+use Rattle.input_files.specs.declared.item.Until.{Until}
+use Rattle.input_files.specs.declared.item.Until.TheVariants.{Count, Stop, CallEnd}
+use Rattle.input_files.specs.declared.steps_refusal.StepsFault.{StepsFault}
+use Rattle.input_files.specs.declared.turn.Turn.{Turn}
+use Rattle.input_files.specs.declared.steps_refusal.StepsRefusal.{StepsRefusal}
+use Rattle.input_files.specs.declared.steps_refusal.StepsRefusal.TheVariants.{Fault, NoMemory}
+use Rattle.input_files.specs.Steps.{in_front, STEP_LIMIT, Answers, IfFault}
 use Rattle.std.specs.Prelude.{OnOk}
-use Rattle.source_steps.specs.Theory.Fronts.{in_front-both, in_front-nil}
+use Rattle.input_files.specs.Theory.Fronts.{in_front-both, in_front-nil}
 use Rattle.worlds.specs.Worlds.{World, world_after, opening_world}
 use Rattle.interleavings.specs.Threads.{ThreadsOf, at_opening}
 use Rattle.interleavings.specs.Items.{steps_until, turn_and, turns_from, turns_of}
@@ -23,7 +23,7 @@ use Rattle.interleavings.specs.declared.items.Finder.{Finder}
 
 -- ---- lists
 
--- with one item more, and others behind it
+-- with one item more, and others after it
 one_more : (items more : List Item) (i : ℕ) (d : Item) → i < length items →
     take (i + 1) items ++ more ≡ take i items ++ get_or items i d ∷ more
 one_more items more i d low =
@@ -41,7 +41,7 @@ parted_with : (items more : List Item) (i : ℕ) (d : Item) → i < length items
 parted_with items more i d low =
     ap (λ l. l ++ more) (parted items i d low) ∙ append_assoc (take i items) (get_or items i d ∷ drop (suc i) items) more
 
--- a fault behind turns
+-- a fault after turns
 fault_behind : (turns : List Turn) (said : Result (List Turn) StepsFault) (fault : StepsFault) →
     in_front turns said ≡ Err fault → said ≡ Err fault
 fault_behind turns (Ok more) fault is = absurd cc
@@ -185,13 +185,13 @@ counted_same plan left w (item ∷ items) are =
     (λ n. turns_from plan (left - n) (world_after plan w (replicate n item.thread)) items) (λ n. counted_turns (left - n) items)
     (λ n. counted_same plan (left - n) (world_after plan w (replicate n item.thread)) items parts.1)
 
--- what is behind a place
+-- what follows a place
 pub rest_is : (items : List Item) (len : ℕ) → len ≤ length items → take (length items - len) (drop len items) ≡ drop len items
 rest_is items len within = take_all (length items - len) (drop len items) (simp length-drop (omega arith))
 
 -- ---- all items
 
-module _ (plan : Plan) (items : List Item) (len : ℕ) (start : Finder) (opened : start.turns.items ≡ []) (full : start.left ≡ most_steps) where
+module _ (plan : Plan) (items : List Item) (len : ℕ) (start : Finder) (opened : start.turns.items ≡ []) (full : start.left ≡ STEP_LIMIT) where
   -- the fault of the first is that of all
   all_fault_first : (fault : StepsFault) → RunIsTooMuch (take len items) start (at_opening plan) fault → turns_of plan items ≡ Err fault
   all_fault_first fault is =

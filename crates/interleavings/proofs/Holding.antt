@@ -1,4 +1,4 @@
--- Which thread holds a lock, as the manager knows it and as the world shows it.
+-- The holder of a lock, by the manager and by the world.
 use Rattle.std.proofs.Common.{◌≡◌, ℕ, zero, suc, ◌+◌, true, false, if◌then◌else◌, List, [], ◌∷◌, map, Option, Some}
 use Rattle.std.proofs.Common.{None, inl, inr, refl, sym, ap, ◌∙◌, subst, arith, true≢false}
 use Rattle.std.specs.Prelude.{slice_get}
@@ -15,27 +15,27 @@ use Rattle.lock_manager.specs.Working.Managers.{IsKept, Holds, place_of, holder_
 use Rattle.runner.specs.Working.Opens.{OpenOf, session_of_open}
 use Rattle.locks.specs.Locks.{among}
 use Rattle.worlds.specs.Worlds.{World, ThreadState, Activation, HasOpen, holds, holder_from, holder}
-use Rattle.interleavings.specs.declared.state.State.{State}
-use Rattle.interleavings.specs.declared.state.State.TheVariants as state
+use Rattle.interleavings.specs.declared.state.TypedState.{TypedState}
+use Rattle.interleavings.specs.declared.state.TypedState.TheVariants as state
 use Rattle.interleavings.specs.Working.States.{thread_of, open_thread, session_of_state, session_at}
 use Rattle.locks.specs.Theory.Order.{contains_among, among_contains}
 use Rattle.core_lang.specs.Theory.Items.{lookup_some, some_same, map_at, map_back}
 
 -- ---- a state with an open section
 
-pub record ShowsOpen (x : State) : Type 0 where
+pub record ShowsOpen (x : TypedState) : Type 0 where
   pub section : OpenOf
   pub thread : thread_of x ≡ open_thread section
   pub session : session_of_state x ≡ Some (session_of_open section)
 
-by_thread : (x : State) (a : Activation) → (thread_of x).active ≡ Some a → ShowsOpen x
+by_thread : (x : TypedState) (a : Activation) → (thread_of x).active ≡ Some a → ShowsOpen x
 by_thread state.Away a e = absurd (none-some a e)
 by_thread (state.Ready r) a e = absurd (none-some a e)
 by_thread (state.Running o) a e = record { section = o; thread = refl; session = refl }
 by_thread (state.Asking o) a e = record { section = o; thread = refl; session = refl }
 by_thread (state.Ended o) a e = record { section = o; thread = refl; session = refl }
 
-by_session : (x : State) (s : SessionOf) → session_of_state x ≡ Some s → ShowsOpen x
+by_session : (x : TypedState) (s : SessionOf) → session_of_state x ≡ Some s → ShowsOpen x
 by_session state.Away s e = absurd (none-some s e)
 by_session (state.Ready r) s e = absurd (none-some s e)
 by_session (state.Running o) s e = record { section = o; thread = refl; session = refl }
@@ -44,9 +44,9 @@ by_session (state.Ended o) s e = record { section = o; thread = refl; session = 
 
 -- ---- over a world whose threads are these states, and slots that have their sessions
 
-module _ (w : World) (slots : List (Option SessionOf)) (states : List State) (threads : w.threads ≡ map thread_of states)
+module _ (w : World) (slots : List (Option SessionOf)) (states : List TypedState) (threads : w.threads ≡ map thread_of states)
     (sessions : (t : ℕ) → session_in slots t ≡ session_at states t) where
-  -- what a thread's section holds, its session holds
+  -- the session of a thread holds each lock that its section holds
   pub open_holds : (t : ℕ) (a : Activation) (lock : Lock) → HasOpen w t a → Contains a.held lock → Holds slots t lock
   open_holds t a lock (thread, at, active) c =
       let x = map_back thread_of states t thread (sym (ap (λ ts. slice_get ts t) threads) ∙ at) in
@@ -121,7 +121,7 @@ holding lock None e = absurd (true≢false (sym e))
 holding lock (Some a) e = (a, refl, e)
 
 -- the manager's holder of a lock is the world's
-module _ (m : Managed) (w : World) (states : List State) (kept : IsKept m) (threads : w.threads ≡ map thread_of states)
+module _ (m : Managed) (w : World) (states : List TypedState) (kept : IsKept m) (threads : w.threads ≡ map thread_of states)
     (sessions : (t : ℕ) → session_in m.slots t ≡ session_at states t)
     (apart : (t u : ℕ) (a b : Activation) (lock : Lock) → HasOpen w t a → HasOpen w u b → among a.held lock ≡ true → among b.held lock ≡ true → t ≡ u) where
   -- a thread that is found holds it

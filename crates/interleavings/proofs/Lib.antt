@@ -1,13 +1,17 @@
-pub mod Lists
-pub mod Numbers
-pub mod Holding
-pub mod Cells
-pub mod Ending
-pub mod Turning
-pub mod Opening
-pub mod Many
 pub mod Along
+pub mod Cells
 pub mod ComingTo
-pub mod Moving
-pub mod Stopping
+mod Contests
+mod Draws
+pub mod Ending
 pub mod Finding
+pub mod Holding
+pub mod Lists
+pub mod Many
+pub mod Moving
+pub mod Numbers
+pub mod Opening
+mod ReadBack
+mod SameTurns
+pub mod Stopping
+pub mod Turning

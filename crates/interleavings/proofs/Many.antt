@@ -6,9 +6,9 @@ use Rattle.std.specs.Prelude.{slice_get, Result, Ok, Err, OnErr}
 use Rattle.worlds.specs.declared.event.Event.{Event}
 use Rattle.worlds.specs.declared.event.Event.TheVariants.{Began}
 use Rattle.worlds.specs.Worlds.{World, happens, world_after}
-use Rattle.source_steps.specs.declared.turn.Turn.{Turn}
+use Rattle.input_files.specs.declared.turn.Turn.{Turn}
 use Rattle.interleavings.specs.Threads.{ThreadsOf, threads_of, with_steps, StopsAtBegin}
-use Rattle.source_steps.specs.Turns.{steps_of}
+use Rattle.input_files.specs.Turns.{steps_of}
 use Rattle.worlds.specs.Theory.Steps.{steps_more}
 
 pub replicate_push : (n t : ℕ) → replicate (suc n) t ≡ replicate n t ++ t ∷ []
@@ -53,7 +53,7 @@ one_turn_more first turns i d w next lt so_far step =
     (sym (steps_more first.plan first.world (steps_of (take i turns)) (replicate turn.count turn.thread))
     ∙ ap (world_after first.plan first.world) (sym (steps_of_push (take i turns) turn) ∙ ap steps_of (sym (take_more turns i d lt))))
 
--- ---- where the steps stop
+-- ---- the place at which the steps stop
 
 get_replicate : (n i t : ℕ) → i < n → slice_get (replicate n t) i ≡ Some t
 get_replicate zero i t lt = absurd (omega (arith, lt))
@@ -65,7 +65,7 @@ take_replicate n zero t le = refl
 take_replicate zero (suc i) t le = absurd (omega (arith, le))
 take_replicate (suc n) (suc i) t le = ap (λ xs. t ∷ xs) (take_replicate n i t (omega (arith, le)))
 
--- of a turn so many steps are left, and the next would begin a call
+-- a turn has the given number of steps left, and the next would begin a call
 pub stops_in_turn : (first w last : ThreadsOf) (count left t : ℕ) → left ≤ count → 0 < left →
     w ≡ with_steps first (replicate (count - left) t) → last ≡ w → (happens w.plan w.world t).0 ≡ Began →
     StopsAtBegin first (replicate count t) last
@@ -121,7 +121,7 @@ steps_of_split (x ∷ turns) (suc i) d lt =
     ∙ sym (append_assoc own (before ++ here) behind)
     ∙ ap (λ l. l ++ behind) (sym (append_assoc own before here))
 
--- what is said in any case is said where memory was wanting
+-- a claim that holds in any case holds after a failed allocation
 pub in_any_case : {A E P : Type 0} (r : Result A E) → P → OnErr r P
 in_any_case (Ok a) p = tt
 in_any_case (Err e) p = p

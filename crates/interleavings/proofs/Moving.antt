@@ -8,7 +8,7 @@ use Rattle.lowering.specs.Plans.{Plan}
 use Rattle.worlds.specs.declared.event.Event.TheVariants.{Moved}
 use Rattle.worlds.specs.Worlds.{World, ThreadState, Activation, call_at, holder, begins, asks, goes_on, steps_with, thread_steps, happens}
 use Rattle.worlds.specs.Waiting.{first_if}
-use Rattle.interleavings.specs.declared.status.Status.{Status}
+use Rattle.interleavings.specs.declared.status.ThreadStatus.{ThreadStatus}
 use Rattle.interleavings.specs.Statuses.{calling, asking, section_status, thread_status, status_of}
 use Rattle.interleavings.specs.Items.{is_stopped}
 use Rattle.interleavings.proofs.Ending.{no_ask}

@@ -1,4 +1,4 @@
--- Before any step.
+-- The world before any step.
 use Rattle.std.proofs.Common.{◌≡◌, ℕ, zero, suc, List, length, map, replicate, Some, None, inl, inr, refl, sym, ap, ◌∙◌}
 use Rattle.std.proofs.Common.{subst, arith}
 use Rattle.std.specs.Prelude.{slice_get}
@@ -14,8 +14,8 @@ use Rattle.lowering.specs.Plans.{Plan, IsCompiled}
 use Rattle.worlds.specs.Worlds.{at_first, scripts, script_of, opening_world}
 use Rattle.worlds.specs.Working.States.{IsSound, OpeningIsSound}
 use Rattle.worlds.specs.Working.Ahead.{IsReadyWorld, WorldsStayReady}
-use Rattle.interleavings.specs.declared.state.State.{State}
-use Rattle.interleavings.specs.declared.state.State.TheVariants as state
+use Rattle.interleavings.specs.declared.state.TypedState.{TypedState}
+use Rattle.interleavings.specs.declared.state.TypedState.TheVariants as state
 use Rattle.interleavings.specs.Working.States.{thread_of, session_of_state, session_at, IsAt, AreReady, cells_seen}
 use Rattle.interleavings.specs.Working.States.{world_of, IsTied}
 use Rattle.interleavings.proofs.Lists.{same_everywhere}
@@ -27,9 +27,9 @@ none_open zero t = refl
 none_open (suc n) zero = refl
 none_open (suc n) (suc t) = none_open n t
 
-module _ (plan : Plan) (m : Managed) (states : List State) (compiled : IsCompiled plan) (is : m ≡ opened plan.layout plan.ranks)
+module _ (plan : Plan) (m : Managed) (states : List TypedState) (compiled : IsCompiled plan) (is : m ≡ opened plan.layout plan.ranks)
     (ready : AreReady (length plan.program.threads.items) states) where
-  state_is : (t : ℕ) (x : State) → slice_get states t ≡ Some x → x ≡ state.Ready (record { thread = t; step = 0 })
+  state_is : (t : ℕ) (x : TypedState) → slice_get states t ≡ Some x → x ≡ state.Ready (record { thread = t; step = 0 })
   state_is t x h =
       some_same x (state.Ready (record { thread = t; step = 0 })) (sym h ∙ ready.each t (omega (arith, slice_get_within states t x h, ready.many)))
 

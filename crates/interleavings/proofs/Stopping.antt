@@ -5,7 +5,7 @@ use Rattle.lowering.specs.Plans.{Plan}
 use Rattle.worlds.specs.declared.event.Event.{Event}
 use Rattle.worlds.specs.declared.event.Event.TheVariants.{Moved, Ended}
 use Rattle.worlds.specs.Worlds.{World, happens, world_after}
-use Rattle.interleavings.specs.declared.status.Status.{Status}
+use Rattle.interleavings.specs.declared.status.ThreadStatus.{ThreadStatus}
 use Rattle.interleavings.specs.Statuses.{status_of}
 use Rattle.interleavings.specs.Threads.{ThreadsOf, with_steps}
 use Rattle.interleavings.specs.Items.{is_idle, is_stopped, one_and, until_stop, until_call_end}
@@ -77,7 +77,7 @@ module _ (plan : Plan) (t : ℕ) where
 
 -- ---- `T!`, from a place on the way
 
--- so many steps were taken, and the rest are those from here on
+-- the given number of steps was taken, and the rest are those from here on
 pub record OnTheWay (t left count : ℕ) (first now : ThreadsOf) : Type 0 where
   pub within : count ≤ left
   pub so_far : now ≡ with_steps first (replicate count t)
@@ -93,7 +93,7 @@ at_first t left first =
           ∙ ap (λ n. plus 0 (until_stop first.plan t n first.world)) number;
     }
 
-module _ (t left count : ℕ) (first now : ThreadsOf) (way : OnTheWay t left count first now) (s : Status) (b : Bool)
+module _ (t left count : ℕ) (first now : ThreadsOf) (way : OnTheWay t left count first now) (s : ThreadStatus) (b : Bool)
     (stands : s ≡ status_of now.plan now.world t) (tested : b ≡ is_stopped s) where
   same_plan : now.plan ≡ first.plan
   same_plan = ap (λ (w : ThreadsOf). w.plan) way.so_far
@@ -155,7 +155,7 @@ module _ (t left count : ℕ) (first now : ThreadsOf) (way : OnTheWay t left cou
 
 -- ---- `T+`
 
-module _ (t left : ℕ) (first : ThreadsOf) (s : Status) (b : Bool)
+module _ (t left : ℕ) (first : ThreadsOf) (s : ThreadStatus) (b : Bool)
     (stands : s ≡ status_of first.plan first.world t) (tested : b ≡ is_idle s) where
   status_first : (x : Bool) → b ≡ x → is_idle (status_of first.plan first.world t) ≡ x
   status_first x is = ap is_idle (sym stands) ∙ sym tested ∙ is

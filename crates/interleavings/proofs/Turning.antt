@@ -1,4 +1,5 @@
--- One step of a thread's state is one step of the thread in the world, and keeps the manager and the states tied.
+-- One step of a thread's state is one step of the thread in the world, and keeps the manager and the states in
+-- agreement.
 use Rattle.std.proofs.Common.{◌≡◌, ◌≢◌, ℕ, ◌+◌, ◌<◌, ◌^◌, true, List, [], ◌∷◌, ◌++◌, length, map, set, Option, Some}
 use Rattle.std.proofs.Common.{None, inl, inr, refl, sym, ap, ◌∙◌, subst, arith}
 use Rattle.std.specs.Prelude.{slice_get, Result, Ok, Err, IfOk, OnErr}
@@ -36,8 +37,8 @@ use Rattle.worlds.specs.Worlds.{taken, commit, call_at, holder, begins, goes_on,
 use Rattle.worlds.specs.Worlds.{happens, with_active}
 use Rattle.worlds.specs.Working.States.{IsSound, StepsKeepSound}
 use Rattle.worlds.specs.Working.Ahead.{IsReadyWorld, WorldsStayReady}
-use Rattle.interleavings.specs.declared.state.State.{State}
-use Rattle.interleavings.specs.declared.state.State.TheVariants as state
+use Rattle.interleavings.specs.declared.state.TypedState.{TypedState}
+use Rattle.interleavings.specs.declared.state.TypedState.TheVariants as state
 use Rattle.interleavings.specs.Working.States.{state_of, open_thread, thread_of, session_of_state, session_at, IsOf}
 use Rattle.interleavings.specs.Working.States.{IsAt, cells_seen, world_of, IsTied}
 use Rattle.interleavings.specs.Working.Steps.{Begun, Moved, Got, Refused, Over, Stays, ReadySteps, RunningSteps}
@@ -50,11 +51,11 @@ use Rattle.interleavings.proofs.Ending.{can_end, step_within, no_ask}
 use Rattle.core_lang.specs.Theory.Items.{set_same, some_same, map_at, set_other, set_itself}
 use Rattle.layout.specs.Theory.Numbers.{distinct_none, distinct_push}
 
--- ---- what a step gives, piece by piece
+-- ---- the result of a step, piece by piece
 
 -- the world's step leads to a world with the history of the manager and the threads of the states; of the sessions only
 -- the thread's has changed, and its state is right
-record Turn (plan : Plan) (m : Managed) (states : List State) (t : ℕ) (e : Event) (x : State) (m' : Managed) : Type 0 where
+record Turn (plan : Plan) (m : Managed) (states : List TypedState) (t : ℕ) (e : Event) (x : TypedState) (m' : Managed) : Type 0 where
   after : World
   step : happens plan (world_of m states) t ≡ (e, after)
   history : after.history ≡ m'.history
@@ -65,19 +66,19 @@ record Turn (plan : Plan) (m : Managed) (states : List State) (t : ℕ) (e : Eve
   others : (u : ℕ) → t ≢ u → session_in m'.slots u ≡ session_in m.slots u
   at : IsAt plan t x
 
-pub record Done (plan : Plan) (m : Managed) (states : List State) (t : ℕ) (e : Event) (x : State) (m' : Managed) : Type 0 where
+pub record Done (plan : Plan) (m : Managed) (states : List TypedState) (t : ℕ) (e : Event) (x : TypedState) (m' : Managed) : Type 0 where
   pub step : happens plan (world_of m states) t ≡ (e, world_of m' (set states t x))
   pub tied : IsTied plan m' (set states t x)
 
-session_at_set : (states : List State) (t : ℕ) (x : State) → t < length states →
+session_at_set : (states : List TypedState) (t : ℕ) (x : TypedState) → t < length states →
     session_at (set states t x) t ≡ session_of_state x
 session_at_set states t x lt = ap (λ o. lookup o session_of_state) (set_same states t x lt)
 
-session_at_other : (states : List State) (t u : ℕ) (x : State) → t ≢ u →
+session_at_other : (states : List TypedState) (t u : ℕ) (x : TypedState) → t ≢ u →
     session_at (set states t x) u ≡ session_at states u
 session_at_other states t u x ne = ap (λ o. lookup o session_of_state) (set_other states t u x ne)
 
-done_with : (plan : Plan) (m : Managed) (states : List State) (t : ℕ) (y : State) (e : Event) (x : State) (m' : Managed) →
+done_with : (plan : Plan) (m : Managed) (states : List TypedState) (t : ℕ) (y : TypedState) (e : Event) (x : TypedState) (m' : Managed) →
     CommittedKeepsSize → StepsKeepSound → WorldsStayReady → IsTied plan m states → IsKept m' → slice_get states t ≡ Some y →
     Turn plan m states t e x m' → Done plan m states t e x m'
 done_with plan m states t y e x m' size sound ready tied kept here k =
@@ -122,7 +123,7 @@ done_with plan m states t y e x m' size sound ready tied kept here k =
 
 -- ---- small facts
 
-pub at_thread : (plan : Plan) (m : Managed) (states : List State) (t : ℕ) (y : State) → slice_get states t ≡ Some y →
+pub at_thread : (plan : Plan) (m : Managed) (states : List TypedState) (t : ℕ) (y : TypedState) → slice_get states t ≡ Some y →
     happens plan (world_of m states) t ≡ steps_with plan (world_of m states) t (thread_of y) (thread_of y).active
 at_thread plan m states t y h = ap (thread_steps plan (world_of m states) t) (map_at thread_of states t y h)
 
@@ -165,14 +166,14 @@ same_asking f g same (Some lock) = ap (wanting lock) (same lock)
 
 -- ---- over a tied world, and the state of one of its threads
 
-module _ (plan : Plan) (m : Managed) (states : List State) (t : ℕ) (tied : IsTied plan m states) (kept : IsKept m) where
+module _ (plan : Plan) (m : Managed) (states : List TypedState) (t : ℕ) (tied : IsTied plan m states) (kept : IsKept m) where
   few_threads : t < length states → t < 64
   few_threads lt = omega (arith, lt, tied.many, tied.compiled.well_formed.within.threads)
 
   slot_there : t < length states → t < length m.slots
   slot_there lt = let few = few_threads lt in let count : length m.slots ≡ 64 = kept.thread_count in omega (arith, few, count)
 
-  session_here : (y : State) → slice_get states t ≡ Some y → session_in m.slots t ≡ session_of_state y
+  session_here : (y : TypedState) → slice_get states t ≡ Some y → session_in m.slots t ≡ session_of_state y
   session_here y h = tied.sessions t ∙ ap (λ r. lookup r session_of_state) h
 
   slot_same : (s : Option SessionOf) (u : ℕ) → t < length states → u ≡ t → session_in (set m.slots u s) t ≡ s
@@ -182,18 +183,18 @@ module _ (plan : Plan) (m : Managed) (states : List State) (t : ℕ) (tied : IsT
   slot_other : (s : Option SessionOf) (u v : ℕ) → u ≡ t → t ≢ v → session_in (set m.slots u s) v ≡ session_in m.slots v
   slot_other s u v e ne = ap (λ r. lookup r (λ x. x)) (set_other m.slots u v s (λ q. ne (sym e ∙ q)))
 
-  threads_set : (x : State) (thread : ThreadState) → thread ≡ thread_of x →
+  threads_set : (x : TypedState) (thread : ThreadState) → thread ≡ thread_of x →
       set (map thread_of states) t thread ≡ map thread_of (set states t x)
   threads_set x thread e = ap (set (map thread_of states) t) e ∙ sym (map-set thread_of states t x)
 
-  open_in : (y : State) (o : OpenOf) → slice_get states t ≡ Some y → thread_of y ≡ open_thread o →
+  open_in : (y : TypedState) (o : OpenOf) → slice_get states t ≡ Some y → thread_of y ≡ open_thread o →
       HasOpen (world_of m states) t o.activation
   open_in y o h e = (thread_of y, map_at thread_of states t y h, ap (λ (q : ThreadState). q.active) e)
 
   holder_there : (lock : Lock) → holder (world_of m states) lock ≡ holder_of m lock
   holder_there lock = holder_is m (world_of m states) states kept refl tied.sessions tied.sound.apart lock
 
-  stays : (y : State) → slice_get states t ≡ Some y →
+  stays : (y : TypedState) → slice_get states t ≡ Some y →
       happens plan (world_of m states) t ≡ (event.Idle, world_of m states) → Turn plan m states t event.Idle y m
   stays y h step = record {
     after = world_of m states;
@@ -217,7 +218,7 @@ module _ (plan : Plan) (m : Managed) (states : List State) (t : ℕ) (tied : IsT
       (at_thread plan m states t (state.Ready r) h
       ∙ ap (begins plan (world_of m states) t (thread_of (state.Ready r))) (ap (λ u. call_at plan u r.step) (sym here) ∙ none))
 
-  begun : (r : ReadyOf) (x : State) (m' : Managed) → slice_get states t ≡ Some (state.Ready r) → Begun plan m r x m' →
+  begun : (r : ReadyOf) (x : TypedState) (m' : Managed) → slice_get states t ≡ Some (state.Ready r) → Begun plan m r x m' →
       Turn plan m states t event.Began x m'
   begun r x m' h b =
       let here : r.thread ≡ t = tied.at t (state.Ready r) h in
@@ -231,7 +232,7 @@ module _ (plan : Plan) (m : Managed) (states : List State) (t : ℕ) (tied : IsT
       let call : call_at plan t r.step ≡ Some b.call = ap (λ u. call_at plan u r.step) (sym here) ∙ b.call_is in
       let at : IsAt plan t (state.Running o) = subst (λ (q : OpenOf). IsAt plan t (state.Running q)) (sym is)
       (record { plan_is = refl; thread = here; call = call; once = distinct_none }, refl, refl) in
-      subst (λ (z : State). Turn plan m states t event.Began z m') (sym b.state_is) (record {
+      subst (λ (z : TypedState). Turn plan m states t event.Began z m') (sym b.state_is) (record {
         after = with_active (world_of m states) t (thread_of (state.Ready r)) a;
         step = at_thread plan m states t (state.Ready r) h ∙ ap (begins plan (world_of m states) t (thread_of (state.Ready r))) call;
         history = sym (ap (λ (q : Managed). q.history) manager);
@@ -245,7 +246,7 @@ module _ (plan : Plan) (m : Managed) (states : List State) (t : ℕ) (tied : IsT
 
   -- ---- an instruction
 
-  moves : (o : OpenOf) (x : State) (m' : Managed) → slice_get states t ≡ Some (state.Running o) → Moved m o x m' →
+  moves : (o : OpenOf) (x : TypedState) (m' : Managed) → slice_get states t ≡ Some (state.Running o) → Moved m o x m' →
       Turn plan m states t event.Moved x m'
   moves o x m' h k =
       let here = tied.at t (state.Running o) h in
@@ -260,7 +261,7 @@ module _ (plan : Plan) (m : Managed) (states : List State) (t : ℕ) (tied : IsT
         call = here.0.call ∙ ap Some (sym keeps.call);
         once = subst AreDistinct (sym keeps.held) here.0.once;
       } in
-      subst (λ (z : State). Turn plan m states t event.Moved z m') (sym k.state_is) (record {
+      subst (λ (z : TypedState). Turn plan m states t event.Moved z m') (sym k.state_is) (record {
         after = with_active w t (open_thread o) b;
         step = at_thread plan m states t (state.Running o) h
             ∙ ap (λ z. goes_on plan w t (open_thread o) a z a.outcome) here.1
@@ -285,7 +286,7 @@ module _ (plan : Plan) (m : Managed) (states : List State) (t : ℕ) (tied : IsT
       strict.not_itself plan.ranks lock
       (ready.rises plan (world_of m states) tied.ready t o.activation lock lock rest (open_in (state.Asking o) o h refl) pending c)
 
-  got : (o : OpenOf) (lock : Lock) (x : State) (m' : Managed) → CommittedKeepsSize → WorldsStayReady →
+  got : (o : OpenOf) (lock : Lock) (x : TypedState) (m' : Managed) → CommittedKeepsSize → WorldsStayReady →
       PrecedesIsStrict → slice_get states t ≡ Some (state.Asking o) →
       Got m o lock x m' → Turn plan m states t (event.Got lock) x m'
   got o lock x m' size ready strict h k =
@@ -311,7 +312,7 @@ module _ (plan : Plan) (m : Managed) (states : List State) (t : ℕ) (tied : IsT
         call = here.0.call;
         once = distinct_push a.held g.lock here.0.once (new_lock o g.lock g.rest ready strict h g.pending);
       } in
-      subst (λ (z : State). Turn plan m states t (event.Got lock) z m') (sym k.state_is) (record {
+      subst (λ (z : TypedState). Turn plan m states t (event.Got lock) z m') (sym k.state_is) (record {
         after = (asks plan w t (open_thread o) a g.lock g.rest None).1;
         step = at_thread plan m states t (state.Asking o) h
             ∙ ap (λ z. goes_on plan w t (open_thread o) a z a.outcome) g.pending
@@ -327,7 +328,7 @@ module _ (plan : Plan) (m : Managed) (states : List State) (t : ℕ) (tied : IsT
         at = named_at plan t k.next k.named (subst (IsOf plan t) (sym is) base);
       })
 
-  refused : (o : OpenOf) (lock : Lock) (h : ℕ) (x : State) (m' : Managed) → slice_get states t ≡ Some (state.Asking o) →
+  refused : (o : OpenOf) (lock : Lock) (h : ℕ) (x : TypedState) (m' : Managed) → slice_get states t ≡ Some (state.Asking o) →
       Refused m o lock h x m' → Turn plan m states t (event.Waits lock h) x m'
   refused o lock holding x m' h k =
       let here = tied.at t (state.Asking o) h in
@@ -343,7 +344,7 @@ module _ (plan : Plan) (m : Managed) (states : List State) (t : ℕ) (tied : IsT
       (let ask : Some g.lock ≡ first_if true a.pending = sym (ap (first_if true) g.pending) in λ i. record { begun = a.begun; held = a.held; ask = ask i; room = o.room }) in
       let base : IsAt plan t (state.Asking (further o b)) =
       (record { plan_is = here.0.plan_is; thread = here.0.thread; call = here.0.call; once = here.0.once }, here.1, here.2) in
-      subst (λ (z : State). Turn plan m states t (event.Waits lock holding) z m') (sym k.state_is) (record {
+      subst (λ (z : TypedState). Turn plan m states t (event.Waits lock holding) z m') (sym k.state_is) (record {
         after = with_active w t (open_thread o) b;
         step = at_thread plan m states t (state.Asking o) h
             ∙ ap (λ z. goes_on plan w t (open_thread o) a z a.outcome) g.pending
@@ -361,7 +362,7 @@ module _ (plan : Plan) (m : Managed) (states : List State) (t : ℕ) (tied : IsT
 
   -- ---- the end
 
-  over : (o : OpenOf) (position : ℕ) (x : State) (m' : Managed) → slice_get states t ≡ Some (state.Ended o) →
+  over : (o : OpenOf) (position : ℕ) (x : TypedState) (m' : Managed) → slice_get states t ≡ Some (state.Ended o) →
       Over m o position x m' → Turn plan m states t (event.Ended position) x m'
   over o position x m' h k =
       let here = tied.at t (state.Ended o) h in
@@ -374,7 +375,7 @@ module _ (plan : Plan) (m : Managed) (states : List State) (t : ℕ) (tied : IsT
       let manager = g.releases.manager in
       let entry : commit o.thread o.step a g.outcome ≡ commit t o.step a g.outcome = ap (λ u. commit u o.step a g.outcome) here.0.thread in
       let at : length m.history ≡ position = sym g.releases.position ∙ k.position_is in
-      subst (λ (z : State). Turn plan m states t (event.Ended position) z m') (sym k.state_is) (record {
+      subst (λ (z : TypedState). Turn plan m states t (event.Ended position) z m') (sym k.state_is) (record {
         after = (ends w t (open_thread o) a g.outcome).1;
         step = at_thread plan m states t (state.Ended o) h
             ∙ ap (λ z. goes_on plan w t (open_thread o) a z a.outcome) here.1
@@ -391,31 +392,31 @@ module _ (plan : Plan) (m : Managed) (states : List State) (t : ℕ) (tied : IsT
 
   -- ---- any step
 
-  ready_turn : (r : ReadyOf) (e : Event) (x : State) (m' : Managed) → slice_get states t ≡ Some (state.Ready r) →
+  ready_turn : (r : ReadyOf) (e : Event) (x : TypedState) (m' : Managed) → slice_get states t ≡ Some (state.Ready r) →
       ReadySteps plan m r e x m' → Turn plan m states t e x m'
   ready_turn r event.Idle x m' h (none, (is, same)) =
-      subst (λ (z : State). Turn plan m states t event.Idle z m') (sym is) (subst (Turn plan m states t event.Idle (state.Ready r)) (sym same) (idles r h none))
+      subst (λ (z : TypedState). Turn plan m states t event.Idle z m') (sym is) (subst (Turn plan m states t event.Idle (state.Ready r)) (sym same) (idles r h none))
   ready_turn r event.Began x m' h s = begun r x m' h s
   ready_turn r _ x m' h s = absurd s
 
-  running_turn : (o : OpenOf) (e : Event) (x : State) (m' : Managed) → slice_get states t ≡ Some (state.Running o) →
+  running_turn : (o : OpenOf) (e : Event) (x : TypedState) (m' : Managed) → slice_get states t ≡ Some (state.Running o) →
       RunningSteps m o e x m' → Turn plan m states t e x m'
   running_turn o event.Moved x m' h s = moves o x m' h s
   running_turn o _ x m' h s = absurd s
 
-  asking_turn : (o : OpenOf) (e : Event) (x : State) (m' : Managed) → CommittedKeepsSize → WorldsStayReady →
+  asking_turn : (o : OpenOf) (e : Event) (x : TypedState) (m' : Managed) → CommittedKeepsSize → WorldsStayReady →
       PrecedesIsStrict → slice_get states t ≡ Some (state.Asking o) →
       AskingSteps m o e x m' → Turn plan m states t e x m'
   asking_turn o (event.Got lock) x m' size ready strict h s = got o lock x m' size ready strict h s
   asking_turn o (event.Waits lock holding) x m' size ready strict h s = refused o lock holding x m' h s
   asking_turn o _ x m' size ready strict h s = absurd s
 
-  ended_turn : (o : OpenOf) (e : Event) (x : State) (m' : Managed) → slice_get states t ≡ Some (state.Ended o) →
+  ended_turn : (o : OpenOf) (e : Event) (x : TypedState) (m' : Managed) → slice_get states t ≡ Some (state.Ended o) →
       EndedSteps m o e x m' → Turn plan m states t e x m'
   ended_turn o (event.Ended position) x m' h s = over o position x m' h s
   ended_turn o _ x m' h s = absurd s
 
-  turn : (y : State) (e : Event) (x : State) (m' : Managed) → CommittedKeepsSize → WorldsStayReady →
+  turn : (y : TypedState) (e : Event) (x : TypedState) (m' : Managed) → CommittedKeepsSize → WorldsStayReady →
       PrecedesIsStrict → slice_get states t ≡ Some y →
       Steps plan m y e x m' → Turn plan m states t e x m'
   turn state.Away e x m' size ready strict h s = absurd s
@@ -424,14 +425,14 @@ module _ (plan : Plan) (m : Managed) (states : List State) (t : ℕ) (tied : IsT
   turn (state.Asking o) e x m' size ready strict h s = asking_turn o e x m' size ready strict h s
   turn (state.Ended o) e x m' size ready strict h s = ended_turn o e x m' h s
 
-  pub done : (y : State) (e : Event) (x : State) (m' : Managed) → CommittedKeepsSize → StepsKeepSound →
+  pub done : (y : TypedState) (e : Event) (x : TypedState) (m' : Managed) → CommittedKeepsSize → StepsKeepSound →
       WorldsStayReady → PrecedesIsStrict → IsKept m' →
       slice_get states t ≡ Some y → Steps plan m y e x m' → Done plan m states t e x m'
   done y e x m' size sound ready strict kept' h s = done_with plan m states t y e x m' size sound ready tied kept' h (turn y e x m' size ready strict h s)
 
-  -- ---- what a step needs
+  -- ---- requirements of a step
 
-  knows : (y : State) (o : OpenOf) → slice_get states t ≡ Some y → session_of_state y ≡ Some (session_of_open o) →
+  knows : (y : TypedState) (o : OpenOf) → slice_get states t ≡ Some y → session_of_state y ≡ Some (session_of_open o) →
       o.thread ≡ t →
       session_of m o.thread ≡ Some (session_of_open o)
   knows y o h session here = ap (session_in m.slots) here ∙ session_here y h ∙ session
@@ -439,7 +440,7 @@ module _ (plan : Plan) (m : Managed) (states : List State) (t : ℕ) (tied : IsT
   step_fits : (o : OpenOf) → IsOf plan t o → o.step + 1 < 2 ^ 64
   step_fits o of = let few = step_within plan t o.step o.activation.call tied.compiled of.call in omega (arith, few)
 
-  pub can_step : (y : State) → OffsetsFindValues → slice_get states t ≡ Some y → CanStep m y
+  pub can_step : (y : TypedState) → OffsetsFindValues → slice_get states t ≡ Some y → CanStep m y
   can_step state.Away find h = tied.at t state.Away h
   can_step (state.Ready r) find h =
       let here : r.thread ≡ t = tied.at t (state.Ready r) h in
@@ -466,7 +467,7 @@ module _ (plan : Plan) (m : Managed) (states : List State) (t : ℕ) (tied : IsT
 
   -- ---- statuses
 
-  status_by_state : (y : State) → slice_get states t ≡ Some y →
+  status_by_state : (y : TypedState) → slice_get states t ≡ Some y →
       status_at plan m y ≡ section_status plan (world_of m states) t (thread_of y).step (thread_of y).active
   status_by_state state.Away h = absurd (tied.at t state.Away h)
   status_by_state (state.Ready r) h = ap (λ u. calling (call_at plan u r.step)) (tied.at t (state.Ready r) h)
@@ -477,21 +478,21 @@ module _ (plan : Plan) (m : Managed) (states : List State) (t : ℕ) (tied : IsT
   status_by_state (state.Ended o) h =
       sym (ap (asking (holder (world_of m states))) (ap (first_if o.activation.asked) (tied.at t (state.Ended o) h).1 ∙ no_ask o.activation.asked))
 
-  pub status_is : (y : State) → slice_get states t ≡ Some y → status_at plan m y ≡ status_of plan (world_of m states) t
+  pub status_is : (y : TypedState) → slice_get states t ≡ Some y → status_at plan m y ≡ status_of plan (world_of m states) t
   status_is y h = status_by_state y h ∙ sym (ap (thread_status plan (world_of m states) t) (map_at thread_of states t y h))
 
--- ---- where memory was wanting, all stays
+-- ---- if memory ran out, nothing changes
 
-only_stays : (plan : Plan) (m : Managed) (y x : State) (m' : Managed) → Refuses plan m y x m' → Stays m y x m'
+only_stays : (plan : Plan) (m : Managed) (y x : TypedState) (m' : Managed) → Refuses plan m y x m' → Stays m y x m'
 only_stays plan m state.Away x m' s = absurd s
 only_stays plan m (state.Ready r) x m' s = s.1
 only_stays plan m (state.Running o) x m' s = absurd s
 only_stays plan m (state.Asking o) x m' s = absurd s
 only_stays plan m (state.Ended o) x m' s = absurd s
 
--- ---- a step, or want of memory
+-- ---- a step, or a failed allocation
 
-module _ (plan : Plan) (m : Managed) (states last : List State) (t : ℕ) (y x : State) (m' : Managed) (now : ThreadsOf)
+module _ (plan : Plan) (m : Managed) (states last : List TypedState) (t : ℕ) (y x : TypedState) (m' : Managed) (now : ThreadsOf)
     (tied : IsTied plan m states) (kept : IsKept m) (kept' : IsKept m') (size : CommittedKeepsSize) (sound : StepsKeepSound) (ready : WorldsStayReady)
     (strict : PrecedesIsStrict) (here : slice_get states t ≡ Some y) (is : last ≡ set states t x) (view : threads_of plan (world_of m states) ≡ now) where
   stayed : (e : NoMemory) → Stepped plan m y (Err e) x m' →
@@ -513,7 +514,7 @@ module _ (plan : Plan) (m : Managed) (states last : List State) (t : ℕ) (y x :
   stepped_ok (Ok e) s =
       sym (ap (λ (w : ThreadsOf). happens w.plan w.world t) view)
       ∙ (done plan m states t tied kept y e x m' size sound ready strict kept' here s).step
-      ∙ ap (λ (ss : List State). (e, world_of m' ss)) (sym is)
+      ∙ ap (λ (ss : List TypedState). (e, world_of m' ss)) (sym is)
   stepped_ok (Err e) s = tt
 
   pub stepped_err : (r : Result Event NoMemory) → Stepped plan m y r x m' →
@@ -521,7 +522,7 @@ module _ (plan : Plan) (m : Managed) (states last : List State) (t : ℕ) (y x :
   stepped_err (Ok e) s = tt
   stepped_err (Err e) s = stayed e s ∙ view
 
-  begins_now : (z : State) → slice_get states t ≡ Some z → Refuses plan m z x m' →
+  begins_now : (z : TypedState) → slice_get states t ≡ Some z → Refuses plan m z x m' →
       (happens plan (world_of m states) t).0 ≡ event.Began
   begins_now state.Away h s = absurd s
   begins_now (state.Ready r) h s =

@@ -11,22 +11,23 @@ pub record ThreadsOf : Type 0 where
   pub plan : Plan
   pub world : World
 
+-- a plan and a world as threads
 abbrev pub threads_of : Plan → World → ThreadsOf
 threads_of plan world = record { plan = plan; world = world }
 
--- before any step
+-- the threads before any step
 abbrev pub at_opening : Plan → ThreadsOf
 at_opening plan = threads_of plan (opening_world plan)
 
--- after these steps from the opening
+-- the threads after these steps from the opening
 abbrev pub after_steps : Plan → List ℕ → ThreadsOf
 after_steps plan steps = threads_of plan (final plan steps)
 
--- after these further steps
+-- the threads after these further steps
 abbrev pub with_steps : ThreadsOf → List ℕ → ThreadsOf
 with_steps w steps = threads_of w.plan (world_after w.plan w.world steps)
 
--- the steps stopped ahead of one that would have begun a call; those before it were taken
+-- the steps stopped before one that would have begun a call; those before it were taken
 pub record StopsAtBegin (first : ThreadsOf) (steps : List ℕ) (last : ThreadsOf) : Type 0 where
   pub taken : ℕ
   pub thread : ℕ
@@ -34,6 +35,6 @@ pub record StopsAtBegin (first : ThreadsOf) (steps : List ℕ) (last : ThreadsOf
   pub stands : last ≡ with_steps first (take taken steps)
   pub begins : (happens last.plan last.world thread).0 ≡ Began
 
--- what a cell holds, unless a section holds it
+-- the value of a cell, unless a section holds it
 abbrev pub cell_in : World → ℕ → Option Value
 cell_in w cell = lookup (slice_get w.cells cell) (λ (v : Option Value). v)

@@ -1,5 +1,7 @@
--- What the code computes and values of its types, for proofs and for the crates above. Nobody has to believe these files: no promise
--- cites them.
+-- What the code computes, and values of its types, for proofs and for the crates above. Nobody has to believe these
+-- files: no promise cites them.
+pub mod Contests
+pub mod Draws
+pub mod Found
 pub mod States
 pub mod Steps
-pub mod Found

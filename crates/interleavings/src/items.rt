@@ -1,40 +1,41 @@
-//! The turns that the items of a steps file come to.
+//! The turns of the items of a steps file.
 
 ghost use Rattle.std.specs.Prelude.{◌≡◌, ◌≤◌, ⊤, length, drop, replicate, true, IfOk, OnOk, MatchOption};
-ghost use Rattle.source_steps.specs.Steps.{Answers, IfFault};
+ghost use Rattle.input_files.specs.Steps.{Answers, IfFault};
 ghost use Rattle.interleavings.specs.Items.{is_idle, is_stopped, until_stop, until_call_end, steps_until, turns_of};
 ghost use Rattle.interleavings.specs.Working.Found.{is_end, Takes, is_counted, are_counted, count_within, Adds, IsTooMuch};
 ghost use Rattle.interleavings.specs.Working.Found.{RunsItems, RunsFromOpening, RunIsTooMuch, CountsItems, CountIsTooMuch};
 ghost use Rattle.interleavings.specs.Threads.{at_opening, with_steps};
 
-use crate::status::Status;
+use crate::status::ThreadStatus;
 use crate::world::World;
+use input_files::item::{Item, Until};
+use input_files::steps_refusal::{StepsCode, StepsFault, StepsRefusal};
+use input_files::turn::Turn;
 use lowering::compiled::Program;
+use source::limits;
 use source::memory::NoMemory;
-use source_steps::item::{Item, Until};
-use source_steps::refusal::{StepsCode, StepsFault, StepsRefusal};
-use source_steps::turn::Turn;
 use std::alloc::Global;
 use worlds::event::Event;
 
-// How many steps a file may come to.
-const MOST_STEPS: usize = 10_000_000;
+// The most steps of a file.
+const STEP_LIMIT: usize = limits::STEP_LIMIT as usize;
 
-fn is_idle(status: Status) -> bool
+fn is_idle(status: ThreadStatus) -> bool
     ensures { result ≡ is_idle status }
 {
     match status {
-        Status::Idle => true,
-        Status::Ready | Status::Waits(_, _) | Status::Running => false,
+        ThreadStatus::Idle => true,
+        ThreadStatus::Ready | ThreadStatus::Waits(_, _) | ThreadStatus::Running => false,
     }
 }
 
-fn is_stopped(status: Status) -> bool
+fn is_stopped(status: ThreadStatus) -> bool
     ensures { result ≡ is_stopped status }
 {
     match status {
-        Status::Idle | Status::Waits(_, _) => true,
-        Status::Ready | Status::Running => false,
+        ThreadStatus::Idle | ThreadStatus::Waits(_, _) => true,
+        ThreadStatus::Ready | ThreadStatus::Running => false,
     }
 }
 
@@ -48,7 +49,7 @@ fn is_end(event: Event) -> bool
 }
 
 impl World<'_> {
-    // Takes the steps of `T!` and says how many they are, if at most so many are. Of more it takes some.
+    // Takes the steps of `T!` and returns their number, if it is at most `most`. If it is more, some are taken.
     fn until_stop(
         &mut self,
         alloc: Global,
@@ -76,7 +77,7 @@ impl World<'_> {
         }
     }
 
-    // The same of `T+`.
+    // Takes the steps of `T+` in the same way.
     fn until_call_end(
         &mut self,
         alloc: Global,
@@ -103,11 +104,11 @@ impl World<'_> {
         }
     }
 
-    /// Takes the steps of an item and says how many they are, if at most so many are. Of more it takes some.
+    /// Takes the steps of an item and returns their number, if it is at most `most`. If it is more, some are taken.
     ///
     /// # Errors
     ///
-    /// Want of memory, only where a step would begin a call; some of the steps before that one are taken.
+    /// Out of memory, only for a step that would begin a call. Some of the steps before it are taken.
     pub fn steps_until(
         &mut self,
         alloc: Global,
@@ -134,7 +135,7 @@ impl World<'_> {
     }
 }
 
-// Whether it counts its steps, so that no run is needed.
+// Whether the item counts its steps, so that no run is needed.
 fn is_counted(until: Until) -> bool
     ensures { result ≡ is_counted until }
 {
@@ -144,7 +145,7 @@ fn is_counted(until: Until) -> bool
     }
 }
 
-/// How many items there are up to the last whose steps a run has to find.
+/// The number of items up to the last one whose steps only a run can find.
 fn uncounted_len(items: &[Item]) -> usize
     ensures within { result ≤ length items.now }
     ensures rest { are_counted (drop result items.now) ≡ true }
@@ -156,7 +157,7 @@ fn uncounted_len(items: &[Item]) -> usize
     len
 }
 
-// How many steps an item counts, if so many are left.
+// The number of steps that an item counts, if at least that many are left.
 fn count_within(until: Until, left: usize) -> Option<usize>
     ensures count { result ≡ count_within left until }
     ensures within { MatchOption result ⊤ (λ n. n ≤ left) }
@@ -167,7 +168,7 @@ fn count_within(until: Until, left: usize) -> Option<usize>
     }
 }
 
-/// Turns that are found, and how many steps are left.
+/// The turns that were found, and the number of steps left.
 #[derive(Drop)]
 struct Finder {
     turns: Vec<Turn>,
@@ -175,7 +176,7 @@ struct Finder {
 }
 
 impl Finder {
-    // The turn of an item, which is so many steps, or too many.
+    // Adds the turn of an item, with this number of steps, or the fault that they are too many.
     fn add(&mut self, item: Item, count: Option<usize>) -> Result<(), StepsRefusal>
         requires { MatchOption count ⊤ (λ n. n ≤ self.old.left) }
         ensures ok { OnOk result (Adds item count self.old self.new) }
@@ -195,7 +196,7 @@ impl Finder {
         Ok(())
     }
 
-    // The turns of items whose steps are taken.
+    // Adds the turns of items, whose steps are taken.
     fn run(
         &mut self,
         alloc: Global,
@@ -215,7 +216,8 @@ impl Finder {
         Ok(())
     }
 
-    // The same from the opening world on, which is made only where there are any.
+    // Adds the turns of items, whose steps are taken from the opening world on. The world is made only if there are
+    // items.
     fn run_from_opening(
         &mut self,
         alloc: Global,
@@ -232,7 +234,7 @@ impl Finder {
         self.run(alloc, &mut world, items)
     }
 
-    // The turns of items that count their steps.
+    // Adds the turns of items that count their steps.
     fn count(&mut self, items: &[Item]) -> Result<(), StepsRefusal>
         ensures ok { OnOk result (CountsItems items.now self.old self.new) }
         ensures fault { IfFault result (CountIsTooMuch items.now self.old) }
@@ -247,19 +249,20 @@ impl Finder {
     }
 }
 
-/// The turns that items come to from the opening world, one for each. Up to the last `T!` or `T+` the items are run here, and
-/// once more by whoever takes the turns: what is claimed of runs is claimed of turns alone. Where each item says its count no
-/// world is made.
+/// The turns of the items from the opening world, one for each. Up to the last `T!` or `T+` the items are run here, and
+/// once more by the caller that takes the turns: claims about runs are about turns only. If each item counts its steps,
+/// no world is made.
 ///
 /// # Errors
 ///
-/// `S3` at the first item with which there are more than 10,000,000 steps; or want of memory, also where a call would begin.
+/// `S3` at the first item with which the file has more than 10,000,000 steps; or out of memory, which is also possible
+/// where a call would begin.
 pub fn turns_of(alloc: Global, program: &Program, items: &[Item]) -> Result<Vec<Turn>, StepsRefusal>
     ensures { Answers result (turns_of program.now items.now) }
 {
     let mut finder = Finder {
         turns: Vec::new(alloc),
-        left: MOST_STEPS,
+        left: STEP_LIMIT,
     };
     let len = uncounted_len(items);
     match finder.run_from_opening(alloc, program, &items[..len]) {

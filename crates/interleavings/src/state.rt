@@ -1,10 +1,10 @@
-//! Where a thread is.
+//! The state of a thread between steps.
 
 use runner::states::{Asking, Ended, Ready, Running};
 
-/// Where a thread is.
-pub enum State<'p> {
-    /// In its own step. No thread is here between steps.
+/// The state of a thread.
+pub enum TypedState<'p> {
+    /// It is in its own step. Between steps no thread has this state.
     Away,
     /// No section is open.
     Ready(Ready<'p>),

@@ -1,16 +1,16 @@
-//! How a thread stands.
+//! The status of a thread.
 
 use locks::lock::Lock;
 
-/// How a thread stands.
+/// The status of a thread.
 #[derive(Clone, Copy, PartialEq, Eq, Debug)]
-pub enum Status {
-    /// Nothing: no section is open, and no call is left. So it is for a thread that there isn't.
+pub enum ThreadStatus {
+    /// Idle: it has no open section and no further call, or it is an unknown thread.
     Idle,
     /// Its next call can begin.
     Ready,
-    /// Its section asked for a lock, which this thread holds now.
+    /// Its section has asked for a lock that the given thread holds now.
     Waits(Lock, u32),
-    /// Its section is open, and no thread holds a lock that it asked for.
+    /// Its section is open, and no thread holds a lock that it has asked for.
     Running,
 }

@@ -1,4 +1,4 @@
-//! Worlds of threads that take turns.
+//! Worlds of threads that run in turns.
 
 ghost use Rattle.std.specs.Prelude.{◌≡◌, ◌≤◌, replicate, IfOk, OnOk, OnErr};
 ghost use Rattle.worlds.specs.Worlds.{happens};
@@ -8,30 +8,30 @@ ghost use Rattle.interleavings.specs.Threads.{cell_in, at_opening, after_steps, 
 ghost use Rattle.interleavings.specs.Statuses.{status_of};
 ghost use Rattle.interleavings.specs.Coming.{coming_to};
 ghost use Rattle.interleavings.specs.Working.Found.{AreMoves};
-ghost use Rattle.source_steps.specs.Turns.{steps_of};
+ghost use Rattle.input_files.specs.Turns.{steps_of};
 
 use crate::coming::Coming;
-use crate::state::State;
-use crate::status::Status;
+use crate::state::TypedState;
+use crate::status::ThreadStatus;
 use crate::stepping::{all_ready, coming, put, state_of, status, step};
 use core_lang::value::Value;
 use history::entries::History;
+use input_files::turn::Turn;
 use lock_manager::manager::Manager;
 use lowering::compiled::Program;
 use source::memory::NoMemory;
-use source_steps::turn::Turn;
 use std::alloc::Global;
 use std::marker::Model;
 use std::mem;
 use worlds::event::Event;
 
-/// The threads of a compiled program, each with its state, and the manager of its locks. As a value it is the program's
+/// The threads of a compiled program, each with its state, and the manager of its locks. Its model is the program's
 /// plan and a world.
 pub struct World<'p> {
     program: &'p Program,
     manager: Manager<'p>,
-    // By thread.
-    states: Vec<State<'p>>,
+    // The state of each thread.
+    states: Vec<TypedState<'p>>,
 }
 
 impl<'p> Model for World<'p> {
@@ -53,11 +53,11 @@ impl<'p> Model for World<'p> {
 }
 
 impl<'p> World<'p> {
-    /// Before any step: all cells with their opening values, no history, and no section open.
+    /// The world before any step: all cells with their initial values, no history, and no section open.
     ///
     /// # Errors
     ///
-    /// Want of memory.
+    /// Out of memory.
     pub fn open(alloc: Global, program: &'p Program) -> Result<World<'p>, NoMemory>
         ensures { IfOk result (λ w. w ≡ at_opening program.now) }
     {
@@ -75,11 +75,11 @@ impl<'p> World<'p> {
         })
     }
 
-    /// One step of a thread. A thread that there isn't does nothing.
+    /// Takes one step of a thread, as `happens` defines it. A step of an unknown thread is `Idle`.
     ///
     /// # Errors
     ///
-    /// Want of memory, only where its step begins a call; all is as it was.
+    /// Out of memory, only if the step begins a call. All is then as it was.
     pub fn step(&mut self, alloc: Global, thread: u32) -> Result<Event, NoMemory>
         ensures ok { IfOk result (λ event. happens self.old.plan self.old.world thread ≡ (event, self.new.world)) }
         ensures plan { self.new.plan ≡ self.old.plan }
@@ -97,14 +97,15 @@ impl<'p> World<'p> {
             return Ok(Event::Idle);
         }
         self.manager.keeps_its_rules();
-        let state = mem::replace(&mut self.states[thread], State::Away);
+        let state = mem::replace(&mut self.states[thread], TypedState::Away);
         let (next, event) = step(alloc, program, &mut self.manager, state);
         self.manager.keeps_its_rules();
         put(&mut self.states[thread], next);
         event
     }
 
-    // As many steps of a thread as are instructions of its open section, but at most so many.
+    // Takes steps of a thread as long as they are instructions of its open section, at most `most`. Returns their
+    // number.
     pub(crate) fn run_on(&mut self, thread: u32, most: usize) -> usize
         ensures steps { self.new ≡ with_steps self.old (replicate result thread) }
         ensures within { result ≤ most }
@@ -118,12 +119,12 @@ impl<'p> World<'p> {
         if most == 0 || thread >= self.states.len() {
             return 0;
         }
-        let State::Running(_) = &self.states[thread] else {
+        let TypedState::Running(_) = &self.states[thread] else {
             return 0;
         };
         self.manager.keeps_its_rules();
-        let state = mem::replace(&mut self.states[thread], State::Away);
-        let State::Running(running) = state else {
+        let state = mem::replace(&mut self.states[thread], TypedState::Away);
+        let TypedState::Running(running) = state else {
             unreachable!()
         };
         let (count, next) = running.run(most);
@@ -131,7 +132,7 @@ impl<'p> World<'p> {
         count
     }
 
-    // So many steps of a thread.
+    // Takes the steps of a turn.
     pub(crate) fn take(&mut self, alloc: Global, turn: Turn) -> Result<(), NoMemory>
         ensures ok { OnOk result (self.new ≡ with_steps self.old (replicate turn.count turn.thread)) }
         ensures err { OnErr result (StopsAtBegin self.old (replicate turn.count turn.thread) self.new) }
@@ -149,7 +150,7 @@ impl<'p> World<'p> {
     ///
     /// # Errors
     ///
-    /// Want of memory, only where a step would begin a call; all steps before that one are taken, and it is not.
+    /// Out of memory, only for a step that would begin a call. The world is then that before this step.
     pub fn take_turns(&mut self, alloc: Global, turns: &[Turn]) -> Result<(), NoMemory>
         ensures ok { OnOk result (self.new ≡ with_steps self.old (steps_of turns.now)) }
         ensures err { OnErr result (StopsAtBegin self.old (steps_of turns.now) self.new) }
@@ -160,7 +161,7 @@ impl<'p> World<'p> {
         Ok(())
     }
 
-    /// Its program.
+    /// The program.
     #[inline]
     pub fn program(&self) -> &'p Program
         ensures { result.now ≡ self.now.plan }
@@ -168,32 +169,32 @@ impl<'p> World<'p> {
         self.program
     }
 
-    /// The entries of the sections that ended, in the order in which they did.
+    /// The entries of the sections that ended, in the order of their ends.
     pub fn history(&self) -> &History
         ensures { result.now.commits ≡ self.now.world.history }
     {
         self.manager.history()
     }
 
-    /// What a cell holds, unless a section holds it.
+    /// The value of a cell, unless a section holds it.
     pub fn cell(&self, cell: usize) -> Option<Value>
         ensures { result ≡ cell_in self.now.world cell }
     {
         self.manager.cell(cell)
     }
 
-    /// How a thread stands.
-    pub fn state(&self, thread: u32) -> Status
+    /// The status of a thread.
+    pub fn state(&self, thread: u32) -> ThreadStatus
         ensures { result ≡ status_of self.now.plan self.now.world thread }
     {
         self.manager.keeps_its_rules();
         match self.states.get(thread as usize) {
-            None => Status::Idle,
+            None => ThreadStatus::Idle,
             Some(state) => status(self.program, &self.manager, state),
         }
     }
 
-    /// What a thread's next step takes up.
+    /// What a thread's next step does.
     pub fn coming(&self, thread: u32) -> Coming
         ensures { result ≡ coming_to self.now.world thread }
     {
@@ -204,7 +205,7 @@ impl<'p> World<'p> {
     }
 }
 
-// A world that is let go gives its open sections up.
+// Dropping a world abandons its open sections.
 impl<'p> Drop for World<'p> {
     fn drop(self) {
         let World {
@@ -214,15 +215,15 @@ impl<'p> Drop for World<'p> {
         } = self;
         while let Some(state) = states.pop() {
             match state {
-                State::Away => {}
-                State::Ready(_ready) => {}
-                State::Running(running) => {
+                TypedState::Away => {}
+                TypedState::Ready(_ready) => {}
+                TypedState::Running(running) => {
                     let _ready = running.give_up(&mut manager);
                 }
-                State::Asking(asking) => {
+                TypedState::Asking(asking) => {
                     let _ready = asking.give_up(&mut manager);
                 }
-                State::Ended(ended) => {
+                TypedState::Ended(ended) => {
                     let _ready = ended.give_up(&mut manager);
                 }
             }
@@ -231,11 +232,11 @@ impl<'p> Drop for World<'p> {
     }
 }
 
-/// The world after these turns from the opening world. What is claimed of every run holds of it.
+/// The world after these turns from the opening world. The claims about every run hold of it.
 ///
 /// # Errors
 ///
-/// Want of memory: for the opening, or where a step would begin a call ([`World::take_turns`] says so of a world that is
+/// Out of memory: for the opening, or for a step that would begin a call (see [`World::take_turns`] for a world that is
 /// open).
 pub fn run<'p>(alloc: Global, program: &'p Program, turns: &[Turn]) -> Result<World<'p>, NoMemory>
     ensures last { IfOk result (λ w. w ≡ after_steps program.now (steps_of turns.now)) }

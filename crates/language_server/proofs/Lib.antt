@@ -1,0 +1,12 @@
+mod ActionFloats
+mod DiagnosticFloats
+mod First
+mod HeldFloats
+mod Holding
+mod PathTexts
+mod Sorting
+mod TakeLines
+mod Taking
+mod Telling
+mod Warned
+mod Words

@@ -1,6 +1,19 @@
+pub mod Actions
+pub mod Changes
+pub mod Diagnostics
+pub mod Held
+pub mod Hints
+pub mod Hover
+pub mod Hovers
 pub mod Methods
+pub mod NameHovers
 pub mod Parameters
+pub mod Ranks
 pub mod Serving
--- what the public clauses cite
+pub mod Statements
+pub mod Takes
+pub mod Working
+-- the definitions that the public clauses cite
 pub use Rattle.language_server.specs.Methods.{method_named}
 pub use Rattle.language_server.specs.Serving.{ServesEditor}
+pub use Rattle.language_server.specs.Actions.{AreActionsOf}

@@ -1,25 +1,24 @@
-//! What the methods find.
+//! The results of the methods.
 
 ghost use Rattle.std.specs.Prelude.{◌≡◌, false, IfOk, IfSome, option_map};
 ghost use Rattle.serde_json.specs.View.{view};
 ghost use Rattle.serde_json.specs.Written.{has_float};
 ghost use Rattle.language_server.specs.Methods as methods;
 
+use crate::actions::{DocumentRange, code_actions};
+use crate::hint_list::hints;
+use crate::hovers::hover;
 use crate::method::Method;
 use crate::parameters::{lines, new_name, position, range, with_declaration};
-use lsp_actions::{DocumentRange, code_actions};
-use lsp_formats::formatting_edits;
-use lsp_held::hints;
-use lsp_hovers::hover;
-use lsp_links::{DocumentPosition, definition, references, rename};
-use lsp_positions::Position;
-use lsp_server::Request;
-use lsp_symbols::document_symbols;
+use lsp_protocol::Request;
+use lsp_texts::{
+    DocumentPosition, Position, definition, document_symbols, formatting_edits, references, rename,
+};
 use serde_json::Value;
 use source::memory::NoMemory;
 use std::alloc::Global;
 
-/// A position in the document of a request.
+/// The position `position` in the document of a request.
 fn place_in<'a>(request: &Request<'a>, position: Position) -> DocumentPosition<'a>
     ensures uri { result.uri.now ≡ request.now.uri.now }
     ensures text { result.text.now ≡ request.now.text.now }
@@ -32,7 +31,7 @@ fn place_in<'a>(request: &Request<'a>, position: Position) -> DocumentPosition<'
     }
 }
 
-/// What the notes on the text's fault propose, in the range that is asked about.
+/// The actions in the requested range.
 fn actions_found(alloc: Global, request: &Request<'_>) -> Result<Option<Value>, NoMemory>
     ensures told { IfOk result (λ told. methods.Finds Method.CodeAction request.now.uri.now request.now.text.now
         (view request.now.params.now) (option_map view told)) }
@@ -51,7 +50,7 @@ fn actions_found(alloc: Global, request: &Request<'_>) -> Result<Option<Value>, 
     Ok(Some(found))
 }
 
-/// Where the name at a position is declared.
+/// The place where the name at the requested position is declared.
 fn definition_found(alloc: Global, request: &Request<'_>) -> Result<Option<Value>, NoMemory>
     ensures told { IfOk result (λ told. methods.Finds Method.Definition request.now.uri.now request.now.text.now
         (view request.now.params.now) (option_map view told)) }
@@ -64,7 +63,7 @@ fn definition_found(alloc: Global, request: &Request<'_>) -> Result<Option<Value
     Ok(Some(found))
 }
 
-/// Where the name at a position is used.
+/// The places where the name at the requested position is used.
 fn references_found(alloc: Global, request: &Request<'_>) -> Result<Option<Value>, NoMemory>
     ensures told { IfOk result (λ told. methods.Finds Method.References request.now.uri.now request.now.text.now
         (view request.now.params.now) (option_map view told)) }
@@ -78,7 +77,7 @@ fn references_found(alloc: Global, request: &Request<'_>) -> Result<Option<Value
     Ok(Some(found))
 }
 
-/// The edits that give the name at a position another text.
+/// The edits that rename the name at the requested position.
 fn rename_found(alloc: Global, request: &Request<'_>) -> Result<Option<Value>, NoMemory>
     ensures told { IfOk result (λ told. methods.Finds Method.Rename request.now.uri.now request.now.text.now
         (view request.now.params.now) (option_map view told)) }
@@ -93,7 +92,7 @@ fn rename_found(alloc: Global, request: &Request<'_>) -> Result<Option<Value>, N
     }
 }
 
-/// What is told of the name at a position, or of the statement.
+/// The hover on the name, or else the statement, at the requested position.
 fn hover_found(alloc: Global, request: &Request<'_>) -> Result<Option<Value>, NoMemory>
     ensures told { IfOk result (λ told. methods.Finds Method.Hover request.now.uri.now request.now.text.now
         (view request.now.params.now) (option_map view told)) }
@@ -106,7 +105,7 @@ fn hover_found(alloc: Global, request: &Request<'_>) -> Result<Option<Value>, No
     Ok(Some(found))
 }
 
-/// Which locks are taken where, in the lines that are asked for.
+/// The hints in the requested lines.
 fn hints_found(alloc: Global, request: &Request<'_>) -> Result<Option<Value>, NoMemory>
     ensures told { IfOk result (λ told. methods.Finds Method.InlayHint request.now.uri.now request.now.text.now
         (view request.now.params.now) (option_map view told)) }
@@ -119,7 +118,7 @@ fn hints_found(alloc: Global, request: &Request<'_>) -> Result<Option<Value>, No
     Ok(Some(found))
 }
 
-/// What a method finds in a document; nothing where the parameters are none of the method's.
+/// The result of `method` in the document of `request`; nothing where the parameters are not those of the method.
 pub fn found(
     alloc: Global,
     method: Method,

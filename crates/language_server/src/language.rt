@@ -1,15 +1,15 @@
-//! The language, to a server.
+//! The language, as a server needs it.
 
 ghost use Rattle.std.specs.Prelude.{◌≡◌, false, IfOk};
 ghost use Rattle.serde_json.specs.View.{view};
 ghost use Rattle.serde_json.specs.Written.{has_float};
-ghost use Rattle.lsp_diagnostics.specs.Diagnostics.{AreDiagnosticsOf};
+ghost use Rattle.language_server.specs.Diagnostics.{AreDiagnosticsOf};
 ghost use Rattle.language_server.specs.Methods as methods;
 
+use crate::diagnostic_list::diagnostics;
 use crate::finding::found;
 use crate::method::Method;
-use lsp_diagnostics::diagnostics;
-use lsp_server::{Language, Request};
+use lsp_protocol::{Language, Request};
 use serde_json::{Value, json};
 use source::memory::NoMemory;
 use std::alloc::{AllocError, Global};
@@ -18,7 +18,7 @@ use std::alloc::{AllocError, Global};
 #[derive(Clone, Copy, Debug, PartialEq, Eq, Drop)]
 pub struct Autolock;
 
-/// What the server can do.
+/// The capabilities of the server.
 fn capabilities_value(alloc: Global) -> Result<Value, AllocError>
     ensures told { IfOk result (λ told. view told ≡ methods.capabilities) }
     ensures plain { IfOk result (λ told. has_float (view told) ≡ false) }

@@ -6,26 +6,26 @@ ghost use Rattle.language_server.specs.Methods.{method_named};
 /// A method of requests about documents.
 #[derive(Clone, Copy, Debug, PartialEq, Eq)]
 pub enum Method {
-    /// `textDocument/codeAction`: what the notes on the text's fault propose.
+    /// `textDocument/codeAction`: the changes that the notes on the text's fault propose.
     CodeAction,
-    /// `textDocument/definition`: where the name at a position is declared.
+    /// `textDocument/definition`: the place where the name at a position is declared.
     Definition,
     /// `textDocument/documentSymbol`: the names of the top level.
     DocumentSymbol,
-    /// `textDocument/formatting`: the edits that lay the text out anew.
+    /// `textDocument/formatting`: the edits that bring the text into its layout.
     Formatting,
-    /// `textDocument/hover`: what the name at a position is, or else which locks are held at the statement there.
+    /// `textDocument/hover`: the declaration of the name at a position, or else the locks that are held at the statement.
     Hover,
-    /// `textDocument/inlayHint`: which locks are taken where.
+    /// `textDocument/inlayHint`: the locks that are acquired before statements.
     InlayHint,
-    /// `textDocument/references`: where the name at a position is used.
+    /// `textDocument/references`: the places where the name at a position is used.
     References,
-    /// `textDocument/rename`: the edits that give the name at a position another text.
+    /// `textDocument/rename`: the edits that rename the name at a position.
     Rename,
 }
 
 impl Method {
-    /// The method of this name.
+    /// The method with the name `name`.
     pub fn named(name: &str) -> Option<Method>
         ensures { result ≡ method_named name.now }
     {

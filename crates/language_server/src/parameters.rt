@@ -1,13 +1,13 @@
-//! What the parameters of requests about documents say.
+//! The parameters of requests about documents.
 
 ghost use Rattle.std.specs.Prelude.{◌≡◌, option_map};
 ghost use Rattle.serde_json.specs.View.{view};
 ghost use Rattle.language_server.specs.Parameters as parameters;
 
-use lsp_positions::Position;
+use lsp_texts::Position;
 use serde_json::Value;
 
-/// A number that stands in a member.
+/// The number in a member.
 fn number_in(value: &Value, member: &str) -> Option<u64>
     ensures { result ≡ parameters.number_in member.now (view value.now) }
 {
@@ -27,7 +27,7 @@ fn position_of(value: &Value) -> Option<Position>
     }
 }
 
-/// The position that is asked about: `position`.
+/// The requested position: `position`.
 pub fn position(params: &Value) -> Option<Position>
     ensures { result ≡ parameters.position (view params.now) }
 {
@@ -37,7 +37,7 @@ pub fn position(params: &Value) -> Option<Position>
     }
 }
 
-/// Whether the name that declares is wanted too: `context.includeDeclaration`; where it isn't said, it isn't.
+/// Whether the declaring name is requested too: `context.includeDeclaration`, false where it is missing.
 pub fn with_declaration(params: &Value) -> bool
     ensures { result ≡ parameters.with_declaration (view params.now) }
 {
@@ -50,7 +50,7 @@ pub fn with_declaration(params: &Value) -> bool
     }
 }
 
-/// The name that is wanted: `newName`.
+/// The requested name: `newName`.
 pub fn new_name(params: &Value) -> Option<&str>
     ensures { option_map (λ text. text.now) result ≡ parameters.new_name (view params.entry.now) }
 {
@@ -70,7 +70,7 @@ fn end_in(range: &Value, end: &str) -> Option<Position>
     }
 }
 
-/// Where the range that is asked about begins, and where it ends: `range`.
+/// The start and the end of the requested range: `range`.
 pub fn range(params: &Value) -> Option<(Position, Position)>
     ensures { result ≡ parameters.range (view params.now) }
 {
@@ -93,7 +93,7 @@ fn line_of(range: &Value, end: &str) -> Option<u64>
     }
 }
 
-/// The first and the last line of the range that is asked about: `range`.
+/// The first and the last line of the requested range: `range`.
 pub fn lines(params: &Value) -> Option<(u64, u64)>
     ensures { result ≡ parameters.lines (view params.now) }
 {

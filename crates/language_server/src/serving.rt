@@ -3,16 +3,15 @@
 ghost use Rattle.language_server.specs.Serving.{ServesEditor};
 
 use crate::language::Autolock;
-use lsp_loop::End;
-use lsp_server::Server;
+use lsp_protocol::{End, Server};
 use std::alloc::Global;
 use std::io::{BufRead, Write};
 
-/// Serves an editor: reads and answers its messages until the end. Each answer is written and sent on before the next message
-/// is read. A message for which memory is refused is answered so, and changes nothing.
+/// Serves an editor: reads and answers its messages until the end. Each answer is written and flushed before the next
+/// message is read. A message for which memory is refused is answered with that error, and changes nothing.
 pub fn serve<R: BufRead, W: Write>(alloc: Global, reader: &mut R, writer: &mut W) -> End
     ensures { ServesEditor (R.remaining reader.old) (W.contents writer.old) (W.contents writer.new) result }
 {
     let mut server = Server::new(alloc, Autolock);
-    lsp_loop::serve(alloc, reader, writer, &mut server)
+    lsp_protocol::serve(alloc, reader, writer, &mut server)
 }

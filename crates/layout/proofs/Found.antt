@@ -1,4 +1,4 @@
--- What is found at places of lists, one behind another.
+-- The results of looking up locks, structs and fields in the lists of a program.
 use Rattle.std.proofs.Common.{◌≡◌, ◌∙◌, ℕ, ◌<◌, ◌≤◌, List, length, get_or, Option, Some, None, sym, ap, arith}
 use Rattle.std.specs.Prelude.{slice_get}
 use Rattle.std.specs.Option.{option_map}
@@ -12,8 +12,8 @@ use Rattle.core_lang.specs.declared.typed.Field.{Field}
 use Rattle.core_lang.specs.declared.typed.GlobalVariable.{GlobalVariable}
 use Rattle.core_lang.specs.declared.typed.LockClass.{LockClass}
 use Rattle.core_lang.specs.declared.typed.LockClass.TheVariants as class
-use Rattle.core_lang.specs.declared.typed.Owner.{Owner}
-use Rattle.core_lang.specs.declared.typed.Owner.TheVariants as owner
+use Rattle.core_lang.specs.declared.typed.CellOwner.{CellOwner}
+use Rattle.core_lang.specs.declared.typed.CellOwner.TheVariants as owner
 use Rattle.core_lang.specs.declared.typed.Protection.{Protection}
 use Rattle.core_lang.specs.declared.typed.Struct.{Struct}
 use Rattle.core_lang.specs.declared.typed.Typed.{Typed}
@@ -123,7 +123,7 @@ module _ (program : Typed) (o f : ℕ) where
 
 -- ---- the lock of a global or an element
 
-module _ (program : Typed) (whose : Owner) where
+module _ (program : Typed) (whose : CellOwner) where
   pub of_global : (g : ℕ) (found : Option GlobalVariable) → whose ≡ owner.Global g →
       slice_get program.globals.items g ≡ found →
       protecting program whose ≡ lookup found (λ (x : GlobalVariable). Some (global_lock x.class))

@@ -17,7 +17,7 @@ use Rattle.layout.proofs.Listed.{listed}
 use Rattle.layout.proofs.Locked.{cell_locked}
 use Rattle.core_lang.specs.Theory.Items.{lookup_some}
 
--- so many cells of a program, with their locks
+-- the first `n` cells of a program, with their locks
 abbrev pub AreLocked : Typed → ℕ → List Lock → Type 0
 AreLocked program n locks = (k : ℕ) → k < n → slice_get locks k ≡ lock_of_cell program k
 

@@ -11,8 +11,8 @@ use Rattle.core_lang.specs.declared.typed.Protection.{Protection}
 use Rattle.core_lang.specs.declared.typed.Field.{Field}
 use Rattle.core_lang.specs.declared.typed.Struct.{Struct}
 use Rattle.core_lang.specs.declared.typed.GlobalVariable.{GlobalVariable}
-use Rattle.core_lang.specs.declared.typed.Owner.{Owner}
-use Rattle.core_lang.specs.declared.typed.Owner.TheVariants as owner
+use Rattle.core_lang.specs.declared.typed.CellOwner.{CellOwner}
+use Rattle.core_lang.specs.declared.typed.CellOwner.TheVariants as owner
 use Rattle.core_lang.specs.declared.typed.Cell.{Cell}
 use Rattle.core_lang.specs.declared.typed.Typed.{Typed}
 use Rattle.core_lang.specs.Typing.{lookup, struct_of}
@@ -96,7 +96,7 @@ annotation program s f x field at_s at_f =
     lookup_at (slice_get program.structs.items s) x (λ (z : Struct). lookup (slice_get z.fields.items f) (λ (y : Field). Some y.protection)) at_s
     ∙ lookup_at (slice_get x.fields.items f) field (λ (y : Field). Some y.protection) at_f
 
-locked : (program : Typed) (place : ℕ) (x : Owner) → IsWellFormed program → IsCellOf program place x →
+locked : (program : Typed) (place : ℕ) (x : CellOwner) → IsWellFormed program → IsCellOf program place x →
     IsLocked program (protecting program x)
 locked program place (owner.Global g) well (global, at, e) =
     let c = well.protected.global g global at in

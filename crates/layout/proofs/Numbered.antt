@@ -139,7 +139,7 @@ module _ (classes : List ClassPlace) (objects : List ℕ) (locks : List Lock) (l
       let same_place : at.place ≡ x = cc in
       subst (λ (p : ℕ). p + l ≡ f.number) same_place at.sum
 
--- ---- one class more, and one lock of an object more
+-- ---- one more class, and one more lock of an object
 
 pub global_added : (b : Bool) (classes grown : List ClassPlace) (objects : List ℕ) (locks more : List Lock) (n k : ℕ) → AreNumbered classes objects locks →
     n ≡ length locks → k ≡ length classes → grown ≡ classes ++ place.Global n ∷ [] →

@@ -1,4 +1,4 @@
--- Cells placed behind those that their locks have.
+-- Cells placed after those that their locks have.
 use Rattle.std.proofs.Common.{replicate, ◌≡◌, ◌≢◌, ℕ, zero, suc, ◌+◌, ◌<◌, ◌≤◌, Bool, true, false, if◌then◌else◌, ◌==◌}
 use Rattle.std.proofs.Common.{List, [], ◌∷◌, ◌++◌, length, get_or, set, IsTrue, Some, inl, inr, refl, sym, ap, ◌∙◌}
 use Rattle.std.proofs.Common.{subst, arith, length-append}
@@ -31,7 +31,7 @@ is_same_lock locks n other lock b at is = (
   λ e. is ∙ ap (λ (l : Lock). same_lock l lock) (same_Some other lock (sym at ∙ e)) ∙ same_itself lock,
 )
 
--- ---- one cell more
+-- ---- one more cell
 
 still_cell : (ls : List Lock) (l lock : Lock) (offset cell : ℕ) → slice_get (cells_of ls lock) offset ≡ Some cell →
     slice_get (cells_of (ls ++ l ∷ []) lock) offset ≡ Some cell
@@ -171,7 +171,7 @@ offset_few locks cells sizes number lock offset p here size_is =
     let same : offset ≡ length (cells_of (locks_in cells) lock) = cc in
     omega (arith, same, few_cells cells lock)
 
--- ---- a layout with one cell more
+-- ---- a layout with one more cell
 
 pub one_longer : (l : LayoutOf) (cells grown : List CellPlace) (x : CellPlace) (locks : List Lock) →
     record { opening = openings_in cells; cell_locks = locks_in cells; locks = locks } ≡ l → grown ≡ cells ++ x ∷ [] →
@@ -183,7 +183,7 @@ one_longer l cells grown x locks is more =
     ∙ ap (λ (ls : List Lock). made (openings_in cells ++ x.opening ∷ []) ls) (map_push (λ (y : CellPlace). y.lock) cells x)
     ∙ ap (λ (v : LayoutOf). with_cell v x.opening x.lock) is
 
--- how many cells a lock has
+-- the number of cells of a lock
 pub size_within : (locks : List Lock) (sizes : List ℕ) (n size : ℕ) (lock : Lock) → length sizes ≡ length locks →
     slice_get locks n ≡ Some lock → size ≡ length sizes → n < size
 size_within locks sizes n size lock long at is = let lt = slice_get_within locks n lock at in below n (length locks) (length sizes) size lt long is

@@ -12,7 +12,7 @@ use Rattle.core_lang.specs.Typing.{lookup, struct_of}
 use Rattle.locks.specs.declared.lock.Lock.{Lock}
 use Rattle.locks.specs.Locks.{global_lock, IsLock, lock_of_cell}
 
--- what each cell opens with and which lock protects it, and the locks by number
+-- a layout: for each cell its initial value and the lock that protects it, and the locks by number
 pub record LayoutOf : Type 0 where
   pub opening : List Value
   pub cell_locks : List Lock
@@ -31,7 +31,7 @@ abbrev pub global_locks : Typed → ℕ → List Lock
 global_locks program zero = []
 global_locks program (suc n) = global_locks program n ++ if_global_lock n (slice_get program.classes.items n)
 
--- the lock fields of a struct, if there is one
+-- the lock fields of a struct; none without a struct
 abbrev pub lock_fields : Option Struct → List LockField
 lock_fields None = []
 lock_fields (Some x) = x.locks.items
@@ -40,7 +40,7 @@ lock_fields (Some x) = x.locks.items
 abbrev pub object_struct : Typed → ℕ → Option Struct
 object_struct program object = lookup (struct_of program.shape object) (λ s. slice_get program.structs.items s)
 
--- an object's locks, in the order of its struct
+-- an object's locks, in the order of its struct's lock fields
 abbrev pub locks_of_object : Typed → ℕ → List Lock
 locks_of_object program object = map (λ (x : LockField). record { class = x.class; object = object }) (lock_fields (object_struct program object))
 
@@ -49,7 +49,7 @@ abbrev pub object_locks : Typed → ℕ → List Lock
 object_locks program zero = []
 object_locks program (suc n) = object_locks program n ++ locks_of_object program n
 
--- the global locks, and behind them those of the objects
+-- all locks of a program: the global locks, then those of the objects
 abbrev pub all_locks : Typed → List Lock
 all_locks program = global_locks program (length program.classes.items) ++ object_locks program (length program.shape.objects.items)
 
@@ -59,7 +59,7 @@ AreDistinct locks = (i j : ℕ) (lock : Lock) → slice_get locks i ≡ Some loc
 
 -- ---- the whole
 
--- the layout of a program: each cell with its opening value and its lock, and all locks
+-- the layout of the program: each cell with its initial value and its lock, and all locks, each once
 pub record IsLayoutOf (program : Typed) (layout : LayoutOf) : Type 0 where
   pub opening : layout.opening ≡ opening_heap program
   pub cells : length layout.cell_locks ≡ length program.cells.items
@@ -67,7 +67,7 @@ pub record IsLayoutOf (program : Typed) (layout : LayoutOf) : Type 0 where
   -- the lock of each cell is one of the locks
   pub cells_listed : (cell : ℕ) (lock : Lock) → slice_get layout.cell_locks cell ≡ Some lock →
       Contains layout.locks lock
-  -- which locks there are, each once, and in which order
+  -- the list has exactly the program's locks, each once, in the order of `all_locks`
   pub listed : (lock : Lock) → Contains layout.locks lock ↔ IsLock program lock
   pub distinct : AreDistinct layout.locks
   pub order : layout.locks ≡ all_locks program

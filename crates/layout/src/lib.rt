@@ -1,13 +1,13 @@
-//! Where the cells and the locks of a program lie.
+//! The memory layout of a program: the numbering of its locks, and the assignment of its cells to locks.
 //!
 //! - [`lay_out`]: the layout of a program.
-//! - [`table::Layout`]: the lock and the opening value of each cell, its place among the cells of the lock, the number of each
-//!   lock.
+//! - [`table::Layout`]: for each cell its lock, its initial value and its offset among the lock's cells. For each lock,
+//!   its number.
 //! - [`final_of`]: the objects that final references name.
-//! - [`room::Room`]: what one run of a section can need at most.
+//! - [`room::Room`]: the most that one run of a section can need.
 //!
-//! `specs/` defines the layout of a program (`Layouts`) and the cells of a lock (`LockCells`). Its other files only say what
-//! the code has done (`Numbers`, `Growth`); nobody has to believe them.
+//! `specs/` defines the layout of a program (`Layouts`) and the cells of a lock (`LockCells`). Its other files only say
+//! what the code has done (`Numbers`, `Growth`); nobody has to believe them.
 #![tactic(auto)]
 
 mod finals;

@@ -13,14 +13,14 @@ use locks::lock::Lock;
 use source::memory::NoMemory;
 use std::alloc::Global;
 
-/// The locks by number, and where each one's number is found.
+/// The locks by number, with tables that find the number of a lock.
 #[derive(Drop)]
 pub struct Numbering {
-    /// The locks.
+    /// The locks, each at its number.
     pub locks: Vec<Lock>,
-    /// For each class where the numbers of its locks are found.
+    /// For each class, where the numbers of its locks are found.
     pub classes: Vec<ClassPlace>,
-    /// For each object the number of its first lock.
+    /// For each object, the number of its first lock.
     pub objects: Vec<usize>,
     ghost numbered: { AreNumbered classes.items objects.items locks.items },
 }
@@ -28,7 +28,11 @@ pub struct Numbering {
 impl Numbering {
     ghost use Rattle.layout.specs.Working.Growth.{AddsClass, AddsObject};
 
-    /// The locks of a program: the global locks by class, and behind them those of object after object.
+    /// The numbering of a program's locks: the global locks by class, then the locks of each object in turn.
+    ///
+    /// # Errors
+    ///
+    /// Out of memory.
     pub fn of(alloc: Global, program: &Typed) -> Result<Numbering, NoMemory>
         requires { IsWellFormed program.now }
         ensures locks { IfOk result (λ x. x.locks.items ≡ all_locks program.now) }
@@ -48,7 +52,7 @@ impl Numbering {
         Ok(numbering)
     }
 
-    // The next class, and its lock where it is a global one.
+    // Adds the next class, with its lock if it is a global lock.
     fn add_class(&mut self, class: &LockClass) -> Result<(), NoMemory>
         ensures { OnOk result (AddsClass class.now self.old self.new) }
     {
@@ -64,7 +68,7 @@ impl Numbering {
         Ok(())
     }
 
-    // The next object, with its locks.
+    // Adds the next object, with its locks.
     fn add_object(&mut self, fields: &[LockField]) -> Result<(), NoMemory>
         requires fields { AreFields self.old.classes.items fields.now }
         requires few { length self.old.objects.items < 2 ^ 32 }
@@ -80,7 +84,7 @@ impl Numbering {
         Ok(())
     }
 
-    /// The number of a lock.
+    /// The number of `lock`.
     pub fn number_of(&self, lock: Lock) -> usize
         requires { Contains self.now.locks.items lock }
         ensures { slice_get self.now.locks.items result ≡ Some lock }
@@ -91,7 +95,7 @@ impl Numbering {
         }
     }
 
-    /// Whether it is one of the locks.
+    /// Whether `lock` is one of the locks.
     pub fn has(&self, lock: Lock) -> bool
         ensures { IsTrue result ↔ Contains self.now.locks.items lock }
     {
@@ -101,7 +105,7 @@ impl Numbering {
         }
     }
 
-    // Whether this number is the lock's.
+    // Whether `number` is the number of `lock`.
     fn is_at(&self, number: usize, lock: Lock) -> bool
         ensures { IsTrue result ↔ (slice_get self.now.locks.items number ≡ Some lock) }
     {
@@ -111,7 +115,7 @@ impl Numbering {
         }
     }
 
-    // The number that a lock has, if it is one of the locks.
+    // The number of `lock`, if it is one of the locks.
     fn find(&self, lock: Lock) -> Option<usize>
         ensures { (n : ℕ) → slice_get self.now.locks.items n ≡ Some lock → result ≡ Some n }
     {
@@ -124,7 +128,7 @@ impl Numbering {
         }
     }
 
-    // The number of a lock field of an object, if there is the object.
+    // The number of lock field `field` of `object`, if the object exists.
     fn in_object(&self, object: u32, field: usize) -> Option<usize>
         ensures { FindsField self.now.objects.items object field result }
     {

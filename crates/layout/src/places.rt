@@ -1,24 +1,24 @@
-//! Where locks and cells are found.
+//! The places of locks and cells.
 
 use core_lang::value::Value;
 use locks::lock::Lock;
 
-/// Where the number of a class's locks is found.
+/// How the numbers of a class's locks are found.
 #[derive(Clone, Copy)]
 pub enum ClassPlace {
-    /// A global lock has this number.
+    /// The class is one global lock, with this number.
     Global(usize),
-    /// A lock field has this number among those of its struct, and so has an object's lock among the object's.
+    /// The class is a lock field, with this index among the lock fields of its struct, and among the locks of an object.
     Field(usize),
 }
 
-/// What a cell opens with, and where it lies.
+/// The initial value of a cell, and its place.
 #[derive(Clone, Copy)]
 pub struct CellPlace {
-    /// What it holds before any section has run.
+    /// The value before any section has run.
     pub opening: Value,
     /// The lock that protects it.
     pub lock: Lock,
-    /// Its place among the cells of the lock.
+    /// Its index among the cells of the lock.
     pub offset: u32,
 }

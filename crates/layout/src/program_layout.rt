@@ -1,4 +1,4 @@
-//! Lays out a program.
+//! The layout of a program.
 
 ghost use Rattle.std.specs.Prelude.{IfOk};
 ghost use Rattle.core_lang.specs.WellFormed.{IsWellFormed};
@@ -15,7 +15,7 @@ use std::alloc::Global;
 ///
 /// # Errors
 ///
-/// Want of memory.
+/// Out of memory.
 pub fn lay_out(alloc: Global, program: &Typed) -> Result<Layout, NoMemory>
     requires { IsWellFormed program.now }
     ensures { IfOk result (IsLayoutOf program.now) }

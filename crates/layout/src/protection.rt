@@ -1,16 +1,16 @@
-//! Which lock protects a cell, and which locks an object has.
+//! The lock that protects a cell, and the locks of an object.
 
 ghost use Rattle.std.specs.Prelude.{◌≡◌, ◌<◌, ◌^◌, length, Some};
 ghost use Rattle.core_lang.specs.WellFormed.{IsWellFormed};
-ghost use Rattle.core_lang.specs.declared.typed.Owner.TheVariants as owner;
+ghost use Rattle.core_lang.specs.declared.typed.CellOwner.TheVariants as owner;
 ghost use Rattle.locks.specs.Locks as locking;
 ghost use Rattle.layout.specs.Layouts as layouts;
 
-use core_lang::typed::{LockClass, LockField, Owner, Protection, Typed};
+use core_lang::typed::{CellOwner, LockClass, LockField, Protection, Typed};
 use locks::lock::Lock;
 use locks::objects::led_to;
 
-/// The lock fields of an object's struct.
+/// The lock fields of the struct of `object`.
 pub fn lock_fields(program: &Typed, object: usize) -> &[LockField]
     requires program { IsWellFormed program.now }
     requires object { object < length program.now.shape.objects.items }
@@ -21,7 +21,7 @@ pub fn lock_fields(program: &Typed, object: usize) -> &[LockField]
     program.structs[structure].locks.as_slice()
 }
 
-// The lock of an annotation, walked from an object. A global lock is the same for all objects.
+// The lock of an annotation, found from `object`. A global lock is the same for all objects.
 fn walked(program: &Typed, protection: &Protection, object: u32) -> Option<Lock>
     ensures { result ≡ locking.walked program.now protection.now object }
 {
@@ -35,7 +35,7 @@ fn walked(program: &Typed, protection: &Protection, object: u32) -> Option<Lock>
     }
 }
 
-// The lock that protects a field of an object.
+// The lock that protects field `field` of `object`.
 fn of_field(program: &Typed, object: usize, field: usize) -> Option<Lock>
     requires { length program.now.shape.objects.items < 2 ^ 32 }
     ensures { result ≡ locking.protecting program.now (owner.Field object field) }
@@ -46,25 +46,25 @@ fn of_field(program: &Typed, object: usize, field: usize) -> Option<Lock>
     walked(program, &field.protection, object as u32)
 }
 
-// The lock that protects a global, an element or a field.
-fn protecting(program: &Typed, owner: Owner) -> Option<Lock>
+// The lock that protects a cell of `owner`: a global, an element or a field.
+fn protecting(program: &Typed, owner: CellOwner) -> Option<Lock>
     requires { length program.now.shape.objects.items < 2 ^ 32 }
     ensures { result ≡ locking.protecting program.now owner }
 {
     match owner {
-        Owner::Global(global) => {
+        CellOwner::Global(global) => {
             let class = program.globals.get(global)?.class;
             Some(Lock { class, object: 0 })
         }
-        Owner::Element { array, .. } => {
+        CellOwner::Element { array, .. } => {
             let class = program.shape.arrays.get(array)?.class;
             Some(Lock { class, object: 0 })
         }
-        Owner::Field { object, field } => of_field(program, object, field),
+        CellOwner::Field { object, field } => of_field(program, object, field),
     }
 }
 
-/// The lock that protects a cell.
+/// The lock that protects `cell`.
 pub fn lock_of_cell(program: &Typed, cell: usize) -> Lock
     requires program { IsWellFormed program.now }
     requires cell { cell < length program.now.cells.items }

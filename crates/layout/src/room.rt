@@ -1,14 +1,14 @@
-//! Room for a run.
+//! The room that a run needs.
 
-/// What one run of a section can need at most.
+/// The most that one run of a section can need.
 #[derive(Clone, Copy, PartialEq, Eq, Debug)]
 pub struct Room {
-    /// Locks that it holds.
+    /// The number of locks that it holds.
     pub locks: usize,
-    /// Cells of these locks.
+    /// The number of cells of these locks together.
     pub cells: usize,
-    /// Operands on its stack.
+    /// The number of operands on its stack.
     pub operands: usize,
-    /// Its locals.
+    /// The number of its locals.
     pub locals: usize,
 }

@@ -12,15 +12,15 @@ use source::memory::NoMemory;
 use std::alloc::Global;
 use std::marker::Model;
 
-/// Where the cells and the locks of a program lie. As a value it is what each cell opens with and which lock protects it, and
-/// the list of the locks.
+/// The layout of a program's cells and locks. Its value is the initial value and the lock of each cell, and the list of
+/// the locks.
 ///
 /// Cells, classes and objects go by their numbers in [`core_lang::typed::Typed`].
 #[derive(Drop)]
 pub struct Layout {
     numbering: Numbering,
     cells: Vec<CellPlace>,
-    // For each lock how many cells it protects.
+    // For each lock, the number of cells that it protects.
     sizes: Vec<u32>,
 }
 
@@ -44,7 +44,7 @@ impl Model for Layout {
 impl Layout {
     ghost use Rattle.layout.specs.Working.Growth.{without_cells, with_cell};
 
-    // The locks of a program, and no cells.
+    // The layout with the locks of a program, without cells.
     pub(crate) fn without_cells(
         alloc: Global,
         numbering: Numbering,
@@ -61,7 +61,7 @@ impl Layout {
         })
     }
 
-    // The next cell. It lies behind the cells that its lock has so far.
+    // Adds the next cell, after the cells that its lock has so far.
     pub(crate) fn add(&mut self, opening: Value, lock: Lock) -> Result<(), NoMemory>
         requires lock { Contains self.old.locks lock }
         requires few { length self.old.cell_locks < 2 ^ 32 - 1 }
@@ -78,7 +78,7 @@ impl Layout {
         Ok(())
     }
 
-    /// The lock that protects a cell.
+    /// The lock that protects `cell`.
     #[inline]
     pub fn lock_of(&self, cell: usize) -> Lock
         requires { cell < length self.now.cell_locks }
@@ -88,7 +88,7 @@ impl Layout {
         self.cells[cell].lock
     }
 
-    /// What a cell holds before any section has run.
+    /// The value of `cell` before any section has run.
     #[inline]
     pub fn opening(&self, cell: usize) -> Value
         requires { cell < length self.now.opening }
@@ -97,8 +97,8 @@ impl Layout {
         self.cells[cell].opening
     }
 
-    /// The lock that protects a cell, and the cell's place among the cells of this lock, which are counted from 0 in order of
-    /// their numbers.
+    /// The lock that protects `cell`, and the cell's index among the cells of this lock. The cells are counted from 0, in
+    /// order of their numbers.
     #[inline]
     pub fn slot_of(&self, cell: usize) -> (Lock, u32)
         requires { cell < length self.now.cell_locks }
@@ -109,7 +109,7 @@ impl Layout {
         (place.lock, place.offset)
     }
 
-    /// How many cells a lock protects.
+    /// The number of cells that `lock` protects.
     #[inline]
     pub fn cells_of(&self, lock: Lock) -> u32
         requires { Contains self.now.locks lock }
@@ -118,7 +118,7 @@ impl Layout {
         self.sizes[self.numbering.number_of(lock)]
     }
 
-    /// The number of a lock: its place in the list of locks.
+    /// The number of `lock`: its index in the list of locks.
     #[inline]
     pub fn lock_number(&self, lock: Lock) -> usize
         requires { Contains self.now.locks lock }
@@ -127,7 +127,7 @@ impl Layout {
         self.numbering.number_of(lock)
     }
 
-    /// Whether it is one of the locks.
+    /// Whether `lock` is one of the locks.
     #[inline]
     pub fn has_lock(&self, lock: Lock) -> bool
         ensures { IsTrue result ↔ Contains self.now.locks lock }
@@ -143,7 +143,7 @@ impl Layout {
         self.numbering.locks.as_slice()
     }
 
-    /// How many cells there are.
+    /// The number of cells.
     #[inline]
     pub fn cells_count(&self) -> usize
         ensures { result ≡ length self.now.cell_locks }
@@ -151,7 +151,7 @@ impl Layout {
         self.cells.len()
     }
 
-    /// How many locks there are.
+    /// The number of locks.
     #[inline]
     pub fn locks_count(&self) -> usize
         ensures { result ≡ length self.now.locks }

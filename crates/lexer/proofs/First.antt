@@ -1,4 +1,4 @@
--- The first byte of a text, and what is behind it.
+-- The first byte of a text, and the bytes after it.
 use Rattle.std.proofs.Common.{◌≡◌, ◌∙◌, ◌+◌, ◌-◌, ◌*◌, ◌<◌, ◌≤◌, ℕ, List, [], ◌∷◌, length, take, drop, get_or, Bool}
 use Rattle.std.proofs.Common.{true, false, Some, Ok, Option, refl, sym, ap, arith}
 use Rattle.std.specs.Prelude.{◌==◌, ◌&&◌, ◌/◌}

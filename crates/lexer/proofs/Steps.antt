@@ -48,7 +48,7 @@ no_slashes b bs true e h =
     absurd (h (s.0, ap (λ (c : ℕ). c ∷ bs) (eqb-true b 47 p.0) ∙ ap (λ (l : List ℕ). 47 ∷ l) s.1))
 no_slashes b bs false e h = refl
 
--- what is no white space and no comment stands
+-- the text begins with neither white space nor a comment
 pub gap_end : (text : List ℕ) (b : ℕ) (bs : List ℕ) → IsGap text (b ∷ bs) → is_white b ≡ false →
     (BeginsComment (b ∷ bs) → ⊥) → skip text ≡ b ∷ bs
 gap_end text b bs g w c = skip_through g ∙ skip_stands (b ∷ bs) (w, no_slashes b bs ((b == 47) && is_slash bs) refl c)
@@ -227,7 +227,7 @@ spanned : (total : ℕ) (at bytes rest : List ℕ) (k : Lexeme) → at ≡ bytes
     tok_at total bytes rest k ≡ record { kind = k; span = record { start = total - length at; end = total - length rest } }
 spanned total at bytes rest k e = rw e refl
 
--- ---- where no token can be read
+-- ---- places at which no token can be read
 
 over_same : (t : List ℕ) (k l : Lexeme) → Over t k → (bytes rest : List ℕ) → t ≡ bytes ++ rest → IsUnit bytes l →
     IsLongest bytes rest → k ≡ l

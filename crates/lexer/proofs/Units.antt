@@ -1,4 +1,4 @@
--- Single tokens: what reading one answers is the longest unit at its place, and no other is.
+-- Single tokens: the result of reading one is the longest token at its place, and there is no other.
 use Rattle.std.proofs.Common.{◌≡◌, ℕ, Bool, true, false, cond, List, [], ◌∷◌, ◌++◌, length, Option, Some, None, Result}
 use Rattle.std.proofs.Common.{Ok, Err, refl, sym, ap, ◌∙◌, subst, arith, append_assoc}
 use Rattle.std.specs.Prelude.{not, nat_le}
@@ -44,7 +44,7 @@ not_true : (b : Bool) → not b ≡ true → b ≡ false
 not_true true e = absurd cc
 not_true false e = refl
 
--- ---- what a unit's first byte says of it
+-- ---- the kind of a unit, by its first byte
 
 word_parts : (b : ℕ) (bs : List ℕ) (w : Keyword) → keyword_text w ≡ b ∷ bs →
     (is_letter b ≡ true) × (list_all is_name_byte bs ≡ true)
@@ -156,7 +156,7 @@ same_kind a b k l h g e = let p : kind_of a ≡ Some k = kind_again h in let q :
 
 -- ---- two units at one place, both longest, are one
 
--- the same, of what is behind a beginning that both have
+-- the same, of what follows a beginning that both have
 same_behind : (before a b r s : List ℕ) (k l : Lexeme) → a ++ r ≡ b ++ s → IsUnit (before ++ a) k →
     IsUnit (before ++ b) l → IsLongest (before ++ a) r → IsLongest (before ++ b) s → a ≡ b
 same_behind before [] [] r s k l e u v m n = refl
@@ -191,7 +191,7 @@ pub record Reads (t : List ℕ) (k : Lexeme) (rest : List ℕ) : Type 0 where
   pub longest : IsLongest bytes rest
   pub small : IsWithin k
 
--- the code of a fault by which a token goes over a limit
+-- the code of the fault of a token that exceeds a limit
 abbrev pub over_code : Lexeme → Code
 over_code (int n) = NumberTooLarge
 over_code (name x) = LimitExceeded

@@ -1,3 +1,3 @@
--- What the code computes and values of its types, for proofs and for the crates above. Nobody has to believe these files: no promise
--- cites them.
+-- What the code computes, and values of its types, for proofs and for the crates above. Nobody has to believe these
+-- files: no promise cites them.
 pub mod Reading

@@ -1,7 +1,7 @@
-//! From the bytes of a source text to its tokens.
+//! The lexer: turns the bytes of a source text into its tokens.
 //!
-//! [`lex`] answers the tokens that the text has by the relation `HasTokens` of the crate `source`,
-//! or its first fault. [`one_list`] is the law that there is one such list at most.
+//! [`lex`] returns the tokens that the text has by the relation `HasTokens` of the crate `source`, or its first fault.
+//! [`one_list`] is the law that a text has at most one such list.
 #![tactic(auto)]
 
 mod bytes;

@@ -11,21 +11,21 @@ use std::alloc::{AllocError, Global};
 use std::rc::RcStr;
 use std::str::from_utf8_unchecked;
 
-/// A string interner: the names of a text so far, each once, so that names that are the same share their bytes.
+/// A string interner: each name of a text once, so that equal names share their bytes.
 #[derive(Drop)]
 pub struct Interner {
     texts: IndexSet<RcStr, KeyedState>,
 }
 
 impl Interner {
-    /// No names of this text.
+    /// An interner of the names of `text`, without any yet.
     pub fn new(alloc: Global, text: &[u8]) -> Interner {
         Interner {
             texts: IndexSet::with_hasher(alloc, KeyedState::of(text)),
         }
     }
 
-    /// The name of these bytes, shared with those before it that are the same.
+    /// The name of these bytes, which shares them with equal names before it.
     #[tactic(auto, using(crate::proofs::NameBytes::name_utf8, crate::proofs::NameBytes::same_bytes))]
     pub fn share(&mut self, alloc: Global, name: &[u8]) -> Result<RcStr, AllocError>
         requires { IsTrue (list_all is_name_byte name.now) }

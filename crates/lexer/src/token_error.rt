@@ -7,12 +7,12 @@ ghost use Rattle.lexer.specs.Working.Reading.{Refuses};
 use source::fault::{Code, Fault, Refusal};
 use std::alloc::{AllocError, Global};
 
-/// Why no token can be read. A fault is where the token begins, which the caller knows.
+/// The reason why no token can be read. The fault is at the first byte of the token, which the caller knows.
 #[derive(Debug, Drop)]
 pub enum TokenError {
-    /// No token, or one past a limit.
+    /// No token begins here, or one that exceeds a limit.
     Bad(Code),
-    /// A growth was refused.
+    /// An allocation failed.
     NoMemory,
 }
 

@@ -9,16 +9,14 @@ ghost use Rattle.source.specs.Texts.{HasTokens, DoRise, AreSlices, IsFault, IsRe
 
 use crate::bytes::after_gap;
 use crate::names::Interner;
-use crate::unit::{Kind, unit};
+use crate::unit::{UnitKind, unit};
 use source::fault::{Code, Fault, Refusal};
+use source::limits::SOURCE_LIMIT;
 use source::span::Span;
 use source::token::{Number, Token};
 use std::alloc::{AllocError, Global};
 
-/// The largest source, in bytes.
-const MOST_BYTES: usize = 1048576;
-
-/// The largest number that has its place in a token.
+/// The largest number that a token holds unboxed.
 const SMALL: u64 = 4294967295;
 
 fn span_at(start: usize, end: usize) -> Span
@@ -31,16 +29,16 @@ fn span_at(start: usize, end: usize) -> Span
     }
 }
 
-/// The token of this kind that stands there.
-fn token_at(alloc: Global, kind: Kind, start: usize, end: usize) -> Result<Token, AllocError>
+/// The token of `kind` from `start` to `end`.
+fn token_at(alloc: Global, kind: UnitKind, start: usize, end: usize) -> Result<Token, AllocError>
     requires { CanStand (seen_kind kind) start end }
     ensures { IfOk result (λ token. seen_token token ≡ record { kind = seen_kind kind; span = record { start = start; end = end } }) }
 {
     let value = match kind {
-        Kind::Name(text) => return Ok(Token::Name(start as u32, text)),
-        Kind::Word(word) => return Ok(Token::Word(span_at(start, end), word)),
-        Kind::Mark(sign) => return Ok(Token::Mark(span_at(start, end), sign)),
-        Kind::Int(value) => value,
+        UnitKind::Name(text) => return Ok(Token::Name(start as u32, text)),
+        UnitKind::Word(word) => return Ok(Token::Word(span_at(start, end), word)),
+        UnitKind::Mark(sign) => return Ok(Token::Mark(span_at(start, end), sign)),
+        UnitKind::Int(value) => value,
     };
     let span = span_at(start, end);
     if value <= SMALL {
@@ -52,25 +50,25 @@ fn token_at(alloc: Global, kind: Kind, start: usize, end: usize) -> Result<Token
     }
 }
 
-/// The tokens of the text, the last one being its end; or its first fault: a bad character
-/// (`E01`), a number too large (`E02`), a name of over 64 bytes (`E15`), or, ahead of all else and
-/// at its first byte, a text of over 1,048,576 bytes (`E15`). Any bytes may be given.
+/// The tokens of `text`, of which the last is its end, or its first fault: a bad character (`E01`), a number too large
+/// (`E02`), a name of over 64 bytes (`E15`), or, before all others and at byte 0, a text of over 1,048,576 bytes
+/// (`E15`). Any bytes may be given.
 ///
-/// The one other error is a refused growth.
+/// The only other error is a failed allocation.
 #[tactic(auto, using(crate::proofs::Steps::skip_le, crate::proofs::Steps::unit_shortens, crate::proofs::Steps::unit_stands, crate::proofs::Steps::begun))]
 pub fn lex(alloc: Global, text: &[u8]) -> Result<Vec<Token>, Refusal>
-    // What is answered is the text's tokens.
+    // The result is the text's token list.
     ensures found { IfOk result (λ tokens. HasTokens text.now (seen tokens.items)) }
     ensures slices { IfOk result (λ tokens. AreSlices text.now (seen tokens.items)) }
     ensures rise { IfOk result (λ tokens. DoRise 0 (seen tokens.items)) }
-    // A text within the limit that has tokens gets them, unless memory runs out.
+    // A text within the limit that has tokens gives them, unless memory runs out.
     ensures only { (ts : List Tok) → length text.now ≤ SOURCE_LIMIT → HasTokens text.now ts → IsGiven (λ t. seen t.items) ts result }
-    // A fault is a fault of the text.
+    // The fault is a fault of the text.
     ensures fault { IfErr result (IsRefusal text.now) }
-    // A text that has a fault is refused with that one, unless memory runs out.
+    // A text that has a fault is refused with it, unless memory runs out.
     ensures refused { (code : Code) (start : ℕ) → IsFault text.now code start → MatchResult result (λ _. ⊥) (IsFaultAt code start) }
 {
-    if text.len() > MOST_BYTES {
+    if text.len() > SOURCE_LIMIT {
         return Err(Refusal::Fault(Fault::at(alloc, Code::LimitExceeded, 0)));
     }
     let mut tokens = Vec::new(alloc);
@@ -93,7 +91,7 @@ pub fn lex(alloc: Global, text: &[u8]) -> Result<Vec<Token>, Refusal>
     }
 }
 
-/// A law: a text has one list of tokens at most.
+/// A law: a text has at most one list of tokens.
 pub fn one_list()
     ensures { (text : List ℕ) (a b : List Tok) → HasTokens text a → HasTokens text b → a ≡ b }
 {}

@@ -37,7 +37,7 @@ pub beyond : (heap : List Value) (rs : List (ℕ × Value)) (k : ℕ) (d : ℕ �
     length heap ≤ (get_or rs k d).0 → Agrees heap rs → ⊥
 beyond heap rs k d lt past a = absurd (omega (arith, past, slice_get_within heap (get_or rs k d).0 (get_or rs k d).1 (agrees_at heap rs k d lt a)))
 
--- what cells have, beside their numbers
+-- the values of cells, with their numbers
 pub have_at : (heap : List Value) (cs : List ℕ) (vs : List Value) (k c : ℕ) (v : Value) → length vs ≡ length cs →
     k < length cs → Agrees heap (numbered cs vs) →
     slice_get heap (get_or cs k c) ≡ Some (get_or vs k v)
@@ -184,7 +184,7 @@ pub values_on-more : (heap : List Value) (cs : List ℕ) (k d : ℕ) (v : Value)
     values_on heap (take (k + 1) cs) ≡ values_on heap (take k cs) ++ v ∷ []
 values_on-more heap cs k d v lt e = ap (values_on heap) (take_more cs k d lt) ∙ values_on-push heap (take k cs) (get_or cs k d) v e
 
--- one cell more of a row
+-- one more cell of a row
 pub one_value_more : (heap : List Value) (cs : List ℕ) (k d : ℕ) (e : Value) (vs more : List Value) → k < length cs →
     get_or cs k d < length heap →
     vs ≡ values_on heap (take k cs) → more ≡ vs ++ get_or heap (get_or cs k d) e ∷ [] → more ≡ values_on heap (take (k + 1) cs)
@@ -234,7 +234,7 @@ value_among heap (c ∷ cs) cell all k =
           ∙ later_cell (value_at (numbered cs (values_on heap cs)) cell ≡ slice_get heap cell) c cell cs k.0 k.1 k.2 h.1 (λ there. value_among heap cs cell rest there)
     ]
 
--- ---- one write more
+-- ---- one more write
 
 pub rise_more : (ws : List (ℕ × Value)) (k : ℕ) (w : ℕ × Value) → 1 ≤ k → k < length ws →
     ((i : ℕ) (d : ℕ × Value) → i + 1 < k → (get_or ws i d).0 < (get_or ws (i + 1) d).0) →

@@ -230,7 +230,8 @@ keep_refusal m ticket lock c =
 
 -- ---- release and give_up
 
--- what a section that is over leaves: its grants with these values, the others' cells as they were, and the waiters but it
+-- the parts that an ended section leaves: its grants with these values, the cells of the others unchanged, and the
+-- waiters without its thread
 pub record Leaves (m : Managed) (t : ℕ) (s : SessionOf) (gs : List GrantOf) (values : List Value) (waiters : List Waiter) : Type 0 where
   pub known : session_of m t ≡ Some s
   pub all : (lock : Lock) → Contains s.held lock → (g : GrantOf) × Contains gs g × (g.lock ≡ lock)
@@ -241,7 +242,7 @@ pub record Leaves (m : Managed) (t : ℕ) (s : SessionOf) (gs : List GrantOf) (v
   pub waits : (w : Waiter) → Contains m.waiters w → w.thread ≢ t → Contains waiters w
   pub waited : (w : Waiter) → Contains waiters w → Contains m.waiters w × (w.thread ≢ t)
 
--- the manager after it
+-- the manager after the section ended
 abbrev pub left_by : Managed → ℕ → List GrantOf → List Value → List Waiter → List Commit → Managed
 left_by m t gs values waiters history = record m {
   places = given_back m.layout.locks m.places gs;

@@ -1,4 +1,4 @@
--- Lists that a loop goes along.
+-- Lists that a loop visits.
 use Rattle.std.proofs.Common.{◌≡◌, ◌≢◌, ℕ, zero, suc, ◌+◌, ◌<◌, ◌≤◌, Bool, true, false, List, [], ◌∷◌, ◌++◌, length}
 use Rattle.std.proofs.Common.{take, get_or, map, set, Some, refl, sym, ap, ◌∙◌, subst, arith, IsTrue, inl, inr}
 use Rattle.std.specs.Prelude.{slice_get}
@@ -36,7 +36,7 @@ pub item_at : {X : Type 0} (P : X → Type 0) (xs : List X) (i : ℕ) (x : X) �
     All P xs → P x
 item_at P xs i x lt is all = subst P (sym is) (all i x lt)
 
--- ---- what stands where
+-- ---- the items of lists
 
 pub one_more_taken : {X : Type 0} (xs : List X) (k : ℕ) (x : X) (ys more : List X) → slice_get xs k ≡ Some x →
     ys ≡ take k xs → more ≡ ys ++ x ∷ [] → more ≡ take (k + 1) xs

@@ -1,4 +1,4 @@
--- Who waits, with some gone and some come.
+-- The waiting threads, after some left and some joined.
 use Rattle.std.proofs.Common.{◌≡◌, ◌≢◌, ℕ, zero, suc, ◌+◌, ◌<◌, ◌≤◌, List, [], ◌∷◌, ◌++◌, length, take, drop, get_or}
 use Rattle.std.proofs.Common.{inl, inr, refl, sym, ap, ◌∙◌, subst, arith, true, false, Some, None, append_assoc, Bool}
 use Rattle.std.specs.Prelude.{nat_eq, if◌then◌else◌, slice_get}
@@ -41,7 +41,7 @@ pub leaving-others : (t : ℕ) (ws : List Waiter) → All (λ (w : Waiter). w.th
 leaving-others t [] all = refl
 leaving-others t (w ∷ ws) all = stays t w ws (all 0 w (omega arith)) ∙ ap (λ xs. w ∷ xs) (leaving-others t ws (λ k d lt. all (suc k) d (omega (arith, lt))))
 
--- ---- who is left
+-- ---- the waiters that are left
 
 pub still_waits : (t : ℕ) (ws : List Waiter) (w : Waiter) → Contains ws w → w.thread ≢ t → Contains (leaving t ws) w
 still_waits t [] w c ne = absurd (omega (arith, c.1))
@@ -84,7 +84,7 @@ one_less t (x ∷ ws) w c e = elim (eqb_tells x.thread t) [
   ]
 ]
 
--- ---- whom to wake
+-- ---- the threads to wake
 
 first_there : (ts more : List ℕ) (t : ℕ) → Some t ≡ slice_get ts 0 → first_and ts more ≡ t ∷ more
 first_there [] more t e = absurd (none-some t (sym e))

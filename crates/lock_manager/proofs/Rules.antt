@@ -1,4 +1,4 @@
--- What follows from the manager's rules.
+-- Consequences of the manager's rules.
 use Rattle.std.proofs.Common.{◌≡◌, ◌≢◌, ℕ, zero, suc, ◌<◌, List, [], length, map, replicate, Option, Some, None, refl}
 use Rattle.std.proofs.Common.{sym, ap, ◌∙◌, subst, arith}
 use Rattle.std.specs.Prelude.{slice_get}
@@ -105,7 +105,7 @@ held_by_none m lock k none = by_place (place_of m lock) refl
     by_place (Some (Free values)) e = refl
     by_place (Some (Taken t)) e = absurd (none t (k.taken lock t e))
 
--- ---- nobody waits in a circle
+-- ---- no threads wait in a cycle
 
 slot_rises : (m : Managed) → IsKept m → (t : ℕ) (lock held : Lock) (o : Option SessionOf) →
     slice_get m.slots t ≡ Some o → (asker_of o).ask ≡ Some lock → Contains (asker_of o).held held →

@@ -42,7 +42,7 @@ closed_asks_nothing slots t lock s e free a =
     none-some lock (sym free ∙ ap (λ (x : SessionOf). x.ask) (sym same) ∙ a.ask)
 
 module _ (slots : List (Option SessionOf)) (t : ℕ) (s : Option SessionOf) (lt : t < length slots) where
-  -- who holds then
+  -- the holder after the change
   pub holds_cases : (u : ℕ) (lock : Lock) → Holds (set slots t s) u lock →
       ((t ≡ u) × (x : SessionOf) × (s ≡ Some x) × Contains x.held lock) ⊎ ((t ≢ u) × Holds slots u lock)
   holds_cases u lock h = elim (cases_eq t u) [
@@ -57,7 +57,7 @@ module _ (slots : List (Option SessionOf)) (t : ℕ) (s : Option SessionOf) (lt 
       Holds (set slots t s) u lock
   holds_same x u lock e is c = record { session = x; is = ap (session_in (set slots t s)) (sym e) ∙ session_same slots t s lt ∙ is; held = c }
 
-  -- who asks then
+  -- the asker after the change
   pub asks_cases : (u : ℕ) (lock : Lock) → Asks (set slots t s) u lock →
       ((t ≡ u) × (x : SessionOf) × (s ≡ Some x) × (x.ask ≡ Some lock)) ⊎ ((t ≢ u) × Asks slots u lock)
   asks_cases u lock a = elim (cases_eq t u) [

@@ -1,2 +1,2 @@
--- Lemmas, which are proved here for proofs of the crates above. Nobody has to believe these files: they are checked.
+-- Lemmas for proofs of the crates above. Nobody has to believe these files: they are proved here.
 pub mod Numbers

@@ -1,10 +1,10 @@
-//! What a request is answered.
+//! The answer to a request.
 
 use moved_cells::grant::Grant;
 
-/// What a request is answered.
+/// The answer to a request for a lock.
 pub enum Answer {
-    /// The lock, with its cells.
+    /// The lock is granted, with its cells.
     Granted(Grant),
     /// This other thread holds the lock.
     Held(u32),

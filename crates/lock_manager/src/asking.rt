@@ -1,11 +1,11 @@
-//! When a lock may be asked for.
+//! The order in which locks may be requested.
 
 ghost use Rattle.std.specs.Prelude.{◌↔◌, IsTrue};
 ghost use Rattle.lock_manager.specs.Working.Managers.{ComesAfter};
 
 use locks::lock::Lock;
 
-/// Whether a lock comes after all that are held.
+/// Whether `lock` comes after all locks in `held`.
 pub fn comes_after(ranks: &[u32], held: &[Lock], lock: Lock) -> bool
     ensures { IsTrue result ↔ ComesAfter ranks.now held.now lock }
 {

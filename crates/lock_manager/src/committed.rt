@@ -1,4 +1,4 @@
-//! What the entries leave in each cell.
+//! The values that the entries leave in each cell.
 
 ghost use Rattle.std.specs.Prelude.{◌≡◌, ◌↔◌, ◌<◌, [], length, map, slice_get, Some, IfOk, IsTrue};
 ghost use Rattle.std.specs.List.{Contains, All};
@@ -27,13 +27,13 @@ use source::memory::NoMemory;
 use std::alloc::Global;
 use std::marker::Model;
 
-/// The layout of a program, and what the entries leave in each of its cells.
+/// The layout of a program, and the value that the entries leave in each cell.
 #[derive(Drop)]
 pub struct Committed<'p> {
     layout: &'p Layout,
     // The cells of each lock, by the lock's number.
     members: Vec<Vec<usize>>,
-    // By cell. A section that gives up takes from here what it may have changed.
+    // By cell. A section that is given up restores from here what it may have changed.
     values: Vec<Value>,
 }
 
@@ -48,7 +48,11 @@ impl<'p> Model for Committed<'p> {
 }
 
 impl<'p> Committed<'p> {
-    /// No entries.
+    /// The state without entries: each cell has its initial value.
+    ///
+    /// # Errors
+    ///
+    /// Out of memory.
     pub fn open(alloc: Global, layout: &'p Layout) -> Result<Committed<'p>, NoMemory>
         requires { IsLayout layout.now }
         ensures { IfOk result (λ committed. committed ≡ at_opening layout.now) }
@@ -62,7 +66,11 @@ impl<'p> Committed<'p> {
         })
     }
 
-    /// All cells are with the manager.
+    /// The places of all locks while their cells are with the manager.
+    ///
+    /// # Errors
+    ///
+    /// Out of memory.
     pub fn free_places(&self, alloc: Global) -> Result<Vec<LockPlace>, NoMemory>
         ensures { IfOk result (λ places. places.items ≡ map (λ l. place.Free (lock_values self.now l)) self.now.layout.locks) }
     {
@@ -73,7 +81,7 @@ impl<'p> Committed<'p> {
         Ok(places)
     }
 
-    /// The number of a lock.
+    /// The number of `lock`.
     pub fn number_of(&self, lock: Lock) -> usize
         requires { Contains self.now.layout.locks lock }
         ensures at { slice_get self.now.layout.locks result ≡ Some lock }
@@ -82,14 +90,14 @@ impl<'p> Committed<'p> {
         self.layout.lock_number(lock)
     }
 
-    /// Whether it is one of the program's locks.
+    /// Whether `lock` is a lock of the program.
     pub fn has_lock(&self, lock: Lock) -> bool
         ensures { IsTrue result ↔ Contains self.now.layout.locks lock }
     {
         self.layout.has_lock(lock)
     }
 
-    // The cells of a lock.
+    // The cells of `lock`.
     fn row(&self, lock: Lock) -> &[usize]
         requires { Contains self.now.layout.locks lock }
         ensures cells { result.now ≡ cells_of self.now.layout.cell_locks lock }
@@ -98,7 +106,7 @@ impl<'p> Committed<'p> {
         self.members[self.number_of(lock)].as_slice()
     }
 
-    /// The lock of a cell.
+    /// The lock that protects `cell`, if the cell exists.
     pub fn lock_of(&self, cell: usize) -> Option<Lock>
         ensures lock { result ≡ slice_get self.now.layout.cell_locks cell }
         ensures listed { (lock : LockOf) → result ≡ Some lock → Contains self.now.layout.locks lock }
@@ -110,7 +118,7 @@ impl<'p> Committed<'p> {
         }
     }
 
-    /// Makes an entry's writes.
+    /// Applies `writes`.
     pub fn overwrite(&mut self, writes: &[CellValue])
         requires { AreOfCells self.old writes.now }
         ensures { self.new ≡ with_writes self.old writes.now }
@@ -118,7 +126,7 @@ impl<'p> Committed<'p> {
         write_all(&mut self.values, writes);
     }
 
-    /// The cells of these grants are back. None is left in the list.
+    /// Puts the cells of `grants` back to their places, and empties the list.
     pub fn put_back(&self, places: &mut Vec<LockPlace>, grants: &mut Vec<Grant>)
         requires count { length places.old.items ≡ length self.now.layout.locks }
         requires listed { All (λ g. Contains self.now.layout.locks g.lock) grants.old.items }
@@ -132,7 +140,7 @@ impl<'p> Committed<'p> {
         }
     }
 
-    /// The cells of these grants are back, with what the entries leave in them. None is left in the list.
+    /// Puts the cells of `grants` back with the values that the entries leave in them, and empties the list.
     pub fn restore(&self, places: &mut Vec<LockPlace>, grants: &mut Vec<Grant>)
         requires count { length places.old.items ≡ length self.now.layout.locks }
         requires listed { All (λ g. Contains self.now.layout.locks g.lock) grants.old.items }
@@ -148,7 +156,7 @@ impl<'p> Committed<'p> {
         }
     }
 
-    // The cells of a lock get what the entries leave in them.
+    // Sets the cells of `lock` to the values that the entries leave in them.
     fn reset(&self, lock: Lock, cells: &mut Cells)
         requires listed { Contains self.now.layout.locks lock }
         requires count { length cells.old ≡ length (cells_of self.now.layout.cell_locks lock) }
@@ -158,7 +166,7 @@ impl<'p> Committed<'p> {
         reset(cells, self.row(lock), &self.values, count);
     }
 
-    /// What the entries leave in a cell.
+    /// The value that the entries leave in `cell`.
     pub fn value(&self, cell: usize) -> Value
         requires { cell < length self.now.values }
         ensures { slice_get self.now.values cell ≡ Some result }
@@ -166,7 +174,7 @@ impl<'p> Committed<'p> {
         self.values[cell]
     }
 
-    /// Whether the cells have what was read.
+    /// Whether each cell in `reads` has the value that was read.
     pub fn agrees(&self, reads: &[CellValue]) -> bool
         ensures { IsTrue result ↔ Agrees self.now.values reads.now }
     {
@@ -181,7 +189,7 @@ impl<'p> Committed<'p> {
         are_whole(self.layout, grants)
     }
 
-    /// Whether each write is of a cell that one of these locks protects.
+    /// Whether each write is of a cell that one of the locks in `held` protects.
     #[inline(always)]
     pub fn are_own(&self, held: &[Lock], writes: &[CellValue]) -> bool
         ensures { IsTrue result ↔ All (IsOwnWrite self.now.layout.cell_locks held.now) writes.now }
@@ -198,7 +206,7 @@ impl<'p> Committed<'p> {
         true
     }
 
-    /// Whether the grants are what the entries leave, with these writes made.
+    /// Whether the cells of `grants` have the values that the entries leave, with `writes` applied.
     #[inline(always)]
     pub fn are_now(&self, grants: &[Grant], writes: &[CellValue]) -> bool
         requires listed { All (λ g. Contains self.now.layout.locks g.lock) grants.now }

@@ -1,4 +1,4 @@
-//! Which locks are held, and which grants are brought.
+//! Comparison of the locks that a section holds with the grants that it returns.
 
 ghost use Rattle.std.specs.Prelude.{◌↔◌, IsTrue};
 ghost use Rattle.std.specs.List.{Contains, All};
@@ -8,7 +8,7 @@ use layout::table::Layout;
 use locks::lock::Lock;
 use moved_cells::grant::Grant;
 
-// Whether a grant is of the lock.
+// Whether one of the grants is of `lock`.
 fn has_grant(grants: &[Grant], lock: Lock) -> bool
     ensures { IsTrue result ↔ Contains (locks_of grants.now) lock }
 {

@@ -1,4 +1,4 @@
-//! Cells that go to a thread, and grants that nobody waits for.
+//! Cells that go to a thread, and grants that are dropped.
 
 ghost use Rattle.std.specs.Prelude.{◌≡◌, ◌<◌, [], length, slice_get, slice_set, Some, IfOk, IfErr, OnOk, OnErr};
 ghost use Rattle.lock_manager.specs.declared.places.LockPlace.TheVariants as place;
@@ -8,7 +8,7 @@ use moved_cells::cells::Cells;
 use moved_cells::grant::Grant;
 use std::mem;
 
-/// Moves the cells at a number to a thread, or says which thread has them.
+/// Takes the cells at `number` for `thread`. The error is the thread that has them already.
 pub fn take(places: &mut Vec<LockPlace>, number: usize, thread: u32) -> Result<Cells, u32>
     requires { number < length places.old.items }
     ensures free { IfOk result (λ cells. slice_get places.old.items number ≡ Some (place.Free cells)) }
@@ -25,7 +25,7 @@ pub fn take(places: &mut Vec<LockPlace>, number: usize, thread: u32) -> Result<C
     }
 }
 
-/// Lets go of grants that are not of the section that brings them.
+/// Drops grants that are not those of the section that returns them.
 pub fn let_go(grants: &mut Vec<Grant>)
     ensures { grants.new.items ≡ [] }
 {

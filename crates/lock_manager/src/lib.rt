@@ -1,18 +1,18 @@
-//! The manager of locks: it lends the cells of each lock to one thread at a time, keeps who waits, and keeps the
-//! history.
+//! The lock manager (strict two-phase locking): it lends the cells of each lock to one section at a time, queues the
+//! threads that wait, and keeps the commit history.
 //!
-//! - [`manager::Manager`]: opens sections, grants locks, ends sections.
-//! - [`ticket::Ticket`], [`ticket::Receipt`]: the right to ask for a section's locks and to end it, and what ending
-//!   it gives.
-//! - [`answer::Answer`]: what a request is answered.
-//! - [`no_circle`]: where each noted ask is greater than all that its thread holds, nobody waits in a circle.
+//! - [`manager::Manager`]: opens sections, grants locks and ends sections.
+//! - [`ticket::Ticket`], [`ticket::Receipt`]: the right to ask for a section's locks and to end it, and the result of
+//!   ending it.
+//! - [`answer::Answer`]: the answer to a request.
+//! - [`no_circle`]: if each thread asks only for locks after all those that it holds, no threads wait in a cycle.
 //!
-//! To it a section is a transaction under strict two-phase locking: it takes locks as it goes on, and gives all of them
-//! back at its end, when its entry goes into the history.
+//! To the manager a section is a transaction: it acquires locks as it runs, and releases all of them at its end, when its
+//! entry is appended to the history.
 //!
-//! `specs/` defines what the manager keeps and its rules (`Managers`), what each call does (`Calls`), open sections and
-//! tickets (`Sessions`) and queues (`Queues`). `Committed` and `Ties` only say what
-//! the code relies on; nobody has to believe them.
+//! `specs/` defines the manager and its rules (`Managers`), the effect of each call (`Calls`), open sections and tickets
+//! (`Sessions`) and queues (`Queues`). `Committed` and `Ties` only say what the code relies on; nobody has to believe
+//! them.
 #![tactic(auto)]
 
 pub mod answer;

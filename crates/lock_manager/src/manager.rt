@@ -1,4 +1,4 @@
-//! The manager of locks.
+//! The lock manager.
 
 ghost use Rattle.std.specs.Prelude.{◌≡◌, ◌↔◌, ◌<◌, [], length, slice_get, Some, IfOk, OnErr, IsTrue, is_some};
 ghost use Rattle.std.specs.List.{Contains, All};
@@ -19,7 +19,7 @@ use crate::sections::Sections;
 use crate::ticket::{Receipt, Spare, Ticket};
 use core_lang::value::Value;
 use history::entries::History;
-use history::kept::Kept;
+use history::kept::EntryRef;
 use layout::room::Room;
 use layout::table::Layout;
 use locks::lock::Lock;
@@ -28,16 +28,16 @@ use source::memory::NoMemory;
 use std::alloc::Global;
 use std::marker::Model;
 
-/// Where the cells of each lock are, who waits for them, the open sections and the history. As a value it is all of
-/// these.
+/// The lock manager: the places of each lock's cells, the waiting threads, the open sections and the history. Its value
+/// is all of these.
 ///
-/// A section begins by [`Manager::begin`], which makes every growth that it can need here; what follows takes no
-/// memory.
+/// A section begins with [`Manager::begin`], which makes every allocation that the section can need in the manager.
+/// Later calls of the section allocate nothing.
 #[derive(Drop)]
 pub struct Manager<'p> {
-    // By class.
+    // The rank of each lock class.
     ranks: &'p [u32],
-    // By the lock's number.
+    // The place of each lock's cells, by the lock's number.
     places: Vec<LockPlace>,
     queue: Queue,
     sections: Sections,
@@ -60,11 +60,11 @@ impl<'p> Model for Manager<'p> {
 }
 
 impl<'p> Manager<'p> {
-    /// All cells are here, no section is open, and there are no entries. There can be 64 threads.
+    /// The initial manager, for 64 threads. It has all cells; no section is open, and the history is empty.
     ///
     /// # Errors
     ///
-    /// Want of memory.
+    /// Out of memory.
     pub fn open(
         alloc: Global,
         layout: &'p Layout,
@@ -87,11 +87,12 @@ impl<'p> Manager<'p> {
         })
     }
 
-    /// Opens a section of a thread, and makes all growths that it can need.
+    /// Opens a section of `thread` that needs at most `room`, and makes all allocations that it can need. The memory of
+    /// `spare` is used again.
     ///
     /// # Errors
     ///
-    /// Want of memory; the manager is as it was.
+    /// Out of memory. The manager is then unchanged.
     pub fn begin(
         &mut self,
         alloc: Global,
@@ -112,7 +113,8 @@ impl<'p> Manager<'p> {
         Ok(Ticket { pass })
     }
 
-    /// Asks for a lock.
+    /// Requests `lock` for the section of `ticket`. The lock is granted with its cells if it is free. Otherwise the
+    /// request is noted and the thread waits in the queue; the answer has the thread that holds the lock.
     pub fn request(&mut self, ticket: &mut Ticket, lock: Lock) -> Answer
         requires known { Knows self.old ticket.old }
         requires asks { CanAsk self.old ticket.old lock }
@@ -137,9 +139,14 @@ impl<'p> Manager<'p> {
         }
     }
 
-    /// Ends a section: its cells come back, and its entry goes last into the history. The list of the grants stays with
-    /// the caller, empty, and so do the lists of the entry, which the history copies: nothing large is moved.
-    pub fn release(&mut self, ticket: Ticket, grants: &mut Vec<Grant>, entry: &Kept<'_>) -> Receipt
+    /// Ends the section of `ticket`: its cells come back, and its entry is appended to the history. The list of grants is
+    /// left empty, and the history copies the lists of `entry`, so that the caller can use the memory of both again.
+    pub fn release(
+        &mut self,
+        ticket: Ticket,
+        grants: &mut Vec<Grant>,
+        entry: &EntryRef<'_>,
+    ) -> Receipt
         requires known { Knows self.old ticket }
         requires fits { Fits self.old ticket grants.old.items entry.now }
         requires within { IsWithin ticket.session.room.cells entry.now }
@@ -158,8 +165,8 @@ impl<'p> Manager<'p> {
         Receipt { position, pass }
     }
 
-    /// Ends a section without an entry, where the grants are exactly those of its thread's slot. None is left in the
-    /// list in either case.
+    /// Ends the section of `ticket` without an entry, if `grants` are exactly those of its thread's slot. Otherwise the
+    /// manager is unchanged. The list is left empty in either case.
     pub fn give_up(&mut self, ticket: Ticket, grants: &mut Vec<Grant>)
         ensures given_up { GivesUp self.old ticket grants.old.items self.new }
         ensures none { grants.new.items ≡ [] }
@@ -176,7 +183,7 @@ impl<'p> Manager<'p> {
         }
     }
 
-    /// Whether the slot of the ticket's thread has what the ticket says.
+    /// Whether the slot of the ticket's thread equals the section of the ticket.
     #[inline(always)]
     pub fn knows(&self, ticket: &Ticket) -> bool
         ensures { IsTrue result ↔ Knows self.now ticket.now }
@@ -187,7 +194,7 @@ impl<'p> Manager<'p> {
         }
     }
 
-    /// Whether the section of a ticket may ask for this lock.
+    /// Whether the section of `ticket` may ask for `lock`.
     pub fn can_ask(&self, ticket: &Ticket, lock: Lock) -> bool
         ensures { IsTrue result ↔ CanAsk self.now ticket.now lock }
     {
@@ -201,9 +208,9 @@ impl<'p> Manager<'p> {
         self.committed.has_lock(lock)
     }
 
-    /// Whether [`Manager::release`] may be called, with an entry that the ticket's room holds: the ticket is known, and
-    /// the section may end with these grants and this entry.
-    pub fn fits(&self, ticket: &Ticket, grants: &[Grant], entry: &Kept<'_>) -> bool
+    /// Whether [`Manager::release`] may be called with these arguments, for an entry that the ticket's room holds: the
+    /// ticket is known, and the section may end with `grants` and `entry`.
+    pub fn fits(&self, ticket: &Ticket, grants: &[Grant], entry: &EntryRef<'_>) -> bool
         ensures { IsTrue result ↔ CanRelease self.now ticket.now grants.now entry.now }
     {
         if !self.knows(ticket) {
@@ -229,7 +236,7 @@ impl<'p> Manager<'p> {
         self.committed.are_now(grants, entry.writes())
     }
 
-    // Whether the grants are exactly those of the thread's open section.
+    // Whether `grants` are exactly those of the open section of `thread`.
     fn are_its_grants(&self, thread: u32, grants: &[Grant]) -> bool
         ensures { IsTrue result ↔ AreItsGrants self.now thread grants.now }
     {
@@ -239,7 +246,7 @@ impl<'p> Manager<'p> {
         }
     }
 
-    // Whether the grants are of exactly these locks.
+    // Whether `grants` are of exactly the locks in `held`.
     fn are_of(&self, held: &[Lock], grants: &[Grant]) -> bool
         requires { All (Contains self.now.layout.locks) held.now }
         ensures { IsTrue result ↔ AreOf self.now.layout.cell_locks held.now grants.now }
@@ -256,7 +263,7 @@ impl<'p> Manager<'p> {
         self.committed.are_whole(grants)
     }
 
-    /// Whether a thread has an open section.
+    /// Whether `thread` has an open section.
     pub fn is_open(&self, thread: u32) -> bool
         ensures { result ≡ is_some (session_of self.now thread) }
     {
@@ -270,21 +277,21 @@ impl<'p> Manager<'p> {
         self.sections.are_none()
     }
 
-    /// The i-th thread that waits for a lock.
+    /// The thread at place `i`, from 0, of the queue for `lock`.
     pub fn waiting(&self, lock: Lock, i: usize) -> Option<u32>
         ensures { result ≡ slice_get (waiting_for self.now lock) i }
     {
         self.queue.nth(lock, i)
     }
 
-    /// The thread that holds a lock.
+    /// The thread whose open section holds `lock`.
     pub fn holder(&self, lock: Lock) -> Option<u32>
         ensures { result ≡ holder_of self.now lock }
     {
         self.sections.holder(lock)
     }
 
-    /// What a cell holds, unless a section holds it.
+    /// The value of `cell`, if no section holds its lock.
     pub fn cell(&self, cell: usize) -> Option<Value>
         ensures { result ≡ cell_of self.now cell }
     {
@@ -296,7 +303,7 @@ impl<'p> Manager<'p> {
         }
     }
 
-    /// What the entries leave in a cell.
+    /// The value that the entries leave in `cell`.
     pub fn committed(&self, cell: usize) -> Value
         requires { cell < length self.now.values }
         ensures { slice_get self.now.values cell ≡ Some result }
@@ -304,14 +311,14 @@ impl<'p> Manager<'p> {
         self.committed.value(cell)
     }
 
-    /// The entries.
+    /// The entries in order.
     pub fn history(&self) -> &History
         ensures { result.now.commits ≡ self.now.history }
     {
         &self.history
     }
 
-    /// The manager keeps its rules, and nobody waits in a circle.
+    /// A law: the manager keeps its invariant, and no threads wait in a cycle.
     pub fn keeps_its_rules(&self)
         ensures rules_kept { IsKept self.now }
         ensures no_circle { HasNoCycle (askers_of self.now) }

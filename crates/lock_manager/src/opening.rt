@@ -1,4 +1,4 @@
-//! The cells of each lock, and what they hold at first.
+//! The cells of each lock, and their initial values.
 
 ghost use Rattle.std.specs.Prelude.{◌≡◌, [], replicate, IfOk};
 ghost use Rattle.lock_manager.specs.Working.Managers.{IsLayout};
@@ -9,7 +9,7 @@ use layout::table::Layout;
 use source::memory::NoMemory;
 use std::alloc::Global;
 
-// As many empty rows.
+// A list of `count` empty rows.
 fn empty_rows(alloc: Global, count: usize) -> Result<Vec<Vec<usize>>, NoMemory>
     ensures { IfOk result (λ all. rows all.items ≡ replicate count []) }
 {
@@ -21,6 +21,10 @@ fn empty_rows(alloc: Global, count: usize) -> Result<Vec<Vec<usize>>, NoMemory>
 }
 
 /// The cells of each lock, by the lock's number.
+///
+/// # Errors
+///
+/// Out of memory.
 pub fn members(alloc: Global, layout: &Layout) -> Result<Vec<Vec<usize>>, NoMemory>
     requires { IsLayout layout.now }
     ensures { IfOk result (λ all. rows all.items ≡ members_of layout.now) }
@@ -33,7 +37,11 @@ pub fn members(alloc: Global, layout: &Layout) -> Result<Vec<Vec<usize>>, NoMemo
     Ok(all)
 }
 
-/// What all cells hold at first.
+/// The initial values of all cells.
+///
+/// # Errors
+///
+/// Out of memory.
 pub fn opening_values(alloc: Global, layout: &Layout) -> Result<Vec<Value>, NoMemory>
     requires { IsLayout layout.now }
     ensures { IfOk result (λ values. values.items ≡ layout.now.opening) }

@@ -1,12 +1,12 @@
-//! Where the cells of a lock are.
+//! The places of a lock's cells.
 
 use moved_cells::cells::Cells;
 
-/// Where the cells of a lock are.
+/// The place of a lock's cells.
 #[derive(Drop)]
 pub enum LockPlace {
     /// With the manager.
     Free(Cells),
-    /// With a thread.
+    /// With the open section of this thread.
     Taken(u32),
 }

@@ -1,4 +1,4 @@
-//! Who waits.
+//! The queue of waiting threads.
 
 ghost use Rattle.std.specs.Prelude.{◌≡◌, ◌<◌, [], ◌∷◌, ◌++◌, length, slice_get, vec_capacity, None, IfOk};
 ghost use Rattle.lock_manager.specs.Working.Queues.{joining, leaving, waiting_in};
@@ -13,12 +13,12 @@ use std::marker::Model;
 pub struct Waiter {
     /// The thread.
     pub thread: u32,
-    /// The lock.
+    /// The lock for which it waits.
     pub lock: Lock,
 }
 
-/// The threads that wait, in the order in which they first asked. A thread waits for one lock at a time, so that one
-/// short queue serves all locks, of which there can be millions.
+/// The threads that wait, in the order in which they first asked. A thread waits for one lock at a time; one short queue
+/// therefore serves all locks, of which a program can have millions.
 #[derive(Drop)]
 pub struct Queue {
     waiters: Vec<Waiter>,
@@ -36,7 +36,11 @@ impl Model for Queue {
 }
 
 impl Queue {
-    /// Nobody waits; there is room for 64 threads.
+    /// An empty queue with room for 64 threads.
+    ///
+    /// # Errors
+    ///
+    /// Out of memory.
     pub fn new(alloc: Global) -> Result<Queue, NoMemory>
         ensures { IfOk result (λ queue. queue ≡ []) }
     {
@@ -44,7 +48,7 @@ impl Queue {
         Ok(Queue { waiters })
     }
 
-    /// One waits: behind the others, or, where it asked before, at the place that it has.
+    /// Appends `waiter` if `asked` is none. A waiter that asked before keeps its place.
     pub fn wait(&mut self, asked: Option<Lock>, waiter: Waiter)
         requires { asked ≡ None → length self.old < 64 }
         ensures { self.new ≡ joining asked waiter self.old }
@@ -54,14 +58,14 @@ impl Queue {
         }
     }
 
-    /// A thread waits no more.
+    /// Removes `thread`.
     pub fn leave(&mut self, thread: u32)
         ensures { self.new ≡ leaving thread self.old }
     {
         remove_all(&mut self.waiters, thread);
     }
 
-    /// The i-th thread that waits for a lock.
+    /// The thread at place `i`, from 0, among those that wait for `lock`.
     pub fn nth(&self, lock: Lock, i: usize) -> Option<u32>
         ensures { result ≡ slice_get (waiting_in self.now lock) i }
     {
@@ -78,7 +82,7 @@ impl Queue {
     }
 }
 
-// Removes a thread.
+// Removes the waiters of `thread`.
 fn remove_all(waiters: &mut Vec<Waiter>, thread: u32)
     ensures items { waiters.new.items ≡ leaving thread waiters.old.items }
     ensures capacity { vec_capacity waiters.new ≡ vec_capacity waiters.old }

@@ -16,11 +16,11 @@ use std::alloc::Global;
 use std::marker::Model;
 use std::mem;
 
-/// For each thread its open section.
+/// The open section of each thread.
 #[derive(Drop)]
 pub struct Sections {
     slots: Vec<Option<Session>>,
-    // For each thread the memory that its next section takes. What stands in it doesn't matter.
+    // For each thread, the memory for its next section. Its contents don't matter.
     spare: Vec<Vec<Lock>>,
 }
 
@@ -36,7 +36,11 @@ impl Model for Sections {
 }
 
 impl Sections {
-    /// No section is open; there is a slot for each of 64 threads.
+    /// No open sections, with a slot for each of 64 threads.
+    ///
+    /// # Errors
+    ///
+    /// Out of memory.
     pub fn new(alloc: Global) -> Result<Sections, NoMemory>
         ensures { IfOk result (λ sections. sections ≡ replicate 64 None) }
     {
@@ -49,7 +53,7 @@ impl Sections {
         Ok(Sections { slots, spare })
     }
 
-    /// A thread's section, if one is open.
+    /// The open section of `thread`, if it has one.
     pub fn of(&self, thread: u32) -> Option<&Session>
         ensures { MatchOption result (session_in self.now thread ≡ None) (λ s. session_in self.now thread ≡ Some s.now) }
     {
@@ -59,7 +63,7 @@ impl Sections {
         }
     }
 
-    /// How many cells a thread's section can touch; none where no section is open.
+    /// The number of cells that the open section of `thread` can touch; 0 without an open section.
     pub fn cells(&self, thread: u32) -> usize
         ensures { result ≡ cells_if_open (session_in self.now thread) }
     {
@@ -82,11 +86,11 @@ impl Sections {
         true
     }
 
-    /// What is known of a section of a thread that is about to begin, in the memory that the thread's last one had.
+    /// A session for the next section of `thread`, in the memory of the thread's last one.
     ///
     /// # Errors
     ///
-    /// Want of memory.
+    /// Out of memory.
     pub fn session(
         &mut self,
         alloc: Global,
@@ -102,7 +106,7 @@ impl Sections {
         Session::new(begun, room, held)
     }
 
-    /// A thread's section begins.
+    /// Sets the open section of `thread`.
     pub fn open(&mut self, thread: u32, session: Session)
         requires { thread < 64 }
         ensures { self.new ≡ slice_set self.old thread (Some session) }
@@ -110,7 +114,7 @@ impl Sections {
         self.slots[thread as usize] = Some(session);
     }
 
-    /// A thread's section is granted a lock.
+    /// Notes that the open section of `thread` is granted `lock`.
     pub fn grant(&mut self, thread: u32, lock: Lock)
         requires { HasRoom self.old thread }
         ensures { IsChanged (λ s. with_lock s lock) self.old thread self.new }
@@ -121,7 +125,7 @@ impl Sections {
         }
     }
 
-    /// A thread's section asked for a lock.
+    /// Notes that the open section of `thread` asks for `lock`.
     pub fn note(&mut self, thread: u32, lock: Lock)
         requires { session_in self.old thread ≢ None }
         ensures { IsChanged (λ s. with_ask s lock) self.old thread self.new }
@@ -132,7 +136,7 @@ impl Sections {
         }
     }
 
-    /// The thread whose section holds a lock.
+    /// The thread whose open section holds `lock`.
     pub fn holder(&self, lock: Lock) -> Option<u32>
         ensures { MatchOption result ((t : ℕ) → Holds self.now t lock → ⊥) (λ t. Holds self.now t lock) }
     {
@@ -145,7 +149,7 @@ impl Sections {
         None
     }
 
-    // Whether a thread's section holds a lock.
+    // Whether the open section of `thread` holds `lock`.
     fn holds(&self, thread: u32, lock: Lock) -> bool
         ensures { IsTrue result ↔ Holds self.now thread lock }
     {
@@ -155,7 +159,7 @@ impl Sections {
         }
     }
 
-    /// A thread's section is over.
+    /// Removes the open section of `thread`, and keeps its memory.
     pub fn close(&mut self, thread: u32)
         requires { thread < 64 }
         ensures { self.new ≡ slice_set self.old thread None }

@@ -1,4 +1,4 @@
-//! What is known of an open section.
+//! The manager's record of an open section.
 
 ghost use Rattle.std.specs.Prelude.{◌≡◌, ◌<◌, ◌↔◌, length, IfOk, IsTrue, OnOk};
 ghost use Rattle.lock_manager.specs.Working.Sessions.{fresh, with_lock, with_ask};
@@ -9,7 +9,8 @@ use locks::lock::Lock;
 use source::memory::NoMemory;
 use std::marker::Model;
 
-/// What is known of an open section.
+/// The record of an open section: the length of the history when it began, the locks that it holds, the lock that it asks
+/// for, and the most that it can need.
 #[derive(Drop)]
 pub struct Session {
     begun: usize,
@@ -30,8 +31,12 @@ impl Model for Session {
 }
 
 impl Session {
-    /// A section begins; there is room for the locks that it can hold, in memory that is made larger where it is too
-    /// small.
+    /// The record of a section that begins, with room for the locks that it can hold. It uses the memory of `held`, which
+    /// grows if it is too small.
+    ///
+    /// # Errors
+    ///
+    /// Out of memory.
     pub fn new(begun: usize, room: Room, mut held: Vec<Lock>) -> Result<Session, NoMemory>
         ensures { IfOk result (λ session. session ≡ fresh begun room) }
     {
@@ -45,7 +50,11 @@ impl Session {
         })
     }
 
-    /// The next section begins, in the same memory.
+    /// Begins the next section in the same memory.
+    ///
+    /// # Errors
+    ///
+    /// Out of memory.
     pub fn renew(&mut self, begun: usize, room: Room) -> Result<(), NoMemory>
         ensures { OnOk result (self.new ≡ fresh begun room) }
     {
@@ -57,14 +66,14 @@ impl Session {
         Ok(())
     }
 
-    /// What it can need at most.
+    /// The most that the section can need.
     pub fn room(&self) -> Room
         ensures { result ≡ self.now.room }
     {
         self.room
     }
 
-    /// The memory that it took.
+    /// The memory of the record.
     pub fn into_memory(self) -> Vec<Lock> {
         let Session {
             begun: _,
@@ -75,7 +84,7 @@ impl Session {
         held
     }
 
-    /// A lock is granted.
+    /// Notes that `lock` is granted.
     pub fn grant(&mut self, lock: Lock)
         requires { length self.old.held < self.old.room.locks }
         ensures { self.new ≡ with_lock self.old lock }
@@ -84,42 +93,42 @@ impl Session {
         self.ask = None;
     }
 
-    /// A lock is asked for.
+    /// Notes that `lock` is asked for.
     pub fn note(&mut self, lock: Lock)
         ensures { self.new ≡ with_ask self.old lock }
     {
         self.ask = Some(lock);
     }
 
-    /// How long the history was when it began.
+    /// The length of the history when the section began.
     pub fn begun(&self) -> usize
         ensures { result ≡ self.now.begun }
     {
         self.begun
     }
 
-    /// How many cells it can touch.
+    /// The number of cells that the section can touch.
     pub fn cells(&self) -> usize
         ensures { result ≡ self.now.room.cells }
     {
         self.room.cells
     }
 
-    /// The locks that it holds, the oldest first.
+    /// The locks that the section holds, the oldest first.
     pub fn held(&self) -> &[Lock]
         ensures { result.now ≡ self.now.held }
     {
         self.held.as_slice()
     }
 
-    /// The lock that it asked for and wasn't granted yet.
+    /// The lock that the section has asked for and not yet been granted.
     pub fn ask(&self) -> Option<Lock>
         ensures { result ≡ self.now.ask }
     {
         self.ask
     }
 
-    /// Whether it has room for one lock more, and asked for no other.
+    /// Whether the section has room for one more lock, and has not asked for a lock other than `lock`.
     pub fn may_take(&self, lock: Lock) -> bool
         ensures { IsTrue result ↔ MayTake self.now lock }
     {
@@ -132,7 +141,7 @@ impl Session {
         }
     }
 
-    /// Whether the other says the same.
+    /// Whether both records are equal.
     pub fn says(&self, other: &Session) -> bool
         ensures { IsTrue result ↔ (self.now ≡ other.now) }
     {

@@ -1,4 +1,4 @@
-//! Tickets and receipts, and the memory that they take.
+//! Tickets and receipts, and their memory.
 
 ghost use Rattle.std.specs.Prelude.{◌≡◌, ◌<◌, ◌≤◌, ◌↔◌, length, slice_get, IfOk, IsTrue, OnOk, vec_len, vec_capacity};
 ghost use Rattle.history.specs.{IsWithin};
@@ -8,43 +8,43 @@ ghost use Rattle.lock_manager.specs.Working.Calls.{ticket_with, first_waiters};
 
 use crate::queue::Queue;
 use crate::session::Session;
-use history::kept::Kept;
+use history::kept::EntryRef;
 use layout::room::Room;
 use locks::lock::Lock;
 use source::memory::NoMemory;
 use std::alloc::Global;
 use std::marker::Model;
 
-// What a ticket has, in one block that goes from one section to the next. In memory that is kept, what stands in it doesn't
+// The contents of a ticket, in one block that is passed from one section to the next. The contents of a kept block don't
 // matter.
 #[derive(Drop)]
-pub(crate) struct Pass {
+pub(crate) struct TicketBlock {
     pub(crate) thread: u32,
     pub(crate) session: Session,
-    // Room for whom to wake at the end.
+    // The threads to wake at the end.
     pub(crate) wake: Vec<u32>,
 }
 
-/// Memory for a ticket. What stands in it doesn't matter.
+/// Memory for a ticket. Its contents don't matter.
 #[derive(Drop)]
 pub struct Spare {
-    pass: Option<Box<Pass>>,
+    pass: Option<Box<TicketBlock>>,
 }
 
 impl Spare {
-    /// None yet.
+    /// No memory yet.
     pub fn new() -> Spare {
         Spare { pass: None }
     }
 
-    // What a ticket has for a section that begins, with room for whom to wake.
+    // The block of a ticket for a section that begins, with room for the threads to wake.
     pub(crate) fn pass(
         self,
         alloc: Global,
         thread: u32,
         begun: usize,
         room: Room,
-    ) -> Result<Box<Pass>, NoMemory>
+    ) -> Result<Box<TicketBlock>, NoMemory>
         ensures thread { IfOk result (λ p. p.value.thread ≡ thread) }
         ensures session { IfOk result (λ p. p.value.session ≡ fresh begun room) }
         ensures waking { IfOk result (λ p. HasWakingRoom p.value.session (vec_len p.value.wake) (vec_capacity p.value.wake)) }
@@ -56,7 +56,7 @@ impl Spare {
                 let wake = waking_room(room.locks, Vec::new(alloc))?;
                 Ok(Box::new(
                     alloc,
-                    Pass {
+                    TicketBlock {
                         thread,
                         session,
                         wake,
@@ -69,11 +69,11 @@ impl Spare {
 
 // The same, in the block of the last section.
 fn renewed(
-    mut pass: Box<Pass>,
+    mut pass: Box<TicketBlock>,
     thread: u32,
     begun: usize,
     room: Room,
-) -> Result<Box<Pass>, NoMemory>
+) -> Result<Box<TicketBlock>, NoMemory>
     ensures thread { IfOk result (λ p. p.value.thread ≡ thread) }
     ensures session { IfOk result (λ p. p.value.session ≡ fresh begun room) }
     ensures waking { IfOk result (λ p. HasWakingRoom p.value.session (vec_len p.value.wake) (vec_capacity p.value.wake)) }
@@ -82,7 +82,7 @@ fn renewed(
     Ok(pass)
 }
 
-fn renew(pass: &mut Pass, thread: u32, begun: usize, room: Room) -> Result<(), NoMemory>
+fn renew(pass: &mut TicketBlock, thread: u32, begun: usize, room: Room) -> Result<(), NoMemory>
     ensures thread { pass.new.thread ≡ thread }
     ensures session { OnOk result (pass.new.session ≡ fresh begun room) }
     ensures waking { OnOk result (HasWakingRoom pass.new.session (vec_len pass.new.wake) (vec_capacity pass.new.wake)) }
@@ -92,7 +92,7 @@ fn renew(pass: &mut Pass, thread: u32, begun: usize, room: Room) -> Result<(), N
     empty_for(room.locks, &mut pass.wake)
 }
 
-// Nobody to wake yet, and room for so many, in memory that is made larger where it is too small.
+// Empties the list of threads to wake, and makes room for `locks` threads. Errors: out of memory.
 fn empty_for(locks: usize, wake: &mut Vec<u32>) -> Result<(), NoMemory>
     ensures none { vec_len wake.new ≡ 0 }
     ensures room { OnOk result (locks ≤ vec_capacity wake.new) }
@@ -102,7 +102,7 @@ fn empty_for(locks: usize, wake: &mut Vec<u32>) -> Result<(), NoMemory>
     Ok(())
 }
 
-// The same in a list of its own.
+// An empty list of threads to wake, with room for `locks` threads, in the memory of `wake`.
 fn waking_room(locks: usize, mut wake: Vec<u32>) -> Result<Vec<u32>, NoMemory>
     ensures none { IfOk result (λ woken. vec_len woken ≡ 0) }
     ensures room { IfOk result (λ woken. locks ≤ vec_capacity woken) }
@@ -111,9 +111,9 @@ fn waking_room(locks: usize, mut wake: Vec<u32>) -> Result<Vec<u32>, NoMemory>
     Ok(wake)
 }
 
-/// The right to ask for locks for a thread's section, and to end it. It can't be copied, and must be used up.
+/// The right to ask for locks for a thread's section and to end it. It can't be copied, and must be used up.
 pub struct Ticket {
-    pub(crate) pass: Box<Pass>,
+    pub(crate) pass: Box<TicketBlock>,
 }
 
 impl Model for Ticket {
@@ -139,7 +139,7 @@ impl Ticket {
         self.pass.thread
     }
 
-    /// How long the history was when the section began.
+    /// The length of the history when the section began.
     #[inline]
     pub fn begun(&self) -> usize
         ensures { result ≡ self.now.session.begun }
@@ -155,9 +155,9 @@ impl Ticket {
         self.pass.session.held()
     }
 
-    /// Whether the begin made room for such an entry: with what [`crate::manager::Manager::fits`] tests, that is all that
-    /// [`crate::manager::Manager::release`] asks for.
-    pub fn has_room_for(&self, entry: &Kept<'_>) -> bool
+    /// Whether the begin of the section made room for `entry`. With [`crate::manager::Manager::fits`] this is all that
+    /// [`crate::manager::Manager::release`] requires.
+    pub fn has_room_for(&self, entry: &EntryRef<'_>) -> bool
         ensures { IsTrue result ↔ IsWithin self.now.session.room.cells entry.now }
     {
         let cells = self.pass.session.room().cells;
@@ -169,14 +169,14 @@ impl Ticket {
 }
 
 impl Ticket {
-    // The lock that it asked for and wasn't granted yet.
+    // The lock that the section has asked for and not yet been granted.
     pub(crate) fn ask(&self) -> Option<Lock>
         ensures { result ≡ self.now.session.ask }
     {
         self.pass.session.ask()
     }
 
-    // A lock is granted.
+    // Notes that `lock` is granted.
     pub(crate) fn grant(&mut self, lock: Lock)
         requires { length self.old.session.held < self.old.session.room.locks }
         ensures { self.new ≡ ticket_with self.old (with_lock self.old.session lock) }
@@ -184,21 +184,21 @@ impl Ticket {
         self.pass.session.grant(lock);
     }
 
-    // A lock is asked for.
+    // Notes that `lock` is asked for.
     pub(crate) fn note(&mut self, lock: Lock)
         ensures { self.new ≡ ticket_with self.old (with_ask self.old.session lock) }
     {
         self.pass.session.note(lock);
     }
 
-    // What is known of its section.
+    // The record of the section.
     pub(crate) fn session(&self) -> &Session
         ensures { result.now ≡ self.now.session }
     {
         &self.pass.session
     }
 
-    // Lets it go: its section is over.
+    // Drops the ticket, and returns its thread.
     pub(crate) fn into_thread(self) -> u32
         ensures { result ≡ self.thread }
     {
@@ -206,8 +206,8 @@ impl Ticket {
         pass.thread
     }
 
-    // Its thread and its block, with, for each of its locks, the first that waits for it.
-    pub(crate) fn woken(self, queue: &Queue) -> (u32, Box<Pass>)
+    // Ends the ticket: returns its thread and its block, with the first waiter for each of its locks.
+    pub(crate) fn woken(self, queue: &Queue) -> (u32, Box<TicketBlock>)
         ensures thread { result.0 ≡ self.thread }
         ensures wake { result.1.value.wake.items ≡ first_waiters queue.now self.session.held }
     {
@@ -219,7 +219,7 @@ impl Ticket {
     }
 }
 
-// Notes for each of these locks the first that waits for it.
+// Appends to `wake` the first waiter for each lock in `held` that has one.
 fn wake_first(held: &[Lock], queue: &Queue, wake: &mut Vec<u32>)
     requires none { vec_len wake.old ≡ 0 }
     requires room { length held.now ≤ vec_capacity wake.old }
@@ -232,11 +232,11 @@ fn wake_first(held: &[Lock], queue: &Queue, wake: &mut Vec<u32>)
     }
 }
 
-/// What the end of a section gives: the position of its entry, and whom to wake.
+/// The result of ending a section: the position of its entry, and the threads to wake.
 #[derive(Drop)]
 pub struct Receipt {
     pub(crate) position: usize,
-    pub(crate) pass: Box<Pass>,
+    pub(crate) pass: Box<TicketBlock>,
 }
 
 impl Model for Receipt {
@@ -256,7 +256,7 @@ impl Receipt {
         self.position
     }
 
-    /// The i-th thread to wake.
+    /// The thread at place `i`, from 0, of the threads to wake.
     #[inline]
     pub fn wake(&self, i: usize) -> Option<u32>
         ensures { result ≡ slice_get self.now.wake i }
@@ -264,7 +264,7 @@ impl Receipt {
         self.pass.wake.get(i).copied()
     }
 
-    /// The memory of its ticket, for the next section of its thread.
+    /// The memory of the ticket, for the thread's next section.
     pub fn into_spare(self) -> Spare {
         let Receipt { position: _, pass } = self;
         Spare { pass: Some(pass) }

@@ -1,4 +1,4 @@
-//! Values of cells: written, copied and compared.
+//! Writing, copying and comparing the values of cells.
 
 ghost use Rattle.std.specs.Prelude.{◌≡◌, ◌<◌, ◌↔◌, length, slice_get, Some, IfOk, IsTrue};
 ghost use Rattle.std.specs.List.{All};
@@ -12,7 +12,7 @@ use moved_cells::cells::Cells;
 use source::memory::NoMemory;
 use std::alloc::Global;
 
-/// Makes these writes. Of two of one cell the first counts, so the last one is made first.
+/// Applies `writes`, the last one first: of two writes of one cell the first one counts.
 pub fn write_all(values: &mut Vec<Value>, writes: &[CellValue])
     requires { All (λ w. w.0 < length values.old.items) writes.now }
     ensures { values.new.items ≡ overwritten values.old.items writes.now }
@@ -25,7 +25,11 @@ pub fn write_all(values: &mut Vec<Value>, writes: &[CellValue])
     }
 }
 
-/// What some cells hold.
+/// The values of the cells in `row`.
+///
+/// # Errors
+///
+/// Out of memory.
 pub fn cells_with(alloc: Global, row: &[usize], values: &[Value]) -> Result<Cells, NoMemory>
     requires { All (λ cell. cell < length values.now) row.now }
     ensures { IfOk result (λ cells. cells ≡ values_on values.now row.now) }
@@ -37,7 +41,7 @@ pub fn cells_with(alloc: Global, row: &[usize], values: &[Value]) -> Result<Cell
     Ok(cells)
 }
 
-/// Cells get these values.
+/// Sets the first `count` of `cells` to the values of the cells in `row`.
 pub fn reset(cells: &mut Cells, row: &[usize], values: &[Value], count: u32)
     requires count { count ≡ length row.now }
     requires long { length cells.old ≡ length row.now }
@@ -49,14 +53,14 @@ pub fn reset(cells: &mut Cells, row: &[usize], values: &[Value], count: u32)
     }
 }
 
-// Whether two values are the same.
+// Whether two values are equal.
 fn same(a: Value, b: Value) -> bool
     ensures { IsTrue result ↔ (a ≡ b) }
 {
     a == b
 }
 
-/// Whether the cells have what was read.
+/// Whether each cell in `reads` has the value that was read.
 pub fn agrees(values: &[Value], reads: &[CellValue]) -> bool
     ensures { IsTrue result ↔ Agrees values.now reads.now }
 {
@@ -72,7 +76,7 @@ pub fn agrees(values: &[Value], reads: &[CellValue]) -> bool
     true
 }
 
-/// Whether cells have these values once the writes are made.
+/// Whether `now` are the values of `cells` after the writes.
 pub fn have(values: &[Value], writes: &Writes, cells: &[usize], now: &[Value]) -> bool
     requires count { length now.now ≡ length cells.now }
     requires cells { All (λ cell. cell < length values.now) cells.now }

@@ -7,11 +7,11 @@ ghost use Rattle.lock_manager.specs.Working.Ties.{Rise};
 use core_lang::value::Value;
 use history::kept::CellValue;
 
-/// How many writes are few: they are searched from the first on.
+/// The most writes that are searched from the first on. More of them are searched by bisection, if they are in order.
 const FEW: usize = 4;
 
-/// The writes of an entry. Where they are many, and each is of a greater cell than the one before, that of a cell is
-/// found by halving.
+/// The writes of an entry. The write of a cell is found by bisection if the entry has more than 4 writes and their cells
+/// rise.
 #[derive(Clone, Copy)]
 pub struct Writes<'w> {
     writes: &'w [CellValue],
@@ -30,7 +30,7 @@ impl<'w> Writes<'w> {
         }
     }
 
-    /// What a cell has once the writes are made.
+    /// The value of `cell` after the writes.
     pub fn value(&self, values: &[Value], cell: usize) -> Value
         requires { cell < length values.now }
         ensures { slice_get (overwritten values.now self.now.writes.now) cell ≡ Some result }
@@ -48,7 +48,7 @@ impl<'w> Writes<'w> {
     }
 }
 
-// Whether each write is of a greater cell than the one before.
+// Whether each write is of a cell with a greater number than the one before.
 fn rise(writes: &[CellValue]) -> bool
     ensures { result ≡ true → Rise writes.now }
 {
@@ -60,7 +60,7 @@ fn rise(writes: &[CellValue]) -> bool
     true
 }
 
-// The first write of a cell.
+// The value of the first write of `cell`.
 fn searched(writes: &[CellValue], cell: usize) -> Option<Value>
     ensures { result ≡ value_at writes.now cell }
 {
@@ -72,7 +72,7 @@ fn searched(writes: &[CellValue], cell: usize) -> Option<Value>
     None
 }
 
-// The write of a cell, where they are in order.
+// The value of the write of `cell`, among writes in order of their cells.
 fn halved(writes: &[CellValue], cell: usize) -> Option<Value>
     requires { Rise writes.now }
     ensures { result ≡ value_at writes.now cell }

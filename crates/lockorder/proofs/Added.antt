@@ -1,4 +1,4 @@
--- What is added to a table, and what a loop over points or paths has found at its end.
+-- The edges added to a table, and the results of loops over points and paths.
 use Rattle.std.proofs.Common.{◌≡◌, ◌≢◌, ◌∙◌, ℕ, ◌+◌, ◌<◌, ◌≤◌, Bool, true, false, ◌||◌, ◌&&◌, List, [], ◌∷◌, ◌++◌}
 use Rattle.std.proofs.Common.{length, drop, get_or, set, Some, None, inl, inr, append-nil, sym, ap, subst, arith}
 use Rattle.std.specs.Prelude.{◌==◌, slice_get}

@@ -19,7 +19,7 @@ use Rattle.lockorder.specs.Working.Sections.{IsIn, Share, set_at, no_paths, IsOf
 use Rattle.lockorder.specs.Working.Sections.{HasAnyBehind, AreListedBindings, IsFirstBehind, IsNotBehind}
 use Rattle.lockorder.proofs.InSection.{set_within, shared_class, class_shared}
 
--- ---- what is bound later
+-- ---- roots that are bound later
 
 module _ (x : Points) (later : List PathSet) (are : AreBoundLater x later) (p : ℕ) (lt : p < length x.bound.items) where
   there : slice_get later p ≡ Some (set_at later p)

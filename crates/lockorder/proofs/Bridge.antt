@@ -1,4 +1,4 @@
--- What the sets of a section's points say of the edges that the section makes.
+-- The edges that a section makes, from the sets of its points.
 use Rattle.std.proofs.Common.{◌≡◌, ℕ, ◌<◌, List, length, get_or, Some, ◌⊎◌, inl, inr, refl, sym, ap, ◌∙◌, subst, arith}
 use Rattle.std.specs.Prelude.{slice_get}
 use Rattle.std.specs.Option.{option_map}
@@ -166,7 +166,7 @@ module _ (program : Typed) (well : IsWellFormed program) (listed : UsedAreListed
         makes_somewhere_by used bound c d m.uses.0 m.binds.0 m.binds.1 (moved (λ s. Uses program s used m.uses.0) m.uses.1) m.uses.2 (moved (λ s. Uses program s m.binds.1 m.binds.0) m.binds.2)
         (moved (λ s. BindsRoot s bound m.binds.0) m.binds.3) m.binds.4 (moved (λ s. (used ≡ bound) ⊎ Before (skeleton s) used bound) m.order)
 
-  -- ---- what the passes ask for
+  -- ---- the requirements of the passes
 
   path_at : (i : ℕ) → i < length x.classes.items → (path : LockPath) × (slice_get paths i ≡ Some path)
   path_at i lt = let c = get_some x.classes.items i lt in let path = path_of c.0 i c.1 in (path.0, path.1)

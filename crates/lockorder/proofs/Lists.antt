@@ -1,4 +1,4 @@
--- Lists of numbers, and what they contain.
+-- Lists of numbers, and their items.
 use Rattle.std.proofs.Common.{◌≡◌, ℕ, zero, suc, ◌≤◌, ◌<◌, Bool, true, false, List, [], ◌∷◌, ◌++◌, take, length, get_or}
 use Rattle.std.proofs.Common.{Option, Some, None, ◌⊎◌, inl, inr, refl, sym, ap, ◌∙◌, arith}
 use Rattle.std.specs.Prelude.{◌≢◌, ◌==◌, slice_get}
@@ -84,7 +84,7 @@ found_below f (suc n) =
     or_last : (k : ℕ) → k < suc n → f n ≡ false → ((j : ℕ) → j < n → f j ≡ false) → f k ≡ false
     or_last k lt last none = elim (cases_lt k n) [ inl less ↦ none k less | inr ge ↦ let same : k ≡ n = omega arith in ap f same ∙ last ]
 
--- what is like no value is none
+-- an option with a property that no value has is none
 pub none_only : {A : Type 0} (C : Option A → Type 0) → ((x : A) → C (Some x) → ⊥) → (y : Option A) → C y → y ≡ None
 none_only C never None c = refl
 none_only C never (Some x) c = absurd (never x c)

@@ -19,7 +19,7 @@ distinct_new : {X : Type 0} (o : Option X) (xs : List X) (x : X) → AreDistinct
 distinct_new None xs x d e c = none-some x e
 distinct_new {X} (Some y) xs x d e c = d.0 (subst (λ (z : X). Contains xs z) (sym (same_Some y x e)) c)
 
--- what items give that give distinct values is given at one place
+-- if the items' values are distinct, each value belongs to the item at one place
 same_place : {X Y : Type 0} (h : X → Option Y) (xs : List X) → AreDistinct (filter_map h xs) → (i j : ℕ) (p q : X) (y : Y) →
     slice_get xs i ≡ Some p → slice_get xs j ≡ Some q → h p ≡ Some y → h q ≡ Some y → i ≡ j
 same_place h [] d i j p q y a b e f = absurd (none-some p a)

@@ -1,4 +1,4 @@
--- Ranks given class after class.
+-- Ranks that are given class after class.
 use Rattle.std.proofs.Common.{◌≡◌, ℕ, ◌+◌, ◌<◌, false, not, ◌||◌, List, [], ◌∷◌, ◌++◌, set, length, Some, inl, inr}
 use Rattle.std.proofs.Common.{refl, sym, ap, ◌∙◌, subst, arith, length-append}
 use Rattle.std.specs.Prelude.{◌≢◌, ◌==◌, slice_get}
@@ -18,7 +18,7 @@ use Rattle.lockorder.proofs.Rising.{each_push, next_listed}
 use Rattle.lockorder.proofs.Stuck.{cycle_of_stuck}
 use Rattle.core_lang.specs.Theory.Items.{not_in_none, contains_at, pushed_at, set_same, still_other}
 
--- so many classes are listed, each the next one after those before it, and have their places as ranks
+-- the given number of classes is listed, each the next one after those before it, with their places as ranks
 pub record AreRanked (before : List BitSet) (listed : BitSet) (ranks : List ℕ) (count : ℕ) : Type 0 where
   pub list : List ℕ
   pub long : length list ≡ count

@@ -155,7 +155,7 @@ kept_further a b c x y = record {
   classes = λ i d e. y.classes i d (x.classes i d e);
 }
 
--- ---- what a turn leaves
+-- ---- the state after a turn
 
 -- all that have to come before the class, below a bound
 pub record IsReaching (before : List BitSet) (old r : Reached) (class bound : ℕ) : Type 0 where
@@ -240,7 +240,7 @@ all_done before r bound d le = record {
       d.done i.0 c (omega (arith, le, slice_get_within r.classes.items i.0 c i.1)) i.1;
 }
 
--- ---- what is read
+-- ---- the distances that are read
 
 pub distance_read : (ds : List (Option ℕ)) (c : ℕ) (o : Option ℕ) (k : ℕ) → c < length ds → o ≡ get_or ds c o →
     o ≡ Some k → distance_of ds c ≡ Some k

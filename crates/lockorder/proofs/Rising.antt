@@ -14,7 +14,7 @@ same_some a b e = cc
 module _ (E : ℕ → ℕ → Type 0) (n : ℕ) where
   -- ---- one more
 
-  -- the same where others say what is listed
+  -- the same for two equal descriptions of the listed classes
   module _ (L M : ℕ → Type 0) (to : (c : ℕ) → L c → M c) (from : (c : ℕ) → M c → L c) where
     ready_listed : (c : ℕ) → IsReady E n L c → IsReady E n M c
     ready_listed c r = record { class = r.class; new = λ m. r.new (from c m); listed_before = λ b e. to b (r.listed_before b e) }
@@ -40,7 +40,7 @@ module _ (E : ℕ → ℕ → Type 0) (n : ℕ) where
   next_at listed (x ∷ list) (suc k) d e at =
       subst (λ (l : List ℕ). IsNext E n (Contains l) d) (append_assoc listed (x ∷ []) (take k list)) (next_at (listed ++ x ∷ []) list k d e.1 at)
 
-  -- what has to come before a listed class stands before it
+  -- a class that has to precede a listed one is listed before it
   stands_before : (list : List ℕ) (k c d : ℕ) → EachIsNext E n [] list → slice_get list k ≡ Some d → E c d →
       (j : ℕ) × (j < k) × (slice_get list j ≡ Some c)
   stands_before list k c d e at edge = in_take k list c ((next_at [] list k d e at).ready.listed_before c edge)
@@ -54,7 +54,7 @@ module _ (E : ℕ → ℕ → Type 0) (n : ℕ) where
       let j : r ≡ before.0 = same_some r before.0 (sym rc ∙ a.places before.0 c before.2) in
       omega (arith, before.1)
 
-  -- ---- so there is no cycle
+  -- ---- hence no cycle
 
   module _ (ranks : List ℕ) (rise : Rise E ranks) (within : (c d : ℕ) → E c d → (c < length ranks) × (d < length ranks)) where
     rank_rises : (c d : ℕ) → E c d → slice_index ranks c < slice_index ranks d

@@ -1,4 +1,4 @@
--- How what is told of edges grows: pair after pair, path after path, point after point.
+-- How the noted edges grow: pair after pair, path after path, point after point.
 use Rattle.std.proofs.Common.{◌≡◌, ℕ, ◌+◌, ◌*◌, ◌<◌, ◌≤◌, false, List, length, set, Option, Some, None, inl, inr, refl, sym}
 use Rattle.std.proofs.Common.{subst, arith}
 use Rattle.std.specs.Prelude.{IsSome, MatchOption}
@@ -31,7 +31,7 @@ then_told T T' L L' N None mid new some to both (inl t) second = inl (stays T T'
 then_told T T' L L' N None mid new some to both (inr (none, lacks)) second =
     elim (subst (λ o. IsToldOr T' L' o new) none second) [ inl t ↦ inl (to lacks new t) | inr n ↦ inr (n.0, both lacks n.1) ]
 
--- nothing more is told
+-- no more edges are noted
 pub as_it_was : (T : Option Edge → Type 0) (L : Type 0) (o : Option Edge) → (o ≡ None → L) → IsToldOr T L o o
 as_it_was T L None lacks = inr (refl, lacks refl)
 as_it_was T L (Some e) lacks = refl
@@ -275,7 +275,7 @@ section_ends x section classes n old new all h =
     each_lacks classes (IsToldHere x section) (SectionLacks x n) (λ c d. (used bound : ℕ) → MakesAt x c d used bound → ⊥) old new
     (λ c d l used bound m. l used bound (omega (arith, all, set_within x.used.items used m.0.0.0 m.0.0.1)) m) h
 
--- ---- whether something is told
+-- ---- whether an edge is noted
 
 pub not_told : (o : Option Edge) → is_some o ≡ false → o ≡ None
 not_told None e = refl

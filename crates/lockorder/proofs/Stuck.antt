@@ -1,4 +1,4 @@
--- Where no class is ready and not all are listed, edges lead from some class round to itself.
+-- If no class is ready and not all are listed, edges lead from some class to itself.
 use Rattle.std.proofs.Common.{◌≡◌, ℕ, zero, suc, ◌+◌, ◌<◌, Bool, false, not, ◌&&◌, List, [], ◌∷◌, length, inl, inr}
 use Rattle.std.proofs.Common.{refl, sym, subst, arith}
 use Rattle.std.specs.Prelude.{◌≢◌}
@@ -73,7 +73,7 @@ module _ (before : List BitSet) (listed : BitSet) (within : LeadsWithin before) 
     ];
   }
 
-  -- so many further classes at most
+  -- at most the given number of further classes
   go_back : (fuel c : ℕ) (cs : List ℕ) → length cs + fuel ≡ length before → IsTrail c cs → HasCycle before
   go_back zero c cs e t = absurd (omega (arith, e, no_more (c ∷ cs) (length before) t.distinct t.below))
   go_back (suc fuel) c cs e t =

@@ -1,4 +1,4 @@
--- What is told of edges between pairs of classes, section after section.
+-- The edges noted between pairs of classes, section after section.
 use Rattle.std.proofs.Common.{◌≡◌, ℕ, zero, suc, ◌+◌, ◌<◌, List, [], ◌∷◌, map, length, get_or, replicate, Option, Some}
 use Rattle.std.proofs.Common.{None, inl, inr, refl, sym, ap, ◌∙◌, subst, arith}
 use Rattle.std.specs.Prelude.{slice_index, slice_index_or, IsSome}

@@ -1,4 +1,4 @@
--- Which lock classes have to come before which.
+-- Which lock classes must precede which.
 use Rattle.std.specs.Prelude.{◌≡◌, ◌⊎◌, ◌≤◌, ℕ, List, length, slice_get, Some}
 use Rattle.core_lang.specs.declared.tree.Section.{Section}
 use Rattle.core_lang.specs.declared.typed.Typed.{Typed}
@@ -7,7 +7,7 @@ use Rattle.flow.specs.Flow.{Before}
 use Rattle.locks.specs.LockPaths.{LockPath, Uses, BindsRoot}
 use Rattle.lockorder.specs.Ranks.{AreRanks, Rise}
 
--- a lock of the class is used at the section's point of this number
+-- the section's point of this number uses a lock of the class
 abbrev pub UsesClass : Typed → Section → ℕ → ℕ → Type 0
 UsesClass program section p class = (path : LockPath) × Uses program section p path × (path.class ≡ class)
 
@@ -16,8 +16,8 @@ abbrev pub BindsClass : Typed → Section → ℕ → ℕ → Type 0
 BindsClass program section p class =
     (path : LockPath) × (user : ℕ) × Uses program section user path × BindsRoot section p path × (path.class ≡ class)
 
--- the section of this number makes the edge from class c to class d, by a use and a binding: at a point that binds the root of a path
--- of class d, or at one that comes before it, a lock of class c is used
+-- the section of this number makes the edge from class c to class d by a use and a binding: the point `used` uses a
+-- lock of class c, and is the point `bound` or comes before it, which binds the root of a path of class d
 pub record Makes (program : Typed) (number used bound c d : ℕ) : Type 0 where
   pub section : Section
   pub here : slice_get program.sections.items number ≡ Some section
@@ -25,15 +25,15 @@ pub record Makes (program : Typed) (number used bound c d : ℕ) : Type 0 where
   pub binds : BindsClass program section bound d
   pub order : (used ≡ bound) ⊎ Before (skeleton section) used bound
 
--- and these are the first that make the edge: no lower section does; in this section no lower use does, and with this use no lower
--- binding
+-- these are the first that make the edge: no lower section does, in this section no lower use does, and with this use
+-- no lower binding
 pub record MakesFirst (program : Typed) (number used bound c d : ℕ) : Type 0 where
   pub makes : Makes program number used bound c d
   pub lowest_section : (n u b : ℕ) → Makes program n u b c d → number ≤ n
   pub lowest_use : (u b : ℕ) → Makes program number u b c d → used ≤ u
   pub lowest_binding : (b : ℕ) → Makes program number used b c d → bound ≤ b
 
--- locks of class c have to be taken before those of class d
+-- locks of class c must be acquired before those of class d
 abbrev pub Edge : Typed → ℕ → ℕ → Type 0
 Edge program c d = (number used bound : ℕ) × Makes program number used bound c d
 
@@ -41,6 +41,6 @@ Edge program c d = (number used bound : ℕ) × Makes program number used bound 
 abbrev pub AreRanksOf : Typed → List ℕ → Type 0
 AreRanksOf program ranks = AreRanks (Edge program) (length program.classes.items) ranks
 
--- locks that have to be taken before others are of a lesser rank
+-- locks that must be acquired before others have a lower rank
 abbrev pub RiseIn : Typed → List ℕ → Type 0
 RiseIn program ranks = Rise (Edge program) ranks

@@ -1,4 +1,4 @@
--- A cycle of lock classes as a fault of the program, and as what `order` answers.
+-- A cycle of lock classes as a fault of the program, and as the error of `order`.
 use Rattle.std.specs.Prelude.{◌≡◌, ℕ, List, [], ◌∷◌, ◌++◌, slice_get, Some, codes, string_bytes, map, ⊤}
 use Rattle.source.specs.declared.fault.Fault.{Fault}
 use Rattle.source.specs.declared.fault.Code.TheVariants.{LockOrderCycle}
@@ -14,7 +14,7 @@ use Rattle.lockorder.specs.Ranks.{AreDistinct, IsCycle}
 
 -- ---- the text
 
--- classes, each with an arrow behind it
+-- classes, each with an arrow after it
 abbrev pub arrows : Typed → List ℕ → List ℕ
 arrows program [] = []
 arrows program (c ∷ cs) = class_name program c ++ codes " -> " ++ arrows program cs
@@ -26,12 +26,12 @@ cycle_text program (c ∷ cs) = arrows program (c ∷ cs) ++ class_name program 
 
 -- ---- the fault
 
--- the class that a cycle's first one leads to: the next one, or itself
+-- the class after the first one in a cycle: the next one, or itself
 abbrev pub second : ℕ → List ℕ → ℕ
 second c [] = c
 second c (d ∷ rest) = d
 
--- the section of this number has a point of this number, whose statement starts there
+-- the statement of the section's point of this number starts at this byte
 pub record StartsAt (program : Typed) (number p start : ℕ) : Type 0 where
   pub section : Section
   pub here : slice_get program.sections.items number ≡ Some section
@@ -45,7 +45,8 @@ pub data IsFault (program : Typed) (fault : Fault) : Type 0 where
       → Makes program number used bound c (second c rest) → StartsAt program number used fault.start
       → fault.code ≡ LockOrderCycle → string_bytes fault.detail ≡ cycle_text program (c ∷ rest) → IsFault program fault
 
--- the same at the first such point: of the lowest section that makes that edge the lowest whose use does
+-- a fault at the first such point: in the lowest section that makes the cycle's first edge, the lowest point whose use
+-- does
 pub data IsFaultAtFirst (program : Typed) (fault : Fault) : Type 0 where
   at_first : (c : ℕ) (rest : List ℕ) (number used bound : ℕ) → IsCycle (Edge program) (c ∷ rest)
       → MakesFirst program number used bound c (second c rest) → StartsAt program number used fault.start
@@ -54,12 +55,14 @@ pub data IsFaultAtFirst (program : Typed) (fault : Fault) : Type 0 where
 abbrev pub HasNoFault : Typed → Type 0
 HasNoFault program = (fault : Fault) → IsFault program fault → ⊥
 
--- ---- what `order` answers for a cycle
+-- ---- the error of `order`
 
+-- the classes of edges
 abbrev pub classes_of : List written.Edge → List ℕ
 classes_of edges = map (λ (e : written.Edge). e.class) edges
 
--- each edge is made first by what it names, and leads from its class to the next one's, or from the last to this class
+-- the use and binding of each edge are the first that make it; it leads to the class of the next edge, and the last one
+-- to this class
 abbrev pub AllMakeFirst : Typed → ℕ → List written.Edge → Type 0
 AllMakeFirst program first [] = ⊤
 AllMakeFirst program first (e ∷ []) = MakesFirst program e.section e.used e.bound e.class first
@@ -71,7 +74,7 @@ abbrev pub IsCycleOf : Typed → List written.Edge → Type 0
 IsCycleOf program [] = ⊥
 IsCycleOf program (e ∷ rest) = AreDistinct (classes_of (e ∷ rest)) × AllMakeFirst program e.class (e ∷ rest)
 
--- the refusal names a cycle, or is for want of memory
+-- the refusal names a cycle, or is the failure of an allocation
 abbrev pub IsRefusal : Typed → OrderRefusal → Type 0
 IsRefusal program refusal.NoMemory = ⊤
 IsRefusal program (refusal.Cycle c) = IsCycleOf program c.edges.items

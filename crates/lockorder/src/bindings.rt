@@ -1,4 +1,4 @@
-//! The bindings of a section, and the points that come before them.
+//! The points of a section that bind roots of lock paths, and which points come before them.
 
 ghost use Rattle.std.specs.Prelude.{◌≡◌, ◌<◌, ℕ, length, IfOk};
 ghost use Rattle.std.specs.Bool.{Decides};
@@ -17,7 +17,7 @@ use std::alloc::Global;
 pub struct Bindings<'a> {
     /// The section's points.
     pub points: &'a Points,
-    /// For each point the paths whose root is bound at a point which it comes before.
+    /// For each point, the paths whose root is bound at some later point.
     pub later: Vec<PathSet>,
     /// The points that bind roots, in the order of the text.
     pub list: Vec<usize>,
@@ -37,7 +37,7 @@ fn list_of(alloc: Global, points: &Points) -> Result<Vec<usize>, NoMemory>
 }
 
 impl<'a> Bindings<'a> {
-    /// Those of a section.
+    /// The bindings of a section.
     pub fn of(alloc: Global, points: &'a Points) -> Result<Bindings<'a>, NoMemory>
         ensures points { IfOk result (λ b. b.points.now ≡ points.now) }
         ensures bindings { IfOk result AreBindings }
@@ -51,7 +51,7 @@ impl<'a> Bindings<'a> {
         })
     }
 
-    /// The paths whose root is bound at a point or at one that it comes before.
+    /// The paths whose root is bound at `point` or at some later point.
     pub fn behind(&self, point: usize) -> PathSet
         requires bindings { AreBindings self.now }
         requires point { point < length self.now.points.now.bound.items }
@@ -73,8 +73,8 @@ impl<'a> Bindings<'a> {
         paths
     }
 
-    // Whether a point binds the root of one of some paths, and is this point or one that it comes before. A root is bound
-    // at one point alone, so one that is bound later is bound there.
+    // Whether `bound` binds the root of one of the paths `roots`, and is `point` or a later point. A root is bound at
+    // only one point, so one that is bound later is bound there.
     fn is_for(&self, point: usize, roots: PathSet, bound: usize) -> bool
         requires bindings { AreBindings self.now }
         requires once { AreBoundOnce self.now.points.now }
@@ -90,7 +90,8 @@ impl<'a> Bindings<'a> {
         share(binds.meet(roots), self.later[point])
     }
 
-    /// The lowest point that binds the root of a path of the class, and is this point or one that it comes before.
+    /// The first point in the order of the text that binds the root of a path of `class`, and is `point` or a later
+    /// point.
     pub fn first(&self, point: usize, class: usize) -> Option<usize>
         requires bindings { AreBindings self.now }
         requires once { AreBoundOnce self.now.points.now }

@@ -32,7 +32,7 @@ fn table(alloc: Global, program: &Typed, points: &[Points]) -> Result<Table, NoM
     ensures classes { IfOk result (λ table. length table.before.items ≡ length program.now.classes.items) }
     ensures edges { IfOk result (λ table. HasEdgesOf table.before.items (program_edges.Edge program.now)) }
 {
-    // The laws tell which paths a section has, and that their classes are the program's.
+    // By the laws, a section has the paths of its list, and their classes are the program's.
     locks::laws::each_path_once();
     locks::laws::paths_have_classes();
     let mut table = Table::new(alloc, program.classes.len())?;
@@ -43,7 +43,7 @@ fn table(alloc: Global, program: &Typed, points: &[Points]) -> Result<Table, NoM
     Ok(table)
 }
 
-// Edges between pairs of classes, with what makes each first.
+// Edges between pairs of classes, each with the use and binding that make it first.
 fn told(
     alloc: Global,
     program: &Typed,
@@ -66,7 +66,7 @@ fn told(
     Ok(told)
 }
 
-// The edges of a cycle, with what makes each first.
+// The edges of a cycle, each with the use and binding that make it first.
 fn told_cycle(
     alloc: Global,
     program: &Typed,
@@ -84,12 +84,13 @@ fn told_cycle(
     Ok(edges)
 }
 
-/// Each pair of lock classes of which the first has to come before the second, once, in rising order; and for each what
-/// makes it so, of the lowest section, there by the lowest use point, and for that by the lowest binding point.
+/// The pairs of lock classes of which the first must precede the second, once each, in rising order; with each the use
+/// and binding that make it: those of the lowest section, there the lowest use point, and for that the lowest binding
+/// point.
 ///
 /// # Errors
 ///
-/// Want of memory.
+/// Out of memory.
 pub fn class_pairs(
     alloc: Global,
     program: &Typed,
@@ -106,36 +107,36 @@ pub fn class_pairs(
     Ok(told)
 }
 
-/// The rank of each lock class; or a cycle of classes of which each has to come before the next.
+/// The rank of each lock class, or a cycle of classes of which each must precede the next.
 ///
-/// The cycle goes through the lowest-numbered class that is on any. It has the fewest edges, and of those with as few
-/// it is the first in the order of dictionaries. What makes an edge is told of the lowest section, there by the lowest
-/// use point, and for that by the lowest binding point.
+/// The cycle goes through the lowest-numbered class that is on any cycle. It has the fewest edges, and is the first in
+/// dictionary order of those. Each edge is reported for the lowest section that makes it, there for the lowest use
+/// point, and for that the lowest binding point.
 ///
 /// # Errors
 ///
-/// The cycle; or want of memory.
+/// The cycle, or out of memory.
 pub fn order(alloc: Global, program: &Typed, paths: &Paths) -> Result<Ranks, OrderRefusal>
     requires program { IsWellFormed program.now }
     requires paths { ArePaths program.now paths.now }
-    // A class has its place in the list in which each class is the lowest-numbered one that is ready.
+    // The ranks are places in the list in which each class is the lowest-numbered one that is ready.
     ensures ranks { IfOk result (λ ranks. AreRanksOf program.now ranks.items) }
-    // A class that has to come before another has the lesser rank.
+    // A class that must precede another has the lower rank.
     ensures rise { IfOk result (λ ranks. RiseIn program.now ranks.items) }
-    // A program with a cycle is never accepted.
+    // A program with a cycle is not accepted.
     ensures faultless { OnOk result (HasNoFault program.now) }
-    // The cycle is one of distinct classes, and what is told of each edge is the first that makes it.
+    // The cycle has distinct classes, and the use and binding of each edge are the first that make it.
     ensures cycle { IfErr result (IsRefusal program.now) }
 {
     let points = all_points(alloc, program, paths)?;
     order_by(alloc, program, &points)
 }
 
-/// The same as [`order`], by the points of all sections.
+/// The same as [`order`], given the points of all sections.
 ///
 /// # Errors
 ///
-/// The cycle; or want of memory.
+/// The cycle, or out of memory.
 pub fn order_by(alloc: Global, program: &Typed, points: &[Points]) -> Result<Ranks, OrderRefusal>
     requires program { IsWellFormed program.now }
     requires points { AreAllPointsOf program.now points.now }
@@ -144,7 +145,7 @@ pub fn order_by(alloc: Global, program: &Typed, points: &[Points]) -> Result<Ran
     ensures faultless { OnOk result (HasNoFault program.now) }
     ensures cycle { IfErr result (IsRefusal program.now) }
 {
-    // The law tells that each edge is one between classes of the program.
+    // By the law, each edge is between classes of the program.
     locks::laws::paths_have_classes();
     let table = table(alloc, program, points)?;
     match table.ranks(alloc)? {

@@ -1,4 +1,4 @@
-//! The cycle that is told.
+//! The cycle that is reported.
 
 ghost use Rattle.std.specs.Prelude.{◌≡◌, ◌<◌, ℕ, length, IfOk, OnOk};
 ghost use Rattle.lockorder.specs.Ranks.{IsCycle};
@@ -9,18 +9,18 @@ use crate::table::Table;
 use source::memory::NoMemory;
 use std::alloc::Global;
 
-/// The classes from which edges lead to a target, as far as they are known.
+/// The classes from which edges lead to a target, as far as known.
 #[derive(Drop)]
 pub struct Reached {
-    /// The class to which they lead.
+    /// The target class.
     pub target: usize,
-    /// For each class how many edges lead from it to the target, at the fewest.
+    /// For each class, the fewest edges from it to the target, if they are known.
     pub distances: Vec<Option<usize>>,
-    /// The classes that have a distance, the nearer ones first.
+    /// The classes with a known distance, nearer ones first.
     pub classes: Vec<usize>,
 }
 
-// Of a class with its distance and what was found before it the nearer.
+// The nearer of a class with its distance and what was found before it.
 fn nearer(found: Option<(usize, usize)>, class: usize, distance: usize) -> Option<(usize, usize)>
     ensures { result ≡ nearer found class distance }
 {
@@ -37,7 +37,7 @@ fn nearer(found: Option<(usize, usize)>, class: usize, distance: usize) -> Optio
 }
 
 impl Reached {
-    // The target alone.
+    // The target alone, as reached.
     fn alone(alloc: Global, table: &Table, target: usize) -> Result<Reached, NoMemory>
         requires { target < length table.now.before.items }
         ensures target { IfOk result (λ r. r.target ≡ target) }
@@ -54,7 +54,7 @@ impl Reached {
         })
     }
 
-    // Reaches the classes that have to come before one that is reached.
+    // Reaches the classes that must precede one that is reached.
     fn reach(&mut self, table: &Table, class: usize) -> Result<(), NoMemory>
         requires reached { AreReached table.now.before.items self.old }
         requires class { HasDistance self.old.distances.items class }
@@ -74,7 +74,7 @@ impl Reached {
         Ok(())
     }
 
-    // All from which edges lead to the target.
+    // All classes from which edges lead to the target.
     fn all(alloc: Global, table: &Table, target: usize) -> Result<Reached, NoMemory>
         requires { target < length table.now.before.items }
         ensures target { IfOk result (λ r. r.target ≡ target) }
@@ -90,7 +90,8 @@ impl Reached {
         Ok(reached)
     }
 
-    // Of the classes to which an edge leads from one, the nearest, and its distance; of two as near the lower-numbered.
+    // The nearest of the classes to which an edge leads from `class`, and its distance; of two at one distance the
+    // lower-numbered.
     fn nearest(&self, table: &Table, class: usize) -> Option<(usize, usize)>
         requires class { class < length table.now.before.items }
         requires all { AreDistances table.now.before.items self.now }
@@ -107,7 +108,7 @@ impl Reached {
         nearest
     }
 
-    // The shortest cycle through the target, of two the first in dictionary order.
+    // The shortest cycle through the target; of several the first in dictionary order.
     fn cycle(&self, alloc: Global, table: &Table) -> Result<Option<Vec<usize>>, NoMemory>
         requires target { self.now.target < length table.now.before.items }
         requires all { AreDistances table.now.before.items self.now }
@@ -131,7 +132,7 @@ impl Reached {
 }
 
 impl Table {
-    /// A cycle: through the lowest-numbered class on any, with the fewest edges, and of these the first in dictionary
+    /// A cycle through the lowest-numbered class on any, with the fewest edges, and of those the first in dictionary
     /// order.
     pub fn cycle(&self, alloc: Global) -> Result<Vec<usize>, NoMemory>
         requires { HasCycle self.now.before.items }

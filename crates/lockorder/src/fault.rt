@@ -12,8 +12,8 @@ use source::memory::NoMemory;
 use std::alloc::Global;
 
 impl Cycle {
-    /// The fault `E14` of a program for this cycle of it, at the statement of the first edge's use point: in the lowest
-    /// section that makes the edge, the lowest that does. Its detail is the classes, as `A.l -> B.m -> A.l`.
+    /// The fault `E14` of a program for this cycle, at the statement of the first edge's use point: the first one in
+    /// the lowest section that makes the edge. Its detail is the classes, as `A.l -> B.m -> A.l`.
     pub fn fault(&self, alloc: Global, program: &Typed) -> Result<Fault, NoMemory>
         requires { IsCycleOf program.now self.now.edges.items }
         ensures { IfOk result (IsFaultAtFirst program.now) }

@@ -1,17 +1,17 @@
-//! The order in which sections take locks.
+//! Lock order: ranks the lock classes of a program, or finds a cycle among them.
 //!
-//! - [`order`]: the ranks of the lock classes, or a cycle of classes of which each has to come before the next.
-//! - [`order_by`]: the same, by the points of all sections.
-//! - [`class_pairs`]: each pair of classes of which the first has to come before the second, and what makes it so.
-//! - [`ranks::OrderRefusal`]: why there are no ranks.
+//! - [`order`]: the ranks of the lock classes, or a cycle of classes of which each must precede the next.
+//! - [`order_by`]: the same, given the points of all sections.
+//! - [`class_pairs`]: the pairs of classes of which the first must precede the second, and why.
+//! - [`ranks::OrderRefusal`]: the error: a cycle, or out of memory.
 //! - [`ranks::Cycle::fault`]: the fault of a cycle.
-//! - [`text`]: how classes and cycles are written.
+//! - [`text`]: the texts of cycles.
 //!
-//! Which class has to come before which is a lock-order graph, and the ranks are a topological order of it.
+//! The graph of which class must precede which is a lock-order graph, and the ranks are a topological order of it.
 //!
-//! `specs/` defines which class has to come before which (`Edges`), the rank list, ranks and cycles (`Ranks`), the
-//! fault of a cycle (`Faults`), and the pairs of classes as data (`ClassPairs`). Its other files only say what the code
-//! has done; nobody has to believe them.
+//! `specs/` defines which class must precede which (`Edges`), the rank list, ranks and cycles (`Ranks`), the fault of a
+//! cycle (`Faults`), and the pairs of classes as data (`ClassPairs`). Its other files describe what the code has done;
+//! nobody has to believe them.
 #![tactic(auto)]
 
 mod bindings;

@@ -9,7 +9,7 @@ use crate::table::Table;
 use source::memory::NoMemory;
 use std::alloc::Global;
 
-// The class to which that before these leads in a cycle.
+// The class after the first one in a cycle.
 fn second(first: usize, rest: &[usize]) -> usize
     ensures { result ≡ cycles.second first rest.now }
 {
@@ -19,7 +19,7 @@ fn second(first: usize, rest: &[usize]) -> usize
     }
 }
 
-/// The pairs of a cycle: from each class to the next one, and from the last to the first.
+/// The pairs of a cycle: each class with the next one, and the last with the first.
 pub fn around(alloc: Global, cycle: &[usize]) -> Result<Vec<(usize, usize)>, NoMemory>
     requires { 0 < length cycle.now }
     ensures { IfOk result (λ pairs. pairs.items ≡ around (slice_index cycle.now 0) cycle.now) }
@@ -44,7 +44,7 @@ pub fn edges_of(alloc: Global, pairs: &[ClassPair]) -> Result<Vec<Edge>, NoMemor
 }
 
 impl Table {
-    /// The pairs between which there is an edge, in rising order.
+    /// The pairs with an edge between them, in rising order.
     pub fn pairs(&self, alloc: Global) -> Result<Vec<(usize, usize)>, NoMemory>
         ensures { IfOk result (λ pairs. ArePairsOf self.now.before.items pairs.items) }
     {

@@ -1,4 +1,4 @@
-//! What sets of lock paths have in common.
+//! The intersection of sets of lock paths.
 
 ghost use Rattle.std.specs.Prelude.{◌≡◌, true, ℕ};
 ghost use Rattle.std.specs.Bool.{Decides};

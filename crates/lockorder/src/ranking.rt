@@ -11,7 +11,7 @@ use source::memory::NoMemory;
 use std::alloc::Global;
 
 impl Table {
-    // Whether all classes that have to come before this one are listed.
+    // Whether all classes that must precede this one are listed.
     fn is_behind(&self, listed: BitSet, class: usize) -> bool
         requires { class < length self.now.before.items }
         ensures { Decides result ((b : ℕ) → InTable self.now.before.items b class → InSet listed b) }
@@ -24,7 +24,7 @@ impl Table {
         true
     }
 
-    // The lowest-numbered class that isn't listed while all that have to come before it are.
+    // The lowest-numbered class that is not listed while all that must precede it are.
     fn next(&self, listed: BitSet) -> Option<usize>
         ensures { IsNextOrNone self.now.before.items listed result }
     {
@@ -36,8 +36,8 @@ impl Table {
         None
     }
 
-    /// For each class its place in the list of which each is the lowest-numbered one with all before it that have to
-    /// be; none where edges lead from some class round to itself.
+    /// For each class, its place in the list in which each class is the lowest-numbered one whose predecessors are
+    /// listed before it; `None` if the table has a cycle.
     pub fn ranks(&self, alloc: Global) -> Result<Option<Ranks>, NoMemory>
         ensures { IfOk result (IsRanking self.now.before.items) }
     {

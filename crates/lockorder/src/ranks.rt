@@ -3,11 +3,11 @@
 use source::memory::NoMemory;
 use thiserror::Error;
 
-/// For each lock class, by number, its rank: its place in the order in which sections take locks.
+/// For each lock class, by number, its rank: its place in the order in which sections acquire locks.
 pub type Ranks = Vec<u32>;
 
-/// An edge of the order of classes: from a class to another, and what makes it. In a cycle it leads to the class of the
-/// next edge, or from the last to the first.
+/// An edge of the order of classes: from a class to another, with the use and binding that make it. In a cycle it leads
+/// to the class of the next edge, or from the last to the first.
 #[derive(Clone, Copy, Debug)]
 pub struct Edge {
     /// The class, an index into [`core_lang::typed::Typed::classes`].
@@ -20,7 +20,7 @@ pub struct Edge {
     pub bound: usize,
 }
 
-/// Two classes of which the first has to come before the second.
+/// Two classes of which the first must precede the second.
 #[derive(Clone, Copy)]
 pub struct ClassPair {
     /// The edge, from the first class.
@@ -29,20 +29,20 @@ pub struct ClassPair {
     pub next: usize,
 }
 
-/// Lock classes of which each has to come before the next, and the last before the first.
+/// Lock classes of which each must precede the next, and the last the first.
 #[derive(Debug, Drop)]
 pub struct Cycle {
     /// One or more edges, from distinct classes.
     pub edges: Vec<Edge>,
 }
 
-/// Why there are no ranks.
+/// Why the classes have no ranks.
 #[derive(Debug, Drop, Error)]
 pub enum OrderRefusal {
     /// The classes have no order.
     #[error("lock order cycle")]
     Cycle(Cycle),
-    /// A growth was refused.
+    /// An allocation failed.
     #[error("no memory")]
     NoMemory,
 }

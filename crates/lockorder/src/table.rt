@@ -7,17 +7,17 @@ use bit_set::set::BitSet;
 use source::memory::NoMemory;
 use std::alloc::Global;
 
-/// Which lock classes have to come before which.
+/// Which lock classes must precede which.
 #[derive(Drop)]
 pub struct Table {
-    /// For each class those that have to come before it.
+    /// For each class, those that must precede it.
     pub before: Vec<BitSet>,
     ghost few: { length before.items ≤ 128 },
     ghost within: { LeadsWithin before.items },
 }
 
 impl Table {
-    /// So many classes, without an edge.
+    /// A table of the given number of classes, without an edge.
     pub fn new(alloc: Global, classes: usize) -> Result<Table, NoMemory>
         requires { classes ≤ 128 }
         ensures classes { IfOk result (λ table. length table.before.items ≡ classes) }

@@ -1,4 +1,4 @@
-//! What makes the edges between pairs of classes.
+//! The use and binding that make each edge between classes.
 
 ghost use Rattle.std.specs.Prelude.{◌≡◌, ◌<◌, ◌≤◌, ◌*◌, ◌+◌, ℕ, length, None, IfOk, OnOk};
 ghost use Rattle.std.specs.List.{All};
@@ -24,19 +24,19 @@ pub struct Usage {
     pub class: usize,
 }
 
-/// The edges between the classes of a program, as far as it is known what makes them.
+/// The edges between the classes of a program, as far as the use and binding that make each are known.
 #[derive(Drop)]
 pub struct Telling {
-    /// How many classes there are.
+    /// The number of classes.
     pub classes: usize,
-    // For each class, in a row of 128, the edge from it to each class.
+    // For each class, in a row of 128, the known edge from it to each class.
     told: Vec<Option<Edge>>,
     ghost few: { classes ≤ 128 },
     ghost long: { length told.items ≡ 128 * classes },
 }
 
 impl Telling {
-    /// Nothing is known.
+    /// No edge is known.
     pub fn open(alloc: Global, classes: usize) -> Result<Telling, NoMemory>
         requires { classes ≤ 128 }
         ensures classes { IfOk result (λ t. t.classes ≡ classes) }
@@ -55,7 +55,7 @@ impl Telling {
         self.told[128 * class + next]
     }
 
-    // Tells what makes the edge from the class that is used to another, where nothing was told of it.
+    // Notes the use and binding of the edge from the used class to `next`, unless it is known.
     fn tell_pair(&mut self, usage: Usage, bindings: &Bindings<'_>, next: usize)
         requires bindings { AreBindings bindings.now }
         requires once { AreBoundOnce bindings.now.points.now }
@@ -78,7 +78,7 @@ impl Telling {
         }
     }
 
-    // The same of each class of which a root is bound there or later.
+    // Notes those of the edges to each class of which a root is bound here or later.
     fn tell_class(&mut self, usage: Usage, bindings: &Bindings<'_>)
         requires bindings { AreBindings bindings.now }
         requires once { AreBoundOnce bindings.now.points.now }
@@ -97,7 +97,7 @@ impl Telling {
         }
     }
 
-    // The same of each class that is used at a point.
+    // Notes those of the edges from each class that is used at a point.
     fn tell_point(&mut self, section: usize, bindings: &Bindings<'_>, point: usize)
         requires bindings { AreBindings bindings.now }
         requires once { AreBoundOnce bindings.now.points.now }
@@ -123,8 +123,8 @@ impl Telling {
         }
     }
 
-    /// Tells what makes the edges that a section makes, and no earlier one. Its points come in the order of the text,
-    /// so the first that is found of an edge has the lowest use.
+    /// Notes the edges that a section makes, and no earlier one. Its points come in the order of the text, so that the
+    /// first one found for an edge has the lowest use.
     pub fn tell(&mut self, alloc: Global, section: usize, points: &Points) -> Result<(), NoMemory>
         requires once { AreBoundOnce points.now }
         requires within { All (λ c. c < self.old.classes) points.now.classes.items }
@@ -139,7 +139,7 @@ impl Telling {
         Ok(())
     }
 
-    /// Pairs of classes with the edges between them, which are known.
+    /// The pairs of classes with the edges between them, which have to be known.
     pub fn close(&self, alloc: Global, pairs: &[(usize, usize)]) -> Result<Vec<ClassPair>, NoMemory>
         requires between { AreBetween self.now.classes pairs.now }
         requires all { AreAllTold self.now.told.items pairs.now }

@@ -1,4 +1,4 @@
-//! How a cycle is written.
+//! The text of a cycle.
 
 ghost use Rattle.std.specs.Prelude.{◌≡◌, string_bytes, IfOk};
 ghost use Rattle.lockorder.specs.Faults.{arrows, classes_of, cycle_text};

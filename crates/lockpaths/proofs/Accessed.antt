@@ -1,5 +1,5 @@
--- What is gathered behind accesses: their lock paths, each once, and the least of their faults; behind a fault of the limit only the
--- latter.
+-- The results after accesses: their lock paths, each once, and the least of their faults; after a fault of the limit
+-- only the latter.
 use Rattle.std.proofs.Common.{◌≡◌, ℕ, ◌+◌, ◌≤◌, ◌<◌, Bool, true, false, List, [], ◌∷◌, ◌++◌, length, map, Option, Some}
 use Rattle.std.proofs.Common.{None, ◌⊎◌, inl, inr, refl, sym, ap, ◌∙◌, subst, arith, append-nil, append_assoc}
 use Rattle.std.proofs.Common.{length-append}
@@ -20,7 +20,7 @@ use Rattle.locks.specs.Accesses.{Access, accesses_at}
 use Rattle.locks.specs.Faults.{Named, where_at}
 use Rattle.locks.specs.LockPaths.{StablePath, LockPath, stable, each_once, lock_path, paths_of}
 use Rattle.locks.specs.Working.Laws.{SamePathDecides}
-use Rattle.lockpaths_forms.specs.Working.Forms.{replacements_at}
+use Rattle.lockpaths.specs.Working.Forms.{replacements_at}
 use Rattle.lockpaths.specs.Working.Gathering.{Gathered, is_in, place_from, with_new, with_path, with_known, blamed, met}
 use Rattle.lockpaths.specs.Working.Gathering.{ended, gathered, gathered_at, with_access, blamed_unless, with_where}
 use Rattle.lockpaths.specs.Working.Gathering.{with_owner, with_owners}
@@ -50,7 +50,7 @@ pub lesser_is : (o : Option Mistake) (g : Mistake) → lesser o g ≡ None → �
 lesser_is None g e = cc
 lesser_is (Some f) g e = lesser_some (goes_before g f) f g e
 
--- ---- the state behind paths
+-- ---- the state after paths
 
 pub record IsWithin (ps : List LockPath) (ends : List ℕ) (g : Gathered) : Type 0 where
   pub paths : g.paths ≡ each_once ps
@@ -66,7 +66,7 @@ pub record IsOver (ps : List LockPath) (g : Gathered) : Type 0 where
 abbrev pub IsState : List LockPath → List ℕ → Gathered → Type 0
 IsState ps ends g = IsWithin ps ends g ⊎ IsOver ps g
 
--- the state behind one access more, with its fault noted
+-- the state after one access more, with its fault noted
 pub record IsNext (ps qs : List LockPath) (ends : List ℕ) (g : Gathered) (faults : List Mistake) (g' : Gathered) : Type 0 where
   pub state : IsState (ps ++ qs) ends g'
   pub least : g'.least ≡ least_of g.least faults
@@ -204,7 +204,7 @@ next_met decides ps ends g start (Some path) (inr o) = over_met decides ps g sta
 
 -- ---- accesses one after another
 
--- how many paths there are at the end of each point, behind accesses
+-- how many paths there are at the end of each point, after accesses
 module _ (program : Typed) (section : Section) where
   abbrev pub ends_from : List Access → List Point → List ℕ
   ends_from before [] = []
@@ -223,7 +223,7 @@ module _ (program : Typed) (section : Section) where
       ∙ ap (λ l. here ++ (faults_behind program section (before ++ a ∷ []) xs ++ faults_behind program section l ys)) (append_assoc before (a ∷ []) xs)
       ∙ sym (append_assoc here (faults_behind program section (before ++ a ∷ []) xs) (faults_behind program section (before ++ a ∷ xs) ys))
 
-  -- the state behind more accesses
+  -- the state after more accesses
   pub record IsBehind (before rest : List Access) (ends : List ℕ) (g g' : Gathered) : Type 0 where
     pub state : IsState (paths_of program section (before ++ rest)) ends g'
     pub least : g'.least ≡ least_of g.least (faults_behind program section before rest)
@@ -292,7 +292,7 @@ module _ (program : Typed) (section : Section) where
 
 -- ---- the `where`s of points
 
--- the state behind them, with their faults noted
+-- the state after them, with their faults noted
 pub record IsAfter (ps : List LockPath) (ends : List ℕ) (g : Gathered) (faults : List Mistake) (g' : Gathered) : Type 0 where
   pub state : IsState ps ends g'
   pub least : g'.least ≡ least_of g.least faults

@@ -1,9 +1,9 @@
--- What lists contain.
+-- The items of lists.
 use Rattle.std.proofs.Common.{◌≡◌, List, [], ◌∷◌, ◌++◌, inl, inr, ap}
 use Rattle.std.specs.List.{Contains}
 use Rattle.core_lang.specs.Theory.Items.{in_cases, in_first, in_rest, not_in_none}
 
--- what stands before it and behind it
+-- what stands before it and after it
 pub around : {X : Type 0} (xs : List X) (x : X) → Contains xs x →
     (before : List X) × (behind : List X) × (xs ≡ before ++ x ∷ behind)
 around [] x c = absurd (not_in_none x c)

@@ -1,4 +1,4 @@
--- What the code puts in the places of locals and of their owners gives the normal forms: both put the same replacements one behind
+-- The code's replacements of locals and owners give the normal forms: both make the same replacements one after
 -- another.
 use Rattle.std.proofs.Common.{◌≡◌, List, [], ◌∷◌, Option, Some, None, refl, ap}
 use Rattle.std.specs.Prelude.{map, slice_get}
@@ -13,7 +13,7 @@ use Rattle.locks.specs.Accesses.{Target, global, element, field}
 use Rattle.locks.specs.Locks.{protection_of}
 use Rattle.locks.specs.LockPaths.{StablePath, Binding, bindings, all_replaced, extended, normal_base, stable, under}
 use Rattle.locks.specs.LockPaths.{target_path}
-use Rattle.lockpaths_forms.specs.Working.Forms.{of_binding, replaced_by, all_replaced_by, form_by, replacements_at}
+use Rattle.lockpaths.specs.Working.Forms.{of_binding, replaced_by, all_replaced_by, form_by, replacements_at}
 use Rattle.lockpaths.specs.Working.Gathering.{path_by, through_of}
 
 all_same : (section : Section) (bs : List Binding) (path : StablePath) →
@@ -21,7 +21,7 @@ all_same : (section : Section) (bs : List Binding) (path : StablePath) →
 all_same section [] path = refl
 all_same section (b ∷ bs) path = ap (replaced_by (of_binding section b)) (all_same section bs path)
 
--- a base with an annotation behind it
+-- a base with an annotation after it
 form_is_normal : (section : Section) (p : Protection) (o : Option StablePath) →
     option_map (form_by (replacements_at section (points section)) p.through.items) o ≡ option_map (normal_base section p) o
 form_is_normal section p (Some base) = ap Some (all_same section (bindings section) (extended base p))

@@ -1,4 +1,4 @@
--- Going over the accesses of the parts of a tree.
+-- Visits of the accesses of the parts of a tree.
 use Rattle.std.proofs.Common.{◌≡◌, ◌⊎◌, inl, inr, ℕ, ◌+◌, ◌<◌, ◌≤◌, List, [], ◌∷◌, ◌++◌, length, map, drop, take}
 use Rattle.std.proofs.Common.{get_or, Option, Some, None, Bool, true, false, refl, sym, ap, ◌∙◌, add-one, Vec, Box}
 use Rattle.std.proofs.Common.{Global}

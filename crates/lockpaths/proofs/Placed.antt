@@ -9,9 +9,9 @@ use Rattle.locks.specs.declared.path.Root.{Root}
 use Rattle.locks.specs.declared.path.Root.TheVariants.{Local}
 use Rattle.locks.specs.declared.path.LockPath as written
 use Rattle.locks.specs.LockPaths.{StablePath, LockPath, lock_path_of}
-use Rattle.lockpaths_forms.specs.Working.Forms.{Replacement}
-use Rattle.lockpaths_forms.specs.Working.Nodes.{nowhere, IsGrown}
-use Rattle.lockpaths_forms.specs.Working.States.{Known, IsKept}
+use Rattle.lockpaths.specs.Working.Forms.{Replacement}
+use Rattle.lockpaths.specs.Working.Nodes.{nowhere, IsGrown}
+use Rattle.lockpaths.specs.Working.States.{Known, IsKept}
 use Rattle.lockpaths.specs.declared.found.Destination.{Destination}
 use Rattle.lockpaths.specs.Working.Gathering.{Gathered}
 use Rattle.lockpaths.specs.Working.Places.{root_at, finals_at, path_at, is_numbered, IsPlace, AreFound, gathered_of}
@@ -44,7 +44,7 @@ pub told_same : (s t : List Replacement) (g h : Gathered) → s ≡ t → g ≡ 
     ◌≡◌ {A = Told} (record { table = s; gathered = g }) (record { table = t; gathered = h })
 told_same s t g h a b = ap (λ (x : List Replacement). record { table = x; gathered = g }) a ∙ ap (λ (x : Gathered). record { table = t; gathered = x }) b
 
--- what is found stays as it is when there are more normal forms
+-- found paths stay the same if more normal forms are known
 pub found_same : (old new : Known) (places : List Destination) (numbers ends : List ℕ) (least : Option Mistake) (now : Seen) → AreFound old.paths places → IsKept old new →
     record { known = old; gathered = gathered_of old.paths places numbers ends least } ≡ now →
     record { table = new.table; gathered = gathered_of new.paths places numbers ends least } ≡ seen now

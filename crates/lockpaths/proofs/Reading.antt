@@ -1,4 +1,4 @@
--- What is read at places of lists, and the lock paths that it gives.
+-- The items at indexes of lists, and the lock paths that they give.
 use Rattle.std.proofs.Common.{◌≡◌, ◌∙◌, ◌⊎◌, inl, inr, ℕ, ◌+◌, ◌<◌, ◌≤◌, ◌||◌, Bool, true, false, List, [], ◌∷◌, ◌++◌}
 use Rattle.std.proofs.Common.{length, map, drop, get_or, Option, Some, None, add-one, refl, sym, ap, subst, arith}
 use Rattle.std.proofs.Math.Seq.{drop-cons}
@@ -18,8 +18,8 @@ use Rattle.core_lang.specs.declared.shape.Array.{Array}
 use Rattle.core_lang.specs.declared.typed.Cell.{Cell}
 use Rattle.core_lang.specs.declared.typed.Field.{Field}
 use Rattle.core_lang.specs.declared.typed.GlobalVariable.{GlobalVariable}
-use Rattle.core_lang.specs.declared.typed.Owner.{Owner}
-use Rattle.core_lang.specs.declared.typed.Owner.TheVariants as owner
+use Rattle.core_lang.specs.declared.typed.CellOwner.{CellOwner}
+use Rattle.core_lang.specs.declared.typed.CellOwner.TheVariants as owner
 use Rattle.core_lang.specs.declared.typed.Struct.{Struct}
 use Rattle.core_lang.specs.declared.typed.Typed.{Typed}
 use Rattle.core_lang.specs.Typing.{lookup}
@@ -27,7 +27,7 @@ use Rattle.locks.specs.Locks.{protection_of}
 use Rattle.locks.specs.LockPaths.{LockPath, global_path, class_if_global, same_path}
 use Rattle.core_lang.specs.declared.tree.Section.{Section}
 use Rattle.flow.specs.Points.{Point, points}
-use Rattle.lockpaths_forms.specs.Working.Forms.{Replacement, replacements_at}
+use Rattle.lockpaths.specs.Working.Forms.{Replacement, replacements_at}
 use Rattle.lockpaths.specs.Working.Told.{Told}
 use Rattle.lockpaths.specs.Working.Gathering.{gathered_at, gathered_in, Gathered, nothing_yet, place_from, with_owners}
 use Rattle.lockpaths.specs.Working.Gathering.{with_path, with_new}
@@ -69,7 +69,7 @@ of_array found = lookup found (λ (x : Array). Some (global_path x.class))
 abbrev pub of_cell : Typed → Option Cell → Option LockPath
 of_cell program found = lookup found (λ (x : Cell). option_map global_path (class_if_global program x.owner))
 
-pub not_global : (program : Typed) (o : Owner) →
+pub not_global : (program : Typed) (o : CellOwner) →
     ((a : ℕ) × (b : ℕ) × (o ≡ owner.Element a b)) ⊎ ((a : ℕ) × (b : ℕ) × (o ≡ owner.Field a b)) →
     class_if_global program o ≡ None
 not_global program o (inl e) = ap (class_if_global program) e.2
@@ -89,9 +89,9 @@ module _ (program : Typed) (path : Option ℕ) where
       option_map global_path path ≡ of_cell program (slice_get program.cells.items cell)
   cell_past cell at is = ap (option_map global_path) is ∙ sym (ap (of_cell program) at)
 
-  of_owner : (cell : ℕ) (x : Cell) (o : Owner) → slice_get program.cells.items cell ≡ Some x → x.owner ≡ o →
+  of_owner : (cell : ℕ) (x : Cell) (o : CellOwner) → slice_get program.cells.items cell ≡ Some x → x.owner ≡ o →
       of_cell program (slice_get program.cells.items cell) ≡ option_map global_path (class_if_global program o)
-  of_owner cell x o at is = ap (of_cell program) at ∙ ap (λ (y : Owner). option_map global_path (class_if_global program y)) is
+  of_owner cell x o at is = ap (of_cell program) at ∙ ap (λ (y : CellOwner). option_map global_path (class_if_global program y)) is
 
   pub global_here : (cell : ℕ) (x : Cell) (g : ℕ) (y : GlobalVariable) (made : ℕ) →
       slice_get program.cells.items cell ≡ Some x → x.owner ≡ owner.Global g →
@@ -107,7 +107,7 @@ module _ (program : Typed) (path : Option ℕ) where
       ap (option_map global_path) e
       ∙ sym (of_owner cell x (owner.Global g) at is ∙ ap (λ (r : Option GlobalVariable). option_map global_path (lookup r (λ (z : GlobalVariable). Some z.class))) there)
 
-  pub no_global : (cell : ℕ) (x : Cell) (o : Owner) → slice_get program.cells.items cell ≡ Some x → x.owner ≡ o →
+  pub no_global : (cell : ℕ) (x : Cell) (o : CellOwner) → slice_get program.cells.items cell ≡ Some x → x.owner ≡ o →
       class_if_global program o ≡ None → path ≡ None →
       option_map global_path path ≡ of_cell program (slice_get program.cells.items cell)
   no_global cell x o at is none e = ap (option_map global_path) e ∙ sym (of_owner cell x o at is ∙ ap (option_map global_path) none)

@@ -1,4 +1,4 @@
--- One section more.
+-- One more section.
 use Rattle.std.proofs.Common.{◌≡◌, ℕ, ◌+◌, ◌<◌, true, false, List, [], ◌∷◌, ◌++◌, length, take, get_or, Option, Some}
 use Rattle.std.proofs.Common.{None, is_some, refl, sym, ap, ◌∙◌, subst, append-nil}
 use Rattle.std.specs.List.{AllZip, flat_map}

@@ -1,4 +1,4 @@
--- From what is gathered of a section without a fault: its lock paths, and those that each point uses.
+-- From the results for a section without a fault to its lock paths, and those that each point uses.
 use Rattle.std.proofs.Common.{◌≡◌, ℕ, zero, suc, ◌+◌, ◌-◌, ◌≤◌, ◌<◌, true, List, [], ◌∷◌, ◌++◌, length, map, take}
 use Rattle.std.proofs.Common.{drop, Option, Some, None, inl, inr, refl, sym, ap, ◌∙◌, subst, arith, append_assoc}
 use Rattle.std.proofs.Common.{length-append}
@@ -21,7 +21,7 @@ use Rattle.locks.specs.Sets.{AreSets}
 use Rattle.locks.specs.Working.Laws.{SamePathDecides, EachPathOnce}
 use Rattle.lockpaths.specs.declared.table.SectionPaths.{SectionPaths}
 use Rattle.lockpaths.specs.declared.table.Paths.{Paths}
-use Rattle.lockpaths_forms.specs.Working.Forms.{replacements_at}
+use Rattle.lockpaths.specs.Working.Forms.{replacements_at}
 use Rattle.lockpaths.specs.Working.Gathering.{Gathered, nothing_yet, gathered_at, gathered_in}
 use Rattle.lockpaths.specs.Working.Faulted.{faults_behind, owner_fault, faults_in}
 use Rattle.lockpaths.specs.Working.Numbers.{is_number, IsSetOf, cut, AreRising, IsComplete, IsFinished, AreEach}
@@ -183,7 +183,7 @@ module _ (program : Typed) (section : Section) where
 
 -- ---- a section
 
--- what is gathered is complete, and with sets it is the section's lock paths
+-- the gathered paths are complete, and with sets they are the section's lock paths
 pub record IsFound (program : Typed) (section : Section) (g : Gathered) : Type 0 where
   pub complete : IsComplete g
   pub finished : (x : SectionPaths) → IsFinished g x → AreSectionPaths program section x

@@ -9,7 +9,7 @@ use Rattle.locks.specs.Sets.{AreSets}
 use Rattle.lockpaths.specs.declared.table.SectionPaths.{SectionPaths}
 use Rattle.lockpaths.specs.declared.table.Paths.{Paths}
 
--- the lock paths of a section, which of them each point uses, and by its number the one that each access has
+-- the lock paths of a section, the set that each point uses, and the path of each access by its number
 pub record AreSectionPaths (program : Typed) (section : Section) (x : SectionPaths) : Type 0 where
   pub paths : map lock_path_of x.paths.items ≡ lock_paths program section
   pub limit : length x.paths.items ≤ PATH_LIMIT

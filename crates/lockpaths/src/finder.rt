@@ -1,4 +1,4 @@
-//! Goes over the accesses of a section.
+//! Visits the accesses of a section.
 
 ghost use Rattle.std.specs.Prelude.{◌≡◌, [], ◌∷◌, map, Some, IfOk, OnOk};
 ghost use Rattle.std.specs.Option.{option_copied, option_map};
@@ -9,25 +9,25 @@ ghost use Rattle.locks.specs.Accesses.{access, global, element, field, in_path, 
 ghost use Rattle.lockpaths.specs.Working.Told.{seen};
 ghost use Rattle.lockpaths.specs.Working.Finding.{IsLockOf, IsTold, in_all, over, over_point, over_points, over_owner, over_owners};
 
-use crate::found::{Destination, Found};
+use crate::forms::is_fixed_local;
+use crate::found::{Destination, PathCollector};
 use core_lang::tree::{Action, Condition, Expr, FieldStep, Path, Section, Stmt};
-use core_lang::typed::{LockClass, Owner, Protection, Typed};
+use core_lang::typed::{CellOwner, LockClass, Protection, Typed};
 use flow::points::PointRef;
-use lockpaths_forms::forms::is_fixed_local;
 use source::memory::NoMemory;
 
-/// What a field is read or written of: a local followed by fields.
+/// The base of an access to a field: a local followed by fields.
 #[derive(Clone, Copy)]
 struct Base<'a> {
-    // The first name of the access.
+    // The first byte of the access.
     start: usize,
     local: usize,
     fields: &'a [FieldStep],
-    // Whether a field that is not final is known to be among these.
+    // Whether one of these fields is known not to be final.
     is_behind: bool,
 }
 
-/// Goes over the accesses of a section of a program.
+/// Visits the accesses of a section of a program.
 #[derive(Clone, Copy)]
 pub struct Finder<'a> {
     /// The program.
@@ -36,7 +36,7 @@ pub struct Finder<'a> {
     pub section: &'a Section,
 }
 
-// The place of a lock field of this class at the end of a normal form, if there is one.
+// The lock path of a lock field of this class at the end of a normal form, if there is a normal form.
 fn under(node: Option<usize>, class: usize) -> Option<Destination>
     ensures { result ≡ option_map (λ n. record { node = Some n; class = class }) node }
 {
@@ -50,23 +50,23 @@ fn under(node: Option<usize>, class: usize) -> Option<Destination>
 }
 
 impl<'a> Finder<'a> {
-    fn global(&self, start: usize, cell: u32, found: &mut Found) -> Result<(), NoMemory>
+    fn global(&self, start: usize, cell: u32, found: &mut PathCollector) -> Result<(), NoMemory>
         ensures { OnOk result (seen found.new ≡ over self.now (seen found.old) (access start (global cell) ∷ [])) }
     {
         let class = match self.program.cells.get(cell as usize) {
             Some(cell) => match cell.owner {
-                Owner::Global(number) => match self.program.globals.get(number) {
+                CellOwner::Global(number) => match self.program.globals.get(number) {
                     Some(global) => Some(global.class),
                     None => None,
                 },
-                Owner::Element { .. } | Owner::Field { .. } => None,
+                CellOwner::Element { .. } | CellOwner::Field { .. } => None,
             },
             None => None,
         };
         found.meet_global(start, class)
     }
 
-    fn element(&self, start: usize, array: usize, found: &mut Found) -> Result<(), NoMemory>
+    fn element(&self, start: usize, array: usize, found: &mut PathCollector) -> Result<(), NoMemory>
         ensures { OnOk result (seen found.new ≡ over self.now (seen found.old) (access start (element array) ∷ [])) }
     {
         let class = match self.program.shape.arrays.get(array) {
@@ -76,7 +76,7 @@ impl<'a> Finder<'a> {
         found.meet_global(start, class)
     }
 
-    // What protects a field of a struct.
+    // The protection of a struct's field.
     fn protection(&self, structure: usize, field: u32) -> Option<&'a Protection>
         ensures { option_copied result ≡ protection_of self.now.program.now structure field }
     {
@@ -85,13 +85,13 @@ impl<'a> Finder<'a> {
         Some(&field.protection)
     }
 
-    // The place of the lock of a field of a base, if it has one. Under a global lock no normal form is looked for.
+    // The lock path of a field of a base, if it has one. A global lock needs no normal form.
     fn lock(
         &self,
         structure: usize,
         number: u32,
         base: Base<'_>,
-        found: &mut Found,
+        found: &mut PathCollector,
     ) -> Result<Option<Destination>, NoMemory>
         ensures told { seen found.new ≡ seen found.old }
         ensures place { IfOk result (IsLockOf self.now (seen found.old) structure number base.entry found.new) }
@@ -118,13 +118,13 @@ impl<'a> Finder<'a> {
         }
     }
 
-    // An access to a field of a base.
+    // Visits an access to a field of a base.
     fn field(
         &self,
         structure: usize,
         number: u32,
         base: Base<'_>,
-        found: &mut Found,
+        found: &mut PathCollector,
     ) -> Result<(), NoMemory>
         requires { IsTold base }
         ensures { OnOk result (seen found.new ≡ over self.now (seen found.old) (access base.entry.start (field base.entry.local base.entry.fields.now structure number) ∷ [])) }
@@ -133,8 +133,8 @@ impl<'a> Finder<'a> {
         found.meet(base.start, place)
     }
 
-    // The fields of a path that are not final. Behind the first of them no base is a stable path.
-    fn along(&self, path: &Path, found: &mut Found) -> Result<(), NoMemory>
+    // Visits the fields of a path that are not final. After the first of them no base is a stable path.
+    fn along(&self, path: &Path, found: &mut PathCollector) -> Result<(), NoMemory>
         ensures { OnOk result (seen found.new ≡ over self.now (seen found.old) (in_path path.now)) }
     {
         let mut is_behind = false;
@@ -156,7 +156,7 @@ impl<'a> Finder<'a> {
         Ok(())
     }
 
-    fn expr(&self, e: &Expr, found: &mut Found) -> Result<(), NoMemory>
+    fn expr(&self, e: &Expr, found: &mut PathCollector) -> Result<(), NoMemory>
         ensures { OnOk result (seen found.new ≡ over self.now (seen found.old) (in_expr e.now)) }
     {
         match e {
@@ -185,8 +185,8 @@ impl<'a> Finder<'a> {
         }
     }
 
-    // Expressions, one after another.
-    fn exprs(&self, list: &[Expr], found: &mut Found) -> Result<(), NoMemory>
+    // Visits the accesses of expressions, one after another.
+    fn exprs(&self, list: &[Expr], found: &mut PathCollector) -> Result<(), NoMemory>
         ensures { OnOk result (seen found.new ≡ over self.now (seen found.old) (in_exprs list.now)) }
     {
         for e in list {
@@ -196,7 +196,7 @@ impl<'a> Finder<'a> {
     }
 
     #[cycle(conditions)]
-    fn condition(&self, condition: &Condition, found: &mut Found) -> Result<(), NoMemory>
+    fn condition(&self, condition: &Condition, found: &mut PathCollector) -> Result<(), NoMemory>
         ensures { OnOk result (seen found.new ≡ over self.now (seen found.old) (in_condition condition.now)) }
     {
         match condition {
@@ -215,7 +215,11 @@ impl<'a> Finder<'a> {
     }
 
     #[cycle(conditions)]
-    fn conditions(&self, conditions: &[Condition], found: &mut Found) -> Result<(), NoMemory>
+    fn conditions(
+        &self,
+        conditions: &[Condition],
+        found: &mut PathCollector,
+    ) -> Result<(), NoMemory>
         ensures { OnOk result (seen found.new ≡ over self.now (seen found.old) (in_all conditions.now)) }
     {
         for condition in conditions {
@@ -224,8 +228,13 @@ impl<'a> Finder<'a> {
         Ok(())
     }
 
-    // What a statement does at its point.
-    fn action(&self, start: usize, action: &Action, found: &mut Found) -> Result<(), NoMemory>
+    // Visits the accesses of a statement's point.
+    fn action(
+        &self,
+        start: usize,
+        action: &Action,
+        found: &mut PathCollector,
+    ) -> Result<(), NoMemory>
         ensures { OnOk result (seen found.new ≡ over self.now (seen found.old) (in_action start action.now)) }
     {
         match action {
@@ -271,8 +280,8 @@ impl<'a> Finder<'a> {
         }
     }
 
-    /// The accesses of a point.
-    pub fn point(&self, point: PointRef<'a>, found: &mut Found) -> Result<(), NoMemory>
+    /// Visits the accesses of a point.
+    pub fn point(&self, point: PointRef<'a>, found: &mut PathCollector) -> Result<(), NoMemory>
         ensures { OnOk result (seen found.new ≡ over_point self.now (seen found.old) (point_at point.entry)) }
     {
         match point {
@@ -284,8 +293,8 @@ impl<'a> Finder<'a> {
         found.end_point()
     }
 
-    /// The accesses of points.
-    pub fn points(&self, points: &[PointRef<'a>], found: &mut Found) -> Result<(), NoMemory>
+    /// Visits the accesses of points.
+    pub fn points(&self, points: &[PointRef<'a>], found: &mut PathCollector) -> Result<(), NoMemory>
         ensures { OnOk result (seen found.new ≡ over_points self.now (seen found.old) (map point_at points.now)) }
     {
         for point in points {
@@ -294,8 +303,8 @@ impl<'a> Finder<'a> {
         Ok(())
     }
 
-    // The `where` of a statement, if it names a `var`.
-    fn owner(&self, action: &Action, found: &mut Found) -> Result<(), NoMemory>
+    // Visits the `where` of a statement, if it names a `var`.
+    fn owner(&self, action: &Action, found: &mut PathCollector) -> Result<(), NoMemory>
         ensures { OnOk result (seen found.new ≡ over_owner self.now (seen found.old) (statement 0 action.now)) }
     {
         if let Action::Bind { value, .. } = action {
@@ -308,8 +317,8 @@ impl<'a> Finder<'a> {
         Ok(())
     }
 
-    /// The `where`s of points.
-    pub fn owners(&self, points: &[PointRef<'a>], found: &mut Found) -> Result<(), NoMemory>
+    /// Visits the `where`s of points.
+    pub fn owners(&self, points: &[PointRef<'a>], found: &mut PathCollector) -> Result<(), NoMemory>
         ensures { OnOk result (seen found.new ≡ over_owners self.now (seen found.old) (map point_at points.now)) }
     {
         for point in points {

@@ -1,29 +1,27 @@
-//! What is found of a section, access by access.
+//! The lock paths that are found in a section, access by access.
 
 ghost use Rattle.std.specs.Prelude.{◌≡◌, ◌<◌, length, map, IfOk, IfSome, OnOk};
 ghost use Rattle.std.specs.Option.{option_map};
 ghost use Rattle.locks.specs.LockPaths.{global_path, lock_path_of, same_path};
-ghost use Rattle.lockpaths_forms.specs.Working.States.{IsFormOf};
+ghost use Rattle.lockpaths.specs.Working.States.{IsFormOf};
 ghost use Rattle.lockpaths.specs.Working.Gathering.{nothing_yet, place_from};
 ghost use Rattle.lockpaths.specs.Working.Places.{IsPlace, has_same_path, path_at};
 ghost use Rattle.lockpaths.specs.Working.Told.{seen, ended_told, met_told, told_with_new};
 
+use crate::forms::Forms;
 use core_lang::tree::{FieldStep, Section};
-use lockpaths_forms::forms::Forms;
 use locks::path::{LockPath, Root};
 use source::fault::Code;
+use source::limits::PATH_LIMIT;
 use source::memory::NoMemory;
-use source::mistake::{Mistake, note};
+use source::mistake::{Mistake, report};
 use std::alloc::Global;
 use std::marker::Model;
 
-// How many lock paths a section may have.
-const PATH_LIMIT: usize = 64;
-
-/// Where a lock path leads: to a global lock, or to a lock field at the end of a normal form.
+/// A lock path: a global lock, or a lock field at the end of a normal form.
 #[derive(Clone, Copy)]
 pub struct Destination {
-    /// The normal form, by its number; none for a global lock.
+    /// The normal form, as the index of a node; `None` for a global lock.
     pub node: Option<usize>,
     /// The class of the lock.
     pub class: usize,
@@ -31,21 +29,21 @@ pub struct Destination {
 
 /// The lock paths so far.
 #[derive(Drop)]
-pub struct Found {
+pub struct PathCollector {
     alloc: Global,
-    // What stands for the section's locals, and the normal forms of the paths so far.
+    // The states of the section's locals, and the normal forms of the paths so far.
     forms: Forms,
-    // Each once, in the order of their first accesses; behind the first that is too many, none is kept.
+    // The lock paths, each once, in the order of their first accesses. None is kept after the first that is too many.
     places: Vec<Destination>,
-    /// The number of the path of each access that has one, up to the first that is too many.
+    /// For each access with a lock path, the index of that path, up to the first that is too many.
     pub numbers: Vec<u8>,
-    /// For each point how many of these there are up to its end.
+    /// For each point, the number of these accesses up to its end.
     pub ends: Vec<usize>,
     /// The least fault so far, over all sections.
     pub least: Option<Mistake>,
 }
 
-impl Model for Found {
+impl Model for PathCollector {
     ghost use Rattle.std.specs.Prelude.{◌≤◌, length};
     ghost use Rattle.lockpaths.specs.Working.Told.{Seen};
 
@@ -58,12 +56,12 @@ impl Model for Found {
     ghost invariant = { λ f. AreFound f.forms.paths f.places.items };
 }
 
-impl Found {
-    /// Nothing yet of a section whose locals stand for this, behind the least fault of those before it.
-    pub fn new(alloc: Global, forms: Forms, least: Option<Mistake>) -> Found
+impl PathCollector {
+    /// An empty collector for a section whose locals have these states, with the least fault of the sections before it.
+    pub fn new(alloc: Global, forms: Forms, least: Option<Mistake>) -> PathCollector
         ensures { result ≡ record { known = forms; gathered = nothing_yet least } }
     {
-        Found {
+        PathCollector {
             alloc,
             forms,
             places: Vec::new(alloc),
@@ -73,7 +71,7 @@ impl Found {
         }
     }
 
-    /// The normal form of a local followed by fields, and by these final references, if that is a stable path.
+    /// The node of the normal form of a local followed by fields and these final references, if that is a stable path.
     pub fn normal_form(
         &mut self,
         section: &Section,
@@ -87,7 +85,7 @@ impl Found {
         self.forms.form_at(section, local, fields, through)
     }
 
-    // Whether two places have one normal form, or are of global locks.
+    // Whether two lock paths have one normal form, or are both global locks.
     fn has_same_path(&self, a: Destination, b: Destination) -> bool
         requires a { IsPlace self.now.known.paths a }
         requires b { IsPlace self.now.known.paths b }
@@ -108,7 +106,7 @@ impl Found {
         self.has_same_path(a, b) && a.class == b.class
     }
 
-    // The number of a path, if it was met before.
+    // The index of a lock path, if it was met before.
     fn number_of(&self, place: Destination) -> Option<usize>
         requires { IsPlace self.now.known.paths place }
         ensures place { result ≡ place_from (path_at self.now.known.paths place) 0 self.now.gathered.paths }
@@ -122,13 +120,13 @@ impl Found {
         None
     }
 
-    /// Meets an access that starts there and has this lock path, if it has one.
+    /// Notes an access that starts at `start` and has this lock path, if it has one.
     pub fn meet(&mut self, start: usize, place: Option<Destination>) -> Result<(), NoMemory>
         requires { IfSome place (IsPlace self.old.known.paths) }
         ensures { OnOk result (seen self.new ≡ met_told (seen self.old) start (option_map (path_at self.old.known.paths) place)) }
     {
         let Some(place) = place else {
-            note(&mut self.least, Code::UnstableBase, start);
+            report(&mut self.least, Code::UnstableBase, start);
             return Ok(());
         };
         match self.number_of(place) {
@@ -140,7 +138,7 @@ impl Found {
         }
     }
 
-    /// Meets an access that starts there and is under the global lock of this class, if it has one.
+    /// Notes an access that starts at `start` and is under the global lock of this class, if it has one.
     pub fn meet_global(&mut self, start: usize, class: Option<usize>) -> Result<(), NoMemory>
         ensures { OnOk result (seen self.new ≡ met_told (seen self.old) start (option_map global_path class)) }
     {
@@ -150,7 +148,7 @@ impl Found {
         }
     }
 
-    // A path that was not met before.
+    // Adds a path that was not met before.
     fn add(&mut self, start: usize, place: Destination) -> Result<(), NoMemory>
         requires { IsPlace self.old.known.paths place }
         ensures { OnOk result (seen self.new ≡ told_with_new (seen self.old) start (path_at self.old.known.paths place)) }
@@ -160,14 +158,14 @@ impl Found {
             return Ok(());
         }
         if number == PATH_LIMIT {
-            note(&mut self.least, Code::LimitExceeded, start);
+            report(&mut self.least, Code::LimitExceeded, start);
         }
         self.numbers.push(number as u8)?;
         self.places.push(place)?;
         Ok(())
     }
 
-    /// Ends a point.
+    /// Notes the end of a point.
     pub fn end_point(&mut self) -> Result<(), NoMemory>
         ensures { OnOk result (seen self.new ≡ ended_told (seen self.old)) }
     {
@@ -175,7 +173,7 @@ impl Found {
         Ok(())
     }
 
-    // The lock path that leads to a place.
+    // The lock path with its root and finals.
     fn lock_path(&self, place: Destination) -> Result<LockPath, NoMemory>
         requires { IsPlace self.now.known.paths place }
         ensures { IfOk result (λ path. lock_path_of path ≡ path_at self.now.known.paths place) }

@@ -11,31 +11,31 @@ ghost use Rattle.lockpaths.specs.Working.Numbers.{IsSetOf, cut, AreRising, IsCom
 ghost use Rattle.lockpaths.specs.Paths.{ArePaths};
 
 use crate::finder::Finder;
-use crate::found::Found;
+use crate::forms::Forms;
+use crate::found::PathCollector;
 use crate::table::{Paths, SectionPaths};
 use core_lang::tree::Section;
 use core_lang::typed::Typed;
 use flow::points::points_of;
-use lockpaths_forms::forms::Forms;
 use locks::path_set::PathSet;
 use source::fault::{Fault, Refusal};
 use source::memory::NoMemory;
 use source::mistake::Mistake;
 use std::alloc::Global;
 
-// What is found of a section, behind the least fault of those before it.
+// The lock paths of a section, after the least fault of those before it.
 fn found_in(
     alloc: Global,
     program: &Typed,
     section: &Section,
     least: Option<Mistake>,
-) -> Result<Found, NoMemory>
+) -> Result<PathCollector, NoMemory>
     ensures { IfOk result (λ found. found.gathered ≡ gathered_in program.now section.now least) }
 {
     let points = points_of(alloc, section)?;
     let forms = Forms::of(alloc, section, &points)?;
     let finder = Finder { program, section };
-    let mut found = Found::new(alloc, forms, least);
+    let mut found = PathCollector::new(alloc, forms, least);
     finder.points(&points, &mut found)?;
     finder.owners(&points, &mut found)?;
     Ok(found)
@@ -69,8 +69,8 @@ fn sets_of(alloc: Global, numbers: &[u8], ends: &[usize]) -> Result<Vec<PathSet>
     Ok(sets)
 }
 
-// What is found of a section without a fault, with a set for each point.
-fn section_paths(alloc: Global, found: Found) -> Result<SectionPaths, NoMemory>
+// The lock paths of a section without a fault, with a set for each point.
+fn section_paths(alloc: Global, found: PathCollector) -> Result<SectionPaths, NoMemory>
     requires { IsComplete found.gathered }
     ensures { IfOk result (IsFinished found.gathered) }
 {
@@ -83,12 +83,12 @@ fn section_paths(alloc: Global, found: Found) -> Result<SectionPaths, NoMemory>
     })
 }
 
-// What is found of each section while there is no fault, and the least fault of all.
+// The lock paths of each section up to the first fault, and the least fault of all.
 fn gather(alloc: Global, program: &Typed) -> Result<(Vec<SectionPaths>, Option<Mistake>), NoMemory>
     ensures least { IfOk result (λ r. r.1 ≡ least_of None (faults_of program.now)) }
     ensures found { IfOk result (λ r. r.1 ≡ None → AreEach program.now program.now.sections.items r.0.items) }
 {
-    // The law tells that the sets' numbers stand for one path each.
+    // By the law, the numbers in the sets stand for one path each.
     locks::laws::each_path_once();
     let mut sections = Vec::with_capacity(alloc, program.sections.len())?;
     let mut least = None;
@@ -103,23 +103,26 @@ fn gather(alloc: Global, program: &Typed) -> Result<(Vec<SectionPaths>, Option<M
     Ok((sections, least))
 }
 
-/// The lock paths of a program's sections; or the least fault of them.
+/// The lock paths of a program's sections, or their least fault.
 ///
-/// - `E13`, at the first name of an access under an object's lock through a base that can change;
-/// - `E15`, at the first name of the access by which a section has its 65th lock path;
-/// - or memory ran out.
+/// # Errors
+///
+/// - `E13` at the first name of an access under an object's lock through a base that can change, and at a `var` that a
+///   `where` names.
+/// - `E15` at the first name of the access that gives a section its 65th lock path.
+/// - Out of memory.
 pub fn paths(alloc: Global, program: &Typed) -> Result<Paths, Refusal>
     requires { IsWellFormed program.now }
-    // What is answered are the lock paths of each section, of each point and of each access.
+    // The result has the lock paths of each section, of each point and of each access.
     ensures paths { IfOk result (ArePaths program.now) }
-    // A program with a fault is never accepted.
+    // A program with a fault is not accepted.
     ensures faultless { OnOk result (HasNoFault program.now) }
-    // A fault is a fault of the program.
+    // The fault is a fault of the program.
     ensures fault { IfErr result (IsRefusal program.now) }
-    // No fault of the program goes before it.
+    // No fault of the program comes before it.
     ensures least { IfErr result (IsLeast program.now) }
 {
-    // The law tells that a path which is not found again is a new one, and so may be one too many.
+    // By the law, a path that is not found again is new, and so may be one too many.
     locks::laws::each_path_once();
     let (sections, least) = match gather(alloc, program) {
         Ok(found) => found,

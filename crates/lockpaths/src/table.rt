@@ -8,7 +8,7 @@ use locks::path_set::PathSet;
 pub struct SectionPaths {
     /// Its lock paths, each once, in the order of their first accesses; at most 64.
     pub paths: Vec<LockPath>,
-    /// For each point the paths of the accesses that are written in it.
+    /// For each point, the paths of its accesses.
     pub used: Vec<PathSet>,
     /// For each access, in the order of the text, its path, an index into `paths`.
     pub of_access: Vec<u8>,
@@ -17,6 +17,6 @@ pub struct SectionPaths {
 /// The lock paths of a program.
 #[derive(Drop)]
 pub struct Paths {
-    /// Those of each section.
+    /// The lock paths of each section.
     pub sections: Vec<SectionPaths>,
 }

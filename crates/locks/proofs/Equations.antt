@@ -1,4 +1,5 @@
--- The normal form of a path that begins at a `let` of a stable path is that path's, with the finals behind; any other path is its own.
+-- The normal form of a path that begins at a `let` of a stable path is that path's, with the finals after; any other
+-- path is its own.
 use Rattle.std.proofs.Common.{◌≡◌, ℕ, ◌+◌, ◌<◌, Bool, true, false, List, [], ◌∷◌, Option, Some, None, inl, inr, refl}
 use Rattle.std.proofs.Common.{sym, ap, ◌∙◌, arith}
 use Rattle.std.specs.Prelude.{◌==◌, if◌then◌else◌}
@@ -14,7 +15,7 @@ use Rattle.locks.proofs.Normal.{unchanged, bindings_ordered}
 use Rattle.core_lang.specs.Theory.Items.{not_in_none, in_cases}
 
 module _ (section : Section) where
-  -- what a binding makes of a path that begins at its local
+  -- the path that replaces a path that begins at the local of a binding
   abbrev Step : Binding → StablePath → StablePath
   Step b path = or_behind (owned_path (owner_of section b.value) path) (stable_value section b.value) path
 
@@ -53,7 +54,7 @@ module _ (section : Section) where
         | inr d ↦ ap (replaced section x) (of_step bs (next + 1) b path q o.3 d same is low)
       ]
 
-  -- what is bound there names what was bound before
+  -- the initialiser of a binding names locals that were bound before
   below_it : (bs : List Binding) (next : ℕ) (b : Binding) → IsOrdered section next bs → Contains bs b →
       ((q : StablePath) → stable_value section b.value ≡ Some q → q.root < b.local) × ((o : OwnerPath) → owner_of section b.value ≡ Some o → o.path.root < b.local)
   below_it [] next b o c = absurd (not_in_none b c)

@@ -1,4 +1,5 @@
--- Worked sections, written by hand, and what the definitions compute of them. Nothing rests on these: they show the definitions at work.
+-- Worked sections, written by hand, and what the definitions compute for them. No proof depends on these: they show the
+-- definitions at work.
 use Rattle.std.specs.Prelude.{Option, Ok, Err, ◌+◌, ◌≡◌, ℕ, ◌<◌, ◌^◌, length, List, [], ◌∷◌, map, Some, None, pos}
 use Rattle.std.specs.Prelude.{Bool, true, false, String, ◌++◌, codes, string_bytes}
 use Rattle.std.proofs.Common.{refl, Vec, Global, arith}
@@ -38,8 +39,8 @@ use Rattle.core_lang.specs.declared.typed.LockClass.TheVariants as class
 use Rattle.core_lang.specs.declared.typed.LockField.{LockField}
 use Rattle.core_lang.specs.declared.typed.Protection.{Protection}
 use Rattle.core_lang.specs.declared.typed.GlobalVariable.{GlobalVariable}
-use Rattle.core_lang.specs.declared.typed.Owner.{Owner}
-use Rattle.core_lang.specs.declared.typed.Owner.TheVariants as owner
+use Rattle.core_lang.specs.declared.typed.CellOwner.{CellOwner}
+use Rattle.core_lang.specs.declared.typed.CellOwner.TheVariants as owner
 use Rattle.core_lang.specs.declared.typed.Cell.{Cell}
 use Rattle.core_lang.specs.declared.typed.Typed.{Typed}
 use Rattle.flow.specs.Points.{points, start_of, scopes}
@@ -91,7 +92,7 @@ module _ (alloc : Global) (name : String Global) where
   abbrev pub a_global : ℕ → ℕ → GlobalVariable
   a_global cell class = record { name = name; cell = cell; class = class }
 
-  abbrev pub number_cell : Owner → Cell
+  abbrev pub number_cell : CellOwner → Cell
   number_cell o = record { owner = o; value_type = Integer; opening = Int (pos 0) }
 
   abbrev pub no_shape : Shape
@@ -538,11 +539,11 @@ module _ (alloc : Global) (name : String Global) where
         ∷ record { start = 60; action = SetField (a_path 60 1 [] (omega arith)) 1 0 (Number (pos 3)) } ∷ []) (omega arith);
   }
 
-  -- both accesses behind the `where` have the parameter's lock, also over an alias; the one at the `var` has none
+  -- both accesses after the `where` have the parameter's lock, also over an alias; the one at the `var` has none
   owned_walk_paths : map (lock_path shared (owned_walk Var)) (accesses (owned_walk Var)) ≡ Some (path_at 0 [] 0) ∷ Some (path_at 0 [] 0) ∷ None ∷ []
   owned_walk_paths = refl
 
-  -- where what is tested is a `let`, the accesses behind the `where` still have the owner that it names
+  -- where what is tested is a `let`, the accesses after the `where` still have the owner that it names
   owned_let_paths : map (lock_path shared (owned_walk Let)) (accesses (owned_walk Let)) ≡ Some (path_at 0 [] 0) ∷ Some (path_at 0 [] 0) ∷ Some (path_at 1 (0 ∷ []) 0) ∷ []
   owned_let_paths = refl
 

@@ -33,7 +33,7 @@ use Rattle.core_lang.specs.Theory.Items.{lookup_some, map_some}
 
 -- ---- where a path comes from
 
--- the path of a field: the global lock of its protection, or its protection behind the normal form of its base
+-- the path of a field: the global lock of its protection, or its protection after the normal form of its base
 pub data IsFieldPath (program : Typed) (section : Section) (local : ℕ) (base : List FieldStep) (p : Protection) (path : LockPath) : Type 0 where
   of_global : (c : LockClass) → slice_get program.classes.items p.class ≡ Some c → IsGlobalLock c →
       path ≡ global_path p.class →

@@ -16,8 +16,8 @@ use Rattle.core_lang.specs.declared.typed.Protection.{Protection}
 use Rattle.core_lang.specs.declared.typed.Field.{Field}
 use Rattle.core_lang.specs.declared.typed.Struct.{Struct}
 use Rattle.core_lang.specs.declared.typed.GlobalVariable.{GlobalVariable}
-use Rattle.core_lang.specs.declared.typed.Owner.{Owner}
-use Rattle.core_lang.specs.declared.typed.Owner.TheVariants as owner
+use Rattle.core_lang.specs.declared.typed.CellOwner.{CellOwner}
+use Rattle.core_lang.specs.declared.typed.CellOwner.TheVariants as owner
 use Rattle.core_lang.specs.declared.typed.Cell.{Cell}
 use Rattle.core_lang.specs.declared.typed.Typed.{Typed}
 use Rattle.core_lang.specs.Cells.{with, found, at_index, element_cell, field_cell}
@@ -52,7 +52,7 @@ abbrev Names : Typed → List Value → LockPath → ℕ → Type 0
 Names program locals path cell = (lock : Lock) × (lock_named path program.shape locals ≡ Some lock) × (lock_of_cell program cell ≡ Some lock)
 
 module _ (program : Typed) (section : Section) (locals heap : List Value) where
-  cell_lock : (cell : ℕ) (c : Cell) (o : Owner) (lock : Lock) → slice_get program.cells.items cell ≡ Some c →
+  cell_lock : (cell : ℕ) (c : Cell) (o : CellOwner) (lock : Lock) → slice_get program.cells.items cell ≡ Some c →
       c.owner ≡ o → protecting program o ≡ Some lock →
       lock_of_cell program cell ≡ Some lock
   cell_lock cell c o lock here is e =
@@ -68,7 +68,7 @@ module _ (program : Typed) (section : Section) (locals heap : List Value) where
 
   -- ---- globals and elements
 
-  global_protected : (o : Owner) (number : ℕ) → class_if_global program o ≡ Some number →
+  global_protected : (o : CellOwner) (number : ℕ) → class_if_global program o ≡ Some number →
       protecting program o ≡ Some (global_lock number)
   global_protected (owner.Global g) number e =
       let x = lookup_some (slice_get program.globals.items g) (λ (y : GlobalVariable). Some y.class) number e in
@@ -136,7 +136,7 @@ module _ (program : Typed) (section : Section) (locals heap : List Value) where
 
   module _ (well : IsWellFormed program) (scoped : IsWellScoped section) (scope : List ℕ) (agree : LetsAgree section scope program.shape locals)
       (closed : Closed (bindings section) (bound_once section scoped) scope) where
-    -- what the path of a field names, where its base leads to the object
+    -- the lock that the path of a field names, if its base leads to the object
     field_path_named : (local s f o : ℕ) (base : List FieldStep) (v : Value) (p : Protection) (path : LockPath) →
         Contains scope local →
         slice_get locals local ≡ Some v → along program.shape heap v base ≡ Ok (Ref (Some o)) → struct_of program.shape o ≡ Some s →

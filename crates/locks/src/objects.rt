@@ -1,4 +1,4 @@
-//! Which objects final references lead to.
+//! The objects to which final references lead.
 
 ghost use Rattle.std.specs.Prelude.{◌≡◌};
 ghost use Rattle.locks.specs.Locks as locks;
@@ -7,7 +7,7 @@ ghost use Rattle.locks.specs.LockPaths as paths;
 use core_lang::shape::Shape;
 use core_lang::value::Value;
 
-// The object that a final reference of an object names.
+// The object that a final reference of an object refers to.
 fn final_of(shape: &Shape, object: u32, number: u32) -> Option<u32>
     ensures { result ≡ locks.final_of shape.now object number }
 {
@@ -15,7 +15,7 @@ fn final_of(shape: &Shape, object: u32, number: u32) -> Option<u32>
     shape.finals.get(first as usize + number as usize).copied()
 }
 
-/// The object to which final references lead from an object, if there are all of them.
+/// The object to which the final references `finals` lead from `object`, if all of them exist.
 pub fn led_to(shape: &Shape, object: u32, finals: &[u32]) -> Option<u32>
     ensures { result ≡ locks.led_to shape.now object finals.now }
 {
@@ -26,7 +26,7 @@ pub fn led_to(shape: &Shape, object: u32, finals: &[u32]) -> Option<u32>
     Some(reached)
 }
 
-// The object that a value names.
+// The object that a value refers to.
 fn named(value: Value) -> Option<u32>
     ensures { result ≡ paths.named value }
 {
@@ -36,7 +36,7 @@ fn named(value: Value) -> Option<u32>
     }
 }
 
-// The object to which final references lead from the one that a local names.
+// The object to which final references lead from a local.
 pub(crate) fn object_at(
     shape: &Shape,
     locals: &[Value],

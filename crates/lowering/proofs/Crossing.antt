@@ -1,4 +1,4 @@
--- A compiled program may be lent to many threads: it is made of a program, and of numbers and lists of these.
+-- A compiled program may be shared by many threads: it consists of a program, and of numbers and lists of these.
 use denote.Param.Send.{IsSync, sendable}
 use denote.Hole.{as_row}
 use Rattle.std.proofs.Crossing.{crosses}

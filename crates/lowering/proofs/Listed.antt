@@ -1,4 +1,4 @@
--- The lines of one section more.
+-- The lines of one more section.
 use Rattle.std.proofs.Common.{◌≡◌, ◌∙◌, ◌+◌, ◌<◌, ◌∷◌, ◌++◌, ℕ, suc, List, Option, Some, None, get_or, length, map, drop, refl}
 use Rattle.std.proofs.Common.{sym, ap, subst, add-one, append_assoc, drop-cons}
 use Rattle.std.specs.Prelude.{slice_get}
@@ -24,7 +24,7 @@ use Rattle.code.specs.Working.Sections.{front_of}
 use Rattle.lowering.specs.Working.Listings.{AreTold}
 use Rattle.lowering.specs.Working.Lowered.{IsLowered, IsCodeOf}
 
--- what stands in front of an instruction is where it stands in the text, if there is one
+-- the prefix of an instruction in a listing is its position in the text, if a text is given
 pub fronts_same : (text : Option (List ℕ)) (section : Section) (lists : List (List ℕ)) (made : SectionCode) (places : Option SectionPlaces)
     (lent : Option (Bor SectionPlaces)) → AreTold text section places → option_copied lent ≡ places → made.begins.items ≡ section_begins lists section →
     (place : ℕ) → front_of lent made place ≡ front_text text section lists place

@@ -1,4 +1,4 @@
--- Nothing is taken where nothing is accessed.
+-- A section without accesses acquires nothing.
 use Rattle.std.specs.Prelude.{◌≡◌, ℕ, zero, suc, List, [], ◌∷◌, ◌++◌, slice_get, Some, None}
 use Rattle.std.proofs.Common.{refl, sym, ap, ◌∙◌, subst}
 use Rattle.std.specs.List.{Contains, flat_map}
@@ -25,7 +25,7 @@ right_none : {X : Type 0} (xs ys : List X) → xs ++ ys ≡ [] → ys ≡ []
 right_none [] ys e = e
 right_none (x ∷ xs) ys e = absurd (let f : ⊥ = cc in f)
 
--- where nothing is joined, nothing is of any item
+-- if the joined list is empty, that of each item is
 nothing_of_each : {X Y : Type 0} (f : X → List Y) (xs : List X) (k : ℕ) (x : X) → flat_map f xs ≡ [] →
     slice_get xs k ≡ Some x →
     f x ≡ []

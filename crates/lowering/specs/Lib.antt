@@ -1,6 +1,6 @@
 pub mod Plans
 pub mod Working
--- what the public clauses cite
+-- the definitions that public clauses cite
 pub use Rattle.lowering.specs.Working.Lowered.{IsLowered, IsCodeOf, IsCode}
 pub use Rattle.lowering.specs.Working.Rooms.{most_cells, IsRoomOf, AreRoomsOf}
 pub use Rattle.lowering.specs.Plans.{Plan, IsCompiled, CodesBehave, CompiledRunAlike}

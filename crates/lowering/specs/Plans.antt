@@ -6,7 +6,7 @@ use Rattle.core_lang.specs.declared.typed.Typed.{Typed}
 use Rattle.core_lang.specs.Serial.{Invocation, Ended, SerialFromOpening}
 use Rattle.core_lang.specs.Laws.{CallsFill}
 use Rattle.core_lang.specs.WellFormed.{IsChecked, IsWellFormed}
-use Rattle.core_lang_expansion.specs.Data.{IsExpanded}
+use Rattle.core_lang_helpers.specs.Data.{IsExpanded}
 use Rattle.locks.specs.Faults as paths
 use Rattle.lockorder.specs.Edges.{AreRanksOf, RiseIn}
 use Rattle.inserter.specs.Placement.{IsPlacement}
@@ -17,19 +17,20 @@ use Rattle.code.specs.Needs.{operand_need}
 use Rattle.code.specs.Alone.{Behaves}
 use Rattle.lowering.specs.Working.Lowered.{IsCodeOf}
 
--- a program as it is accepted, the same with its helpers written out, the ranks of its lock classes, for each section the lists of lock
--- paths before its points, each path by its number among the section's, and where cells and locks lie. Its code is that of `code`, for
--- these lists
+-- a program as accepted, the same with its helpers expanded, the ranks of its lock classes, for each section the lists
+-- of lock paths before its points, as indexes into the section's lock paths, and the layout of cells and locks. Its
+-- code is that of `code`, for these lists
 pub record Plan : Type 0 where
   pub accepted : Typed
-  -- what runs: no helper is left in it
+  -- the program that runs, which has no helpers
   pub program : Typed
   pub ranks : List ℕ
   pub lists : List (List (List ℕ))
   pub layout : LayoutOf
 
--- the program is the accepted one with its helpers written out, and well formed; each of its accesses has a lock path, and no section too many; locks that have to be taken before others
--- are of a lesser rank; before each point stand the paths that are due there; and the layout is the program's
+-- the program is the accepted one with its helpers expanded, and well formed. Each of its accesses has a lock path, and
+-- no section has too many. Locks that must be acquired before others have a lower rank. The list before each point has
+-- the paths that are due there, and the layout is the program's
 pub record IsCompiled (plan : Plan) : Type 0 where
   pub checked : IsChecked plan.accepted
   pub expanded : IsExpanded plan.accepted plan.program
@@ -48,7 +49,7 @@ CodesBehave =
     slice_get program.sections.items k ≡ Some section → slice_get code.sections.items k ≡ Some made →
     Behaves program section made.instructions.items (operand_need section)
 
--- calls run one after another on what is compiled end as on the program that was accepted
+-- calls run one after another end on the compiled program as on the accepted one
 abbrev pub CompiledRunAlike : Type 0
 CompiledRunAlike =
     (plan : Plan) (calls : List Invocation) (ends : List Ended) (heap : List Value) → IsCompiled plan → CallsFill plan.accepted calls →

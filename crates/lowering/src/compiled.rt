@@ -2,7 +2,7 @@
 
 ghost use Rattle.std.specs.Prelude.{◌≡◌, ◌<◌, length, IfOk};
 ghost use Rattle.core_lang.specs.WellFormed.{IsChecked, IsWellFormed};
-ghost use Rattle.core_lang_expansion.specs.Data.{IsExpanded};
+ghost use Rattle.core_lang_helpers.specs.Data.{IsExpanded};
 ghost use Rattle.inserter.specs.Placement.{all_lists};
 ghost use Rattle.lockorder.specs.Edges.{AreRanksOf, RiseIn};
 ghost use Rattle.lockpaths.specs.Paths.{ArePaths};
@@ -26,16 +26,16 @@ use source::memory::NoMemory;
 use std::alloc::Global;
 use std::marker::Model;
 
-/// A program that is accepted, and the same with its helpers written out.
+/// An accepted program, and the same with its helpers expanded.
 #[derive(Drop)]
 pub struct Trees {
     /// The program, with its helpers.
     pub accepted: Typed,
-    /// It with its helpers written out; nothing where it has none, since then it is the same.
+    /// The program with its helpers expanded; `None` if it has none, since then it is the same.
     pub written: Option<Typed>,
 }
 
-/// What runs of such two: the one that is written out, if it is apart.
+/// The program that runs: the expanded one, if it is separate.
 #[inline]
 fn running<'a>(accepted: &'a Typed, written: &'a Option<Typed>) -> &'a Typed
     ensures { result.now ≡ written_in accepted.now written.now }
@@ -47,7 +47,7 @@ fn running<'a>(accepted: &'a Typed, written: &'a Option<Typed>) -> &'a Typed
 }
 
 impl Trees {
-    /// The program with its helpers written out, which is what runs.
+    /// The program with its helpers expanded, which is what runs.
     #[inline]
     pub fn program(&self) -> &Typed
         ensures { result.now ≡ program_of self.now }
@@ -56,18 +56,18 @@ impl Trees {
     }
 }
 
-/// What the passes before the lists find of a program.
+/// The results of the passes before the lists.
 #[derive(Drop)]
-pub struct Found {
+pub struct Analyses {
     /// Its lock paths.
     pub paths: Paths,
     /// The points of each section, in the order of [`Typed::sections`].
     pub points: Vec<Points>,
-    /// For each lock class its rank.
+    /// The rank of each lock class.
     pub ranks: Ranks,
 }
 
-/// A program that is accepted, with all that the passes found of it. As a value it is its plan.
+/// An accepted program with all results of the passes. Its model is its plan.
 #[derive(Drop)]
 pub struct Program {
     accepted: Typed,
@@ -105,13 +105,13 @@ impl Program {
     ghost use Rattle.lowering.specs.Working.Lowered.{IsCodeOf};
     ghost use Rattle.lowering.specs.Working.Compiled.{IsRoomAt};
 
-    /// A program that is accepted, with its helpers written out and what the passes found of that, compiled. The points
-    /// are let go as soon as the lists are made.
+    /// Compiles an accepted program, given its trees with and without helpers and the results of the passes. The points
+    /// are dropped as soon as the lists are made.
     ///
     /// # Errors
     ///
-    /// Want of memory.
-    pub fn of(alloc: Global, trees: Trees, found: Found) -> Result<Program, NoMemory>
+    /// Out of memory.
+    pub fn of(alloc: Global, trees: Trees, found: Analyses) -> Result<Program, NoMemory>
         requires checked { IsChecked trees.accepted }
         requires expanded { IsExpanded trees.accepted (program_of trees) }
         requires program { IsWellFormed (program_of trees) }
@@ -124,7 +124,7 @@ impl Program {
         ensures program { IfOk result (λ made. made.program ≡ program_of trees) }
         ensures compiled { IfOk result IsCompiled }
     {
-        let Found {
+        let Analyses {
             paths,
             points,
             ranks,
@@ -148,7 +148,7 @@ impl Program {
         })
     }
 
-    /// The program as it was accepted, with its helpers.
+    /// The accepted program, with its helpers.
     #[inline]
     pub fn typed(&self) -> &Typed
         ensures accepted { result.now ≡ self.now.accepted }
@@ -157,7 +157,7 @@ impl Program {
         &self.accepted
     }
 
-    /// The program with its helpers written out, which is what runs. That it is compiled is what later layers stand on.
+    /// The program with its helpers expanded, which is what runs. The crates above use that it is compiled.
     #[inline]
     pub fn expanded(&self) -> &Typed
         ensures program { result.now ≡ self.now.program }
@@ -166,7 +166,7 @@ impl Program {
         running(&self.accepted, &self.written)
     }
 
-    /// How many threads it has.
+    /// The number of its threads.
     #[inline]
     pub fn threads(&self) -> u32
         ensures { result ≡ length self.now.program.threads.items }
@@ -198,7 +198,7 @@ impl Program {
         &self.placed
     }
 
-    /// The lists of lock paths before the points of the section of this number; none, where it has no such section.
+    /// The lists of lock paths before the points of the section of this number, or none if it has no such section.
     #[inline]
     pub fn lists_before(&self, section: usize) -> &[Vec<u8>]
         ensures { number_lists result.now ≡ lists_at self.now.lists section }
@@ -206,7 +206,7 @@ impl Program {
         lists_before(self.placed(), section)
     }
 
-    /// Where its cells and its locks lie.
+    /// The layout of its cells and locks.
     #[inline]
     pub fn layout(&self) -> &Layout
         ensures { result.now ≡ self.now.layout }
@@ -222,7 +222,7 @@ impl Program {
         &self.code
     }
 
-    /// What one run of a section can need at most.
+    /// The room that one run of each section needs.
     #[inline]
     pub fn room(&self, section: usize) -> Room
         requires { section < length self.now.program.sections.items }

@@ -1,21 +1,27 @@
-//! Makes the code of a program.
+//! Code generation: makes the code of a program, and the compiled program.
 //!
 //! - [`compiled::Program`]: a compiled program.
-//! - [`lower`]: the code of each section. [`listing`]: its listing, a line for each instruction; [`listing_with_places`]: each
-//!   with where its statement starts in the text.
-//! - [`rooms`]: what one run of each section can need at most.
-//! - [`laws`]: the code of a program behaves as its sections, and calls of the program with its helpers written out run as those
-//!   of the program that was accepted.
+//! - [`lower`]: the code of each section, made by `section`, `assembler`, `emitter` and `sizes`. [`listing`]: its
+//!   listing, a line for each instruction. [`listing_with_places`]: the same with the position of each statement in the
+//!   text.
+//! - [`rooms`]: the most that one run of each section needs.
+//! - [`laws`]: the code of a program behaves as its sections, and calls of the program with its helpers expanded run as
+//!   those of the accepted program.
 //!
-//! `specs/` says what the code of a program is (`Lowered`), what its sections need (`Rooms`), and what a compiled program is
-//! (`Plans`, `Compiled`).
+//! `code` defines the instructions of a section, where its points begin and how many operands they need. `specs/Plans`
+//! defines compiled programs. `specs/Working` describes what the code has done with a section; nobody has to believe
+//! it.
 #![tactic(auto)]
 
+mod assembler;
 pub mod compiled;
+mod emitter;
 pub mod laws;
 mod program_code;
 mod program_listing;
 mod program_rooms;
+mod section;
+mod sizes;
 
 pub use program_code::lower;
 pub use program_listing::{listing, listing_with_places};

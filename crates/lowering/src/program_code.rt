@@ -6,14 +6,14 @@ ghost use Rattle.code.specs.Lowering.{lists_at};
 ghost use Rattle.code.specs.Working.NumberLists.{number_lists};
 ghost use Rattle.lowering.specs.Working.Lowered.{IsCodeOf};
 
+use crate::section::code_of;
 use code::section_code::ProgramCode;
-use code_emission::code_of;
 use core_lang::typed::Typed;
 use inserter::placed::Placed;
 use source::memory::NoMemory;
 use std::alloc::Global;
 
-/// The lists before the points of the section of this number; none, where there are none for it.
+/// The lists before the points of the section of this number, or none if it has no lists.
 pub fn lists_before(placed: &Placed, section: usize) -> &[Vec<u8>]
     ensures { number_lists result.now ≡ lists_at (all_lists placed.now) section }
 {
@@ -23,11 +23,11 @@ pub fn lists_before(placed: &Placed, section: usize) -> &[Vec<u8>]
     }
 }
 
-/// The code of a program, whose sections ask before their points for the lock paths of these lists.
+/// The code of a program whose sections ask before their points for the lock paths of these lists.
 ///
 /// # Errors
 ///
-/// Want of memory.
+/// Out of memory.
 pub fn lower(alloc: Global, program: &Typed, placed: &Placed) -> Result<ProgramCode, NoMemory>
     ensures { IfOk result (IsCodeOf program.now (all_lists placed.now)) }
 {

@@ -14,7 +14,7 @@ use source::cursor::Cursor;
 use source::memory::NoMemory;
 use std::alloc::Global;
 
-/// At the beginning of the text, if there is one.
+/// A cursor at the beginning of the text, if one is given.
 fn cursor_in<'a>(text: Option<&'a [u8]>) -> Option<Cursor<'a>>
     ensures { text_at result ≡ text_of text.entry }
 {
@@ -24,7 +24,7 @@ fn cursor_in<'a>(text: Option<&'a [u8]>) -> Option<Cursor<'a>>
     }
 }
 
-/// The places of a section in the cursor's text, if there is one.
+/// The positions of a section in the cursor's text, if one is given.
 fn places_of(
     alloc: Global,
     cursor: &mut Option<Cursor<'_>>,
@@ -39,7 +39,7 @@ fn places_of(
     }
 }
 
-/// The instructions of each section; with the program's text, each with where its statement starts there.
+/// The instructions of each section; with the program's text, each with the position of its statement.
 fn list(alloc: Global, program: &Program, text: Option<&[u8]>) -> Result<Rope, NoMemory>
     ensures { IfOk result (λ listed. rope_text listed
         ≡ sections_text (text_of text.entry) program.now.program program.now.lists 0 program.now.program.sections.items) }
@@ -68,19 +68,19 @@ fn list(alloc: Global, program: &Program, text: Option<&[u8]>) -> Result<Rope, N
 ///
 /// # Errors
 ///
-/// Want of memory.
+/// Out of memory.
 pub fn listing(alloc: Global, program: &Program) -> Result<Rope, NoMemory>
     ensures { IfOk result (λ listed. rope_text listed ≡ listing_text program.now.program program.now.lists) }
 {
     list(alloc, program, None)
 }
 
-/// The same of a program with this text, with the line and the column where each instruction's statement starts, both from
-/// 1. The statement is that of the point that began last; where a section has no point, nothing is told.
+/// The same for a program with this text, with the line and the column of each instruction's statement, both from 1.
+/// The statement is that of the point that began last; in a section without points, no position is written.
 ///
 /// # Errors
 ///
-/// Want of memory.
+/// Out of memory.
 pub fn listing_with_places(alloc: Global, text: &[u8], program: &Program) -> Result<Rope, NoMemory>
     ensures { IfOk result (λ listed. rope_text listed
         ≡ listing_with_places_text text.now program.now.program program.now.lists) }

@@ -1,4 +1,4 @@
-//! What runs of sections can need at most.
+//! The most that runs of sections need.
 
 ghost use Rattle.std.specs.Prelude.{◌≡◌, ◌≤◌, ℕ, length, slice_index, IfOk};
 ghost use Rattle.std.specs.List.{sum_by};
@@ -17,7 +17,7 @@ use locks::path::LockPath;
 use source::memory::NoMemory;
 use std::alloc::Global;
 
-// For each class how many cells one of its locks protects at most.
+// For each class, the most cells that one of its locks protects.
 fn most_by_class(alloc: Global, program: &Typed, layout: &Layout) -> Result<Vec<u32>, NoMemory>
     requires { IsLayoutOf program.now layout.now }
     ensures { IfOk result (λ most. (class : ℕ) → slice_index most.items class ≡ most_cells layout.now class) }
@@ -29,7 +29,7 @@ fn most_by_class(alloc: Global, program: &Typed, layout: &Layout) -> Result<Vec<
     Ok(most)
 }
 
-// How many cells a lock of the class protects at most; 0, where the program has no such class.
+// The most cells that a lock of the class protects, or 0 if the program has no such class.
 fn most_of_class(most: &[u32], class: usize) -> u32
     ensures { result ≡ slice_index most.now class }
 {
@@ -39,7 +39,7 @@ fn most_of_class(most: &[u32], class: usize) -> u32
     }
 }
 
-// How many cells these lock paths lead to at most.
+// The most cells to which these lock paths lead.
 fn cells_under(paths: &[LockPath], most: &[u32]) -> usize
     requires { length paths.now ≤ 64 }
     ensures { result ≡ sum_by (λ (path : written.LockPath). slice_index most.now path.class) paths.now }
@@ -51,11 +51,11 @@ fn cells_under(paths: &[LockPath], most: &[u32]) -> usize
     cells
 }
 
-/// What one run of each section can need at most.
+/// The most that one run of each section needs.
 ///
 /// # Errors
 ///
-/// Want of memory.
+/// Out of memory.
 pub fn rooms(
     alloc: Global,
     program: &Typed,

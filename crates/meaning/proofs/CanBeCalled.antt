@@ -1,4 +1,4 @@
--- What is left behind by a call of a well-formed program, on a heap of it.
+-- The heap that a call of a well-formed program leaves on a heap of it.
 use Rattle.std.proofs.Common.{◌≡◌, ℕ, List, Option, Some, None, refl, sym, ap, subst}
 use Rattle.core_lang.specs.declared.value.Value.{Value}
 use Rattle.core_lang.specs.declared.tree.Section.{Section}

@@ -1,1 +1,11 @@
+pub mod Blocks
+pub mod Calls
 pub mod CanBeCalled
+pub mod Depths
+pub mod Found
+pub mod Junctions
+pub mod Kept
+pub mod Leads
+pub mod Opened
+pub mod Rows
+pub mod Steps

@@ -1,4 +1,4 @@
--- Cells in order of their numbers, each beside its value.
+-- Cells in order of their numbers, each with its value.
 use Rattle.std.proofs.Common.{Option, ◌≡◌, ◌<◌, ◌≢◌, ◌≤◌, ◌+◌, ℕ, zero, suc, List, [], ◌∷◌, length, map, set, Some}
 use Rattle.std.proofs.Common.{Bool, true, false, inl, inr, refl, sym, ap, ◌∙◌, subst, arith}
 use Rattle.std.specs.Prelude.{slice_get, nat_eq, if◌then◌else◌, ⊤}

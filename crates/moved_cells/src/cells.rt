@@ -7,8 +7,8 @@ use source::memory::NoMemory;
 use std::alloc::Global;
 use std::marker::Model;
 
-/// The values of one lock's cells: one slice, in order of the cells' numbers. A cell is found by its offset, as
-/// [`layout::table::Layout::slot_of`] gives it.
+/// The values of one lock's cells, in one slice in order of the cells' numbers. The index of a cell is its offset, as
+/// returned by [`layout::table::Layout::slot_of`].
 #[derive(Drop)]
 pub struct Cells {
     values: Vec<Value>,
@@ -33,11 +33,11 @@ impl Cells {
         }
     }
 
-    /// One cell more, behind the others.
+    /// Appends a cell with `value`.
     ///
     /// # Errors
     ///
-    /// Want of memory; the cells are as they were.
+    /// Out of memory. The cells are then unchanged.
     pub fn push(&mut self, value: Value) -> Result<(), NoMemory>
         ensures ok { OnOk result (self.new ≡ self.old ++ value ∷ []) }
         ensures err { OnErr result (self.new ≡ self.old) }
@@ -46,7 +46,7 @@ impl Cells {
         Ok(())
     }
 
-    /// What the cell at an offset holds.
+    /// The value of the cell at `offset`.
     #[inline]
     pub fn read(&self, offset: u32) -> Value
         requires { offset < length self.now }
@@ -55,7 +55,7 @@ impl Cells {
         self.values[offset as usize]
     }
 
-    /// Sets the cell at an offset.
+    /// Sets the cell at `offset` to `value`.
     #[inline]
     pub fn write(&mut self, offset: u32, value: Value)
         requires { offset < length self.old }
@@ -64,7 +64,7 @@ impl Cells {
         self.values[offset as usize] = value;
     }
 
-    /// The slice itself.
+    /// The values, in order of the cells' numbers.
     #[inline]
     pub fn values(&self) -> &[Value]
         ensures { result.now ≡ self.now }

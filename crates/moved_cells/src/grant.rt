@@ -7,7 +7,7 @@ use core_lang::value::Value;
 use locks::lock::Lock;
 use std::marker::Model;
 
-/// A lock, and its cells. It can be neither copied nor dropped: it ends where [`Grant::into_parts`] takes it apart.
+/// A lock that a section holds, with its cells. It can be neither copied nor dropped: only [`Grant::into_parts`] ends it.
 pub struct Grant {
     lock: Lock,
     cells: Cells,
@@ -22,7 +22,7 @@ impl Model for Grant {
 }
 
 impl Grant {
-    /// A lock, and its cells.
+    /// The grant of `lock` with `cells`.
     pub fn new(lock: Lock, cells: Cells) -> Grant
         ensures { result ≡ record { lock = lock; values = cells } }
     {
@@ -37,7 +37,7 @@ impl Grant {
         self.lock
     }
 
-    /// What the cell at an offset holds.
+    /// The value of the cell at `offset`.
     #[inline]
     pub fn read(&self, offset: u32) -> Value
         requires { offset < length self.now.values }
@@ -46,7 +46,7 @@ impl Grant {
         self.cells.read(offset)
     }
 
-    /// Sets the cell at an offset.
+    /// Sets the cell at `offset` to `value`.
     #[inline]
     pub fn write(&mut self, offset: u32, value: Value)
         requires { offset < length self.old.values }
@@ -55,7 +55,7 @@ impl Grant {
         self.cells.write(offset, value);
     }
 
-    /// What all cells of the lock hold, in order of the cells' numbers.
+    /// The values of all cells of the lock, in order of the cells' numbers.
     #[inline]
     pub fn values(&self) -> &[Value]
         ensures { result.now ≡ self.now.values }
@@ -63,7 +63,7 @@ impl Grant {
         self.cells.values()
     }
 
-    /// Takes a grant apart, to give it back.
+    /// Takes the grant apart into its lock and its cells, to give them back.
     pub fn into_parts(self) -> (Lock, Cells)
         ensures lock { result.0 ≡ self.lock }
         ensures cells { result.1 ≡ self.values }

@@ -1,4 +1,4 @@
-//! What holds of every grant: functions that do nothing, and whose contracts are the laws.
+//! Laws of grants: functions that do nothing, whose contracts are the laws.
 
 ghost use Rattle.moved_cells.specs.Working.Laws.{HasItsCells, OffsetsFindValues, OffsetsChangeCells, ValuesAreWhole, ValuesAgree};
 
@@ -9,7 +9,7 @@ pub fn slots_are_cells()
     ensures write { OffsetsChangeCells }
 {}
 
-/// What a heap has in the cells of a lock makes a grant of the lock, with a value for each of its cells.
+/// The values that a heap has in the cells of a lock make a grant of the lock, with a value for each of its cells.
 pub fn heaps_have_values()
     ensures whole { ValuesAreWhole }
     ensures agree { ValuesAgree }

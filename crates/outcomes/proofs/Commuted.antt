@@ -3,15 +3,13 @@ use Rattle.std.proofs.Common.{◌≡◌, ◌∙◌, ◌≢◌, ℕ, ◌+◌, ◌
 use Rattle.std.proofs.Common.{Option, Some, ◌⊎◌, inl, inr, ap, sym, subst, refl, arith, get_or-set_other}
 use Rattle.std.specs.Prelude.{slice_index}
 use Rattle.std.specs.List.{Contains}
-use Rattle.std.proofs.lemmas.Bool.{cases_eq}
 use Rattle.std.proofs.lemmas.List.{set_comm}
-use Rattle.core_lang.specs.declared.value.Value.{Value}
 use Rattle.core_lang.specs.declared.value.Outcome.{Outcome}
 use Rattle.core_lang.specs.declared.typed.Thread.{Thread}
 use Rattle.core_lang.specs.declared.typed.Typed.{Typed}
 use Rattle.core_lang.specs.Serial.{Invocation, Ended}
 use Rattle.core_lang.specs.WellFormed.{calls_together}
-use Rattle.independence.specs.Commuting.{AreIndependent, call_at}
+use Rattle.outcomes.specs.Commuting.{AreIndependent, call_at}
 use Rattle.outcomes.specs.Orders.{next_call, one_more, orders_of, call_number}
 use Rattle.outcomes.specs.Ends.{Left}
 use Rattle.outcomes.specs.Working.Searching.{left_after, Leads}

@@ -1,4 +1,4 @@
--- Where the orders' calls lead.
+-- The configurations to which the calls of orders lead.
 use Rattle.std.proofs.Common.{◌≡◌, ◌∙◌, ◌≢◌, ℕ, ◌+◌, ◌-◌, ◌*◌, ◌<◌, ◌≤◌, zero, suc, Bool, true, false, cond, List, []}
 use Rattle.std.proofs.Common.{◌∷◌, ◌++◌, length, map, get_or, Option, Some, sum_by, nat_eq, ap, sym, subst, refl, arith}
 use Rattle.std.proofs.Common.{◌⊎◌, inl, inr, length-append}
@@ -132,17 +132,17 @@ layer_has settled once program n answers depth layer sums order ends heap long m
 abbrev pub configuration_of : Reached → Configuration
 configuration_of s = record { done = s.done; left = s.left }
 
--- an order of fewer than so many calls leads there
+-- an order of fewer than `depth` calls leads to the configuration
 unfoldable pub IsLedBelow : Typed → ℕ → Bool → ℕ → Configuration → Type 0
 IsLedBelow program n answers depth configuration =
     (order : List ℕ) × (length order < depth) × Leads program n (none_done program) (opening_left program answers) order configuration.done configuration.left
 
--- so do they to each of these, and no two are alike
+-- so do they to each of these, and no two are equal
 pub record AreLedBelow (program : Typed) (n : ℕ) (answers : Bool) (depth : ℕ) (configurations : List Configuration) : Type 0 where
   pub each : All (IsLedBelow program n answers depth) configurations
   pub apart : AllPairs (λ (a b : Configuration). a ≢ b) configurations
 
--- the configurations that orders of fewer than so many calls lead to, each once
+-- the configurations to which orders of fewer than `depth` calls lead, each once
 pub record AreConfigurationsBelow (program : Typed) (n : ℕ) (answers : Bool) (depth : ℕ) (configurations : List Configuration) : Type 0 where
   pub led : AreLedBelow program n answers depth configurations
   pub all : (order : List ℕ) (ends : List Ended) (heap : List Value) → length order < depth →
@@ -311,7 +311,7 @@ has_places law settled once program n answers depth count trail layer configurat
     let same : length ys ≡ length layer = length-map layer configuration_of in
     (configurations ++ ys, all_places law program n answers depth (configurations ++ ys) all (places_more settled once program n answers depth trail layer configurations good sums before), omega arith)
 
--- so many as the states so far, where not all are known
+-- as many configurations as states so far, if not all are known
 pub has_some_places : OverIsWhole →
     (program : Typed) (n : ℕ) (answers : Bool) (depth count : ℕ) (trail : List (List ℕ)) (layer : List Reached) (configurations : List Configuration) →
     AreGood program n depth (opening_left program answers) trail layer →
@@ -324,11 +324,11 @@ has_some_places law program n answers depth count trail layer configurations goo
     (configurations ++ ys, record { each = are_led law program n answers (depth + 1) (configurations ++ ys) all; apart = all.apart }, omega arith)
 
 pub before_more : (search : Search) (old new : Work) (growth : Growth) (configurations : List Configuration) (layer : List Reached) →
-    GoesOn search old new growth → old.next ≡ [] →
-    length configurations + length layer ≡ length old.trail → length (configurations ++ map configuration_of layer) + length new.next ≡ length new.trail
+    GoesOn search old new growth → old.next.states ≡ [] →
+    length configurations + length layer ≡ length old.trail → length (configurations ++ map configuration_of layer) + length new.next.states ≡ length new.trail
 before_more search old new growth configurations layer goes empty before =
     let grown = goes.grown in
-    let none : length old.next ≡ 0 = ap length empty in
+    let none : length old.next.states ≡ 0 = ap length empty in
     let long : length (configurations ++ map configuration_of layer) ≡ length configurations + length (map configuration_of layer) = length-append configurations (map configuration_of layer) in
     let same : length (map configuration_of layer) ≡ length layer = length-map layer configuration_of in
     omega arith

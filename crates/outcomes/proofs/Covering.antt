@@ -1,6 +1,6 @@
 -- Some orders stand for all.
 use Rattle.std.proofs.Common.{◌≡◌, ◌∙◌, ◌≢◌, ℕ, ◌+◌, ◌*◌, ◌<◌, ◌≤◌, zero, suc, Bool, true, false, cond, List, [], ◌∷◌, ◌++◌}
-use Rattle.std.proofs.Common.{length, map, take, add-one, get_or, Option, Some, None, sum_by, nat_eq, ◌⊎◌, inl, inr, ap, sym, subst, refl, arith}
+use Rattle.std.proofs.Common.{length, map, take, add-one, Option, Some, None, sum_by, nat_eq, ◌⊎◌, inl, inr, ap, sym, subst, refl, arith}
 use Rattle.std.specs.Prelude.{slice_index}
 use Rattle.std.specs.List.{Any, Contains}
 use Rattle.std.proofs.lemmas.Bool.{cases_eq}
@@ -12,18 +12,17 @@ use Rattle.core_lang.specs.Laws.{OverIsWhole, SettledAreSerial, HaveAtMostOneSer
 use Rattle.core_lang.specs.Serial.{Invocation, go_on, run_call, serial_with}
 use Rattle.core_lang.specs.Whole.{Finished, Run, Over, Beyond_turns, Gone_astray}
 use Rattle.core_lang.specs.WellFormed.{calls_together}
-use Rattle.independence.specs.Commuting.{AreIndependent}
+use Rattle.outcomes.specs.Commuting.{AreIndependent}
 use Rattle.outcomes.specs.declared.outcome.Cells.{Cells}
 use Rattle.outcomes.specs.declared.search.Search.{Search}
 use Rattle.outcomes.specs.declared.search.Work.{Work}
-use Rattle.outcomes.specs.Orders.{next_call, one_more, none_done, orders, orders_of, begun_with, calls_of}
-use Rattle.outcomes.specs.Ends.{Left, Told, EndsIn, IsTold, AreEndsOfAll, left_by, end_from, end_in, answers_after, no_answers, opening_left, seen}
+use Rattle.outcomes.specs.Orders.{next_call, one_more, none_done, orders_of, begun_with, calls_of}
+use Rattle.outcomes.specs.Ends.{Left, Told, IsTold, AreEndsOfAll, left_by, end_from, answers_after, no_answers, opening_left, seen}
 use Rattle.outcomes.specs.Working.States.{Reached, left_with, at, nowhere}
 use Rattle.outcomes.specs.Working.Searching.{left_after, Leads, order_at, AreGood, weight, total, sum_over, Summand, as_told}
 use Rattle.outcomes.specs.Working.Steps.{GoesOn, AreEndsOfStates, AreToldOfStates, opening_state, start_of, counted_in}
 use Rattle.outcomes.specs.Working.Reducing.{or_this, first_ready, by_thread, by_group, by_first, reduced_from, reduced_from_all, IsCovered, Covers}
-use Rattle.outcomes.specs.Theory.Done.{sums, lengths}
-use Rattle.outcomes.proofs.Full.{fits, leads_done}
+use Rattle.outcomes.proofs.Full.{fits}
 use Rattle.outcomes.proofs.Going.{goes_again}
 use Rattle.outcomes.proofs.Leading.{next_within}
 use Rattle.outcomes.proofs.Sums.{sum_with, end_behind}
@@ -87,7 +86,7 @@ ready_stays program done (suc c) t call none next within =
 
 -- ---- sums
 
--- with one thread more
+-- with one more thread
 pub group_more : (search : Search) (groups : List ℕ) (group : ℕ) (s : Reached) (t : ℕ) (a b c : Work) →
     GoesOn search a b (by_group search groups group s t) → GoesOn search b c (by_thread search s t) → slice_index groups t ≡ group →
     GoesOn search a c (by_group search groups group s (t + 1))
@@ -116,13 +115,13 @@ group_past search groups group s t a b first other =
       work = first.work;
       longer = first.longer;
       grown = first.grown;
-      grows = λ f left. first.grows f left ∙ ap (λ (x : ℕ). total search.program.now search.turns f left a.next + x)
+      grows = λ f left. first.grows f left ∙ ap (λ (x : ℕ). total search.program.now search.turns f left a.next.states + x)
           (sym (ap (λ (n : ℕ). by_group search groups group s n f left) (add-one t)
           ∙ ap (λ (b : Bool). by_group search groups group s t f left + cond b (by_thread search s t f left) 0) (not_same (slice_index groups t) group other)
           ∙ plus_none (by_group search groups group s t f left)));
     }
 
--- with the calls from one state more
+-- with the calls from one more state
 pub groups_more : (search : Search) (groups : List ℕ) (states : List Reached) (k : ℕ) (s : Reached) (a b c : Work) → k < length states →
     at states k ≡ s → GoesOn search a b (reduced_from_all search groups (take k states)) → GoesOn search b c (reduced_from search groups s) →
     GoesOn search a c (reduced_from_all search groups (take (k + 1) states))
@@ -175,7 +174,7 @@ more_than_none : (b : Bool) (k : ℕ) → 0 < cond b k 0 → 0 < k
 more_than_none true k more = more
 more_than_none false k more = absurd (omega (arith, more))
 
--- where the call isn't over, the order that it begins has no end
+-- if the call isn't over, the order that it begins has no end
 stuck_sum : (program : Typed) (n : ℕ) (done : List ℕ) (left : Left) (t : ℕ) (call : Invocation) (r : Run) → next_call program done t ≡ Some call →
     run_call program n call left.cells ≡ r →
     left_by program done (t ∷ []) left.answers (go_on r left.cells (call ∷ calls_of program (one_more done t) [])
@@ -242,17 +241,17 @@ made_by_run search states s t call Gone_astray some next runs least =
 
 -- a layer's group's calls lead to the next layer
 made_there : (search : Search) (groups : List ℕ) (old new : Work) (layer : List Reached) (k u t : ℕ) (call : Invocation) →
-    GoesOn search old new (reduced_from_all search groups layer) → old.next ≡ [] → k < length layer → 0 < (at layer k).orders →
+    GoesOn search old new (reduced_from_all search groups layer) → old.next.states ≡ [] → k < length layer → 0 < (at layer k).orders →
     first_ready search.program.now (at layer k).done (length search.program.now.threads.items) ≡ Some u →
     slice_index groups t ≡ slice_index groups u → next_call search.program.now (at layer k).done t ≡ Some call →
-    IsMade search new.next (at layer k) t call
+    IsMade search new.next.states (at layer k) t call
 made_there search groups old new layer k u t call goes empty within some first same next =
     let program = search.program.now in
     let n = search.turns in
     let s = at layer k in
     let inside = next_within program s.done t call next in
-    made_by_run search new.next s t call (run_call program n call s.left.cells) some next refl (λ f. (
-    let none : total program n f 0 old.next ≡ 0 = ap (total program n f 0) empty in
+    made_by_run search new.next.states s t call (run_call program n call s.left.cells) some next refl (λ f. (
+    let none : total program n f 0 old.next.states ≡ 0 = ap (total program n f 0) empty in
     let grown = goes.grows f 0 in
     let least = layer_least search groups layer k u t f 0 within first inside same in
     omega (arith, none, grown, least)))
@@ -273,10 +272,10 @@ covers_first search layer is =
 
 -- an order that goes by way of a layer goes by way of the next one
 covers_one : (search : Search) (groups : List ℕ) (old new : Work) (trail : List (List ℕ)) (layer : List Reached) (depth left : ℕ) (order : List ℕ) →
-    AreIndependent search.program.now groups → GoesOn search old new (reduced_from_all search groups layer) → old.next ≡ [] →
+    AreIndependent search.program.now groups → GoesOn search old new (reduced_from_all search groups layer) → old.next.states ≡ [] →
     AreGood search.program.now search.turns depth (start_of search) trail layer →
     depth + suc left ≡ calls_together search.program.now.threads.items →
-    IsCovered search (suc left) layer order → IsCovered search left new.next order
+    IsCovered search (suc left) layer order → IsCovered search left new.next.states order
 covers_one search groups old new trail layer depth left order independent goes empty good all c =
     let program = search.program.now in
     let n = search.turns in
@@ -315,19 +314,19 @@ covers_one search groups old new trail layer depth left order independent goes e
             next,
             made.over,
             subst (λ (d : List ℕ). Leads program n d (left_after program s.done first.thread made.finished s.left) rest done' left') made.done
-                (subst (λ (l : Left). Leads program n (at new.next made.number).done l rest done' left') made.left leads),
+                (subst (λ (l : Left). Leads program n (at new.next.states made.number).done l rest done' left') made.left leads),
           )));
     }
 
 pub covers_more : (search : Search) (groups : List ℕ) (old new : Work) (trail : List (List ℕ)) (layer : List Reached) (depth left : ℕ) →
-    AreIndependent search.program.now groups → GoesOn search old new (reduced_from_all search groups layer) → old.next ≡ [] →
+    AreIndependent search.program.now groups → GoesOn search old new (reduced_from_all search groups layer) → old.next.states ≡ [] →
     AreGood search.program.now search.turns depth (start_of search) trail layer →
     depth + suc left ≡ calls_together search.program.now.threads.items →
-    Covers search (suc left) layer → Covers search left new.next
+    Covers search (suc left) layer → Covers search left new.next.states
 covers_more search groups old new trail layer depth left independent goes empty good all covers order there =
     covers_one search groups old new trail layer depth left order independent goes empty good all (covers order there)
 
--- ---- every end is told
+-- ---- every end is reported
 
 -- calls that lead somewhere are settled, and leave that
 leads_end : (program : Typed) (n : ℕ) (done : List ℕ) (left : Left) (order done' : List ℕ) (left' : Left) →

@@ -8,15 +8,16 @@ use Rattle.core_lang.specs.declared.value.Outcome.{Outcome}
 use Rattle.core_lang.specs.declared.typed.Thread.{Thread}
 use Rattle.core_lang.specs.declared.typed.Typed.{Typed}
 use Rattle.core_lang.specs.Laws.{OverIsWhole}
-use Rattle.core_lang.specs.Serial.{Invocation, run_call}
+use Rattle.core_lang.specs.Serial.{Invocation, opening_heap, run_call}
 use Rattle.core_lang.specs.Typing.{HasCells, IsHeap}
 use Rattle.core_lang.specs.Whole.{Beyond_turns}
 use Rattle.core_lang.specs.WellFormed.{calls_together}
+use Rattle.meaning.specs.Working.Undo.{undone}
 use Rattle.outcomes.specs.declared.search.Search.{Search}
 use Rattle.outcomes.specs.declared.drawing.Walk.{Walk}
 use Rattle.outcomes.specs.declared.drawing.Drawing.{Drawing}
 use Rattle.outcomes.specs.Orders.{next_call, one_more, none_done, orders}
-use Rattle.outcomes.specs.Ends.{Left, Told, AreDrawnEnds, answered, seen}
+use Rattle.outcomes.specs.Ends.{Left, Told, AreDrawnEnds, answered, seen, seen_cells}
 use Rattle.outcomes.specs.declared.outcome.Cells.{Cells}
 use Rattle.outcomes.specs.Working.States.{Reached, at, nowhere, with_more, orders_to}
 use Rattle.outcomes.specs.Working.Trails.{IsBegun, IsLonger}
@@ -31,7 +32,7 @@ use Rattle.outcomes.specs.Theory.Done.{sums-lengths, length-lengths, sums, lengt
 
 -- ---- the thread of a call
 
--- how many calls of each thread a walk has
+-- the number of calls of each thread in a walk
 pub walk_fits : (search : Search) (walk : Walk) → IsWalk search walk →
     (length walk.done.items ≡ length search.program.now.threads.items) × Within walk.done.items (lengths search.program.now.threads.items)
     × (sums walk.done.items ≡ length walk.order.items)
@@ -100,7 +101,7 @@ from_within threads done thread number from =
     let same : length (lengths threads) ≡ length threads = length-lengths threads in
     omega (arith, inside, same)
 
--- of the thread, so many calls are done, of so many
+-- the number of the thread's calls that are done is at most the number of its calls
 pub done_within : (search : Search) (walk : Walk) (thread : ℕ) → IsWalk search walk →
     get_or walk.done.items thread 0 ≤ calls_of_thread search.program.now.threads.items thread
 unfolding Within
@@ -138,17 +139,17 @@ is_left search walk thread number left is of few =
     let calls = calls_at search.program.now.threads.items thread in
     call_left search.program.now.threads.items walk.done.items thread (omega (arith, calls, of, few))
 
--- ---- one call more
+-- ---- one more call
 
 pub walks_further : (search : Search) (old new : Walk) (thread : ℕ) (call : Invocation) (cells : List Value) (outcome : Outcome) →
     IsWalk search old →
     next_call search.program.now old.done.items thread ≡ Some call →
     IsOver search.program.now search.turns call old.heap cells outcome →
-    new.heap ≡ cells → new.done.items ≡ one_more old.done.items thread →
+    new.heap ≡ cells → undone new.overwritten.items new.heap ≡ opening_heap search.program.now → new.done.items ≡ one_more old.done.items thread →
     new.answers.items ≡ answered search.program.now old.done.items thread outcome old.answers.items →
     new.order.items ≡ old.order.items ++ thread ∷ [] →
     IsWalk search new × (length new.order.items ≡ suc (length old.order.items))
-walks_further search old new thread call cells outcome is next over heap_is done answers order =
+walks_further search old new thread call cells outcome is next over heap_is back done answers order =
     let program = search.program.now in
     let after = left_after program old.done.items thread over.finished (left_of old) in
     let outcomes : answered program old.done.items thread outcome old.answers.items ≡ after.answers =
@@ -157,6 +158,7 @@ walks_further search old new thread call cells outcome is next over heap_is done
     let leads = leads_further program search.turns (none_done program) (start_of search) old.order.items old.done.items (left_of old) thread call over.finished is.leads next over.over in
     let long : length (old.order.items ++ thread ∷ []) ≡ length old.order.items + 1 = length-append old.order.items (thread ∷ []) in (
       record {
+        back = back;
         cells = subst (HasCells program) (sym heap_is) over.there;
         typed = subst (IsHeap program) (sym heap_is) over.typed;
         leads = rw (order, done, left) leads;
@@ -172,7 +174,7 @@ goes_beyond search walk thread call is next beyond =
 
 -- ---- the ends
 
--- where a walk led, as it is seen, is an end
+-- the state after a walk, reduced to what is asked for, is an end
 end_of_walk : (search : Search) (old new : Drawing) (end : IsNewEnd search.asked.now.cells old new) → IsWalk search old.walk →
     length old.walk.order.items ≡ calls_together search.program.now.threads.items →
     IsEnd search new.trail
@@ -200,9 +202,9 @@ count_found old new trail trail' done left k found is =
     let sums = sum_by-set (λ (r : Reached). r.orders) old found.number (with_more s 1) nowhere found.within in
     ap orders_to found.states ∙ omega (arith, sums, is)
 
-count_new : (cells : Cells) (old new : Drawing) (k : ℕ) → IsNewEnd cells old new → orders_to old.ends ≡ k → orders_to new.ends ≡ k + 1
+count_new : (cells : Cells) (old new : Drawing) (k : ℕ) → IsNewEnd cells old new → orders_to old.ends.states ≡ k → orders_to new.ends.states ≡ k + 1
 count_new cells old new k end is =
-    let sums = sum_by_push (λ (r : Reached). r.orders) old.ends
+    let sums = sum_by_push (λ (r : Reached). r.orders) old.ends.states
     (record { done = old.walk.done.items; left = seen cells (left_of old.walk); orders = 1; first = end.first }) in
     ap orders_to end.ends ∙ omega (arith, sums, is)
 
@@ -213,12 +215,12 @@ ends_longer search trail trail' ends longer are =
 
 ends_new : (search : Search) (old new : Drawing) → IsNewEnd search.asked.now.cells old new → IsWalk search old.walk →
     length old.walk.order.items ≡ calls_together search.program.now.threads.items →
-    AreEnds search old.trail old.ends → AreEnds search new.trail new.ends
+    AreEnds search old.trail old.ends.states → AreEnds search new.trail new.ends.states
 ends_new search old new end is long are =
     subst (AreEnds search new.trail) (sym end.ends)
-    (push_apart (IsEnd search new.trail) old.ends
+    (push_apart (IsEnd search new.trail) old.ends.states
     (record { done = old.walk.done.items; left = seen search.asked.now.cells (left_of old.walk); orders = 1; first = end.first })
-    end.none (end_of_walk search old new end is long) (ends_longer search old.trail new.trail old.ends end.longer are))
+    end.none (end_of_walk search old new end is long) (ends_longer search old.trail new.trail old.ends.states end.longer are))
 
 ends_found : (search : Search) (trail trail' : List (List ℕ)) (old new : List Reached) (done : List ℕ) (left : Left) →
     IsFound old new trail trail' done left 1 → AreEnds search trail old → AreEnds search trail' new
@@ -236,23 +238,24 @@ begun_longer old new longer begun =
 
 pub ends_more : (search : Search) (old new : Drawing) (k : ℕ) → IsWalk search old.walk →
     length old.walk.order.items ≡ calls_together search.program.now.threads.items →
-    AreEnds search old.trail old.ends →
-    orders_to old.ends ≡ k → IsBegun old.trail → Notes search.asked.now.cells old new → AreEndsOf search new (k + 1)
-ends_more search old new k is long are count begun notes =
+    AreEnds search old.trail old.ends.states →
+    orders_to old.ends.states ≡ k → IsBegun old.trail → old.ends.opening ≡ seen_cells search.asked.now.cells (opening_heap search.program.now) → Notes search.asked.now.cells old new → AreEndsOf search new (k + 1)
+ends_more search old new k is long are count begun over notes =
     let program = search.program.now in
     let cells = search.asked.now.cells in
     let left = seen cells (left_of old.walk) in
     record {
-      heap = subst (λ (w : Walk). HasCells program w.heap) (sym notes.0) is.cells;
-      ends = elim notes.1 [
-        | inl found ↦ ends_found search old.trail new.trail old.ends new.ends old.walk.done.items left found are
+      back = subst (λ (w : Walk). undone w.overwritten.items w.heap ≡ opening_heap program) (sym notes.0) is.back;
+      opening = notes.1 ∙ over;
+      ends = elim notes.2 [
+        | inl found ↦ ends_found search old.trail new.trail old.ends.states new.ends.states old.walk.done.items left found are
         | inr end ↦ ends_new search old new end is long are
       ];
-      count = elim notes.1 [
-        | inl found ↦ count_found old.ends new.ends old.trail new.trail old.walk.done.items left k found count
+      count = elim notes.2 [
+        | inl found ↦ count_found old.ends.states new.ends.states old.trail new.trail old.walk.done.items left k found count
         | inr end ↦ count_new cells old new k end count
       ];
-      begun = elim notes.1 [
+      begun = elim notes.2 [
         | inl found ↦ subst IsBegun (sym found.trail_is) begun
         | inr end ↦ begun_longer old.trail new.trail end.longer begun
       ];
@@ -260,11 +263,11 @@ ends_more search old new k is long are count begun notes =
 
 pub are_drawn_ends : OverIsWhole → (search : Search) (drawing : Drawing) (count : ℕ) (told : List Told) →
     search.most < length (orders search.program.now) → AreEndsOf search drawing count → count ≡ search.most →
-    told ≡ map (as_told drawing.trail) drawing.ends → AreDrawnEnds search.program.now search.most search.asked.now told
+    told ≡ map (as_told drawing.trail) drawing.ends.states → AreDrawnEnds search.program.now search.most search.asked.now told
 are_drawn_ends law search drawing count told more ends all is =
     subst (AreDrawnEnds search.program.now search.most search.asked.now) (sym is) (record {
       more = more;
-      each = all_end law search drawing.trail drawing.ends ends.ends;
-      apart = ends_apart search drawing.trail drawing.ends ends.ends;
-      counts = sym (sum_told (λ (s : Reached). s.orders) (λ (e : Told). e.count) drawing.trail drawing.ends (λ s. refl)) ∙ ends.count ∙ all;
+      each = all_end law search drawing.trail drawing.ends.states ends.ends;
+      apart = ends_apart search drawing.trail drawing.ends.states ends.ends;
+      counts = sym (sum_told (λ (s : Reached). s.orders) (λ (e : Told). e.count) drawing.trail drawing.ends.states (λ s. refl)) ∙ ends.count ∙ all;
     })

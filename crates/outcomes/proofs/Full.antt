@@ -1,4 +1,4 @@
--- Where all calls are done.
+-- The states in which all calls are done.
 use Rattle.std.proofs.Common.{◌≡◌, ◌∙◌, ℕ, ◌+◌, ◌<◌, ◌≤◌, zero, suc, List, [], ◌∷◌, ◌++◌, length, get_or}
 use Rattle.std.proofs.Common.{get_or-set_same, get_or-set_other, slice_get, slice_set, Option, Some, None, ap, sym}
 use Rattle.std.proofs.Common.{subst, refl, arith, ◌⊎◌, inl, inr}
@@ -81,7 +81,8 @@ few_behind : (program : Typed) (done : List ℕ) (t : ℕ) (order : List ℕ) (o
 few_behind program done t order None few = omega arith
 few_behind program done t order (Some call) few = omega arith
 
--- the calls of an order are no more than its threads; where they are as many, the first thread has a call, and so on with the others
+-- the calls of an order are no more than its threads; where they are as many, the first thread has a call, and so on
+-- with the others
 few_calls : (program : Typed) (done order : List ℕ) → length (calls_of program done order) ≤ length order
 few_calls program done [] = omega arith
 few_calls program done (t ∷ order) = few_behind program done t order (next_call program done t) (few_calls program (one_more done t) order)
@@ -156,7 +157,7 @@ fits program n heap order done' heap' there =
     (leads_done program n (none_done program) heap order done' heap' there)
     (fits_made program order (leads_made program n (none_done program) heap order done' heap' there))
 
--- where all calls are done, each thread's are
+-- if all calls are done, each thread's are
 pub full : (program : Typed) (n : ℕ) (heap : Left) (order done' : List ℕ) (heap' : Left) →
     Leads program n (none_done program) heap order done' heap' →
     length order ≡ calls_together program.threads.items → done' ≡ lengths program.threads.items
@@ -171,7 +172,7 @@ full program n heap order done' heap' there long =
 less_or_same : (x y : ℕ) → x ≤ y → (x < y) ⊎ (x ≡ y)
 less_or_same x y few = elim (cases_eq x y) [ inl same ↦ inr same | inr apart ↦ inl (omega arith) ]
 
--- where some calls are left, some thread has one
+-- if some calls are left, some thread has one
 some_left : (xs ys : List ℕ) → length xs ≡ length ys → Within xs ys → sums xs < sums ys →
     (k : ℕ) × (k < length xs) × (get_or xs k 0 < get_or ys k 0)
 unfolding Within

@@ -1,5 +1,5 @@
 -- The work goes on.
-use Rattle.std.proofs.Common.{◌≡◌, ◌∙◌, ℕ, ◌+◌, ◌-◌, ◌*◌, ◌<◌, ◌≤◌, zero, suc, List, [], ◌∷◌, ◌++◌, length, take, Some}
+use Rattle.std.proofs.Common.{◌≡◌, ◌∙◌, ℕ, ◌+◌, ◌-◌, ◌*◌, ◌<◌, ◌≤◌, zero, suc, List, [], ◌∷◌, ◌++◌, length, take, Some, ◌⊎◌}
 use Rattle.std.proofs.Common.{None, inl, inr, sum_by, ap, sym, subst, refl, arith, append-nil, add-one, length-append}
 use Rattle.std.proofs.Math.ListN.{length-set}
 use Rattle.std.proofs.lemmas.List.Sums.{sum_by_more, sum_by-cons, sum_by-take-le, get_or-le-sum_by}
@@ -16,10 +16,10 @@ use Rattle.outcomes.specs.declared.search.Work.{Work}
 use Rattle.outcomes.specs.declared.state.State.{State}
 use Rattle.outcomes.specs.Orders.{next_call, one_more, orders_of}
 use Rattle.outcomes.specs.Ends.{Left, answered}
-use Rattle.outcomes.specs.Working.States.{Reached, left_with, at, nowhere, reached_of, with_more, orders_to}
+use Rattle.outcomes.specs.Working.States.{Layered, Reached, left_with, at, nowhere, with_more, orders_to}
 use Rattle.outcomes.specs.Working.Trails.{longer}
 use Rattle.outcomes.specs.Working.Searching.{left_after, order_at, IsGood, AreGood, weight, total, Summand, IsFound, IsAdded}
-use Rattle.outcomes.specs.Working.Steps.{IsOver, Puts, IsAtWork, IsReached, Growth, made_by, made_below, made_from}
+use Rattle.outcomes.specs.Working.Steps.{IsOver, IsBack, Visits, IsAtWork, state_in, IsReached, Growth, made_by, made_below, made_from}
 use Rattle.outcomes.specs.Working.Steps.{made_from_all, GoesOn, IsStop, HasTooMany, one, start_of}
 use Rattle.outcomes.proofs.Sums.{sum_with, sum_without, sum_more, total_found, total_added}
 use Rattle.outcomes.proofs.Full.{has_order}
@@ -61,12 +61,38 @@ goes_nowhere search a g work none =
       grows = λ f left. with_none _ _ (none f left);
     }
 
+-- the heap was brought to a state
+pub goes_visited : (search : Search) (old mid : Work) (state : State) (g : Growth) → Visits old mid state → IsAtWork search old →
+    ((f : Summand) (left : ℕ) → g f left ≡ 0) → GoesOn search old mid g
+goes_visited search old mid state g visits work none =
+    let program = search.program.now in
+    let states : mid.next.states ≡ old.next.states = ap (λ (l : Layered). l.states) visits.next in
+    record {
+      depth = visits.depth;
+      work = record {
+        back = record {
+          opening = ap (λ (l : Layered). l.opening) visits.next ∙ work.back.opening;
+          back = visits.back ∙ work.back.opening;
+        };
+        states = subst (λ (d : ℕ). AreGood program search.turns (suc d) (start_of search) mid.trail mid.next.states) (sym visits.depth)
+            (subst (λ (t : List (List ℕ)). AreGood program search.turns (suc old.depth) (start_of search) t mid.next.states) (sym visits.trail)
+            (subst (AreGood program search.turns (suc old.depth) (start_of search) old.trail) (sym states) work.states));
+      };
+      longer = ([], visits.trail ∙ sym (append-nil old.trail));
+      grown = (let t : length mid.trail ≡ length old.trail = ap length visits.trail in let n : length mid.next.states ≡ length old.next.states = ap length states in omega (arith, t, n));
+      grows = λ f left. ap (total program search.turns f left) states ∙ with_none _ _ (none f left);
+    }
+
+-- of no thread
+pub made_none : (search : Search) (from : State) (f : Summand) (left : ℕ) → made_below search from 0 f left ≡ 0
+made_none search from f left = times_none from.orders _ refl
+
 -- a state of the layer before stays one
 pub reached_still : (search : Search) (a b : Work) (g : Growth) (from : State) → GoesOn search a b g →
     IsReached search a from → IsReached search b from
 reached_still search a b g from goes reached =
-    subst (λ (d : ℕ). IsGood search.program.now search.turns d (start_of search) b.trail (reached_of from)) (sym goes.depth)
-    (good_longer search.program.now search.turns a.depth (start_of search) a.trail b.trail (reached_of from) goes.longer reached)
+    subst (λ (d : ℕ). IsGood search.program.now search.turns d (start_of search) b.trail (state_in search from)) (sym goes.depth)
+    (good_longer search.program.now search.turns a.depth (start_of search) a.trail b.trail (state_in search from) goes.longer reached)
 
 grown_found : (old new : List Reached) (trail trail' : List (List ℕ)) (done : List ℕ) (heap : Left) (more : ℕ) →
     IsFound old new trail trail' done heap more →
@@ -84,53 +110,57 @@ grown_added old new trail trail' done heap more from thread added =
     let orders : length trail' ≡ length trail + 1 = ap length added.trail_is ∙ length-append trail (longer trail from thread ∷ []) in
     omega arith
 
--- where a call is over, and where it leads is put among the states
+-- the work after a call that is over, whose state is added to the layer
 pub goes_step : (search : Search) (old new : Work) (cells : List Value) (from : State) (t : ℕ) (call : Invocation) (outcome : Outcome) →
     IsAtWork search old → IsReached search old from → next_call search.program.now from.done.items t ≡ Some call →
-    IsOver search.program.now search.turns call from.cells.items cells outcome →
-    Puts (record { heap = cells; next = old.next; trail = old.trail; depth = old.depth }) new from t
-    (answered search.program.now from.done.items t outcome from.answers.items) → GoesOn search old new (made_by search from t)
-goes_step search old new cells from t call outcome work reached next over puts =
+    IsOver search.program.now search.turns call (state_in search from).left.cells cells outcome →
+    new.depth ≡ old.depth → IsBack search new →
+    (IsFound old.next.states new.next.states old.trail new.trail (one_more from.done.items t)
+    (left_with cells (answered search.program.now from.done.items t outcome from.answers.items)) from.orders
+    ⊎ IsAdded old.next.states new.next.states old.trail new.trail (one_more from.done.items t)
+    (left_with cells (answered search.program.now from.done.items t outcome from.answers.items)) from.orders from.first t) →
+    GoesOn search old new (made_by search from t)
+goes_step search old new cells from t call outcome work reached next over deep back put =
     let program = search.program.now in
     let n = search.turns in
     let start = start_of search in
     let heap : Left = left_with cells (answered program from.done.items t outcome from.answers.items) in
-    let heap_is : heap ≡ left_after program from.done.items t over.finished (reached_of from).left =
+    let heap_is : heap ≡ left_after program from.done.items t over.finished (state_in search from).left =
     ap (λ (c : List Value). left_with c (answered program from.done.items t outcome from.answers.items)) over.heap_is
     ∙ ap (λ (o : Outcome). left_with over.finished.heap (answered program from.done.items t o from.answers.items)) over.outcome_is in
     let made : Reached = record { done = one_more from.done.items t; left = heap; orders = from.orders; first = length old.trail } in
     let child : (trail' : List (List ℕ)) → trail' ≡ old.trail ++ longer old.trail from.first t ∷ [] → IsGood program n (suc old.depth) start trail' made =
     λ trail' is. subst (λ (h : Left). IsGood program n (suc old.depth) start trail' (record { done = one_more from.done.items t; left = h; orders = from.orders; first = length old.trail })) (sym heap_is)
-    (good_child program n old.depth start old.trail trail' (reached_of from) t call over.finished from.orders reached next over.over
+    (good_child program n old.depth start old.trail trail' (state_in search from) t call over.finished from.orders reached next over.over
     (subst (HasCells program) over.heap_is over.there) (subst (IsHeap program) over.heap_is over.typed) is) in
     let leads : (f : Summand) (left : ℕ) →
     from.orders * weight program n f left (one_more from.done.items t) heap ≡ made_by search from t f left =
     λ f left. ap (λ (x : ℕ). from.orders * x)
     (ap (weight program n f left (one_more from.done.items t)) heap_is
-    ∙ sym (sum_with program n left f from.done.items (reached_of from).left t call over.finished next over.over)) in
+    ∙ sym (sum_with program n left f from.done.items (state_in search from).left t call over.finished next over.over)) in
     record {
-      depth = puts.1;
+      depth = deep;
       work = record {
-        heap = subst (HasCells program) (sym puts.0) over.there;
-        states = subst (λ (d : ℕ). AreGood program n (suc d) start new.trail new.next) (sym puts.1) (elim puts.2 [
-          | inl found ↦ good_found program n (suc old.depth) start old.trail new.trail old.next new.next (one_more from.done.items t) heap from.orders found work.states
-          | inr added ↦ good_added program n (suc old.depth) start old.trail new.trail old.next new.next (one_more from.done.items t) heap from.orders from.first t added
+        back = back;
+        states = subst (λ (d : ℕ). AreGood program n (suc d) start new.trail new.next.states) (sym deep) (elim put [
+          | inl found ↦ good_found program n (suc old.depth) start old.trail new.trail old.next.states new.next.states (one_more from.done.items t) heap from.orders found work.states
+          | inr added ↦ good_added program n (suc old.depth) start old.trail new.trail old.next.states new.next.states (one_more from.done.items t) heap from.orders from.first t added
               (child new.trail added.trail_is) work.states
         ]);
       };
-      longer = elim puts.2 [
+      longer = elim put [
         | inl found ↦ ([], found.trail_is ∙ sym (append-nil old.trail))
         | inr added ↦ (longer old.trail from.first t ∷ [], added.trail_is)
       ];
-      grown = elim puts.2 [
-        | inl found ↦ grown_found old.next new.next old.trail new.trail (one_more from.done.items t) heap from.orders found
-        | inr added ↦ grown_added old.next new.next old.trail new.trail (one_more from.done.items t) heap from.orders from.first t added
+      grown = elim put [
+        | inl found ↦ grown_found old.next.states new.next.states old.trail new.trail (one_more from.done.items t) heap from.orders found
+        | inr added ↦ grown_added old.next.states new.next.states old.trail new.trail (one_more from.done.items t) heap from.orders from.first t added
       ];
-      grows = λ f left. elim puts.2 [
-        | inl found ↦ total_found (weight program n f left) old.next new.next old.trail new.trail (one_more from.done.items t) heap from.orders found
-            ∙ ap (λ (x : ℕ). total program n f left old.next + x) (leads f left)
-        | inr added ↦ total_added (weight program n f left) old.next new.next old.trail new.trail (one_more from.done.items t) heap from.orders from.first t added
-            ∙ ap (λ (x : ℕ). total program n f left old.next + x) (leads f left)
+      grows = λ f left. elim put [
+        | inl found ↦ total_found (weight program n f left) old.next.states new.next.states old.trail new.trail (one_more from.done.items t) heap from.orders found
+            ∙ ap (λ (x : ℕ). total program n f left old.next.states + x) (leads f left)
+        | inr added ↦ total_added (weight program n f left) old.next.states new.next.states old.trail new.trail (one_more from.done.items t) heap from.orders from.first t added
+            ∙ ap (λ (x : ℕ). total program n f left old.next.states + x) (leads f left)
       ];
     }
 
@@ -140,25 +170,25 @@ pub goes_past : (search : Search) (work : Work) (from : State) (t : ℕ) → IsA
     GoesOn search work work (made_by search from t)
 goes_past search work from t at_work none =
     goes_nowhere search work (made_by search from t) at_work
-    (λ f left. times_none from.orders _ (sum_without search.program.now search.turns left f from.done.items (reached_of from).left t none))
+    (λ f left. times_none from.orders _ (sum_without search.program.now search.turns left f from.done.items (state_in search from).left t none))
 
 -- one thread further
 pub below_more : (search : Search) (from : State) (t : ℕ) (f : Summand) (left : ℕ) →
     made_below search from (t + 1) f left ≡ made_below search from t f left + made_by search from t f left
 below_more search from t f left =
     ap (λ (c : ℕ). made_below search from c f left) (add-one t)
-    ∙ times_both from.orders _ _ _ (sum_more search.program.now search.turns left f from.done.items (reached_of from).left t)
+    ∙ times_both from.orders _ _ _ (sum_more search.program.now search.turns left f from.done.items (state_in search from).left t)
 
 -- one state further
 pub all_more : (search : Search) (states : List Reached) (k : ℕ) (from : State) → k < length states →
-    at states k ≡ reached_of from →
+    at states k ≡ state_in search from →
     (f : Summand) (left : ℕ) →
     made_from_all search (take (k + 1) states) f left ≡ made_from_all search (take k states) f left + made_from search from f left
 all_more search states k from within is f left =
     let g : Reached → ℕ = λ s. s.orders * weight search.program.now search.turns f (suc left) s.done s.left in
     sum_by_more g states k nowhere within ∙ ap (λ (s : Reached). sum_by g (take k states) + g s) is
 
--- ---- more orders than are looked at
+-- ---- more orders than the limit
 
 times_least : (a w : ℕ) → 1 ≤ w → a ≤ a * w
 times_least a zero some = absurd (omega arith)
@@ -187,21 +217,21 @@ in_parts m a b x y z many first second same = omega arith
 
 pub many_at_step : (search : Search) (old : Work) (cells : List Value) (from : State) (t : ℕ) (call : Invocation) (outcome : Outcome) →
     IsAtWork search old → IsReached search old from → next_call search.program.now from.done.items t ≡ Some call →
-    IsOver search.program.now search.turns call from.cells.items cells outcome → search.most < orders_to old.next + from.orders → HasTooMany search old (made_by search from t)
+    IsOver search.program.now search.turns call (state_in search from).left.cells cells outcome → search.most < orders_to old.next.states + from.orders → HasTooMany search old (made_by search from t)
 many_at_step search old cells from t call outcome work reached next over many left all =
     let program = search.program.now in
     let n = search.turns in
     let trail' = old.trail ++ longer old.trail from.first t ∷ [] in
     let start = start_of search in
-    let child = good_child program n old.depth start old.trail trail' (reached_of from) t call over.finished from.orders reached next over.over
+    let child = good_child program n old.depth start old.trail trail' (state_in search from) t call over.finished from.orders reached next over.over
     (subst (HasCells program) over.heap_is over.there) (subst (IsHeap program) over.heap_is over.typed) refl in
-    let here : 1 ≤ weight program n one left (one_more from.done.items t) (left_after program from.done.items t over.finished (reached_of from).left) = weighs program n (suc old.depth) left start trail' _ child all in
-    let leads : made_by search from t one left ≡ from.orders * weight program n one left (one_more from.done.items t) (left_after program from.done.items t over.finished (reached_of from).left) =
-    ap (λ (x : ℕ). from.orders * x) (sum_with program n left one from.done.items (reached_of from).left t call over.finished next over.over) in
-    let own : from.orders ≤ from.orders * weight program n one left (one_more from.done.items t) (left_after program from.done.items t over.finished (reached_of from).left) = times_least from.orders _ here in
-    let others : orders_to old.next ≤ total program n one left old.next =
-    sum_least (λ (s : Reached). weight program n one left s.done s.left) old.next
-    (λ k within. weighs program n (suc old.depth) left start old.trail (at old.next k) (work.states.each k within) all) in
+    let here : 1 ≤ weight program n one left (one_more from.done.items t) (left_after program from.done.items t over.finished (state_in search from).left) = weighs program n (suc old.depth) left start trail' _ child all in
+    let leads : made_by search from t one left ≡ from.orders * weight program n one left (one_more from.done.items t) (left_after program from.done.items t over.finished (state_in search from).left) =
+    ap (λ (x : ℕ). from.orders * x) (sum_with program n left one from.done.items (state_in search from).left t call over.finished next over.over) in
+    let own : from.orders ≤ from.orders * weight program n one left (one_more from.done.items t) (left_after program from.done.items t over.finished (state_in search from).left) = times_least from.orders _ here in
+    let others : orders_to old.next.states ≤ total program n one left old.next.states =
+    sum_least (λ (s : Reached). weight program n one left s.done s.left) old.next.states
+    (λ k within. weighs program n (suc old.depth) left start old.trail (at old.next.states k) (work.states.each k within) all) in
     in_parts _ _ _ _ _ _ many others own leads
 
 in_whole : (m a b c g w : ℕ) → m < a + g → a ≡ b + c → c + g ≤ w → m < b + w
@@ -241,7 +271,7 @@ below_all search from t left within =
     omega (arith, least, whole, next)
 
 pub states_all : (search : Search) (states : List Reached) (k : ℕ) (from : State) (left : ℕ) → k < length states →
-    at states k ≡ reached_of from →
+    at states k ≡ state_in search from →
     made_from_all search (take k states) one left + made_from search from one left ≤ made_from_all search states one left
 states_all search states k from left within is =
     let next = all_more search states k from within is one left in

@@ -19,7 +19,7 @@ use Rattle.outcomes.specs.Working.Trails.{longer, IsLonger}
 use Rattle.outcomes.specs.Working.Searching.{left_after, Leads, order_at, IsGood, AreApart, AreGood, IsFound, IsAdded}
 use Rattle.outcomes.specs.Theory.Done.{among_begun}
 
--- one call more
+-- one more call
 pub leads_further : (program : Typed) (n : ℕ) (done : List ℕ) (heap : Left) (order done' : List ℕ) (heap' : Left) (t : ℕ) (call : Invocation) (finished : Finished) →
     Leads program n done heap order done' heap' → next_call program done' t ≡ Some call → run_call program n call heap'.cells ≡ Over finished →
     Leads program n done heap (order ++ t ∷ []) (one_more done' t) (left_after program done' t finished heap')

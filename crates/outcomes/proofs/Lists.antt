@@ -1,4 +1,4 @@
--- What stands in a list with one item more, or with an item replaced.
+-- The items of a list with one more item, or with an item replaced.
 use Rattle.std.proofs.Common.{◌≡◌, ℕ, zero, suc, List, [], ◌∷◌, slice_get, slice_set, Some, ◌⊎◌, inl, inr, ap, refl}
 
 -- what stands in a list where an item is replaced is the new item, or stood there

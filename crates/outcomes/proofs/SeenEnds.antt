@@ -1,4 +1,4 @@
--- Ends, told apart by what is asked.
+-- Ends, distinguished by what is asked for.
 use Rattle.std.proofs.Common.{◌≡◌, ◌∙◌, ℕ, ◌+◌, ◌*◌, ◌<◌, ◌≤◌, List, [], ◌∷◌, length, take, inl, inr}
 use Rattle.std.proofs.Common.{sum_by, ap, sym, subst, refl, arith}
 use Rattle.std.proofs.lemmas.List.Sums.{sum_by_more, sum_by_push, sum_by-cons, sum_by-set, sum_by-take-le}
@@ -6,10 +6,10 @@ use Rattle.core_lang.specs.WellFormed.{calls_together}
 use Rattle.outcomes.specs.declared.search.Search.{Search}
 use Rattle.outcomes.specs.declared.state.State.{State}
 use Rattle.outcomes.specs.Ends.{Left, seen}
-use Rattle.outcomes.specs.Working.States.{Reached, at, nowhere, reached_of, with_more, orders_to}
+use Rattle.outcomes.specs.Working.States.{Layered, Reached, at, nowhere, with_more, orders_to}
 use Rattle.outcomes.specs.Working.Trails.{IsLonger}
 use Rattle.outcomes.specs.Working.Searching.{IsGood, AreGood}
-use Rattle.outcomes.specs.Working.Steps.{IsEnd, AreEnds, AreEndsOfStates, Tells, IsKnown, IsNew, counted_in, start_of}
+use Rattle.outcomes.specs.Working.Steps.{IsEnd, AreEnds, AreEndsOfStates, Tells, IsKnown, IsNew, counted_in, start_of, state_in}
 use Rattle.outcomes.proofs.Leading.{good_longer, good_more, set_apart, push_apart}
 
 pub end_longer : (search : Search) (trail trail' : List (List ℕ)) (s : Reached) → IsLonger trail trail' →
@@ -32,7 +32,7 @@ end_more search trail s more end =
       seen_is = end.seen_is;
     }
 
--- where all calls are done, what is seen of a state is an end
+-- if all calls are done in a state, the part of it that is asked for is an end
 end_of_state : (search : Search) (trail : List (List ℕ)) (s : Reached) →
     IsGood search.program.now search.turns (calls_together search.program.now.threads.items) (start_of search) trail s →
     IsEnd search trail (record s { left = seen search.asked.now.cells s.left })
@@ -67,28 +67,28 @@ counted_new w old new s left is =
     let g : Reached → ℕ = λ r. r.orders * w r.left in
     ap (sum_by g) is.ends ∙ sum_by_push g old (record s { left = left })
 
--- one state more
-pub ends_of_more : (search : Search) (trail : List (List ℕ)) (layer old new : List Reached) (k : ℕ) (state : State) →
+-- one more state
+pub ends_of_more : (search : Search) (trail : List (List ℕ)) (layer : List Reached) (old new : Layered) (k : ℕ) (state : State) →
     AreGood search.program.now search.turns (calls_together search.program.now.threads.items) (start_of search) trail layer →
-    k < length layer → at layer k ≡ reached_of state → AreEndsOfStates search trail (take k layer) old →
-    Tells search.asked.now.cells old new state → AreEndsOfStates search trail (take (k + 1) layer) new
+    k < length layer → at layer k ≡ state_in search state → AreEndsOfStates search trail (take k layer) old.states →
+    Tells search old new state → AreEndsOfStates search trail (take (k + 1) layer) new.states
 ends_of_more search trail layer old new k state good within is before tells =
     let cells = search.asked.now.cells in
-    let s = reached_of state in
+    let s = state_in search state in
     let end = end_of_state search trail s (subst (IsGood search.program.now search.turns (calls_together search.program.now.threads.items) (start_of search) trail) is (good.each k within)) in
     record {
-      are = elim tells [
+      are = elim tells.there [
         | inl known ↦ subst (AreEnds search trail) (sym known.ends)
-            (set_apart (IsEnd search trail) old known.number s.orders (end_more search trail) before.are)
+            (set_apart (IsEnd search trail) old.states known.number s.orders (end_more search trail) before.are)
         | inr new ↦ subst (AreEnds search trail) (sym new.ends)
-            (push_apart (IsEnd search trail) old (record s { left = seen cells s.left }) new.none end before.are)
+            (push_apart (IsEnd search trail) old.states (record s { left = seen cells s.left }) new.none end before.are)
       ];
       counts = λ w. (
           let g : Reached → ℕ = λ r. r.orders * w (seen cells r.left) in
-          let more : counted_in w new ≡ counted_in w old + s.orders * w (seen cells s.left) =
-          elim tells [
-            | inl known ↦ counted_known w old new s (seen cells s.left) known
-            | inr new_end ↦ counted_new w old new s (seen cells s.left) new_end
+          let more : counted_in w new.states ≡ counted_in w old.states + s.orders * w (seen cells s.left) =
+          elim tells.there [
+            | inl known ↦ counted_known w old.states new.states s (seen cells s.left) known
+            | inr new_end ↦ counted_new w old.states new.states s (seen cells s.left) new_end
           ] in
           more ∙ ap (λ (x : ℕ). x + s.orders * w (seen cells s.left)) (before.counts w)
           ∙ sym (sum_by_more g layer k nowhere within ∙ ap (λ (r : Reached). sum_by g (take k layer) + g r) is));
@@ -100,9 +100,9 @@ counted_once (s ∷ states) =
     sum_by-cons (λ (r : Reached). r.orders * 1) s states ∙ ap (λ (x : ℕ). s.orders * 1 + x) (counted_once states)
     ∙ (let whole = sum_by-cons (λ (r : Reached). r.orders) s states in omega (arith, whole))
 
--- there are no more orders than lead to the states
+-- there are at most as many orders as lead to the states
 pub room_for_one : (search : Search) (trail : List (List ℕ)) (layer ends : List Reached) (k : ℕ) (state : State) →
-    k < length layer → at layer k ≡ reached_of state → AreEndsOfStates search trail (take k layer) ends →
+    k < length layer → at layer k ≡ state_in search state → AreEndsOfStates search trail (take k layer) ends →
     orders_to ends + state.orders ≤ orders_to layer
 room_for_one search trail layer ends k state within is before =
     let count : Reached → ℕ = λ r. r.orders in

@@ -10,7 +10,7 @@ use Rattle.outcomes.specs.Ends.{Left, left_by, end_from, done_after}
 use Rattle.outcomes.specs.Working.States.{Reached, at, nowhere, with_more}
 use Rattle.outcomes.specs.Working.Searching.{left_after, sum_over, weight, IsFound, IsAdded, Summand}
 
--- where a call is over, an order that begins with it ends as the others end from there
+-- if a call is over, an order that begins with it ends as the others end from there
 pub end_behind : (program : Typed) (n : ℕ) (done : List ℕ) (heap : Left) (t : ℕ) (call : Invocation) (finished : Finished) (order : List ℕ) →
     next_call program done t ≡ Some call → run_call program n call heap.cells ≡ Over finished →
     end_from program n done heap (t ∷ order) ≡ end_from program n (one_more done t) (left_after program done t finished heap) order
@@ -53,7 +53,7 @@ sum_more program n left f done heap t =
     sum_by-append (λ (o : List ℕ). f (done_after done o) (end_from program n done heap o)) (begun_by program (orders_of program left) done t)
     (begun_with (next_call program done t) t (orders_of program left (one_more done t)))
 
--- ---- a state more
+-- ---- one more state
 
 times_more : (a b w : ℕ) → (a + b) * w ≡ a * w + b * w
 times_more a b w = omega arith

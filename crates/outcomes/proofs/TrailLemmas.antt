@@ -1,26 +1,26 @@
--- Orders that share their beginnings.
+-- Orders that share their prefixes.
 use Rattle.std.proofs.Common.{◌≡◌, ◌∙◌, ℕ, ◌+◌, ◌-◌, ◌<◌, ◌≤◌, zero, suc, List, [], ◌∷◌, ◌++◌, length, reverse, get_or}
 use Rattle.std.proofs.Common.{slice_get, Some, inl, inr, ap, sym, refl, arith, append_assoc, length-append}
 use Rattle.std.proofs.lemmas.List.{reverse-append}
 use Rattle.std.proofs.Math.ListN.{get_or-append}
 use Rattle.std.proofs.Math.Seq.{get_or-append_seam}
 use Rattle.core_lang.specs.Theory.Items.{pushed_at}
-use Rattle.outcomes.specs.declared.trail.Step.{Step}
+use Rattle.outcomes.specs.declared.trail.TrailEdge.{TrailEdge}
 use Rattle.outcomes.specs.Working.Trails.{longer, grown, orders_of, AreBackward}
 
--- one step more
-pub grown_one_more : (orders : List (List ℕ)) (ss : List Step) (s : Step) →
+-- one more step
+pub grown_one_more : (orders : List (List ℕ)) (ss : List TrailEdge) (s : TrailEdge) →
     grown orders (ss ++ s ∷ []) ≡ grown orders ss ++ longer (grown orders ss) s.before s.thread ∷ []
 grown_one_more orders [] s = refl
 grown_one_more orders (x ∷ ss) s = grown_one_more (orders ++ longer orders x.before x.thread ∷ []) ss s
 
-pub length-grown : (orders : List (List ℕ)) (ss : List Step) → length (grown orders ss) ≡ length orders + length ss
+pub length-grown : (orders : List (List ℕ)) (ss : List TrailEdge) → length (grown orders ss) ≡ length orders + length ss
 length-grown orders [] = sym (omega arith)
 length-grown orders (x ∷ ss) =
     length-grown (orders ++ longer orders x.before x.thread ∷ []) ss ∙ omega (arith, length-append orders (longer orders x.before x.thread ∷ []))
 
 -- what is there stays
-pub grown_keeps : (orders : List (List ℕ)) (ss : List Step) (k : ℕ) → k < length orders →
+pub grown_keeps : (orders : List (List ℕ)) (ss : List TrailEdge) (k : ℕ) → k < length orders →
     get_or (grown orders ss) k [] ≡ get_or orders k []
 grown_keeps orders [] k within = refl
 grown_keeps orders (x ∷ ss) k within =
@@ -29,7 +29,7 @@ grown_keeps orders (x ∷ ss) k within =
     grown_keeps (orders ++ more) ss k within' ∙ get_or-append orders more [] k within
 
 -- and each step's order is that of the one before with its thread
-pub grown_at : (orders : List (List ℕ)) (ss : List Step) (k : ℕ) (s : Step) → slice_get ss k ≡ Some s →
+pub grown_at : (orders : List (List ℕ)) (ss : List TrailEdge) (k : ℕ) (s : TrailEdge) → slice_get ss k ≡ Some s →
     s.before < length orders + k →
     get_or (grown orders ss) (length orders + k) [] ≡ longer (grown orders ss) s.before s.thread
 grown_at orders [] k s is before = cc
@@ -44,7 +44,7 @@ grown_at orders (x ∷ ss) zero s is before =
     let before' : get_or (grown (orders ++ more) ss) s.before [] ≡ get_or orders s.before [] =
     grown_keeps (orders ++ more) ss s.before (omega (arith, long)) ∙ get_or-append orders more [] s.before old in
     let place : length orders + 0 ≡ length orders = omega arith in
-    ap (λ (k : ℕ). get_or (grown (orders ++ more) ss) k []) place ∙ there ∙ ap (λ (y : Step). get_or orders y.before [] ++ y.thread ∷ []) same
+    ap (λ (k : ℕ). get_or (grown (orders ++ more) ss) k []) place ∙ there ∙ ap (λ (y : TrailEdge). get_or orders y.before [] ++ y.thread ∷ []) same
     ∙ ap (λ (o : List ℕ). o ++ s.thread ∷ []) (sym before')
 grown_at orders (x ∷ ss) (suc k) s is before =
     let more = longer orders x.before x.thread ∷ [] in
@@ -53,19 +53,19 @@ grown_at orders (x ∷ ss) (suc k) s is before =
     let before' : s.before < length (orders ++ more) + k = omega (arith, long) in
     ap (λ (k : ℕ). get_or (grown (orders ++ more) ss) k []) place ∙ grown_at (orders ++ more) ss k s is before'
 
--- a step more that leads from one that is there
-pub backward_one_more : (ss : List Step) (s : Step) → AreBackward ss → s.before ≤ length ss → AreBackward (ss ++ s ∷ [])
+-- one more step that leads from one that is there
+pub backward_one_more : (ss : List TrailEdge) (s : TrailEdge) → AreBackward ss → s.before ≤ length ss → AreBackward (ss ++ s ∷ [])
 backward_one_more ss s back within k y is =
     elim (pushed_at ss s k y is) [
       | inl there ↦ back k y there
-      | inr here ↦ (let e : s.before ≡ y.before = ap (λ (z : Step). z.before) here.1 in let f : k ≡ length ss = here.0 in omega arith)
+      | inr here ↦ (let e : s.before ≡ y.before = ap (λ (z : TrailEdge). z.before) here.1 in let f : k ≡ length ss = here.0 in omega arith)
     ]
 
-pub length-orders : (ss : List Step) → length (orders_of ss) ≡ suc (length ss)
+pub length-orders : (ss : List TrailEdge) → length (orders_of ss) ≡ suc (length ss)
 length-orders ss = length-grown ([] ∷ []) ss ∙ omega arith
 
 -- an order that isn't the first
-pub order_at : (ss : List Step) (at : ℕ) (s : Step) → AreBackward ss → 0 < at → slice_get ss (at - 1) ≡ Some s →
+pub order_at : (ss : List TrailEdge) (at : ℕ) (s : TrailEdge) → AreBackward ss → 0 < at → slice_get ss (at - 1) ≡ Some s →
     (s.before < at) × (get_or (orders_of ss) at [] ≡ longer (orders_of ss) s.before s.thread)
 order_at ss at s back some is =
     let earlier : s.before ≤ at - 1 = back (at - 1) s is in
@@ -73,7 +73,7 @@ order_at ss at s back some is =
     let early : s.before < 1 + (at - 1) = omega arith in
     (omega arith, ap (λ (k : ℕ). get_or (orders_of ss) k []) (sym place) ∙ grown_at ([] ∷ []) ss (at - 1) s is early)
 
--- one thread more is found of an order
+-- one more thread is found of an order
 pub found_more : (whole left before : List ℕ) (thread : ℕ) (found : List ℕ) → whole ≡ left ++ reverse found →
     left ≡ before ++ thread ∷ [] →
     whole ≡ before ++ reverse (found ++ thread ∷ [])
@@ -82,5 +82,5 @@ found_more whole left before thread found is more =
     ∙ ap (λ (l : List ℕ). before ++ l) (sym (reverse-append found (thread ∷ [])))
 
 -- the first order is empty
-pub first_order : (ss : List Step) → get_or (orders_of ss) 0 [] ≡ []
+pub first_order : (ss : List TrailEdge) → get_or (orders_of ss) 0 [] ≡ []
 first_order ss = grown_keeps ([] ∷ []) ss 0 (omega arith)

@@ -2,13 +2,11 @@
 use Rattle.std.proofs.Common.{◌≡◌, ◌∙◌, ◌≢◌, ℕ, ◌+◌, ◌-◌, ◌*◌, ◌<◌, zero, suc, Bool, true, false, cond, List, [], ◌∷◌}
 use Rattle.std.proofs.Common.{◌++◌, length, map, get_or, Option, Some, None, sum_by, nat_eq, ap, sym, subst, refl}
 use Rattle.std.proofs.Common.{arith, ◌⊎◌, inl, inr, append-nil}
-use Rattle.std.specs.Ordering.{int_eq}
-use Rattle.std.proofs.lemmas.Bool.Decides.{Decides-int_eq, Decides-eqb}
+use Rattle.std.proofs.lemmas.Bool.Decides.{Decides-eqb}
 use Rattle.std.specs.List.{All, AllPairs, Any, Contains, count_by}
 use Rattle.std.proofs.lemmas.List.{get_or-map, length-map, length-replicate}
 use Rattle.std.proofs.lemmas.List.Sums.{sum_by-cons, get_or-le-sum_by}
 use Rattle.core_lang.specs.declared.value.Value.{Value}
-use Rattle.core_lang.specs.declared.value.Value.TheVariants.{Int, Ref}
 use Rattle.core_lang.specs.declared.value.Outcome.{Outcome}
 use Rattle.core_lang.specs.declared.value.Outcome.TheVariants.{Ends, Returns, Traps}
 use Rattle.core_lang.specs.declared.value.Trap.{Trap}
@@ -26,10 +24,12 @@ use Rattle.outcomes.specs.Ends.{opening_left, no_answers, answers_after, seen}
 use Rattle.outcomes.specs.declared.outcome.Asked.{Asked}
 use Rattle.outcomes.specs.declared.outcome.Cells.{Cells}
 use Rattle.std.specs.Option.{option_map}
+use Rattle.outcomes.specs.Working.Changes.{same_value}
 use Rattle.outcomes.specs.Working.States.{Reached, left_with, at, nowhere}
 use Rattle.outcomes.specs.Working.Searching.{order_at, IsGood, AreGood, weight, total, as_told, Summand}
 use Rattle.outcomes.specs.Working.Steps.{GoesOn, Growth, made_from_all, opening_state, IsBeyond, HasTooMany, one}
 use Rattle.outcomes.specs.Working.Steps.{start_of, IsEnd, AreEnds, AreEndsOfStates, AreToldOfStates}
+use Rattle.outcomes.proofs.ChangeLemmas.{value_is, value_same}
 use Rattle.outcomes.proofs.Leading.{leads_in_order, leads_serially, leads_made}
 use Rattle.outcomes.proofs.Full.{full, leads_done}
 use Rattle.outcomes.specs.Theory.Done.{lengths}
@@ -78,7 +78,7 @@ sums_at_first search layer layer_is f left =
     ap (total program n f left) layer_is ∙ once (weight program n f left (none_done program) (start_of search))
     ∙ ap (λ (k : ℕ). weight program n f k (none_done program) (start_of search)) (none_made left)
 
--- ---- one layer more
+-- ---- one more layer
 
 one_left : (calls depth : ℕ) → depth < calls → suc (calls - (depth + 1)) ≡ calls - depth
 one_left calls depth below = omega arith
@@ -90,10 +90,10 @@ one_made : (depth left : ℕ) → depth + suc left ≡ depth + 1 + left
 one_made depth left = omega arith
 
 pub sums_of_more : (search : Search) (old new : Work) (layer : List Reached) (depth : ℕ) →
-    GoesOn search old new (made_from_all search layer) → old.next ≡ [] →
+    GoesOn search old new (made_from_all search layer) → old.next.states ≡ [] →
     ((f : Summand) (left : ℕ) → total search.program.now search.turns f left layer
     ≡ weight search.program.now search.turns f (depth + left) (none_done search.program.now) (start_of search)) →
-    (f : Summand) (left : ℕ) → total search.program.now search.turns f left new.next
+    (f : Summand) (left : ℕ) → total search.program.now search.turns f left new.next.states
     ≡ weight search.program.now search.turns f (depth + 1 + left) (none_done search.program.now) (start_of search)
 sums_of_more search old new layer depth goes empty sums f left =
     from_nothing _ _ _ (goes.grows f left) (ap (total search.program.now search.turns f left) empty)
@@ -101,10 +101,10 @@ sums_of_more search old new layer depth goes empty sums f left =
     ∙ ap (λ (k : ℕ). weight search.program.now search.turns f k (none_done search.program.now) (start_of search)) (one_made depth left)
 
 pub good_of_more : (search : Search) (old new : Work) (growth : Growth) (depth : ℕ) →
-    GoesOn search old new growth → old.depth ≡ depth → AreGood search.program.now search.turns (depth + 1) (start_of search) new.trail new.next
+    GoesOn search old new growth → old.depth ≡ depth → AreGood search.program.now search.turns (depth + 1) (start_of search) new.trail new.next.states
 good_of_more search old new growth depth goes is =
     let same : suc new.depth ≡ depth + 1 = (let d : new.depth ≡ old.depth = goes.depth in omega (arith, d, is)) in
-    subst (λ (k : ℕ). AreGood search.program.now search.turns k (start_of search) new.trail new.next) same goes.work.states
+    subst (λ (k : ℕ). AreGood search.program.now search.turns k (start_of search) new.trail new.next.states) same goes.work.states
 
 -- ---- a call past its turns
 
@@ -152,7 +152,7 @@ all_end law search trail ends are k d within =
     let inside : k < length ends = rw length-map at within in
     subst (IsEndOf search.program.now search.asked.now) (sym (told_at trail ends k d within)) (each_ends law search trail (at ends k) (are.each k inside))
 
--- where all calls are done, each thread's are
+-- if all calls are done, each thread's are
 end_done : (search : Search) (trail : List (List ℕ)) (s : Reached) → IsEnd search trail s →
     s.done ≡ lengths search.program.now.threads.items
 end_done search trail s end =
@@ -169,7 +169,7 @@ ends_apart search trail ends are j k d below within same =
       sym (ap (λ (e : Told). e.left) (told_at trail ends j d early)) ∙ same ∙ ap (λ (e : Told). e.left) (told_at trail ends k d within),
     )
 
--- the same sum over the states and over what is told of them
+-- the sum over the states is equal to the sum over the ends that are reported of them
 pub sum_told : (g : Reached → ℕ) (h : Told → ℕ) (trail : List (List ℕ)) (layer : List Reached) →
     ((s : Reached) → g s ≡ h (as_told trail s)) →
     sum_by g layer ≡ sum_by h (map (as_told trail) layer)
@@ -215,38 +215,13 @@ counts_told search trail layer ends are sums test =
     ∙ sum_told (λ (s : Reached). s.orders * w s.left) (λ (e : Told). cond (test (Some e.left)) e.count 0) trail ends
     (λ s. times_test (test (Some s.left)) s.orders)
 
--- ---- every end is told
-
-same_value : Value → Value → Bool
-same_value (Int a) (Int b) = int_eq a b
-same_value (Int a) (Ref b) = false
-same_value (Ref a) (Int b) = false
-same_value (Ref None) (Ref None) = true
-same_value (Ref None) (Ref (Some b)) = false
-same_value (Ref (Some a)) (Ref None) = false
-same_value (Ref (Some a)) (Ref (Some b)) = nat_eq a b
+-- ---- every end is reported
 
 pub same_cells : List Value → List Value → Bool
 same_cells [] [] = true
 same_cells [] (y ∷ ys) = false
 same_cells (x ∷ xs) [] = false
 same_cells (x ∷ xs) (y ∷ ys) = cond (same_value x y) (same_cells xs ys) false
-
-value_is : (a b : Value) → same_value a b ≡ true → a ≡ b
-unfolding same_value
-value_is (Int a) (Int b) same = ap (λ n. Int n) ((Decides-int_eq a b).0 same)
-value_is (Int a) (Ref b) same = cc
-value_is (Ref a) (Int b) same = cc
-value_is (Ref None) (Ref None) same = refl
-value_is (Ref None) (Ref (Some b)) same = cc
-value_is (Ref (Some a)) (Ref None) same = cc
-value_is (Ref (Some a)) (Ref (Some b)) same = ap (λ n. Ref (Some n)) ((Decides-eqb a b).0 same)
-
-value_same : (a : Value) → same_value a a ≡ true
-unfolding same_value
-value_same (Int a) = (Decides-int_eq a a).1 refl
-value_same (Ref None) = refl
-value_same (Ref (Some a)) = (Decides-eqb a a).1 refl
 
 pub both_true : (a b : Bool) → cond a b false ≡ true → (a ≡ true) × (b ≡ true)
 both_true true b is = (refl, is)
@@ -411,7 +386,7 @@ none_left : (calls : List Invocation) (left other : Left) → left_if_settled ca
 none_left [] left other is = (refl, cc)
 none_left (c ∷ calls) left other is = cc
 
--- where the turns settle an order's calls, its end is what they leave
+-- if the turns settle an order's calls, its end is what they leave
 pub settled_left : SettledAreSerial → HaveAtMostOneSerial →
     (program : Typed) (n : ℕ) (start : Left) (done order : List ℕ) (heap : List Value) (other : Left) (ends : List Ended) →
     Serial program start.cells (calls_of program done order) ends heap → end_from program n done start order ≡ Some other →
@@ -476,14 +451,14 @@ are_all_ends law settled once search trail layer told sums is =
       all = every_end settled once search.program.now search.turns search.asked.now (map (as_told trail) ends) counts;
     })
 
--- ---- more orders than are looked at
+-- ---- more orders than the limit
 
 count_ones : (orders : List (List ℕ)) → sum_by (λ (order : List ℕ). 1) orders ≡ length orders
 count_ones [] = refl
 count_ones (o ∷ os) = sum_by-cons (λ (order : List ℕ). 1) o os ∙ ap (λ (k : ℕ). 1 + k) (count_ones os) ∙ omega arith
 
 pub too_many : (search : Search) (old : Work) (layer : List Reached) (calls depth : ℕ) →
-    HasTooMany search old (made_from_all search layer) → old.next ≡ [] → old.depth ≡ depth →
+    HasTooMany search old (made_from_all search layer) → old.next.states ≡ [] → old.depth ≡ depth →
     depth < calls → calls ≡ calls_together search.program.now.threads.items →
     ((f : Summand) → total search.program.now search.turns f (calls - depth) layer
     ≡ weight search.program.now search.turns f calls (none_done search.program.now) (start_of search)) →
@@ -493,8 +468,8 @@ too_many search old layer calls depth many empty deep below all sums =
     let n = search.turns in
     let left = calls - (depth + 1) in
     let fit : suc old.depth + left ≡ calls_together program.threads.items = omega arith in
-    let more : search.most < total program n one left old.next + total program n one (suc left) layer = many left fit in
-    let none : total program n one left old.next ≡ 0 = ap (total program n one left) empty in
+    let more : search.most < total program n one left old.next.states + total program n one (suc left) layer = many left fit in
+    let none : total program n one left old.next.states ≡ 0 = ap (total program n one left) empty in
     let same : total program n one (suc left) layer ≡ weight program n one calls (none_done program) (start_of search) =
     ap (λ (k : ℕ). total program n one k layer) (one_left calls depth below) ∙ sums one in
     let whole : weight program n one calls (none_done program) (start_of search) ≡ length (orders program) =

@@ -1,5 +1,5 @@
 -- The orders in which the calls of a program's scripts can be made one after another. An order is a list of threads: each
--- stands for the next call of its script.
+-- item stands for the next call of that thread's script.
 use Rattle.std.specs.Prelude.{ℕ, ◌+◌, zero, suc, List, [], ◌∷◌, ◌++◌, length, map, replicate, slice_get, slice_set, take}
 use Rattle.std.specs.Prelude.{slice_index, Option, Some, None, option_map, option_to_list}
 use Rattle.core_lang.specs.declared.typed.Thread.{Thread}
@@ -8,12 +8,12 @@ use Rattle.core_lang.specs.Serial.{Invocation, invocation}
 use Rattle.core_lang.specs.Typing.{lookup}
 use Rattle.core_lang.specs.WellFormed.{calls_together}
 
--- the call that a thread makes next, where so many calls of each thread are done
+-- the next call of a thread, after `done` calls of each thread; none, if its script has ended
 abbrev pub next_call : Typed → List ℕ → ℕ → Option Invocation
 next_call program done t =
     lookup (slice_get program.threads.items t) (λ (thread : Thread). option_map invocation (slice_get thread.calls.items (slice_index done t)))
 
--- the same with one call more of the thread
+-- the numbers of calls done, with one more of the thread
 abbrev pub one_more : List ℕ → ℕ → List ℕ
 one_more done t = slice_set done t (slice_index done t + 1)
 
@@ -27,18 +27,18 @@ call_number program t k = calls_together (take t program.threads.items) + k
 
 -- ---- all orders
 
--- these orders with a thread in front, if it has a call
+-- the orders, each after the thread; no orders, if the thread has no next call
 abbrev pub begun_with : Option Invocation → ℕ → List (List ℕ) → List (List ℕ)
 begun_with None t orders = []
 begun_with (Some call) t orders = map (λ (order : List ℕ). t ∷ order) orders
 
--- the orders that begin with one of the first threads, so many of them, where it is told which orders may follow
+-- the orders that begin with one of the first `t` threads; `following` gives the orders after the first call
 abbrev pub begun_by : Typed → (List ℕ → List (List ℕ)) → List ℕ → ℕ → List (List ℕ)
 begun_by program following done zero = []
 begun_by program following done (suc t) =
     begun_by program following done t ++ begun_with (next_call program done t) t (following (one_more done t))
 
--- the orders of n calls more
+-- the orders of n further calls
 abbrev pub orders_of : Typed → ℕ → List ℕ → List (List ℕ)
 orders_of program zero done = [] ∷ []
 orders_of program (suc n) done = begun_by program (orders_of program n) done (length program.threads.items)
@@ -54,5 +54,6 @@ abbrev pub calls_of : Typed → List ℕ → List ℕ → List Invocation
 calls_of program done [] = []
 calls_of program done (t ∷ order) = option_to_list (next_call program done t) ++ calls_of program (one_more done t) order
 
+-- the calls of an order that begins at the opening
 abbrev pub calls_in : Typed → List ℕ → List Invocation
 calls_in program order = calls_of program (none_done program) order

@@ -1,56 +1,76 @@
-//! Ends of orders that are drawn.
+//! The ends of orders that are drawn at random.
 
 ghost use Rattle.std.specs.Prelude.{◌≡◌, ◌<◌, ◌≤◌, ◌+◌, ◌^◌, ◌++◌, ◌∷◌, [], length, slice_index_or, IfOk, OnOk};
 ghost use Rattle.core_lang.specs.Serial.{opening_heap};
-ghost use Rattle.core_lang.specs.Typing.{HasCells};
+ghost use Rattle.meaning.specs.Working.Undo.{undone};
 ghost use Rattle.core_lang.specs.WellFormed.{calls_together};
+ghost use Rattle.outcomes.specs.Working.Changes.{changes_of};
 ghost use Rattle.outcomes.specs.Working.States.{orders_to};
 ghost use Rattle.outcomes.specs.Orders.{orders, none_done};
 ghost use Rattle.outcomes.specs.Working.Trails.{IsBegun};
 ghost use Rattle.outcomes.specs.Working.Steps.{CanSearch};
-ghost use Rattle.outcomes.specs.Ends.{Finds};
+ghost use Rattle.outcomes.specs.Ends.{Finds, seen_cells};
 ghost use Rattle.outcomes.specs.Working.Drawing.{IsWalk, HasCallLeft, calls_of_thread, Advances, Walks, Notes};
 
+use crate::changes::Writes;
 use crate::layer::Layer;
 use crate::outcome::{Cells, Found};
-use crate::search::{Search, answered, set_cells, told};
-use crate::state::State;
-use crate::telling::seen_cells;
+use crate::search::{Search, answered, told};
+use crate::state::{Change, State};
+use crate::telling::{seen_cells, seen_changes};
 use crate::trail::Trail;
 use core_lang::value::Value;
 use core_lang::{laws, value};
-use meaning_trees::heap::Heap;
+use meaning::heap::Heap;
+use meaning::run::End;
 use rand::rngs::SmallRng;
 use rand::{RngExt, SeedableRng};
 use source::memory::NoMemory;
-use std::alloc::Global;
+use std::alloc::{AllocError, Global};
+use std::mem;
 
-/// Calls that were made one after another.
+/// A run of calls, one after another.
 #[derive(Drop)]
 pub(crate) struct Walk {
-    /// What they left.
+    /// The heap that they left.
     pub(crate) heap: Heap,
-    /// How many of each thread's there were.
+    /// The values that they overwrote, with their cells.
+    pub(crate) overwritten: Vec<(usize, Value)>,
+    /// The number of calls of each thread.
     pub(crate) done: Vec<usize>,
-    /// How they ended, by their numbers; nothing, where that isn't asked.
+    /// How the calls ended, by their numbers; empty, if that isn't asked for.
     pub(crate) answers: Vec<Option<value::Outcome>>,
     /// Their order.
     pub(crate) order: Vec<usize>,
 }
 
-/// The ends of orders that were drawn, each once.
+/// The distinct ends of orders that were drawn.
 #[derive(Drop)]
-pub(crate) struct Drawing {
-    /// The last of these orders.
+pub(crate) struct Drawing<'a> {
+    /// The run of the last order.
     pub(crate) walk: Walk,
-    /// The ends, as states where all calls are done.
-    pub(crate) ends: Layer,
-    /// An order for each.
+    /// The ends, as states in which all calls are done.
+    pub(crate) ends: Layer<'a>,
+    /// An order for each end.
     pub(crate) trail: Trail,
 }
 
+/// Appends `then` to `before`, and returns the list `then` emptied.
+fn keep_writes(
+    before: &mut Vec<(usize, Value)>,
+    then: Vec<(usize, Value)>,
+) -> Result<Vec<(usize, Value)>, AllocError>
+    ensures kept { OnOk result (before.new.items ≡ before.old.items ++ then.items) }
+    ensures empty { IfOk result (λ memory. memory.items ≡ []) }
+{
+    before.extend_from_slice(&then)?;
+    let mut memory = then;
+    memory.clear();
+    Ok(memory)
+}
+
 impl Search<'_> {
-    /// How many calls of a thread are left.
+    /// The number of calls of `thread` that are left.
     fn left(&self, done: &[usize], thread: usize) -> usize
         requires thread { thread < length self.now.program.now.threads.items }
         requires threads { length done.now ≡ length self.now.program.now.threads.items }
@@ -60,7 +80,7 @@ impl Search<'_> {
         self.program.threads[thread].calls.len() - done[thread]
     }
 
-    /// The thread of the call of this number, where the calls that are left are counted thread by thread.
+    /// The thread of the call `number`, if the calls that are left are counted from 0, thread by thread.
     fn thread_of(&self, walk: &Walk, number: usize) -> usize
         requires search { CanSearch self.now }
         requires walk { IsWalk self.now walk.now }
@@ -76,7 +96,7 @@ impl Search<'_> {
         thread
     }
 
-    /// Makes the next call of a thread. Answers whether the turns settle it.
+    /// Makes the next call of `thread`, and returns whether the turns settle it.
     fn advance(&self, alloc: Global, walk: &mut Walk, thread: usize) -> Result<bool, NoMemory>
         requires search { CanSearch self.now }
         requires walk { IsWalk self.now walk.old }
@@ -84,9 +104,17 @@ impl Search<'_> {
         ensures { IfOk result (Advances self.now walk.old walk.new thread) }
     {
         let call = self.next(&walk.done, thread).unwrap();
-        let Some(outcome) = self.run(alloc, &mut walk.heap, call)? else {
+        let Some(end) = self.run(alloc, &mut walk.heap, call)? else {
             return Ok(false);
         };
+        let End {
+            outcome,
+            overwritten,
+            ..
+        } = end;
+        // The next call uses its memory.
+        let memory = keep_writes(&mut walk.overwritten, overwritten)?;
+        walk.heap.take_back(alloc, memory);
         let number = self.call_number(thread, walk.done[thread]);
         walk.answers = answered(alloc, &walk.answers, number, outcome)?;
         walk.done[thread] += 1;
@@ -94,21 +122,20 @@ impl Search<'_> {
         Ok(true)
     }
 
-    /// Makes all calls from the opening cells, in an order that is drawn: each order is as likely as each other. Answers
-    /// the thread whose next call the turns don't settle, if there is one; the order is then the one of the calls before it.
+    /// Makes all calls from the opening cells, in an order that is drawn uniformly from all orders. If the turns don't
+    /// settle a call, returns its thread; the order is then that of the calls before it.
     fn walk(
         &self,
         alloc: Global,
         random: &mut SmallRng,
         walk: &mut Walk,
-        opening: &[Value],
     ) -> Result<Option<usize>, NoMemory>
         requires search { CanSearch self.now }
-        requires walk { HasCells self.now.program.now walk.old.heap }
-        requires opening { opening.now ≡ opening_heap self.now.program.now }
+        requires walk { undone walk.old.overwritten.items walk.old.heap ≡ opening_heap self.now.program.now }
         ensures { IfOk result (Walks self.now walk.new) }
     {
-        set_cells(alloc, &mut walk.heap, opening)?;
+        let overwritten = mem::replace(&mut walk.overwritten, Vec::new(alloc));
+        walk.heap.take_back(alloc, overwritten);
         walk.done = vec![in alloc; 0; self.program.threads.len()]?;
         walk.answers = self.no_answers(alloc)?;
         walk.order.clear();
@@ -124,23 +151,52 @@ impl Search<'_> {
     }
 }
 
-impl Drawing {
-    /// Puts where the order led among the ends, which are told apart by these cells.
-    fn note(&mut self, alloc: Global, asked: &Cells) -> Result<(), NoMemory>
+impl Drawing<'_> {
+    /// The changes of the cells that are asked for.
+    fn changes(
+        &self,
+        alloc: Global,
+        asked: &Cells,
+        opening: &[Value],
+    ) -> Result<Vec<Change>, AllocError>
+        requires long { length self.now.walk.heap ≡ length opening.now }
+        requires writes { undone self.now.walk.overwritten.items self.now.walk.heap ≡ opening.now }
+        requires ends { self.now.ends.opening ≡ seen_cells asked.now opening.now }
+        ensures { let seen = seen_cells asked.now self.now.walk.heap in
+            IfOk result (λ changes. changes.items ≡ changes_of self.now.ends.opening seen) }
+    {
+        let cells = self.walk.heap.cells();
+        let writes = Writes {
+            opening,
+            first: &self.walk.overwritten,
+            then: &[],
+        };
+        let changes = writes.changes(alloc, cells)?;
+        seen_changes(alloc, asked, self.ends.opening(), cells, changes)
+    }
+
+    /// Adds the end of the last order to the ends, which are distinguished by the cells in `asked`.
+    fn note(&mut self, alloc: Global, asked: &Cells, opening: &[Value]) -> Result<(), NoMemory>
+        requires long { length self.old.walk.heap ≡ length opening.now }
+        requires writes { undone self.old.walk.overwritten.items self.old.walk.heap ≡ opening.now }
+        requires ends { self.old.ends.opening ≡ seen_cells asked.now opening.now }
         requires begun { IsBegun self.old.trail }
-        requires fit { orders_to self.old.ends + 1 < 2 ^ 64 }
+        requires fit { orders_to self.old.ends.states + 1 < 2 ^ 64 }
         ensures { OnOk result (Notes asked.now self.old self.new) }
     {
-        let cells = seen_cells(alloc, asked, self.walk.heap.cells())?;
-        match self.ends.find(&self.walk.done, &cells, &self.walk.answers) {
+        let changes = self.changes(alloc, asked, opening)?;
+        match self
+            .ends
+            .find(&self.walk.done, &changes, &self.walk.answers)
+        {
             Some(number) => self.ends.add_orders(number, 1),
             None => {
                 let first = self.trail.add(&self.walk.order)?;
-                let done = self.walk.done.clone()?;
+                let done = Vec::from_slice(alloc, &self.walk.done)?;
                 let answers = Vec::from_slice(alloc, &self.walk.answers)?;
                 self.ends.push(State {
                     done,
-                    cells,
+                    changes,
                     answers,
                     orders: 1,
                     first,
@@ -152,7 +208,11 @@ impl Drawing {
 }
 
 impl Search<'_> {
-    /// How the cells end after orders that are drawn, as many as are looked at.
+    /// The ends after orders that are drawn from `seed`; their number is the most orders of the search.
+    ///
+    /// # Errors
+    ///
+    /// Out of memory.
     pub(crate) fn drawn(&self, alloc: Global, seed: u64) -> Result<Found, NoMemory>
         requires search { CanSearch self.now }
         requires more { self.now.most < length (orders self.now.program.now) }
@@ -162,22 +222,24 @@ impl Search<'_> {
         let mut random = SmallRng::seed_from_u64(seed);
         let heap = Heap::open(alloc, self.program)?;
         let opening = Vec::from_slice(alloc, heap.cells())?;
+        let seen = seen_cells(alloc, &self.asked.cells, &opening)?;
         let mut drawing = Drawing {
             walk: Walk {
                 heap,
+                overwritten: Vec::new(alloc),
                 done: Vec::new(alloc),
                 answers: Vec::new(alloc),
                 order: Vec::new(alloc),
             },
-            ends: Layer::new(alloc, self.hashing),
+            ends: Layer::new(alloc, self.hashing, &seen),
             trail: Trail::new(alloc),
         };
         for _ in 0..self.most {
-            if let Some(thread) = self.walk(alloc, &mut random, &mut drawing.walk, &opening)? {
+            if let Some(thread) = self.walk(alloc, &mut random, &mut drawing.walk)? {
                 let order = Vec::from_slice(alloc, &drawing.walk.order)?;
                 return Ok(Found::Unsettled { order, thread });
             }
-            drawing.note(alloc, &self.asked.cells)?;
+            drawing.note(alloc, &self.asked.cells, &opening)?;
         }
         Ok(Found::Drawn(told(alloc, &drawing.ends, &drawing.trail)?))
     }

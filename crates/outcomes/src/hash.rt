@@ -1,9 +1,10 @@
-//! Numbers by which states are found.
+//! The hashes by which states are found.
 
 ghost use Rattle.std.specs.Prelude.{◌≡◌};
-ghost use Rattle.outcomes.specs.Working.Hashes.{hash, mixed, mixed_all, mixed_answer, mixed_cells, word_of};
+ghost use Rattle.outcomes.specs.Working.Hashes.{hash, mixed, mixed_all, mixed_answer, mixed_changes, word_of};
 ghost use Rattle.outcomes.specs.Working.Hashes.{mixed_answers};
 
+use crate::state::Change;
 use core_lang::value::{Outcome, Value};
 use std::hash::{DefaultHasher, Hasher};
 
@@ -36,17 +37,17 @@ fn mixed_counts(start: DefaultHasher, done: &[usize]) -> DefaultHasher
     hasher
 }
 
-fn mixed_cells(start: DefaultHasher, cells: &[Value]) -> DefaultHasher
-    ensures { result ≡ mixed_cells start cells.now }
+fn mixed_changes(start: DefaultHasher, changes: &[Change]) -> DefaultHasher
+    ensures { result ≡ mixed_changes start changes.now }
 {
     let mut hasher = start;
-    for cell in cells {
-        hasher = mixed(hasher, word_of(*cell));
+    for change in changes {
+        hasher = mixed(mixed(hasher, change.cell as u64), word_of(change.value));
     }
     hasher
 }
 
-// How a call ended takes two words, so that no result is as a trap.
+// The outcome of a call takes two words, so that no result is hashed like a trap.
 fn mixed_answer(hasher: DefaultHasher, answer: Option<Outcome>) -> DefaultHasher
     ensures { result ≡ mixed_answer hasher answer }
 {
@@ -68,15 +69,15 @@ fn mixed_answers(start: DefaultHasher, answers: &[Option<Outcome>]) -> DefaultHa
     hasher
 }
 
-/// The number of a state, by a hasher with the keys: alike states have the same.
+/// The hash of a state, by a hasher with the keys. Equal states have equal hashes.
 pub(crate) fn hash(
     start: DefaultHasher,
     done: &[usize],
-    cells: &[Value],
+    changes: &[Change],
     answers: &[Option<Outcome>],
 ) -> u64
-    ensures { result ≡ hash start done.now cells.now answers.now }
+    ensures { result ≡ hash start done.now changes.now answers.now }
 {
-    let hasher = mixed_cells(mixed_counts(start, done), cells);
+    let hasher = mixed_changes(mixed_counts(start, done), changes);
     mixed_answers(hasher, answers).finish()
 }

@@ -1,10 +1,11 @@
-//! States, each once.
+//! A set of states, each once.
 
 ghost use Rattle.std.specs.Prelude.{◌≡◌, ◌<◌, ◌+◌, ◌^◌, ◌↔◌, [], ◌∷◌, ◌++◌, length, map, slice_set, IsTrue, OnOk, OnErr, MatchOption};
+ghost use Rattle.outcomes.specs.Working.Changes.{applied, AreChanges};
 ghost use Rattle.outcomes.specs.Working.States.{reached_of, left_with, orders_to, IsOne, IsAlike, NoneIsAlike, with_more, at};
 
 use crate::hash::hash;
-use crate::state::State;
+use crate::state::{Change, State};
 use core_lang::value::{Outcome, Value};
 use source::keyed::KeyedState;
 use source::memory::NoMemory;
@@ -13,105 +14,120 @@ use std::collections::HashMap;
 use std::hash::{BuildHasher, DefaultHasher};
 use std::marker::Model;
 
-/// A state, and the last one before it that has the same hash.
+/// A state, with the last one before it that has the same hash.
 #[derive(Drop)]
 pub(crate) struct Entry {
     pub(crate) state: State,
     pub(crate) before: Option<usize>,
 }
 
-/// States, by their numbers, which can be found by what they are. As a value it is the list of them.
+/// A numbered set of states, in which a state is found by its contents. Its value is the list of the states, and the
+/// values of the cells before any call.
 #[derive(Drop)]
-pub struct Layer {
+pub struct Layer<'a> {
     entries: Vec<Entry>,
-    // By hash: the last state that has it.
+    // By hash: the number of the last state that has it.
     places: HashMap<u64, usize>,
     total: u64,
-    // Before any word of a state.
+    // The hasher before the first word of a state.
     start: DefaultHasher,
+    // The values of the cells before any call, from which changes are counted.
+    opening: &'a [Value],
 }
 
-impl Model for Layer {
-    ghost use Rattle.std.specs.Prelude.{List, map};
-    ghost use Rattle.outcomes.specs.Working.States.{Reached, entry_state};
+impl<'a> Model for Layer<'a> {
+    ghost use Rattle.std.specs.Prelude.{map};
+    ghost use Rattle.outcomes.specs.Working.States.{Layered, entry_state};
     ghost use Rattle.outcomes.specs.Working.Tables.{IsTable};
 
-    ghost Value = { List Reached };
+    ghost Value = { Layered };
 
-    ghost view = { λ l. map entry_state l.entries.items };
+    ghost view = { λ l. record { opening = l.opening.now; states = map (entry_state l.opening.now) l.entries.items } };
 
-    ghost invariant = { λ l. IsTable l.start l.entries.items l.places l.total };
+    ghost invariant = { λ l. IsTable l.start l.opening.now l.entries.items l.places l.total };
 }
 
-impl Layer {
-    /// No states; those that come are hashed by these keys.
-    pub fn new(alloc: Global, hashing: KeyedState) -> Layer
-        ensures { result ≡ [] }
+impl<'a> Layer<'a> {
+    /// An empty set, whose states are hashed with the keys of `hashing`, and whose changes are from `opening`.
+    pub fn new(alloc: Global, hashing: KeyedState, opening: &'a [Value]) -> Layer<'a>
+        ensures states { result.states ≡ [] }
+        ensures opening { result.opening ≡ opening.now }
     {
         Layer {
             entries: Vec::new(alloc),
             places: HashMap::new(alloc),
             total: 0,
             start: hashing.build_hasher(),
+            opening,
         }
     }
 
-    /// How many states there are.
+    /// The values of the cells before any call.
+    pub fn opening(&self) -> &'a [Value]
+        ensures { result.now ≡ self.now.opening }
+    {
+        self.opening
+    }
+
+    /// The number of states.
     pub fn len(&self) -> usize
-        ensures { result ≡ length self.now }
+        ensures { result ≡ length self.now.states }
     {
         self.entries.len()
     }
 
-    /// The state of this number.
+    /// The state `number`.
     pub fn get(&self, number: usize) -> &State
-        requires { number < length self.now }
-        ensures { IsOne self.now number (reached_of result.now) }
+        requires { number < length self.now.states }
+        ensures one { IsOne self.now.states number (reached_of self.now.opening result.now) }
+        ensures changes { AreChanges self.now.opening result.now.changes.items }
     {
         &self.entries[number].state
     }
 
-    /// How many orders lead to any of the states.
+    /// The number of orders that lead to the states together.
     pub fn orders(&self) -> u64
-        ensures { result ≡ orders_to self.now }
+        ensures { result ≡ orders_to self.now.states }
     {
         self.total
     }
 
-    // Whether the state of a number is the one where so many calls of each thread are done, the cells hold these values, and the
-    // calls ended like this.
+    // Whether the state `number` has these numbers of calls done, these changes and these outcomes.
     fn is_alike(
         &self,
         number: usize,
         done: &[usize],
-        cells: &[Value],
+        changes: &[Change],
         answers: &[Option<Outcome>],
     ) -> bool
-        requires { number < length self.now }
-        ensures { IsTrue result ↔ IsAlike done.now (left_with cells.now answers.now) (at self.now number) }
+        requires within { number < length self.now.states }
+        requires changes { AreChanges self.now.opening changes.now }
+        ensures { let left = left_with (applied changes.now self.now.opening) answers.now in
+            IsTrue result ↔ IsAlike done.now left (at self.now.states number) }
     {
         let state = &self.entries[number].state;
         same_counts(&state.done, done)
-            && same_values(&state.cells, cells)
+            && same_changes(&state.changes, changes)
             && same_answers(&state.answers, answers)
     }
 
-    /// The number of the state where so many calls of each thread are done, the cells hold these values, and the calls ended
-    /// like this.
+    /// The number of the state that has these numbers of calls done, these changes and these outcomes, if it is in the
+    /// set.
     pub fn find(
         &self,
         done: &[usize],
-        cells: &[Value],
+        changes: &[Change],
         answers: &[Option<Outcome>],
     ) -> Option<usize>
-        ensures { let left = left_with cells.now answers.now in
-            MatchOption result (NoneIsAlike done.now left self.now)
-            (λ number. (number < length self.now) × IsAlike done.now left (at self.now number)) }
+        requires { AreChanges self.now.opening changes.now }
+        ensures { let left = left_with (applied changes.now self.now.opening) answers.now in
+            MatchOption result (NoneIsAlike done.now left self.now.states)
+            (λ number. (number < length self.now.states) × IsAlike done.now left (at self.now.states number)) }
     {
-        let key = hash(self.start, done, cells, answers);
+        let key = hash(self.start, done, changes, answers);
         let mut last = self.places.get(&key).copied();
         while let Some(number) = last {
-            if self.is_alike(number, done, cells, answers) {
+            if self.is_alike(number, done, changes, answers) {
                 return Some(number);
             }
             last = self.entries[number].before;
@@ -119,28 +135,31 @@ impl Layer {
         None
     }
 
-    /// So many orders more lead to the state of this number.
+    /// Adds `more` to the number of orders that lead to the state `number`.
     pub fn add_orders(&mut self, number: usize, more: u64)
-        requires within { number < length self.old }
-        requires fit { orders_to self.old + more < 2 ^ 64 }
-        ensures { self.new ≡ slice_set self.old number (with_more (at self.old number) more) }
+        requires within { number < length self.old.states }
+        requires fit { orders_to self.old.states + more < 2 ^ 64 }
+        ensures states { self.new.states ≡ slice_set self.old.states number (with_more (at self.old.states number) more) }
+        ensures opening { self.new.opening ≡ self.old.opening }
     {
         self.total += more;
         let state = &mut self.entries[number].state;
         state.orders += more;
     }
 
-    /// Adds a state that isn't there.
+    /// Adds a state that is not in the set.
     ///
     /// # Errors
     ///
-    /// Want of memory; nothing is added.
+    /// Out of memory. The set is then unchanged.
     pub fn push(&mut self, state: State) -> Result<(), NoMemory>
-        requires { orders_to self.old + state.orders < 2 ^ 64 }
-        ensures ok { OnOk result (self.new ≡ self.old ++ reached_of state ∷ []) }
+        requires fit { orders_to self.old.states + state.orders < 2 ^ 64 }
+        requires changes { AreChanges self.old.opening state.changes.items }
+        ensures ok { OnOk result (self.new.states ≡ self.old.states ++ reached_of self.old.opening state ∷ []) }
+        ensures opening { self.new.opening ≡ self.old.opening }
         ensures err { OnErr result (self.new ≡ self.old) }
     {
-        let key = hash(self.start, &state.done, &state.cells, &state.answers);
+        let key = hash(self.start, &state.done, &state.changes, &state.answers);
         let before = self.places.get(&key).copied();
         let number = self.entries.len();
         let orders = state.orders;
@@ -164,7 +183,7 @@ fn same_counts(a: &[usize], b: &[usize]) -> bool
     a == b
 }
 
-fn same_values(a: &[Value], b: &[Value]) -> bool
+fn same_changes(a: &[Change], b: &[Change]) -> bool
     ensures { IsTrue result ↔ (a.now ≡ b.now) }
 {
     a == b

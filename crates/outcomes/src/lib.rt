@@ -1,22 +1,35 @@
-//! What can come out of a program at all: how its cells can end, over all orders in which its calls can be made one after
-//! another, each thread's in the order of its script.
+//! An explorer of interleavings: it finds how the cells of a program, and if asked its calls, can end over all orders of
+//! its calls, with partial-order reduction of calls that touch no cell in common. In an order the calls come one after
+//! another, and those of each thread in the order of its script.
 //!
-//! - [`search::Search`]: what is searched; [`search::Search::ends`] finds each end once, with how many orders have it and one
-//!   of them: of all orders, if they are at most as many as are looked at, or if some of them, which are, stand for all;
-//!   else of so many that are drawn.
-//! - [`outcome`]: what is found.
-//! - [`layer`], [`state`], [`trail`]: where so many calls are done, each such configuration once, and an order that leads there.
+//! - [`search::Search::ends`]: finds each end once, with one order that leads to it. It runs all orders, if they are
+//!   within the limit of the [`search::Search`], or some that stand for all. Otherwise it draws orders, as many as the
+//!   limit.
+//! - [`outcome`]: the request for a search, and its result.
+//! - [`layer`], [`state`], [`trail`]: the states after a number of calls, each once, and an order that leads to each.
+//! - [`groups::groups`]: the threads in groups, such that calls of different groups commute. [`accesses::AccessWalk`],
+//!   [`touched::Touched`], [`marks::TouchMarks`]: the accesses of a section, the cells that calls read and write, and the
+//!   threads that touch each. [`independence_laws`]: laws of calls by the cells that they touch.
 //!
-//! `specs/Orders.antt` says what an order is, and `specs/Ends.antt` what is found. The others only say how the search goes;
-//! nobody has to believe them.
+//! `specs/Orders` defines orders, `specs/Ends` the result of a search, `specs/Commuting` calls that commute, and
+//! `specs/Footprints` the cells that a call may touch. `specs/Working` only says how the search goes; nobody has to
+//! believe it.
+//!
+//! `specs/Working/Searching` begins with how the search is proved.
 #![tactic(auto)]
 
+pub mod accesses;
+mod changes;
 mod drawing;
+pub mod groups;
 mod hash;
+pub mod independence_laws;
 pub mod layer;
+pub mod marks;
 pub mod outcome;
 mod reducing;
 pub mod search;
 pub mod state;
 mod telling;
+pub mod touched;
 pub mod trail;

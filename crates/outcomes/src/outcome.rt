@@ -1,61 +1,62 @@
-//! What a search is asked for, and what it finds.
+//! The request for a search, and its result.
 
 use core_lang::value;
 use core_lang::value::Value;
 
-/// Which of a program's cells ends are told apart by.
+/// The cells by which ends are distinguished.
 #[derive(Drop)]
 pub enum Cells {
-    /// All.
+    /// All cells.
     Every,
-    /// Those of these numbers, in this order.
+    /// The cells of these numbers, in this order.
     These(Vec<usize>),
 }
 
-/// What ends are told apart by.
+/// The parts of a state by which ends are distinguished.
 #[derive(Drop)]
 pub struct Asked {
-    /// What these cells hold.
+    /// The cells whose values count.
     pub cells: Cells,
-    /// Whether also how each call ended.
+    /// Whether the outcome of each call counts too.
     pub answers: bool,
 }
 
-/// How the cells can end.
+/// A distinct end: the values of the cells and the outcomes of the calls.
 #[derive(Drop)]
-pub struct Outcome {
-    /// What those hold that ends are told apart by.
+pub struct FinalState {
+    /// The values of the cells by which ends are distinguished.
     pub cells: Vec<Value>,
-    /// How each call ended, by its number among the calls of all threads, thread 0's first; nothing, where ends aren't told
-    /// apart by that.
+    /// How each call ended, by its number among the calls of all threads, thread 0's first. Empty, if ends are not
+    /// distinguished by it.
     pub answers: Vec<Option<value::Outcome>>,
-    /// After how many of the orders that were looked at.
+    /// The number of orders that lead to this end, of those that were run.
     pub count: u64,
-    /// One of these orders, thread by thread.
+    /// One of these orders, as a list of threads.
     pub order: Vec<usize>,
 }
 
-/// What a search finds.
+/// The result of a search.
 #[derive(Drop)]
 pub enum Found {
-    /// All orders were looked at.
+    /// All orders were run.
     All {
-        /// How the cells can end.
-        ends: Vec<Outcome>,
-        /// How many configurations these orders come by: how many of each thread's calls are done, what the cells hold,
-        /// and, where ends are told apart by that, how the calls ended.
+        /// The distinct ends of all orders.
+        ends: Vec<FinalState>,
+        /// The number of configurations that these orders pass through. A configuration is the number of each thread's
+        /// calls that are done, the values of the cells, and, if ends are distinguished by them, the outcomes of the
+        /// calls.
         configurations: usize,
     },
-    /// There are more orders than are looked at, and some of them, which were looked at, stand for all: calls that touch no
-    /// cell in common were made in one order alone.
+    /// The program has more orders than the limit. Some of them were run, which stand for all: calls that touch no cell
+    /// in common were made in one order only.
     Reduced {
-        /// How the cells can end, over all orders.
-        ends: Vec<Outcome>,
-        /// How many configurations the orders come by that were looked at.
+        /// The distinct ends of all orders.
+        ends: Vec<FinalState>,
+        /// The number of configurations that the orders which were run pass through.
         configurations: usize,
     },
-    /// How they end after orders that were drawn, since there are more than are looked at.
-    Drawn(Vec<Outcome>),
+    /// The distinct ends of orders that were drawn, since the program has more orders than the limit.
+    Drawn(Vec<FinalState>),
     /// After the calls of an order, the turns don't settle the next call of a thread.
     Unsettled {
         /// The order.

@@ -1,12 +1,12 @@
-//! The search over some of the orders, which stand for all.
+//! The search over some of the orders, which stand for all (partial-order reduction).
 
 ghost use Rattle.std.specs.Prelude.{◌≡◌, [], length, map, IfOk};
+ghost use Rattle.core_lang.specs.Serial.{opening_heap};
 ghost use Rattle.core_lang.specs.Typing.{HasCells};
 ghost use Rattle.core_lang.specs.WellFormed.{calls_together};
-ghost use Rattle.independence.specs.Commuting.{AreIndependent};
+ghost use Rattle.outcomes.specs.Commuting.{AreIndependent};
 ghost use Rattle.outcomes.specs.Ends.{told_of};
-ghost use Rattle.outcomes.specs.Working.States.{reached_of};
-ghost use Rattle.outcomes.specs.Working.Steps.{CanSearch, IsAtWork, IsReached, AreReached};
+ghost use Rattle.outcomes.specs.Working.Steps.{CanSearch, IsAtWork, IsReached, AreReached, state_in};
 ghost use Rattle.outcomes.specs.Working.Reducing.{first_ready, ReducesBy, reduced_from, reduced_from_all, FindsIfAny};
 
 use crate::layer::Layer;
@@ -15,7 +15,7 @@ use crate::search::{EarlyEnd, Search, Work};
 use crate::state::State;
 use crate::trail::Trail;
 use core_lang::laws;
-use meaning_trees::heap::Heap;
+use meaning::heap::Heap;
 use source::memory::NoMemory;
 use std::alloc::Global;
 use std::mem;
@@ -39,7 +39,7 @@ impl Search<'_> {
     fn expand_group(
         &self,
         alloc: Global,
-        work: &mut Work,
+        work: &mut Work<'_>,
         from: &State,
         groups: &[usize],
     ) -> Result<Option<EarlyEnd>, NoMemory>
@@ -47,12 +47,13 @@ impl Search<'_> {
         requires work { IsAtWork self.now work.old }
         requires from { IsReached self.now work.old from.now }
         requires groups { length groups.now ≡ length self.now.program.now.threads.items }
-        ensures { IfOk result (ReducesBy self.now work.old work.new (reduced_from self.now groups.now (reached_of from.now))) }
+        ensures { IfOk result (ReducesBy self.now work.old work.new (reduced_from self.now groups.now (state_in self.now from.now))) }
     {
         let Some(first) = self.first_ready(&from.done) else {
             return Ok(None);
         };
         let group = groups[first];
+        work.visit(alloc, from)?;
         for thread in 0..self.program.threads.len() {
             if groups[thread] == group {
                 if let Some(stop) = self.step(alloc, work, from, thread)? {
@@ -63,19 +64,20 @@ impl Search<'_> {
         Ok(None)
     }
 
-    /// The same from each of these states.
+    /// Makes these calls from each state of `layer`.
     fn expand_groups(
         &self,
         alloc: Global,
-        work: &mut Work,
-        layer: &Layer,
+        work: &mut Work<'_>,
+        layer: &Layer<'_>,
         groups: &[usize],
     ) -> Result<Option<EarlyEnd>, NoMemory>
         requires search { CanSearch self.now }
         requires work { IsAtWork self.now work.old }
-        requires layer { AreReached self.now work.old layer.now }
+        requires opening { layer.now.opening ≡ opening_heap self.now.program.now }
+        requires layer { AreReached self.now work.old layer.now.states }
         requires groups { length groups.now ≡ length self.now.program.now.threads.items }
-        ensures { IfOk result (ReducesBy self.now work.old work.new (reduced_from_all self.now groups.now layer.now)) }
+        ensures { IfOk result (ReducesBy self.now work.old work.new (reduced_from_all self.now groups.now layer.now.states)) }
     {
         for number in 0..layer.len() {
             if let Some(stop) = self.expand_group(alloc, work, layer.get(number), groups)? {
@@ -85,8 +87,12 @@ impl Search<'_> {
         Ok(None)
     }
 
-    /// How the cells can end, over all orders, by those in which each group's calls come before the next group's; nothing,
-    /// where these are more than are looked at.
+    /// The ends of all orders, found by the orders in which each group's calls come before the next group's, or an
+    /// unsettled call. `None` means that these are more than the limit.
+    ///
+    /// # Errors
+    ///
+    /// Out of memory.
     pub(crate) fn reduced(&self, alloc: Global, groups: &[usize]) -> Result<Option<Found>, NoMemory>
         requires search { CanSearch self.now }
         requires groups { AreIndependent self.now.program.now groups.now }
@@ -96,10 +102,12 @@ impl Search<'_> {
         laws::settled_are_serial();
         laws::at_most_one_serial();
         let heap = Heap::open(alloc, self.program)?;
-        let mut layer = self.opening(alloc, &heap)?;
+        let opening = Vec::from_slice(alloc, heap.cells())?;
+        let mut layer = self.opening(alloc, &opening)?;
         let mut work = Work {
             heap,
-            next: Layer::new(alloc, self.hashing),
+            overwritten: Vec::new(alloc),
+            next: Layer::new(alloc, self.hashing, &opening),
             trail: Trail::new(alloc),
             depth: 0,
         };
@@ -114,9 +122,9 @@ impl Search<'_> {
                     return Ok(Some(Found::Unsettled { order, thread }));
                 }
             }
-            layer = mem::replace(&mut work.next, Layer::new(alloc, self.hashing));
+            layer = mem::replace(&mut work.next, Layer::new(alloc, self.hashing, &opening));
         }
-        let ends = self.ends_of(alloc, &layer, &work.trail)?;
+        let ends = self.ends_of(alloc, &mut work, &layer)?;
         let configurations = work.trail.len();
         Ok(Some(Found::Reduced {
             ends,

@@ -1,6 +1,7 @@
-//! The search for all ends, over states by how many calls are done.
+//! The search for all ends, layer by layer, where a layer has the states after a number of calls.
 
-ghost use Rattle.std.specs.Prelude.{◌≡◌, ◌<◌, ◌≤◌, ◌+◌, ◌^◌, [], ◌∷◌, length, IsTrue, MatchBool, map, replicate, slice_index, slice_set};
+ghost use Rattle.std.specs.Prelude.{◌≡◌, ◌<◌, ◌≤◌, ◌+◌, ◌^◌, [], ◌∷◌, length};
+ghost use Rattle.std.specs.Prelude.{IsTrue, MatchBool, map, replicate, slice_index, slice_set, IfNone};
 ghost use Rattle.std.specs.Prelude.{true, None, Some, OnOk, IfOk, MatchOption};
 ghost use Rattle.core_lang.specs.Serial.{invocation, opening_heap};
 ghost use Rattle.core_lang.specs.Typing.{IsHeap, HasCells};
@@ -8,152 +9,151 @@ ghost use Rattle.core_lang.specs.WellFormed.{CanCall, calls_together};
 ghost use Rattle.outcomes.specs.Working.States.{orders_to};
 ghost use Rattle.outcomes.specs.Orders.{next_call, call_number};
 ghost use Rattle.outcomes.specs.Working.Drawing.{calls_of_thread};
-ghost use Rattle.outcomes.specs.Working.Steps.{CanSearch, FindsOrHasMore, Leaves, Puts, IsNext, IsAtWork, IsReached, AreReached, Steps, made_by, made_from, made_from_all, opening_state, FirstsAre};
+ghost use Rattle.outcomes.specs.Working.Steps.{CanSearch, FindsOrHasMore, Leaves, Puts, Visits, left_by, state_in, IsNext};
+ghost use Rattle.outcomes.specs.Working.Steps.{IsAtWork, IsReached, AreReached, Steps, made_by, made_from, made_from_all, opening_state, FirstsAre};
 ghost use Rattle.outcomes.specs.Ends.{Finds, told_of, no_answers, answered};
 ghost use Rattle.outcomes.specs.Working.Searching.{as_told};
+ghost use Rattle.outcomes.specs.Working.Changes.{AreChanges, changes_of};
+ghost use Rattle.meaning.specs.Working.Undo.{undone};
 ghost use Rattle.outcomes.specs.Working.Reducing.{FindsIfAny};
 
+use crate::changes::{Writes, cells_of, make_changes};
 use crate::layer::Layer;
-use crate::outcome::{Asked, Found, Outcome};
-use crate::state::State;
+use crate::outcome::{Asked, FinalState, Found};
+use crate::state::{Change, State};
 use crate::trail::Trail;
 use core_lang::typed::{Call, Typed};
 use core_lang::value::Value;
 use core_lang::{laws, value};
+use meaning::heap::Heap;
+use meaning::run::End;
 use meaning_registers::prepared::Prepared;
-use meaning_trees::draft::Draft;
-use meaning_trees::heap::Heap;
 use source::keyed::KeyedState;
 use source::memory::NoMemory;
 use std::alloc::{AllocError, Global};
 use std::mem;
 
-/// What is searched.
+/// A search: the program, its limits, and what is asked for.
 pub struct Search<'a> {
     /// The program.
     pub program: &'a Typed,
-    /// The same, prepared for its calls.
+    /// The same program, prepared for its calls.
     pub prepared: &'a Prepared<'a>,
-    /// The most turns that each execution of a loop may make.
+    /// The most turns of each execution of a loop.
     pub turns: u64,
-    /// The most orders of which all are looked at.
+    /// The limit of orders: up to this number all are run, and otherwise this number is drawn.
     pub most: u64,
-    /// What ends are told apart by.
+    /// The parts of a state by which ends are distinguished.
     pub asked: &'a Asked,
-    /// How states are hashed: keyed by the program's text.
+    /// The hasher of states, keyed by the program's text.
     pub hashing: KeyedState,
 }
 
-/// What a search works on: a heap to run calls on, the states of the layer that is made, and the orders that lead to
-/// states.
+/// The working state of a search: a heap to run calls on, the states of the layer that is made, and the orders that lead
+/// to states.
 #[derive(Drop)]
-pub(crate) struct Work {
+pub(crate) struct Work<'a> {
     pub(crate) heap: Heap,
-    pub(crate) next: Layer,
+    // The values that were overwritten between the opening cells and the heap.
+    pub(crate) overwritten: Vec<(usize, Value)>,
+    pub(crate) next: Layer<'a>,
     pub(crate) trail: Trail,
-    // How many calls lead to a state of the layer before.
+    // The number of calls that lead to a state of the layer before.
     pub(crate) depth: usize,
 }
 
-/// Why a search ends early.
+/// The state that a call leaves.
+#[derive(Drop)]
+pub(crate) struct After {
+    /// The changes of the cells.
+    pub(crate) changes: Vec<Change>,
+    /// How the calls ended, by their numbers; empty, if that isn't asked for.
+    pub(crate) answers: Vec<Option<value::Outcome>>,
+}
+
+/// The reason for which a search ends early.
 #[derive(Clone, Copy)]
 pub(crate) enum EarlyEnd {
-    /// There are more orders than are looked at.
+    /// The program has more orders than the limit.
     TooMany,
     /// After the order of this number, the turns don't settle the next call of a thread.
     Beyond { first: usize, thread: usize },
 }
 
-fn same_value(a: Value, b: Value) -> bool
-    ensures { result ≡ true → a ≡ b }
-{
-    a == b
-}
-
-/// Makes a heap hold these values.
-pub(crate) fn set_cells(alloc: Global, heap: &mut Heap, cells: &[Value]) -> Result<(), AllocError>
-    requires { length heap.old ≡ length cells.now }
-    ensures { OnOk result (heap.new ≡ cells.now) }
-{
-    let mut draft = Draft::new(mem::replace(heap, Heap::new(alloc)));
-    for (cell, value) in cells.iter().enumerate() {
-        if !same_value(draft.cells()[cell], *value) {
-            draft.write(cell, *value)?;
-        }
-    }
-    *heap = draft.keep();
-    Ok(())
-}
-
 impl Search<'_> {
-    /// Makes a call on a heap. Answers how it ends, if the turns settle it, and then the heap is what it leaves.
+    /// Runs `call` on `heap`. If the turns settle it, returns how it ends, and the heap is the one that it leaves.
+    ///
+    /// # Errors
+    ///
+    /// Out of memory.
     pub(crate) fn run(
         &self,
         alloc: Global,
         heap: &mut Heap,
         call: &Call,
-    ) -> Result<Option<value::Outcome>, NoMemory>
+    ) -> Result<Option<End>, NoMemory>
         requires search { CanSearch self.now }
         requires heap { HasCells self.now.program.now heap.old }
         requires typed { IsHeap self.now.program.now heap.old }
         requires call { CanCall self.now.program.now call.now.section call.now.arguments.items }
         ensures { IfOk result (Leaves self.now.program.now self.now.turns (invocation call.now) heap.old heap.new) }
     {
-        let run = self
+        let ended = self
             .prepared
             .run_whole(alloc, call.section, &call.arguments, heap, self.turns)?;
-        match run {
-            Some(end) => Ok(Some(end.outcome)),
-            None => Ok(None),
-        }
-    }
-
-    /// Makes a call where the cells hold these values. Answers how it ends, if the turns settle it, and then the heap is what
-    /// it leaves.
-    fn make(
-        &self,
-        alloc: Global,
-        heap: &mut Heap,
-        call: &Call,
-        cells: &[Value],
-    ) -> Result<Option<value::Outcome>, NoMemory>
-        requires search { CanSearch self.now }
-        requires heap { HasCells self.now.program.now heap.old }
-        requires cells { HasCells self.now.program.now cells.now }
-        requires typed { IsHeap self.now.program.now cells.now }
-        requires call { CanCall self.now.program.now call.now.section call.now.arguments.items }
-        ensures { IfOk result (Leaves self.now.program.now self.now.turns (invocation call.now) cells.now heap.new) }
-    {
-        set_cells(alloc, heap, cells)?;
-        self.run(alloc, heap, call)
+        Ok(ended)
     }
 }
 
-impl Work {
-    /// Puts where a call of a thread leads, with these answers, among the states.
-    fn put(
-        &mut self,
-        alloc: Global,
-        from: &State,
-        thread: usize,
-        answers: Vec<Option<value::Outcome>>,
-    ) -> Result<(), NoMemory>
+impl Work<'_> {
+    /// Sets the heap to the cells of `state`.
+    ///
+    /// # Errors
+    ///
+    /// Out of memory.
+    pub(crate) fn visit(&mut self, alloc: Global, state: &State) -> Result<(), AllocError>
+        requires { undone self.old.overwritten.items self.old.heap ≡ self.old.next.opening }
+        ensures { OnOk result (Visits self.old self.new state.now) }
+    {
+        let overwritten = mem::replace(&mut self.overwritten, Vec::new(alloc));
+        self.heap.take_back(alloc, overwritten);
+        self.overwritten = make_changes(alloc, &mut self.heap, &state.changes)?;
+        Ok(())
+    }
+
+    /// The changes of the cells after a run that overwrote `then`.
+    fn changes(&self, alloc: Global, then: &[(usize, Value)]) -> Result<Vec<Change>, AllocError>
+        requires long { length self.now.heap ≡ length self.now.next.opening }
+        requires writes { undone self.now.overwritten.items (undone then.now self.now.heap) ≡ self.now.next.opening }
+        ensures { IfOk result (λ changes. changes.items ≡ changes_of self.now.next.opening self.now.heap) }
+    {
+        let writes = Writes {
+            opening: self.next.opening(),
+            first: &self.overwritten,
+            then,
+        };
+        writes.changes(alloc, self.heap.cells())
+    }
+
+    /// Adds the state after a call of `thread` to the layer that is made.
+    fn put(&mut self, from: &State, thread: usize, after: After) -> Result<(), NoMemory>
         requires thread { thread < length from.now.done.items }
         requires short { slice_index from.now.done.items thread + 1 < 2 ^ 64 }
         requires first { from.now.first < length self.old.trail }
-        requires fit { orders_to self.old.next + from.now.orders < 2 ^ 64 }
-        ensures { OnOk result (Puts self.old self.new from.now thread answers.items) }
+        requires fit { orders_to self.old.next.states + from.now.orders < 2 ^ 64 }
+        requires changes { AreChanges self.old.next.opening after.changes.items }
+        ensures { OnOk result (Puts self.old self.new from.now thread (left_by self.old.next.opening after)) }
     {
+        let After { changes, answers } = after;
         let mut done = from.done.clone()?;
         done[thread] += 1;
-        match self.next.find(&done, self.heap.cells(), &answers) {
+        match self.next.find(&done, &changes, &answers) {
             Some(number) => self.next.add_orders(number, from.orders),
             None => {
                 let first = self.trail.extend(from.first, thread)?;
-                let cells = Vec::from_slice(alloc, self.heap.cells())?;
                 self.next.push(State {
                     done,
-                    cells,
+                    changes,
                     answers,
                     orders: from.orders,
                     first,
@@ -165,7 +165,7 @@ impl Work {
 }
 
 impl Search<'_> {
-    /// The call that a thread makes next, where so many calls of each thread are done.
+    /// The next call of `thread`, after `done` calls of each thread; `None`, if its script has ended.
     pub(crate) fn next(&self, done: &[usize], thread: usize) -> Option<&Call>
         requires search { CanSearch self.now }
         requires thread { thread < length self.now.program.now.threads.items }
@@ -176,7 +176,7 @@ impl Search<'_> {
         self.program.threads[thread].calls.get(done[thread])
     }
 
-    /// Whether so many orders and so many more are looked at.
+    /// Whether `orders` and `more` together are within the limit.
     fn has_room(&self, orders: u64, more: u64) -> bool
         ensures few { MatchBool result (orders + more ≤ self.now.most) (self.now.most < orders + more) }
         ensures fit { IsTrue result → orders + more < 2 ^ 64 }
@@ -188,7 +188,7 @@ impl Search<'_> {
         }
     }
 
-    /// The number of a thread's call among the calls of all threads.
+    /// The number of the call `step` of `thread` among the calls of all threads.
     pub(crate) fn call_number(&self, thread: usize, step: usize) -> usize
         requires search { CanSearch self.now }
         requires thread { thread < length self.now.program.now.threads.items }
@@ -202,24 +202,30 @@ impl Search<'_> {
         before + step
     }
 
-    /// Makes the next call of a thread, if it has one left, and puts where it leads among the states.
+    /// Makes the next call of `thread` from the state `from`, if it has one left, and adds the state after it.
+    ///
+    /// # Errors
+    ///
+    /// Out of memory.
     pub(crate) fn step(
         &self,
         alloc: Global,
-        work: &mut Work,
+        work: &mut Work<'_>,
         from: &State,
         thread: usize,
     ) -> Result<Option<EarlyEnd>, NoMemory>
         requires search { CanSearch self.now }
         requires work { IsAtWork self.now work.old }
         requires from { IsReached self.now work.old from.now }
+        requires there { work.old.heap ≡ (state_in self.now from.now).left.cells }
         requires thread { thread < length self.now.program.now.threads.items }
-        ensures { IfOk result (Steps self.now work.old work.new (made_by self.now from.now thread)) }
+        ensures steps { IfOk result (Steps self.now work.old work.new (made_by self.now from.now thread)) }
+        ensures there { IfOk result (λ stop. IfNone stop (work.new.heap ≡ work.old.heap)) }
     {
         let Some(call) = self.next(&from.done, thread) else {
             return Ok(None);
         };
-        let Some(outcome) = self.make(alloc, &mut work.heap, call, &from.cells)? else {
+        let Some(end) = self.run(alloc, &mut work.heap, call)? else {
             return Ok(Some(EarlyEnd::Beyond {
                 first: from.first,
                 thread,
@@ -228,9 +234,16 @@ impl Search<'_> {
         if !self.has_room(work.next.orders(), from.orders) {
             return Ok(Some(EarlyEnd::TooMany));
         }
+        let changes = work.changes(alloc, &end.overwritten)?;
+        let End {
+            outcome,
+            overwritten,
+            ..
+        } = end;
+        work.heap.take_back(alloc, overwritten);
         let number = self.call_number(thread, from.done[thread]);
         let answers = answered(alloc, &from.answers, number, outcome)?;
-        work.put(alloc, from, thread, answers)?;
+        work.put(from, thread, After { changes, answers })?;
         Ok(None)
     }
 
@@ -238,7 +251,7 @@ impl Search<'_> {
     fn expand(
         &self,
         alloc: Global,
-        work: &mut Work,
+        work: &mut Work<'_>,
         from: &State,
     ) -> Result<Option<EarlyEnd>, NoMemory>
         requires search { CanSearch self.now }
@@ -246,6 +259,7 @@ impl Search<'_> {
         requires from { IsReached self.now work.old from.now }
         ensures { IfOk result (Steps self.now work.old work.new (made_from self.now from.now)) }
     {
+        work.visit(alloc, from)?;
         for thread in 0..self.program.threads.len() {
             if let Some(stop) = self.step(alloc, work, from, thread)? {
                 return Ok(Some(stop));
@@ -258,13 +272,14 @@ impl Search<'_> {
     fn expand_all(
         &self,
         alloc: Global,
-        work: &mut Work,
-        layer: &Layer,
+        work: &mut Work<'_>,
+        layer: &Layer<'_>,
     ) -> Result<Option<EarlyEnd>, NoMemory>
         requires search { CanSearch self.now }
         requires work { IsAtWork self.now work.old }
-        requires layer { AreReached self.now work.old layer.now }
-        ensures { IfOk result (Steps self.now work.old work.new (made_from_all self.now layer.now)) }
+        requires opening { layer.now.opening ≡ opening_heap self.now.program.now }
+        requires layer { AreReached self.now work.old layer.now.states }
+        ensures { IfOk result (Steps self.now work.old work.new (made_from_all self.now layer.now.states)) }
     {
         for number in 0..layer.len() {
             if let Some(stop) = self.expand(alloc, work, layer.get(number))? {
@@ -275,7 +290,7 @@ impl Search<'_> {
     }
 }
 
-/// Whether these are all the same.
+/// Whether all groups are equal.
 fn are_one(groups: &[usize]) -> bool {
     match groups.first() {
         Some(first) => groups.iter().all(|group| group == first),
@@ -283,7 +298,11 @@ fn are_one(groups: &[usize]) -> bool {
     }
 }
 
-/// These answers with one in its place; none, where they have no place for it.
+/// The outcomes with that of call `number`; unchanged, if they have no place for it.
+///
+/// # Errors
+///
+/// Out of memory.
 pub(crate) fn answered(
     alloc: Global,
     answers: &[Option<value::Outcome>],
@@ -299,16 +318,24 @@ pub(crate) fn answered(
     Ok(after)
 }
 
-/// The states as they are told.
-pub(crate) fn told(alloc: Global, layer: &Layer, trail: &Trail) -> Result<Vec<Outcome>, NoMemory>
-    requires { FirstsAre trail.now layer.now }
-    ensures { IfOk result (λ ends. map told_of ends.items ≡ map (as_told trail.now) layer.now) }
+/// The states of `layer` as ends, with the orders of `trail`.
+///
+/// # Errors
+///
+/// Out of memory.
+pub(crate) fn told(
+    alloc: Global,
+    layer: &Layer<'_>,
+    trail: &Trail,
+) -> Result<Vec<FinalState>, NoMemory>
+    requires { FirstsAre trail.now layer.now.states }
+    ensures { IfOk result (λ ends. map told_of ends.items ≡ map (as_told trail.now) layer.now.states) }
 {
     let mut ends = Vec::new(alloc);
     for number in 0..layer.len() {
         let state = layer.get(number);
-        ends.push(Outcome {
-            cells: Vec::from_slice(alloc, &state.cells)?,
+        ends.push(FinalState {
+            cells: cells_of(alloc, layer.opening(), &state.changes)?,
             answers: Vec::from_slice(alloc, &state.answers)?,
             count: state.orders,
             order: trail.order(alloc, state.first)?,
@@ -318,7 +345,7 @@ pub(crate) fn told(alloc: Global, layer: &Layer, trail: &Trail) -> Result<Vec<Ou
 }
 
 impl Search<'_> {
-    /// How many calls there are.
+    /// The number of calls of all threads.
     pub(crate) fn calls(&self) -> usize
         requires { CanSearch self.now }
         ensures { result ≡ calls_together self.now.program.now.threads.items }
@@ -330,7 +357,11 @@ impl Search<'_> {
         count
     }
 
-    /// The answers before the first call.
+    /// The outcomes before the first call.
+    ///
+    /// # Errors
+    ///
+    /// Out of memory.
     pub(crate) fn no_answers(
         &self,
         alloc: Global,
@@ -344,16 +375,25 @@ impl Search<'_> {
         Ok(Vec::new(alloc))
     }
 
-    /// The state where no call is done.
-    pub(crate) fn opening(&self, alloc: Global, heap: &Heap) -> Result<Layer, NoMemory>
+    /// The layer of the state in which no call is done.
+    ///
+    /// # Errors
+    ///
+    /// Out of memory.
+    pub(crate) fn opening<'a>(
+        &self,
+        alloc: Global,
+        opening: &'a [Value],
+    ) -> Result<Layer<'a>, NoMemory>
         requires search { CanSearch self.now }
-        requires heap { heap.now ≡ opening_heap self.now.program.now }
-        ensures { IfOk result (λ layer. layer ≡ opening_state self.now ∷ []) }
+        requires opening { opening.now ≡ opening_heap self.now.program.now }
+        ensures states { IfOk result (λ layer. layer.states ≡ opening_state self.now ∷ []) }
+        ensures opening { IfOk result (λ layer. layer.opening ≡ opening.now) }
     {
-        let mut layer = Layer::new(alloc, self.hashing);
+        let mut layer = Layer::new(alloc, self.hashing, opening);
         layer.push(State {
             done: vec![in alloc; 0; self.program.threads.len()]?,
-            cells: Vec::from_slice(alloc, heap.cells())?,
+            changes: Vec::new(alloc),
             answers: self.no_answers(alloc)?,
             orders: 1,
             first: 0,
@@ -361,7 +401,7 @@ impl Search<'_> {
         Ok(layer)
     }
 
-    /// How the cells can end, over all orders, if there are at most as many as are looked at.
+    /// The ends of all orders, or an unsettled call. `None` means that the program has more orders than the limit.
     fn all(&self, alloc: Global) -> Result<Option<Found>, NoMemory>
         requires { CanSearch self.now }
         ensures { IfOk result (FindsOrHasMore self.now) }
@@ -370,10 +410,12 @@ impl Search<'_> {
         laws::settled_are_serial();
         laws::at_most_one_serial();
         let heap = Heap::open(alloc, self.program)?;
-        let mut layer = self.opening(alloc, &heap)?;
+        let opening = Vec::from_slice(alloc, heap.cells())?;
+        let mut layer = self.opening(alloc, &opening)?;
         let mut work = Work {
             heap,
-            next: Layer::new(alloc, self.hashing),
+            overwritten: Vec::new(alloc),
+            next: Layer::new(alloc, self.hashing, &opening),
             trail: Trail::new(alloc),
             depth: 0,
         };
@@ -388,9 +430,9 @@ impl Search<'_> {
                     return Ok(Some(Found::Unsettled { order, thread }));
                 }
             }
-            layer = mem::replace(&mut work.next, Layer::new(alloc, self.hashing));
+            layer = mem::replace(&mut work.next, Layer::new(alloc, self.hashing, &opening));
         }
-        let ends = self.ends_of(alloc, &layer, &work.trail)?;
+        let ends = self.ends_of(alloc, &mut work, &layer)?;
         let configurations = work.trail.len();
         Ok(Some(Found::All {
             ends,
@@ -398,26 +440,31 @@ impl Search<'_> {
         }))
     }
 
-    /// The same by orders that stand for all, where some calls commute.
+    /// The ends of all orders, found by orders that stand for all, or an unsettled call. `None` means that these are more
+    /// than the limit.
     ///
-    /// Where all threads are in one group, these are the orders that there are too many of.
+    /// If all threads are in one group, these are all orders, which are more than the limit.
     fn by_groups(&self, alloc: Global) -> Result<Option<Found>, NoMemory>
         requires { CanSearch self.now }
         ensures { IfOk result (FindsIfAny self.now) }
     {
-        let groups = independence::groups::groups(alloc, self.program, self.prepared.written())?;
+        let groups = crate::groups::groups(alloc, self.program, self.prepared.written())?;
         if are_one(&groups) {
             return Ok(None);
         }
         self.reduced(alloc, &groups)
     }
 
-    /// How the cells can end, over all orders, if they, or some that stand for them, are at most as many as are looked at;
-    /// else over so many that are drawn, from the seed. Which are drawn no clause says.
+    /// The ends of all orders, if all of them, or some that stand for all, are within the limit. Otherwise the ends of
+    /// orders that are drawn from `seed`, as many as the limit. No clause says which are drawn.
+    ///
+    /// Each end is reported once, with one order that leads to it and, if all orders were run, the number of orders that
+    /// do. If some orders stand for all, each end is reported with one of them. A call that the turns don't settle is
+    /// reported with an order after which it is the next one.
     ///
     /// # Errors
     ///
-    /// Want of memory.
+    /// Out of memory.
     pub fn ends(&self, alloc: Global, seed: u64) -> Result<Found, NoMemory>
         requires { CanSearch self.now }
         ensures { IfOk result (Finds self.now.program.now self.now.turns self.now.most self.now.asked.now) }

@@ -1,18 +1,28 @@
-//! How far a program's calls may have come.
+//! The states between the calls of a program.
 
 use core_lang::value;
 use core_lang::value::Value;
 
-/// How far the calls may have come: how many of each thread's are done, what the cells hold then, and how they ended.
+/// A cell whose value differs from its opening value.
+#[derive(Clone, Copy, PartialEq, Eq)]
+pub struct Change {
+    /// The cell's number.
+    pub cell: usize,
+    /// Its value.
+    pub value: Value,
+}
+
+/// A state between calls: the number of each thread's calls that are done, the values of the cells, and how the calls
+/// ended.
 #[derive(Drop)]
 pub struct State {
-    /// How many of each thread's calls are done.
+    /// The number of each thread's calls that are done.
     pub done: Vec<usize>,
-    /// What the cells hold.
-    pub cells: Vec<Value>,
-    /// How the calls ended, by their numbers, of those that are done; nothing, where that isn't asked.
+    /// The cells whose values differ from the opening values, in order.
+    pub changes: Vec<Change>,
+    /// How the calls ended that are done, by their numbers; empty, if that isn't asked for.
     pub answers: Vec<Option<value::Outcome>>,
-    /// How many orders lead here.
+    /// The number of orders that lead here.
     pub orders: u64,
     /// The number of one of them.
     pub first: usize,

@@ -1,4 +1,4 @@
-//! Orders that share their beginnings.
+//! A tree of orders, which share their prefixes.
 
 ghost use Rattle.std.specs.Prelude.{◌≡◌, ◌<◌, [], ◌∷◌, ◌++◌, length, slice_index_or, IfOk, OnOk, OnErr};
 ghost use Rattle.outcomes.specs.Working.Trails.{longer, IsBegun, IsLonger};
@@ -6,20 +6,20 @@ ghost use Rattle.outcomes.specs.Working.Trails.{longer, IsBegun, IsLonger};
 use std::alloc::{AllocError, Global};
 use std::marker::Model;
 
-/// An order that is another one with a thread behind it.
+/// An order that is another one followed by a thread.
 #[derive(Drop)]
-pub(crate) struct Step {
-    /// The number of the other one.
+pub(crate) struct TrailEdge {
+    /// The number of the other order.
     pub(crate) before: usize,
     /// The thread.
     pub(crate) thread: usize,
 }
 
-/// Orders, by their numbers. Each but the first, which is empty, is one of those before it with a thread behind it. As a
-/// value it is the list of them.
+/// Numbered orders. The first is empty, and each later one is an earlier one followed by a thread. Its value is the list
+/// of the orders.
 #[derive(Drop)]
 pub struct Trail {
-    steps: Vec<Step>,
+    steps: Vec<TrailEdge>,
 }
 
 impl Model for Trail {
@@ -34,7 +34,7 @@ impl Model for Trail {
 }
 
 impl Trail {
-    /// The empty order alone.
+    /// The trail with only the empty order.
     pub fn new(alloc: Global) -> Trail
         ensures { result ≡ [] ∷ [] }
     {
@@ -43,36 +43,36 @@ impl Trail {
         }
     }
 
-    /// How many orders there are.
+    /// The number of orders.
     pub fn len(&self) -> usize
         ensures { result ≡ length self.now }
     {
         self.steps.len() + 1
     }
 
-    /// Adds the order of this number with a thread behind it, and answers its number.
+    /// Adds the order `order` followed by `thread`, and returns its number.
     ///
     /// # Errors
     ///
-    /// Want of memory; nothing is added.
+    /// Out of memory. The trail is then unchanged.
     pub fn extend(&mut self, order: usize, thread: usize) -> Result<usize, AllocError>
         requires { order < length self.old }
         ensures ok { IfOk result (λ _. self.new ≡ self.old ++ longer self.old order thread ∷ []) }
         ensures number { IfOk result (λ number. number ≡ length self.old) }
         ensures err { OnErr result (self.new ≡ self.old) }
     {
-        self.steps.push(Step {
+        self.steps.push(TrailEdge {
             before: order,
             thread,
         })?;
         Ok(self.steps.len())
     }
 
-    /// Adds an order, and answers its number.
+    /// Adds `order` with its prefixes, and returns its number.
     ///
     /// # Errors
     ///
-    /// Want of memory; then some of its beginnings may be there.
+    /// Out of memory. Some prefixes of `order` may have been added.
     pub fn add(&mut self, order: &[usize]) -> Result<usize, AllocError>
         requires { IsBegun self.old }
         ensures longer { OnOk result (IsLonger self.old self.new) }
@@ -86,11 +86,11 @@ impl Trail {
         Ok(number)
     }
 
-    /// The order of this number.
+    /// The order `number`.
     ///
     /// # Errors
     ///
-    /// Want of memory.
+    /// Out of memory.
     pub fn order(&self, alloc: Global, number: usize) -> Result<Vec<usize>, AllocError>
         requires { number < length self.now }
         ensures { IfOk result (λ order. order.items ≡ slice_index_or self.now number []) }

@@ -1,3 +1,3 @@
 pub mod Painted
--- what the public clauses cite
+-- the definitions that public clauses cite
 pub use Rattle.painting.specs.Painted.{painted}

@@ -1,6 +1,6 @@
-//! Colours of the text that explains a fault, for a terminal that knows the escape sequences of ECMA-48.
+//! Terminal colours for the text that explains a fault, as escape sequences of ECMA-48.
 //!
-//! - [`painted`]: that text in colours. `specs/Painted.antt` says by which words and lines they come.
+//! - [`painted`]: the text in colours. `specs/Painted.antt` defines the colour of each word and line.
 #![tactic(auto)]
 
 mod lines;

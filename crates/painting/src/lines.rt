@@ -1,4 +1,4 @@
-//! Lines.
+//! Writes lines in colours.
 
 ghost use Rattle.std.specs.Prelude.{◌≡◌, ◌==◌, ◌++◌, IfOk, OnOk, map, string_bytes};
 ghost use Rattle.std.specs.List.{flat_map, slice_split};
@@ -17,7 +17,7 @@ fn is_source(line: &str) -> bool
     }
 }
 
-/// Puts what stands behind the first word of a line behind.
+/// Appends what follows the first word of a line.
 fn push_words(out: &mut String, text: &str) -> Result<(), AllocError>
     ensures { OnOk result (string_bytes out.new ≡ string_bytes out.old ++ painted_words text.now) }
 {
@@ -31,7 +31,7 @@ fn push_words(out: &mut String, text: &str) -> Result<(), AllocError>
     }
 }
 
-/// Puts a line that tells something behind.
+/// Appends a line that is not of the source.
 fn push_told(out: &mut String, line: &str) -> Result<(), AllocError>
     ensures { OnOk result (string_bytes out.new ≡ string_bytes out.old ++ painted_told line.now) }
 {
@@ -45,7 +45,7 @@ fn push_told(out: &mut String, line: &str) -> Result<(), AllocError>
     }
 }
 
-/// Puts a line behind.
+/// Appends a line.
 fn push_line(out: &mut String, line: &str) -> Result<(), AllocError>
     ensures { OnOk result (string_bytes out.new ≡ string_bytes out.old ++ painted_line line.now) }
 {
@@ -55,7 +55,7 @@ fn push_line(out: &mut String, line: &str) -> Result<(), AllocError>
     push_told(out, line)
 }
 
-/// Puts further lines behind, a line feed before each.
+/// Appends further lines, with a line feed before each.
 fn push_others(out: &mut String, lines: &[&str]) -> Result<(), AllocError>
     ensures { OnOk result (string_bytes out.new
         ≡ string_bytes out.old ++ flat_map behind_line_feed (map (λ line. line.now) lines.now)) }
@@ -74,12 +74,12 @@ fn split<'t>(alloc: Global, text: &'t str) -> Result<Vec<&'t str>, AllocError>
     text.split('\n').collect(alloc)
 }
 
-/// The text that explains a fault, in colours: places in bold type, codes and carets in red, warnings in yellow, notes and
-/// remedies in cyan. All other bytes are as they were.
+/// The text that explains a fault, in colours: places in bold type, codes and carets in red, warnings in yellow, notes
+/// and remedies in cyan. All other bytes stay.
 ///
 /// # Errors
 ///
-/// Want of memory.
+/// Out of memory.
 pub fn painted(alloc: Global, text: &str) -> Result<String, AllocError>
     ensures { IfOk result (λ out. string_bytes out ≡ painted text.now) }
 {

@@ -1,4 +1,4 @@
-//! How words stand out.
+//! The styles of words.
 
 ghost use Rattle.std.specs.Prelude.{◌≡◌, ◌==◌, ◌||◌, ◌++◌, OnOk, string_bytes};
 ghost use Rattle.std.specs.List.{list_all};
@@ -6,23 +6,23 @@ ghost use Rattle.painting.specs.Painted.{begin, end, is_code, is_space, style_of
 
 use std::alloc::AllocError;
 
-/// How a text stands out.
+/// The style of a text.
 #[derive(Clone, Copy, PartialEq, Eq, Debug)]
 pub enum Style {
-    /// Not at all.
+    /// No style.
     Plain,
-    /// Where it is.
+    /// The style of a place.
     Bold,
-    /// What is wrong.
+    /// The style of a fault's code and of carets.
     Red,
-    /// What may be.
+    /// The style of a warning.
     Yellow,
-    /// What is told besides.
+    /// The style of notes and remedies.
     Cyan,
 }
 
 impl Style {
-    /// What comes before a text in this style.
+    /// The escape sequence before a text in this style.
     fn begin(self) -> &'static str
         ensures { result.now ≡ begin self }
     {
@@ -35,7 +35,7 @@ impl Style {
         }
     }
 
-    /// What comes behind one.
+    /// The escape sequence after a text in this style.
     fn end(self) -> &'static str
         ensures { result.now ≡ end self }
     {
@@ -45,7 +45,7 @@ impl Style {
         }
     }
 
-    /// Puts a text in this style behind. The one error is a refused growth.
+    /// Appends a text in this style. The only error is a failed allocation.
     pub fn push(self, out: &mut String, text: &str) -> Result<(), AllocError>
         ensures { OnOk result (string_bytes out.new ≡ string_bytes out.old ++ styled self text.now) }
     {
@@ -54,7 +54,7 @@ impl Style {
         out.push_str(self.end())
     }
 
-    /// The style of the word that a line starts with.
+    /// The style of the first word of a line.
     pub fn of_start(word: &str) -> Style
         ensures { result ≡ style_of_start word.now }
     {
@@ -65,7 +65,7 @@ impl Style {
         }
     }
 
-    /// The style of the word behind a place.
+    /// The style of the word after a place.
     pub fn of_word(word: &str) -> Style
         ensures { result ≡ style_of_word word.now }
     {
@@ -79,7 +79,7 @@ impl Style {
         }
     }
 
-    /// The style of a line of the source: a line of carets stands out.
+    /// The style of a line of the source: a line of carets has one.
     pub fn of_source(line: &str) -> Style
         ensures { result ≡ style_of_source line.now }
     {
@@ -90,7 +90,7 @@ impl Style {
     }
 }
 
-/// Whether it is E and two digits.
+/// Whether the word is E and two digits.
 fn is_code(word: &str) -> bool
     ensures { result ≡ is_code word.now }
 {
@@ -100,7 +100,7 @@ fn is_code(word: &str) -> bool
     }
 }
 
-/// Whether it is spaces and carets.
+/// Whether the line is spaces and carets.
 fn is_marks(line: &[u8]) -> bool
     ensures { result ≡ list_all (λ byte. is_space byte || (byte == 94)) line.now }
 {

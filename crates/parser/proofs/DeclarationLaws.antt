@@ -34,9 +34,9 @@ use Rattle.parser.specs.Theory.PartLaws.{IsParams, is_params, one_is, no_name, z
 use Rattle.parser.specs.Theory.PartLaws.{type_part, after_part, index_part, const_part, maybe_protection_part}
 use Rattle.parser.specs.Theory.PartLaws.{params_part}
 
--- ---- what the parts of each production make
+-- ---- each production, by its parts
 
--- what stands behind the type and the name of a global
+-- what follows the type and the name of a global
 pub data IsGlobalRest (t : ValueType) (x : Ident) : Decl → List Tok → List Tok → Type 0 where
   is_global_rest : {d : Decl} {ts2 rest : List Tok} →
       ((start : Span) (ts : List Tok) → IsType t ts (name_tok x ∷ ts2) →
@@ -50,7 +50,7 @@ variable_is : {t : ValueType} {x : Ident} {y : Decl} {ts rest : List Tok} →
     Both (IsOptional IsProtection) (λ p. Both (IsOptional (IsAfter Equals IsConst)) (λ v. Both (IsTok (mark Semicolon)) (λ s. Done (global (record { name = x; value_type = t; protection = p; value = v }))))) y ts rest → IsGlobalRest t x y ts rest
 variable_is (both p (both v (both is_tok done))) = is_global_rest (λ start ts t. is_global (is_variable t p v))
 
--- a global behind its first word
+-- a global after its first word
 pub data IsGlobal (d : Decl) (ts rest : List Tok) : Type 0 where
   is_any_global : ((start : Span) → IsDecl d (tok (word keyword.Global) start ∷ ts) rest) → IsGlobal d ts rest
 
@@ -113,7 +113,7 @@ thread_is : {y : tree.Thread} {ts rest : List Tok} →
     Both IsName (λ x. Both (IsTok (mark OpenBrace)) (λ b. Both IsItems (λ is. Both (IsTok (mark CloseBrace)) (λ c. Done (record { name = x; items = is }))))) y ts rest → IsThread y ts rest
 thread_is (both is_name (both is_tok (both is (both is_tok done)))) = is_thread is
 
--- a lock behind its first word
+-- a lock after its first word
 pub data IsLock (x : Ident) : List Tok → List Tok → Type 0 where
   is_lock_name : {semicolon : Span} {rest : List Tok} →
       IsLock x (name_tok x ∷ tok (mark Semicolon) semicolon ∷ rest) rest

@@ -1,4 +1,4 @@
--- Parts of declarations that were read one after another, put together.
+-- Parts of declarations that were read one after another, joined.
 use Rattle.std.proofs.Common.{◌≡◌, ℕ, zero, suc, ◌-◌, ◌<◌, List, refl, arith, sub-one, Option, Ok}
 use Rattle.source.specs.declared.span.Span.{Span}
 use Rattle.source.specs.Tokens.{Tok, mark}
@@ -17,7 +17,7 @@ use Rattle.parser.specs.Working.Statements.{braced_at}
 use Rattle.parser.specs.Working.Rests.{pool_decl, init_decl}
 use Rattle.syntax.specs.Trees as tree
 
--- ---- behind an opening sign, where one may be opened
+-- ---- after an opening sign, if one may be opened
 
 pub consts_in_some : (room : ℕ) → 0 < room → consts_in room ≡ listed_at (const_at (room - 1))
 unfolding consts_in

@@ -1,4 +1,4 @@
--- The least place of a fault of returns.
+-- The least byte of a fault of returns.
 use Rattle.std.proofs.Common.{◌≡◌, Global, ℕ, suc, ◌-◌, ◌<◌, ◌≤◌, Bool, true, false, List, [], ◌∷◌, length, take}
 use Rattle.std.proofs.Common.{Option, Some, None, refl, sym, ap, ◌∙◌, subst, arith, get_or, min, inl, inr}
 use Rattle.std.specs.Prelude.{Box, ◌⊎◌}
@@ -59,7 +59,7 @@ pub inner_if : (s : the_stmt.Stmt) (b : Box the_if.If Global) → s ≡ If b →
     ≡ earlier (least_return (stmts_of (out-If b.value).block.stmts.items)) (other_return (else_of (out-If b.value).otherwise))
 inner_if s b e = ap (λ (s : the_stmt.Stmt). inner_return (stmt_of s)) e ∙ ap inner_return (if_of-out b.value)
 
--- a statement that is no `return`
+-- a statement that is not a `return`
 abbrev IsOther : the_stmt.Stmt → Type 0
 IsOther s = (at : Span) (e : the_expr.Expr) → s ≡ Return at e → ⊥
 
@@ -156,7 +156,7 @@ here_returns : {s : Stmt} {more : Stmts} (n : ℕ) → IsHere s n → HasReturn 
 here_returns n (inl h) = this_returns h
 here_returns n (inr h) = returns_inside h
 
--- behind `else`
+-- after `else`
 data HasElse : Otherwise → ℕ → Type 0 where
   else_returns : {ss : Stmts} {close : Span} {n : ℕ} → HasReturn ss n → HasElse (else_do ss close) n
 

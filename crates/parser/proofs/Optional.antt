@@ -1,4 +1,4 @@
--- A part behind a sign, or nothing.
+-- A part after a sign, or nothing.
 use Rattle.std.proofs.Common.{◌≡◌, Bool, true, false, cond, List, [], ◌∷◌, Option, Some, None, Result, Ok, Err, refl}
 use Rattle.std.proofs.Common.{sym, ap, ◌∙◌, subst}
 use Rattle.source.specs.declared.token.Sign.{Sign}

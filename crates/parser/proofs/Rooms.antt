@@ -1,4 +1,4 @@
--- Readers of what stands behind an opening sign, where one may be opened.
+-- Readers of what follows an opening sign, if one may be opened.
 use Rattle.std.proofs.Common.{◌≡◌, ℕ, zero, suc, ◌-◌, ◌<◌, List, refl, arith, sub-one}
 use Rattle.source.specs.declared.span.Span.{Span}
 use Rattle.source.specs.Tokens.{Tok}

@@ -1,4 +1,4 @@
--- What has a tree is read, unless a sign is too deep: declarations and programs.
+-- Tokens that have a tree are read, unless a sign is too deep: declarations and programs.
 use Rattle.std.proofs.Common.{◌≡◌, ℕ, zero, suc, List, [], ◌∷◌, length, Option, Ok, refl, sym, subst}
 use Rattle.source.specs.declared.span.Span.{Span}
 use Rattle.source.specs.declared.token.Keyword.TheVariants as keyword

@@ -1,4 +1,4 @@
--- Statements whose parts were read one after another, put together.
+-- Statements whose parts were read one after another, joined.
 use Rattle.std.proofs.Common.{◌≡◌, ℕ, zero, suc, ◌-◌, ◌<◌, List, refl, arith, sub-one, Ok}
 use Rattle.source.specs.declared.span.Span.{Span}
 use Rattle.source.specs.Tokens.{Tok}

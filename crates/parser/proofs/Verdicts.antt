@@ -1,10 +1,10 @@
--- What reading says of a program and of its returns.
+-- The result of reading, as a fact about a program and its returns.
 use Rattle.std.proofs.Common.{◌≡◌, ℕ, zero, suc, ◌-◌, List, [], ◌∷◌, length, drop, Some, None, Ok, Err, refl, sym, ap}
 use Rattle.std.proofs.Common.{◌∙◌, subst, arith}
 use Rattle.source.specs.declared.fault.Code.TheVariants.{UnexpectedToken, NestedTooDeep, MisplacedReturn}
 use Rattle.source.specs.Tokens.{Tok}
 use Rattle.syntax.specs.Trees.{Decl}
-use Rattle.syntax.specs.Grammar.{LIMIT, HasTree}
+use Rattle.syntax.specs.Grammar.{NESTING_LIMIT, HasTree}
 use Rattle.syntax.specs.Returns.{ReturnsRight, IsFirstReturnFault}
 use Rattle.syntax.specs.Faults.{HasRightTree, IsMisplaced, IsFault, unended, unexpected, too_deep, misplaced}
 use Rattle.parser.specs.declared.stop.Stop.{Stop}
@@ -18,12 +18,12 @@ drop_all : (ts : List Tok) → drop (length ts) ts ≡ []
 drop_all [] = refl
 drop_all (t ∷ ts) = drop_all ts
 
--- behind all tokens there is none
+-- after all tokens there is none
 no_place : (ts : List Tok) → first_start (drop (length ts - 0) ts) ≡ 0
 no_place ts = ap (λ (us : List Tok). first_start us) (ap (λ n. drop n ts) (omega arith) ∙ drop_all ts)
 
 module _ (ts : List Tok) where
-  module _ (ds : List Decl) (read : program_at LIMIT ts ≡ Ok ds) where
+  module _ (ds : List Decl) (read : program_at NESTING_LIMIT ts ≡ Ok ds) where
     pub right_tree : least_fault ds ≡ None → HasRightTree ts ds
     right_tree e = (program_is ts ds read, returns_right ds e)
 
@@ -49,18 +49,18 @@ module _ (ts : List Tok) where
       pub same_misplaced : (start : ℕ) → IsMisplaced ts start → n ≡ start
       same_misplaced start m = same_first ds n start fault (first_of start m)
 
-  module _ (e : Stop) (read : program_at LIMIT ts ≡ Err e) where
+  module _ (e : Stop) (read : program_at NESTING_LIMIT ts ≡ Err e) where
     pub not_read : (es : List Decl) → HasRightTree ts es → ⊥
     not_read es h = no_answer ts es e h.0 read
 
     pub never_misplaced : (start : ℕ) → IsMisplaced ts start → ⊥
     never_misplaced start m = no_answer ts m.tree e m.has_tree read
 
-  pub is_unexpected : (left : ℕ) → program_at LIMIT ts ≡ Err (Unexpected left) →
+  pub is_unexpected : (left : ℕ) → program_at NESTING_LIMIT ts ≡ Err (Unexpected left) →
       IsFault ts UnexpectedToken (first_start (drop (length ts - left) ts))
   is_unexpected zero e = subst (IsFault ts UnexpectedToken) (sym (no_place ts)) (unended (no_end_at ts e))
   is_unexpected (suc n) e = unexpected (unexpected_at ts n e)
 
-  pub is_too_deep : (left : ℕ) → program_at LIMIT ts ≡ Err (TooDeep left) →
+  pub is_too_deep : (left : ℕ) → program_at NESTING_LIMIT ts ≡ Err (TooDeep left) →
       IsFault ts NestedTooDeep (first_start (drop (length ts - left) ts))
   is_too_deep left e = too_deep (too_deep_at ts left e)

@@ -1,6 +1,6 @@
 pub mod Working
 pub mod Theory
--- what public clauses cite
+-- the definitions that public clauses cite
 pub use Rattle.source.specs.Faults.{IsFaultAt, IsGiven}
 pub use Rattle.source.specs.Tokens.{Tok, seen, word, mark, end}
 pub use Rattle.syntax.specs.Trees.{Decl}

@@ -1,5 +1,5 @@
--- The law of readers, and that what has a tree is read: of single tokens, lists and small parts. Nobody has to believe these
--- files: they are checked, and stand here for proofs of this crate and of the crates above.
+-- The law of readers, and that tokens with a tree are read: single tokens, lists and small parts. Nobody has to believe
+-- these files: they are checked, and are here for proofs of this crate and of the crates above.
 pub mod First
 pub mod Readers
 pub mod Ended

@@ -16,7 +16,7 @@ use source::token::{Sign, Token};
 use std::alloc::Global;
 use syntax::tree::{Expr, HelperCall, Stmt};
 
-/// Expressions with commas between them, up to a closing parenthesis.
+/// Parses expressions with commas between them, up to a closing parenthesis.
 fn arguments(alloc: Global, tokens: &[Token], room: u32) -> Result<(Vec<Expr>, &[Token]), Stop>
     ensures { Gives (λ x. (map expr_of x.0.items, seen x.1.now)) result (listed_at (expr_at room) (seen tokens.now)) }
 {
@@ -34,7 +34,7 @@ fn arguments(alloc: Global, tokens: &[Token], room: u32) -> Result<(Vec<Expr>, &
     Ok((arguments, rest))
 }
 
-/// A call of a helper, behind the word `call`, up to the closing parenthesis.
+/// Parses a call of a helper, after the word `call`, up to the closing parenthesis.
 pub fn helper_call(
     alloc: Global,
     tokens: &[Token],
@@ -48,7 +48,7 @@ pub fn helper_call(
     Ok((HelperCall { helper, arguments }, rest))
 }
 
-/// The statement of a call, behind its first word, which stands at `start`.
+/// Parses the statement of a call, after its first word, which is at `start`.
 pub fn call_rest(
     alloc: Global,
     start: Span,

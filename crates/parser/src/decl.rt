@@ -20,7 +20,7 @@ use source::token::{Keyword, Sign, Token};
 use std::alloc::Global;
 use syntax::tree::{Array, Decl, Init, Name, Pool, Section, Tree, ValueType, Variable};
 
-/// A global that is an array, behind its type and name.
+/// Parses a global that is an array, after its type and name.
 fn array(
     alloc: Global,
     value_type: ValueType,
@@ -41,7 +41,7 @@ fn array(
     Ok((Decl::Array(array), rest))
 }
 
-/// A global that is no array, behind its type and name.
+/// Parses a global that is not an array, after its type and name.
 fn variable(
     alloc: Global,
     value_type: ValueType,
@@ -62,7 +62,7 @@ fn variable(
     Ok((Decl::Global(variable), rest))
 }
 
-/// A global, behind its first word.
+/// Parses a global, after its first word.
 #[tactic(auto, unfolding(crate::specs::Working::Declarations::global_at, crate::specs::Working::Reading::choose))]
 fn global(alloc: Global, tokens: &[Token], room: u32) -> Result<(Decl, &[Token]), Stop>
     ensures { Gives (λ x. (decl_of x.0, seen x.1.now)) result (global_at room (seen tokens.now)) }
@@ -75,7 +75,7 @@ fn global(alloc: Global, tokens: &[Token], room: u32) -> Result<(Decl, &[Token])
     variable(alloc, value_type, name, rest, room)
 }
 
-/// A pool, behind its first word.
+/// Parses a pool, after its first word.
 fn pool(alloc: Global, tokens: &[Token], room: u32) -> Result<(Decl, &[Token]), Stop>
     ensures { Gives (λ x. (decl_of x.0, seen x.1.now)) result (pool_decl room (seen tokens.now)) }
 {
@@ -90,7 +90,7 @@ fn pool(alloc: Global, tokens: &[Token], room: u32) -> Result<(Decl, &[Token]), 
     Ok((Decl::Pool(pool), rest))
 }
 
-/// An opening value of a member's field, behind the word `init`, which stands at `start`.
+/// Parses the initial value of a member's field, after the word `init`, which is at `start`.
 fn init(alloc: Global, start: Span, tokens: &[Token], room: u32) -> Result<(Decl, &[Token]), Stop>
     ensures { Gives (λ x. (decl_of x.0, seen x.1.now)) result (init_decl room start (seen tokens.now)) }
 {
@@ -108,7 +108,7 @@ fn init(alloc: Global, start: Span, tokens: &[Token], room: u32) -> Result<(Decl
     Ok((Decl::Init(init), rest))
 }
 
-/// A section or a helper, behind its first word.
+/// Parses a section or a helper, after its first word.
 fn section(alloc: Global, tokens: &[Token], room: u32) -> Result<(Section, &[Token]), Stop>
     ensures { Gives (λ x. (section_of x.0, seen x.1.now)) result (section_at room (seen tokens.now)) }
 {
@@ -173,7 +173,7 @@ fn decls(alloc: Global, tokens: &[Token], room: u32) -> Result<(Vec<Decl>, &[Tok
     Ok((decls, rest))
 }
 
-/// How tables of the names of these tokens hash them.
+/// The hash builder for tables of the names of these tokens.
 fn hashing_of(tokens: &[Token]) -> KeyedState {
     let mut digest = Digest::new();
     for token in tokens {
@@ -184,7 +184,7 @@ fn hashing_of(tokens: &[Token]) -> KeyedState {
     digest.into_keys()
 }
 
-/// A program, with at most `room` signs open at a time.
+/// Parses a program, with at most `room` signs open at a time.
 #[tactic(auto, unfolding(crate::specs::Working::Declarations::program_at))]
 pub fn program(alloc: Global, tokens: &[Token], room: u32) -> Result<Tree, Stop>
     ensures { Gives tree_of result (program_at room (seen tokens.now)) }

@@ -40,7 +40,7 @@ fn operator(level: Level, tokens: &[Token]) -> Option<(Operator, &[Token])>
     None
 }
 
-/// An operator before an operand, if one comes next, and where it stands.
+/// An operator before an operand, if one comes next, and its position.
 #[tactic(auto, unfolding(crate::specs::Working::Expressions::prefix_at))]
 fn prefix(tokens: &[Token]) -> Option<((Prefix, Span), &[Token])>
     ensures { option_map (λ x. (x.0, seen x.1.now)) result ≡ prefix_at (seen tokens.now) }
@@ -78,7 +78,7 @@ fn comparison(tokens: &[Token]) -> Option<(Comparison, &[Token])>
     None
 }
 
-/// A place, behind its first name.
+/// Parses a place, after its first name.
 #[cycle(expr)]
 #[tactic(auto, unfolding(crate::specs::Working::Reading::choose))]
 pub fn place(
@@ -103,7 +103,7 @@ pub fn place(
     Ok((Place::Name(name), tokens))
 }
 
-/// An element, behind the name of what it is an element of.
+/// Parses an element, after the name of its array or pool.
 #[cycle(expr)]
 fn element(
     alloc: Global,
@@ -130,7 +130,7 @@ fn value_of(place: Place) -> Expr
     }
 }
 
-/// A number, `null`, a place, or an expression in parentheses, in which `room` signs may be opened.
+/// Parses a number, `null`, a place, or an expression in parentheses, in which `room` signs may be opened.
 #[cycle(expr)]
 #[tactic(auto, unfolding(crate::specs::Working::Expressions::prim_with))]
 fn prim(alloc: Global, tokens: &[Token], room: u32) -> Result<(Expr, &[Token]), Stop>
@@ -157,7 +157,7 @@ fn prim(alloc: Global, tokens: &[Token], room: u32) -> Result<(Expr, &[Token]), 
     }
 }
 
-/// An expression in parentheses, behind the opening one, which stands at `at`.
+/// Parses an expression in parentheses, after the opening one, which is at `at`.
 #[cycle(expr)]
 fn parens(alloc: Global, at: Span, tokens: &[Token], room: u32) -> Result<(Expr, &[Token]), Stop>
     ensures { Gives (λ x. (expr_of x.0, seen x.1.now)) result (parens_at room (inside_at room) at (seen tokens.now)) }
@@ -169,7 +169,7 @@ fn parens(alloc: Global, at: Span, tokens: &[Token], room: u32) -> Result<(Expr,
     Ok((Expr::Paren(at, Box::new(alloc, inner)?), rest))
 }
 
-/// An operand, with an operator before it or none.
+/// Parses an operand, with an operator before it or without.
 #[cycle(expr)]
 #[tactic(auto, unfolding(crate::specs::Working::Expressions::unary_with))]
 fn unary(alloc: Global, tokens: &[Token], room: u32) -> Result<(Expr, &[Token]), Stop>
@@ -201,14 +201,14 @@ fn operand(
     }
 }
 
-/// Joined operands as an expression, and the tokens behind it.
+/// Joined operands as an expression, with the tokens after it.
 fn joined(alloc: Global, operands: Joined, rest: &[Token]) -> Result<(Expr, &[Token]), Stop>
     ensures { Gives (λ x. (expr_of x.0, seen x.1.now)) result (given (joined_of operands) (seen rest.now)) }
 {
     Ok((Expr::Joined(Box::new(alloc, operands)?), rest))
 }
 
-/// A sum, or two with a comparison between them.
+/// Parses a sum, or two with a comparison between them.
 #[cycle(expr)]
 #[tactic(auto, unfolding(crate::specs::Working::Expressions::compared_with))]
 fn compared(alloc: Global, tokens: &[Token], room: u32) -> Result<(Expr, &[Token]), Stop>
@@ -224,7 +224,7 @@ fn compared(alloc: Global, tokens: &[Token], room: u32) -> Result<(Expr, &[Token
     }
 }
 
-/// The links of a chain, behind the first.
+/// Parses the links of a chain, after the first.
 #[cycle(expr)]
 fn links(
     alloc: Global,
@@ -246,7 +246,7 @@ fn links(
     Ok((links, rest))
 }
 
-/// A chain of the level's operators, or one operand.
+/// Parses a chain of the level's operators, or one operand.
 #[cycle(expr)]
 #[tactic(auto, unfolding(crate::specs::Working::Expressions::chain_at))]
 fn chain(alloc: Global, level: Level, tokens: &[Token], room: u32) -> Result<(Expr, &[Token]), Stop>
@@ -266,14 +266,14 @@ fn chain(alloc: Global, level: Level, tokens: &[Token], room: u32) -> Result<(Ex
     joined(alloc, Joined::Chain(level, left, links), rest)
 }
 
-/// An expression, in which `room` signs may still be opened.
+/// Parses an expression, in which `room` signs may still be opened.
 pub fn expr(alloc: Global, tokens: &[Token], room: u32) -> Result<(Expr, &[Token]), Stop>
     ensures { Gives (λ x. (expr_of x.0, seen x.1.now)) result (expr_at room (seen tokens.now)) }
 {
     chain(alloc, Level::Disjunction, tokens, room)
 }
 
-/// An expression, in which `room` signs may still be opened, and the sign behind it.
+/// Parses an expression, in which `room` signs may still be opened, and the sign after it.
 #[cycle(expr)]
 fn closed(alloc: Global, sign: Sign, tokens: &[Token], room: u32) -> Result<(Expr, &[Token]), Stop>
     ensures { Gives (λ x. (expr_of x.0, seen x.1.now)) result (closed_at sign (expr_at room) (seen tokens.now)) }
@@ -281,7 +281,7 @@ fn closed(alloc: Global, sign: Sign, tokens: &[Token], room: u32) -> Result<(Exp
     ended_by(chain(alloc, Level::Disjunction, tokens, room), sign)
 }
 
-/// An expression, in which `room` signs may still be opened, and the semicolon behind it.
+/// Parses an expression, in which `room` signs may still be opened, and the semicolon after it.
 #[tactic(auto, unfolding(crate::specs::Working::Expressions::ended_at))]
 pub fn ended(alloc: Global, tokens: &[Token], room: u32) -> Result<(Expr, &[Token]), Stop>
     ensures { Gives (λ x. (expr_of x.0, seen x.1.now)) result (ended_at room (seen tokens.now)) }
@@ -289,7 +289,7 @@ pub fn ended(alloc: Global, tokens: &[Token], room: u32) -> Result<(Expr, &[Toke
     closed(alloc, Sign::Semicolon, tokens, room)
 }
 
-/// An expression in parentheses, which are no part of it.
+/// Parses a condition in parentheses. The parentheses are not a part of its tree.
 pub fn condition(alloc: Global, tokens: &[Token], room: u32) -> Result<(Expr, &[Token]), Stop>
     ensures { Gives (λ x. (expr_of x.0, seen x.1.now)) result (condition_at room (seen tokens.now)) }
 {

@@ -1,11 +1,10 @@
-//! Lists that take little room.
+//! Lists that grow from a capacity of one.
 
 ghost use Rattle.std.specs.Prelude.{◌≡◌, ◌++◌, [], ◌∷◌, OnOk};
 
 use std::alloc::AllocError;
 
-/// Adds a value to a list, whose room is made to double where it is full: a list of one value has
-/// room for no more.
+/// Appends `value` to `list`. A full list doubles its capacity, so that a list of one value has no room for a second.
 pub fn push<T: Drop>(list: &mut Vec<T>, value: T) -> Result<(), AllocError>
     ensures items { OnOk result (list.new.items ≡ list.old.items ++ value ∷ []) }
 {

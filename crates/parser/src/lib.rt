@@ -1,21 +1,24 @@
-//! From tokens to the tree of a program.
+//! The parser: turns the tokens of a text into the tree of a program.
 //!
-//! - [`parse`]: the tree, or the first fault: of the grammar, `E03` or `E04`, and where there is none, `E18`.
-//! - [`find_tree`]: the same tree wherever its returns stand, for what is told of a fault.
-//! - [`one_tree`]: tokens have one tree at most.
-//! - [`one_unexpected`], [`one_too_deep`], [`one_misplaced`], [`never_both`]: tokens have one `E03`, one `E04` and one
-//!   `E18` at most, and never an `E03` and an `E04`.
+//! - [`parse`]: the tree, or the first fault. That is a fault of the grammar, `E03` or `E04`, and if there is none,
+//!   `E18`.
+//! - [`find_tree`]: the tree, with its returns in any place, for the notes of a fault.
+//! - [`one_tree`]: tokens have at most one tree.
+//! - [`one_unexpected`], [`one_too_deep`], [`one_misplaced`], [`never_both`]: tokens have at most one `E03`, one `E04`
+//!   and one `E18`, and never both an `E03` and an `E04`.
 //!
-//! Which tokens spell which tree is the grammar of `syntax/specs/Grammar.antt`; what each fault
-//! means, `syntax/specs/Faults.antt`.
+//! `syntax/specs/Grammar.antt` is the grammar: which tokens spell which tree. `syntax/specs/Faults.antt` says what each
+//! fault means.
 //!
-//! - `take`, `parts`: a token that has to come next, or may; types, constants, parameters, annotations, and lists of them.
-//! - `expr`, `local`, `call`, `stmt`: expressions and conditions; statements, first those that declare a local or call a helper.
-//! - `member`, `thread`, `decl`, `whole`: members of structs, what threads do, declarations, all of a text.
+//! - `take`, `parts`: tokens that must or may come next, types, constants, parameters, annotations, and lists of them.
+//! - `expr`, `local`, `call`, `stmt`: expressions, conditions and statements, first those that declare a local or call
+//!   a helper.
+//! - `member`, `thread`, `decl`, `whole`: members of structs, items of threads, declarations, whole programs.
 //! - `returns`: the first misplaced `return`.
 //!
-//! What the functions compute stands in `specs/Working/Reading.antt`, `Parts.antt`, `Expressions.antt`, `Statements.antt` and
-//! `Declarations.antt`, as functions on lists; the law of readers, which says that this is what the grammar says, in `specs/Theory`.
+//! What the functions compute is defined in `specs/Working/Reading.antt`, `Parts.antt`, `Expressions.antt`,
+//! `Statements.antt` and `Declarations.antt`, as functions on lists. The law of readers in `specs/Theory` says that
+//! they parse by the grammar.
 #![tactic(auto)]
 
 mod call;

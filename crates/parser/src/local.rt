@@ -14,9 +14,9 @@ use crate::take::{ended_by, is_word_next, take_name, take_sign, take_word};
 use source::span::Span;
 use source::token::{Keyword, Sign, Token};
 use std::alloc::Global;
-use syntax::tree::{CalledLocal, Expr, Local, Name, OwnedLocal, Owner, Stmt, ValueType};
+use syntax::tree::{CalledLocal, Expr, Local, Name, OwnedLocal, OwnerClause, Stmt, ValueType};
 
-/// A local's name and type, and where its statement stands, by the first word.
+/// A local's name and type, and the position of the first word of its statement.
 #[derive(Drop)]
 pub(crate) struct TypedName {
     start: Span,
@@ -24,7 +24,7 @@ pub(crate) struct TypedName {
     value_type: ValueType,
 }
 
-/// The local that opens with this value.
+/// The local with this initial value.
 fn with_value(typed: TypedName, value: Expr) -> Local
     ensures { local_of result ≡ local_with (typed_of typed) (expr_of value) }
 {
@@ -36,7 +36,7 @@ fn with_value(typed: TypedName, value: Expr) -> Local
     }
 }
 
-/// What stands behind `let` or `var`, a word that stands at `start`, up to the sign `=`.
+/// Parses what follows `let` or `var`, a word that is at `start`, up to the sign `=`.
 fn typed(start: Span, tokens: &[Token]) -> Result<(TypedName, &[Token]), Stop>
     ensures { Gives (λ x. (typed_of x.0, seen x.1.now)) result (typed_at start (seen tokens.now)) }
 {
@@ -50,17 +50,17 @@ fn typed(start: Span, tokens: &[Token]) -> Result<(TypedName, &[Token]), Stop>
     Ok((typed, rest))
 }
 
-/// The owner of a local, from the word `where` on.
-fn owner(tokens: &[Token]) -> Result<(Owner, &[Token]), Stop>
+/// Parses the owner of a local, from the word `where` on.
+fn owner(tokens: &[Token]) -> Result<(OwnerClause, &[Token]), Stop>
     ensures { Gives (λ x. (owner_of x.0, seen x.1.now)) result (owner_at (seen tokens.now)) }
 {
     let (_, rest) = take_word(tokens, Keyword::Where)?;
     let (field, rest) = ended_by(take_name(rest), Sign::DoubleEquals)?;
     let (local, rest) = take_name(rest)?;
-    Ok((Owner { field, local }, rest))
+    Ok((OwnerClause { field, local }, rest))
 }
 
-/// A `let` of a value, behind the sign `=`.
+/// Parses a `let` of a value, after the sign `=`.
 #[tactic(auto, unfolding(crate::specs::Working::Reading::choose))]
 fn valued(
     alloc: Global,
@@ -81,7 +81,7 @@ fn valued(
     Ok((Stmt::LetOwned(Box::new(alloc, owned)?), rest))
 }
 
-/// A `let` of what a helper returns, behind the sign `=`.
+/// Parses a `let` of the result of a helper, after the sign `=`.
 fn called(
     alloc: Global,
     typed: TypedName,
@@ -101,7 +101,7 @@ fn called(
     Ok((Stmt::LetCall(Box::new(alloc, called)?), rest))
 }
 
-/// A `let`, behind its first word, which stands at `start`.
+/// Parses a `let`, after its first word, which is at `start`.
 #[tactic(auto, unfolding(crate::specs::Working::Reading::choose))]
 pub fn let_rest(
     alloc: Global,
@@ -118,7 +118,7 @@ pub fn let_rest(
     valued(alloc, typed, rest, room)
 }
 
-/// A `var`, behind its first word, which stands at `start`.
+/// Parses a `var`, after its first word, which is at `start`.
 pub fn var_rest(
     alloc: Global,
     start: Span,

@@ -14,14 +14,14 @@ use source::token::{Keyword, Sign, Token};
 use std::alloc::Global;
 use syntax::tree::{Field, Final, Member, Name, Struct};
 
-/// A lock, behind its first word.
+/// Parses a lock, after its first word.
 pub fn lock(tokens: &[Token]) -> Result<(Name, &[Token]), Stop>
     ensures { Gives (λ x. (ident x.0, seen x.1.now)) result (lock_at (seen tokens.now)) }
 {
     ended_by(take_name(tokens), Sign::Semicolon)
 }
 
-/// A lock of a struct.
+/// Parses a lock of a struct.
 fn lock_member(tokens: &[Token]) -> Result<(Member, &[Token]), Stop>
     ensures { Gives (λ x. (member_of x.0, seen x.1.now)) result (lock_member_at (seen tokens.now)) }
 {
@@ -30,7 +30,7 @@ fn lock_member(tokens: &[Token]) -> Result<(Member, &[Token]), Stop>
     Ok((Member::Lock(name), rest))
 }
 
-/// A reference that never changes.
+/// Parses a reference that never changes.
 fn final_member(tokens: &[Token]) -> Result<(Member, &[Token]), Stop>
     ensures { Gives (λ x. (member_of x.0, seen x.1.now)) result (final_at (seen tokens.now)) }
 {
@@ -41,7 +41,7 @@ fn final_member(tokens: &[Token]) -> Result<(Member, &[Token]), Stop>
     Ok((Member::Final(Final { name, target }), rest))
 }
 
-/// A field that can change.
+/// Parses a field that can change.
 fn field(alloc: Global, tokens: &[Token], room: u32) -> Result<(Member, &[Token]), Stop>
     ensures { Gives (λ x. (member_of x.0, seen x.1.now)) result (field_at room (seen tokens.now)) }
 {
@@ -56,7 +56,7 @@ fn field(alloc: Global, tokens: &[Token], room: u32) -> Result<(Member, &[Token]
     Ok((Member::Field(field), rest))
 }
 
-/// A member of a struct.
+/// Parses a member of a struct.
 #[tactic(auto, unfolding(crate::specs::Working::Reading::choose))]
 fn member(alloc: Global, tokens: &[Token], room: u32) -> Result<(Member, &[Token]), Stop>
     ensures { Gives (λ x. (member_of x.0, seen x.1.now)) result (member_at room (seen tokens.now)) }
@@ -83,7 +83,7 @@ fn members(alloc: Global, tokens: &[Token], room: u32) -> Result<(Vec<Member>, &
     Ok((members, rest))
 }
 
-/// A struct, behind its first word.
+/// Parses a struct, after its first word.
 pub fn structure(alloc: Global, tokens: &[Token], room: u32) -> Result<(Struct, &[Token]), Stop>
     ensures { Gives (λ x. (struct_of x.0, seen x.1.now)) result (struct_at room (seen tokens.now)) }
 {

@@ -18,7 +18,7 @@ use source::token::{Keyword, Number, Sign, Token};
 use std::alloc::Global;
 use syntax::tree::{Const, Name, Param, Protection, ValueType};
 
-/// A type.
+/// Parses a type.
 #[tactic(auto, unfolding(crate::specs::Working::Parts::type_at))]
 pub fn value_type(tokens: &[Token]) -> Result<(ValueType, &[Token]), Stop>
     ensures { Gives (λ x. (type_of x.0, seen x.1.now)) result (type_at (seen tokens.now)) }
@@ -36,7 +36,7 @@ pub fn value_type(tokens: &[Token]) -> Result<(ValueType, &[Token]), Stop>
     }
 }
 
-/// A number in brackets.
+/// Parses a number in brackets.
 pub fn index(tokens: &[Token], room: u32) -> Result<(Number, &[Token]), Stop>
     ensures { Gives (λ x. (x.0, seen x.1.now)) result (index_at room (seen tokens.now)) }
 {
@@ -44,7 +44,7 @@ pub fn index(tokens: &[Token], room: u32) -> Result<(Number, &[Token]), Stop>
     ended_by(take_int(rest), Sign::CloseBracket)
 }
 
-/// A member of a pool, behind the pool's name.
+/// Parses a member of a pool, after the pool's name.
 fn member(pool: Name, tokens: &[Token], room: u32) -> Result<(Const, &[Token]), Stop>
     ensures { Gives (λ x. (const_of x.0, seen x.1.now)) result (member_from room (ident pool) (seen tokens.now)) }
 {
@@ -52,7 +52,7 @@ fn member(pool: Name, tokens: &[Token], room: u32) -> Result<(Const, &[Token]), 
     Ok((Const::Member(pool, index), rest))
 }
 
-/// A negative number, behind its sign.
+/// Parses a negative number, after its sign.
 fn negative(sign: Span, tokens: &[Token]) -> Result<(Const, &[Token]), Stop>
     ensures { Gives (λ x. (const_of x.0, seen x.1.now)) result (negative_from sign (seen tokens.now)) }
 {
@@ -60,7 +60,7 @@ fn negative(sign: Span, tokens: &[Token]) -> Result<(Const, &[Token]), Stop>
     Ok((Const::Negative(sign, number), rest))
 }
 
-/// A constant, in which `room` signs may be opened.
+/// Parses a constant, in which `room` signs may be opened.
 #[tactic(auto, unfolding(crate::specs::Working::Parts::const_at))]
 pub fn constant(alloc: Global, tokens: &[Token], room: u32) -> Result<(Const, &[Token]), Stop>
     ensures { Gives (λ x. (const_of x.0, seen x.1.now)) result (const_at room (seen tokens.now)) }
@@ -83,7 +83,7 @@ pub fn constant(alloc: Global, tokens: &[Token], room: u32) -> Result<(Const, &[
     }
 }
 
-/// A parameter.
+/// Parses a parameter.
 fn param(tokens: &[Token]) -> Result<(Param, &[Token]), Stop>
     ensures { Gives (λ x. (param_of x.0, seen x.1.now)) result (param_at (seen tokens.now)) }
 {
@@ -92,7 +92,7 @@ fn param(tokens: &[Token]) -> Result<(Param, &[Token]), Stop>
     Ok((Param { name, value_type }, rest))
 }
 
-/// Parameters with commas between them, up to a closing parenthesis.
+/// Parses parameters with commas between them, up to a closing parenthesis.
 fn param_list(alloc: Global, tokens: &[Token]) -> Result<(Vec<Param>, &[Token]), Stop>
     ensures { Gives (λ x. (map param_of x.0.items, seen x.1.now)) result (listed_at param_at (seen tokens.now)) }
 {
@@ -110,7 +110,7 @@ fn param_list(alloc: Global, tokens: &[Token]) -> Result<(Vec<Param>, &[Token]),
     Ok((params, rest))
 }
 
-/// Parameters in parentheses.
+/// Parses parameters in parentheses.
 pub fn params(alloc: Global, tokens: &[Token], room: u32) -> Result<(Vec<Param>, &[Token]), Stop>
     ensures { Gives (λ x. (map param_of x.0.items, seen x.1.now)) result (params_at room (seen tokens.now)) }
 {
@@ -118,7 +118,7 @@ pub fn params(alloc: Global, tokens: &[Token], room: u32) -> Result<(Vec<Param>,
     ended_by(param_list(alloc, rest), Sign::CloseParen)
 }
 
-/// Constants with commas between them, up to a closing parenthesis.
+/// Parses constants with commas between them, up to a closing parenthesis.
 pub fn constants(alloc: Global, tokens: &[Token], room: u32) -> Result<(Vec<Const>, &[Token]), Stop>
     ensures { Gives (λ x. (map const_of x.0.items, seen x.1.now)) result (listed_at (const_at room) (seen tokens.now)) }
 {
@@ -136,7 +136,7 @@ pub fn constants(alloc: Global, tokens: &[Token], room: u32) -> Result<(Vec<Cons
     Ok((constants, rest))
 }
 
-/// Names, each behind a dot.
+/// Parses names, each after a dot.
 pub fn names_after_dots(alloc: Global, tokens: &[Token]) -> Result<(Vec<Name>, &[Token]), Stop>
     ensures { Gives (λ x. (map ident x.0.items, seen x.1.now)) result (after_each Dot name_at (seen tokens.now)) }
 {
@@ -150,7 +150,7 @@ pub fn names_after_dots(alloc: Global, tokens: &[Token]) -> Result<(Vec<Name>, &
     Ok((names, rest))
 }
 
-/// An annotation.
+/// Parses an annotation.
 fn some_protection(
     alloc: Global,
     tokens: &[Token],
@@ -165,7 +165,7 @@ fn some_protection(
     Ok((Protection { first, rest }, after))
 }
 
-/// An annotation, or nothing.
+/// Parses an annotation, or nothing.
 #[tactic(auto, unfolding(crate::specs::Working::Reading::maybe_at))]
 pub fn protection(
     alloc: Global,
@@ -181,7 +181,7 @@ pub fn protection(
     Ok((Some(protection), rest))
 }
 
-/// A constant behind `=`, or nothing.
+/// Parses a constant after `=`, or nothing.
 pub fn opening_value(
     alloc: Global,
     tokens: &[Token],
@@ -196,7 +196,7 @@ pub fn opening_value(
     Ok((Some(value), rest))
 }
 
-/// A type behind `:`, or nothing.
+/// Parses a type after `:`, or nothing.
 pub fn result_type(tokens: &[Token]) -> Result<(Option<ValueType>, &[Token]), Stop>
     ensures { Gives (λ x. (option_of type_of x.0, seen x.1.now)) result (maybe_result (seen tokens.now)) }
 {

@@ -1,4 +1,4 @@
-//! Where a `return` is misplaced or missing.
+//! Misplaced and missing returns.
 
 ghost use Rattle.std.specs.Prelude.{◌≡◌, map};
 ghost use Rattle.syntax.specs.Views.{stmt_of, stmts_of, else_of, section_of, decl_of};
@@ -6,7 +6,7 @@ ghost use Rattle.parser.specs.Working.Returning as returning;
 
 use syntax::tree::{Block, Decl, Section, Stmt};
 
-/// The lesser place of two, where there is one.
+/// The lesser of two places, if there are any.
 fn earlier(a: Option<usize>, b: Option<usize>) -> Option<usize>
     ensures { result ≡ returning.earlier a b }
 {
@@ -17,7 +17,7 @@ fn earlier(a: Option<usize>, b: Option<usize>) -> Option<usize>
     }
 }
 
-/// Where the statement stands, if it is a `return`.
+/// The first byte of the statement, if it is a `return`.
 fn own_return(stmt: &Stmt) -> Option<usize>
     ensures { result ≡ returning.own_return (stmt_of stmt.now) }
 {
@@ -27,7 +27,7 @@ fn own_return(stmt: &Stmt) -> Option<usize>
     }
 }
 
-/// The least place of a `return` among the statements and in their blocks.
+/// The first byte of the first `return` among the statements and in their blocks.
 #[cycle(returns)]
 fn least_return(stmts: &[Stmt]) -> Option<usize>
     ensures { result ≡ returning.least_return (stmts_of stmts.now) }
@@ -39,7 +39,7 @@ fn least_return(stmts: &[Stmt]) -> Option<usize>
     least
 }
 
-/// The least place of a `return` in the statement's blocks.
+/// The first byte of the first `return` in the statement's blocks.
 #[cycle(returns)]
 fn inner_return(stmt: &Stmt) -> Option<usize>
     ensures { result ≡ returning.inner_return (stmt_of stmt.now) }
@@ -61,7 +61,7 @@ fn inner_return(stmt: &Stmt) -> Option<usize>
     }
 }
 
-/// The least place of a `return` behind `else`.
+/// The first byte of the first `return` after `else`.
 #[cycle(returns)]
 fn else_return(other: &Option<Block>) -> Option<usize>
     ensures { result ≡ returning.other_return (else_of other.now) }
@@ -72,7 +72,7 @@ fn else_return(other: &Option<Block>) -> Option<usize>
     }
 }
 
-/// The least place of a `return` that is not the last statement.
+/// The first byte of the first `return` that is not the last statement.
 fn least_stray(stmts: &[Stmt]) -> Option<usize>
     ensures { result ≡ returning.least_stray (stmts_of stmts.now) }
 {
@@ -98,7 +98,7 @@ fn ends_in_return(stmts: &[Stmt]) -> bool
     }
 }
 
-/// The first fault of the returns of a section or a helper.
+/// The byte of the first fault of the returns of a section or a helper.
 fn section_fault(section: &Section) -> Option<usize>
     ensures { result ≡ returning.section_fault (section_of section.now) }
 {
@@ -114,7 +114,7 @@ fn section_fault(section: &Section) -> Option<usize>
     earlier(least_stray(stmts), missing)
 }
 
-/// The first fault of a declaration's returns.
+/// The byte of the first fault of a declaration's returns.
 fn decl_fault(decl: &Decl) -> Option<usize>
     ensures { result ≡ returning.decl_fault (decl_of decl.now) }
 {
@@ -131,7 +131,7 @@ fn decl_fault(decl: &Decl) -> Option<usize>
     }
 }
 
-/// The first place of a misplaced or missing `return`.
+/// The byte of the first misplaced or missing `return`.
 pub fn return_fault(decls: &[Decl]) -> Option<usize>
     ensures { result ≡ returning.least_fault (map decl_of decls.now) }
 {

@@ -17,7 +17,7 @@ use source::token::{Keyword, Sign, Token};
 use std::alloc::Global;
 use syntax::tree::{Block, If, Name, Stmt, While};
 
-/// An assignment, behind its first name.
+/// Parses an assignment, after its first name.
 fn assignment(
     alloc: Global,
     name: Name,
@@ -31,7 +31,7 @@ fn assignment(
     Ok((Stmt::Assign(place, value), rest))
 }
 
-/// A statement, in which `room` signs may be opened.
+/// Parses a statement, in which `room` signs may be opened.
 #[cycle(stmt)]
 #[tactic(auto, unfolding(crate::specs::Working::Statements::stmt_with))]
 fn stmt(alloc: Global, tokens: &[Token], room: u32) -> Result<(Stmt, &[Token]), Stop>
@@ -73,7 +73,7 @@ fn stmts(alloc: Global, tokens: &[Token], room: u32) -> Result<(Vec<Stmt>, &[Tok
     Ok((stmts, rest))
 }
 
-/// Statements in braces, in which `room` signs may be opened, the first brace among them.
+/// Parses statements in braces, in which `room` signs may be opened, the first brace included.
 #[cycle(stmt)]
 pub fn block(alloc: Global, tokens: &[Token], room: u32) -> Result<(Block, &[Token]), Stop>
     ensures { Gives (λ x. ((stmts_of x.0.stmts.items, x.0.close), seen x.1.now)) result (braced_at room (seen tokens.now)) }
@@ -84,7 +84,7 @@ pub fn block(alloc: Global, tokens: &[Token], room: u32) -> Result<(Block, &[Tok
     Ok((Block { stmts, close }, rest))
 }
 
-/// A branch, behind its first word, which stands at `start`.
+/// Parses a branch, after its first word, which is at `start`.
 #[cycle(stmt)]
 fn if_rest(
     alloc: Global,
@@ -106,7 +106,7 @@ fn if_rest(
     Ok((Stmt::If(Box::new(alloc, choice)?), rest))
 }
 
-/// The block behind `else`, or nothing.
+/// Parses the block after `else`, or nothing.
 #[cycle(stmt)]
 #[tactic(auto, unfolding(crate::specs::Working::Reading::choose))]
 fn otherwise(alloc: Global, tokens: &[Token], room: u32) -> Result<(Option<Block>, &[Token]), Stop>
@@ -120,7 +120,7 @@ fn otherwise(alloc: Global, tokens: &[Token], room: u32) -> Result<(Option<Block
     Ok((Some(body), rest))
 }
 
-/// A loop, behind its first word, which stands at `start`.
+/// Parses a loop, after its first word, which is at `start`.
 #[cycle(stmt)]
 fn while_rest(
     alloc: Global,

@@ -13,21 +13,21 @@ use std::alloc::AllocError;
 use std::rc::RcStr;
 use syntax::tree::Name;
 
-/// Whether it is this sign.
+/// Whether `a` and `b` are the same sign.
 pub fn is_same(a: Sign, b: Sign) -> bool
     ensures { result ≡ same_sign a b }
 {
     a == b
 }
 
-/// Whether it is this keyword.
+/// Whether `a` and `b` are the same keyword.
 fn is_same_word(a: Keyword, b: Keyword) -> bool
     ensures { result ≡ same_keyword a b }
 {
     a == b
 }
 
-/// The sign, which has to come next, and the tokens after it.
+/// Parses the sign, which has to come next.
 #[tactic(auto, unfolding(crate::specs::Working::Reading::sign_at))]
 pub fn take_sign(tokens: &[Token], sign: Sign) -> Result<(Span, &[Token]), Stop>
     ensures { Gives (λ x. (x.0, seen x.1.now)) result (sign_at sign (seen tokens.now)) }
@@ -42,7 +42,7 @@ pub fn take_sign(tokens: &[Token], sign: Sign) -> Result<(Span, &[Token]), Stop>
     Err(Stop::Unexpected(tokens.len()))
 }
 
-/// An opening sign, which has to come next, where `room` more may be opened.
+/// Parses an opening sign, which has to come next. `room` signs may still be opened.
 #[tactic(auto, unfolding(crate::specs::Working::Reading::open_at))]
 pub fn take_open(tokens: &[Token], sign: Sign, room: u32) -> Result<(Span, &[Token]), Stop>
     ensures gives { Gives (λ x. (x.0, seen x.1.now)) result (open_at sign room (seen tokens.now)) }
@@ -61,7 +61,7 @@ pub fn take_open(tokens: &[Token], sign: Sign, room: u32) -> Result<(Span, &[Tok
     Err(Stop::Unexpected(tokens.len()))
 }
 
-/// What was read, if the sign comes next behind it, and the tokens after that.
+/// What was parsed, if the sign comes next after it, with the tokens after the sign.
 pub fn ended_by<T: Drop>(
     read: Result<(T, &[Token]), Stop>,
     sign: Sign,
@@ -73,7 +73,7 @@ pub fn ended_by<T: Drop>(
     Ok((value, rest))
 }
 
-/// The keyword, which has to come next.
+/// Parses the keyword, which has to come next.
 #[tactic(auto, unfolding(crate::specs::Working::Reading::word_at))]
 pub fn take_word(tokens: &[Token], keyword: Keyword) -> Result<(Span, &[Token]), Stop>
     ensures { Gives (λ x. (x.0, seen x.1.now)) result (word_at keyword (seen tokens.now)) }
@@ -98,7 +98,7 @@ pub fn named(start: u32, text: &RcStr) -> Result<Name, AllocError>
     })
 }
 
-/// A name, which has to come next.
+/// Parses a name, which has to come next.
 #[tactic(auto, unfolding(crate::specs::Working::Reading::name_at))]
 pub fn take_name(tokens: &[Token]) -> Result<(Name, &[Token]), Stop>
     ensures { Gives (λ x. (ident x.0, seen x.1.now)) result (name_at (seen tokens.now)) }
@@ -121,7 +121,7 @@ pub fn small(span: Span, value: u32) -> Number
     }
 }
 
-/// A number, which has to come next.
+/// Parses a number, which has to come next.
 #[tactic(auto, unfolding(crate::specs::Working::Reading::int_at))]
 pub fn take_int(tokens: &[Token]) -> Result<(Number, &[Token]), Stop>
     ensures { Gives (λ x. (x.0, seen x.1.now)) result (int_at (seen tokens.now)) }
@@ -133,7 +133,7 @@ pub fn take_int(tokens: &[Token]) -> Result<(Number, &[Token]), Stop>
     }
 }
 
-/// The tokens behind the sign, if it comes next.
+/// The tokens after the sign, if it comes next.
 #[tactic(auto, unfolding(crate::specs::Working::Reading::skip_at))]
 pub fn after_sign(tokens: &[Token], sign: Sign) -> Option<&[Token]>
     ensures { option_map (λ x. seen x.now) result ≡ skip_at sign (seen tokens.now) }

@@ -16,7 +16,7 @@ use source::token::{Keyword, Sign, Token};
 use std::alloc::Global;
 use syntax::tree::{Call, Item, Thread};
 
-/// A call.
+/// Parses a call.
 fn call(alloc: Global, tokens: &[Token], room: u32) -> Result<(Call, &[Token]), Stop>
     ensures { Gives (λ x. (call_of x.0, seen x.1.now)) result (call_at room (seen tokens.now)) }
 {
@@ -27,7 +27,7 @@ fn call(alloc: Global, tokens: &[Token], room: u32) -> Result<(Call, &[Token]), 
     Ok((Call { section, arguments }, rest))
 }
 
-/// What a thread does.
+/// Parses an item of a thread.
 #[cycle(item)]
 #[tactic(auto, unfolding(crate::specs::Working::Declarations::item_with, crate::specs::Working::Reading::choose))]
 fn item(alloc: Global, tokens: &[Token], room: u32) -> Result<(Item, &[Token]), Stop>
@@ -40,7 +40,7 @@ fn item(alloc: Global, tokens: &[Token], room: u32) -> Result<(Item, &[Token]), 
     Ok((Item::Call(call), rest))
 }
 
-/// A repetition.
+/// Parses a repetition.
 #[cycle(item)]
 fn repeat(alloc: Global, tokens: &[Token], room: u32) -> Result<(Item, &[Token]), Stop>
     ensures { Gives (λ x. (item_of x.0, seen x.1.now)) result (repeat_with room (items_in room) (seen tokens.now)) }
@@ -66,7 +66,7 @@ fn items(alloc: Global, tokens: &[Token], room: u32) -> Result<(Vec<Item>, &[Tok
     Ok((items, rest))
 }
 
-/// A thread, behind its first word.
+/// Parses a thread, after its first word.
 pub fn thread(alloc: Global, tokens: &[Token], room: u32) -> Result<(Thread, &[Token]), Stop>
     ensures { Gives (λ x. (thread_of x.0, seen x.1.now)) result (thread_at room (seen tokens.now)) }
 {

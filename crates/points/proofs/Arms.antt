@@ -1,4 +1,4 @@
--- The arms of the analyses over parts: what each makes of a point, of an `if` and of a `while`.
+-- The cases of the analyses over parts: a point, an `if` and a `while`.
 use Rattle.std.specs.Prelude.{◌≡◌, ℕ, ◌+◌, ◌||◌, Bool, List, [], ◌∷◌, ◌++◌, replicate, reverse}
 use Rattle.std.proofs.Common.{refl, sym, ap, ◌∙◌, arith, add-one, append_assoc, append-nil, Vec, Global}
 use Rattle.std.proofs.lemmas.List.{reverse-append}
@@ -59,7 +59,7 @@ module _ (d : Dataflow) (n : ℕ) where
       (in_b i ∙ ap (λ x. through P (joins d) b m x) (made i) ∙ ap (λ x. through P (joins d) b x e) em')
       ∙ ap (λ x. through P (joins d) x n (has first i)) (sym is)
 
-  -- what comes to a loop's condition
+  -- the set before a loop's condition
   at_condition : (a : Skeleton) (k : ℕ) (first here round both : PathSet) → k ≡ n + 1 → IsPast d n first here →
       IsThrough d a k here round → IsJoin d first round both → (i : ℕ) →
       has both i ≡ joins d (has first i) (through (transfers d i) (joins d) a (n + 1) (transfers d i n (has first i)))
@@ -118,7 +118,7 @@ module _ (d : Dataflow) (n : ℕ) where
       ∙ ap (λ z. o ++ holds P (joins d) (Loop a Nil) z s) (sym ew)
       ∙ ap (λ z. o ++ holds P (joins d) z was.len s) (sym is)
 
--- ---- backward, where nothing is killed
+-- ---- backward, if nothing is killed
 
 module _ (d : Dataflow) (may : IsMay d) where
   with_gen : (n : ℕ) (set here : PathSet) → IsPast d n set here → (i : ℕ) →

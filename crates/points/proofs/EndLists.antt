@@ -1,4 +1,4 @@
--- Where the blocks of parts end: the list that is made of it, and what is read from it.
+-- The list of the ends of blocks, and what is read from it.
 use Rattle.std.proofs.Common.{◌≡◌, ℕ, ◌+◌, ◌<◌, List, [], ◌∷◌, ◌++◌, length, drop, get_or, set, refl, sym, ap, ◌∙◌}
 use Rattle.std.proofs.Common.{subst, arith, append_assoc, append-nil, length-append}
 use Rattle.std.proofs.Math.Seq.{set-append_seam, get_or-append_seam}
@@ -63,7 +63,7 @@ pub step_ends : (c : Skeleton) (old new : List Ends) (n : ℕ) → c ≡ Step Ni
 step_ends c old new n is en e1 =
     e1 ∙ ap (λ m. old ++ record { middle = m + 1; end = m + 1 } ∷ []) en ∙ ap (λ x. old ++ ends_from x (length old)) (sym is)
 
--- the list behind a point's place and its first block
+-- the list after a point's place and its first block
 module _ (a : Skeleton) (old l1 l2 : List Ends) (e0 : Ends) (e1 : l1 ≡ old ++ e0 ∷ []) (e2 : l2 ≡ l1 ++ ends_from a (length l1)) where
   one_block : l2 ≡ old ++ (e0 ∷ ends_from a (length old + 1))
   one_block =
@@ -117,7 +117,7 @@ is_there before after n middle end t en et =
     )
 
 module _ (t : List Ends) where
-  -- behind some of a list comes the rest
+  -- after some of a list comes the rest
   behind_some : (before some rest : List Ends) → t ≡ before ++ (some ++ rest) → t ≡ (before ++ some) ++ rest
   behind_some before some rest e = e ∙ sym (append_assoc before some rest)
 

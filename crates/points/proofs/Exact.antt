@@ -1,4 +1,4 @@
--- From sets, path by path, to what is told of a section's points.
+-- From sets, path by path, to the sets of a section's points.
 use Rattle.std.specs.Prelude.{◌≡◌, ℕ, ◌<◌, ◌≤◌, ◌==◌, Bool, false, List, [], ◌∷◌, map, slice_get, Option, Some, None}
 use Rattle.std.specs.Bool.{Decides}
 use Rattle.std.specs.List.{Contains}

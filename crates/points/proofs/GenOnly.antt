@@ -1,4 +1,4 @@
--- A forward may analysis that kills nothing: two steps round a loop gather what all its points have.
+-- A forward may analysis that kills nothing: two passes over a loop gather the sets of all its points.
 use Rattle.std.specs.Prelude.{◌≡◌, ℕ, ◌+◌, ◌||◌, ◌&&◌, not, Bool, true, false, ◌∷◌, ◌++◌, replicate}
 use Rattle.std.proofs.Common.{refl, sym, ap, ◌∙◌, arith, add-one}
 use Rattle.std.proofs.lemmas.Bool.{or_left, or_right, false≢true}
@@ -40,7 +40,7 @@ more : (n : ℕ) (s : Bool) → s ∷ replicate n s ≡ replicate (1 + n) s
 more n s = let e : n + 1 ≡ 1 + n = omega arith in ap (λ m. replicate m s) (sym (add-one n) ∙ e)
 
 module _ (u : ℕ → Bool) where
-  -- where nothing more is gathered, the same comes before each point
+  -- if nothing more is gathered, the set before each point is the same
   even : (c : Skeleton) (n : ℕ) (x s : Bool) → x ≡ s → gather or u c n x ≡ s →
       befores or u c n x ≡ replicate (count c) s
   even Nil n x s e h = refl
@@ -88,7 +88,7 @@ module _ (u b : ℕ → Bool) (none : (p : ℕ) → b p ≡ false) where
   pub adds : (n : ℕ) (s : Bool) → past u b n s ≡ (s || u n)
   adds n s = ap (λ x. (u n || s) && not x) (none n) ∙ turned (u n) s
 
-  -- what comes to a loop's condition, and what comes out of it, where this comes round
+  -- the value before a loop's condition and that after the loop, given the value after a turn
   module _ (c : Skeleton) (n : ℕ) (s t : Bool) (is : t ≡ gather or u c (n + 1) (s || u n)) where
     at_loop : (s || t) ≡ gather or u c (n + 1) (s || u n)
     at_loop = ap (or s) is ∙ kept s _ (λ h. gather_keeps u c (n + 1) (s || u n) (or_left s (u n) h))

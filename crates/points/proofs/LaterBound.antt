@@ -1,4 +1,4 @@
--- What is bound later, from the sets of a dataflow analysis.
+-- The paths that are bound later, from the sets of a dataflow analysis.
 use Rattle.std.specs.Prelude.{◌≡◌, ℕ, List}
 use Rattle.std.specs.Bool.{Decides}
 use Rattle.std.proofs.Common.{sym, ◌∙◌, subst, arith, length, inl, inr}

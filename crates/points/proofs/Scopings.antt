@@ -1,4 +1,4 @@
--- Going over statements with the paths in scope.
+-- Visits of statements with the paths in scope.
 use Rattle.std.specs.Prelude.{◌≡◌, ℕ, zero, suc, ◌+◌, ◌<◌, ◌≤◌, ◌==◌, ◌||◌, nat_lt, Bool, true, false, List, [], ◌∷◌}
 use Rattle.std.specs.Prelude.{◌++◌, map, slice_get, Option, Some, None}
 use Rattle.std.proofs.Common.{refl, sym, ap, ◌∙◌, arith, length, take, get_or, append_assoc, append-nil, Vec, Global}
@@ -76,7 +76,7 @@ module _ (r : List written.LockPath) where
       by_root GlobalLock = refl
       by_root (AtLocal k) = or_comm (names k locals) (local == k)
 
-  -- behind a statement that binds a local
+  -- after a statement that binds a local
   pub behind_bind : (action : Action) (local : ℕ) (scope here set : PathSet) →
       ((locals : List ℕ) → behind_action action locals ≡ local ∷ locals) → AreThose r (is_at local) here →
       ((i : ℕ) → has set i ≡ (has scope i || has here i)) → IsAfter r scope (behind_action action) set

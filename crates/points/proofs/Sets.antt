@@ -14,7 +14,7 @@ pub column-push : (i : ℕ) (was sets : List PathSet) (set : PathSet) → sets �
     column i sets ≡ column i was ++ has set i ∷ []
 column-push i was sets set e = ap (column i) e ∙ map-append (λ (s : PathSet). has s i) was (set ∷ [])
 
--- the same set so many times
+-- the same set repeated the given number of times
 pub column-times : (i : ℕ) (n : ℕ) (set : PathSet) → column i (replicate n set) ≡ replicate n (has set i)
 column-times i zero set = refl
 column-times i (suc n) set = ap (λ l. has set i ∷ l) (column-times i n set)

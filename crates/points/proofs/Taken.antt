@@ -1,4 +1,4 @@
--- What is taken on a walk by relations is what tests that decide them say.
+-- The paths taken on a walk by relations are those by the tests that decide them.
 use Rattle.std.specs.Prelude.{◌≡◌, ℕ, ◌⊎◌, Bool, true, false, not, ◌&&◌, ◌||◌, List, [], ◌∷◌}
 use Rattle.std.specs.Bool.{Decides}
 use Rattle.std.proofs.Common.{refl, inl, inr}

@@ -1,4 +1,4 @@
--- From sets, path by path, to what is wanted and surely held.
+-- From sets, path by path, to the wanted and the surely held paths.
 use Rattle.std.specs.Prelude.{◌≡◌, ◌<◌, ◌≤◌, ℕ, Bool, List, [], ◌∷◌, ◌++◌, ◌+◌, map, length, slice_index, slice_get}
 use Rattle.std.specs.Prelude.{Some}
 use Rattle.std.specs.Bool.{Decides}

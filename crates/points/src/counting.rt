@@ -1,4 +1,4 @@
-//! How many points parts have.
+//! The number of points of parts.
 
 ghost use Rattle.std.specs.Prelude.{◌≡◌, ◌<◌, ◌^◌};
 ghost use Rattle.flow.specs.Skeletons.{count, Nil};
@@ -6,7 +6,7 @@ ghost use Rattle.flow.specs.Working.Parts.{skeleton_of, part_in_front};
 
 use flow::skeleton::Part;
 
-/// How many points parts have.
+/// The number of points of parts.
 #[cycle(points)]
 pub fn points_in(parts: &[Part]) -> usize
     requires { count (skeleton_of parts.now) < 2 ^ 64 }

@@ -1,7 +1,7 @@
 //! Dataflow analyses over the points of a section.
 //!
 //! A may analysis finds what some way brings to a point, a must analysis what every way brings. Each point has a
-//! transfer function: it adds what the point generates, and then takes away what the point kills.
+//! transfer function, which adds what the point generates and then removes what it kills.
 
 ghost use Rattle.std.specs.Prelude.{◌≡◌, ◌≤◌, ◌+◌, ℕ, length, vec_len, IfOk, OnOk, IsTrue};
 ghost use Rattle.flow.specs.Skeletons.{count, Nil};
@@ -16,7 +16,7 @@ use locks::path_set::PathSet;
 use source::memory::NoMemory;
 use std::alloc::Global;
 
-/// For each point the paths that a point which comes before it generates.
+/// For each point, the paths that some point before it generates.
 pub fn forward_may(
     alloc: Global,
     parts: &[Part],
@@ -36,7 +36,7 @@ pub fn forward_may(
     Ok(sets)
 }
 
-/// For each point the paths that a point which it comes before generates.
+/// For each point, the paths that some point after it generates.
 pub fn backward_may(
     alloc: Global,
     parts: &[Part],
@@ -57,7 +57,7 @@ pub fn backward_may(
     Ok(sets)
 }
 
-/// For each point the paths that each walk to it generates, and does not kill from there on.
+/// For each point, the paths that each walk to it generates and does not kill from there on.
 pub fn forward_must(
     alloc: Global,
     parts: &[Part],
@@ -78,19 +78,19 @@ pub fn forward_must(
     Ok(sets)
 }
 
-/// How an analysis joins what two ways bring to a point: by union a may analysis, by meet a must analysis.
+/// How an analysis joins what two ways bring to a point: a may analysis by union, a must analysis by intersection.
 #[derive(Clone, Copy)]
 pub enum Join {
     Union,
     Meet,
 }
 
-/// An analysis, by its join and its points' transfer functions.
+/// An analysis: its join, and the transfer functions of the points.
 #[derive(Drop)]
 pub struct Dataflow<'a> {
-    /// For each point the paths that it generates.
+    /// For each point, the paths that it generates.
     pub gens: &'a [PathSet],
-    /// For each point the paths that it kills; a point past the last set kills none.
+    /// For each point, the paths that it kills. A point past the last set kills none.
     pub kills: &'a [PathSet],
     pub join: Join,
 }
@@ -115,7 +115,7 @@ impl<'a> Dataflow<'a> {
         }
     }
 
-    // What a point makes of what comes to it.
+    // The result of a point's transfer function.
     fn transfer(&self, point: usize, set: PathSet) -> PathSet
         ensures { (i : ℕ) → has result i ≡ transfers self.now i point (has set i) }
     {
@@ -124,7 +124,8 @@ impl<'a> Dataflow<'a> {
         generated.union(set).minus(killed)
     }
 
-    // What comes out of these parts, numbered from `n`, where `set` comes in, and the number behind them.
+    // The set after these parts, which are numbered from `n`, if `set` is the set before them, and the number after
+    // theirs.
     #[cycle(through)]
     fn through(&self, parts: &[Part], n: usize, set: PathSet) -> (PathSet, usize)
         requires { n + count (skeleton_of parts.now) ≤ length self.now.gens.now }
@@ -163,7 +164,7 @@ impl<'a> Dataflow<'a> {
         }
     }
 
-    // Adds for each point of these parts what comes to it, where `set` comes to the first. Gives what comes out of the
+    // Adds the set before each point of these parts, if `set` is the one before the first. Returns the set after the
     // last.
     #[cycle(forward)]
     fn forward(
@@ -209,8 +210,8 @@ impl<'a> Dataflow<'a> {
                 let two = self.forward(otherwise, here, sets)?;
                 Ok(self.join(one, two))
             }
-            // To a loop's condition lead a way from before the loop and one from the end of its body. Going round once
-            // is enough; where nothing is killed the same then comes to all points of the loop.
+            // A loop's condition is reached from before the loop and from the end of its body. One pass over the loop
+            // is enough; if nothing is killed, all points of the loop then have the same set.
             Part::While(body) => {
                 let (round, end) = self.through(body, n + 1, here);
                 if self.is_may() {
@@ -226,8 +227,8 @@ impl<'a> Dataflow<'a> {
         }
     }
 
-    // Adds for each point of these parts, from the last to the first, what comes back to it, where `set` comes back to
-    // the last. Gives what comes back out of the first.
+    // Adds the set for each point of these parts, from the last to the first, if `set` is the one after the last.
+    // Returns the set before the first.
     #[cycle(backward)]
     fn backward(
         &self,
@@ -275,7 +276,7 @@ impl<'a> Dataflow<'a> {
                 sets.push(either)?;
                 Ok(self.transfer(self.gens.len() - sets.len(), either))
             }
-            // Each point of a loop comes before each.
+            // Each point of a loop comes before each of its points.
             Part::While(body) => {
                 let len = sets.len() + points_in(body) + 1;
                 let n = self.gens.len() - len;
@@ -287,7 +288,7 @@ impl<'a> Dataflow<'a> {
     }
 }
 
-// The set of a point; past the last set it is empty.
+// The set of a point, or the empty set past the last one.
 fn set_at(sets: &[PathSet], point: usize) -> PathSet
     ensures { (i : ℕ) → has result i ≡ marks i sets.now point }
 {

@@ -1,4 +1,4 @@
-//! Where the blocks of a section's parts end.
+//! The ends of the blocks of a section's parts.
 
 ghost use Rattle.std.specs.Prelude.{IfOk, OnOk};
 ghost use Rattle.flow.specs.Skeletons.{Nil};
@@ -9,16 +9,16 @@ use flow::skeleton::Part;
 use source::memory::NoMemory;
 use std::alloc::Global;
 
-/// Where the blocks of a part end.
+/// The ends of a part's blocks.
 #[derive(Clone, Copy)]
 pub struct Ends {
-    /// The number behind the points of its first block.
+    /// The number after the points of its first block.
     pub middle: usize,
-    /// The number behind all its points.
+    /// The number after all its points.
     pub end: usize,
 }
 
-/// Where the blocks end of the part that each point of a whole section is the first of.
+/// For each point of a whole section, the ends of the blocks of the part that it is the first point of.
 pub fn ends_of(alloc: Global, parts: &[Part]) -> Result<Vec<Ends>, NoMemory>
     ensures { IfOk result (λ ends. AreEndsAt ends.items (skeleton_of parts.now) 0) }
 {
@@ -27,7 +27,7 @@ pub fn ends_of(alloc: Global, parts: &[Part]) -> Result<Vec<Ends>, NoMemory>
     Ok(ends)
 }
 
-// Adds those of parts; their first point has the number of the first free place.
+// Adds the ends of parts; the first point's number is the number of ends so far.
 #[cycle(ends)]
 fn push_ends(parts: &[Part], ends: &mut Vec<Ends>) -> Result<(), NoMemory>
     ensures { OnOk result (AddsEnds (skeleton_of parts.now) ends.old.items ends.new.items) }
@@ -44,7 +44,7 @@ fn push_part(part: &Part, ends: &mut Vec<Ends>) -> Result<(), NoMemory>
 {
     let n = ends.len();
     let inner = n + 1;
-    // Where a block ends is known only behind it.
+    // The end of a block is known only after it.
     ends.push(Ends {
         middle: inner,
         end: inner,

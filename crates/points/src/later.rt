@@ -1,4 +1,4 @@
-//! What is bound later than at the points of a section.
+//! The paths whose roots are bound after the points of a section.
 
 ghost use Rattle.std.specs.Prelude.{IfOk};
 ghost use Rattle.points.specs.Working.Points.{AreBoundLater};
@@ -10,11 +10,11 @@ use source::memory::NoMemory;
 use std::alloc::Global;
 
 impl Points {
-    /// For each point the paths whose root is bound at a point which it comes before.
+    /// For each point, the paths whose root is bound at some later point.
     ///
     /// # Errors
     ///
-    /// Want of memory.
+    /// Out of memory.
     pub fn bound_later(&self, alloc: Global) -> Result<Vec<PathSet>, NoMemory>
         ensures { IfOk result (λ sets. AreBoundLater self.now sets.items) }
     {

@@ -1,15 +1,17 @@
-//! What is used before the points of a section and later, and what is wanted and surely held at them.
+//! Dataflow over the points of a section: which lock paths are used before and after each point, which are wanted, and
+//! which are surely held.
 //!
-//! - [`points`]: the points of a section, and what each lock path is to each point.
-//! - [`all_points`]: the same of all sections of a program.
-//! - [`table::Points`]: what is answered; which point is followed by which; which roots are bound later; with the ranks of
-//!   the classes, which paths are wanted at each point, and which are surely held there.
+//! - [`points`]: the points of a section, and the sets of lock paths at each point.
+//! - [`all_points`]: the points of all sections of a program.
+//! - [`table::Points`]: the result: which point follows which, and which roots are bound later. Given the ranks of the
+//!   classes, it gives the paths that are wanted at each point ([`Wanted`]), and those that are surely held there
+//!   ([`Held`]).
 //!
-//! In the words of dataflow analysis, over the graph of which point is followed by which: used before is a forward may
-//! analysis, used later a backward may analysis, surely held a forward must analysis.
+//! Over the graph of which point follows which, used before is a forward may analysis, used later a backward may
+//! analysis, and surely held a forward must analysis.
 //!
-//! `specs/` defines when a path is used before a point and later (`Used`), what an answer is (`Points`), and what is wanted
-//! and surely held (`Wanted`). Its other files only say what the passes of the code have done; nobody has to believe them.
+//! `specs/` defines when a path is used before a point and later (`Used`), the result (`Points`), and what is wanted
+//! and surely held (`Wanted`). Its other files describe the passes of the code; nobody has to believe them.
 #![tactic(auto)]
 
 mod counting;

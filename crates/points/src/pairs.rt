@@ -1,4 +1,4 @@
-//! Which point of a section is followed by which.
+//! The pairs of points of a section of which one follows the other.
 
 ghost use Rattle.std.specs.Prelude.{◌≡◌, ◌++◌, IfOk, OnOk};
 ghost use Rattle.flow.specs.Skeletons.{Nil};
@@ -14,18 +14,18 @@ use source::memory::NoMemory;
 use std::alloc::Global;
 
 impl Points {
-    /// The pairs of points of which the first is followed by the second.
+    /// The pairs of points of which the second follows the first.
     ///
     /// # Errors
     ///
-    /// Want of memory.
+    /// Out of memory.
     pub fn pairs(&self, alloc: Global) -> Result<Vec<(usize, usize)>, NoMemory>
-        // In any section whose points these are, a pair is listed exactly if its first point is followed by its second.
+        // In any section with these points, a pair is listed exactly if its second point follows its first.
         ensures followed { IfOk result (λ list. ArePairs self.now list.items) }
-        // They are those of the parts, in the order of their first points.
+        // They are the pairs of the parts, in the order of their first points.
         ensures of_parts { IfOk result (λ list. list.items ≡ pairs (skeleton_of self.now.parts.items)) }
     {
-        // The law tells that the pairs listed are those by which control goes.
+        // By the law, the listed pairs are the flow of control.
         flow::laws::pairs_lead_between_points();
         let list = pairs_of(alloc, &self.parts)?;
         Ok(list)
@@ -36,7 +36,7 @@ impl Points {
 fn pairs_of(alloc: Global, parts: &[Part]) -> Result<Vec<(usize, usize)>, NoMemory>
     ensures { IfOk result (λ list. list.items ≡ pairs (skeleton_of parts.now)) }
 {
-    // Noted once, so that a block within many others isn't counted for each of them.
+    // Computed once, so that a block within many others isn't counted for each of them.
     let ends = ends_of(alloc, parts)?;
     let mut list = Vec::new(alloc);
     let pass = Pass { ends: &ends };
@@ -44,7 +44,7 @@ fn pairs_of(alloc: Global, parts: &[Part]) -> Result<Vec<(usize, usize)>, NoMemo
     Ok(list)
 }
 
-// The first point of these parts, which are numbered from `n`; where there is none, what follows them.
+// The first point of these parts, which are numbered from `n`, or if they have none, the point that follows them.
 fn first_point(parts: &[Part], n: usize, next: Option<usize>) -> Option<usize>
     ensures { result ≡ head (skeleton_of parts.now) n next }
 {
@@ -64,7 +64,7 @@ fn push_pair(
     Ok(())
 }
 
-// The pairs of a point that may be followed by either of two.
+// Appends the pairs of a point that either of two points may follow.
 fn push_both(
     point: usize,
     first: Option<usize>,
@@ -77,14 +77,14 @@ fn push_both(
     push_pair(point, second, list)
 }
 
-// The pass over the parts of a section, of which it is known where their blocks end.
+// The pass over the parts of a section, given the ends of their blocks.
 #[derive(Drop)]
 struct Pass<'a> {
     ends: &'a [Ends],
 }
 
 impl<'a> Pass<'a> {
-    // The pairs of these parts, which are numbered from `n` and followed by the point `next`, if any.
+    // Appends the pairs of these parts, which are numbered from `n`. The point `next` follows them, if there is one.
     #[cycle(pairs)]
     fn push_pairs(
         &self,

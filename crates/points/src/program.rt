@@ -11,11 +11,11 @@ use lockpaths::table::Paths;
 use source::memory::NoMemory;
 use std::alloc::Global;
 
-/// The points of each section, in the order of [`Typed::sections`], by the program's lock paths.
+/// The points of each section, in the order of [`Typed::sections`], given the program's lock paths.
 ///
 /// # Errors
 ///
-/// Want of memory.
+/// Out of memory.
 pub fn all_points(alloc: Global, program: &Typed, paths: &Paths) -> Result<Vec<Points>, NoMemory>
     requires { ArePaths program.now paths.now }
     ensures { IfOk result (λ all. AreAllPointsOf program.now all.items) }

@@ -8,14 +8,15 @@ use locks::path_set::PathSet;
 /// The ranks of a section's lock paths.
 #[derive(Drop)]
 pub struct Ranking<'a> {
-    /// For each path its rank.
+    /// The rank of each path.
     pub ranks: &'a [u32],
-    /// A set has room for all paths.
+    /// All paths fit into a set.
     pub ghost few: { length ranks.now ≤ 64 },
 }
 
 impl<'a> Ranking<'a> {
-    /// The paths that are wanted at a point which uses these, comes before points that use those, and has these in scope.
+    /// The paths that are wanted at a point that uses `used`, comes before points that use `later`, and has `in_scope`
+    /// in scope.
     pub fn wanted(&self, used: PathSet, later: PathSet, in_scope: PathSet) -> PathSet
         ensures { IsWantedSet self.now.ranks.now used later in_scope result }
     {

@@ -15,17 +15,17 @@ use locks::path_set::PathSet;
 use source::memory::NoMemory;
 use std::alloc::Global;
 
-/// The lock paths of a section, for their roots.
+/// The lock paths of a section, by their roots.
 #[derive(Drop)]
 pub struct Roots<'a> {
     /// The lock paths.
     pub paths: &'a [LockPath],
-    /// A set has room for all of them.
+    /// All paths fit into a set.
     pub ghost few: { length paths.now ≤ 64 },
 }
 
 impl<'a> Roots<'a> {
-    /// For each point the paths whose root it binds.
+    /// For each point, the paths whose root it binds.
     pub fn bound(&self, alloc: Global, points: &[PointRef<'a>]) -> Result<Vec<PathSet>, NoMemory>
         ensures { IfOk result (λ sets. (i : ℕ) → column i sets.items ≡ map (binds self.now.paths.now i) (map point_at points.now)) }
     {
@@ -36,7 +36,7 @@ impl<'a> Roots<'a> {
         Ok(sets)
     }
 
-    /// For each point the paths in scope before it.
+    /// For each point, the paths in scope before it.
     pub fn in_scope(&self, alloc: Global, section: &Section) -> Result<Vec<PathSet>, NoMemory>
         ensures { IfOk result (λ sets. (i : ℕ) → column i sets.items ≡ map (in_scope self.now.paths.now i) (scopes section.now)) }
     {
@@ -65,7 +65,7 @@ impl<'a> Roots<'a> {
         set
     }
 
-    // The paths in scope where only parameters are.
+    // The paths in scope where only the parameters are in scope.
     fn among_parameters(&self, parameters: usize) -> PathSet
         ensures { AreThose self.now.paths.now (is_among (numbers_from 0 parameters)) result }
     {
@@ -94,7 +94,7 @@ impl<'a> Roots<'a> {
         }
     }
 
-    // The paths in scope behind a statement, where these are in scope before it.
+    // The paths in scope after a statement, if `scope` is in scope before it.
     fn behind(&self, action: &Action, scope: PathSet) -> PathSet
         ensures { IsAfter self.now.paths.now scope (behind_action action.now) result }
     {
@@ -108,7 +108,7 @@ impl<'a> Roots<'a> {
         }
     }
 
-    // Adds for each point of a block the paths in scope before it. Gives those behind the last.
+    // Adds the paths in scope before each point of a block. Returns those after the last.
     #[cycle(scopes)]
     fn push_block(
         &self,
@@ -128,7 +128,7 @@ impl<'a> Roots<'a> {
         Ok(now)
     }
 
-    // Adds for each point of the blocks of a statement the paths in scope before it.
+    // Adds the paths in scope before each point of a statement's blocks.
     #[cycle(scopes)]
     fn push_inner(
         &self,

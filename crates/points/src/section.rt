@@ -26,11 +26,11 @@ fn classes_of(alloc: Global, paths: &[LockPath]) -> Result<Vec<usize>, NoMemory>
     Ok(classes)
 }
 
-/// The points of the section of this number in [`Typed::sections`], by the program's lock paths.
+/// The points of the section with this number in [`Typed::sections`], given the program's lock paths.
 ///
 /// # Errors
 ///
-/// Want of memory.
+/// Out of memory.
 pub fn points(
     alloc: Global,
     program: &Typed,
@@ -41,7 +41,7 @@ pub fn points(
     requires section { section < length program.now.sections.items }
     ensures { IfOk result (ArePointsOf program.now section) }
 {
-    // The law tells that each list has an item for each point.
+    // By the law, each list has an item for each point.
     flow::laws::points_are_counted();
     let declared = &program.sections[section];
     let found = &paths.sections[section];

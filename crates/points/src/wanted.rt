@@ -1,4 +1,4 @@
-//! Which lock paths are wanted at the points of a section, and which are surely held there.
+//! The lock paths that are wanted at the points of a section, and those that are surely held there.
 
 ghost use Rattle.std.specs.Prelude.{◌≡◌, map, slice_index, vec_len, IfOk};
 ghost use Rattle.flow.specs.Skeletons.{count};
@@ -19,7 +19,7 @@ pub type Wanted = Vec<PathSet>;
 /// For each point of a section, by its number, the lock paths that are surely held there.
 pub type Held = Vec<PathSet>;
 
-// The rank of a class; 0 where it has none.
+// The rank of a class, or 0 if it has none.
 fn rank_of(ranks: &[u32], class: usize) -> u32
     ensures { result ≡ slice_index ranks.now class }
 {
@@ -37,27 +37,28 @@ fn ranks_of(alloc: Global, ranks: &[u32], classes: &[usize]) -> Result<Vec<u32>,
 }
 
 impl Points {
-    /// For each point the paths that are wanted there, by the ranks of the classes; a class behind the last has rank 0.
+    /// For each point, the paths that are wanted there, given the ranks of the classes. A class past the last rank has
+    /// rank 0.
     ///
     /// # Errors
     ///
-    /// Want of memory.
+    /// Out of memory.
     pub fn wanted(&self, alloc: Global, ranks: &[u32]) -> Result<Wanted, NoMemory>
         ensures { IfOk result (λ sets. AreWanted self.now ranks.now sets.items) }
     {
-        // The laws tell that there is a set for each point, and that each path that is used has a number.
+        // By the laws, each point has a set, and each used path has a number.
         flow::laws::points_are_counted();
         locks::laws::each_path_once();
         let sets = self.wanted_by(alloc, ranks)?;
         Ok(sets)
     }
 
-    /// For each point the paths whose locks are held on every walk to it, by the ranks of the classes, if what is wanted at
-    /// a point is taken there; a class behind the last has rank 0.
+    /// For each point, the paths whose locks are held on every walk to it, if each point acquires what is wanted there,
+    /// given the ranks of the classes. A class past the last rank has rank 0.
     ///
     /// # Errors
     ///
-    /// Want of memory.
+    /// Out of memory.
     pub fn surely_held(&self, alloc: Global, ranks: &[u32]) -> Result<Held, NoMemory>
         ensures { IfOk result (λ sets. AreSurelyHeld self.now ranks.now sets.items) }
     {

@@ -12,17 +12,17 @@ use Rattle.core_lang.specs.declared.typed.Thread.{Thread}
 use Rattle.core_lang.specs.declared.typed.Typed.{Typed}
 use Rattle.core_lang.specs.Serial.{Invocation, Scheduled, invocation}
 use Rattle.core_lang.specs.WellFormed.{IsChecked, CanCall}
-use Rattle.source_histories.specs.declared.format.Format.{Format}
-use Rattle.source_histories.specs.declared.format.Format.TheVariants.{One, Two}
-use Rattle.source_histories.specs.Pieces.{begins}
+use Rattle.input_files.specs.declared.format.Format.{Format}
+use Rattle.input_files.specs.declared.format.Format.TheVariants.{One, Two}
+use Rattle.input_files.specs.Pieces.{begins}
 use Rattle.core_lang.specs.Theory.Items.{lookup_some}
-use Rattle.report.specs.declared.record.Called.{Called}
+use Rattle.report.specs.declared.record.CallRef.{CallRef}
 use Rattle.report.specs.Entry.{scheduled_called}
 use Rattle.report.specs.History.{call_head}
 use Rattle.replay.specs.declared.callers.Callers.{Callers}
 use Rattle.replay.specs.declared.callers.Callers.TheVariants.{Scripts, Anyone}
 use Rattle.replay.specs.declared.told.Told.{Told}
-use Rattle.replay.specs.declared.progress.Seat.{Seat}
+use Rattle.replay.specs.declared.progress.ThreadProgress.{ThreadProgress}
 use Rattle.replay.specs.declared.progress.Progress.{Progress}
 use Rattle.replay.specs.Told.{told_in, invocation_in, invoked_text}
 use Rattle.replay.specs.Readers.{Reader, IsNext, IsNextCall, MayBegin, next_call, calls_by}
@@ -41,7 +41,7 @@ record Agrees (format : Format) (at : Progress) (text : List ℕ) (call : Schedu
   counted : call.step ≡ called_at at.seats call.thread
   begins : begins_at format (least_at at.seats call.thread) at.position (shown format begun) ≡ true
 
-begins_told : (format : Format) (seats : BTreeMap ℕ Seat) (order : List ℕ) (t begun position : ℕ) → AreSeats seats order →
+begins_told : (format : Format) (seats : BTreeMap ℕ ThreadProgress) (order : List ℕ) (t begun position : ℕ) → AreSeats seats order →
     position ≡ length order →
     MayBegin format order t begun → begins_at format (least_at seats t) position (shown format begun) ≡ true
 begins_told One seats order t begun position are is may = refl
@@ -50,7 +50,7 @@ begins_told Two seats order t begun position are is may =
     let most = may.0 in
     and_from _ _ (le-leb _ _ least) (le-leb _ _ (omega (arith, most, is)))
 
-pub begins_allowed : (format : Format) (seats : BTreeMap ℕ Seat) (order : List ℕ) (t begun position : ℕ) →
+pub begins_allowed : (format : Format) (seats : BTreeMap ℕ ThreadProgress) (order : List ℕ) (t begun position : ℕ) →
     AreSeats seats order → position ≡ length order →
     begins_at format (least_at seats t) position begun ≡ true → MayBegin format order t begun
 begins_allowed One seats order t begun position are is may = tt
@@ -80,7 +80,7 @@ same_heads One program call begun other same = refl
 same_heads Two program call begun other same = ap (call_head Two program call) (sym same)
 
 -- the call with these parts
-pub with_parts : (this : Called) (t k : ℕ) (c : Invocation) → this.thread ≡ t → this.step ≡ k →
+pub with_parts : (this : CallRef) (t k : ℕ) (c : Invocation) → this.thread ≡ t → this.step ≡ k →
     record { section = this.section; arguments = this.arguments.now } ≡ c →
     scheduled_called this ≡ record { thread = t; step = k; call = c }
 with_parts this t k c thread step call =
@@ -128,7 +128,7 @@ module _ (callers : Callers) (format : Format) (program : Typed) (at : Progress)
         let e = sym never ∙ (of_told reader call begun end at_reader next).begins in absurd (cc)
 
     -- the call may be the next one, and there is no other
-    pub only_of : (this : Called) → IsThread callers program this.thread → IsSound callers program at →
+    pub only_of : (this : CallRef) → IsThread callers program this.thread → IsSound callers program at →
         begins_at format (seat_in at.seats told.thread).least at.position told.begun ≡ true →
         this.thread ≡ told.thread → this.step ≡ (seat_in at.seats told.thread).called → this.begun ≡ told.begun →
         CanCall program this.section this.arguments.now →
@@ -184,7 +184,7 @@ module _ (format : Format) (program : Typed) (at : Progress) (text : List ℕ) (
       let e = sym none ∙ found.1 in absurd (cc)
 
   -- the thread's next call may begin so
-  pub only_call : (this : Called) (call : Call) → IsSound Scripts program at →
+  pub only_call : (this : CallRef) (call : Call) → IsSound Scripts program at →
       call_in program told.thread (seat_in at.seats told.thread).called ≡ Some call →
       begins_at format (seat_in at.seats told.thread).least at.position told.begun ≡ true →
       this.thread ≡ told.thread → this.step ≡ (seat_in at.seats told.thread).called → this.begun ≡ told.begun →
@@ -230,7 +230,7 @@ module _ (format : Format) (program : Typed) (at : Progress) (text : List ℕ) (
       never (subst (λ (x : Invocation). CanCall program x.section x.arguments) (sym same) next.next.fits)
 
   -- it can be made, by its thread, and may begin so
-  pub only_open : (this : Called) → IsSound Anyone program at →
+  pub only_open : (this : CallRef) → IsSound Anyone program at →
       begins_at format (seat_in at.seats told.thread).least at.position told.begun ≡ true →
       this.thread ≡ told.thread → this.step ≡ (seat_in at.seats told.thread).called → this.begun ≡ told.begun →
       told.thread < 2 ^ 32 →
@@ -276,7 +276,7 @@ pub begins_with : (word text rest : List ℕ) → text ≡ word ++ rest → begi
 begins_with word text rest is = (starts_is Decides-eqb text word (begins word text) refl).1 rest is
 
 -- a line that does not begin as the only call's is of no call
-pub no_head : (callers : Callers) (format : Format) (program : Typed) (at : Progress) (text written : List ℕ) (this : Called) →
+pub no_head : (callers : Callers) (format : Format) (program : Typed) (at : Progress) (text written : List ℕ) (this : CallRef) →
     IsOnlyCall callers format program at text this →
     written ≡ call_head format program (scheduled_called this) this.begun → begins written text ≡ false → IsNoCall callers format program at text
 no_head callers format program at text written this only is not reader call begun end at_reader next =

@@ -9,7 +9,7 @@ use Rattle.std.proofs.lemmas.List.{take-append-le, drop-append-le}
 use Rattle.std.proofs.lemmas.List.Folds.{prefix_len-append}
 use Rattle.core_lang.specs.declared.value.Value.{Value}
 use Rattle.core_lang.specs.declared.typed.Typed.{Typed}
-use Rattle.source_histories.specs.Pieces.{before, behind}
+use Rattle.input_files.specs.Pieces.{before, behind}
 use Rattle.report.specs.Pieces.{invocation_text, section_name, values_text}
 use Rattle.replay.specs.Told.{invocation_in, arguments_in, section_named}
 

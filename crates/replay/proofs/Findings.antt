@@ -4,7 +4,7 @@ use Rattle.std.specs.Prelude.{codes}
 use Rattle.core_lang.specs.declared.typed.Typed.{Typed}
 use Rattle.core_lang.specs.Serial.{Scheduled, run_call}
 use Rattle.core_lang.specs.Whole.{Finished, Over}
-use Rattle.source_histories.specs.declared.format.Format.{Format}
+use Rattle.input_files.specs.declared.format.Format.{Format}
 use Rattle.replay.specs.declared.callers.Callers.{Callers}
 use Rattle.report.specs.Pieces.{outcome_text}
 use Rattle.report.specs.Entry.{scheduled_in}

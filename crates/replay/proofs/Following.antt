@@ -6,7 +6,7 @@ use Rattle.std.proofs.lemmas.List.{map-append, take_all, length-map}
 use Rattle.std.proofs.lemmas.List.Elements.{filter-append}
 use Rattle.std.proofs.lemmas.List.Sums.{sum_by-append}
 use Rattle.core_lang.specs.declared.typed.Typed.{Typed}
-use Rattle.source_histories.specs.declared.format.Format.{Format}
+use Rattle.input_files.specs.declared.format.Format.{Format}
 use Rattle.core_lang.specs.Theory.Items.{behind_at}
 use Rattle.report.specs.Entry.{Entry, scheduled_in}
 use Rattle.replay.specs.declared.callers.Callers.{Callers}

@@ -7,10 +7,10 @@ use Rattle.std.proofs.lemmas.Bool.{false≢true}
 use Rattle.std.specs.Fmt.{decimal}
 use Rattle.core_lang.specs.declared.typed.Typed.{Typed}
 use Rattle.core_lang.specs.Serial.{Scheduled}
-use Rattle.source_histories.specs.declared.format.Format.{Format}
-use Rattle.source_histories.specs.declared.format.Format.TheVariants.{One, Two}
-use Rattle.source_histories.specs.Pieces.{before, behind, count_in}
-use Rattle.source_histories.specs.Theory.Counts.{count_in-decimal, before-count, behind-count}
+use Rattle.input_files.specs.declared.format.Format.{Format}
+use Rattle.input_files.specs.declared.format.Format.TheVariants.{One, Two}
+use Rattle.input_files.specs.Pieces.{before, behind, count_in}
+use Rattle.input_files.specs.Theory.Counts.{count_in-decimal, before-count, behind-count}
 use Rattle.report.specs.Pieces.{invocation_text}
 use Rattle.report.specs.History.{begun_text, call_head}
 use Rattle.core_lang.specs.Typing.{lookup}

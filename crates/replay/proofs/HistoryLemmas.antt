@@ -8,7 +8,7 @@ use Rattle.core_lang.specs.declared.typed.Typed.{Typed}
 use Rattle.core_lang.specs.Whole.{Run, Over, Beyond_turns, Gone_astray}
 use Rattle.core_lang.specs.Serial.{Ended, Serial, end_of, opening_heap, run_section, run_call, go_on, serial_with}
 use Rattle.core_lang.specs.Laws.{MoreTurnsChangeNothing, OverIsWhole}
-use Rattle.source_histories.specs.declared.format.Format.{Format}
+use Rattle.input_files.specs.declared.format.Format.{Format}
 use Rattle.report.specs.Entry.{Entry}
 use Rattle.report.specs.History.{call_line}
 use Rattle.replay.specs.Readers.{Reader, opened, due, call, cells, Come, finished_as, print_lines, closing_lines}

@@ -4,9 +4,9 @@ use Rattle.replay.specs.Told.{told_in}
 use Rattle.std.specs.BTreeMap.{BTreeMap}
 use Rattle.std.proofs.lemmas.Bool.{le-leb, and_from, false≢true}
 use Rattle.core_lang.specs.declared.typed.Typed.{Typed}
-use Rattle.source_histories.specs.declared.format.Format.{Format}
-use Rattle.source_histories.specs.declared.format.Format.TheVariants.{One, Two}
-use Rattle.replay.specs.declared.progress.Seat.{Seat}
+use Rattle.input_files.specs.declared.format.Format.{Format}
+use Rattle.input_files.specs.declared.format.Format.TheVariants.{One, Two}
+use Rattle.replay.specs.declared.progress.ThreadProgress.{ThreadProgress}
 use Rattle.replay.specs.declared.told.Told.{Told}
 use Rattle.replay.specs.declared.wanted.Lack.{Lack}
 use Rattle.replay.specs.declared.wanted.Lack.TheVariants as lack
@@ -15,7 +15,7 @@ use Rattle.replay.specs.Working.Reading.{AreSeats, begins_at}
 use Rattle.replay.specs.Working.Seats.{seat_in}
 use Rattle.replay.proofs.Candidates.{begins_allowed}
 
-module _ (seats : BTreeMap ℕ Seat) (order : List ℕ) (are : AreSeats seats order) (told : Told) (position : ℕ) (is : position ≡ length order) where
+module _ (seats : BTreeMap ℕ ThreadProgress) (order : List ℕ) (are : AreSeats seats order) (told : Told) (position : ℕ) (is : position ≡ length order) where
   pub begin_lacks : (format : Format) → begins_at format (seat_in seats told.thread).least position told.begun ≡ false →
       LacksNumber format order told (lack.Begin (seat_in seats told.thread).least position)
   begin_lacks One never = absurd (false≢true (sym never))

@@ -16,7 +16,7 @@ use Rattle.core_lang.specs.declared.shape.Shape.{Shape}
 use Rattle.core_lang.specs.declared.typed.Typed.{Typed}
 use Rattle.core_lang.specs.Typing.{lookup}
 use Rattle.core_lang.specs.WellFormed.{IsChecked}
-use Rattle.source_histories.specs.Pieces.{before, behind, count_in}
+use Rattle.input_files.specs.Pieces.{before, behind, count_in}
 use Rattle.replay.specs.Told.{and_values, arguments_in, member_of, object_in, pool_named, unspaced, value_in, values_in}
 
 -- ---- members of pools

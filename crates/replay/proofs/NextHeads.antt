@@ -5,7 +5,7 @@ use Rattle.std.specs.Option.{option_map_or}
 use Rattle.core_lang.specs.declared.typed.Call.{Call}
 use Rattle.core_lang.specs.declared.typed.Typed.{Typed}
 use Rattle.core_lang.specs.Serial.{Scheduled}
-use Rattle.source_histories.specs.declared.format.Format.{Format}
+use Rattle.input_files.specs.declared.format.Format.{Format}
 use Rattle.report.specs.History.{call_head}
 use Rattle.replay.specs.declared.progress.Progress.{Progress}
 use Rattle.replay.specs.Readers.{Reader, next_call}

@@ -5,8 +5,8 @@ use Rattle.core_lang.specs.declared.typed.Typed.{Typed}
 use Rattle.core_lang.specs.Serial.{Scheduled, run_call}
 use Rattle.core_lang.specs.Whole.{Finished, Over, Beyond_turns}
 use Rattle.core_lang.specs.WellFormed.{IsChecked}
-use Rattle.source_histories.specs.declared.format.Format.{Format}
-use Rattle.source_histories.specs.Pieces.{before, count_in}
+use Rattle.input_files.specs.declared.format.Format.{Format}
+use Rattle.input_files.specs.Pieces.{before, count_in}
 use Rattle.report.specs.Entry.{scheduled_in}
 use Rattle.replay.specs.declared.verdict.Verdict.TheVariants.{Same, Differs, Unsettled}
 use Rattle.replay.specs.Readers.{Reader, opened, Comes, due, call, cells, Come, CallComes, IsNextCall, IsUnsettled}

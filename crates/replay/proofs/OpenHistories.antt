@@ -4,7 +4,7 @@ use Rattle.std.proofs.lemmas.List.{length_push}
 use Rattle.core_lang.specs.declared.typed.Typed.{Typed}
 use Rattle.core_lang.specs.Serial.{Scheduled}
 use Rattle.core_lang.specs.WellFormed.{IsChecked, CanCall}
-use Rattle.source_histories.specs.declared.format.Format.{Format}
+use Rattle.input_files.specs.declared.format.Format.{Format}
 use Rattle.replay.specs.declared.callers.Callers.TheVariants.{Scripts, Anyone}
 use Rattle.replay.specs.Readers.{Reader, Comes, Come, IsOpenCall, due, call, cells, calls_by, next_call, opened}
 use Rattle.replay.specs.Working.Laws.{AreScriptsTold, ScriptsAreOpen}

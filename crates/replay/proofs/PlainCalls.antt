@@ -32,8 +32,8 @@ use Rattle.core_lang.specs.Arithmetic.{fits}
 use Rattle.core_lang.specs.Typing.{Fit, HasType, HaveTypes, lookup, struct_of}
 use Rattle.core_lang.specs.WellFormed.{IsChecked, CanCall}
 use Rattle.source.specs.Texts.{is_digit, is_letter, is_name_byte, value_of}
-use Rattle.source_histories.specs.Pieces.{before, behind, count_in, is_count, is_name, is_numeral, number_in}
-use Rattle.source_histories.specs.Theory.Counts.{count_in-decimal}
+use Rattle.input_files.specs.Pieces.{before, behind, count_in, is_count, is_name, is_numeral, number_in}
+use Rattle.input_files.specs.Theory.Counts.{count_in-decimal}
 use Rattle.report.specs.Pieces.{index_text, invocation_text, object_text, pool_of, section_name, value_text, values_text}
 use Rattle.replay.specs.Told.{and_values, arguments_in, first_named, invocation_in, member_of, number_or, object_in, pool_named}
 use Rattle.replay.specs.Told.{reference_in, section_named, unspaced, value_in, values_in}

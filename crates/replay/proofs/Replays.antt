@@ -5,7 +5,7 @@ use Rattle.std.specs.Prelude.{codes}
 use Rattle.std.proofs.lemmas.Bool.{false≢true}
 use Rattle.std.proofs.lemmas.List.{length_push}
 use Rattle.core_lang.specs.declared.typed.Typed.{Typed}
-use Rattle.source_histories.specs.declared.format.Format.{Format}
+use Rattle.input_files.specs.declared.format.Format.{Format}
 use Rattle.replay.specs.declared.callers.Callers.{Callers}
 use Rattle.replay.specs.declared.progress.Progress.{Progress}
 use Rattle.replay.specs.declared.progress.Stage.{Stage}

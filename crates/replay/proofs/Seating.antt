@@ -11,7 +11,7 @@ use Rattle.std.proofs.lemmas.List.{length_push}
 use Rattle.std.proofs.lemmas.List.Sums.{sum_by-append}
 use Rattle.std.proofs.lemmas.Option.{slice_get_within}
 use Rattle.core_lang.specs.Theory.Items.{still_at, behind_at, pushed_at}
-use Rattle.replay.specs.declared.progress.Seat.{Seat}
+use Rattle.replay.specs.declared.progress.ThreadProgress.{ThreadProgress}
 use Rattle.replay.specs.Readers.{calls_by, IsAfter}
 use Rattle.replay.specs.declared.callers.Callers.{Callers}
 use Rattle.replay.specs.declared.callers.Callers.TheVariants.{Scripts, Anyone}
@@ -55,34 +55,34 @@ after_other t u order begun apart = (
 -- ---- seats
 
 -- before the first call
-pub seats_start : (seats : BTreeMap ℕ Seat) → seats.entries ≡ [] → AreSeats seats []
+pub seats_start : (seats : BTreeMap ℕ ThreadProgress) → seats.entries ≡ [] → AreSeats seats []
 seats_start seats none =
     let empty : (t : ℕ) → seat_in seats t ≡ empty_seat = λ t. ap (λ es. unwrap_or (lookup (is_at (nat_cmp t)) es) empty_seat) none in
     record {
-      called = λ t. ap (λ (s : Seat). s.called) (empty t);
-      least = λ t begun. let e = ap (λ (s : Seat). s.least) (empty t) in (λ after. omega (arith, e), λ most k is. absurd (cc));
+      called = λ t. ap (λ (s : ThreadProgress). s.called) (empty t);
+      least = λ t begun. let e = ap (λ (s : ThreadProgress). s.least) (empty t) in (λ after. omega (arith, e), λ most k is. absurd (cc));
     }
 
-module _ (old new : BTreeMap ℕ Seat) (order : List ℕ) (t : ℕ) (seat : Seat) (are : AreSeats old order) (with : IsWithSeat t seat old new) where
+module _ (old new : BTreeMap ℕ ThreadProgress) (order : List ℕ) (t : ℕ) (seat : ThreadProgress) (are : AreSeats old order) (with : IsWithSeat t seat old new) where
   called_next : seat.called ≡ called_at old t + 1 → (u : ℕ) → called_at new u ≡ calls_by u (order ++ t ∷ [])
   called_next more u = elim (cases_eq t u) [
     | inl same ↦
         subst (λ v. called_at new v ≡ calls_by v (order ++ t ∷ [])) same
-        (ap (λ (s : Seat). s.called) with.here ∙ more ∙ ap (λ n. n + 1) (are.called t) ∙ sym (calls_by_one t t order refl))
+        (ap (λ (s : ThreadProgress). s.called) with.here ∙ more ∙ ap (λ n. n + 1) (are.called t) ∙ sym (calls_by_one t t order refl))
     | inr apart ↦
-        ap (λ (s : Seat). s.called) (with.others u (λ e. apart (sym e))) ∙ are.called u ∙ sym (calls_by_other u t order apart)
+        ap (λ (s : ThreadProgress). s.called) (with.others u (λ e. apart (sym e))) ∙ are.called u ∙ sym (calls_by_other u t order apart)
   ]
 
   least_next : seat.least ≡ length order + 1 → (u begun : ℕ) →
       IsAfter (order ++ t ∷ []) u begun ↔ (least_at new u ≤ begun)
   least_next least u begun = elim (cases_eq t u) [
     | inl same ↦
-        let here = ap (λ (s : Seat). s.least) with.here in
+        let here = ap (λ (s : ThreadProgress). s.least) with.here in
         let own = after_own t order begun in
         subst (λ v. IsAfter (order ++ t ∷ []) v begun ↔ (least_at new v ≤ begun)) same
         (λ after. let h = own.0 after in omega (arith, h, here, least), λ most. own.1 (omega (arith, most, here, least)))
     | inr apart ↦
-        let there = ap (λ (s : Seat). s.least) (with.others u (λ e. apart (sym e))) in
+        let there = ap (λ (s : ThreadProgress). s.least) (with.others u (λ e. apart (sym e))) in
         let other = after_other u t order begun apart in
         let kept = are.least u begun in
         (λ after. let h = kept.0 (other.0 after) in omega (arith, h, there), λ most. other.1 (kept.1 (omega (arith, most, there))))
@@ -93,15 +93,15 @@ module _ (old new : BTreeMap ℕ Seat) (order : List ℕ) (t : ℕ) (seat : Seat
   seats_next more least = record { called = called_next more; least = least_next least }
 
 -- and what is sound of them
-module _ (old new : BTreeMap ℕ Seat) (t : ℕ) (seat : Seat) (with : IsWithSeat t seat old new) where
+module _ (old new : BTreeMap ℕ ThreadProgress) (t : ℕ) (seat : ThreadProgress) (with : IsWithSeat t seat old new) where
   pub few_next : (position : ℕ) → ((u : ℕ) → called_at old u ≤ position) → seat.called ≤ position + 1 → (u : ℕ) →
       called_at new u ≤ position + 1
   few_next position few most u = elim (cases_eq u t) [
     | inl same ↦
-        let here : called_at new u ≡ seat.called = ap (called_at new) same ∙ ap (λ (s : Seat). s.called) with.here in
+        let here : called_at new u ≡ seat.called = ap (called_at new) same ∙ ap (λ (s : ThreadProgress). s.called) with.here in
         omega (arith, here, most)
     | inr apart ↦
-        let there : called_at new u ≡ called_at old u = ap (λ (s : Seat). s.called) (with.others u apart) in
+        let there : called_at new u ≡ called_at old u = ap (λ (s : ThreadProgress). s.called) (with.others u apart) in
         let h = few u in
         omega (arith, there, h)
   ]
@@ -109,5 +109,5 @@ module _ (old new : BTreeMap ℕ Seat) (t : ℕ) (seat : Seat) (with : IsWithSea
   pub threads_next : (callers : Callers) (program : Typed) → AreThreads callers program old → IsThread callers program t →
       AreThreads callers program new
   threads_next Scripts program are is = λ u past.
-      ap (λ (s : Seat). s.called) (with.others u (λ same. absurd (omega (arith, same, past, is)))) ∙ are u past
+      ap (λ (s : ThreadProgress). s.called) (with.others u (λ same. absurd (omega (arith, same, past, is)))) ∙ are u past
   threads_next Anyone program are is = tt

@@ -11,7 +11,7 @@ use Rattle.core_lang.specs.declared.typed.Typed.{Typed}
 use Rattle.core_lang.specs.Serial.{Scheduled, Invocation, Ended, invocation, script_from, scripts_from, all_calls}
 use Rattle.core_lang.specs.Serial.{opening_heap, serial_with, SerialFromOpening}
 use Rattle.core_lang.specs.Laws.{HaveAtMostOneSerial}
-use Rattle.source_histories.specs.declared.format.Format.TheVariants.{One}
+use Rattle.input_files.specs.declared.format.Format.TheVariants.{One}
 use Rattle.report.specs.Entry.{Entry, scheduled_in}
 use Rattle.replay.specs.declared.callers.Callers.TheVariants.{Scripts}
 use Rattle.replay.specs.Readers.{script_of}

@@ -17,13 +17,13 @@ use Rattle.core_lang.specs.Serial.{run_call}
 use Rattle.core_lang.specs.Typing.{HasCells}
 use Rattle.core_lang.specs.Whole.{Over, Beyond_turns}
 use Rattle.meaning.specs.declared.run.End.{End}
-use Rattle.source_histories.specs.declared.format.Format.{Format}
-use Rattle.report.specs.declared.record.Called.{Called}
+use Rattle.input_files.specs.declared.format.Format.{Format}
+use Rattle.report.specs.declared.record.CallRef.{CallRef}
 use Rattle.report.specs.Pieces.{outcome_text}
 use Rattle.report.specs.Entry.{Entry, scheduled_called}
 use Rattle.report.specs.History.{call_head, print_line, cell_line}
 use Rattle.replay.specs.declared.progress.Progress.{Progress}
-use Rattle.replay.specs.declared.progress.Seat.{Seat}
+use Rattle.replay.specs.declared.progress.ThreadProgress.{ThreadProgress}
 use Rattle.replay.specs.declared.progress.Stage.{Stage}
 use Rattle.replay.specs.declared.progress.Stage.TheVariants.{Calls, Cells, Ended}
 use Rattle.replay.specs.Readers.{Reader, Comes, call, cells, IsUnsettled, script_of, print_lines, cell_lines}
@@ -101,12 +101,12 @@ module _ (program : Typed) (at : Progress) (reader : Reader) (is : IsAt program 
 -- ---- all calls
 
 -- the seats count all that must come, where all came
-pub all_called : (callers : Callers) (program : Typed) (seats : BTreeMap ℕ Seat) (order : List ℕ) → AreSeats seats order →
+pub all_called : (callers : Callers) (program : Typed) (seats : BTreeMap ℕ ThreadProgress) (order : List ℕ) → AreSeats seats order →
     SeatsAreAll callers program seats → AllCalled callers program order
 all_called Scripts program seats order are full = λ t. sym (are.called t) ∙ full t
 all_called Anyone program seats order are full = tt
 
-pub all_counted : (callers : Callers) (program : Typed) (seats : BTreeMap ℕ Seat) (order : List ℕ) → AreSeats seats order →
+pub all_counted : (callers : Callers) (program : Typed) (seats : BTreeMap ℕ ThreadProgress) (order : List ℕ) → AreSeats seats order →
     AllCalled callers program order → SeatsAreAll callers program seats
 all_counted Scripts program seats order are all = λ t. are.called t ∙ all t
 all_counted Anyone program seats order are all = tt
@@ -199,13 +199,13 @@ module _ (turns : ℕ) (callers : Callers) (format : Format) (program : Typed) w
   -- ---- a call
 
   -- up to its end the line is that of the call
-  pub head_told : (text written : List ℕ) (this : Called) → IsHead format program text written this →
+  pub head_told : (text written : List ℕ) (this : CallRef) → IsHead format program text written this →
       (rest : List ℕ) × (text ≡ call_head format program (scheduled_called this) this.begun ++ rest)
   head_told text written this head =
       let so = begins_so written text head.begins in
       (so.0, so.1 ∙ ap (λ h. h ++ so.0) head.is)
 
-  pub call_beyond : (at : Progress) (reader : Reader) (text written : List ℕ) (this : Called) →
+  pub call_beyond : (at : Progress) (reader : Reader) (text written : List ℕ) (this : CallRef) →
       IsAt program at reader → at.stage ≡ Calls →
       at.told ≡ length at.prints.items → IsOnlyCall callers format program at text this → IsHead format program text written this →
       run_call program turns (scheduled_called this).call at.heap ≡ Beyond_turns → IsUnsettled turns callers format program reader text
@@ -220,7 +220,7 @@ module _ (turns : ℕ) (callers : Callers) (format : Format) (program : Typed) w
         beyond = ap (run_call program turns (scheduled_called this).call) (sym is.heap) ∙ beyond;
       }
 
-  pub call_otherwise : (at : Progress) (reader : Reader) (text written : List ℕ) (this : Called) (end : End) (heap : List Value) →
+  pub call_otherwise : (at : Progress) (reader : Reader) (text written : List ℕ) (this : CallRef) (end : End) (heap : List Value) →
       IsAt program at reader → at.stage ≡ Calls → at.told ≡ length at.prints.items → IsOnlyCall callers format program at text this →
       IsHead format program text written this →
       run_call program turns (scheduled_called this).call at.heap ≡ Over (record { outcome = end.outcome; prints = end.prints.items; heap = heap }) →
@@ -235,7 +235,7 @@ module _ (turns : ℕ) (callers : Callers) (format : Format) (program : Typed) w
       (ap (run_call program turns (scheduled_called this).call) (sym is.heap) ∙ over) never
 
   -- the line of the only call that a line can be of, with the end that the call has, may come
-  pub call_comes : (at : Progress) (reader : Reader) (line text : List ℕ) (this : Called) (end : End) (heap : List Value) →
+  pub call_comes : (at : Progress) (reader : Reader) (line text : List ℕ) (this : CallRef) (end : End) (heap : List Value) →
       IsAt program at reader → at.stage ≡ Calls → at.told ≡ length at.prints.items → IsOnlyCall callers format program at line this →
       (rest : List ℕ) → line ≡ call_head format program (scheduled_called this) this.begun ++ rest →
       run_call program turns (scheduled_called this).call at.heap ≡ Over (record { outcome = end.outcome; prints = end.prints.items; heap = heap }) →
@@ -261,7 +261,7 @@ module _ (turns : ℕ) (callers : Callers) (format : Format) (program : Typed) w
         leads = refl;
       })
 
-  pub call_came : (at : Progress) (reader : Reader) (text : List ℕ) (this : Called) (end : End) (after : Progress) →
+  pub call_came : (at : Progress) (reader : Reader) (text : List ℕ) (this : CallRef) (end : End) (after : Progress) →
       IsAt program at reader → at.stage ≡ Calls → at.told ≡ length at.prints.items → IsOnlyCall callers format program at text this →
       run_call program turns (scheduled_called this).call at.heap ≡ Over (record { outcome = end.outcome; prints = end.prints.items; heap = after.heap }) →
       text ≡ call_head format program (scheduled_called this) this.begun ++ outcome_text program.shape end.outcome →
@@ -287,7 +287,7 @@ module _ (turns : ℕ) (callers : Callers) (format : Format) (program : Typed) w
 -- ---- scripts
 
 -- the seats of all threads are full, where those of the program's are
-pub full_seats : (program : Typed) (seats : BTreeMap ℕ Seat) → AreThreads Scripts program seats →
+pub full_seats : (program : Typed) (seats : BTreeMap ℕ ThreadProgress) → AreThreads Scripts program seats →
     ((t : ℕ) → t < length program.threads.items → called_at seats t ≡ length (script_of program t)) → SeatsAreFull program seats
 full_seats program seats none full t = elim (cases_lt t (length program.threads.items)) [
   | inl less ↦ full t less

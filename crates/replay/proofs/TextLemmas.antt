@@ -6,8 +6,8 @@ use Rattle.core_lang.specs.declared.value.Value.{Value}
 use Rattle.core_lang.specs.declared.typed.Cell.{Cell}
 use Rattle.core_lang.specs.declared.typed.Typed.{Typed}
 use Rattle.code.specs.Listing.{line}
-use Rattle.source_histories.specs.declared.format.Format.{Format}
-use Rattle.source_histories.specs.Lines.{header_of}
+use Rattle.input_files.specs.declared.format.Format.{Format}
+use Rattle.input_files.specs.Lines.{header_of}
 use Rattle.report.specs.Entry.{Entry}
 use Rattle.report.specs.History.{print_line, print_texts, entry_text, call_line, cell_texts, cell_line, closing_of}
 use Rattle.replay.specs.Readers.{print_lines, cell_lines, closing_lines}

@@ -3,7 +3,7 @@ pub mod Readers
 pub mod Verdicts
 pub mod Wanted
 pub mod Working
--- what the public clauses cite
+-- the definitions that the public clauses cite
 pub use Rattle.replay.specs.Verdicts.{IsSame, IsDiffering, IsBeyond, Holds}
 pub use Rattle.replay.specs.Wanted.{MayCome, IsWanted, IsWantedAt, Explains}
 pub use Rattle.replay.specs.Working.Histories.{IsHistory, history_lines, text_of}

@@ -4,9 +4,9 @@ use Rattle.std.specs.Prelude.{Option, Some, None}
 use Rattle.std.specs.Option.{option_map_or}
 use Rattle.core_lang.specs.declared.typed.Typed.{Typed}
 use Rattle.core_lang.specs.Serial.{Scheduled}
-use Rattle.source_histories.specs.declared.format.Format.{Format}
-use Rattle.source_histories.specs.declared.format.Format.TheVariants.{Two}
-use Rattle.source_histories.specs.Pieces.{before}
+use Rattle.input_files.specs.declared.format.Format.{Format}
+use Rattle.input_files.specs.declared.format.Format.TheVariants.{Two}
+use Rattle.input_files.specs.Pieces.{before}
 use Rattle.report.specs.History.{call_head}
 use Rattle.replay.specs.declared.callers.Callers.{Callers}
 use Rattle.replay.specs.declared.callers.Callers.TheVariants.{Anyone}
@@ -25,12 +25,12 @@ use Rattle.replay.specs.Verdicts.{HasEnded, Reaches}
 abbrev pub MayCome : ℕ → Callers → Format → Typed → Reader → List ℕ → Type 0
 MayCome turns callers format program reader text = (after : Reader) × Comes turns callers format program reader after text
 
--- the line of a thread's next call up to its end, if it has one, as if it had begun just now
+-- the line of a thread's next call up to its end, if it has one, with a begin at the present length of the history
 abbrev pub next_head : Format → Typed → List ℕ → ℕ → List (List ℕ)
 next_head format program order t =
     option_map_or (λ (call : Scheduled). call_head format program call (length order) ∷ []) (next_call program order t) []
 
--- those of the first so many threads
+-- those lines of the first t threads
 abbrev pub next_heads : Format → Typed → List ℕ → ℕ → List (List ℕ)
 next_heads format program order zero = []
 next_heads format program order (suc t) = next_heads format program order t ++ next_head format program order t
@@ -41,18 +41,18 @@ Names callers format program reader [] call begun = ⊥
 Names callers format program reader (text ∷ more) call begun =
     IsAmongCalls reader × (end : List ℕ) × IsNextCall callers format program reader.order text call begun end
 
--- it is that of none
+-- the first of the lines is not that of a next call, not even up to its end
 abbrev pub NamesNone : Callers → Format → Typed → Reader → List (List ℕ) → Type 0
 NamesNone callers format program reader lines = (call : Scheduled) (begun : ℕ) → Names callers format program reader lines call begun → ⊥
 
--- a line has, up to its end, the call that the first of the lines has, if that is of one
+-- a line has, up to its end, the call of the first of the lines, if that is of one
 abbrev pub KeepsCall : Callers → Format → Typed → Reader → List (List ℕ) → List ℕ → Type 0
 KeepsCall callers format program reader lines text = (call : Scheduled) (begun : ℕ) → Names callers format program reader lines call begun →
     (end : List ℕ) × (text ≡ call_head format program call begun ++ end)
 
 -- ---- calls from outside
 
--- after these calls one of the thread may begin from the first of these lengths of the history to the other
+-- after these calls, a call of the thread may have exactly the begins in this range
 abbrev pub MayBeginWithin : List ℕ → ℕ → ℕ → ℕ → Type 0
 MayBeginWithin order thread least most = (begun : ℕ) → MayBegin Two order thread begun ↔ ((least ≤ begun) × (begun ≤ most))
 
@@ -70,8 +70,8 @@ pub record AreInTurn (format : Format) (order : List ℕ) (told : Told) : Type 0
   pub counted : told.step ≡ calls_by told.thread order
   pub begins : MayBegin format order told.thread told.begun
 
--- what a line that is none of an open call up to its end lacks: it is no call's line; or one of its numbers is out of turn; or
--- there is no such section; or all of that is right, so that its arguments are at fault
+-- what a line lacks that is not one of an open call up to its end: the form of a call's line, or a number in turn, or a
+-- known section; or, where all of that is right, arguments that fit
 abbrev pub LacksSo : Format → Typed → List ℕ → List ℕ → Lack → Type 0
 LacksSo format program order text (lack.Form of) = (of ≡ format) × (told_in format text ≡ None)
 LacksSo format program order text lack.Section =
@@ -81,16 +81,17 @@ LacksSo format program order text lack.Arguments =
     × ((section : ℕ) × (section_named program (before 40 (invoked_text format text)) ≡ Some section))
 LacksSo format program order text number = (told : Told) × (told_in format text ≡ Some told) × LacksNumber format order told number
 
--- what the first of the lines lacks; where there is none, a line of this form
+-- what the first of the lines lacks, or, where there is none, a line of this form; several reasons are reported in the
+-- order of the cases of `Lack`, which this doesn't say
 abbrev pub Lacks : Format → Typed → List ℕ → List (List ℕ) → Lack → Type 0
 Lacks format program order [] missing = missing ≡ lack.Form format
 Lacks format program order (text ∷ more) missing = LacksSo format program order text missing
 
--- ---- what is wanted
+-- ---- what may come
 
--- what may come where these lines are left: this line, which is of the call that the first of them names, if it names one;
--- or, where it names none and calls are left, the next one of any thread, of which these are the lines up to their ends, or,
--- where anyone may call, any call, and this is what the first of the lines lacks; or no line
+-- what may come where these lines are left: a line, which is of the call that the first of them names, if it names one; or,
+-- where it names none and calls are left, the next call of any thread, with the lines of these up to their ends; or, where
+-- anyone may call, any call, with what the first of the lines lacks; or no line
 abbrev pub IsWanted : ℕ → Callers → Format → Typed → Reader → List (List ℕ) → Wanted → Type 0
 IsWanted turns callers format program reader lines (Line text) =
     MayCome turns callers format program reader (string_bytes text) × KeepsCall callers format program reader lines (string_bytes text)
@@ -102,14 +103,14 @@ IsWanted turns callers format program reader lines (Open missing) =
     × Lacks format program reader.order lines missing
 IsWanted turns callers format program reader lines Nothing = HasEnded reader
 
--- the lines before the one with this number came, and this may come there
+-- the lines before the one with this number came, and `wanted` may come there
 pub record IsWantedAt (turns : ℕ) (callers : Callers) (format : Format) (program : Typed) (lines : List (List ℕ)) (number : ℕ) (wanted : Wanted) : Type 0 where
   pub reader : Reader
   pub rest : List (List ℕ)
   pub reached : Reaches turns callers format program lines number reader rest
   pub may_come : IsWanted turns callers format program reader rest wanted
 
--- where the lines differ it is told what may come there, and else nothing
+-- what may come is reported exactly where the lines differ
 abbrev pub Explains : ℕ → Callers → Format → Typed → List (List ℕ) → Verdict → Option Wanted → Type 0
 Explains turns callers format program lines (Differs number) (Some wanted) = IsWantedAt turns callers format program lines number wanted
 Explains turns callers format program lines (Differs number) None = ⊥

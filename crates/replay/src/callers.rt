@@ -1,6 +1,6 @@
-//! Who calls.
+//! The callers of a history.
 
-/// Whose calls a history has.
+/// The callers whose calls a history has.
 #[derive(Clone, Copy, PartialEq, Eq, Debug)]
 pub enum Callers {
     /// The threads of the program: each makes the calls of its script in order, each once.
@@ -9,11 +9,11 @@ pub enum Callers {
     Anyone,
 }
 
-/// On what terms a history is judged.
+/// The terms on which a history is judged.
 #[derive(Clone, Copy, PartialEq, Eq, Debug)]
 pub struct Terms {
-    /// Whose calls it has.
+    /// The callers whose calls it has.
     pub callers: Callers,
-    /// The most turns that each execution of a loop may make.
+    /// The limit of turns of each execution of a loop.
     pub turns: u64,
 }

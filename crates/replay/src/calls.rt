@@ -1,4 +1,4 @@
-//! The call that a text tells.
+//! The call that a text writes.
 
 ghost use Rattle.std.specs.Prelude.{◌≡◌, ◌<◌, ◌^◌, IfOk, IfSome, Some, string_bytes, map};
 ghost use Rattle.std.specs.Option.{option_map};
@@ -8,19 +8,19 @@ ghost use Rattle.replay.specs.Working.Reading.{IsReady, items_of, invocation_of}
 
 use crate::candidate::Replay;
 use core_lang::value::Value;
+use input_files::piece::{behind, count, cut, from, is, number, place_of};
 use source::memory::NoMemory;
-use source_histories::piece::{behind, count, cut, from, is, number, place_of};
 
-/// A call that a text tells.
+/// A call that a text writes.
 #[derive(Drop)]
 pub(crate) struct Invoked {
     /// The section, an index into the program's sections.
     pub section: usize,
-    /// The values that it is told with.
+    /// The values of its arguments.
     pub arguments: Vec<Value>,
 }
 
-// Without the space in front, if there is one.
+// The text without the space at its start, if there is one.
 fn unspaced(text: &[u8]) -> &[u8]
     ensures { result.now ≡ unspaced text.now }
 {
@@ -31,7 +31,7 @@ fn unspaced(text: &[u8]) -> &[u8]
 }
 
 impl Replay<'_> {
-    // The object that `p[0]` tells.
+    // The object that a text like `p[0]` writes.
     fn object_in(&self, text: &[u8]) -> Option<u32>
         requires { IsReady self.now }
         ensures { result ≡ object_in self.now.program.now.shape text.now }
@@ -54,7 +54,7 @@ impl Replay<'_> {
         }
     }
 
-    // The value that a text tells.
+    // The value that the text writes.
     fn value_in(&self, text: &[u8]) -> Option<Value>
         requires { IsReady self.now }
         ensures { result ≡ value_in self.now.program.now.shape text.now }
@@ -71,7 +71,7 @@ impl Replay<'_> {
         }
     }
 
-    // The values that a text tells: none, or those between commas.
+    // The values that the text writes: none, or those between commas.
     fn arguments_in(&self, text: &[u8]) -> Result<Option<Vec<Value>>, NoMemory>
         requires { IsReady self.now }
         ensures { IfOk result (λ values. option_map items_of values ≡ arguments_in self.now.program.now.shape text.now) }
@@ -94,7 +94,7 @@ impl Replay<'_> {
         }
     }
 
-    /// The call that a text tells.
+    /// The call that the text writes.
     pub(crate) fn invoked_in(&self, text: &[u8]) -> Result<Option<Invoked>, NoMemory>
         requires { IsReady self.now }
         ensures { IfOk result (λ invoked. option_map invocation_of invoked ≡ invocation_in self.now.program.now text.now) }

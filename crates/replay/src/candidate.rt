@@ -1,4 +1,4 @@
-//! The call that a line can be of.
+//! The call that a line may be of.
 
 ghost use Rattle.std.specs.Prelude.{◌≡◌, ◌<◌, ◌^◌, IfOk, string_bytes};
 ghost use Rattle.std.specs.Option.{option_copied, option_map};
@@ -13,25 +13,25 @@ use crate::progress::Progress;
 use crate::told::{Told, invoked_by, told_by};
 use core_lang::calls::can_call;
 use core_lang::typed::{Call, Typed};
+use input_files::Format;
+use input_files::piece::begins;
 use meaning_registers::prepared::Prepared;
 use report::lines::push_call_head;
-use report::record::Called;
+use report::record::CallRef;
 use source::memory::NoMemory;
-use source_histories::Format;
-use source_histories::piece::begins;
 use std::alloc::Global;
 
-/// A program whose histories are read, and what is asked of them.
+/// A program whose histories are judged, and the terms.
 #[derive(Drop)]
 pub(crate) struct Replay<'a> {
     pub alloc: Global,
     pub program: &'a Typed,
     pub prepared: Prepared<'a>,
-    /// Whose calls a history has.
+    /// The callers whose calls a history has.
     pub callers: Callers,
-    /// What a call's line tells.
+    /// The format of a call's line.
     pub format: Format,
-    /// The most turns that each execution of a loop may make.
+    /// The limit of turns of each execution of a loop.
     pub turns: u64,
     /// The numbers of the sections' names.
     pub sections: Numbers<'a>,
@@ -39,7 +39,7 @@ pub(crate) struct Replay<'a> {
     pub pools: Numbers<'a>,
 }
 
-/// Whether a thread's next call may tell this begin.
+/// Whether the line of a thread's next call may have the begin `begun`.
 pub(crate) fn may_begin(format: Format, least: usize, position: usize, begun: usize) -> bool
     ensures { result ≡ begins_at format least position begun }
 {
@@ -50,7 +50,7 @@ pub(crate) fn may_begin(format: Format, least: usize, position: usize, begun: us
 }
 
 impl<'a> Replay<'a> {
-    /// The call of a thread with this number.
+    /// The call of `thread` with the number `step`.
     pub(crate) fn call_in(&self, thread: usize, step: usize) -> Option<&'a Call>
         ensures { option_copied result ≡ call_in self.now.program.now thread step }
     {
@@ -61,8 +61,8 @@ impl<'a> Replay<'a> {
         }
     }
 
-    // The only call of the scripts whose line may read so.
-    fn scripted(&self, at: &Progress, line: &[u8]) -> Option<Called<'a>>
+    // The only call of the scripts whose line `line` may be.
+    fn scripted(&self, at: &Progress, line: &[u8]) -> Option<CallRef<'a>>
         requires ready { IsReady self.now }
         requires sound { IsSound Scripts self.now.program.now at.now }
         requires short { at.now.position < 2 ^ 63 }
@@ -80,7 +80,7 @@ impl<'a> Replay<'a> {
         if !may_begin(self.format, seat.least, at.position, begun) {
             return None;
         }
-        Some(Called {
+        Some(CallRef {
             thread,
             step: seat.called,
             begun,
@@ -89,13 +89,13 @@ impl<'a> Replay<'a> {
         })
     }
 
-    // The only call from outside whose line may read so, where this is the call that it tells.
+    // The only call from outside whose line `line` may be, where `invoked` is the call that it writes.
     fn outside<'b>(
         &self,
         at: &Progress,
         line: &[u8],
         invoked: &'b Option<Invoked>,
-    ) -> Option<Called<'b>>
+    ) -> Option<CallRef<'b>>
         requires ready { IsReady self.now }
         requires sound { IsSound Anyone self.now.program.now at.now }
         requires short { at.now.position < 2 ^ 63 }
@@ -120,7 +120,7 @@ impl<'a> Replay<'a> {
         if !can_call(self.program, invoked.section, &invoked.arguments) {
             return None;
         }
-        Some(Called {
+        Some(CallRef {
             thread,
             step: seat.called,
             begun,
@@ -129,7 +129,7 @@ impl<'a> Replay<'a> {
         })
     }
 
-    /// What is called in a line, where anyone may call.
+    /// The call that `line` writes, where anyone may call.
     pub(crate) fn invoked_at(&self, line: &[u8]) -> Result<Option<Invoked>, NoMemory>
         requires { IsReady self.now }
         ensures { self.now.callers ≡ Anyone → IfOk result (λ invoked. invocation_at invoked
@@ -141,13 +141,13 @@ impl<'a> Replay<'a> {
         }
     }
 
-    // The only call whose line may read so.
+    // The only call whose line `line` may be.
     fn candidate<'b>(
         &self,
         at: &Progress,
         line: &[u8],
         invoked: &'b Option<Invoked>,
-    ) -> Option<Called<'b>>
+    ) -> Option<CallRef<'b>>
     where
         'a: 'b,
         requires ready { IsReady self.now }
@@ -163,14 +163,15 @@ impl<'a> Replay<'a> {
         }
     }
 
-    /// The only call whose line may read so, if up to its end the line reads so. Its line up to its end is put into `text`.
+    /// The only call whose line `line` may be, if the line agrees with it up to its end. Writes the call's line up to its
+    /// end to `text`.
     pub(crate) fn call_of<'b>(
         &self,
         at: &Progress,
         text: &mut String,
         line: &[u8],
         invoked: &'b Option<Invoked>,
-    ) -> Result<Option<Called<'b>>, NoMemory>
+    ) -> Result<Option<CallRef<'b>>, NoMemory>
     where
         'a: 'b,
         requires ready { IsReady self.now }

@@ -9,7 +9,7 @@ use source::memory::NoMemory;
 use std::alloc::Global;
 use std::collections::BTreeMap;
 
-/// For each name of a list the number of the first that bears it, counted from 0.
+/// The numbers of the names of a list: for each name that of the first element with it, counted from 0.
 #[derive(Drop)]
 pub(crate) struct Numbers<'a> {
     numbers: BTreeMap<&'a [u8], usize>,
@@ -24,7 +24,7 @@ impl<'a> Numbers<'a> {
         }
     }
 
-    // The number of a name, in the place of the one that it had.
+    // Sets the number of `name`, in place of the one that it had.
     fn set(&mut self, name: &'a [u8], number: usize) -> Result<(), NoMemory>
         ensures { OnOk result (IsWithName name.now number self.old self.new) }
     {
@@ -32,14 +32,14 @@ impl<'a> Numbers<'a> {
         Ok(())
     }
 
-    /// The number of the first that bears the name.
+    /// The number of the first element with this name.
     pub(crate) fn find(&self, name: &[u8]) -> Option<usize>
         ensures { result ≡ found self.now name.now }
     {
         self.numbers.get(name).copied()
     }
 
-    /// Those of sections.
+    /// The numbers of the sections' names.
     pub(crate) fn of_sections(
         alloc: Global,
         sections: &'a [Section],
@@ -54,7 +54,7 @@ impl<'a> Numbers<'a> {
         Ok(numbers)
     }
 
-    /// Those of pools.
+    /// The numbers of the pools' names.
     pub(crate) fn of_pools(alloc: Global, pools: &'a [Pool]) -> Result<Numbers<'a>, NoMemory>
         ensures { IfOk result (AreNumbersOf (map (λ pool. string_bytes pool.name) pools.now)) }
     {

@@ -1,57 +1,57 @@
-//! How far a history was read.
+//! The progress in a history.
 
 ghost use Rattle.std.specs.Prelude.{◌≡◌, ◌∷◌, OnOk, IfSome};
 ghost use Rattle.replay.specs.Working.Seats.{seat_in, IsWithSeat};
 
-use meaning_trees::heap::Heap;
+use meaning::heap::Heap;
 use source::memory::NoMemory;
 use std::collections::BTreeMap;
 
-/// What came of a thread.
+/// The progress of a thread.
 #[derive(Clone, Copy, Debug)]
-pub(crate) struct Seat {
-    /// How many calls of it.
+pub(crate) struct ThreadProgress {
+    /// The number of its calls so far.
     pub called: usize,
-    /// The least begin that its next call may tell: one more than the position of its last call, or 0.
+    /// The least begin of its next call: one more than the position of its last call, or 0.
     pub least: usize,
 }
 
-/// Which lines may come.
+/// The lines that may come.
 #[derive(Clone, Copy, Debug)]
 pub(crate) enum Stage {
     /// The prints of the last call that are left, then a call or `cells`.
     Calls,
-    /// The lines of the cells from this one on, then `end`.
+    /// The lines of the cells from this number on, then `end`.
     Cells(usize),
     /// None.
     Ended,
 }
 
-/// How far a history was read.
+/// The progress in a history.
 #[derive(Drop)]
 pub(crate) struct Progress {
-    /// The values of all cells after the calls that came.
+    /// The values of all cells after the calls so far.
     pub heap: Heap,
-    /// What came of each thread that called, by its number.
-    pub seats: BTreeMap<usize, Seat>,
-    /// How many calls came.
+    /// The progress of each thread that has called, by its number.
+    pub seats: BTreeMap<usize, ThreadProgress>,
+    /// The number of calls so far.
     pub position: usize,
-    /// What the last call printed.
+    /// The prints of the last call.
     pub prints: Vec<i64>,
-    /// How many of these came.
+    /// The number of these prints whose lines have come.
     pub told: usize,
-    /// Which lines may come.
+    /// The lines that may come.
     pub stage: Stage,
 }
 
 impl Progress {
-    /// What came of a thread.
-    pub(crate) fn seat(&self, thread: usize) -> Seat
+    /// The progress of `thread`.
+    pub(crate) fn seat(&self, thread: usize) -> ThreadProgress
         ensures { result ≡ seat_in self.now.seats thread }
     {
         match self.seats.get(&thread) {
             Some(seat) => *seat,
-            None => Seat {
+            None => ThreadProgress {
                 called: 0,
                 least: 0,
             },
@@ -59,11 +59,11 @@ impl Progress {
     }
 }
 
-/// Sets what came of a thread.
+/// Sets the progress of `thread`.
 pub(crate) fn set_seat(
-    seats: &mut BTreeMap<usize, Seat>,
+    seats: &mut BTreeMap<usize, ThreadProgress>,
     thread: usize,
-    seat: Seat,
+    seat: ThreadProgress,
 ) -> Result<(), NoMemory>
     ensures { OnOk result (IsWithSeat thread seat seats.old seats.new) }
 {
@@ -71,14 +71,14 @@ pub(crate) fn set_seat(
     Ok(())
 }
 
-/// What is found of a line.
+/// The finding on a line.
 #[derive(Clone, Copy, Debug)]
 pub(crate) enum Finding {
     /// It may come.
     Came,
     /// It may not come.
     Other,
-    /// It may not come: up to its end it is the line of a call, which ends otherwise.
+    /// It may not come: up to its end it is the line of a call, but the call ends otherwise.
     EndsOtherwise,
     /// Up to its end it is the line of a call that the turns don't settle.
     Beyond,

@@ -1,4 +1,4 @@
-//! One line of a history.
+//! The reading of one line of a history.
 
 ghost use Rattle.std.specs.Prelude.{◌≡◌, ◌+◌, ◌<◌, ◌≤◌, ◌^◌, ℕ, List, IfOk, OnOk, length, string_bytes, codes};
 ghost use Rattle.std.specs.Bool.{Decides};
@@ -11,16 +11,16 @@ ghost use Rattle.replay.specs.Working.Reading.{invocation_at, IsReady, IsSound, 
 use crate::callers::Callers;
 use crate::calls::Invoked;
 use crate::candidate::Replay;
-use crate::progress::{Finding, Progress, Seat, Stage, set_seat};
+use crate::progress::{Finding, Progress, Stage, ThreadProgress, set_seat};
+use input_files::piece::is;
 use meaning::run::End;
 use report::lines::{push_cell, push_print};
 use report::pieces::push_outcome;
-use report::record::Called;
+use report::record::CallRef;
 use source::memory::NoMemory;
-use source_histories::piece::is;
 
 impl<'a> Replay<'a> {
-    // A line where a print is due.
+    // Reads a line where a print is due.
     fn read_print(
         &self,
         at: &mut Progress,
@@ -46,7 +46,7 @@ impl<'a> Replay<'a> {
         Ok(Finding::Came)
     }
 
-    // The line after the last cell.
+    // Reads the line after the last cell.
     fn read_last(&self, at: &mut Progress, number: usize, line: &[u8]) -> Finding
         requires sound { IsSound self.now.callers self.now.program.now at.old }
         requires stage { at.old.stage ≡ Cells number }
@@ -64,7 +64,7 @@ impl<'a> Replay<'a> {
         Finding::Came
     }
 
-    // A line after `cells`.
+    // Reads a line after `cells`.
     fn read_cell(
         &self,
         at: &mut Progress,
@@ -98,7 +98,7 @@ impl<'a> Replay<'a> {
         Ok(Finding::Came)
     }
 
-    // How many calls a thread makes.
+    // The number of calls in the script of `thread`.
     fn script_len(&self, thread: usize) -> usize
         ensures { result ≡ length (script_of self.now.program.now thread) }
     {
@@ -108,7 +108,7 @@ impl<'a> Replay<'a> {
         }
     }
 
-    // Whether all calls of all scripts came.
+    // Whether all calls of all scripts have come.
     fn scripts_called(&self, at: &Progress) -> bool
         requires sound { IsSound self.now.callers self.now.program.now at.now }
         requires scripts { self.now.callers ≡ Scripts }
@@ -122,7 +122,7 @@ impl<'a> Replay<'a> {
         true
     }
 
-    /// Whether all calls came, as far as there are any that must come.
+    /// Whether all calls have come; where anyone may call, any number of calls is all.
     pub(crate) fn all_called(&self, at: &Progress) -> bool
         requires { IsSound self.now.callers self.now.program.now at.now }
         ensures { Decides result (SeatsAreAll self.now.callers self.now.program.now at.now.seats) }
@@ -133,7 +133,7 @@ impl<'a> Replay<'a> {
         }
     }
 
-    // The line `cells`.
+    // Reads the line `cells`.
     fn read_cells(&self, at: &mut Progress) -> Finding
         requires sound { IsSound self.now.callers self.now.program.now at.old }
         requires stage { at.old.stage ≡ Calls }
@@ -151,11 +151,11 @@ impl<'a> Replay<'a> {
         Finding::Came
     }
 
-    // The line of the call, whose head is in `text`, from its end on.
+    // Reads the line of `call` from its end on; `text` has the line up to its end.
     fn read_end(
         &self,
         at: &mut Progress,
-        call: Called<'_>,
+        call: CallRef<'_>,
         text: &mut String,
         line: &[u8],
     ) -> Result<Finding, NoMemory>
@@ -182,14 +182,18 @@ impl<'a> Replay<'a> {
         let Some(end) = run else {
             return Ok(Finding::Beyond);
         };
-        let End { outcome, prints } = end;
+        let End {
+            outcome,
+            prints,
+            ..
+        } = end;
         push_outcome(text, &self.program.shape, outcome)?;
         let is_told = is(line, text.as_str());
         if !is_told {
             return Ok(Finding::EndsOtherwise);
         }
         at.position += 1;
-        let seat = Seat {
+        let seat = ThreadProgress {
             called: call.step + 1,
             least: at.position,
         };
@@ -199,7 +203,7 @@ impl<'a> Replay<'a> {
         Ok(Finding::Came)
     }
 
-    // A line that is not `cells`, where no print is due, before `cells`; this is the call that it tells.
+    // Reads a line that is not `cells`, where no print is due, before `cells`; `invoked` is the call that it writes.
     fn read_told(
         &self,
         at: &mut Progress,
@@ -227,7 +231,7 @@ impl<'a> Replay<'a> {
         }
     }
 
-    // A line where no print is due, before `cells`.
+    // Reads a line where no print is due, before `cells`.
     fn read_call(
         &self,
         at: &mut Progress,
@@ -252,7 +256,7 @@ impl<'a> Replay<'a> {
         self.read_told(at, text, line, &invoked)
     }
 
-    /// The next line. `text` holds lines to compare with.
+    /// Reads the next line. `text` is a buffer for the lines to compare with.
     pub(crate) fn read(
         &self,
         at: &mut Progress,

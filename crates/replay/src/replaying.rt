@@ -1,9 +1,9 @@
-//! A whole history.
+//! The judging of a whole history.
 
 ghost use Rattle.std.specs.Prelude.{◌≡◌, IfOk, Some, None};
 ghost use Rattle.core_lang.specs.Expansion.{IsExpansion};
 ghost use Rattle.core_lang.specs.WellFormed.{IsChecked};
-ghost use Rattle.source_histories.specs.Histories.{recorded_lines};
+ghost use Rattle.input_files.specs.Histories.{recorded_lines};
 ghost use Rattle.replay.specs.Readers.{opened};
 ghost use Rattle.replay.specs.declared.callers.Callers.{Callers};
 ghost use Rattle.replay.specs.Working.Reading.{IsReady, IsSound, IsAt, EndsAs};
@@ -18,11 +18,11 @@ use crate::progress::{Finding, Progress, Stage};
 use crate::verdict::{Judgement, Verdict};
 use crate::wanted::Wanted;
 use core_lang::typed::Typed;
+use input_files::{Recorded, next_line};
 use lowering::compiled::Program;
+use meaning::heap::Heap;
 use meaning_registers::prepared::Prepared;
-use meaning_trees::heap::Heap;
 use source::memory::NoMemory;
-use source_histories::{Recorded, next_line};
 use std::alloc::Global;
 use std::collections::BTreeMap;
 
@@ -43,7 +43,7 @@ fn start(alloc: Global, program: &Typed) -> Result<Progress, NoMemory>
     })
 }
 
-// A verdict that needs no reason.
+// The judgement with a verdict that does not have a reason.
 fn settled(verdict: Verdict) -> Judgement
     ensures verdict { result.verdict ≡ verdict }
     ensures wanted { result.wanted ≡ None }
@@ -54,7 +54,7 @@ fn settled(verdict: Verdict) -> Judgement
     }
 }
 
-// That a line differs, where this may come.
+// The judgement that the line with the number `number` differs, where `wanted` may come.
 fn differing(number: usize, wanted: Wanted) -> Judgement
     ensures verdict { result.verdict ≡ Differs number }
     ensures wanted { result.wanted ≡ Some wanted }
@@ -66,7 +66,7 @@ fn differing(number: usize, wanted: Wanted) -> Judgement
 }
 
 impl Replay<'_> {
-    // The verdict on a recorded history, and what may come where it differs.
+    // The verdict on a recorded history and, where it differs, what may come.
     fn judgement(&self, recorded: &Recorded<'_>) -> Result<Judgement, NoMemory>
         requires { IsReady self.now }
         ensures holds { let format = self.now.format in let program = self.now.program.now in
@@ -97,7 +97,7 @@ impl Replay<'_> {
         }
     }
 
-    // The verdict after the last line, and what may come where the history has not ended.
+    // The verdict after the last line and, where the history has not ended, what may come.
     fn at_end(&self, at: &Progress, number: usize) -> Result<Judgement, NoMemory>
         requires ready { IsReady self.now }
         requires sound { IsSound self.now.callers self.now.program.now at.now }
@@ -113,12 +113,11 @@ impl Replay<'_> {
     }
 }
 
-/// The verdict on a recorded history of a prepared program, of such callers, where each execution of a loop may make at most
-/// so many turns; and where it differs, what may come there.
+/// The verdict on a recorded history of a prepared program on the terms `terms` and, where it differs, what may come.
 ///
 /// # Errors
 ///
-/// Want of memory.
+/// `NoMemory`: a growth was refused.
 pub fn judge(
     alloc: Global,
     prepared: Prepared<'_>,
@@ -147,12 +146,12 @@ pub fn judge(
     Ok(judgement)
 }
 
-/// The verdict on a recorded history of a program, of such callers, where each execution of a loop may make at most so many
-/// turns.
+/// The verdict on a recorded history of `program` on the terms `terms`. It holds as docs/FORMATS.md says, of the calls
+/// of the scripts or of calls from outside.
 ///
 /// # Errors
 ///
-/// Want of memory.
+/// `NoMemory`: a growth was refused.
 pub fn replay(
     alloc: Global,
     program: &Program,

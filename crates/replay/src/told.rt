@@ -1,23 +1,23 @@
-//! What a call's line tells before the call is known.
+//! The numbers in a call's line, which are read before the call is known.
 
 ghost use Rattle.std.specs.Prelude.{◌≡◌};
 ghost use Rattle.replay.specs.Told.{begun_in, told_in, invoked_text};
 
-use source_histories::Format;
-use source_histories::piece::{begins, count, cut, from};
+use input_files::Format;
+use input_files::piece::{begins, count, cut, from};
 
-/// What a call's line tells in numbers.
+/// The numbers in a call's line.
 #[derive(Clone, Copy, Debug)]
 pub(crate) struct Told {
     /// The thread.
     pub thread: u64,
-    /// Which of its thread's calls it is, from 0.
+    /// The number of the call in its thread's script, from 0.
     pub step: u64,
-    /// How long the history was when the call began; 0 where the format does not tell it.
+    /// The length of the history when the call began; 0 where the format does not have it.
     pub begun: u64,
 }
 
-// How long the history was, as the first word of the text tells it, where the format tells it.
+// The length of the history at the begin, from the first word of `text`, where the format has it.
 fn begun_in(format: Format, text: &[u8]) -> Option<u64>
     ensures { result ≡ begun_in format text.now }
 {
@@ -30,7 +30,7 @@ fn begun_in(format: Format, text: &[u8]) -> Option<u64>
     }
 }
 
-/// What a line tells in numbers, if it begins as a call's does.
+/// The numbers in `line`, if it begins like a call's line.
 pub(crate) fn told_by(format: Format, line: &[u8]) -> Option<Told>
     ensures { result ≡ told_in format line.now }
 {
@@ -55,7 +55,7 @@ pub(crate) fn told_by(format: Format, line: &[u8]) -> Option<Told>
     }
 }
 
-/// What stands behind the numbers of a call's line; nothing, where the line is shorter than that.
+/// The text after the numbers of a call's line; empty, where the line is shorter than that.
 pub(crate) fn invoked_by(format: Format, line: &[u8]) -> &[u8]
     ensures { result.now ≡ invoked_text format line.now }
 {

@@ -12,49 +12,49 @@ use crate::callers::Callers;
 use crate::candidate::{Replay, may_begin};
 use crate::progress::{Progress, Stage};
 use crate::told::{Told, invoked_by, told_by};
+use input_files::Format;
+use input_files::piece::cut;
 use report::lines::{push_call_head, push_cell, push_print};
-use report::record::Called;
+use report::record::CallRef;
 use source::memory::NoMemory;
-use source_histories::Format;
-use source_histories::piece::cut;
 
-/// What may stand where a history differs.
+/// What may come where a history differs.
 #[derive(Debug, Drop)]
 pub enum Wanted {
     /// This line.
     Line(String),
-    /// A call: the next one of any thread. These are the lines of such calls up to their ends, by rising thread.
+    /// A call: the next one of any thread. These are the lines of such calls up to their ends, in order of the threads.
     Calls(Vec<String>),
-    /// Any call, or `cells`: anyone may call. This is what the line lacks to be a call's.
+    /// Any call, or `cells`: anyone may call. This is what the line lacks to be the line of a call.
     Open(Lack),
-    /// No line: the history has ended.
+    /// Nothing: the history has ended.
     Nothing,
 }
 
-/// What a line lacks to be that of a call from outside, up to its end.
+/// What a line lacks, up to its end, to be the line of a call from outside.
 #[derive(Clone, Copy, PartialEq, Eq, Debug)]
 pub enum Lack {
-    /// It is no call's line, as this format has it.
+    /// The form of a call's line in this format.
     Form(Format),
-    /// Its thread is to have a number of 32 bits.
+    /// A thread with a number of 32 bits.
     Thread,
-    /// It is to have this number among its thread's calls, counted from 0.
+    /// This number of the call among its thread's calls, from 0.
     Number(usize),
-    /// Its begin is to be one of these.
+    /// A begin in this range.
     Begin {
-        /// The least: one more than the position of its thread's last call, or 0.
+        /// The least begin: one more than the position of its thread's last call, or 0.
         least: usize,
-        /// The greatest: how many calls came.
+        /// The greatest begin: the number of calls so far.
         most: usize,
     },
-    /// Its section is to be one of the program.
+    /// A section of the program.
     Section,
-    /// Its arguments are to fit its section: all else is right.
+    /// Arguments that fit its section; all else is right.
     Arguments,
 }
 
 impl<'a> Replay<'a> {
-    // Puts the line of a thread's next call, up to its end, behind those of the threads before it.
+    // Appends the line of the next call of `thread`, up to its end, if it has a next call.
     fn push_next_head(
         &self,
         at: &Progress,
@@ -71,7 +71,7 @@ impl<'a> Replay<'a> {
         let Some(call) = self.call_in(thread, step) else {
             return Ok(());
         };
-        let next = Called {
+        let next = CallRef {
             thread,
             step,
             begun: at.position,
@@ -84,7 +84,7 @@ impl<'a> Replay<'a> {
         Ok(())
     }
 
-    // The lines of all threads' next calls up to their ends.
+    // The lines of all threads' next calls, up to their ends.
     fn next_heads(&self, at: &Progress) -> Result<Vec<String>, NoMemory>
         requires { IsSound self.now.callers self.now.program.now at.now }
         ensures { IfOk result (λ heads. (reader : Reader) → IsAt self.now.program.now at.now reader →
@@ -98,7 +98,7 @@ impl<'a> Replay<'a> {
         Ok(heads)
     }
 
-    // What the numbers of a call's line lack.
+    // What the numbers of a call's line lack, if they lack something.
     fn number_lack(&self, at: &Progress, told: &Told) -> Option<Lack>
         ensures lack { IfSome result (LacksAt self.now.format at.now told.now) }
         ensures none { result ≡ None → AreInTurnAt self.now.format at.now told.now }
@@ -119,7 +119,7 @@ impl<'a> Replay<'a> {
         None
     }
 
-    // What a line lacks to be a call's.
+    // What a line lacks to be the line of a call.
     fn lack(&self, at: &Progress, line: &[u8]) -> Lack
         requires { IsReady self.now }
         ensures { (reader : Reader) → IsAt self.now.program.now at.now reader →
@@ -169,7 +169,7 @@ impl<'a> Replay<'a> {
         Ok(Wanted::Calls(self.next_heads(at)?))
     }
 
-    // What may come after `cells` and so many cells.
+    // What may come after `cells` and the first `number` cells.
     fn wanted_cell(&self, at: &Progress, number: usize) -> Result<Wanted, NoMemory>
         requires sound { IsSound self.now.callers self.now.program.now at.now }
         requires stage { at.now.stage ≡ Cells number }
@@ -199,7 +199,7 @@ impl<'a> Replay<'a> {
         Ok(Wanted::Line(line))
     }
 
-    /// What may come at the progress, where this is the next line, if there is one.
+    /// What may come at the progress `at`, where `line` is the next line, if there is one.
     pub(crate) fn wanted(&self, at: &Progress, line: Option<&[u8]>) -> Result<Wanted, NoMemory>
         requires ready { IsReady self.now }
         requires sound { IsSound self.now.callers self.now.program.now at.now }

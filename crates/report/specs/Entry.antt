@@ -1,14 +1,14 @@
--- What a call was, how it ended and what it printed, as plain data.
+-- The record of a call as plain data: what was called, how it ended and what it printed.
 use Rattle.std.specs.Prelude.{ℕ, ℤ, List}
 use Rattle.core_lang.specs.declared.value.Value.{Value}
 use Rattle.core_lang.specs.declared.value.Outcome.{Outcome}
 use Rattle.core_lang.specs.Serial.{Scheduled}
 use Rattle.history.specs.Commits.{Commit}
 use Rattle.report.specs.declared.record.Record.{Record}
-use Rattle.report.specs.declared.record.Called.{Called}
-use Rattle.report.specs.declared.record.Said.{Said}
+use Rattle.report.specs.declared.record.CallRef.{CallRef}
+use Rattle.report.specs.declared.record.RecordRef.{RecordRef}
 
--- a call: its thread and its number there, how long the history was when it began, what was called and with what; how
+-- a call: its thread and its number there, the length of the history when it began, the section and its arguments; how
 -- it ended and what it printed
 pub record Entry : Type 0 where
   pub thread : ℕ
@@ -19,7 +19,7 @@ pub record Entry : Type 0 where
   pub outcome : Outcome
   pub prints : List ℤ
 
--- which call of a script it was
+-- the call of an entry
 abbrev pub scheduled_in : Entry → Scheduled
 scheduled_in entry = record {
   thread = entry.thread;
@@ -27,7 +27,7 @@ scheduled_in entry = record {
   call = record { section = entry.section; arguments = entry.arguments };
 }
 
--- what a record says
+-- the entry of a record
 abbrev pub entry_of : Record → Entry
 entry_of made = record {
   thread = made.call.thread;
@@ -39,16 +39,16 @@ entry_of made = record {
   prints = made.prints.items;
 }
 
--- the call of what is lent
-abbrev pub scheduled_called : Called → Scheduled
+-- the call of a borrowed one
+abbrev pub scheduled_called : CallRef → Scheduled
 scheduled_called call = record {
   thread = call.thread;
   step = call.step;
   call = record { section = call.section; arguments = call.arguments.now };
 }
 
--- and what it says
-abbrev pub entry_said : Said → Entry
+-- the entry of a borrowed record
+abbrev pub entry_said : RecordRef → Entry
 entry_said said = record {
   thread = said.call.thread;
   step = said.call.step;
@@ -59,7 +59,7 @@ entry_said said = record {
   prints = said.prints.now;
 }
 
--- and of a finished section
+-- the entry of a finished section
 abbrev pub entry_of_commit : Commit → Entry
 entry_of_commit c = record {
   thread = c.thread;

@@ -1,4 +1,4 @@
--- The history text, as bytes: a first line that names the format, a line for each call with a line for each of its
+-- The text of a history, as bytes: a first line that names the format, a line for each call with a line for each of its
 -- prints, a line `cells`, a line for each cell, a line `end`.
 use Rattle.std.specs.Prelude.{ℕ, ℤ, List, [], ◌∷◌, ◌++◌, map, codes, if◌then◌else◌}
 use Rattle.std.specs.List.{flat_map}
@@ -9,9 +9,9 @@ use Rattle.core_lang.specs.declared.typed.Typed.{Typed}
 use Rattle.core_lang.specs.Serial.{Scheduled}
 use Rattle.code.specs.Listing.{line}
 use Rattle.history.specs.Commits.{Commit}
-use Rattle.source_histories.specs.declared.format.Format.{Format}
-use Rattle.source_histories.specs.declared.format.Format.TheVariants.{One, Two}
-use Rattle.source_histories.specs.Lines.{header_of}
+use Rattle.input_files.specs.declared.format.Format.{Format}
+use Rattle.input_files.specs.declared.format.Format.TheVariants.{One, Two}
+use Rattle.input_files.specs.Lines.{header_of}
 use Rattle.report.specs.Pieces.{place_text, invocation_text, value_text, outcome_text, owner_text}
 use Rattle.report.specs.Entry.{Entry, scheduled_in, entry_of_commit}
 use Rattle.report.specs.Values.{is_value}
@@ -22,7 +22,7 @@ use Rattle.report.specs.Values.{is_value}
 abbrev pub print_line : ℤ → List ℕ
 print_line number = codes "print " ++ signed_decimal number
 
--- how long the history was at a call's begin, which the second format tells
+-- the length of the history at a call's begin, which the second format has
 abbrev pub begun_text : Format → ℕ → List ℕ
 begun_text One begun = []
 begun_text Two begun = decimal begun ++ codes " "
@@ -56,7 +56,7 @@ call_text format program entry = line (call_line format program entry)
 abbrev pub entry_text : Format → Typed → Entry → List ℕ
 entry_text format program entry = call_text format program entry ++ print_texts entry.prints
 
--- the same of each finished section
+-- the line and the prints of each finished section
 abbrev pub commit_texts : Format → Typed → List Commit → List ℕ
 commit_texts format program commits = flat_map (entry_text format program) (map entry_of_commit commits)
 
@@ -66,7 +66,7 @@ cell_texts program [] values = []
 cell_texts program (cell ∷ cells) [] = []
 cell_texts program (cell ∷ cells) (value ∷ values) = line (cell_line program cell value) ++ cell_texts program cells values
 
--- the same of the cells that hold another value than at the opening
+-- a line for each cell whose value differs from its initial one
 abbrev pub changed_texts : Typed → List Cell → List Value → List ℕ
 changed_texts program [] values = []
 changed_texts program (cell ∷ cells) [] = []
@@ -81,7 +81,7 @@ calls_of format program entries = line (header_of format) ++ flat_map (entry_tex
 abbrev pub closing_of : Typed → List Value → List ℕ
 closing_of program values = line (codes "cells") ++ cell_texts program program.cells.items values ++ line (codes "end")
 
--- those that changed, and the last line
+-- the cells that changed, and the last line
 abbrev pub changes_of : Typed → List Value → List ℕ
 changes_of program values = line (codes "cells") ++ changed_texts program program.cells.items values ++ line (codes "end")
 
@@ -89,7 +89,7 @@ changes_of program values = line (codes "cells") ++ changed_texts program progra
 abbrev pub history_of : Format → Typed → List Entry → List Value → List ℕ
 history_of format program entries values = calls_of format program entries ++ closing_of program values
 
--- the same, of cells those alone that changed
+-- the whole text, with only the cells that changed
 abbrev pub changed_history_of : Typed → List Entry → List Value → List ℕ
 changed_history_of program entries values = calls_of One program entries ++ changes_of program values
 

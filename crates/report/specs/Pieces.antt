@@ -1,4 +1,4 @@
--- The pieces of the texts, as bytes. Numbers are decimal, without leading zeros.
+-- The parts of the texts, as bytes. Numbers are decimal, without leading zeros.
 use Rattle.std.specs.Prelude.{ℕ, ◌-◌, List, [], ◌∷◌, ◌++◌, Option, Some, None, codes, slice_get, string_bytes}
 use Rattle.std.specs.Prelude.{option_and_then}
 use Rattle.std.specs.Option.{option_map_or}
@@ -11,8 +11,8 @@ use Rattle.core_lang.specs.declared.value.Outcome.TheVariants.{Ends, Returns, Tr
 use Rattle.core_lang.specs.declared.shape.Shape.{Shape}
 use Rattle.core_lang.specs.declared.shape.Pool.{Pool}
 use Rattle.core_lang.specs.declared.typed.Typed.{Typed}
-use Rattle.core_lang.specs.declared.typed.Owner.{Owner}
-use Rattle.core_lang.specs.declared.typed.Owner.TheVariants.{Global, Element, Field}
+use Rattle.core_lang.specs.declared.typed.CellOwner.{CellOwner}
+use Rattle.core_lang.specs.declared.typed.CellOwner.TheVariants.{Global, Element, Field}
 use Rattle.core_lang.specs.declared.typed.LockClass.{LockClass}
 use Rattle.core_lang.specs.declared.typed.LockClass.TheVariants as class
 use Rattle.core_lang.specs.Traps.{trap_number}
@@ -27,20 +27,21 @@ index_text index = codes "[" ++ decimal index ++ codes "]"
 abbrev pub section_name : Typed → ℕ → List ℕ
 section_name program section = option_map_or (λ s. string_bytes s.name) (slice_get program.sections.items section) []
 
--- the pool that an object is a member of
+-- the pool that has an object
 abbrev pub pool_of : Shape → ℕ → Option Pool
 pool_of shape object = option_and_then (λ o. slice_get shape.pools.items o.pool) (slice_get shape.objects.items object)
 
--- an object as p[0], by its place in its pool
+-- an object as p[0], by its index in its pool
 abbrev pub object_text : Shape → ℕ → List ℕ
 object_text shape object = option_map_or (λ pool. string_bytes pool.name ++ index_text (object - pool.first)) (pool_of shape object) []
 
--- what stands before the name of a lock: of an object's, the object and a dot
+-- what precedes the name of a lock: for an object's lock, the object and a dot
 abbrev pub owner_of_lock : Typed → ℕ → Option LockClass → List ℕ
 owner_of_lock program object (Some (class.Field s l)) = object_text program.shape object ++ codes "."
 owner_of_lock program object (Some (class.Global name)) = []
 owner_of_lock program object None = []
 
+-- what precedes the name of a lock, by its class
 abbrev pub lock_owner : Typed → Lock → List ℕ
 lock_owner program lock = owner_of_lock program lock.object (slice_get program.classes.items lock.class)
 
@@ -63,7 +64,7 @@ values_text shape (first ∷ rest) = value_text shape first ++ flat_map (λ valu
 abbrev pub place_text : ℕ → ℕ → List ℕ
 place_text thread step = decimal thread ++ codes " " ++ decimal step
 
--- what is called, with its arguments
+-- a call with its arguments
 abbrev pub invocation_text : Typed → ℕ → List Value → List ℕ
 invocation_text program section arguments = section_name program section ++ codes "(" ++ values_text program.shape arguments ++ codes ")"
 
@@ -73,7 +74,7 @@ outcome_text shape Ends = codes "ends"
 outcome_text shape (Returns value) = codes "returns " ++ value_text shape value
 outcome_text shape (Traps trap) = codes "traps " ++ decimal (trap_number trap)
 
--- the name of a global that is no array
+-- the name of a global that is not an array
 abbrev pub global_name : Typed → ℕ → List ℕ
 global_name program global = option_map_or (λ g. string_bytes g.name) (slice_get program.globals.items global) []
 
@@ -89,7 +90,7 @@ field_name program object field =
     (option_and_then (λ pool. slice_get program.structs.items pool.structure) (pool_of program.shape object))) []
 
 -- a cell as n, a[0] or p[0].x
-abbrev pub owner_text : Typed → Owner → List ℕ
+abbrev pub owner_text : Typed → CellOwner → List ℕ
 owner_text program (Global global) = global_name program global
 owner_text program (Element array index) = array_name program.shape array ++ index_text index
 owner_text program (Field object field) = object_text program.shape object ++ codes "." ++ field_name program object field

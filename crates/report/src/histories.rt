@@ -1,27 +1,27 @@
-//! The history text.
+//! The text of a history.
 
 ghost use Rattle.std.specs.Prelude.{◌≡◌, OnOk, IfOk, length, vec_len, string_bytes, map};
 ghost use Rattle.std.specs.List.{flat_map};
 ghost use Rattle.code.specs.Listing.{line};
 ghost use Rattle.locks.specs.Texts.{AddsText};
-ghost use Rattle.source_histories.specs.Lines.{header_of};
-ghost use Rattle.source_histories.specs.declared.format.Format.TheVariants.{One};
+ghost use Rattle.input_files.specs.Lines.{header_of};
+ghost use Rattle.input_files.specs.declared.format.Format.TheVariants.{One};
 ghost use Rattle.report.specs.History.{call_text, entry_text, print_texts, cell_texts, closing_of, commit_texts, calls_of, history_of, unsettled_of};
 ghost use Rattle.report.specs.History.{changed_history_of, changed_texts, changes_of};
 ghost use Rattle.report.specs.Entry.{entry_of, entry_said, entry_of_commit};
 
 use crate::lines::{push_call_head, push_cell, push_print};
 use crate::pieces::push_outcome;
-use crate::record::{Record, Said, said_of};
+use crate::record::{Record, RecordRef, said_of};
 use crate::values::is_value;
 use core_lang::typed::{Cell, Typed};
 use core_lang::value::Value;
 use history::entries::History;
+use input_files::Format;
 use source::memory::NoMemory;
-use source_histories::Format;
 use std::alloc::{AllocError, Global};
 
-/// A line for each print.
+/// Appends a line for each print.
 fn push_prints(out: &mut String, prints: &[i64]) -> Result<(), AllocError>
     ensures { OnOk result (AddsText (print_texts prints.now) out.old out.new) }
 {
@@ -32,12 +32,12 @@ fn push_prints(out: &mut String, prints: &[i64]) -> Result<(), AllocError>
     Ok(())
 }
 
-/// The line of a call.
+/// Appends the line of a call.
 fn push_call(
     out: &mut String,
     format: Format,
     program: &Typed,
-    call: &Said<'_>,
+    call: &RecordRef<'_>,
 ) -> Result<(), AllocError>
     ensures { OnOk result (AddsText (call_text format program.now (entry_said call.now)) out.old out.new) }
 {
@@ -46,12 +46,12 @@ fn push_call(
     out.push_str("\n")
 }
 
-/// The line of a call, with its prints.
+/// Appends the line of a call, with its prints.
 fn push_entry(
     out: &mut String,
     format: Format,
     program: &Typed,
-    call: &Said<'_>,
+    call: &RecordRef<'_>,
 ) -> Result<(), AllocError>
     ensures { OnOk result (AddsText (entry_text format program.now (entry_said call.now)) out.old out.new) }
 {
@@ -59,7 +59,7 @@ fn push_entry(
     push_prints(out, call.prints)
 }
 
-/// The line of each call, with its prints.
+/// Appends the line of each call, with its prints.
 fn push_records(
     out: &mut String,
     format: Format,
@@ -74,7 +74,7 @@ fn push_records(
     Ok(())
 }
 
-/// The line of each finished section, with its prints. The one error is a refused growth.
+/// Appends the line of each finished section, with its prints. The only error is a failed allocation.
 pub fn push_entries(
     out: &mut String,
     format: Format,
@@ -89,7 +89,7 @@ pub fn push_entries(
     Ok(())
 }
 
-/// A line for each cell.
+/// Appends a line for each cell.
 fn push_cells(
     out: &mut String,
     program: &Typed,
@@ -108,7 +108,7 @@ fn push_cells(
     Ok(())
 }
 
-/// A line for each cell that holds another value than at the opening.
+/// Appends a line for each cell whose value differs from its initial one.
 fn push_changed(
     out: &mut String,
     program: &Typed,
@@ -129,7 +129,7 @@ fn push_changed(
     Ok(())
 }
 
-/// The same between the line `cells` and the line `end`.
+/// Appends the line `cells`, a line for each cell whose value differs from its initial one, and the line `end`.
 fn push_changes(out: &mut String, program: &Typed, values: &[Value]) -> Result<(), AllocError>
     ensures { OnOk result (AddsText (changes_of program.now values.now) out.old out.new) }
 {
@@ -138,11 +138,12 @@ fn push_changes(out: &mut String, program: &Typed, values: &[Value]) -> Result<(
     out.push_str("end\n")
 }
 
-/// The line `cells`, a line for each cell of the program with its value, by the cells' numbers, and the line `end`.
+/// Appends the line `cells`, a line for each cell of the program with its value, by the cells' numbers, and the line
+/// `end`.
 ///
 /// # Errors
 ///
-/// Want of memory.
+/// Out of memory.
 pub fn push_closing(out: &mut String, program: &Typed, values: &[Value]) -> Result<(), AllocError>
     ensures { OnOk result (AddsText (closing_of program.now values.now) out.old out.new) }
 {
@@ -174,8 +175,8 @@ fn calls_text(
     Ok(out)
 }
 
-/// The text of these calls of the program, in this order, and of the values of all its cells, by the
-/// cells' numbers. The only error is a refused growth.
+/// The text of these calls of the program, in this order, and of the values of all its cells, by the cells' numbers.
+/// The only error is a failed allocation.
 pub fn history_text(
     alloc: Global,
     format: Format,
@@ -191,8 +192,8 @@ pub fn history_text(
     Ok(out)
 }
 
-/// The text of these calls of the program, in this order, and of the values of those of its cells that hold another one than at
-/// the opening; `values` has those of all, by the cells' numbers. The only error is a refused growth.
+/// The text of these calls of the program, in this order, and of the cells whose values differ from their initial ones.
+/// `values` has the values of all cells, by the cells' numbers. The only error is a failed allocation.
 pub fn changed_text(
     alloc: Global,
     program: &Typed,
@@ -207,8 +208,8 @@ pub fn changed_text(
     Ok(out)
 }
 
-/// The text of these finished sections of the program, in this order, and of the values of all its cells,
-/// by the cells' numbers: what [`history_text`] gives for what they say. The only error is a refused growth.
+/// The text of these finished sections of the program, in this order, and of the values of all its cells, by the cells'
+/// numbers: that of [`history_text`] for their records. The only error is a failed allocation.
 pub fn entries_text(
     alloc: Global,
     format: Format,
@@ -225,9 +226,8 @@ pub fn entries_text(
     Ok(out)
 }
 
-/// The text of these calls, and a last line that names the call after them, which some number of
-/// turns does not settle: call `step` of thread `thread`, both from 0. The only error is a refused
-/// growth.
+/// The text of these calls, and a last line that names the call after them, which is not settled within the turns: call
+/// `step` of thread `thread`, both from 0. The only error is a failed allocation.
 pub fn unsettled_text(
     alloc: Global,
     program: &Typed,

@@ -1,4 +1,4 @@
-//! The lines of a history, each put at the end of what is there, without its line feed. The one error is a refused growth.
+//! Writes the lines of a history, each appended to a text without its line feed. The only error is a failed allocation.
 
 ghost use Rattle.std.specs.Prelude.{◌≡◌, OnOk};
 ghost use Rattle.locks.specs.Texts.{AddsText};
@@ -6,13 +6,13 @@ ghost use Rattle.report.specs.Entry.{scheduled_called};
 ghost use Rattle.report.specs.History.{begun_text, call_head, print_line, cell_line};
 
 use crate::pieces::{push_invocation, push_owner, push_value};
-use crate::record::Called;
+use crate::record::CallRef;
 use core_lang::typed::{Cell, Typed};
 use core_lang::value::Value;
-use source_histories::Format;
+use input_files::Format;
 use std::alloc::AllocError;
 
-/// How long the history was at a call's begin, where the format tells it.
+/// Appends the length of the history at a call's begin, if the format has it.
 fn push_begun(out: &mut String, format: Format, begun: usize) -> Result<(), AllocError>
     ensures { OnOk result (AddsText (begun_text format begun) out.old out.new) }
 {
@@ -22,16 +22,16 @@ fn push_begun(out: &mut String, format: Format, begun: usize) -> Result<(), Allo
     }
 }
 
-/// The line of a call up to its end: `call T K NAME(ARGS) `, in the second format `call T K B NAME(ARGS) `.
+/// Appends the line of a call up to its end: `call T K NAME(ARGS) `, in the second format `call T K B NAME(ARGS) `.
 ///
 /// # Errors
 ///
-/// Want of memory.
+/// Out of memory.
 pub fn push_call_head(
     out: &mut String,
     format: Format,
     program: &Typed,
-    call: &Called<'_>,
+    call: &CallRef<'_>,
 ) -> Result<(), AllocError>
     ensures { OnOk result (AddsText (call_head format program.now (scheduled_called call.now) call.now.begun) out.old out.new) }
 {
@@ -41,22 +41,22 @@ pub fn push_call_head(
     out.push_str(" ")
 }
 
-/// `print N`.
+/// Appends `print N`.
 ///
 /// # Errors
 ///
-/// Want of memory.
+/// Out of memory.
 pub fn push_print(out: &mut String, number: i64) -> Result<(), AllocError>
     ensures { OnOk result (AddsText (print_line number) out.old out.new) }
 {
     write!(out, "print {number}")
 }
 
-/// A cell and its value: `n V`, `a[0] V` or `p[0].x V`.
+/// Appends a cell and its value: `n V`, `a[0] V` or `p[0].x V`.
 ///
 /// # Errors
 ///
-/// Want of memory.
+/// Out of memory.
 pub fn push_cell(
     out: &mut String,
     program: &Typed,

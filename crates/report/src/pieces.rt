@@ -1,4 +1,4 @@
-//! Pieces of a text, each put at the end of what is there. The one error is a refused growth.
+//! Writes the parts of lines, each appended to a text. The only error is a failed allocation.
 
 ghost use Rattle.std.specs.Prelude.{◌≡◌, OnOk};
 ghost use Rattle.std.specs.Option.{option_copied};
@@ -6,13 +6,13 @@ ghost use Rattle.locks.specs.Texts.{AddsText};
 ghost use Rattle.report.specs.Pieces as text;
 
 use core_lang::shape::{Pool, Shape};
-use core_lang::typed::{LockClass, Owner, Typed};
+use core_lang::typed::{CellOwner, LockClass, Typed};
 use core_lang::value::{Outcome, Value};
 use locks::lock::Lock;
 use locks::text::push_last;
 use std::alloc::AllocError;
 
-/// The name of a section.
+/// Appends the name of a section.
 fn push_section(out: &mut String, program: &Typed, section: usize) -> Result<(), AllocError>
     ensures { OnOk result (AddsText (text.section_name program.now section) out.old out.new) }
 {
@@ -22,7 +22,7 @@ fn push_section(out: &mut String, program: &Typed, section: usize) -> Result<(),
     }
 }
 
-/// The pool that an object is a member of.
+/// The pool that has an object.
 fn pool_of(shape: &Shape, object: usize) -> Option<&Pool>
     ensures { option_copied result ≡ text.pool_of shape.now object }
 {
@@ -32,7 +32,7 @@ fn pool_of(shape: &Shape, object: usize) -> Option<&Pool>
     }
 }
 
-/// An object as `p[0]`.
+/// Appends an object, as `p[0]`.
 fn push_object(out: &mut String, shape: &Shape, object: usize) -> Result<(), AllocError>
     ensures { OnOk result (AddsText (text.object_text shape.now object) out.old out.new) }
 {
@@ -45,7 +45,7 @@ fn push_object(out: &mut String, shape: &Shape, object: usize) -> Result<(), All
     }
 }
 
-/// A number, `null` or an object. The one error is a refused growth.
+/// Appends a number, `null` or an object. The only error is a failed allocation.
 pub fn push_value(out: &mut String, shape: &Shape, value: Value) -> Result<(), AllocError>
     ensures { OnOk result (AddsText (text.value_text shape.now value) out.old out.new) }
 {
@@ -56,7 +56,7 @@ pub fn push_value(out: &mut String, shape: &Shape, value: Value) -> Result<(), A
     }
 }
 
-/// What stands before the name of a lock: of an object's, the object and a dot.
+/// Appends what precedes the name of a lock: for an object's lock, the object and a dot.
 fn push_lock_owner(out: &mut String, program: &Typed, lock: Lock) -> Result<(), AllocError>
     ensures { OnOk result (AddsText (text.lock_owner program.now lock) out.old out.new) }
 {
@@ -70,11 +70,11 @@ fn push_lock_owner(out: &mut String, program: &Typed, lock: Lock) -> Result<(), 
     }
 }
 
-/// A lock, as `G` or `p[0].l`.
+/// Appends a lock, as `G` or `p[0].l`.
 ///
 /// # Errors
 ///
-/// Want of memory.
+/// Out of memory.
 pub fn push_lock(out: &mut String, program: &Typed, lock: Lock) -> Result<(), AllocError>
     ensures { OnOk result (AddsText (text.lock_text program.now lock) out.old out.new) }
 {
@@ -82,7 +82,7 @@ pub fn push_lock(out: &mut String, program: &Typed, lock: Lock) -> Result<(), Al
     push_last(out, program, lock.class)
 }
 
-/// Values with a comma and a space between.
+/// Appends values with a comma and a space between them.
 fn push_values(out: &mut String, shape: &Shape, values: &[Value]) -> Result<(), AllocError>
     ensures { OnOk result (AddsText (text.values_text shape.now values.now) out.old out.new) }
 {
@@ -97,11 +97,11 @@ fn push_values(out: &mut String, shape: &Shape, values: &[Value]) -> Result<(), 
     Ok(())
 }
 
-/// What is called, as `inc(1, p[0])`.
+/// Appends a call with its arguments, as `inc(1, p[0])`.
 ///
 /// # Errors
 ///
-/// Want of memory.
+/// Out of memory.
 pub fn push_invocation(
     out: &mut String,
     program: &Typed,
@@ -116,11 +116,11 @@ pub fn push_invocation(
     out.push_str(")")
 }
 
-/// How a call ended: `ends`, `returns V` or `traps N`.
+/// Appends how a call ended: `ends`, `returns V` or `traps N`.
 ///
 /// # Errors
 ///
-/// Want of memory.
+/// Out of memory.
 pub fn push_outcome(out: &mut String, shape: &Shape, outcome: Outcome) -> Result<(), AllocError>
     ensures { OnOk result (AddsText (text.outcome_text shape.now outcome) out.old out.new) }
 {
@@ -137,7 +137,7 @@ pub fn push_outcome(out: &mut String, shape: &Shape, outcome: Outcome) -> Result
     }
 }
 
-/// The name of a global that is no array.
+/// Appends the name of a global that is not an array.
 fn push_global(out: &mut String, program: &Typed, global: usize) -> Result<(), AllocError>
     ensures { OnOk result (AddsText (text.global_name program.now global) out.old out.new) }
 {
@@ -147,7 +147,7 @@ fn push_global(out: &mut String, program: &Typed, global: usize) -> Result<(), A
     }
 }
 
-/// The name of an array.
+/// Appends the name of an array.
 fn push_array(out: &mut String, shape: &Shape, array: usize) -> Result<(), AllocError>
     ensures { OnOk result (AddsText (text.array_name shape.now array) out.old out.new) }
 {
@@ -157,7 +157,7 @@ fn push_array(out: &mut String, shape: &Shape, array: usize) -> Result<(), Alloc
     }
 }
 
-/// The name of a field of an object.
+/// Appends the name of a field of an object.
 fn push_field(
     out: &mut String,
     program: &Typed,
@@ -178,17 +178,17 @@ fn push_field(
     }
 }
 
-/// A cell as `n`, `a[0]` or `p[0].x`. The one error is a refused growth.
-pub fn push_owner(out: &mut String, program: &Typed, owner: Owner) -> Result<(), AllocError>
+/// Appends a cell, as `n`, `a[0]` or `p[0].x`. The only error is a failed allocation.
+pub fn push_owner(out: &mut String, program: &Typed, owner: CellOwner) -> Result<(), AllocError>
     ensures { OnOk result (AddsText (text.owner_text program.now owner) out.old out.new) }
 {
     match owner {
-        Owner::Global(global) => push_global(out, program, global),
-        Owner::Element { array, index } => {
+        CellOwner::Global(global) => push_global(out, program, global),
+        CellOwner::Element { array, index } => {
             push_array(out, &program.shape, array)?;
             write!(out, "[{index}]")
         }
-        Owner::Field { object, field } => {
+        CellOwner::Field { object, field } => {
             push_object(out, &program.shape, object)?;
             out.push_str(".")?;
             push_field(out, program, object, field)

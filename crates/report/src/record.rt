@@ -1,19 +1,19 @@
-//! What a text says of a call.
+//! The record of a call.
 
 ghost use Rattle.std.specs.Prelude.{◌≡◌};
 ghost use Rattle.report.specs.Entry.{entry_of, entry_said, entry_of_commit};
 
 use core_lang::value::{Outcome, Value};
-use history::kept::Kept;
+use history::kept::EntryRef;
 
-/// A call, lent.
+/// A call, borrowed.
 #[derive(Clone, Copy)]
-pub struct Called<'a> {
+pub struct CallRef<'a> {
     /// The thread, in order of declaration, from 0.
     pub thread: usize,
-    /// Which of its thread's calls it is, from 0.
+    /// The index of the call in its thread's script, from 0.
     pub step: usize,
-    /// How long the history was when it began.
+    /// The length of the history when it began.
     pub begun: usize,
     /// The section, an index into the program's sections.
     pub section: usize,
@@ -25,30 +25,30 @@ pub struct Called<'a> {
 #[derive(Drop)]
 pub struct Record<'a> {
     /// The call.
-    pub call: Called<'a>,
+    pub call: CallRef<'a>,
     /// How the section ended.
     pub outcome: Outcome,
-    /// What it printed, in order.
+    /// The numbers that it printed, in order.
     pub prints: Vec<i64>,
 }
 
-/// A call, how it ended and what it printed, lent.
+/// A call, how it ended and what it printed, borrowed.
 #[derive(Clone, Copy)]
-pub struct Said<'a> {
+pub struct RecordRef<'a> {
     /// The call.
-    pub call: Called<'a>,
+    pub call: CallRef<'a>,
     /// How the section ended.
     pub outcome: Outcome,
-    /// What it printed.
+    /// The numbers that it printed, in order.
     pub prints: &'a [i64],
 }
 
 impl Record<'_> {
-    /// Lends it.
-    pub fn said(&self) -> Said<'_>
+    /// The record, borrowed.
+    pub fn said(&self) -> RecordRef<'_>
         ensures { entry_said result ≡ entry_of self.now }
     {
-        Said {
+        RecordRef {
             call: self.call,
             outcome: self.outcome,
             prints: &self.prints,
@@ -56,18 +56,18 @@ impl Record<'_> {
     }
 }
 
-/// What a text says of a finished section.
-pub fn said_of<'h>(entry: &Kept<'h>) -> Said<'h>
+/// The record of a finished section.
+pub fn said_of<'h>(entry: &EntryRef<'h>) -> RecordRef<'h>
     ensures { entry_said result ≡ entry_of_commit entry.now }
 {
-    let call = Called {
+    let call = CallRef {
         thread: entry.thread() as usize,
         step: entry.step(),
         begun: entry.begun(),
         section: entry.section(),
         arguments: entry.arguments(),
     };
-    Said {
+    RecordRef {
         call,
         outcome: entry.outcome(),
         prints: entry.prints(),

@@ -1,11 +1,11 @@
-//! Values.
+//! Equality of values.
 
 ghost use Rattle.std.specs.Prelude.{◌≡◌};
 ghost use Rattle.report.specs.Values.{is_value};
 
 use core_lang::value::Value;
 
-/// Whether two values are the same.
+/// Whether two values are equal.
 pub fn is_value(a: Value, b: Value) -> bool
     ensures { result ≡ is_value a b }
 {

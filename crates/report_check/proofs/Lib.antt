@@ -1,4 +1,3 @@
 pub mod Listed
 pub mod Uses
-mod Cuts
 mod FirstHelpers

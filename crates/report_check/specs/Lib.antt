@@ -2,7 +2,7 @@ pub mod Order
 pub mod Check
 pub mod Sources
 pub mod Working
--- what the public clauses cite
+-- the definitions that public clauses cite
 pub use Rattle.report_check.specs.Check.{ranked_class, check_text}
 pub use Rattle.report_check.specs.Sources.{sourced_check_text}
 pub use Rattle.report_check.specs.Working.Values.{check_text_of, sourced_check_text_of}

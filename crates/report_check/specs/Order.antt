@@ -1,5 +1,5 @@
--- The text of `order`, as bytes: the order of a program's lock classes as a graph in the language DOT. It has a line for each class, and
--- one for each pair of classes of which the first has to come before the second.
+-- The text of `order`, as bytes: the order of a program's lock classes as a graph in the language DOT. It has a line
+-- for each class, and one for each pair of classes of which the first must precede the second.
 use Rattle.std.specs.Prelude.{ℕ, ◌==◌, ◌&&◌, ◌||◌, if◌then◌else◌, Bool, false, List, [], ◌∷◌, ◌++◌, length, slice_get, codes}
 use Rattle.std.specs.Prelude.{string_bytes}
 use Rattle.std.specs.Option.{option_map_or}
@@ -30,17 +30,17 @@ node_text program ranks rank =
     line (codes "  \"" ++ ranked_class program ranks rank
     ++ codes "\" [label=\"" ++ label_text program ranks rank ++ codes "\"];")
 
--- for each rank from 0 on
+-- a line for each rank from 0 on
 abbrev pub node_texts : Typed → List ℕ → List ℕ
 node_texts program ranks = flat_map (node_text program ranks) (range_with_len 0 (length ranks))
 
 -- ---- the pairs
 
--- LINE:COL of where the point's statement starts
+-- LINE:COL of the point's statement
 abbrev pub point_text : List ℕ → Point → List ℕ
 point_text text point = position_text (line_of text (start_of point)) (column_of text (start_of point))
 
--- of the point of this number
+-- LINE:COL of the statement of the point with this number
 abbrev pub numbered_point : List ℕ → List Point → ℕ → List ℕ
 numbered_point text list p = option_map_or (point_text text) (slice_get list p) []
 
@@ -48,16 +48,16 @@ numbered_point text list p = option_map_or (point_text text) (slice_get list p) 
 abbrev pub place_text : List ℕ → ℕ → Section → List ℕ
 place_text text p section = string_bytes section.name ++ codes ":" ++ numbered_point text (points section) p
 
--- of the point at which a lock of the edge's class is used
+-- the position of the edge's use of a lock of its class
 abbrev pub use_text : List ℕ → Typed → Edge → List ℕ
 use_text text program edge = option_map_or (place_text text edge.used) (slice_get program.sections.items edge.section) []
 
--- whether these classes, of which each leads to the next and the last to the first one given, go from a class to another
+-- the cycle of these classes goes from the first class of the pair to the second
 abbrev pub goes : ℕ → List ℕ → ℕ × ℕ → Bool
 goes first [] pair = false
 goes first (c ∷ rest) pair = (c == pair.0 && second first rest == pair.1) || goes first rest pair
 
--- whether the cycle goes from the pair's first class to its second
+-- the cycle goes from the pair's first class to its second
 abbrev pub is_on : List Edge → ClassPair → Bool
 is_on [] pair = false
 is_on (e ∷ rest) pair = goes e.class (classes_of (e ∷ rest)) (classes_of_pair pair)
@@ -71,16 +71,17 @@ abbrev pub ends_text : Typed → ClassPair → List ℕ
 ends_text program pair =
     codes "  \"" ++ class_name program pair.edge.class ++ codes "\" -> \"" ++ class_name program pair.next ++ codes "\""
 
--- "CLASS" -> "CLASS" [label="SECTION:LINE:COL"]; or [label="SECTION:LINE:COL", color="red"];
+-- "CLASS" -> "CLASS" [label="SECTION:LINE:COL"]; on the cycle [label="SECTION:LINE:COL", color="red"];
 abbrev pub edge_text : List ℕ → Typed → List Edge → ClassPair → List ℕ
 edge_text text program cycle pair =
     line (ends_text program pair ++ codes " [label=\"" ++ use_text text program pair.edge ++ codes "\"" ++ mark cycle pair ++ codes "];")
 
--- for each pair
+-- a line for each pair
 abbrev pub edge_texts : List ℕ → Typed → List Edge → List ClassPair → List ℕ
 edge_texts text program cycle pairs = flat_map (edge_text text program cycle) pairs
 
 -- ---- the whole text, of a program with the rank of each class and its pairs of classes: none is on a cycle
+-- the text of `order` for a program without a cycle
 abbrev pub order_text : List ℕ → Typed → List ℕ → List ClassPair → List ℕ
 order_text text program ranks pairs =
     line (codes "digraph lock_order {") ++ node_texts program ranks ++ edge_texts text program [] pairs ++ line (codes "}")
@@ -91,11 +92,11 @@ order_text text program ranks pairs =
 abbrev pub class_text : Typed → ℕ → List ℕ
 class_text program class = line (codes "  \"" ++ class_name program class ++ codes "\";")
 
--- for each class, by their numbers
+-- a line for each class, in the order of their numbers
 abbrev pub class_texts : Typed → List ℕ
 class_texts program = flat_map (class_text program) (range_with_len 0 (length program.classes.items))
 
--- the whole text, of a program with its pairs of classes and a cycle of them
+-- the whole text, for a program with its pairs of classes and a cycle of them
 abbrev pub cyclic_order_text : List ℕ → Typed → List ClassPair → List Edge → List ℕ
 cyclic_order_text text program pairs cycle =
     line (codes "digraph lock_order {") ++ class_texts program ++ edge_texts text program cycle pairs ++ line (codes "}")

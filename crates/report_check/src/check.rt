@@ -26,7 +26,7 @@ fn class_with(ranks: &[u32], rank: usize) -> Option<usize>
     ranks.iter().position(|r| *r as usize == rank)
 }
 
-/// The name of the first class that has this rank. The one error is a refused growth.
+/// Appends the name of the first class that has this rank. The only error is a failed allocation.
 pub fn push_ranked(
     out: &mut String,
     program: &Typed,
@@ -41,7 +41,7 @@ pub fn push_ranked(
     }
 }
 
-/// The line of a rank.
+/// Appends the line of a rank.
 fn push_rank(
     out: &mut String,
     program: &Typed,
@@ -55,7 +55,7 @@ fn push_rank(
     out.push_str("\n")
 }
 
-/// A line for each rank.
+/// Appends a line for each rank.
 fn push_ranks(out: &mut String, program: &Typed, ranks: &[u32]) -> Result<(), AllocError>
     ensures { OnOk result (AddsText (rank_texts program.now ranks.now) out.old out.new) }
 {
@@ -65,7 +65,7 @@ fn push_ranks(out: &mut String, program: &Typed, ranks: &[u32]) -> Result<(), Al
     Ok(())
 }
 
-/// What the text of `check` says of a program that is accepted.
+/// The text of `check` for an accepted program.
 #[derive(Drop)]
 pub struct Check<'a> {
     /// The program's text.
@@ -74,7 +74,7 @@ pub struct Check<'a> {
     pub program: &'a Typed,
     /// Its lock paths.
     pub paths: &'a Paths,
-    /// For each lock class its rank.
+    /// The rank of each lock class.
     pub ranks: &'a [u32],
     /// The lock paths that are listed before each point.
     pub placed: &'a Placed,
@@ -85,8 +85,8 @@ impl Check<'_> {
     ghost use Rattle.report_check.specs.Working.Values.{AreOf, section_texts_of, told_text_of};
     ghost use Rattle.report_check.specs.Working.Values.{check_text_of, sourced_check_text_of};
 
-    // The lines of each section. Its statements stand behind those of the sections before it, so that the text is read
-    // once.
+    // Appends the lines of each section. Its statements follow those of the sections before it, so that the text is
+    // read once.
     fn push_sections(
         &self,
         alloc: Global,
@@ -114,7 +114,7 @@ impl Check<'_> {
         Ok(())
     }
 
-    // The text, with what is told of places beside line and column.
+    // The text, with what is written of places beside line and column.
     fn told(&self, alloc: Global, sources: Option<&Sources<'_>>) -> Result<Rope, NoMemory>
         requires { AreOf self.now.text.now sources }
         ensures { IfOk result (λ text. rope_text text ≡ told_text_of sources.entry self.now) }
@@ -126,16 +126,17 @@ impl Check<'_> {
         Ok(out)
     }
 
-    /// The text of `check`: that the program is accepted, the class of each rank, and for each section the points before
-    /// which locks are taken, each with its place in the text and the lock paths. The only error is a refused growth.
+    /// The text of `check`: that the program is accepted, the class of each rank, and for each section the points
+    /// before which locks are acquired, each with its position in the text and its lock paths. The only error is a
+    /// failed allocation.
     pub fn text(&self, alloc: Global) -> Result<Rope, NoMemory>
         ensures { IfOk result (λ text. rope_text text ≡ check_text_of self.now) }
     {
         self.told(alloc, None)
     }
 
-    /// The same, where each place at which a statement of one of these helpers starts has the helper's name behind it, and
-    /// behind each point comes the line of the source. The only error is a refused growth.
+    /// The text of `check` in which each position of a statement of one of these helpers has the helper's name after
+    /// it, and the line of the source follows each point. The only error is a failed allocation.
     pub fn text_with_sources(&self, alloc: Global, helpers: &[Section]) -> Result<Rope, NoMemory>
         ensures { IfOk result (λ text. rope_text text ≡ sourced_check_text_of helpers.now self.now) }
     {

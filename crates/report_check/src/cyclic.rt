@@ -1,4 +1,4 @@
-//! The text of `order` of a program whose classes have no order.
+//! The text of `order` for a program whose lock classes have a cycle.
 
 ghost use Rattle.std.specs.Prelude.{◌≡◌, OnOk, IfOk, string_bytes};
 ghost use Rattle.locks.specs.Texts.{AddsText};
@@ -14,7 +14,7 @@ use locks::text::push_class;
 use source::memory::NoMemory;
 use std::alloc::{AllocError, Global};
 
-/// The line of a class.
+/// Appends the line of a class.
 fn push_node(out: &mut String, program: &Typed, class: usize) -> Result<(), AllocError>
     ensures { OnOk result (AddsText (class_text program.now class) out.old out.new) }
 {
@@ -23,7 +23,7 @@ fn push_node(out: &mut String, program: &Typed, class: usize) -> Result<(), Allo
     out.push_str("\";\n")
 }
 
-/// The line of each class.
+/// Appends the line of each class.
 fn push_nodes(out: &mut String, program: &Typed) -> Result<(), AllocError>
     ensures { OnOk result (AddsText (class_texts program.now) out.old out.new) }
 {
@@ -33,23 +33,23 @@ fn push_nodes(out: &mut String, program: &Typed) -> Result<(), AllocError>
     Ok(())
 }
 
-/// What the text of `order` says of a program whose classes have no order.
+/// The text of `order` for a program whose lock classes have a cycle.
 #[derive(Drop)]
 pub struct CyclicOrder<'a> {
     /// The program's text.
     pub text: &'a [u8],
     /// The program.
     pub program: &'a Typed,
-    /// The pairs of classes of which the first has to come before the second.
+    /// The pairs of classes of which the first must precede the second.
     pub pairs: &'a [ClassPair],
     /// The edges of a cycle.
     pub cycle: &'a [Edge],
 }
 
 impl CyclicOrder<'_> {
-    /// The text: a graph with a node for each class, by their numbers, and an edge for each pair, labelled as that of a
-    /// program with an order is, and red where the cycle goes from the pair's first class to its second. The only error
-    /// is a refused growth.
+    /// The text: a graph with a node for each class, by their numbers, and an edge for each pair, labelled as for a
+    /// program without a cycle, and red if the cycle goes from the pair's first class to its second. The only error is
+    /// a failed allocation.
     pub fn text(&self, alloc: Global) -> Result<String, NoMemory>
         ensures { IfOk result (λ text. string_bytes text ≡ cyclic_order_text_of self.now) }
     {

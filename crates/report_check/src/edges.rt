@@ -1,4 +1,4 @@
-//! The lines of pairs of classes. The one error is a refused growth.
+//! The lines of pairs of classes. The only error is a failed allocation.
 
 ghost use Rattle.std.specs.Prelude.{◌≡◌, OnOk, Some, map, slice_get};
 ghost use Rattle.flow.specs.Points.{points};
@@ -17,7 +17,7 @@ use lockorder::ranks::{ClassPair, Edge};
 use locks::text::push_class;
 use std::alloc::AllocError;
 
-/// Where a point's statement starts.
+/// Appends the position of a point's statement.
 fn push_point(
     out: &mut String,
     positions: &Positions<'_>,
@@ -29,7 +29,7 @@ fn push_point(
     write!(out, "{}:{}", position.line, position.column)
 }
 
-/// The same of the point of this number, if there is one.
+/// Appends the position of the point of this number, if there is one.
 fn push_numbered(
     out: &mut String,
     positions: &Positions<'_>,
@@ -70,12 +70,12 @@ fn is_on(cycle: &[Edge], pair: ClassPair) -> bool
     false
 }
 
-/// What the lines are made from.
+/// What the lines need.
 #[derive(Drop)]
 pub struct Edges<'a, 'b> {
     /// The program.
     pub program: &'a Typed,
-    /// For each section of it its points.
+    /// The points of each section.
     pub points: &'b [Vec<PointRef<'a>>],
     /// The lines and columns of its text.
     pub positions: &'b Positions<'a>,
@@ -93,7 +93,7 @@ impl<'a> Edges<'a, '_> {
         &self.points[number]
     }
 
-    // The section, and where the statement of the point starts at which a lock of the edge's class is used.
+    // Appends the section of an edge, and the position of its use of a lock of the first class.
     fn push_use(&self, out: &mut String, edge: Edge) -> Result<(), AllocError>
         requires points { AreAllPoints self.now.program.now self.now.points.now }
         ensures { OnOk result (AddsText (use_text_of self.now edge) out.old out.new) }
@@ -107,7 +107,7 @@ impl<'a> Edges<'a, '_> {
         Ok(())
     }
 
-    // The mark of a pair between which the cycle goes.
+    // Appends the mark of a pair between which the cycle goes.
     fn push_mark(&self, out: &mut String, pair: ClassPair) -> Result<(), AllocError>
         ensures { OnOk result (AddsText (mark self.now.cycle.now pair) out.old out.new) }
     {
@@ -117,7 +117,7 @@ impl<'a> Edges<'a, '_> {
         Ok(())
     }
 
-    // The classes of a pair.
+    // Appends the classes of a pair.
     fn push_ends(&self, out: &mut String, pair: ClassPair) -> Result<(), AllocError>
         ensures { OnOk result (AddsText (ends_text self.now.program.now pair) out.old out.new) }
     {
@@ -129,7 +129,7 @@ impl<'a> Edges<'a, '_> {
         Ok(())
     }
 
-    // The line of a pair.
+    // Appends the line of a pair.
     fn push_edge(&self, out: &mut String, pair: ClassPair) -> Result<(), AllocError>
         requires points { AreAllPoints self.now.program.now self.now.points.now }
         ensures { OnOk result (AddsText (edge_text_of self.now pair) out.old out.new) }
@@ -143,7 +143,7 @@ impl<'a> Edges<'a, '_> {
         Ok(())
     }
 
-    /// The line of each pair.
+    /// Appends the line of each pair.
     pub fn push(&self, out: &mut String, pairs: &[ClassPair]) -> Result<(), AllocError>
         requires points { AreAllPoints self.now.program.now self.now.points.now }
         ensures { OnOk result (AddsText (edge_texts_of self.now pairs.now) out.old out.new) }

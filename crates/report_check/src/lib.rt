@@ -1,13 +1,13 @@
-//! The exact texts that `check` and `order` write of a program.
+//! The texts that the commands `check` and `order` write.
 //!
-//! - [`Check`]: its ranks, and where its sections take which locks, also with the helpers and the lines of the source
-//!   there. [`push_ranked`]: the class of a rank.
-//! - [`Order`]: the order of its lock classes, as a graph in the language DOT. [`CyclicOrder`]: the same of a program that is
-//!   refused, since they have no order. [`points_of_sections`]: the points of all sections.
+//! - [`Check`]: the ranks of lock classes, and where sections acquire which locks, also with the helpers and the lines
+//!   of the source. [`push_ranked`]: the class of a rank.
+//! - [`Order`]: the order of the lock classes, as a graph in the language DOT. [`CyclicOrder`]: the same for a program
+//!   that is refused, since its classes have a cycle. [`points_of_sections`]: the points of all sections.
 //!
 //! `specs/Check.antt`, `Sources.antt` and `Order.antt` define them byte for byte. `specs/Working/Values.antt` and
-//! `OrderValues.antt` say it of values of the code, `Positions.antt` where bytes stand, and `HelperIndexes.antt` which helper
-//! has a place; nobody has to believe these.
+//! `OrderValues.antt` state the same of values of the code, `Positions.antt` where bytes are, and `HelperIndexes.antt`
+//! which helper has a place; nobody has to believe these.
 #![tactic(auto)]
 
 mod check;
@@ -17,7 +17,6 @@ mod order;
 mod positions;
 mod section_points;
 mod section_text;
-mod source_line;
 mod sources;
 
 pub use check::{Check, push_ranked};

@@ -14,7 +14,7 @@ use lockorder::ranks::ClassPair;
 use source::memory::NoMemory;
 use std::alloc::{AllocError, Global};
 
-/// The class of a rank, and ahead of it the rank.
+/// Appends a rank and its class.
 fn push_label(
     out: &mut String,
     program: &Typed,
@@ -27,7 +27,7 @@ fn push_label(
     push_ranked(out, program, ranks, rank)
 }
 
-/// The line of the class of a rank.
+/// Appends the line of the class of a rank.
 fn push_node(
     out: &mut String,
     program: &Typed,
@@ -44,7 +44,7 @@ fn push_node(
     Ok(())
 }
 
-/// The line of each class.
+/// Appends the line of each class.
 fn push_nodes(out: &mut String, program: &Typed, ranks: &[u32]) -> Result<(), AllocError>
     ensures { OnOk result (AddsText (node_texts program.now ranks.now) out.old out.new) }
 {
@@ -54,23 +54,23 @@ fn push_nodes(out: &mut String, program: &Typed, ranks: &[u32]) -> Result<(), Al
     Ok(())
 }
 
-/// What the text of `order` says of a program that is accepted.
+/// The text of `order` for an accepted program.
 #[derive(Drop)]
 pub struct Order<'a> {
     /// The program's text.
     pub text: &'a [u8],
     /// The program.
     pub program: &'a Typed,
-    /// For each lock class its rank.
+    /// The rank of each lock class.
     pub ranks: &'a [u32],
-    /// The pairs of classes of which the first has to come before the second.
+    /// The pairs of classes of which the first must precede the second.
     pub pairs: &'a [ClassPair],
 }
 
 impl Order<'_> {
-    /// The text of `order`: a graph with a node for each class, labelled with its rank, and an edge for each pair, labelled
-    /// with a use of a lock of the first class that makes it: its section, line and column. The only error is a refused
-    /// growth.
+    /// The text of `order`: a graph with a node for each class, labelled with its rank, and an edge for each pair,
+    /// labelled with a use of a lock of the first class that makes it: its section, line and column. The only error is
+    /// a failed allocation.
     pub fn text(&self, alloc: Global) -> Result<String, NoMemory>
         ensures { IfOk result (λ text. string_bytes text ≡ order_text_of self.now) }
     {

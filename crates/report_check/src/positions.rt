@@ -3,21 +3,21 @@
 ghost use Rattle.std.specs.Prelude.{◌≡◌, IfOk};
 ghost use Rattle.report_check.specs.Working.Positions.{IsPositionOf, ArePositionsOf};
 
-use code::places::Position;
+use code::places::LineColumn;
 use source::cursor::Cursor;
 use source::memory::NoMemory;
 use std::alloc::Global;
 
-/// A text, with the line and column of each byte. So that many places in any order are found, the text is read once.
+/// A text, with the line and column of each byte. The text is read once, and positions can be looked up in any order.
 #[derive(Drop)]
 pub struct Positions<'a> {
     text: &'a [u8],
-    each: Vec<Position>,
+    each: Vec<LineColumn>,
     ghost positions: { ArePositionsOf text.now each.items },
 }
 
 impl<'a> Positions<'a> {
-    /// Of a text.
+    /// The positions of `text`.
     pub fn of(alloc: Global, text: &'a [u8]) -> Result<Positions<'a>, NoMemory>
         ensures { IfOk result (λ positions. positions.text.now ≡ text.now) }
     {
@@ -25,7 +25,7 @@ impl<'a> Positions<'a> {
         let mut each = Vec::with_capacity(alloc, text.len())?;
         for at in 0..text.len() {
             cursor.go_to(at);
-            each.push(Position {
+            each.push(LineColumn {
                 line: cursor.line,
                 column: cursor.column,
             })?;
@@ -33,8 +33,8 @@ impl<'a> Positions<'a> {
         Ok(Positions { text, each })
     }
 
-    /// Of the byte at a place, or of the end of the text where that lies before it.
-    pub fn at(&self, place: usize) -> Position
+    /// The position of the byte at `place`, or of the end of the text if `place` lies past it.
+    pub fn at(&self, place: usize) -> LineColumn
         ensures { IsPositionOf self.now.text.now place result }
     {
         match self.each.get(place) {
@@ -42,7 +42,7 @@ impl<'a> Positions<'a> {
             None => {
                 let mut cursor = Cursor::new(self.text);
                 cursor.go_to(place);
-                Position {
+                LineColumn {
                     line: cursor.line,
                     column: cursor.column,
                 }

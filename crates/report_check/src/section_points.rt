@@ -8,11 +8,11 @@ use flow::points::{PointRef, points_of};
 use source::memory::NoMemory;
 use std::alloc::Global;
 
-/// For each section of a program its points, so that those of many edges are found by going over each section once.
+/// The points of each section of a program, so that each section is visited once for the points of many edges.
 ///
 /// # Errors
 ///
-/// Want of memory.
+/// Out of memory.
 pub fn points_of_sections<'a>(
     alloc: Global,
     program: &'a Typed,

@@ -1,4 +1,4 @@
-//! The lines of a section in the text of `check`. The one error is a refused growth.
+//! The lines of a section in the text of `check`. The only error is a failed allocation.
 
 ghost use Rattle.std.specs.Prelude.{◌≡◌, OnOk};
 ghost use Rattle.rope.specs.Working.Ropes.{AddsTo};
@@ -13,18 +13,18 @@ use source::cursor::Cursor;
 use source::memory::NoMemory;
 use std::alloc::{AllocError, Global};
 
-/// What the lines of a section are made from.
+/// The data for the lines of a section.
 #[derive(Drop)]
 pub struct SectionText<'a> {
     /// The program.
     pub program: &'a Typed,
-    /// A section of it.
+    /// A section of the program.
     pub section: &'a Section,
-    /// The number of the group of parts that has the texts of the section's lock paths.
+    /// The index of the group of parts with the texts of the section's lock paths.
     pub group: usize,
     /// The lists before its points.
     pub lists: &'a SectionLists,
-    /// What is told of their places beside line and column, if it is.
+    /// What is written of its places beside line and column, if anything is.
     pub sources: Option<&'a Sources<'a>>,
 }
 
@@ -32,7 +32,7 @@ impl SectionText<'_> {
     ghost use Rattle.report_check.specs.Working.Values.{AreOf, HasPaths, helper_text_of, line_text_of, at_text_of};
     ghost use Rattle.report_check.specs.Working.Values.{taken_text_of, take_text_of, take_texts_of, section_text_of};
 
-    // The helper that has the place, if helpers are told and one has it.
+    // Appends the helper at the place, if helpers are written and one has it.
     fn push_helper(&self, out: &mut Rope, start: usize) -> Result<(), AllocError>
         ensures { OnOk result (AddsTo (helper_text_of self.now.sources start) out.old out.new) }
     {
@@ -42,7 +42,7 @@ impl SectionText<'_> {
         }
     }
 
-    // The line of the source at the place, if it is told.
+    // Appends the line of the source at the place, if lines are written.
     fn push_line(&self, out: &mut Rope, start: usize) -> Result<(), AllocError>
         ensures { OnOk result (AddsTo (line_text_of self.now.sources start) out.old out.new) }
     {
@@ -52,7 +52,7 @@ impl SectionText<'_> {
         }
     }
 
-    // The place.
+    // Appends the place.
     fn push_at(
         &self,
         out: &mut Rope,
@@ -70,7 +70,7 @@ impl SectionText<'_> {
         self.push_helper(out, start)
     }
 
-    // The lock paths of a list, a space before each.
+    // Appends the lock paths of a list, with a space before each.
     fn push_taken(&self, out: &mut Rope, list: &[u8]) -> Result<(), AllocError>
         requires { HasPaths self.now out.old }
         ensures { OnOk result (AddsTo (taken_text_of self.now list.now) out.old out.new) }
@@ -82,7 +82,7 @@ impl SectionText<'_> {
         Ok(())
     }
 
-    // The line of a point whose statement starts at `start`, and that of the source, if its list is not empty.
+    // Appends the line of a point whose statement starts at `start`, and that of the source, if its list is not empty.
     fn push_take(
         &self,
         out: &mut Rope,
@@ -105,7 +105,7 @@ impl SectionText<'_> {
         self.push_line(out, start)
     }
 
-    // The lines of points: of each whose list is not empty.
+    // Appends the lines of the points whose lists are not empty.
     fn push_takes(
         &self,
         out: &mut Rope,
@@ -126,7 +126,7 @@ impl SectionText<'_> {
         Ok(())
     }
 
-    /// The line of the section and those of its points. The cursor stands anywhere in the program's text.
+    /// Appends the line of the section and those of its points. The cursor may be anywhere in the program's text.
     pub fn push(
         &self,
         alloc: Global,

@@ -1,5 +1,5 @@
-//! What `check --source` tells of a place: the helper that has it, and the line of the source. The one error is a refused
-//! growth.
+//! What `check --source` writes of a place: the helper that has it, and the line of the source. The only error is a
+//! failed allocation.
 
 ghost use Rattle.std.specs.Prelude.{◌≡◌, OnOk, IfOk, map};
 ghost use Rattle.std.proofs.Props.{props};
@@ -8,8 +8,8 @@ ghost use Rattle.rope.specs.Working.Ropes.{AddsTo};
 ghost use Rattle.report_check.specs.Sources.{in_helper, source_line};
 ghost use Rattle.report_check.specs.Working.HelperIndexes.{IsIndexOf, IsWithPoints};
 
-use crate::source_line::push_line;
 use core_lang::tree::Section;
+use explanation::push_source_line;
 use flow::points::{PointRef, points_of};
 use indexmap::IndexMap;
 use rope::Rope;
@@ -38,7 +38,7 @@ fn index_by_place<'a>(
     ensures { IfOk result (IsIndexOf helpers.now) }
 {
     let mut index = IndexMap::new(alloc);
-    // from the last on, so that the first of a place is the one that stays
+    // from the last one on, so that the first helper of a place is the one that stays
     for helper in helpers.iter().rev() {
         let points = points_of(alloc, helper)?;
         put_at(&mut index, &points, helper)?;
@@ -52,13 +52,13 @@ pub(crate) struct Sources<'a> {
     alloc: Global,
     text: &'a [u8],
     helpers: &'a [Section],
-    // Which helper has a place. So that many places are found, the helpers are gone over once.
+    // The helper of each place. The helpers are visited once for the lookups of many places.
     index: IndexMap<usize, &'a Section>,
     ghost indexed: { IsIndexOf helpers.now index } by { Prim.hlevel props },
 }
 
 impl<'a> Sources<'a> {
-    /// Of this text, with these helpers.
+    /// The sources of `text`, with these helpers.
     pub(crate) fn of(
         alloc: Global,
         text: &'a [u8],
@@ -76,7 +76,7 @@ impl<'a> Sources<'a> {
         })
     }
 
-    /// The helper that has the place, if one has.
+    /// Appends the helper that has the place, if one has.
     pub(crate) fn push_helper(&self, out: &mut Rope, start: usize) -> Result<(), AllocError>
         ensures { OnOk result (AddsTo (in_helper self.now.helpers.now start) out.old out.new) }
     {
@@ -89,12 +89,12 @@ impl<'a> Sources<'a> {
         }
     }
 
-    /// The line of the source at the place.
+    /// Appends the line of the source at the place.
     pub(crate) fn push_line(&self, out: &mut Rope, start: usize) -> Result<(), AllocError>
         ensures { OnOk result (AddsTo (source_line self.now.text.now start) out.old out.new) }
     {
         let mut line = String::new(self.alloc);
-        push_line(&mut line, self.text, start)?;
+        push_source_line(&mut line, self.text, start)?;
         out.push_str(line.as_str())
     }
 }

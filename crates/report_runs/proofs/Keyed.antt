@@ -12,14 +12,14 @@ use Rattle.core_lang.specs.declared.typed.Typed.{Typed}
 use Rattle.core_lang.specs.declared.value.Value.{Value}
 use Rattle.core_lang.specs.declared.value.Value.TheVariants.{Int, Ref}
 use Rattle.history.specs.Commits.{Commit}
-use Rattle.report_runs.specs.contracts.kind.HeldPartialEq.TheImpl as held
-use Rattle.report_runs.specs.contracts.kind.KindPartialEq.TheImpl as kind
-use Rattle.report_runs.specs.contracts.kind.PlacePartialEq.TheImpl as place
-use Rattle.report_runs.specs.declared.kind.Held.{Held}
-use Rattle.report_runs.specs.declared.kind.Kind.{Kind}
-use Rattle.report_runs.specs.declared.kind.Place.{Place}
+use Rattle.report_runs.specs.contracts.run_kind.HeldPartialEq.TheImpl as held
+use Rattle.report_runs.specs.contracts.run_kind.RunKindPartialEq.TheImpl as kind
+use Rattle.report_runs.specs.contracts.run_kind.PlacePartialEq.TheImpl as place
+use Rattle.report_runs.specs.declared.run_kind.Held.{Held}
+use Rattle.report_runs.specs.declared.run_kind.RunKind.{RunKind}
+use Rattle.report_runs.specs.declared.run_kind.Place.{Place}
 use Rattle.report_runs.specs.declared.seen.Seen.{Seen}
-use Rattle.report_runs.specs.declared.told.Told.{Told}
+use Rattle.report_runs.specs.declared.runs_told.Told.{Told}
 use Rattle.report_runs.specs.Runs.{Run, same_place, same_value, same_order, same_end, same_kind, firsts, with_first, number_of, run_text, runs_text}
 use Rattle.report_runs.specs.Working.Heads.{head_text}
 use Rattle.report_runs.specs.Working.Kinds.{place_of, held_of}
@@ -49,7 +49,7 @@ shown_eq a b = pointwise place.ghosts.eq a.order b.order && pointwise held.ghost
 kind_agrees : (x y : Run) → same_kind x y ≡ shown_eq (kind_in x) (kind_in y)
 kind_agrees x y = λ i. order_agrees x y i && end_agrees x y i
 
-kind_shows : (a b : Kind) → kind.ghosts.eq a b ≡ shown_eq (kind_shown a) (kind_shown b)
+kind_shows : (a b : RunKind) → kind.ghosts.eq a b ≡ shown_eq (kind_shown a) (kind_shown b)
 kind_shows a b = refl
 
 module _ (runs : List Run) (run : Run) where
@@ -79,8 +79,8 @@ module _ (runs : List Run) (run : Run) where
         e ∙ ap (λ (m : ℕ). m + 1) (place_shown (pointwise held.ghosts.eq) (λ (o : Vec Held Z). o.items) end_in same_end end_agrees
         (λ (a b : Vec Held Z). pointwise held.ghosts.eq a.items b.items) (λ a b. refl) keys (firsts same_end runs) k run keyed is)
 
-  module _ (keys : List Kind) (k : Kind) (keyed : map kind_shown keys ≡ map kind_in (firsts same_kind runs)) (is : kind_shown k ≡ kind_in run) where
-    pub kinds_with : (new : List Kind) → new ≡ insert_key kind.ghosts.eq keys k →
+  module _ (keys : List RunKind) (k : RunKind) (keyed : map kind_shown keys ≡ map kind_in (firsts same_kind runs)) (is : kind_shown k ≡ kind_in run) where
+    pub kinds_with : (new : List RunKind) → new ≡ insert_key kind.ghosts.eq keys k →
         map kind_shown new ≡ map kind_in (with_first same_kind (firsts same_kind runs) run)
     kinds_with new e =
         ap (map kind_shown) e ∙ keyed_with shown_eq kind_shown kind_in same_kind kind_agrees kind.ghosts.eq kind_shows keys (firsts same_kind runs) k run keyed is
@@ -98,7 +98,7 @@ module _ (runs : List Run) (run : Run) where
         by false h = cc
 
   -- where the run is of a kind that was seen they stay
-  pub kinds_same : (keys : List Kind) → map kind_shown keys ≡ map kind_in (firsts same_kind runs) → list_any (same_kind run) (firsts same_kind runs) ≡ true →
+  pub kinds_same : (keys : List RunKind) → map kind_shown keys ≡ map kind_in (firsts same_kind runs) → list_any (same_kind run) (firsts same_kind runs) ≡ true →
       map kind_shown keys ≡ map kind_in (with_first same_kind (firsts same_kind runs) run)
   kinds_same keys keyed there = keyed ∙ ap (λ (b : Bool). map kind_in (if b then firsts same_kind runs else firsts same_kind runs ++ run ∷ [])) (sym there)
 

@@ -1,4 +1,10 @@
 pub mod Firsts
-pub mod Laws
-pub mod Steps
+pub mod Held
 pub mod Keyed
+pub mod Laws
+pub mod OrderSteps
+pub mod ReadSums
+pub mod RunSteps
+pub mod Tables
+pub mod TraceSteps
+pub mod Words

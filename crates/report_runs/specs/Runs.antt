@@ -1,5 +1,5 @@
--- The text of runs, as bytes: how many there were, how many orders their calls had and how many ends their cells, and of each
--- kind of run the first history.
+-- The text of runs, as bytes: their number, the numbers of different orders of their calls and of different ends of their
+-- cells, and the first history of each kind of run.
 use Rattle.std.specs.Prelude.{ℕ, ◌+◌, ◌==◌, ◌&&◌, Bool, false, List, [], ◌∷◌, ◌++◌, if◌then◌else◌, length, map, fold, codes}
 use Rattle.std.specs.Prelude.{nat_eq, count_by}
 use Rattle.std.specs.Cmp.Lexicographic.{pointwise}
@@ -12,56 +12,57 @@ use Rattle.core_lang.specs.declared.value.Value.TheVariants.{Int, Ref}
 use Rattle.core_lang.specs.declared.typed.Typed.{Typed}
 use Rattle.code.specs.Listing.{line}
 use Rattle.history.specs.Commits.{Commit}
-use Rattle.source_histories.specs.declared.format.Format.TheVariants.{Two}
+use Rattle.input_files.specs.declared.format.Format.TheVariants.{Two}
 use Rattle.report.specs.Entry.{entry_of_commit}
 use Rattle.report.specs.History.{history_of}
 
--- a run: the entries of its history, in order, and what they leave in the cells
+-- a run: the entries of its history, in order, and the values that they leave in the cells
 pub record Run : Type 0 where
   pub log : List Commit
   pub values : List Value
 
--- ---- which runs are alike
+-- ---- equal runs
 
 -- two entries are of the same call of the same thread
 abbrev pub same_place : Commit → Commit → Bool
 same_place a b = (a.thread == b.thread) && (a.step == b.step)
 
--- two runs have the same order: as many entries, of the same call at each position
+-- two runs have the same order: the same number of entries, of the same call at each position
 abbrev pub same_order : Run → Run → Bool
 same_order a b = pointwise same_place a.log b.log
 
+-- two values are the same
 abbrev pub same_value : Value → Value → Bool
 same_value (Int a) (Int b) = int_eq a b
 same_value (Int a) (Ref b) = false
 same_value (Ref a) (Int b) = false
 same_value (Ref a) (Ref b) = option_eq nat_eq a b
 
--- they have the same end: the same value in each cell
+-- two runs have the same end: the same value in each cell
 abbrev pub same_end : Run → Run → Bool
 same_end a b = pointwise same_value a.values b.values
 
--- they are of one kind
+-- two runs are of one kind
 abbrev pub same_kind : Run → Run → Bool
 same_kind a b = same_order a b && same_end a b
 
--- ---- how many there are
+-- ---- different runs
 
--- those before, and this one, unless it is the same as one of them
+-- `firsts`, and `x` unless it is the same as one of them
 abbrev pub with_first : {A : Type 0} → (A → A → Bool) → List A → A → List A
 with_first same firsts x = if list_any (same x) firsts then firsts else firsts ++ x ∷ []
 
--- of those that are the same the first one, in order
+-- the first one of each kind, in order
 abbrev pub firsts : {A : Type 0} → (A → A → Bool) → List A → List A
 firsts same xs = fold (with_first same) [] xs
 
--- the number, from 1, of the first one that is the same
+-- the number, from 1, of the first run that is the same
 abbrev pub number_of : (Run → Run → Bool) → List Run → Run → ℕ
 number_of same runs run = position_or_len (same run) (firsts same runs) + 1
 
 -- ---- the text
 
--- order T runs C end K: the order's number, how many runs are of this kind, and the end's number
+-- order T runs C end K: the order's number, the number of runs of this kind, and the end's number
 abbrev pub kind_line : List Run → Run → List ℕ
 kind_line runs run =
     codes "order " ++ decimal (number_of same_order runs run) ++ codes " runs " ++ decimal (count_by (same_kind run) runs)
@@ -71,7 +72,7 @@ kind_line runs run =
 abbrev pub run_text : Typed → Run → List ℕ
 run_text program run = history_of Two program (map entry_of_commit run.log) run.values
 
--- the same for each kind of run, in the order of the first of each, whose history follows
+-- the summary, and then for each kind of run, in the order of their first runs, its line and its first history
 abbrev pub runs_text : Typed → List Run → List ℕ
 runs_text program runs =
     line (codes "runs " ++ decimal (length runs))

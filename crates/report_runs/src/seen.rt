@@ -1,23 +1,23 @@
-//! What runs came to.
+//! A summary of runs.
 
 ghost use Rattle.std.specs.Prelude.{◌≡◌, ◌≤◌, ◌+◌, IfOk, OnOk, length, vec_len};
 ghost use Rattle.indexmap.specs.IndexSet.{index_set_len, insert_index, insert_key};
 
-use crate::kind::{Held, Kind, Place, end_of, order_of};
-use crate::told::{Told, push_head};
+use crate::run_kind::{Held, Place, RunKind, end_of, order_of};
+use crate::runs_told::{Told, push_head};
 use core_lang::typed::Typed;
 use core_lang::value::Value;
 use history::entries::History;
 use indexmap::IndexSet;
+use input_files::Format;
 use report::entries_text;
 use source::keyed::KeyedState;
 use source::memory::NoMemory;
-use source_histories::Format;
 use std::alloc::Global;
 use std::hash::Hash;
 
-/// The runs of a program so far. Of them it keeps how many there were, and what differs: each order of calls once, each end
-/// of the cells once, and for each kind of run, an order with an end, the text of the first and how many there were.
+/// A summary of the runs of a program: their number, each order of calls once, each end of the cells once, and for each kind
+/// of run (an order with an end) the text of the first run and the number of runs.
 #[derive(Drop)]
 pub struct Seen<'p> {
     alloc: Global,
@@ -25,13 +25,13 @@ pub struct Seen<'p> {
     runs: u64,
     orders: IndexSet<Vec<Place>, KeyedState>,
     ends: IndexSet<Vec<Held>, KeyedState>,
-    kinds: IndexSet<Kind, KeyedState>,
-    // One of each kind, and perhaps one more, where memory ran out.
+    kinds: IndexSet<RunKind, KeyedState>,
+    // One for each kind, and perhaps one more, where memory ran out.
     told: Vec<Told>,
     ghost within: { index_set_len kinds ≤ vec_len told },
 }
 
-/// The number of a value in a set, from 1, which it joins if it isn't there.
+/// The number of `value` in the set, from 1. Inserts it if the set does not have it.
 fn numbered<T: Eq + Hash + Drop>(
     set: &mut IndexSet<T, KeyedState>,
     value: T,
@@ -50,7 +50,7 @@ impl<'p> Seen<'p> {
     ghost use Rattle.report_runs.specs.Runs.{Run, runs_text};
     ghost use Rattle.report_runs.specs.Working.Seeing.{HasSeen};
 
-    /// No runs of this program. Those that come are found by hashes with these keys.
+    /// The summary of no runs of `program`, whose hashes have the keys of `hashing`.
     pub fn new(alloc: Global, program: &'p Typed, hashing: KeyedState) -> Seen<'p>
         ensures { HasSeen program.now [] result }
     {
@@ -65,11 +65,11 @@ impl<'p> Seen<'p> {
         }
     }
 
-    /// Adds a run: its history, and what that leaves in each cell.
+    /// Adds a run: its history, and the value that each cell has after it.
     ///
     /// # Errors
     ///
-    /// Want of memory, of which a number of runs that can't be counted is a case. Then nothing is promised of what it holds.
+    /// A refused growth, which includes a number of runs past `u64`. The summary's content is unspecified after an error.
     pub fn add(&mut self, history: &History, values: &[Value]) -> Result<(), NoMemory>
         requires values { vec_len self.old.program.now.cells ≡ length values.now }
         ensures { OnOk result ((program : TypedValue) (runs : List Run) → HasSeen program runs self.old →
@@ -81,7 +81,7 @@ impl<'p> Seen<'p> {
         self.runs = runs;
         let order = numbered(&mut self.orders, order_of(self.alloc, history)?)?;
         let end = numbered(&mut self.ends, end_of(self.alloc, values)?)?;
-        let kind = Kind {
+        let kind = RunKind {
             order: order_of(self.alloc, history)?,
             end: end_of(self.alloc, values)?,
         };
@@ -100,11 +100,11 @@ impl<'p> Seen<'p> {
         Ok(())
     }
 
-    /// The text of the runs that were added.
+    /// The text of the added runs.
     ///
     /// # Errors
     ///
-    /// Want of memory.
+    /// `NoMemory`: a growth was refused.
     pub fn text(&self) -> Result<String, NoMemory>
         ensures { IfOk result (λ text. (program : TypedValue) (runs : List Run) → HasSeen program runs self.now →
             string_bytes text ≡ runs_text program runs) }

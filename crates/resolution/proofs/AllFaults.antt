@@ -1,4 +1,4 @@
--- Each true fault is listed.
+-- Each fault of the program is listed.
 use Rattle.std.proofs.Common.{◌≡◌, ℕ, zero, suc, ◌+◌, ◌<◌, ◌≤◌, ◌⊎◌, inl, inr, List, [], ◌∷◌, ◌++◌, length, Option}
 use Rattle.std.proofs.Common.{Some, None, Bool, true, false, refl, sym, ap, ◌∙◌, subst, if◌then◌else◌, append_assoc}
 use Rattle.std.proofs.Common.{arith}
@@ -72,7 +72,7 @@ use Rattle.resolution.specs.Working.FaultLists.{lock_count, member_counts, count
 use Rattle.resolution.specs.Working.FaultLists.{init_target_again, repeated, repeated_faults, each_faults}
 use Rattle.resolution.specs.Working.FaultLists.{declaration_faults}
 use Rattle.resolution.specs.Theory.Leasts.{IsAmong, among_left, among_right}
-use Rattle.core_lang_calls.specs.Faults.{IsGraphFault}
+use Rattle.core_lang_helpers.specs.Faults.{IsGraphFault}
 use Rattle.resolution.specs.CallGraphs.{tree_graph}
 use Rattle.resolution.specs.declared.body_limits.BodyLimits.{BodyLimits}
 use Rattle.resolution.proofs.TrueStatements.{entered_limits}
@@ -465,7 +465,7 @@ has_parts [] d h = elim h [ ]
 has_parts (x ∷ ds) d first = ([], ds, refl)
 has_parts (x ∷ ds) d (further h) = let r = has_parts ds d h in (x ∷ r.0, r.1, ap (λ (ys : List Decl). x ∷ ys) r.2)
 
--- the declared name is the one that the fault stands at
+-- the fault is at the declared name
 same_start : (a b : Ident) (c : Code) (p : ℕ) (fs : List Finding) → Some a ≡ Some b →
     IsAmong (record { code = c; start = a.span.start }) fs → IsAmong (record { code = c; start = b.span.start }) fs
 same_start a b c p fs e i = let s : a ≡ b = cc in subst (λ (y : Ident). IsAmong (record { code = c; start = y.span.start }) fs) s i
@@ -545,7 +545,7 @@ calls_in decls before (array y) x is a b = absurd (omega (arith, a, b))
 calls_in decls before (pool q) x is a b = absurd (omega (arith, a, b))
 calls_in decls before (init j) x is a b = absurd (omega (arith, a, b))
 
--- what is listed for one member
+-- the listed faults of one member
 abbrev member_own : ℕ → ℕ → Member → List Finding
 member_own classes n x = one_if (nat_le MEMBER_LIMIT n) LimitExceeded (member_name x).span.start ++ one_if (is_lock x && nat_le CLASS_LIMIT classes) LimitExceeded (member_name x).span.start
 

@@ -1,4 +1,4 @@
--- What is listed where a place, a path, an annotation, an `init` or an owner has a fault.
+-- The list of faults has a fault for each faulty place, path, annotation, `init` and owner.
 use Rattle.std.proofs.Common.{◌≡◌, ℕ, List, [], ◌∷◌, ◌++◌, length, Option, Some, None, sym, ap, ◌∙◌, subst}
 use Rattle.source.specs.declared.fault.Code.{Code}
 use Rattle.source.specs.declared.fault.Code.TheVariants.{UnknownName}
@@ -170,7 +170,7 @@ pub of_init_field : (decls : List Decl) (x : Init) (ms : List Member) → Has de
 of_init_field decls x ms h is f i =
     init_part decls x h f (among_right f (index_faults decls x.pool.span.start (the_decl decls x.pool.text) x.index) _ (subst (λ (o : Option (List Member)). IsAmong f (named_faults decls x.field.span.start o x.field.text)) (sym is) i))
 
--- ---- what stands behind `where`
+-- ---- what follows `where`
 
 -- a field's name
 pub of_member : (decls : List Decl) (ms : List Member) (y : Ident) → NamesOwner decls ms y → (f : Mistake) →

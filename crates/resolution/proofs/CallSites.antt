@@ -9,8 +9,8 @@ use Rattle.core_lang.specs.declared.tree.Action as a
 use Rattle.core_lang.specs.declared.tree.Action.{Bind, SetLocal, SetGlobal, SetElement, SetField, Call as CallOf, Print}
 use Rattle.core_lang.specs.declared.tree.Action.{If', IfElse', While', Row_of-Stmt, end_of-Stmt, more_of-Stmt}
 use Rattle.core_lang.specs.WrittenPoints.{points_by, points_among, points_among_all}
-use Rattle.core_lang_calls.specs.declared.graph.CallSite.{CallSite}
-use Rattle.core_lang_calls.specs.Working.Programs.{site_of, sites_by, sites_in, sites_in_all, brings_none}
+use Rattle.core_lang_helpers.specs.declared.graph.CallSite.{CallSite}
+use Rattle.core_lang_helpers.specs.Working.Programs.{site_of, sites_by, sites_in, sites_in_all, brings_none}
 use Rattle.resolution.specs.Core as core
 use Rattle.resolution.specs.CoreViews.{core_action, core_stmts_row, core_stmts}
 use Rattle.resolution.specs.Scopes.{Scope, helper_meant, left, Meaning}

@@ -1,4 +1,4 @@
--- What the code computes of constants is what the rules say of them.
+-- The code computes for constants the results of the rules.
 use Rattle.std.proofs.Common.{◌≡◌, ℕ, ◌≤◌, ◌<◌, List, [], ◌∷◌, Option, Some, None, Bool, true, false, refl, ap, subst}
 use Rattle.std.proofs.Common.{if◌then◌else◌}
 use Rattle.std.specs.Prelude.{ℤ, pos, neg_ℤ, nat_le, nat_lt}
@@ -25,7 +25,7 @@ use Rattle.resolution.specs.Working.TypedConstants.{opened, object_in, referred}
 use Rattle.resolution.proofs.ExpressionRules.{When, when}
 use Rattle.resolution.proofs.Tests.{le_of, le_true, lt_of, lt_true}
 
--- ---- what the code computes is so by the rules
+-- ---- the result of the code is one of the rules
 
 number_sorts : (P : Sort → Type 0) (n : Number) (b : Bool) → nat_le n.value NUMBER_LIMIT ≡ b →
     (n.value ≤ NUMBER_LIMIT → P (Of Integer)) → When P (number_sort (if b then Some (pos n.value) else None))
@@ -139,7 +139,7 @@ referred_ruled decls (Some k) (Some c) n e = (k, c, refl, refl, reference_ruled 
 referred_ruled decls (Some k) None n e = cc
 referred_ruled decls None g n e = cc
 
--- ---- what is so by the rules is computed
+-- ---- a result of the rules is computed
 
 pub sort_is : {decls : List Decl} {c : Const} {s : Sort} → IsOfSort decls c s → const_sort decls c ≡ Some s
 sort_is (rule.number_sort {n = n} l) = rw (le_true n.value NUMBER_LIMIT l) refl

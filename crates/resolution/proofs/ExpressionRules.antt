@@ -1,4 +1,4 @@
--- What the code computes of an expression is what the rules say of it.
+-- The code computes for an expression the result of the rules.
 use Rattle.std.proofs.Common.{◌≡◌, ℕ, ◌≤◌, List, [], Option, Some, None, Bool, true, false, refl, ap, ◌∙◌}
 use Rattle.std.proofs.Common.{subst, if◌then◌else◌}
 use Rattle.std.specs.Prelude.{nat_le, pos}
@@ -47,7 +47,7 @@ When P None = Unit {0}
 pub when : {A : Type 0} (P : A → Type 0) (o : Option A) → When P o → (x : A) → o ≡ Some x → P x
 when P o h x e = subst (When P) e h
 
--- ---- what the code computes is so by the rules
+-- ---- the result of the code is one of the rules
 
 pub number_when : (P : ResolvedExpr → Type 0) (o : Option ResolvedExpr) → When P o →
     When (λ (x : core.Expr). P (value x (Of Integer))) (number_resolved o)
@@ -250,7 +250,7 @@ mutual
       test_types sc o e links c (test_resolved (typed sc e)) (test_when (Types sc e) (typed sc e) (expr_types sc e))
       (typed_tests sc (test_resolved (typed sc e)) links) (tests_types sc (test_resolved (typed sc e)) links)
 
--- ---- what is so by the rules is computed
+-- ---- a result of the rules is computed
 
 is_number : (sc : Scope) (n : Number) → n.value ≤ NUMBER_LIMIT →
     typed sc (int n) ≡ Some (value (core.number (pos n.value)) (Of Integer))
@@ -353,7 +353,7 @@ mutual
 pub types_is : (sc : Scope) (e : Expr) (r : ResolvedExpr) → typed sc e ≡ Some r → Types sc e r
 types_is sc e r is = when (Types sc e) (typed sc e) (expr_types sc e) r is
 
--- ---- a value that is wanted
+-- ---- an expected value
 
 gives_if : (sc : Scope) (w : Want) (e : Expr) (x : core.Expr) (s : Sort) → Types sc e (value x s) → (b : Bool) →
     fits_sort w s ≡ b →

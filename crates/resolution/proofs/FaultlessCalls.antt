@@ -1,4 +1,4 @@
--- Calls of helpers for which no fault is listed are resolved, and what they give back fits.
+-- Calls of helpers without a listed fault are resolved, and their results fit.
 use Rattle.std.proofs.Common.{◌≡◌, ℕ, List, [], ◌∷◌, length, Option, Some, None, Bool, true, false, refl, ap, ◌∙◌}
 use Rattle.std.proofs.Common.{subst, if◌then◌else◌, arith}
 use Rattle.std.specs.Prelude.{not, is_some, ◌==◌}
@@ -36,7 +36,7 @@ use Rattle.resolution.proofs.FaultlessResolvedExprs.{value_is}
 abbrev Values : Option (List core.Expr) → Type 0
 Values o = (xs : List core.Expr) × (o ≡ Some xs)
 
--- the type of a parameter of what may be called
+-- the types of these parameters are types of the program
 abbrev ParametersTyped : List Decl → List Param → Type 0
 ParametersTyped decls ps = (p : Param) → Has ps p → Typing decls (type_of (outside decls) p.value_type)
 
@@ -72,7 +72,7 @@ counted_right p n k none = eqb-true n k (true_if (n == k) (not_found (not (n == 
     true_if true e = refl
     true_if false e = cc
 
--- what is known and no helper is told of
+-- a name that refers to something other than a helper has a fault
 known_no_helper : {P : Type 0} (decls : List Decl) → Clean decls → (p n : ℕ) (d : Decl) → Has decls d →
     NoneIn (misnamed decls WrongType role.Helper p (a_decl n d)) → P
 known_no_helper decls clean p n d h none = absurd (unfit_not decls WrongType p _ (a_decl n d) (decl_typed decls clean n d h) none)
@@ -113,7 +113,7 @@ call_resolves sc c d local none =
           ∙ ap (λ (o : Option (List core.Expr)). ◌>>=◌ {B = core.Action} o (λ ws. Some (core.call number ws local))) vs.1,
     )
 
--- ---- what it gives back
+-- ---- its result
 
 other_fits : (p : ℕ) (t : core_type.ValueType) (u : Option core_type.ValueType) (v : core_type.ValueType) →
     u ≡ Some v → NoneIn (other_result p t u) → is_of t u ≡ true

@@ -1,4 +1,4 @@
--- Constants, annotations, sections and calls for which no fault is listed are resolved.
+-- Constants, annotations, sections and calls without a listed fault are resolved.
 use Rattle.std.proofs.Common.{◌≡◌, ℕ, ◌≤◌, List, [], ◌∷◌, ◌++◌, length, Option, Some, None, true, refl, ap, ◌∙◌, subst}
 use Rattle.std.proofs.Common.{arith}
 use Rattle.std.specs.Prelude.{pos, neg_ℤ, nat_le, nat_lt, ◌&&◌, is_some, slice_get}
@@ -135,7 +135,7 @@ referred_is decls clean s c none not_null =
 
 -- ---- annotations
 
--- what is declared has its type, so it is told where it is no lock
+-- a declaration has a type without a fault, and so a fault if it is not a lock
 no_lock : (decls : List Decl) → Clean decls → (p n : ℕ) (d : Decl) → Has decls d →
     NoneIn (unfit decls (told ProtectedByNoLock p why.Plain) (a_decl n d)) → ⊥
 no_lock decls clean p n d h none = unfit_not decls ProtectedByNoLock p _ (a_decl n d) (decl_typed decls clean n d h) none
@@ -192,7 +192,7 @@ unfit_member_not : (decls : List Decl) (c : Code) (p : ℕ) (m : Member) → mem
     NoneIn (unfit_member decls (told c p why.Plain) m) → ⊥
 unfit_member_not decls c p m e h = let f = not_if (member_has_type decls m) c p h in absurd cc
 
--- a walk stands at a struct of the program
+-- a walk is at a struct of the program
 abbrev Stands : List Decl → Option AnnotationCursor → Type 0
 Stands decls o = (st : AnnotationCursor) × (s : Struct) × (o ≡ Some st) × (slice_get decls st.structure ≡ Some (struct s)) × (st.members ≡ s.members)
 
@@ -229,7 +229,7 @@ on_ended decls clean head here st s at (Some (n, final_member g)) up none =
 on_ended decls clean head here st s at (Some (n, field_member g)) up none =
     absurd (unfit_member_not decls ProtectedByNoLock head (field_member g) (member_typed decls clean s (field_member g) (at_has decls st.structure (struct s) at) (up n (field_member g) refl)) none)
 
--- a member that is found where a walk stands is one of that struct
+-- a member that is found at the place of a walk is one of the struct there
 stands_at : (st : AnnotationCursor) (s : Struct) (q : List ℕ) → st.members ≡ s.members → (n : ℕ) (m : Member) →
     the_member st.members q ≡ Some (n, m) → Has s.members m
 stands_at st s q same n m e = subst (λ (ms : List Member). Has ms m) same (at_has st.members n m (member_is st.members q n m e).0)

@@ -1,4 +1,4 @@
--- Expressions for which no fault is listed have a type.
+-- Expressions without a listed fault have a type.
 use Rattle.std.proofs.Common.{◌≡◌, ℕ, zero, suc, ◌≤◌, List, [], ◌∷◌, ◌++◌, Option, Some, None, Bool, true, false, refl}
 use Rattle.std.proofs.Common.{sym, ap, ◌∙◌, subst, inl, if◌then◌else◌}
 use Rattle.std.specs.Prelude.{not, is_some, slice_get}
@@ -54,7 +54,7 @@ none_right a b n f i = n f (among_right f a b i)
 pub not_one : (c : Code) (p : ℕ) → NoneIn (one c p) → ⊥
 not_one c p n = n (record { code = c; start = p }) (inl refl)
 
--- (the reason of one that is computed is no part of what is said)
+-- (the reason of a computed one does not matter here)
 pub not_found : (b : Bool) (g : Finding) → NoneIn (found_if b g) → b ≡ false
 not_found true g n = absurd (n (mistake_of g) (inl refl))
 not_found false g n = refl
@@ -100,7 +100,7 @@ abbrev pub IsType : List Decl → core_type.ValueType → Type 0
 IsType decls Integer = Unit {0}
 IsType decls (Reference k) = (s : Struct) × (the_struct decls k ≡ Some s)
 
--- a declaration that is meant stands at its place
+-- a declaration that a name means is at its place
 abbrev pub IsMeant : List Decl → Meaning → Type 0
 IsMeant decls (a_local n l) = Unit {0}
 IsMeant decls (a_decl n d) = slice_get decls n ≡ Some d
@@ -178,7 +178,7 @@ AllTyped decls ls = (n : ℕ) (l : Local) → slice_get ls n ≡ Some l → Typi
 pub record Context (sc : Scope) : Type 0 where
   pub clean : Clean sc.decls
   pub locals : AllTyped sc.decls sc.locals
-  -- no more locals than have numbers
+  -- the limit of locals is at most SOURCE_LIMIT
   pub few : sc.limits.locals ≤ SOURCE_LIMIT
 
 -- a meaning that is all right
@@ -318,7 +318,7 @@ on_step decls clean p (reached steps Integer) f on none = absurd (not_one WrongT
 on_step decls clean p at_lock f on none = absurd (not_one WrongType p none)
 on_step decls clean p lost f on none = absurd on
 
--- where the walk comes to
+-- the end of a walk: the fields, and the type there
 pub record Arrives (decls : List Decl) (w : Walk) : Type 0 where
   pub steps : List FieldStep
   pub value_type : core_type.ValueType
@@ -359,13 +359,13 @@ path_resolved decls p x fs r = (
   ap (path_value p x) r.arrives.is ∙ ap (λ (y : Meaning). path_value p y (reached r.arrives.steps r.arrives.value_type)) r.is,
 )
 
--- ---- what is wanted
+-- ---- expectations
 
 pub fit_if : (p : ℕ) (b : Bool) (w : Why) → NoneIn (if b then [] else reasoned WrongType p w) → b ≡ true
 fit_if p true w h = refl
 fit_if p false w h = absurd (not_one WrongType p h)
 
--- what has a type and is no misfit is what is wanted
+-- a resolved expression without a fault of expectation is as expected
 pub fit_is : (w : Want) (p : ℕ) (o : Option ResolvedExpr) (s : ResolvedExpr) → o ≡ Some s → NoneIn (misfit w p o) →
     fits w s ≡ true
 fit_is w p o s is none = fit_if p (fits w s) _ (subst (λ (x : Option ResolvedExpr). NoneIn (misfit w p x)) is none)
@@ -380,7 +380,7 @@ given_test : (s : ResolvedExpr) → fits Condition s ≡ true →
 given_test (truth c) h = (c, refl)
 given_test (value e s) h = cc
 
--- a value, where one is wanted
+-- a value, if one is expected
 pub wanted_value : (t : core_type.ValueType) (o : Option ResolvedExpr) (s : ResolvedExpr) → o ≡ Some s →
     fits (Value t) s ≡ true → (e : core.Expr) × (as_value (fitting (Value t) o) ≡ Some e)
 wanted_value t o s is h = let r = given_value t s h in (r.0, ap (λ (x : Option ResolvedExpr). as_value (fitting (Value t) x)) is ∙ r.1)

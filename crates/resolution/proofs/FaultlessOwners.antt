@@ -1,4 +1,4 @@
--- What stands behind a `where` for which no fault is listed names a final reference and a local of its type, both with numbers.
+-- What follows a `where` without a listed fault names a final reference and a local of its type, both with numbers.
 use Rattle.std.proofs.Common.{◌≡◌, ℕ, zero, suc, ◌<◌, ◌≤◌, List, [], ◌∷◌, ◌++◌, length, Option, Some, None, Bool, true}
 use Rattle.std.proofs.Common.{false, refl, sym, ap, ◌∙◌, subst, if◌then◌else◌, arith}
 use Rattle.std.specs.Prelude.{nat_le, is_some, slice_get}
@@ -34,7 +34,7 @@ use Rattle.resolution.proofs.TypedResolvedExprs.{IsLocal, meant_local}
 
 -- ---- how many there are
 
--- the struct of a number, and what is declared before and behind it
+-- the struct of a number, with the declarations before and after it
 record StructAt (ds : List Decl) (k : ℕ) (s : Struct) : Type 0 where
   before : List Decl
   behind : List Decl

@@ -1,4 +1,4 @@
--- A program with no fault is resolved.
+-- A program without faults is resolved.
 use Rattle.std.proofs.Common.{◌≡◌, ℕ, zero, suc, ◌+◌, ◌*◌, ◌<◌, ◌≤◌, List, [], ◌∷◌, ◌++◌, length, Option, Some, None}
 use Rattle.std.proofs.Common.{Bool, false, if◌then◌else◌, refl, sym, ap, ◌∙◌, subst, append_assoc, arith}
 use Rattle.std.proofs.lemmas.List.{length-append}
@@ -12,7 +12,7 @@ use Rattle.core_lang.specs.declared.value.Value.{Value}
 use Rattle.core_lang.specs.declared.value.ValueType as core_type
 use Rattle.core_lang.specs.declared.typed.Cell.{Cell}
 use Rattle.core_lang.specs.declared.shape.Object.{Object}
-use Rattle.core_lang.specs.declared.typed.Owner.TheVariants as owner
+use Rattle.core_lang.specs.declared.typed.CellOwner.TheVariants as owner
 use Rattle.resolution.specs.declared.wanted.Want.TheVariants as wanted
 use Rattle.resolution.specs.declared.init_target.InitTarget.{InitTarget}
 use Rattle.resolution.specs.Core as core
@@ -46,7 +46,7 @@ use Rattle.resolution.proofs.StatementRules.{types_the_section}
 
 -- ---- counts
 
--- how far a program has come: so many cells and objects, and at most 32 final references an object
+-- the stage of a program: its numbers of cells and objects, and at most 32 final references an object
 pub record Counted (decls before : List Decl) (p : core.Program) : Type 0 where
   pub cells : length p.cells ≡ total (cells_of decls) before
   pub objects : length p.objects ≡ total objects_of before
@@ -128,7 +128,7 @@ pub record Grown (p q : core.Program) (c o f : ℕ) : Type 0 where
   pub objects : length q.objects ≡ length p.objects + o
   pub finals : length q.finals ≡ length p.finals + f
 
--- what an object opens with
+-- the initial values of an object
 record Opening (decls : List Decl) (object : ℕ) (at : InitTarget) (fields : ℕ) (ms : List Member) : Type 0 where
   finals : List ℕ
   cells : List Cell
@@ -272,7 +272,7 @@ struct_put decls clean i s at class (field_member f ∷ ms) up none =
 abbrev Extends : List Decl → List Decl → ℕ → Decl → core.Program → Type 0
 Extends decls before i d p = (q : core.Program) × Adds decls i d p q × Counted decls (before ++ d ∷ []) q
 
--- what is known of a declaration and of those before it
+-- the facts about a declaration and those before it
 pub record Stage (decls before : List Decl) (i : ℕ) (d : Decl) (p : core.Program) : Type 0 where
   pub clean : Clean decls
   pub right : ReturnsRight decls
@@ -298,7 +298,7 @@ same_counted : (decls before : List Decl) (d : Decl) (p q : core.Program) → Co
 same_counted decls before d p q n ec eo ef zc zo =
     grown_counted decls before d p q 0 0 0 n (record { cells = omega (arith, ec); objects = omega (arith, eo); finals = omega (arith, ef) }) (sym zc) (sym zo) (omega arith)
 
--- what a global opens with
+-- the initial value of a global
 opening_is : (decls : List Decl) → Clean decls → (o : Option core_type.ValueType) (t : Typing decls o) →
     (c : Option Const) → NoneIn (opening_faults decls (want o) c) → (v : Value) × Opens decls t.value_type c v
 opening_is decls clean o t None none = (default_of t.value_type, by_default)

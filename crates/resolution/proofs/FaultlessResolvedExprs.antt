@@ -1,4 +1,4 @@
--- Expressions for which no fault is listed are what is wanted.
+-- Expressions without a listed fault are as expected.
 use Rattle.std.proofs.Common.{◌≡◌, ℕ, ◌++◌, Option, Some, None, Bool, true, refl, ap, ◌∙◌, subst, if◌then◌else◌}
 use Rattle.std.specs.Prelude.{ℤ, pos, nat_lt, not, is_some}
 use Rattle.source.specs.Texts.{NUMBER_LIMIT}
@@ -251,7 +251,7 @@ mutual
   place_is sc c (path x fs) none =
       path_resolved sc.decls x.span.start (meaning sc x.text) fs (path_is sc.decls c.clean x.span.start (meaning sc x.text) fs (meaning_known sc c x.text) none)
 
--- what is wanted
+-- a resolved expression that fits the expectation
 pub record Fitting (w : Want) (o : Option ResolvedExpr) : Type 0 where
   pub resolved_expr : ResolvedExpr
   pub is : o ≡ Some resolved_expr
@@ -263,7 +263,7 @@ wanted_is sc c w e none =
     let s = resolved_expr_is sc c e (none_left (expr_faults sc e) (misfit w (start_of e) (typed sc e)) none) in
     record { resolved_expr = s.0; is = s.1; fit = fit_is w (start_of e) (typed sc e) s.0 s.1 (none_right (expr_faults sc e) (misfit w (start_of e) (typed sc e)) none) }
 
--- a value, where one is wanted
+-- a value, if one is expected
 pub value_is : (sc : Scope) → Context sc → (t : core_type.ValueType) (e : Expr) →
     NoneIn (wanted_faults sc (Value t) e) → (x : core.Expr) × (as_value (fitting (Value t) (typed sc e)) ≡ Some x)
 value_is sc c t e none = let s = wanted_is sc c (Value t) e none in wanted_value t (typed sc e) s.resolved_expr s.is s.fit

@@ -1,4 +1,4 @@
--- Sections and threads for which no fault is listed are resolved.
+-- Sections and threads without a listed fault are resolved.
 use Rattle.std.proofs.Common.{◌≡◌, ℕ, suc, ◌+◌, ◌≤◌, List, [], ◌∷◌, ◌++◌, length, Option, Some, None, Bool, true, false}
 use Rattle.std.proofs.Common.{◌⊎◌, inl, inr, refl, sym, ap, ◌∙◌, subst, if◌then◌else◌, arith}
 use Rattle.std.specs.Prelude.{nat_le, ◌==◌}
@@ -55,7 +55,7 @@ pub entered_result : (sc : Scope) (ps : List Param) → (entered sc ps).result �
 entered_result sc [] = refl
 entered_result sc (p ∷ ps) = entered_result (bound sc kind.Parameter p.name (type_of (outside sc.decls) p.value_type)) ps
 
--- no more locals than have numbers
+-- the limit of locals is at most SOURCE_LIMIT
 few_locals : (decls : List Decl) (limits : BodyLimits) (s : Section) → HasBody decls limits s →
     limits.locals ≤ SOURCE_LIMIT
 few_locals decls limits s (of_section h) = omega arith
@@ -124,7 +124,7 @@ section_put decls limits s ls b right h none never some (Some t) is (Some r) giv
       ap (λ (o : Option core_type.ValueType). o >>= λ w. Some (record { name = s.name.text; parameters = length s.params; locals = ls; result_type = Some w; body = b.stmts; result = Some r })) v.is,
     )
 
--- there is no `return`, or there is a result
+-- no `return`, or a result
 returns_or : (decls : List Decl) (limits : BodyLimits) (s : Section) → ReturnsRight decls → HasBody decls limits s →
     NoneIn (result_faults decls s.result) → (o : Option ValueType) → s.result ≡ o →
     ((at : ℕ) → HasReturn s.body.stmts at → ⊥) ⊎ HasResult (entry decls limits s)
@@ -154,7 +154,7 @@ section_is decls clean right limits s h none =
 
 -- ---- threads
 
--- what a call calls, with fitting arguments
+-- the called section, with fitting arguments
 record Called (decls : List Decl) (o : Option (ℕ × Decl)) (cs : List Const) : Type 0 where
   place : ℕ
   section : Section
@@ -171,7 +171,7 @@ argument_if decls clean p i s cs true e none =
     record { place = i; section = s; arguments = vs.0; means = refl; fit = vs.1 }
 argument_if decls clean p i s cs false e none = absurd (not_one WrongArgumentCount p none)
 
--- what is declared has its type, so it is told where it is no section
+-- a declaration has a type without a fault, and so a fault if it is not a section
 no_section : (decls : List Decl) → Clean decls → (p n : ℕ) (d : Decl) → Has decls d →
     NoneIn (misnamed decls WrongType role.Section p (a_decl n d)) → ⊥
 no_section decls clean p n d h none = unfit_not decls WrongType p _ (a_decl n d) (decl_typed decls clean n d h) none

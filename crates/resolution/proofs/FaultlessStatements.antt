@@ -1,4 +1,4 @@
--- Statements for which no fault is listed are resolved.
+-- Statements without a listed fault are resolved.
 use Rattle.std.proofs.Common.{◌≡◌, ℕ, zero, suc, List, [], ◌∷◌, ◌++◌, length, Option, Some, None, Bool, true, false}
 use Rattle.std.proofs.Common.{◌⊎◌, inl, inr, refl, sym, ap, ◌∙◌, subst, if◌then◌else◌}
 use Rattle.std.specs.Prelude.{not, is_some, slice_get}
@@ -303,11 +303,11 @@ assign_acts sc c p e none =
 block_is : (o : Option Body) (x : core.Stmts) → o ≡ Some (record { stmts = x; result = None }) → block_of o ≡ Some x
 block_is o x is = ap block_of is
 
--- the result of a section, where it has one, is a type of the program
+-- the result type of a section, if it has one, is a type of the program
 abbrev pub HasResult : Scope → Type 0
 HasResult sc = Typing sc.decls sc.result
 
--- a `return` stands in what stands behind `else`
+-- a `return` is in the block after `else`
 abbrev InElse : Otherwise → ℕ → Type 0
 InElse no_else at = ⊥
 InElse (else_do body close) at = HasReturn body at
@@ -367,7 +367,7 @@ mutual
       let y = block_body sc c body none inner in
       (record { start = start; action = core.if_else t x y.0 }, ap (chooses_between start (Some t) (Some x)) (block_is (typed_body sc body) y.0 y.1))
 
-  -- statements among which no `return` stands
+  -- statements without a `return`
   block_body : (sc : Scope) → Context sc → (ss : Stmts) → NoneIn (stmts_faults sc ss) →
       ((at : ℕ) → HasReturn ss at → ⊥) → Blocks (typed_body sc ss)
   block_body sc c no_stmts none inner = (core.no_stmts, refl)
@@ -379,7 +379,7 @@ mutual
 
 -- ---- a section's body
 
--- a body resolved: it ends in a `return` where its statements do
+-- a resolved body: it ends in a `return` if its statements do
 pub record Bodied (ss : Stmts) (o : Option Body) : Type 0 where
   pub body : Body
   pub is : o ≡ Some body

@@ -1,4 +1,4 @@
--- The first ones of a list of faults: they are of it, they rise, and none is left out but behind all of them.
+-- The first faults of a list: they are of the list, they rise, and each fault that is left out comes after all of them.
 use Rattle.std.proofs.Common.{◌≡◌, ℕ, suc, zero, ◌+◌, ◌≤◌, ◌<◌, arith, List, [], ◌∷◌, ◌++◌, length, take, Option, Some, None, Bool, true, false, refl, sym, ap}
 use Rattle.std.proofs.Common.{if◌then◌else◌, ◌∙◌, ◌⊎◌, inl, inr, subst, nat_lt, ◌||◌}
 use Rattle.std.proofs.lemmas.Bool.Decides.{nat_tests}
@@ -99,7 +99,7 @@ pub few_found : (s : Firsts) (gs : List Finding) → length s.kept ≤ MOST → 
 few_found s [] le = le
 few_found s (g ∷ gs) le = few_found (with_found s g) gs (few_taken MOST (placed g s.kept))
 
--- ---- none is left out where there are no more
+-- ---- if no more were found, none is left out
 
 or_left : (a b : Bool) → (a || b) ≡ false → (a ≡ false) × (b ≡ false)
 or_left true b e = absurd (let bad : true ≡ false = e in cc)
@@ -149,7 +149,7 @@ among_found m s (g ∷ gs) e i =
       | inr (inr k) ↦ inr k
     ])
 
--- ---- where there are more, one stands behind all that are kept
+-- ---- if more were found, one comes after all that are kept
 
 longer_by : (x y : Bool) (g h : Finding) (hs : List Finding) → length hs ≤ length (placed g hs) →
     length (h ∷ hs) ≤ length (if x then g ∷ h ∷ hs else if y then h ∷ placed g hs else h ∷ hs)
@@ -190,7 +190,7 @@ cut_one (suc n) (f ∷ fs) lt up =
     (rest.0, inr rest.1, (ahead_of_one f rest.0 fs up.0 rest.1, rest.2))
 
 module _ (P : Finding → Type 0) where
-  -- so many are kept as can be, and one of which P holds stands behind all of them
+  -- as many as possible are kept, and a fault with the property P comes after all of them
   abbrev pub HasMore : Firsts → Type 0
   HasMore s = (length s.kept ≡ MOST) × (w : Finding) × P w × AllGoAhead s.kept w
 
@@ -225,7 +225,7 @@ noted_alone : (f : Option Finding) (m : Option Mistake) → least_of f (option_t
 noted_alone f None = refl
 noted_alone f (Some m) = refl
 
--- the least of a list, where of a part of it the least alone is there
+-- the least fault of a list is the same if a part of it is replaced by the least of that part
 pub least_alone : (fs : List Finding) (ms : List Mistake) →
     least_of None (fs ++ option_to_list (option_map plain (bare.least_of None ms))) ≡ least_of None (fs ++ map plain ms)
 least_alone fs ms =

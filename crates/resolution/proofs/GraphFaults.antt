@@ -5,13 +5,13 @@ use Rattle.resolution.specs.declared.finding.Finding.{Finding}
 use Rattle.resolution.specs.Working.Findings.{plain, least_of}
 use Rattle.source.specs.Theory.Leasts as bare
 use Rattle.source.specs.declared.fault.Code.{Code}
-use Rattle.core_lang_calls.specs.Faults.{IsGraphFault, recursive, over_limit}
+use Rattle.core_lang_helpers.specs.Faults.{IsGraphFault, recursive, over_limit}
 use Rattle.resolution.specs.Theory.Leasts.{IsAmong, IsOneOf, least_none, among_left, among_right}
 use Rattle.resolution.specs.declared.why.Why.TheVariants as why
 use Rattle.resolution.specs.Faults.{IsFaultFor, plainly, of_calls}
 use Rattle.syntax.specs.Trees.{Decl}
-use Rattle.core_lang_calls.specs.Working.FaultLists.{graph_faults}
-use Rattle.core_lang_calls.specs.Working.Laws.{FaultsAreListed, HasNoGraphFault}
+use Rattle.core_lang_helpers.specs.Working.FaultLists.{graph_faults}
+use Rattle.core_lang_helpers.specs.Working.Laws.{FaultsAreListed, HasNoGraphFault}
 use Rattle.resolution.specs.CallGraphs.{tree_graph}
 use Rattle.resolution.specs.Working.FaultLists.{declaration_faults, program_faults}
 use Rattle.resolution.proofs.FaultlessExpressions.{Clean}
@@ -44,7 +44,7 @@ true_graph decls (g ∷ gs) so f (inl e) =
     subst (λ (x : Finding). IsFaultFor decls x.code x.start x.why) (sym e) (plain_code decls g.code g.start (so g (inl refl)))
 true_graph decls (g ∷ gs) so f (inr i) = true_graph decls gs (λ m j. so m (inr j)) f i
 
--- where there is no least, there is none of either
+-- without a least fault, neither list has one
 pub clean_of : (decls : List Decl) → least_of None (program_faults decls) ≡ None → Clean decls
 clean_of decls e = λ f i. subst (IsAmong f) (least_none (program_faults decls) e) (of_declarations decls f i)
 

@@ -29,7 +29,7 @@ use Rattle.resolution.proofs.Parts.{of_helper_call, of_given_back}
 abbrev pub listed : List Decl → Code → ℕ → Type 0
 listed decls c p = IsAmong (record { code = c; start = p }) (declaration_faults decls)
 
--- what is noted unless the type has a fault
+-- the noted fault, if the type has no fault
 pub unfit_in : (decls : List Decl) (c : Code) (p : ℕ) {w : Why} (x : Meaning) → has_type decls x ≡ true →
     unfit decls (told c p w) x ≡ reasoned c p w
 unfit_in decls c p {w = w} x e = ap (λ (b : Bool). found_if b (told c p w)) e
@@ -46,14 +46,14 @@ other_count n k e = decide (n == k) refl
 
 -- ---- calls of helpers
 
--- what is listed at a helper's name
+-- the listed faults at a helper's name
 pub of_helper_name : (decls : List Decl) (sc : Scope) (c : HelperCall) → HasHelperCall decls sc c → (k : Code) {w : Why} →
     list.no_helper sc.decls c.helper.span.start (length c.arguments) (meaning sc c.helper.text) ≡ reasoned k c.helper.span.start w →
     listed decls k c.helper.span.start
 of_helper_name decls sc c h k e =
     of_helper_call decls sc c h _ (among_left _ (list.no_helper sc.decls c.helper.span.start (length c.arguments) (meaning sc c.helper.text)) (passed_values_faults sc (helper_meant (meaning sc c.helper.text)) c.arguments) (at k c.helper.span.start _ e))
 
--- and of what it gives back
+-- and those of its result
 pub of_result : (decls : List Decl) (sc : Scope) (l : CalledLocal) → HasStmt decls sc (let_call l) →
     (t : core_type.ValueType) (n : ℕ) (s : Section) {w : Why} → type_of sc l.value_type ≡ Some t →
     helper_meant (meaning sc l.call.helper.text) ≡ Some (n, s) →

@@ -1,4 +1,4 @@
--- What the declarations give the members of pools.
+-- The values that declarations give to the members of pools.
 use Rattle.std.proofs.Common.{◌≡◌, ℕ, ◌<◌, List, Option, Some, None, Bool, true, false, refl, sym, ap, ◌∙◌, subst}
 use Rattle.std.proofs.Common.{if◌then◌else◌}
 use Rattle.std.specs.Prelude.{nat_lt}
@@ -46,7 +46,7 @@ giving decls g c e = by_giver (giver decls decls g) refl
         let f = named_is (gives decls) decls g n d is in
         giving_by decls g c d (at_has decls n d f.here) f.bearing n (sym (ap value_in is) ∙ e)
 
--- what an `init` names, where it gives something
+-- the pool and the members that an `init` names, if it gives a value
 pub record Names (decls : List Decl) (j : Init) (g : InitTarget) : Type 0 where
   pub of : Pool
   pub named_pool : the_decl decls j.pool.text ≡ Some (g.pool, pool of)
@@ -57,7 +57,7 @@ pub record Names (decls : List Decl) (j : Init) (g : InitTarget) : Type 0 where
   pub item : Member
   pub found : the_member members j.field.text ≡ Some (g.member, item)
 
--- what an `init` gives is a field or a final reference
+-- a member to which an `init` gives a value is a field or a final reference
 abbrev IsGiven : Member → Type 0
 IsGiven (lock_member x) = ⊥
 IsGiven (final_member f) = Unit {0}

@@ -1,4 +1,4 @@
--- What a resolved program holds of its declarations.
+-- The parts of a resolved program that come from its declarations.
 use Rattle.std.proofs.Common.{◌≡◌, ℕ, suc, ◌+◌, ◌≤◌, List, [], ◌∷◌, ◌++◌, length, Some, refl, sym, ap, ◌∙◌, subst}
 use Rattle.std.proofs.Common.{arith}
 use Rattle.std.specs.Prelude.{slice_get, take, min}
@@ -29,7 +29,7 @@ use Rattle.resolution.proofs.LaidWalk.{added, Landed, lands, each_row, walked_wh
 pub under : (n limit : ℕ) → n ≤ limit → min n limit ≡ n
 under n limit le = omega (arith, le)
 
--- what stands in a list that is no longer than a limit, stands there
+-- if a list is at most as long as a limit, its item n is also that at the lesser of n and the limit
 pub at_most : {A : Type 0} (xs : List A) (n limit : ℕ) (x : A) → length xs ≤ limit → slice_get xs n ≡ Some x →
     slice_get xs (min n limit) ≡ Some x
 at_most xs n limit x few e =

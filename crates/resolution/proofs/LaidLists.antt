@@ -1,4 +1,4 @@
--- Lists that match one another, and lists that grow.
+-- Lists that match each other, and lists that grow.
 use Rattle.std.proofs.Common.{◌≡◌, ℕ, zero, suc, ◌+◌, ◌≤◌, List, [], ◌∷◌, ◌++◌, length, Option, Some, None, Bool, true}
 use Rattle.std.proofs.Common.{false, if◌then◌else◌, refl, ap, subst, arith}
 use Rattle.std.specs.Prelude.{slice_get, take, ⊤, nat_le}
@@ -56,7 +56,7 @@ rows_length R n [] (y ∷ ys) h = absurd h
 rows_length R n (x ∷ xs) [] h = absurd h
 rows_length R n (x ∷ xs) (y ∷ ys) h = ap suc (rows_length R (suc n) xs ys h.1)
 
--- rows behind rows
+-- rows after rows
 pub rows_append : {A B : Type 0} (R : ℕ → A → B → Type 0) (n : ℕ) (xs : List A) (ys : List B) (us : List A)
     (vs : List B) → Rows R n xs ys → Rows R (n + length ys) us vs → Rows R n (xs ++ us) (ys ++ vs)
 rows_append R n [] [] us vs h r = subst (λ (j : ℕ). Rows R j us vs) (let z : n + 0 ≡ n = omega arith in z) r
@@ -76,13 +76,13 @@ grows_more [] ys k x e = cc
 grows_more (a ∷ xs) ys zero x e = e
 grows_more (a ∷ xs) ys (suc k) x e = grows_more xs ys k x e
 
--- what stands behind
+-- an item of the second list
 pub get_behind : {A : Type 0} (xs ys : List A) (k : ℕ) (y : A) → slice_get ys k ≡ Some y →
     slice_get (xs ++ ys) (length xs + k) ≡ Some y
 get_behind [] ys k y e = subst (λ (j : ℕ). slice_get ys j ≡ Some y) (let z : k ≡ 0 + k = omega arith in z) e
 get_behind (x ∷ xs) ys k y e = subst (λ (j : ℕ). slice_get (x ∷ xs ++ ys) j ≡ Some y) (let z : suc (length xs + k) ≡ suc (length xs) + k = omega arith in z) (get_behind xs ys k y e)
 
--- what a longer list has, is in its first part or behind it
+-- an item of the second of two joined lists, by its place in the whole
 pub record Behind {A : Type 0} (xs ys : List A) (n : ℕ) (y : A) : Type 0 where
   pub by : ℕ
   pub place : n ≡ length xs + by
@@ -106,7 +106,7 @@ get_pushed (z ∷ xs) x (suc n) y C e f g = get_pushed xs x n y C e f (λ p s. g
 pub no_row : {A : Type 0} {P : Type 0} (k : ℕ) (x : A) → slice_get [] k ≡ Some x → P
 no_row k x e = cc
 
--- what holds of the only one holds of each
+-- a property of the only item holds for each
 pub only : {A : Type 0} (F : ℕ → A → Type 0) (n : ℕ) (x : A) → F n x → (k : ℕ) (y : A) → slice_get (x ∷ []) k ≡ Some y →
     F (n + k) y
 only F n x h zero y e =
@@ -136,7 +136,7 @@ count_push p (y ∷ xs) x = by_test (p y) (count_push p xs x)
     by_test true e = omega (arith, e)
     by_test false e = e
 
--- ---- what is there
+-- ---- options with values
 
 pub bind_got : {A B : Type 0} (o : Option A) (f : A → Option B) (y : B) → (o >>= f) ≡ Some y →
     (x : A) × (o ≡ Some x) × (f x ≡ Some y)

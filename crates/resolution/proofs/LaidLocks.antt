@@ -1,4 +1,4 @@
--- Which locks protect the parts of a resolved program.
+-- The locks that protect the parts of a resolved program.
 use Rattle.std.proofs.Common.{◌≡◌, ℕ, zero, suc, ◌+◌, ◌<◌, ◌≤◌, List, [], ◌∷◌, ◌++◌, length, Option, Some, None, true}
 use Rattle.std.proofs.Common.{refl, sym, ap, ◌∙◌, subst, arith}
 use Rattle.std.specs.Prelude.{slice_get, ⊤, nat_le, ◌&&◌}
@@ -192,7 +192,7 @@ module _ (decls : List Decl) (clean : Clean decls) (whole : core.Program) (is : 
 
   -- ---- annotations
 
-  -- a walk from the struct of number s stands here
+  -- a walk from the struct of number s is at this place
   record Stood (s : ℕ) (st : AnnotationCursor) : Type 0 where
     structure : Struct
     at : slice_get decls st.structure ≡ Some (struct structure)

@@ -1,4 +1,4 @@
--- Where a resolved program has its objects and its cells.
+-- The objects and cells of a resolved program.
 use Rattle.std.proofs.Common.{◌≡◌, ℕ, zero, suc, ◌+◌, ◌<◌, ◌≤◌, List, [], ◌∷◌, ◌++◌, length, Option, Some, None, Bool}
 use Rattle.std.proofs.Common.{true, false, refl, sym, ap, ◌∙◌, subst, arith}
 use Rattle.std.specs.Prelude.{ℤ, pos, neg_ℤ, slice_get, ⊤, nat_lt}
@@ -10,8 +10,8 @@ use Rattle.core_lang.specs.declared.value.Value.TheVariants.{Int, Ref}
 use Rattle.core_lang.specs.declared.value.ValueType as core_type
 use Rattle.core_lang.specs.declared.value.ValueType.TheVariants.{Integer, Reference}
 use Rattle.core_lang.specs.declared.typed.Cell.{Cell}
-use Rattle.core_lang.specs.declared.typed.Owner.{Owner}
-use Rattle.core_lang.specs.declared.typed.Owner.TheVariants as owner
+use Rattle.core_lang.specs.declared.typed.CellOwner.{CellOwner}
+use Rattle.core_lang.specs.declared.typed.CellOwner.TheVariants as owner
 use Rattle.core_lang.specs.declared.shape.Object.{Object}
 use Rattle.core_lang.specs.Theory.Items.{behind_at}
 use Rattle.resolution.specs.declared.wanted.Sort.{Sort}
@@ -79,7 +79,7 @@ pub record New (decls : List Decl) (whole : core.Program) (number : ℕ) (ms : L
   pub own : OwnOf decls whole ms o object
   pub refs : RefsOf decls whole ms object
 
--- what an object was added to, begins what follows
+-- a program to which an object was added begins each one that the result begins
 begins_object : (decls : List Decl) (number : ℕ) (ms : List Member) (p q whole : core.Program) →
     Objected decls number ms p q → Begins q whole → Begins p whole
 begins_object decls number ms p q whole w b =
@@ -262,18 +262,18 @@ pub struct_of_object : (p : core.Program) (o n : ℕ) (x : Object) (y : core.Poo
     x.pool ≡ n → slice_get p.pools n ≡ Some y → struct_in p o ≡ Some y.structure
 struct_of_object p o n x y at number row = rw (at, number, row) refl
 
-abbrev pub OwnerFact : core.Program → ℕ → Owner → Type 0
+abbrev pub OwnerFact : core.Program → ℕ → CellOwner → Type 0
 OwnerFact whole place (owner.Global g) = (x : core.GlobalVariable) × (slice_get whole.globals g ≡ Some x) × (place ≡ x.cell)
 OwnerFact whole place (owner.Element n i) = (x : core.Array) × (slice_get whole.arrays n ≡ Some x) × (i < x.length) × (place ≡ x.first + i)
 OwnerFact whole place (owner.Field o f) =
     (x : Object) × (slice_get whole.objects o ≡ Some x) × (place ≡ x.cells + f) × ((s : ℕ) × (t : core_type.ValueType) × (struct_in whole o ≡ Some s) × (field_in whole s f ≡ Some t))
 
--- a cell has its owner, and opens with a value that some constant or none gives
+-- a cell has its owner, and an initial value by some constant or by default
 abbrev pub CellFact : List Decl → core.Program → ℕ → Cell → Type 0
 CellFact decls whole place c =
     OwnerFact whole place c.owner × ((g : Option Const) × Opens decls c.value_type g c.opening)
 
--- what is known of each new cell of an object
+-- the facts about each new cell of an object
 abbrev Fresh : List Decl → core.Program → ℕ → List Member → Type 0
 Fresh decls whole number ms = (o : ℕ) (x : Object) → slice_get whole.objects o ≡ Some x → x.pool ≡ number → (k : ℕ) (f : Field) (c : Cell) → slice_get (fields_in ms) k ≡ Some f → CellOf decls o k f c → CellFact decls whole (x.cells + k) c
 
@@ -398,7 +398,7 @@ module _ (decls : List Decl) (clean : Clean decls) (whole : core.Program) (is : 
       object_holds whole t k (object_of decls j n.value) fit
       (member_is_of decls clean whole is j q n.value k (named_is bears decls x.text j (pool q) g).here less target)
 
-  -- a constant that is given where a type is wanted is of the type
+  -- a constant for an expected type has this type
   pub const_holds : (t : core_type.ValueType) (c : Const) (u : Value) → Yields decls (wanted.Value t) c u →
       Holds whole t u
   const_holds t c u (yields {s = s} h fit d) = denoted_holds t c s u h fit d

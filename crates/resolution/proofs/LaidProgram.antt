@@ -8,8 +8,8 @@ use Rattle.core_lang.specs.declared.value.Value.TheVariants.{Int, Ref}
 use Rattle.core_lang.specs.declared.value.ValueType.{ValueType}
 use Rattle.core_lang.specs.declared.value.ValueType.TheVariants.{Integer, Reference}
 use Rattle.core_lang.specs.declared.typed.Cell.{Cell}
-use Rattle.core_lang.specs.declared.typed.Owner.{Owner}
-use Rattle.core_lang.specs.declared.typed.Owner.TheVariants as owner
+use Rattle.core_lang.specs.declared.typed.CellOwner.{CellOwner}
+use Rattle.core_lang.specs.declared.typed.CellOwner.TheVariants as owner
 use Rattle.core_lang.specs.declared.shape.Object.{Object}
 use Rattle.core_lang.specs.declared.shape.Pool as the_pool
 use Rattle.core_lang.specs.declared.typed.Struct as the_struct_of
@@ -53,7 +53,7 @@ use Rattle.resolution.proofs.LaidObjects.{one_of, ObjectAt, objects_of_program, 
 use Rattle.resolution.proofs.LaidObjects.{struct_in, struct_of_object, OwnerFact, cells_of_program, Holds, opened_holds}
 use Rattle.resolution.proofs.LaidObjects.{referred_holds}
 
--- ---- what the views say
+-- ---- the views
 
 module _ (program : Typed) where
   pub struct_is : (o s : ℕ) → struct_in (core_of program) o ≡ Some s → struct_of program.shape o ≡ Some s
@@ -88,7 +88,7 @@ module _ (program : Typed) where
   holds_is (Reference s) (Ref None) h = tt
   holds_is (Reference s) (Ref (Some o)) h = struct_is o s h
 
-  owner_is : (place : ℕ) (w : Owner) → OwnerFact (core_of program) place w → IsCellOf program place w
+  owner_is : (place : ℕ) (w : CellOwner) → OwnerFact (core_of program) place w → IsCellOf program place w
   owner_is place (owner.Global g) h =
       let r = map_back core_global program.globals.items g h.0 h.1 in
       (r.0, r.1, h.2 ∙ ap (λ (z : core.GlobalVariable). z.cell) (sym r.2))
@@ -155,7 +155,7 @@ module _ (decls : List Decl) (clean : Clean decls) (program : Typed) (is : Resol
   pub helped : HasHelpers decls (core_of program)
   helped = has_helpers decls clean (core_of program) is
 
-  -- where none is declared, there is none
+  -- without a declared helper, the program has none
   pub no_helpers : ((s : Section) → Has decls (helper s) → ⊥) → program.shape.helpers.items ≡ []
   no_helpers none = by_list program.shape.helpers.items refl
     where

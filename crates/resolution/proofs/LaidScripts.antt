@@ -1,4 +1,4 @@
--- What the threads of a resolved program call.
+-- The calls of a resolved program's threads.
 use Rattle.std.proofs.Common.{◌≡◌, ℕ, zero, suc, List, [], ◌∷◌, ◌++◌, length, Option, Some, true, refl, sym, ap, ◌∙◌}
 use Rattle.std.proofs.Common.{subst, append-nil, append_assoc}
 use Rattle.std.specs.Prelude.{slice_get, take, map}
@@ -114,7 +114,7 @@ parameter_of decls p = record {
   is_visible = true;
 }
 
--- behind parameters stand the locals ahead of them, and theirs
+-- after parameters stand the locals ahead of them, and theirs
 entered_locals : (sc : Scope) (ps : List Param) →
     (entered sc ps).locals ≡ sc.locals ++ map (parameter_of sc.decls) ps
 entered_locals sc [] = sym (append-nil sc.locals)
@@ -184,7 +184,7 @@ types_are decls (p ∷ ps) (l ∷ ls) up =
     let same : l ≡ r.0 = (let e = r.1 in cc) in
     (r.2 ∙ ap (λ (y : core.Local). Some y.value_type) (sym same), types_are decls ps ls (λ k q e. up (suc k) q e))
 
--- each helper stands at its number
+-- each helper is at its number
 pub has_helpers : (decls : List Decl) → Clean decls → (whole : core.Program) → AreTables decls whole →
     HasHelpers decls whole
 has_helpers decls clean whole is i s at =
@@ -197,7 +197,7 @@ has_helpers decls clean whole is i s at =
       result = made.result;
     }
 
--- an argument is of its parameter's type
+-- an argument has its parameter's type
 pub argument_holds : (decls : List Decl) → Clean decls → (whole : core.Program) → AreTables decls whole →
     (n : ℕ) (p : Param) (v : Value) (t : core_type.ValueType) → Argument decls n p v →
     type_of (outside decls) p.value_type ≡ Some t → Holds whole t v

@@ -1,4 +1,4 @@
--- What each step of resolution adds to a program.
+-- The parts that each step of resolution adds to a program.
 use Rattle.std.proofs.Common.{◌≡◌, ℕ, zero, suc, ◌+◌, ◌≤◌, List, [], ◌∷◌, ◌++◌, length, Option, Some, refl, sym, ap}
 use Rattle.std.proofs.Common.{◌∙◌, subst, arith, append-nil, append_assoc}
 use Rattle.std.specs.Prelude.{slice_get}
@@ -8,7 +8,7 @@ use Rattle.core_lang.specs.declared.value.Value.{Value}
 use Rattle.core_lang.specs.declared.value.Value.TheVariants.{Ref}
 use Rattle.core_lang.specs.declared.value.ValueType as core_type
 use Rattle.core_lang.specs.declared.value.ValueType.TheVariants.{Reference}
-use Rattle.core_lang.specs.declared.typed.Owner.TheVariants as owner
+use Rattle.core_lang.specs.declared.typed.CellOwner.TheVariants as owner
 use Rattle.core_lang.specs.declared.typed.Cell.{Cell}
 use Rattle.core_lang.specs.declared.shape.Object.{Object}
 use Rattle.resolution.specs.declared.init_target.InitTarget.{InitTarget}
@@ -80,7 +80,7 @@ FinalOf decls k f n =
     (s : ℕ) × (c : Const) × (struct_named decls f.target ≡ Some s) ×
     Yields decls (wanted.Value (Reference s)) c (Ref (Some n))
 
--- what an object opens with, row by row
+-- the initial values of an object, row by row
 opened_rows : (decls : List Decl) (object : ℕ) (at : InitTarget) (fields n : ℕ) (ms : List Member) (os : List ℕ)
     (cs : List Cell) → OpensWith decls object at fields ms os cs →
     Rows (CellOf decls object) fields (fields_in ms) cs × Rows (FinalOf decls) n (finals_in ms) os
@@ -125,7 +125,7 @@ plus_nothing p = simp append-nil
 plus_both : (p a b : core.Program) → plus (plus p a) b ≡ plus p (plus a b)
 plus_both p a b = simp append_assoc
 
--- it begins the whole: there is more behind each table
+-- it begins the whole: there is more after each table
 pub record Begins (p whole : core.Program) : Type 0 where
   pub behind : core.Program
   pub is : plus p behind ≡ whole
@@ -133,11 +133,11 @@ pub record Begins (p whole : core.Program) : Type 0 where
 pub begins_same : (p : core.Program) → Begins p p
 begins_same p = record { behind = nothing_yet; is = plus_nothing p }
 
--- what begins an end with more, begins it
+-- a program that, with an addition, begins a whole one, begins it by itself
 pub begins_on : (p a whole : core.Program) → Begins (plus p a) whole → Begins p whole
 begins_on p a whole b = record { behind = plus a b.behind; is = sym (plus_both p a b.behind) ∙ b.is }
 
--- a row of a table stands in the whole's
+-- a row of a table is in the whole table
 pub stands : {A : Type 0} (table : core.Program → List A) →
     ((p a : core.Program) → table (plus p a) ≡ table p ++ table a) → {p whole : core.Program} → Begins p whole →
     Grows (table p) (table whole)
@@ -162,7 +162,7 @@ pub record Objected (decls : List Decl) (number : ℕ) (ms : List Member) (p q :
   pub own : Rows (CellOf decls (length p.objects)) 0 (fields_in ms) cells
   pub refs : Rows (FinalOf decls) 0 (finals_in ms) finals
 
--- so many objects, one after another
+-- the given number of objects, one after another
 abbrev pub Chain : List Decl → ℕ → List Member → ℕ → core.Program → core.Program → Type 0
 Chain decls number ms zero p q = p ≡ q
 Chain decls number ms (suc n) p q = (m : core.Program) × Chain decls number ms n p m × Objected decls number ms m q
@@ -185,7 +185,7 @@ chain_is decls i number ms n p q
       },
     )
 
--- what all of them add
+-- the objects, finals and cells that all of them add
 pub record Things (p q : core.Program) : Type 0 where
   pub objects : List Object
   pub finals : List ℕ
@@ -230,7 +230,7 @@ abbrev pub pool_row : core.Program → Pool → ℕ → core.Pool
 pool_row p x s =
     record { name = x.name.text; first = length p.objects; length = x.length.value; structure = s }
 
--- what a pool adds, behind the row of its own
+-- the additions of a pool after its own row
 pub record Pooled (decls : List Decl) (p : core.Program) (x : Pool) : Type 0 where
   pub structure : ℕ
   pub members : List Member
@@ -243,7 +243,7 @@ pub record Pooled (decls : List Decl) (p : core.Program) (x : Pool) : Type 0 whe
       (record p { pools = p.pools ++ pool_row p x structure ∷ [] })
       (plus p (record (held objects finals cells) { pools = pool_row p x structure ∷ [] }))
 
--- what is known of what a declaration adds
+-- the facts about the additions of a declaration
 abbrev pub News : List Decl → ℕ → core.Program → Decl → Type 0
 News decls i p (struct s) = (t : core.Struct) × Makes decls i s (length p.classes) s.members t
 News decls i p (global v) =
@@ -258,7 +258,7 @@ News decls i p (helper s) = (x : core.Section) × TypesSection decls helper_limi
 News decls i p (thread t) = (calls : List core.Call) × AreCalls decls t.items calls
 News decls i p d = Unit {0}
 
--- what it adds
+-- the additions of a declaration
 abbrev pub fresh : (decls : List Decl) (i : ℕ) (p : core.Program) (d : Decl) → News decls i p d → core.Program
 fresh decls i p (lock x) n = record nothing_yet { classes = core.global_lock x.text ∷ [] }
 fresh decls i p (struct s) n =
@@ -273,11 +273,11 @@ fresh decls i p (atomic s) n = record nothing_yet { sections = n.0 ∷ [] }
 fresh decls i p (helper s) n = record nothing_yet { helpers = n.0 ∷ [] }
 fresh decls i p (thread t) n = record nothing_yet { threads = record { name = t.name.text; calls = n.0 } ∷ [] }
 
--- what is written into tables is written into those to which nothing is added
+-- adding nothing to tables changes no function of them
 with_same : (p : core.Program) (f : core.Program → core.Program) → f p ≡ f (plus p nothing_yet)
 with_same p f = ap f (sym (plus_nothing p))
 
--- the tables with a declaration are those before it with what it adds
+-- the tables with a declaration are those before it with its additions
 pub adds : (decls : List Decl) (i : ℕ) (p : core.Program) (d : Decl) (q : core.Program) → Adds decls i d p q →
     (n : News decls i p d) × (q ≡ plus p (fresh decls i p d n))
 adds decls i p d q (adds_class {x = x}) =

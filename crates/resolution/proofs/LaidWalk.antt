@@ -1,4 +1,4 @@
--- A program is resolved step by step, and where each step stands.
+-- The steps of resolution one after another, and the state before each.
 use Rattle.std.proofs.Common.{◌≡◌, ℕ, zero, suc, ◌+◌, ◌*◌, ◌≤◌, List, [], ◌∷◌, ◌++◌, length, Option, Some, refl, sym}
 use Rattle.std.proofs.Common.{ap, ◌∙◌, subst, append_assoc, arith, Bool}
 use Rattle.std.specs.Prelude.{slice_get, take, ⊤}
@@ -6,7 +6,7 @@ use Rattle.std.proofs.lemmas.List.{length-append, append-nil}
 use Rattle.syntax.specs.Trees.{Ident, Member, lock_member, field_member, Final, Field, Struct, Array, Pool, Section}
 use Rattle.syntax.specs.Trees.{Decl, lock, struct, array, pool, atomic, helper}
 use Rattle.core_lang.specs.declared.value.ValueType as core_type
-use Rattle.core_lang.specs.declared.typed.Owner.TheVariants as owner
+use Rattle.core_lang.specs.declared.typed.CellOwner.TheVariants as owner
 use Rattle.core_lang.specs.Theory.Items.{behind_at}
 use Rattle.resolution.specs.Core as core
 use Rattle.resolution.specs.Limits.{OBJECT_LIMIT}
@@ -48,7 +48,7 @@ pub record Parted (decls : List Decl) (i : ℕ) (s : Struct) (n k j a b : ℕ) (
   pub finals : Rows (FinalRow decls) a (finals_in ms) t.finals
   pub fields : Rows (FieldRow decls i s.members) b (fields_in ms) t.fields
 
--- what members make of a struct, row by row
+-- the struct that members make, row by row
 pub parted : (decls : List Decl) (i : ℕ) (s : Struct) (n k j a b : ℕ) (ms : List Member) (t : core.Struct) →
     Makes decls i s n ms t → Parted decls i s n k j a b ms t
 parted decls i s n k j a b ms t no_member = record { classes = tt; locks = tt; finals = tt; fields = tt }
@@ -182,7 +182,7 @@ new_cells decls clean i p (pool x) n =
     omega (arith, c, l, w)
 new_cells decls clean i p d n = refl
 
--- one row, where it is of the table's kind
+-- one row, if the declaration has the table's kind
 abbrev Rowed : Decl → core.Program → Type 0
 Rowed d a =
     ((s : Struct) → length a.structs ≡ as_one (alike (struct s) d)) ×
@@ -210,7 +210,7 @@ one_more xs ys f before d h s =
     let t = count_push f before d in
     omega (arith, h, s, l, t)
 
--- the counts behind a declaration
+-- the counts after a declaration
 counts_next : (decls : List Decl) → Clean decls → (before : List Decl) (d : Decl) (p : core.Program)
     (n : News decls (length before) p d) → Counts decls before p →
     Counts decls (before ++ d ∷ []) (plus p (fresh decls (length before) p d n))
@@ -231,7 +231,7 @@ counts_next decls clean before d p n h =
 
 -- ---- the walk
 
--- a declaration with those before it, and what it adds to their tables
+-- a declaration with those before it, and its additions to their tables
 pub record Step (decls : List Decl) (whole : core.Program) (before : List Decl) (d : Decl)
     (p : core.Program) : Type 0 where
   pub at : slice_get decls (length before) ≡ Some d
@@ -271,7 +271,7 @@ begins_whole decls before p (d ∷ ds) whole h =
     let a = fresh decls (length before) p d f.news in
     begins_on p a whole (begins_whole decls (before ++ d ∷ []) (plus p a) ds whole f.rest)
 
--- what each step keeps
+-- each step keeps a property
 abbrev pub Kept : List Decl → core.Program → (List Decl → core.Program → Type 0) → Type 0
 Kept decls whole K =
     (before : List Decl) (d : Decl) (p : core.Program) (st : Step decls whole before d p) → K before p →
@@ -326,7 +326,7 @@ pub record Landed (decls : List Decl) (whole : core.Program) (i : ℕ) (d : Decl
   pub place : length before ≡ i
 
 module _ (decls : List Decl) (clean : Clean decls) (whole : core.Program) (is : AreTables decls whole) where
-  -- what holds of nothing and is kept by each step, holds of the whole
+  -- a property of the empty program that each step keeps holds for the whole
   pub walked_whole : (K : List Decl → core.Program → Type 0) → K [] nothing_yet → Kept decls whole K → K decls whole
   walked_whole K k step = (walk decls clean whole K step [] decls nothing_yet refl (no_counts decls) k is).0
 
@@ -334,7 +334,7 @@ module _ (decls : List Decl) (clean : Clean decls) (whole : core.Program) (is : 
   counted_whole =
       (walk decls clean whole (λ b p. ⊤) (λ b d p st k. tt) [] decls nothing_yet refl (no_counts decls) tt is).1
 
-  -- what holds of each row that a step adds to a table, holds of each of the table
+  -- a property of each row that a step adds to a table holds for each row of the table
   pub each_row : {A : Type 0} (table : core.Program → List A) →
       ((p a : core.Program) → table (plus p a) ≡ table p ++ table a) → table nothing_yet ≡ [] →
       (F : ℕ → A → Type 0) → NewRows decls whole table F →
@@ -366,7 +366,7 @@ module _ (decls : List Decl) (clean : Clean decls) (whole : core.Program) (is : 
 
 -- ---- limits
 
--- a sum that each declaration keeps below a limit is below it behind all
+-- a sum that each declaration keeps below a limit is below it after all
 pub few : (of : Decl → ℕ) (limit : ℕ) (decls : List Decl) →
     ((before : List Decl) (d : Decl) → NoneIn (count_faults decls before d) → total of before ≤ limit →
     total of before + of d ≤ limit) →

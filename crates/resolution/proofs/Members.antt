@@ -42,7 +42,7 @@ pub of_if : (decls : List Decl) (b : Bool) (c : Code) → IsPlain c → (p : ℕ
     (b ≡ true → IsFault decls c p) → IsOneOf f (one_if b c p) → IsTrue_of decls f
 of_if decls b c is_plain p f h i = of_reason_if decls b c p f (λ e. plainly is_plain (h e)) i
 
--- a fault that stands where the list has it
+-- the fault of this code and place is in the list of it alone
 pub at : (c : Code) (p : ℕ) {w : Why} (fs : List Finding) → fs ≡ reasoned c p w → IsAmong (record { code = c; start = p }) fs
 at c p fs e = subst (IsAmong (record { code = c; start = p })) (sym e) (inl refl)
 

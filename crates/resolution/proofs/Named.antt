@@ -1,4 +1,4 @@
--- The first of a name.
+-- The first item of a name.
 use Rattle.std.proofs.Common.{◌≡◌, ℕ, ◌+◌, List, Option, Some, None, Bool, true, refl, sym, ap, ◌∙◌, subst, arith}
 use Rattle.std.specs.Prelude.{slice_get}
 use Rattle.std.proofs.lemmas.Slice.Eq.{bytes_eq-Decides}
@@ -38,7 +38,7 @@ named_is bears xs q i x e = by_place (place_of bears xs q) refl
         let some : named bears xs q ≡ Some (k, r.item) = rw (p, h) refl in
         found_at bears xs q k i x r.item p h (sym some ∙ e) r.passed
 
--- a member that is found by a name stands there, and is the first of its own name
+-- a member that is found by a name is at its place, and is the first of its name
 pub member_is : (ms : List Member) (q : List ℕ) (n : ℕ) (x : Member) → the_member ms q ≡ Some (n, x) →
     (slice_get ms n ≡ Some x) × (place_of member_bears ms (member_name x).text ≡ Some n)
 member_is ms q n x e =

@@ -1,5 +1,4 @@
--- What the code computes of a left side of an assignment, and of what stands behind the `where` of a `let`, is what the
--- rules say of it.
+-- The code computes for a left side of an assignment, and for what follows the `where` of a `let`, what the rules say.
 use Rattle.std.proofs.Common.{◌≡◌, ℕ, List, [], ◌∷◌, ◌++◌, Option, Some, None, Bool, true, false, refl, sym, ap}
 use Rattle.std.proofs.Common.{◌∙◌, subst, arith, if◌then◌else◌}
 use Rattle.std.specs.Prelude.{nat_le, ◌==◌}
@@ -38,7 +37,7 @@ use Rattle.resolution.proofs.Tests.{le_of, le_true}
 
 -- ---- the left side of an assignment
 
--- this is what is assigned to, by the rules
+-- this is the assigned target, by the rules
 abbrev pub AssignsTo : Scope → Place → Assignee → Type 0
 AssignsTo sc p a = Assigns sc p a.value_type (set_to a.target)
 
@@ -126,7 +125,7 @@ place_assigns sc (path x fs) =
 pub target_types : (sc : Scope) (p : Place) (a : Assignee) → target_of sc p ≡ Some a → AssignsTo sc p a
 target_types sc p a is = when (AssignsTo sc p) (target_of sc p) (place_assigns sc p) a is
 
--- what is assigned to by the rules is found
+-- the assigned target by the rules is found
 abbrev pub Found : Scope → Place → ValueType → (core.Expr → core.Action) → Type 0
 Found sc p t set = (a : Assignee) × (target_of sc p ≡ Some a) × (a.value_type ≡ t) × (set_to a.target ≡ set)
 
@@ -164,7 +163,7 @@ target_is {sc = sc} (assigns_field {x = x} {fs = fs} {i = i} {k = k} {n = n} {l 
   refl,
 )
 
--- what is wanted of the right side, by what the code finds on the left one
+-- the expectation of the right side, by the target that the code finds on the left one
 pub asks_right : (sc : Scope) (p : Place) (e : Expr) → Asks sc (assign p e) (wanted_by (target_of sc p)) e
 asks_right sc p e = by_target (target_of sc p) refl
   where
@@ -187,7 +186,7 @@ wanted_nothing sc p never = by_target (target_of sc p) refl
     by_target None is = refl
     by_target (Some a) is = absurd (never a.value_type (set_to a.target) (target_types sc p a is))
 
--- ---- behind `where`
+-- ---- after `where`
 
 pub same_type : (t u : ValueType) → fits_type t (Of u) ≡ true → u ≡ t
 same_type Integer Integer e = refl

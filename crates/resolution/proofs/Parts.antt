@@ -1,4 +1,4 @@
--- What is listed for a part of a program is listed for the program.
+-- A fault that is listed for a part of a program is listed for the program.
 use Rattle.std.proofs.Common.{◌≡◌, ℕ, zero, suc, ◌+◌, List, [], ◌∷◌, ◌++◌, length, Option, Some, None, Bool, true, refl}
 use Rattle.std.proofs.Common.{sym, ap, ◌∙◌, subst, if◌then◌else◌, arith}
 use Rattle.std.specs.Prelude.{nat_le, ◌==◌, slice_get}
@@ -219,7 +219,7 @@ pub of_stmt : (decls : List Decl) (sc : Scope) (s : Stmt) → HasStmt decls sc s
 of_stmt decls sc s (in_body {limits = limits} {x = x} h a) f i =
     of_body decls limits x h f (among_right f (result_faults decls x.result ++ param_faults (ahead_of decls limits x) 0 x.params) _ (among (entry decls limits x) sc x.body.stmts s a f i))
 
--- what is listed for a `let` with an owner: for its parts as those of any, and for what stands behind `where`
+-- what is listed for a `let` with an owner: for its parts as those of any, and for what follows `where`
 of_binding : (decls : List Decl) (sc : Scope) (l : tree.Local) (o : Owner) → HasStmt decls sc (let_owned l o) →
     (f : Mistake) → IsAmong f (binding_faults sc l) → IsAmong f (declaration_faults decls)
 of_binding decls sc l o h f i = of_stmt decls sc (let_owned l o) h f (among_left f (binding_faults sc l) (owner_faults sc (type_of sc l.value_type) o) i)
@@ -278,7 +278,7 @@ in_params sc (b ∷ before) behind p n f i =
     (in_params (bound sc kind.Parameter b.name (type_of (outside sc.decls) b.value_type)) before behind p (n + 1) f
     (subst (λ (k : ℕ). IsAmong f (param_faults (entered (bound sc kind.Parameter b.name (type_of (outside sc.decls) b.value_type)) before) k (p ∷ behind))) (let e : n + suc (length before) ≡ n + 1 + length before = omega arith in e) i))
 
--- what is listed for a parameter by itself
+-- the listed faults of a parameter by itself
 abbrev pub own : Scope → List Param → Param → List Finding
 own sc before p = local_faults sc p.name ++ one_if (nat_le sc.limits.parameters (length before)) LimitExceeded p.name.span.start ++ type_faults (outside sc.decls) p.value_type
 

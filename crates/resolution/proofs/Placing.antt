@@ -1,4 +1,4 @@
--- Where a fault is put among those that are kept, and what is kept of them then.
+-- The place at which a fault is inserted, and the faults that are kept then.
 use Rattle.std.proofs.Common.{◌≡◌, ℕ, suc, zero, ◌+◌, ◌≤◌, arith, List, [], ◌∷◌, ◌++◌, length, take, drop, Option, Some, None, Bool, true, false, refl, sym, ap, ◌∙◌}
 use Rattle.std.proofs.Common.{if◌then◌else◌}
 use Rattle.std.proofs.Common.{◌<◌, nat_lt, ◌||◌}
@@ -66,7 +66,7 @@ cut n fs gs more same lt =
     ∙ ap (λ (b : Bool). record { kept = take n gs; more = more || b }) is
     ∙ ap (λ (b : Bool). record { kept = take n gs; more = b }) (or_true more)
 
--- and where there is none too many, nothing is
+-- if no fault exceeds the limit, none is cut off
 pub uncut : (n : ℕ) (fs gs : List Finding) (more : Bool) → gs ≡ fs → length gs ≤ n → cut_off n fs more ≡ record { kept = gs; more = more }
 uncut n fs gs more same le =
     let is : nat_lt n (length gs) ≡ false = grind (arith, nat_tests) in

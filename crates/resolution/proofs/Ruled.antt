@@ -1,4 +1,4 @@
--- What a tree stands for is built as the rules say, and what they say is built.
+-- The code builds exactly the program that the rules build.
 use Rattle.std.proofs.Common.{◌≡◌, ℕ, ◌+◌, List, [], ◌∷◌, ◌++◌, length, Option, Some, None, refl, sym, ap, ◌∙◌, subst}
 use Rattle.syntax.specs.Trees.{Member, Struct, Variable, Array, Pool, Decl, lock, struct, global, array, pool}
 use Rattle.syntax.specs.Trees.{init, atomic, helper, thread}
@@ -25,7 +25,7 @@ use Rattle.resolution.proofs.RuledStructs.{made_on, made_by_rules, rules_made, m
 use Rattle.resolution.proofs.RuledThreads.{calls_ruled, calls_built}
 use Rattle.resolution.proofs.RuledObjects.{elements_are, objects_by_rules, rules_objects}
 
--- ---- what is built, by the rules
+-- ---- each built part follows the rules
 
 module _ (decls : List Decl) (i : ℕ) (p : core.Program) where
   abbrev before : Struct → StructBuilder
@@ -154,7 +154,7 @@ all_ruled decls i (d ∷ ds) p r e =
     (all_ruled decls (i + 1) ds s.0 r
     (ap (λ (o : Option core.Program). resolved_from decls (i + 1) o ds) (sym s.1) ∙ e))
 
--- ---- what the rules say, built
+-- ---- each part by the rules is built
 
 pub built : (decls : List Decl) (i : ℕ) (p : core.Program) (d : Decl) (q : core.Program) → Adds decls i d p q →
     extended decls i p d ≡ Some q

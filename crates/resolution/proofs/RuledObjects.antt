@@ -1,12 +1,12 @@
--- The objects of pools and the elements of arrays are built as the rules say, and what they say is built.
+-- The code builds exactly the objects of pools and elements of arrays that the rules build.
 use Rattle.std.proofs.Common.{◌≡◌, ℕ, zero, suc, ◌+◌, List, [], ◌∷◌, ◌++◌, length, Option, Some, None, refl, sym, ap}
 use Rattle.std.proofs.Common.{◌∙◌, subst, append_assoc}
 use Rattle.std.proofs.lemmas.List.{append-nil}
 use Rattle.syntax.specs.Trees.{Member, lock_member, final_member, field_member, Decl}
 use Rattle.core_lang.specs.declared.value.Value.{Value}
 use Rattle.core_lang.specs.declared.value.ValueType as core_type
-use Rattle.core_lang.specs.declared.typed.Owner.{Owner}
-use Rattle.core_lang.specs.declared.typed.Owner.TheVariants as owner
+use Rattle.core_lang.specs.declared.typed.CellOwner.{CellOwner}
+use Rattle.core_lang.specs.declared.typed.CellOwner.TheVariants as owner
 use Rattle.core_lang.specs.declared.typed.Cell.{Cell}
 use Rattle.resolution.specs.declared.init_target.InitTarget.{InitTarget}
 use Rattle.resolution.specs.Core as core
@@ -50,7 +50,7 @@ held_final : (p : core.Program) (o : ℕ) (os : List ℕ) (cs : List Cell) →
 held_final p o os cs =
     ap (λ (fs : List ℕ). record p { finals = fs; cells = p.cells ++ cs }) (append_assoc p.finals (o ∷ []) os)
 
-held_cell : (p : core.Program) (w : Owner) (t : core_type.ValueType) (v : Value) (os : List ℕ) (cs : List Cell) →
+held_cell : (p : core.Program) (w : CellOwner) (t : core_type.ValueType) (v : Value) (os : List ℕ) (cs : List Cell) →
     with_held (with_cell p w t v) os cs ≡ with_held p os (record { owner = w; value_type = t; opening = v } ∷ cs)
 held_cell p w t v os cs =
     ap (λ (fs : List Cell). record p { finals = p.finals ++ os; cells = fs })
@@ -69,7 +69,7 @@ final_there decls slot place fields p q (Some n) ms e = (n, refl)
 final_there decls slot place fields p q None ms e = let s : None ≡ Some q =
     sym (none_members decls slot place fields ms) ∙ e in cc
 
-pub field_there : (decls : List Decl) (slot : Slot) (place fields : ℕ) (p q : core.Program) (w : Owner)
+pub field_there : (decls : List Decl) (slot : Slot) (place fields : ℕ) (p q : core.Program) (w : CellOwner)
     (o : Option core_type.ValueType) (r : Option Value) (ms : List Member) →
     with_members decls slot place fields (field_cell p w o r) ms ≡ Some q →
     (t : core_type.ValueType) × (v : Value) × (o ≡ Some t) × (r ≡ Some v)
@@ -112,7 +112,7 @@ held_by_rules decls slot m n (final_member f ∷ ms) p q e =
 held_by_rules decls slot m n (field_member f ∷ ms) p q e =
     let a = type_of (outside decls) f.value_type in
     let b = opening_of decls a (slot_given decls slot m) in
-    let w : Owner = owner.Field slot.object n in
+    let w : CellOwner = owner.Field slot.object n in
     let t = field_there decls slot (m + 1) (n + 1) p q w a b ms e in
     let r = held_by_rules decls slot (m + 1) (n + 1) ms (with_cell p w t.0 t.1) q
     (ap (λ (x : Option core_type.ValueType). with_members decls slot (m + 1) (n + 1) (field_cell p w x (Some t.1)) ms)
@@ -142,7 +142,7 @@ rules_held decls object at n ms os cs (final_opened {o = o} {f = f} {c = c} {ms 
     ap (λ (x : Option ℕ). with_members decls (slot_of at object) (at.member + 1) n (final_cell p x) rest) there
     ∙ rules_held decls object (next at) n rest fs cs h (with_final p o) ∙ ap Some (held_final p o fs cs)
 rules_held decls object at n ms os cs (field_opened {f = f} {ms = rest} {cs = ds} {t = t} {v = v} e g h) p =
-    let w : Owner = owner.Field object n in
+    let w : CellOwner = owner.Field object n in
     ap (λ (x : Option core_type.ValueType). with_members decls (slot_of at object) (at.member + 1) (n + 1)
     (field_cell p w x (opening_of decls x (given decls at))) rest) e
     ∙ ap (λ (x : Option Value). with_members decls (slot_of at object) (at.member + 1) (n + 1)

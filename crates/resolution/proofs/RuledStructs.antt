@@ -1,4 +1,4 @@
--- A struct is built as the rules say, and what they say is built.
+-- The code builds exactly the structs that the rules build.
 use Rattle.std.proofs.Common.{◌≡◌, ℕ, ◌+◌, List, [], ◌∷◌, ◌++◌, length, Option, Some, None, refl, sym, ap, ◌∙◌, subst}
 use Rattle.std.proofs.Common.{append_assoc}
 use Rattle.std.proofs.lemmas.List.{length-append, append-nil}
@@ -59,7 +59,7 @@ made_field : (k : ℕ) (st : StructBuilder) (f : core.Field) (t : core.Struct) �
     made_on k (with_field st f) t ≡ made_on k st (record t { fields = f ∷ t.fields })
 made_field k st f t = let a = append_assoc st.structure.fields (f ∷ []) t.fields in cc
 
--- ---- what is built, by the rules
+-- ---- each built part follows the rules
 
 none_made : (decls : List Decl) (k i : ℕ) (all ms : List Member) → members_added decls k i all None ms ≡ None
 none_made decls k i all [] = refl
@@ -126,7 +126,7 @@ made_by_rules decls k i s (field_member f ∷ ms) st to e =
       is = sym (made_field k st y r.structure) ∙ r.is;
     }
 
--- ---- what the rules say, built
+-- ---- each part by the rules is built
 
 pub rules_made : (decls : List Decl) (k i : ℕ) (s : Struct) (n : ℕ) (ms : List Member) (t : core.Struct) →
     Makes decls i s n ms t → (st : StructBuilder) → n ≡ length st.classes →

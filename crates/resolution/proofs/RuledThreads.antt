@@ -1,4 +1,4 @@
--- The calls of threads are built as the rules say, and what they say is built.
+-- The code builds exactly the calls of threads that the rules build.
 use Rattle.std.proofs.Common.{◌≡◌, ℕ, ◌≤◌, List, [], ◌∷◌, ◌++◌, Option, Some, None, Bool, refl, ap, ◌∙◌, subst}
 use Rattle.std.specs.Prelude.{if◌then◌else◌}
 use Rattle.syntax.specs.Trees.{Call, Item, call, repeat, Items, no_items, item, Decl, lock, struct, global, array, pool}
@@ -17,7 +17,7 @@ use Rattle.resolution.proofs.ConstantRules.{arguments_ruled, arguments_is}
 use Rattle.resolution.proofs.Tests.{le_of, le_true}
 use Rattle.resolution.proofs.LaidLists.{bind_got}
 
--- ---- what is built, by the rules
+-- ---- each built part follows the rules
 
 only_ruled : (decls : List Decl) (c : Call) (o : Option (ℕ × Decl)) (cs : List core.Call) (is : Items)
     (ds : List core.Call) → the_decl decls c.section.text ≡ o → only_call (call_of decls o c.arguments) ≡ Some cs →
@@ -74,7 +74,7 @@ calls_ruled decls is cs e =
     let b = if_some (few_calls decls) (typed_items decls is) cs e in
     (le_of (total calls_of decls) CALL_LIMIT b.0, items_ruled decls is cs b.1)
 
--- ---- what the rules say, built
+-- ---- each part by the rules is built
 
 items_built : (decls : List Decl) (is : Items) (cs : List core.Call) → AreCalls decls is cs →
     typed_items decls is ≡ Some cs

@@ -1,4 +1,4 @@
--- Where resolved statements name locals, as data; and that values which stand for them name them there.
+-- Resolved statements that name locals in scope, as data; values that stand for them do so too.
 use Rattle.std.proofs.Common.{◌≡◌, ℕ, List, [], ◌∷◌, ◌++◌, Option, Some, None, refl, ap, ◌∙◌, subst}
 use Rattle.std.specs.Prelude.{map, ⊤}
 use Rattle.std.specs.List.{Contains}

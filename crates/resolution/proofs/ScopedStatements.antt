@@ -1,4 +1,4 @@
--- Resolved statements name locals in scope alone, bind each once, and assign to no other than a `var`.
+-- Resolved statements name only locals in scope, bind each once, and assign only to `var`s.
 use Rattle.std.proofs.Common.{◌≡◌, ℕ, zero, suc, ◌+◌, ◌<◌, List, [], ◌∷◌, ◌++◌, length, Option, Some, None, true, false}
 use Rattle.std.proofs.Common.{◌⊎◌, inl, inr, refl, sym, ap, ◌∙◌, subst, append_assoc, arith}
 use Rattle.std.specs.Prelude.{slice_get, ⊤}
@@ -114,7 +114,7 @@ hidden_length n [] = refl
 hidden_length zero (x ∷ ls) = ap suc (hidden_length zero ls)
 hidden_length (suc n) (x ∷ ls) = ap suc (hidden_length n ls)
 
--- ---- what statements do with locals
+-- ---- bindings and assignments of statements
 
 -- a `var` of the section
 abbrev pub IsVarAt : List core.Local → ℕ → Type 0
@@ -131,7 +131,7 @@ become_before a b finals k h n l e = let x = k n l e in let y = h n x.0 x.1 in (
 front_kept : (a b : List scopes.Local) → Front a b → Kept a b
 front_kept a b f n l e = (l, f n l e, refl, refl)
 
--- an action behind n locals that leaves m
+-- an action after n locals that leaves m
 pub record Acted (scope : List ℕ) (finals : List core.Local) (n m : ℕ) (x : core.Action) : Type 0 where
   pub named : ActNames scope x
   pub bound : numbers_from 0 n ++ binding x ≡ numbers_from 0 m
@@ -155,7 +155,7 @@ here x xs = (0, omega arith, refl)
 there : (x y : ℕ) (xs : List ℕ) → Contains xs y → Contains (x ∷ xs) y
 there x y xs h = let lt = h.1 in (suc h.0, omega (arith, lt), h.2)
 
--- what binds nothing and assigns nothing
+-- an action that binds and assigns nothing
 plain : (scope : List ℕ) (finals : List core.Local) (n : ℕ) (x : core.Action) → ActNames scope x → binding x ≡ [] →
     assigning x ≡ [] → Acted scope finals n n x
 plain scope finals n x h b a = record {
@@ -248,7 +248,7 @@ is_var_kind kind.Let e = cc
 is_var_kind kind.Parameter e = cc
 
 module _ (finals : List core.Local) where
-  -- an action behind locals that leaves others, all of which its scope has
+  -- an action after locals that leaves others, all of which its scope has
   abbrev Leaves : List scopes.Local → List scopes.Local → List ℕ → core.Action → Type 0
   Leaves ls to scope x = Acted scope finals (length ls) (length to) x × Covers to (behind scope x)
 
@@ -288,7 +288,7 @@ module _ (finals : List core.Local) where
       plain_done sc.locals scope (core.set_field (local_path x.span.start i base) k n e) c
       (local_in sc scope c x.text i l is, g) refl refl refl
 
-  -- a block's numbers, behind which its locals are hidden
+  -- a block's numbers, after which its locals are hidden
   hidden_numbers : (ls end : List scopes.Local) (bs : List ℕ) → numbers_from 0 (length ls)
       ++ bs ≡ numbers_from 0 (length end) →
       numbers_from 0 (length ls) ++ bs ≡ numbers_from 0 (length (hidden_from (length ls) end))

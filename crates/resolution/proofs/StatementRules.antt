@@ -1,4 +1,4 @@
--- What the code computes of statements, sections and helpers is what the rules say of them.
+-- The code computes for statements, sections and helpers the results of the rules.
 use Rattle.std.proofs.Common.{◌≡◌, ℕ, List, [], ◌∷◌, length, Option, Some, None, Bool, true, false, refl, sym, ap, ◌∙◌}
 use Rattle.std.proofs.Common.{subst, if◌then◌else◌}
 use Rattle.source.specs.declared.span.Span.{Span}
@@ -36,7 +36,7 @@ use Rattle.resolution.proofs.ExpressionRules.{given_is}
 use Rattle.resolution.proofs.OwnerRules.{AssignsTo, place_assigns, target_is, same_type, fits_itself, owner_types}
 use Rattle.resolution.proofs.OwnerRules.{owned_is}
 
--- ---- what the code computes is so by the rules: calls
+-- ---- the result of the code is one of the rules: calls
 
 values_types : (sc : Scope) (p : Param) (e : Expr) (ps : List Param) (es : List Expr) (o : Option core.Expr) →
     When (Gives sc (want_of sc.decls p) e) o → (rest : Option (List core.Expr)) → When (TypesArguments sc ps es) rest →
@@ -324,7 +324,7 @@ pub types_body : (sc : Scope) (stmts : Stmts) (b : Body) → typed_body sc stmts
     TypesBody sc stmts b.stmts b.result
 types_body sc stmts b is = when (BodyIs sc stmts) (typed_body sc stmts) (body_types sc stmts) b is
 
--- ---- what is so by the rules is computed
+-- ---- a result of the rules is computed
 
 arguments_are : {sc : Scope} {ps : List Param} {es : List Expr} {xs : List core.Expr} → TypesArguments sc ps es xs →
     typed_values sc ps es ≡ Some xs

@@ -1,4 +1,4 @@
--- The graph of a tree is that of the program which it stands for.
+-- The graph of a tree is that of the program that it stands for.
 use Rattle.std.proofs.Common.{◌≡◌, ℕ, zero, suc, ◌<◌, ◌≤◌, List, [], ◌∷◌, map, take, length, Option, Some, refl, sym}
 use Rattle.std.proofs.Common.{ap, ◌∙◌, subst, length-append, arith}
 use Rattle.std.specs.Prelude.{slice_get, is_some}
@@ -11,8 +11,8 @@ use Rattle.core_lang.specs.declared.tree.Section as the_section
 use Rattle.core_lang.specs.declared.typed.Typed.{Typed}
 use Rattle.core_lang.specs.Scopes.{numbers_from, bound_in_all, IsWellScoped}
 use Rattle.core_lang.specs.Theory.Items.{map_at, get_some, numbers_many}
-use Rattle.core_lang_calls.specs.Graphs.{Body}
-use Rattle.core_lang_calls.specs.Working.Programs.{IsBodyOf, IsGraphOf}
+use Rattle.core_lang_helpers.specs.Graphs.{Body}
+use Rattle.core_lang_helpers.specs.Working.Programs.{IsBodyOf, IsGraphOf}
 use Rattle.resolution.specs.declared.body_limits.BodyLimits.{BodyLimits}
 use Rattle.resolution.specs.Core as core
 use Rattle.resolution.specs.CoreViews.{core_local, core_section, core_of}

@@ -1,4 +1,4 @@
--- Each fault that is listed for a declaration by itself is a true one.
+-- Each fault that is listed for a declaration by itself is a fault of the program.
 use Rattle.std.proofs.Common.{◌≡◌, ℕ, zero, suc, ◌+◌, ◌<◌, List, [], ◌∷◌, ◌++◌, length, Option, Some, None, Bool, true}
 use Rattle.std.proofs.Common.{false, refl, ap, ◌∙◌, subst, if◌then◌else◌, arith}
 use Rattle.std.specs.Prelude.{nat_le, not, is_some, ◌==◌, ◌&&◌, ◌||◌, slice_get}

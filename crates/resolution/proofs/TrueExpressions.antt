@@ -1,4 +1,4 @@
--- Each fault that is listed for an expression, a place or a constant is a true one.
+-- Each fault that is listed for an expression, a place or a constant is a fault of the program.
 use Rattle.std.proofs.Common.{◌≡◌, ℕ, suc, List, [], ◌∷◌, ◌++◌, Option, Some, None, Bool, true, false, refl, sym, ap}
 use Rattle.std.proofs.Common.{◌∙◌, subst, if◌then◌else◌, append_assoc}
 use Rattle.std.specs.Prelude.{nat_le, nat_lt, not, is_some, ◌&&◌, slice_get}
@@ -326,7 +326,7 @@ mutual
       (true_misfit sc (operand_want level) g (up (operand_want level) g o g (in_all o g this_link) itself) (typed sc g) refl f))
       (true_links sc w level e all rest h (λ p x l. in_all p x (later_link l)) up f) i
 
--- an expression of which something is wanted
+-- an expression with its expectation
 pub true_wanted : (sc : Scope) (w : Want) (e : Expr) →
     ((v : Want) (x : Expr) → Within w e v x → HasExpr sc.decls sc v x) → (f : Finding) →
     IsOneOf f (wanted_faults sc w e) → IsTrue_of sc.decls f

@@ -1,4 +1,4 @@
--- Each fault that is listed for a statement or a section is a true one.
+-- Each fault that is listed for a statement or a section is a fault of the program.
 use Rattle.std.proofs.Common.{◌≡◌, ℕ, suc, ◌+◌, ◌≤◌, List, [], ◌∷◌, ◌++◌, length, Option, Some, None, Bool, true, false}
 use Rattle.std.proofs.Common.{refl, sym, ap, ◌∙◌, subst, if◌then◌else◌, append_assoc, arith}
 use Rattle.std.specs.Prelude.{nat_le, not, is_some, ◌==◌, slice_get}
@@ -139,7 +139,7 @@ true_target sc (path x fs) e h f i =
     (true_path sc x fs (is_written h) (meaning sc x.text) refl f)
     (true_final sc x fs e h (walk_from sc.decls (meaning sc x.text) fs) refl f) i
 
--- ---- what stands behind `where`
+-- ---- what follows `where`
 
 true_no_final : (decls : List Decl) (ms : List Member) (y : Ident) → NamesOwner decls ms y →
     (m : Option (ℕ × Member)) → the_member ms y.text ≡ m → (f : Finding) →
@@ -252,7 +252,7 @@ module _ (sc : Scope) (s : Stmt) (h : HasStmt sc.decls sc s) where
       (true_no_helper sc c calls (meaning sc c.helper.text) refl f)
       (true_passed (helper_meant (meaning sc c.helper.text)) c.arguments asks f) i
 
--- what is given back to a local
+-- the result of a helper, bound to a local
 module _ (sc : Scope) (l : CalledLocal) (h : HasStmt sc.decls sc (let_call l)) (t : core_type.ValueType) (is : type_of sc l.value_type ≡ Some t) (n : ℕ) (s : Section)
     (meant : helper_meant (meaning sc l.call.helper.text) ≡ Some (n, s)) where
   true_other_result : (u : Option core_type.ValueType) → result_of sc.decls s ≡ u → (f : Finding) →
@@ -291,7 +291,7 @@ pub else_same : (sc : Scope) (o : Otherwise) → (after_else sc o).decls ≡ sc.
 else_same sc no_else = refl
 else_same sc (else_do body close) = refl
 
--- what holds of a scope over the program's declarations holds of one over equal ones
+-- a claim on a scope over the program's declarations holds for one over equal declarations
 pub moved : (decls : List Decl) (sc : Scope) (f : Finding) → sc.decls ≡ decls → IsTrue_of sc.decls f → IsTrue_of decls f
 moved decls sc f e h = subst (λ (ds : List Decl). IsTrue_of ds f) e h
 
@@ -306,7 +306,7 @@ true_typed_local sc s x t e h binds has asks f i =
     (both f (local_faults sc x) (type_faults sc t) (true_local sc x binds f) (true_type sc.decls sc t has f))
     (true_asked sc s (want (type_of sc t)) e h asks f) i
 
--- what stands in the first of statements stands in them
+-- a statement within the first of some statements is within them
 widened : {sc sc' : Scope} {s r : Stmt} {rest : Stmts} → Among sc (stmt s no_stmts) sc' r → Among sc (stmt s rest) sc' r
 widened here = here
 widened (later a) = elim a [ ]

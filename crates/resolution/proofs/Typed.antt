@@ -1,4 +1,4 @@
--- Resolved expressions and statements that are well typed, as data; and that values which stand for them are.
+-- Well-typed resolved expressions and statements, as data; values that stand for them are well typed too.
 use Rattle.std.proofs.Common.{◌≡◌, ℕ, zero, suc, List, [], ◌∷◌, Option, Some, None, refl, sym, ap, ◌∙◌, subst}
 use Rattle.std.specs.Prelude.{map, option_map, slice_get, take, ⊤}
 use Rattle.core_lang.specs.declared.value.ValueType.{ValueType}
@@ -182,14 +182,14 @@ module _ (p : core.Program) (locals : List ValueType) where
     AllTest core.no_conditions = ⊤
     AllTest (core.condition x rest) = Tests x × AllTest rest
 
-  -- expressions of these types, and no more
+  -- expressions of exactly these types
   abbrev pub AreAll : List core.Expr → List ValueType → Type 0
   AreAll [] [] = ⊤
   AreAll [] (t ∷ ts) = ⊥
   AreAll (x ∷ xs) [] = ⊥
   AreAll (x ∷ xs) (t ∷ ts) = Is x t × AreAll xs ts
 
-  -- a local for what a helper gives back, or none
+  -- a local of the type of a helper's result, if a local takes the result
   abbrev pub Taken : Option ℕ → Option ValueType → Type 0
   Taken None t = ⊤
   Taken (Some k) None = ⊥

@@ -9,7 +9,7 @@ use Rattle.resolution.proofs.Typed.{types_of, AreAll, Taken, Acts}
 use Rattle.resolution.proofs.TypedResolvedExprs.{Sound, Have, wanted_good, decl_there}
 use Rattle.resolution.specs.Typing.{TypesArguments, no_argument, one_argument, TypesCall, types_call}
 
--- ---- what a program holds of its helpers
+-- ---- the helpers of a program
 
 -- types are those of parameters
 abbrev pub TypesAre : List Decl → List Param → List ValueType → Type 0

@@ -30,7 +30,7 @@ use Rattle.resolution.specs.Typing.{types_member, types_path, types_paren, types
 use Rattle.resolution.specs.Typing.{types_and, types_or, types_order, types_equality, TypesOperands, no_operand}
 use Rattle.resolution.specs.Typing.{one_operand, TypesTests, last_test, one_test, Gives, gives}
 
--- ---- what a program holds of its declarations
+-- ---- the declarations of a program
 
 -- the program has each thing with its type at its number
 pub record Sound (decls : List Decl) (p : core.Program) : Type 0 where
@@ -79,7 +79,7 @@ meant_local sc q = or_local sc.locals q (the_local sc.locals q) refl (declared_a
 
 module _ (sc : Scope) (p : core.Program) (types : List ValueType) (sound : Sound sc.decls p)
     (have : Have sc.locals types) where
-  -- ---- what is well typed
+  -- ---- well-typed expressions
 
   abbrev ResolvedExprOk : ResolvedExpr → Type 0
   ResolvedExprOk (value x (sort.Of t)) = Is p types x t
@@ -157,7 +157,7 @@ module _ (sc : Scope) (p : core.Program) (types : List ValueType) (sound : Sound
   walk_good from w [] h = h
   walk_good from w (f ∷ fs) h = walk_good from (stepped sc.decls w f) fs (step_good from w f h)
 
-  -- where a local leads, it is a path
+  -- if a local leads to a value, it is a path
   abbrev pub GoodPath : ℕ → Walk → Type 0
   GoodPath n (reached steps t) = (from : ValueType) × (slice_get types n ≡ Some from) × Leads p types from steps t
   GoodPath n at_lock = ⊤
@@ -178,7 +178,7 @@ module _ (sc : Scope) (p : core.Program) (types : List ValueType) (sound : Sound
   local_walk n l fs at (Some t) e =
       path_of n t (walked sc.decls (reached [] t) fs) (have n l t at e) (walk_good t (reached [] t) fs refl)
 
-  -- what a local's name means is in its place, and what a declaration's does too
+  -- a local that a name means is at its place, and so is a declaration
   pub local_meant : (q : List ℕ) (n : ℕ) (l : Local) → meaning sc q ≡ a_local n l → slice_get sc.locals n ≡ Some l
   local_meant q n l is = (subst (IsLocal sc.locals) is (meant_local sc q)).0
 
@@ -256,7 +256,7 @@ module _ (sc : Scope) (p : core.Program) (types : List ValueType) (sound : Sound
     tests_good last_test h = (tt, h)
     tests_good (one_test d k) h = let r = tests_good k (expr_good d) in ((h, r.0), r.1)
 
-  -- a value of a type, where one is wanted
+  -- a value of a type, if one is expected
   pub value_good : {t : ValueType} {e : Expr} {x : core.Expr} → Gives sc (Value t) e x → Is p types x t
   value_good {t = t} (gives {x = x} {s = s} d fits) = fit_value t x s fits (expr_good d)
 

@@ -51,7 +51,7 @@ kept_hidden zero (x ∷ xs) (suc n) l e = kept_hidden zero xs n l e
 kept_hidden (suc k) (x ∷ xs) zero l e = (l, e, refl, refl)
 kept_hidden (suc k) (x ∷ xs) (suc n) l e = kept_hidden k xs n l e
 
--- what a list starts with stays as it is
+-- the second list begins with the first one
 abbrev pub Front : List scope.Local → List scope.Local → Type 0
 Front a b = (n : ℕ) (l : scope.Local) → slice_get a n ≡ Some l → slice_get b n ≡ Some l
 
@@ -100,14 +100,14 @@ mutual
 front_kept : (a b : List scope.Local) → Front a b → Kept a b
 front_kept a b f n l e = (l, f n l e, refl, refl)
 
--- what has types has them before
+-- locals that have types have them before more are bound
 pub have_before : (a b : List scope.Local) (types : List core_type.ValueType) → Kept a b → Have b types → Have a types
 have_before a b types k h n l t e is = let x = k n l e in h n x.0 t x.1 (x.2 ∙ is)
 
 pub have_front : (a b : List scope.Local) (types : List core_type.ValueType) → Front a b → Have b types → Have a types
 have_front a b types f h = have_before a b types (front_kept a b f) h
 
--- a local's type, where it has just been bound
+-- the type of a local that has just been bound
 pub last_local : (a : List scope.Local) (x : scope.Local) → slice_get (a ++ x ∷ []) (length a) ≡ Some x
 last_local [] x = refl
 last_local (y ∷ a) x = last_local a x
@@ -122,7 +122,7 @@ module _ (decls : List Decl) (p : core.Program) (types : List core_type.ValueTyp
   helpers_at : (sc : Scope) → sc.decls ≡ decls → HasHelpers sc.decls p
   helpers_at sc same = subst (λ (ds : List Decl). HasHelpers ds p) (sym same) helpers
 
-  -- the last step goes over a field of where those ahead of it lead
+  -- the last step goes over a field of the struct to which the earlier ones lead
   splits : (from : core_type.ValueType) (base : List FieldStep) (k n : ℕ) (t : core_type.ValueType) →
       Leads p types from (base ++ step.Field k n ∷ []) t →
       Leads p types from base (Reference k) × (field_in p k n ≡ Some t)
@@ -152,7 +152,7 @@ module _ (decls : List Decl) (p : core.Program) (types : List core_type.ValueTyp
       let r = splits path.0 base k n t path.2 in
       ((path.0, path.1, r.0), (t, r.1, g))
 
-  -- what a section with this result may give back
+  -- if the section has a result type and a `return`, the returned value is of this type
   abbrev pub IfReturn : Option core_type.ValueType → Option core.Return → Type 0
   IfReturn result None = ⊤
   IfReturn result (Some r) = (t : core_type.ValueType) → result ≡ Some t → Is p types r.value t

@@ -1,4 +1,4 @@
--- A program with no fault is resolved to one as it should be.
+-- A program without faults is resolved to a well-formed one.
 use Rattle.std.proofs.Common.{◌≡◌, ℕ, List, Some}
 use Rattle.std.specs.Prelude.{slice_get}
 use Rattle.syntax.specs.Trees.{Section, Decl}
@@ -9,8 +9,8 @@ use Rattle.core_lang.specs.Theory.Items.{map_at}
 use Rattle.resolution.specs.CoreViews.{core_section}
 use Rattle.resolution.specs.Limits.{section_limits, helper_limits}
 use Rattle.resolution.specs.Working.TypedSections.{typed_section}
-use Rattle.core_lang_calls.specs.Working.Programs.{CallsKeepLimits}
-use Rattle.core_lang_calls.specs.Working.Laws.{FaultlessKeepLimits, HasNoGraphFault}
+use Rattle.core_lang_helpers.specs.Working.Programs.{CallsKeepLimits}
+use Rattle.core_lang_helpers.specs.Working.Laws.{FaultlessKeepLimits, HasNoGraphFault}
 use Rattle.resolution.specs.CallGraphs.{tree_graph}
 use Rattle.resolution.specs.Working.Laws.{DeclaresNoHelper}
 use Rattle.resolution.specs.Resolved.{Resolves}

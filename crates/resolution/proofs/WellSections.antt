@@ -56,7 +56,7 @@ section_well_typed decls program sound helpers limits s x e =
 
 -- ---- the kinds of locals
 
--- from a place on there are no parameters
+-- no local from this index on is a parameter
 abbrev NoneFrom : ℕ → List scopes.Local → Type 0
 NoneFrom n ls = (k : ℕ) (l : scopes.Local) → slice_get ls k ≡ Some l → n ≤ k → l.kind ≢ kind.Parameter
 

@@ -1,4 +1,4 @@
--- A program with no fault is within the limits of the language.
+-- A program without faults is within the limits of the language.
 use Rattle.std.proofs.Common.{◌≡◌, ℕ, zero, suc, ◌+◌, ◌*◌, ◌<◌, ◌≤◌, List, [], ◌∷◌, ◌++◌, length, Some, true, false}
 use Rattle.std.proofs.Common.{refl, sym, ap, ◌∙◌, subst, append_assoc, arith}
 use Rattle.std.specs.Prelude.{nat_le, slice_get, take, map}
@@ -116,7 +116,7 @@ none_at_step decls clean whole before d p st =
     let same : r.before ≡ before = sym (take_front r.before (d ∷ r.behind)) ∙ ap (take (length r.before)) (sym r.parts) ∙ ap (λ (n : ℕ). take n decls) r.place ∙ st.ahead in
     λ f i. clean f (of_counts decls before r.behind d (r.parts ∙ ap (λ (bs : List Decl). bs ++ d ∷ r.behind) same) f i)
 
--- how many structs, sections with helpers, threads and calls a program has behind these declarations
+-- how many structs, sections with helpers, threads and calls a program has after these declarations
 record Few (before : List Decl) (p : core.Program) : Type 0 where
   structs : length p.structs ≤ STRUCT_LIMIT
   sections : length p.sections + length p.helpers ≤ SECTION_LIMIT
@@ -128,7 +128,7 @@ record Few (before : List Decl) (p : core.Program) : Type 0 where
 same_few : {A : Type 0} (limit : ℕ) (xs : List A) → length xs ≤ limit → length (xs ++ []) ≤ limit
 same_few {A = A} limit xs le = subst (λ (zs : List A). length zs ≤ limit) (sym (append-nil xs)) le
 
--- one more, where there is room
+-- one more, if the limit allows it
 one_more : {A : Type 0} (limit n : ℕ) (xs : List A) (x : A) → length xs ≡ n → nat_le limit n ≡ false →
     length (xs ++ x ∷ []) ≤ limit
 one_more limit n xs x is full =
@@ -136,7 +136,7 @@ one_more limit n xs x is full =
     let l = length_push xs x in
     omega (arith, less, l, is)
 
--- no more sections and helpers, or one more, where there is room
+-- no more sections and helpers, or one more, if the limit allows it
 same_bodies : (p : core.Program) → length p.sections + length p.helpers ≤ SECTION_LIMIT →
     length (p.sections ++ []) + length (p.helpers ++ []) ≤ SECTION_LIMIT
 same_bodies p le =
@@ -155,7 +155,7 @@ few_bodies decls before p q s n full more =
     let y = n.helpers s in
     omega (arith, less, both, x, y, more)
 
--- behind a declaration that is no thread
+-- after a declaration other than a thread
 few_more : (before : List Decl) (d : Decl) (p a : core.Program) → Few before p →
     length (p.structs ++ a.structs) ≤ STRUCT_LIMIT →
     length (p.sections ++ a.sections) + length (p.helpers ++ a.helpers) ≤ SECTION_LIMIT → a.threads ≡ [] →
@@ -275,7 +275,7 @@ else_limits : (sc : Scope) (o : Otherwise) → (after_else sc o).limits ≡ sc.l
 else_limits sc no_else = refl
 else_limits sc (else_do body close) = refl
 
--- behind a block there are as many locals as at its end
+-- after a block there are as many locals as at its end
 left_few : (sc end : Scope) (limit : ℕ) → length end.locals ≤ limit → length (left sc end).locals ≤ limit
 left_few sc end limit le = let l = hidden_length (length sc.locals) end.locals in omega (arith, l, le)
 

@@ -1,21 +1,22 @@
--- What the sections and helpers of a tree call, as a graph. A call is in it if its name means a helper where it stands, whatever else is
--- wrong there.
+-- The calls of the sections and helpers of a tree, as a graph. A call is in it if its name refers to a helper, whatever
+-- other faults it has.
 use Rattle.std.specs.Prelude.{ℕ, ◌+◌, Bool, true, false, List, [], ◌∷◌, ◌++◌, length, Option, Some, None, is_some}
 use Rattle.syntax.specs.Trees.{HelperCall, Stmt, let_local, let_owned, let_call, var_local, assign, if_then, while}
 use Rattle.syntax.specs.Trees.{print, return_value, call, Stmts, no_stmts, stmt, Otherwise, no_else, else_do, Section}
 use Rattle.syntax.specs.Trees.{Decl, atomic, helper}
-use Rattle.core_lang_calls.specs.declared.graph.CallSite.{CallSite}
-use Rattle.core_lang_calls.specs.Graphs.{Body, Graph}
+use Rattle.core_lang_helpers.specs.declared.graph.CallSite.{CallSite}
+use Rattle.core_lang_helpers.specs.Graphs.{Body, Graph}
 use Rattle.resolution.specs.Limits.{section_limits, helper_limits}
 use Rattle.resolution.specs.Scopes.{Scope, meaning, helper_meant, number_at, entered, left}
 use Rattle.resolution.specs.Statements.{after, after_all}
 use Rattle.resolution.specs.Statements.{ahead_of}
 
--- a call that starts there, of the helper that is meant
+-- a call at this byte, of the helper that its name refers to
 abbrev pub site_at : List Decl → ℕ → Bool → Option (ℕ × Section) → List CallSite
 site_at decls start bound (Some (i, s)) = record { helper = number_at decls i (helper s); start = start; is_bound = bound } ∷ []
 site_at decls start bound None = []
 
+-- the call of a helper, if its name refers to one
 abbrev pub call_sites : Scope → Bool → HelperCall → List CallSite
 call_sites sc bound c = site_at sc.decls c.helper.span.start bound (helper_meant (meaning sc c.helper.text))
 
@@ -36,7 +37,7 @@ abbrev mutual
   stmts_calls sc no_stmts = []
   stmts_calls sc (stmt s rest) = stmt_calls sc s ++ stmts_calls (after sc s) rest
 
--- how many of statements are points by themselves: all but calls and the `return`
+-- the number of statements that are points by themselves: all but calls and the `return`
 abbrev mutual
   pub stmt_points : Stmt → ℕ
   stmt_points (let_local l) = 1
@@ -58,7 +59,7 @@ abbrev mutual
   stmts_points no_stmts = 0
   stmts_points (stmt s rest) = stmt_points s + stmts_points rest
 
--- what counts of a section or a helper, from the scope ahead of its parameters
+-- the counts and calls of a section or a helper, from the scope before its parameters
 abbrev pub body_in : Scope → Section → Body
 body_in sc s = record {
   start = s.name.span.start;
@@ -81,5 +82,6 @@ section_bodies all [] = []
 section_bodies all (atomic s ∷ ds) = body_in (ahead_of all section_limits s) s ∷ section_bodies all ds
 section_bodies all (d ∷ ds) = section_bodies all ds
 
+-- the call graph of a program
 abbrev pub tree_graph : List Decl → Graph
 tree_graph decls = record { helpers = helper_bodies decls decls; sections = section_bodies decls decls }

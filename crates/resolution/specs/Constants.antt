@@ -1,4 +1,4 @@
--- Constants, and what the declarations give the members of pools.
+-- Constants, and the values that declarations give to the members of pools.
 use Rattle.std.specs.Prelude.{◌≡◌, ℕ, ◌+◌, ◌≤◌, ◌<◌, pos, neg_ℤ, nat_lt, min, ◌==◌, ◌&&◌, Bool, true, false, List, []}
 use Rattle.std.specs.Prelude.{◌∷◌, Option, Some, None, if◌then◌else◌}
 use Rattle.source.specs.Texts.{NUMBER_LIMIT}
@@ -45,31 +45,32 @@ pub data Denotes (decls : List Decl) : Const → Value → Type 0 where
       the_decl decls x.text ≡ Some (i, pool p) → n.value < p.length.value →
       Denotes decls (member_const x n) (Ref (Some (object_of decls i n.value)))
 
--- a constant is of a sort that is wanted, and this is its value
+-- a constant of an expected sort with this value
 pub data Yields (decls : List Decl) (w : Want) (c : Const) (v : Value) : Type 0 where
   yields : {s : Sort} → IsOfSort decls c s → fits_sort w s ≡ true → Denotes decls c v → Yields decls w c v
 
--- what a parameter wants of its argument
+-- what a parameter expects of its argument
 abbrev pub want_of : List Decl → Param → Want
 want_of decls p = want (type_of (outside decls) p.value_type)
 
--- arguments, one for each parameter, and their values
+-- one argument for each parameter, and their values
 pub data AreArguments (decls : List Decl) : List Param → List Const → List Value → Type 0 where
   no_constant : AreArguments decls [] [] []
   one_constant : {p : Param} {c : Const} {v : Value} {ps : List Param} {cs : List Const} {vs : List Value} →
       Yields decls (want_of decls p) c v → AreArguments decls ps cs vs → AreArguments decls (p ∷ ps) (c ∷ cs) (v ∷ vs)
 
--- ---- what is given to members of pools
+-- ---- the values of members of pools
 
+-- the members of the declared struct, if it is one
 abbrev pub members_in : Option (ℕ × Decl) → Option (List Member)
 members_in (Some (i, struct s)) = Some s.members
 members_in _ = None
 
--- the members of the struct that is named
+-- the members of the struct of this name
 abbrev pub members_of : List Decl → Ident → Option (List Member)
 members_of decls x = members_in (the_decl decls x.text)
 
--- those of the members of a pool that is named
+-- the members of the struct of a pool
 abbrev pub pool_members : List Decl → Option (ℕ × Decl) → Option (List Member)
 pool_members decls (Some (i, pool p)) = members_of decls p.target
 pool_members decls _ = None
@@ -78,65 +79,70 @@ pool_members decls _ = None
 abbrev pub initialised : List Decl → Init → Option (ℕ × Member)
 initialised decls i = pool_members decls (the_decl decls i.pool.text) >>= λ ms. the_member ms i.field.text
 
--- what is wanted of the constant for it
+-- what is expected of the constant for the member
 abbrev pub member_want : List Decl → Option (ℕ × Member) → Want
 member_want decls (Some (m, final_member f)) = want (type_of (outside decls) (ref_type f.target))
 member_want decls (Some (m, field_member f)) = want (type_of (outside decls) f.value_type)
 member_want decls (Some (m, lock_member x)) = wanted.Anything
 member_want decls None = wanted.Anything
 
--- a field or a final reference of a pool's member
+-- a field or a final reference of a pool's member, as the target of an `init`
 abbrev pub init_target_at : ℕ → ℕ → Option (ℕ × Member) → Option InitTarget
 init_target_at p index (Some (m, final_member f)) = Some (record { pool = p; index = index; member = m })
 init_target_at p index (Some (m, field_member f)) = Some (record { pool = p; index = index; member = m })
 init_target_at p index (Some (m, lock_member x)) = None
 init_target_at p index None = None
 
+-- the target with this name among the members of the struct
 abbrev pub init_target_in : ℕ → ℕ → Option (List Member) → List ℕ → Option InitTarget
 init_target_in p index (Some ms) q = init_target_at p index (the_member ms q)
 init_target_in p index None q = None
 
+-- the target in a pool, if the index is below its length
 abbrev pub init_target_to : List Decl → Option (ℕ × Decl) → ℕ → List ℕ → Option InitTarget
 init_target_to decls (Some (i, pool p)) index q =
     if nat_lt index p.length.value then init_target_in i index (members_of decls p.target) q else None
 init_target_to decls _ index q = None
 
--- what an `init` gives a value to, if there is such a thing
+-- the target of an `init`, if it exists
 abbrev pub init_target_of : List Decl → Init → Option InitTarget
 init_target_of decls i = init_target_to decls (the_decl decls i.pool.text) i.index.value i.field.text
 
+-- both are the same field of the same member
 abbrev pub same_init_target : InitTarget → InitTarget → Bool
 same_init_target g h = (g.pool == h.pool) && (g.index == h.index) && (g.member == h.member)
 
+-- the target exists, and is this one
 abbrev pub is_init_target : Option InitTarget → InitTarget → Bool
 is_init_target (Some h) g = same_init_target h g
 is_init_target None g = false
 
--- whether a declaration gives it a value
+-- the declaration gives a value to the target
 abbrev pub gives : List Decl → Decl → InitTarget → Bool
 gives decls (init i) g = is_init_target (init_target_of decls i) g
 gives decls _ g = false
 
--- the first of these declarations that gives it a value, and its place
+-- the first of these declarations that gives a value to the target, and its place
 abbrev pub giver : List Decl → List Decl → InitTarget → Option (ℕ × Decl)
 giver decls ds g = named (gives decls) ds g
 
+-- the constant of an `init`
 abbrev pub value_in : Option (ℕ × Decl) → Option Const
 value_in (Some (i, init j)) = Some j.value
 value_in _ = None
 
--- the constant that it is given
+-- the constant that the target is given
 abbrev pub given : List Decl → InitTarget → Option Const
 given decls g = value_in (giver decls decls g)
 
--- ---- opening values
+-- ---- initial values
 
--- what a value of the type is unless one is given: 0 or null
+-- the default value of a type: 0 or null
 abbrev pub default_of : ValueType → Value
 default_of Integer = Int (pos 0)
 default_of (Reference s) = Ref None
 
--- what a thing of the type opens with: what it is given, else its default
+-- the initial value of something of this type: the constant that it is given, or its default
 pub data Opens (decls : List Decl) (t : ValueType) : Option Const → Value → Type 0 where
   by_default : Opens decls t None (default_of t)
   by_constant : {c : Const} {v : Value} → Yields decls (wanted.Value t) c v → Opens decls t (Some c) v

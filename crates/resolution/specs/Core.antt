@@ -1,4 +1,4 @@
--- Resolved programs, without where they lie in memory.
+-- Resolved programs as plain data, without their place in memory.
 use Rattle.std.specs.Prelude.{ℕ, ℤ, Bool, List, Option}
 use Rattle.core_lang.specs.declared.value.Value.{Value}
 use Rattle.core_lang.specs.declared.value.ValueType.{ValueType}
@@ -11,6 +11,7 @@ use Rattle.core_lang.specs.declared.typed.Cell.{Cell}
 
 -- ---- expressions
 
+-- a local and the fields that lead on from it
 pub record Path : Type 0 where
   pub start : ℕ
   pub local : ℕ
@@ -18,6 +19,7 @@ pub record Path : Type 0 where
   pub in_parentheses : Bool
 
 mutual
+  -- a resolved expression
   pub data Expr : Type 0 where
     number : ℤ → Expr
     null : Expr
@@ -29,17 +31,20 @@ mutual
     owned : Expr → (structure number start owner : ℕ) → Expr
     chain : Expr → Operations → Expr
 
+  -- operators, each with its right side
   pub data Operations : Type 0 where
     no_operations : Operations
     operation : Operator → Expr → Operations → Operations
 
 mutual
+  -- a resolved condition
   pub data Condition : Type 0 where
     compare : Comparison → Expr → Expr → Condition
     negation : Condition → Condition
     all_of : Conditions → Condition → Condition
     any_of : Conditions → Condition → Condition
 
+  -- conditions of a chain
   pub data Conditions : Type 0 where
     no_conditions : Conditions
     condition : Condition → Conditions → Conditions
@@ -47,6 +52,7 @@ mutual
 -- ---- statements
 
 mutual
+  -- what a statement does
   pub data Action : Type 0 where
     bind : (local : ℕ) → Expr → Action
     set_local : (local : ℕ) → Expr → Action
@@ -59,24 +65,28 @@ mutual
     if_else : Condition → Stmts → Stmts → Action
     while_true : Condition → Stmts → Action
 
+  -- statements, each with its first byte
   pub data Stmts : Type 0 where
     no_stmts : Stmts
     stmt : (start : ℕ) → Action → Stmts → Stmts
 
--- a statement, by its start and what it does
+-- a statement: its first byte, and what it does
 pub record Stmt : Type 0 where
   pub start : ℕ
   pub action : Action
 
+-- a `return`: its first byte, and its value
 pub record Return : Type 0 where
   pub start : ℕ
   pub value : Expr
 
+-- a local: its name, its kind and its type
 pub record Local : Type 0 where
   pub name : List ℕ
   pub kind : LocalKind
   pub value_type : ValueType
 
+-- a section or a helper
 pub record Section : Type 0 where
   pub name : List ℕ
   pub parameters : ℕ
@@ -87,38 +97,46 @@ pub record Section : Type 0 where
 
 -- ---- data
 
+-- a lock class: a global lock, or a lock field of a struct
 pub data LockClass : Type 0 where
   global_lock : (name : List ℕ) → LockClass
   lock_field : (structure lock : ℕ) → LockClass
 
+-- a lock field of a struct, and its class
 pub record LockField : Type 0 where
   pub name : List ℕ
   pub class : ℕ
 
+-- a final reference of a struct, and the struct that it refers to
 pub record FinalField : Type 0 where
   pub name : List ℕ
   pub target : ℕ
 
+-- the lock that protects a field: the final references to the object that has it, and its class
 pub record Protection : Type 0 where
   pub through : List ℕ
   pub class : ℕ
 
+-- a field that can change
 pub record Field : Type 0 where
   pub name : List ℕ
   pub value_type : ValueType
   pub protection : Protection
 
+-- a struct: its members by kind
 pub record Struct : Type 0 where
   pub name : List ℕ
   pub locks : List LockField
   pub finals : List FinalField
   pub fields : List Field
 
+-- a global variable: its name, its cell and the class of its lock
 pub record GlobalVariable : Type 0 where
   pub name : List ℕ
   pub cell : ℕ
   pub class : ℕ
 
+-- an array: its first cell, its length, the type of an element and the class of its lock
 pub record Array : Type 0 where
   pub name : List ℕ
   pub first : ℕ
@@ -126,16 +144,19 @@ pub record Array : Type 0 where
   pub element_type : ValueType
   pub class : ℕ
 
+-- a pool: its first object, its length and the struct of its members
 pub record Pool : Type 0 where
   pub name : List ℕ
   pub first : ℕ
   pub length : ℕ
   pub structure : ℕ
 
+-- a call: the section and its arguments
 pub record Call : Type 0 where
   pub section : ℕ
   pub arguments : List Value
 
+-- a thread and its calls
 pub record Thread : Type 0 where
   pub name : List ℕ
   pub calls : List Call

@@ -1,4 +1,4 @@
--- What expressions are when each name is replaced by the number of what it means; and where paths lead.
+-- The resolved form of expressions, and where paths lead.
 use Rattle.std.specs.Prelude.{ℕ, min, Bool, true, false, List, [], ◌∷◌, ◌++◌, ◌==◌, Option, Some, None}
 use Rattle.syntax.specs.declared.tree.Operator as syntax_operator
 use Rattle.syntax.specs.declared.tree.Operator.TheVariants as op
@@ -26,9 +26,9 @@ use Rattle.resolution.specs.Scopes.{outside, Meaning, a_local, a_decl, nothing, 
 use Rattle.resolution.specs.Scopes.{type_of}
 use Rattle.resolution.specs.Numbers.{cells_ahead}
 
--- ---- what is given, and what is wanted
+-- ---- what is found, and what is expected
 
--- what an expression is, with its resolved form
+-- the resolved form of an expression: a value of a sort, or a condition
 pub data ResolvedExpr : Type 0 where
   value : core.Expr → Sort → ResolvedExpr
   truth : core.Condition → ResolvedExpr
@@ -42,46 +42,49 @@ fits_type (Reference s) (sort.Of Integer) = false
 fits_type (Reference s) (sort.Of (Reference r)) = s == r
 fits_type (Reference s) sort.Null = true
 
+-- a value of this sort is expected
 abbrev pub fits_sort : Want → Sort → Bool
 fits_sort Anything s = true
 fits_sort Condition s = false
 fits_sort (Value t) s = fits_type t s
 
+-- an expression of this form is expected
 abbrev pub fits : Want → ResolvedExpr → Bool
 fits w (value e s) = fits_sort w s
 fits Anything (truth c) = true
 fits Condition (truth c) = true
 fits (Value t) (truth c) = false
 
--- what `==` takes: two of one type, and null with a reference or null
+-- the sorts that `==` takes: two of one type, and null with a reference or null
 abbrev pub alike_sorts : Sort → Sort → Bool
 alike_sorts (sort.Of t) s = fits_type t s
 alike_sorts sort.Null sort.Null = true
 alike_sorts sort.Null (sort.Of Integer) = false
 alike_sorts sort.Null (sort.Of (Reference r)) = true
 
--- what is wanted where a value of the type is; anything where the type is faulty
+-- the expectation of a value for a place of this type; anything, if the type has a fault
 abbrev pub want : Option core_type.ValueType → Want
 want (Some t) = Value t
 want None = Anything
 
 -- ---- numbers, names and elements
 
+-- the path from a local that starts at this byte
 abbrev pub local_path : ℕ → ℕ → List FieldStep → core.Path
 local_path start i steps = record { start = start; local = i; fields = steps; in_parentheses = false }
 
--- the cell of the global at a place; past the limit all have one number, and the program has a fault
+-- the cell of the global at this place; past the limit all have one number, and the program has a fault
 abbrev pub cell_of : List Decl → ℕ → ℕ
 cell_of decls i = min (cells_ahead decls i) CELL_LIMIT
 
--- what stands in parentheses; a local or a path that does is marked, since it is then no stable path
+-- an expression in parentheses; a local or a path is marked, since it is then not a stable path
 abbrev pub marked : ResolvedExpr → ResolvedExpr
 marked (value (core.place p) s) = value (core.place (record p { in_parentheses = true })) s
 marked r = r
 
 -- ---- paths
 
--- where fields lead: to a value, having made these steps, to a lock, or nowhere
+-- where fields lead: to a value over these steps, to a lock, or nowhere
 pub data Walk : Type 0 where
   reached : List FieldStep → core_type.ValueType → Walk
   at_lock : Walk
@@ -91,7 +94,7 @@ pub data Walk : Type 0 where
 abbrev pub member_number : List Member → ℕ → Member → ℕ
 member_number ms i m = min (number_in ms i m) MEMBER_LIMIT
 
--- over a step that leads to a value, if its type has no fault
+-- over a step to a value, if its type has no fault
 abbrev pub over_step : List FieldStep → FieldStep → Option core_type.ValueType → Walk
 over_step steps s (Some t) = reached (steps ++ s ∷ []) t
 over_step steps s None = lost
@@ -105,6 +108,7 @@ over_member decls steps k ms (Some (i, field_member f)) =
     over_step steps (step.Field k (member_number ms i (field_member f))) (type_of (outside decls) f.value_type)
 over_member decls steps k ms None = lost
 
+-- over the member of this name of the struct k
 abbrev pub over : List Decl → List FieldStep → ℕ → Option Struct → List ℕ → Walk
 over decls steps k (Some s) q = over_member decls steps k s.members (the_member s.members q)
 over decls steps k None q = lost
@@ -121,12 +125,12 @@ abbrev pub walked : List Decl → Walk → List Ident → Walk
 walked decls w [] = w
 walked decls w (f ∷ fs) = walked decls (stepped decls w f) fs
 
--- at a local itself
+-- at the local itself
 abbrev pub at_local : Option core_type.ValueType → Walk
 at_local (Some t) = reached [] t
 at_local None = lost
 
--- where a local and fields lead
+-- where a local and its fields lead
 abbrev pub walk_from : List Decl → Meaning → List Ident → Walk
 walk_from decls (a_local i l) fs = walked decls (at_local l.value_type) fs
 walk_from decls (a_decl i d) fs = lost
@@ -144,7 +148,7 @@ operator_of op.Rem = Some Rem
 operator_of op.And = None
 operator_of op.Or = None
 
--- a chain of numbers
+-- the operators of this level take numbers
 abbrev pub IsOfNumbers : Level → Type 0
 IsOfNumbers Term = Unit {0}
 IsOfNumbers Sum = Unit {0}
@@ -159,6 +163,7 @@ comparison_of sign.LessOrEqual = LessOrEqual
 comparison_of sign.Greater = Greater
 comparison_of sign.GreaterOrEqual = GreaterOrEqual
 
+-- the comparison is `==` or `!=`
 abbrev pub IsEquality : written.Comparison → Type 0
 IsEquality sign.Equal = Unit {0}
 IsEquality sign.NotEqual = Unit {0}

@@ -1,5 +1,6 @@
--- Where each fault of names and types stands. A name whose declaration has a fault in its type causes none of its own (`has_type`,
--- `member_has_type`), but as the name of a type or of a pool's struct: there two such names could silence each other.
+-- The faults of names and types, and where they stand. A name whose declaration has a fault in its type causes no fault
+-- (`has_type`, `member_has_type`), except as the name of a type or of a pool's struct: there two such names could hide
+-- each other's faults.
 use Rattle.std.specs.Prelude.{◌≡◌, ℕ, ◌+◌, ◌≤◌, ◌<◌, List, [], ◌∷◌, ◌++◌, length, slice_get, Option, Some, None, true}
 use Rattle.std.specs.Prelude.{false, string_bytes}
 use Rattle.source.specs.declared.span.Span.{Span}
@@ -53,13 +54,14 @@ use Rattle.resolution.specs.Statements.{is_var, first_name}
 use Rattle.resolution.specs.Constants.{IsOfSort, members_of, pool_members, initialised, init_target_of, giver, given}
 use Rattle.resolution.specs.Typing.{Types, IsFinalOf}
 use Rattle.resolution.specs.Annotations.{AnnotationCursor, through_member, cursor_at}
-use Rattle.core_lang_calls.specs.Faults.{IsGraphFault}
+use Rattle.core_lang_helpers.specs.Faults.{IsGraphFault}
 use Rattle.resolution.specs.CallGraphs.{tree_graph}
 use Rattle.resolution.specs.Where.{Has, HasLink, HasBody, HasStmt, HasHelperCall, HasExpr, HasPlace, Binds, HasType}
 use Rattle.resolution.specs.Where.{NamesOwner, HasCall, HasConst, HasLock, Annotates}
 
 -- ---- where expressions and constants start
 
+-- the first byte of an expression
 abbrev pub start_of : Expr → ℕ
 start_of (int n) = n.span.start
 start_of (null at) = at.start
@@ -69,14 +71,16 @@ start_of (prefix o at e) = at.start
 start_of (chain level e links) = start_of e
 start_of (compare a c b) = start_of a
 
+-- the first byte of a constant
 abbrev pub const_start : Const → ℕ
 const_start (int_const n) = n.span.start
 const_start (negative sign n) = sign.start
 const_start (null_const at) = at.start
 const_start (member_const p n) = p.span.start
 
--- ---- E02: a number of an expression or a constant that no token can be; no tree of tokens has one
+-- ---- E02: a number of an expression or a constant above the limit of tokens; no tree of tokens has one
 
+-- a number is too large
 pub data IsTooLarge (decls : List Decl) : ℕ → Type 0 where
   expression : {sc : Scope} {w : Want} {n : Number} →
       HasExpr decls sc w (int n) → NUMBER_LIMIT < n.value → IsTooLarge decls n.span.start
@@ -85,8 +89,9 @@ pub data IsTooLarge (decls : List Decl) : ℕ → Type 0 where
   negative_constant : {w : Want} (sign : Span) {n : Number} →
       HasConst decls w (negative sign n) → NUMBER_LIMIT < n.value → IsTooLarge decls n.span.start
 
--- ---- E05: the later of two names of one name space; a local that bears an earlier local's name or a top-level name
+-- ---- E05: the later of two equal names of one name space; a local with an earlier local's or a top-level name
 
+-- a name is declared twice
 pub data IsDeclaredTwice (decls : List Decl) : ℕ → Type 0 where
   two_decls : (before behind : List Decl) (d : Decl) {x : Ident} {i : ℕ} →
       decls ≡ before ++ d ∷ behind → declared d ≡ Some x → place_of bears before x.text ≡ Some i →
@@ -101,39 +106,45 @@ pub data IsDeclaredTwice (decls : List Decl) : ℕ → Type 0 where
 
 -- ---- annotations
 
--- a walk along an annotation comes from where it stands, with a name and those behind it left, to where it stands with others left
+-- a walk along an annotation leads from a struct and the names that are left there to another one
 pub data Reaches (decls : List Decl) : AnnotationCursor → Ident → List Ident → AnnotationCursor → Ident → List Ident → Type 0 where
   stays : {st : AnnotationCursor} {y : Ident} {ys : List Ident} → Reaches decls st y ys st y ys
   goes_on : {st next to : AnnotationCursor} {y z x : Ident} {zs xs : List Ident} →
       through_member decls st (the_member st.members y.text) ≡ Some next → Reaches decls next z zs to x xs →
       Reaches decls st y (z ∷ zs) to x xs
 
--- the annotation, with its first name p, begins at an own member of the field's struct, and its walk comes there
+-- the annotation, with its first name p, begins at a member of the field's own struct, and its walk leads to this
+-- struct
 pub data Walks (decls : List Decl) : Protection → AnnotationCursor → Ident → List Ident → Type 0 where
   walks : {i : ℕ} {ms : List Member} {p : Protection} {own : ℕ × Member} {st : AnnotationCursor} {y : Ident} {ys : List Ident} →
       Annotates decls i ms p → the_member ms p.first.text ≡ Some own →
       Reaches decls (cursor_at i ms) p.first p.rest st y ys → Walks decls p st y ys
 
--- the annotation is to name a global lock: a global's, or that of a field whose struct has no member of the first name
+-- the annotation has to name a global lock: that of a global, or of a field whose struct has no member of the first
+-- name
 pub data NamesGlobal (decls : List Decl) : Protection → Type 0 where
   of_global : {p : Protection} → HasLock decls p → NamesGlobal decls p
   no_member : {i : ℕ} {ms : List Member} {p : Protection} →
       Annotates decls i ms p → the_member ms p.first.text ≡ None → NamesGlobal decls p
 
+-- the declaration is a lock
 abbrev pub IsLockDecl : Decl → Type 0
 IsLockDecl (lock x) = Unit {0}
 IsLockDecl _ = ⊥
 
+-- the member is a lock
 abbrev pub IsLockMember : Member → Type 0
 IsLockMember (lock_member x) = Unit {0}
 IsLockMember _ = ⊥
 
+-- the member is a final reference
 abbrev pub IsFinalMember : Member → Type 0
 IsFinalMember (final_member f) = Unit {0}
 IsFinalMember _ = ⊥
 
--- ---- E06: a name that means nothing where it stands, or no field
+-- ---- E06: a name that is unknown in its scope, or a field that does not exist
 
+-- a name is unknown
 pub data IsUnknown (decls : List Decl) : ℕ → Type 0 where
   in_place : {sc : Scope} {p : Place} →
       HasPlace decls sc p → meaning sc (first_name p).text ≡ nothing → IsUnknown decls (first_name p).span.start
@@ -163,46 +174,51 @@ pub data IsUnknown (decls : List Decl) : ℕ → Type 0 where
 
 -- ---- E07
 
--- sides of which `==` blames the right one
+-- sides of `==` that do not match, such that the fault is that of the right one
 abbrev pub AreUnlike : ResolvedExpr → ResolvedExpr → Type 0
 AreUnlike (value a s) (value b t) = alike_sorts s t ≡ false
 AreUnlike (value a s) (truth d) = Unit {0}
 AreUnlike (truth c) (value b t) = Unit {0}
 AreUnlike (truth c) (truth d) = ⊥
 
--- a declaration whose name alone is no value and can't be assigned to. A global is a value, and a lock has a fault of its own
+-- a declaration whose name alone is not a value and can't be assigned to. A global is a value, and a lock has a fault
+-- of its own
 abbrev pub IsNoValue : Decl → Type 0
 IsNoValue (lock x) = ⊥
 IsNoValue (global v) = ⊥
 IsNoValue _ = Unit {0}
 
--- what takes no index
+-- the name has no elements
 abbrev pub HasNoElements : Meaning → Type 0
 HasNoElements (a_decl i (array a)) = ⊥
 HasNoElements (a_decl i (pool p)) = ⊥
 HasNoElements nothing = ⊥
 HasNoElements _ = Unit {0}
 
+-- the name refers to something, which is not a struct
 abbrev pub IsNoStruct : Meaning → Type 0
 IsNoStruct (a_decl i (struct s)) = ⊥
 IsNoStruct nothing = ⊥
 IsNoStruct _ = Unit {0}
 
--- what is known and no helper
+-- the name refers to something, which is not a helper
 abbrev pub IsNoHelper : Meaning → Type 0
 IsNoHelper (a_decl i (helper s)) = ⊥
 IsNoHelper nothing = ⊥
 IsNoHelper _ = Unit {0}
 
+-- the declaration is a section
 abbrev pub IsSection : Decl → Type 0
 IsSection (atomic s) = Unit {0}
 IsSection _ = ⊥
 
+-- the declaration is a pool
 abbrev pub IsPool : Decl → Type 0
 IsPool (pool p) = Unit {0}
 IsPool _ = ⊥
 
--- an expression, a constant or an owner that isn't what is wanted, sides of `==` that are unlike, a name of the wrong kind; with its reason
+-- an expression, a constant or an owner that is not what is expected, sides of `==` that do not match, or a name of the
+-- wrong kind; with its reason
 pub data IsWrongType (decls : List Decl) : ℕ → Why → Type 0 where
   unwanted : {sc : Scope} {w : Want} {e : Expr} {s : ResolvedExpr} →
       HasExpr decls sc w e → Types sc e s → fits w s ≡ false →
@@ -240,7 +256,7 @@ pub data IsWrongType (decls : List Decl) : ℕ → Why → Type 0 where
   no_helper : {sc : Scope} {c : HelperCall} {m : Meaning} →
       HasHelperCall decls sc c → meaning sc c.helper.text ≡ m → IsNoHelper m → has_type decls m ≡ true →
       IsWrongType decls c.helper.span.start (why.Misnamed role.Helper (stands_for m))
-  -- a `let` of what a helper doesn't give back
+  -- a `let` of the result of a helper without result
   no_result : {sc : Scope} {l : CalledLocal} {t : core_type.ValueType} {i : ℕ} {s : Section} →
       HasStmt decls sc (let_call l) → type_of sc l.value_type ≡ Some t →
       helper_meant (meaning sc l.call.helper.text) ≡ Some (i, s) → s.result ≡ None →
@@ -274,8 +290,9 @@ pub data IsWrongType (decls : List Decl) : ℕ → Why → Type 0 where
       HasExpr decls sc w (chain level e links) → IsOfNumbers level → HasLink links o f → operator_of o ≡ None →
       IsWrongType decls (start_of f) why.OperatorOfConditions
 
--- ---- E08: with how many are wanted, and how many are given
+-- ---- E08: with the expected number of arguments, and the number found
 
+-- a call has the wrong number of arguments
 pub data IsWrongCount (decls : List Decl) : ℕ → Why → Type 0 where
   wrong_count : {c : Call} {i : ℕ} {s : Section} →
       HasCall decls c → the_decl decls c.section.text ≡ Some (i, atomic s) →
@@ -286,8 +303,9 @@ pub data IsWrongCount (decls : List Decl) : ℕ → Why → Type 0 where
       (length c.arguments ≡ length s.params → ⊥) →
       IsWrongCount decls c.helper.span.start (why.Counted (length s.params) (length c.arguments))
 
--- ---- E09: what can't be assigned to, with what it is
+-- ---- E09: the target of an assignment that can't be assigned to, with what it is
 
+-- the target of an assignment can't be assigned to
 pub data IsNotAssignable (decls : List Decl) : ℕ → Why → Type 0 where
   to_fixed : {sc : Scope} {x : Ident} {e : Expr} {i : ℕ} {l : Local} →
       HasStmt decls sc (assign (lone x) e) → meaning sc x.text ≡ a_local i l → is_var l.kind ≡ false →
@@ -306,6 +324,7 @@ pub data IsNotAssignable (decls : List Decl) : ℕ → Why → Type 0 where
 
 -- ---- E10, E11, E12: annotations
 
+-- a global, an array or a field has no annotation
 pub data IsUnprotected (decls : List Decl) : ℕ → Type 0 where
   bare_global : {v : Variable} → Has decls (global v) → v.protection ≡ None → IsUnprotected decls v.name.span.start
   bare_array : {a : Array} → Has decls (array a) → a.protection ≡ None → IsUnprotected decls a.name.span.start
@@ -313,7 +332,7 @@ pub data IsUnprotected (decls : List Decl) : ℕ → Type 0 where
       Has decls (struct s) → Has s.members (field_member f) → f.protection ≡ None →
       IsUnprotected decls f.name.span.start
 
--- at its end stands a field that is no lock; or it names something else than a global lock, and that alone
+-- the annotation ends at a field that is not a lock; or it has to name a global lock, and is not the name of one alone
 pub data EndsAtNoLock (decls : List Decl) : ℕ → Type 0 where
   ends_at_member : {p : Protection} {st : AnnotationCursor} {y : Ident} {i : ℕ} {m : Member} →
       Walks decls p st y [] → the_member st.members y.text ≡ Some (i, m) → (IsLockMember m → ⊥) →
@@ -322,7 +341,7 @@ pub data EndsAtNoLock (decls : List Decl) : ℕ → Type 0 where
       NamesGlobal decls p → the_decl decls p.first.text ≡ Some (i, d) → ((IsLockDecl d × (p.rest ≡ [])) → ⊥) →
       has_type decls (a_decl i d) ≡ true → EndsAtNoLock decls p.first.span.start
 
--- a name that isn't the last is a field, and no final reference
+-- a name before the last is a field, but not a final reference
 pub data PassesNonFinal (decls : List Decl) : ℕ → Type 0 where
   passes : {p : Protection} {st : AnnotationCursor} {y z : Ident} {zs : List Ident} {i : ℕ} {m : Member} →
       Walks decls p st y (z ∷ zs) → the_member st.members y.text ≡ Some (i, m) → (IsFinalMember m → ⊥) →
@@ -330,12 +349,13 @@ pub data PassesNonFinal (decls : List Decl) : ℕ → Type 0 where
 
 -- ---- E15
 
--- how many declarations of this kind there may be, where each is one
+-- the most declarations of this kind, if each counts as one
 abbrev pub limit_of : Decl → Option ℕ
 limit_of (struct s) = Some STRUCT_LIMIT
 limit_of (thread t) = Some THREAD_LIMIT
 limit_of _ = None
 
+-- a limit is exceeded
 pub data IsOverLimit (decls : List Decl) : ℕ → Type 0 where
   too_many : (before behind : List Decl) (d : Decl) {x : Ident} (n : ℕ) →
       decls ≡ before ++ d ∷ behind → declared d ≡ Some x → limit_of d ≡ Some n → n ≤ count (alike d) before →
@@ -351,7 +371,7 @@ pub data IsOverLimit (decls : List Decl) : ℕ → Type 0 where
   too_many_lock_fields : (before behind : List Decl) (s : Struct) (ahead rest : List Member) (x : Ident) →
       decls ≡ before ++ struct s ∷ behind → s.members ≡ ahead ++ lock_member x ∷ rest →
       CLASS_LIMIT ≤ total classes_of before + count is_lock ahead → IsOverLimit decls x.span.start
-  -- the one by which there are first too many
+  -- the declaration that first exceeds the limit
   too_many_objects : (before behind : List Decl) (d : Decl) {x : Ident} →
       decls ≡ before ++ d ∷ behind → declared d ≡ Some x → total objects_of before ≤ OBJECT_LIMIT →
       OBJECT_LIMIT < total objects_of before + objects_of d → IsOverLimit decls x.span.start
@@ -370,8 +390,9 @@ pub data IsOverLimit (decls : List Decl) : ℕ → Type 0 where
       Walks decls p st y (z ∷ zs) → the_member st.members y.text ≡ Some (i, final_member f) →
       FINAL_LIMIT ≤ length st.through → IsOverLimit decls p.first.span.start
 
--- ---- E16: a final reference of a pool's member that no `init` gives a value, or that one gives null
+-- ---- E16: a final reference of a pool's member without an `init`, or with one that gives null
 
+-- a final reference has no value
 pub data IsFinalMissing (decls : List Decl) : ℕ → Type 0 where
   not_given : (i : ℕ) {p : Pool} {ms : List Member} (q : List ℕ) {m : ℕ} {f : Final} {s : ℕ} (n : ℕ) →
       slice_get decls i ≡ Some (pool p) → members_of decls p.target ≡ Some ms →
@@ -381,8 +402,9 @@ pub data IsFinalMissing (decls : List Decl) : ℕ → Type 0 where
       Has decls (init i) → initialised decls i ≡ Some (m, final_member f) → struct_named decls f.target ≡ Some s →
       i.value ≡ null_const at → IsFinalMissing decls at.start
 
--- ---- E17: an index of a pool that has no such member, or a second `init` of one field
+-- ---- E17: an index past the pool's length, or a second `init` of one field
 
+-- an index is out of range, or an `init` is repeated
 pub data IsOutOfRange (decls : List Decl) : ℕ → Type 0 where
   constant_beyond : {w : Want} {x : Ident} {n : Number} {i : ℕ} {p : Pool} →
       HasConst decls w (member_const x n) → the_decl decls x.text ≡ Some (i, pool p) →
@@ -394,8 +416,9 @@ pub data IsOutOfRange (decls : List Decl) : ℕ → Type 0 where
       decls ≡ before ++ init j ∷ behind → init_target_of decls j ≡ Some g → giver decls before g ≡ Some e →
       IsOutOfRange decls j.start.start
 
--- ---- E19: a lock as a value, on the left, in an `init`, or behind `where`
+-- ---- E19: a lock as a value, as a target, in an `init`, or after `where`
 
+-- a lock is used as a value
 pub data IsLockAsValue (decls : List Decl) : ℕ → Type 0 where
   global_lock : {sc : Scope} {x y : Ident} {i : ℕ} →
       HasPlace decls sc (lone x) → meaning sc x.text ≡ a_decl i (lock y) → IsLockAsValue decls x.span.start
@@ -409,7 +432,7 @@ pub data IsLockAsValue (decls : List Decl) : ℕ → Type 0 where
 
 -- ---- a fault of the program
 
--- a fault of this code stands at this byte
+-- the program has a fault of this code at this byte
 pub data IsFault (decls : List Decl) : Code → ℕ → Type 0 where
   too_large : {p : ℕ} → IsTooLarge decls p → IsFault decls NumberTooLarge p
   declared_twice : {p : ℕ} → IsDeclaredTwice decls p → IsFault decls DeclaredTwice p
@@ -424,28 +447,29 @@ pub data IsFault (decls : List Decl) : Code → ℕ → Type 0 where
   final_missing : {p : ℕ} → IsFinalMissing decls p → IsFault decls FinalWithoutOpeningValue p
   out_of_range : {p : ℕ} → IsOutOfRange decls p → IsFault decls InitOutOfRangeOrRepeated p
   lock_as_value : {p : ℕ} → IsLockAsValue decls p → IsFault decls LockAsValue p
-  -- a circle of helpers, one that is too deep, or a call by which a section has too many locals or points
+  -- a recursion of helpers, a helper that is too deep, or a call that brings too many locals or points to a section
   of_calls : {code : Code} {p : ℕ} → IsGraphFault (tree_graph decls) code p → IsFault decls code p
 
--- a code that says all
+-- the code says all
 abbrev pub IsPlain : Code → Type 0
 IsPlain WrongType = ⊥
 IsPlain WrongArgumentCount = ⊥
 IsPlain NotAssignable = ⊥
 IsPlain _ = Unit {0}
 
--- a fault of this code stands at this byte for this reason: of a wrong type or count and of what can't be assigned to it says more than
--- the code
+-- the program has a fault of this code at this byte for this reason, which says more than the code only for a wrong
+-- type, a wrong count and a target that can't be assigned to
 pub data IsFaultFor (decls : List Decl) : Code → ℕ → Why → Type 0 where
   for_type : {p : ℕ} {w : Why} → IsWrongType decls p w → IsFaultFor decls WrongType p w
   for_count : {p : ℕ} {w : Why} → IsWrongCount decls p w → IsFaultFor decls WrongArgumentCount p w
   for_target : {p : ℕ} {w : Why} → IsNotAssignable decls p w → IsFaultFor decls NotAssignable p w
   plainly : {code : Code} {p : ℕ} → IsPlain code → IsFault decls code p → IsFaultFor decls code p why.Plain
 
--- the refusal is a fault of the program, with no detail, or for want of memory
+-- the refusal is a fault of the program, with no detail, or the failure of an allocation
 abbrev pub IsRefusal : List Decl → Refusal → Type 0
 IsRefusal decls refusal.NoMemory = Unit {0}
 IsRefusal decls (refusal.Fault f) = IsFault decls f.code f.start × (string_bytes f.detail ≡ [])
 
+-- the program has no fault of names and types
 abbrev pub HasNoFault : List Decl → Type 0
 HasNoFault decls = (code : Code) (p : ℕ) → IsFault decls code p → ⊥

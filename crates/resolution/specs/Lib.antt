@@ -17,7 +17,7 @@ pub mod Faults
 pub mod FirstFaults
 pub mod Working
 pub mod Theory
--- what the public clauses cite
+-- the definitions that public clauses cite
 pub use Rattle.resolution.specs.Resolved.{Resolves}
 pub use Rattle.resolution.specs.Faults.{IsFault, IsFaultFor, IsRefusal, HasNoFault}
 pub use Rattle.resolution.specs.Working.Laws.{TheLeastIsAFault, TheLeastHasItsReason, NoneGoesBeforeTheLeast, NoLeastIsNoFault}

@@ -1,4 +1,4 @@
--- What a reason names: what an expression is, and what a name stands for.
+-- What a reason names: the kind of an expression, and what a name refers to.
 use Rattle.syntax.specs.Trees.{Decl, lock, struct, global, array, pool, init, atomic, helper, thread}
 use Rattle.resolution.specs.declared.why.Kind.{Kind}
 use Rattle.resolution.specs.declared.why.Kind.TheVariants as kind
@@ -7,12 +7,12 @@ use Rattle.resolution.specs.declared.why.Referent.TheVariants as stands
 use Rattle.resolution.specs.Scopes.{Meaning, a_local, a_decl, nothing}
 use Rattle.resolution.specs.Expressions.{ResolvedExpr, value, truth}
 
--- what an expression is
+-- the kind of an expression
 abbrev pub kind_of : ResolvedExpr → Kind
 kind_of (value e s) = kind.Value s
 kind_of (truth c) = kind.Condition
 
--- what the name of a declaration stands for
+-- what the name of a declaration refers to
 abbrev pub referent_of : Decl → Referent
 referent_of (lock x) = stands.Lock
 referent_of (struct s) = stands.Struct
@@ -24,7 +24,7 @@ referent_of (atomic s) = stands.Section
 referent_of (helper s) = stands.Helper
 referent_of (thread t) = stands.Thread
 
--- what a name stands for
+-- what a name refers to
 abbrev pub stands_for : Meaning → Referent
 stands_for (a_local i l) = stands.Local l.kind
 stands_for (a_decl i d) = referent_of d

@@ -1,4 +1,4 @@
--- The scopes in a section or a helper, and what assignments can be to.
+-- The scopes in a section or a helper, and the targets of assignments.
 use Rattle.std.specs.Prelude.{Bool, true, false, List, []}
 use Rattle.syntax.specs.Trees.{Ident, Place, lone, element, path, Stmt, let_local, let_owned, let_call, var_local}
 use Rattle.syntax.specs.Trees.{assign, if_then, while, print, return_value, call, Stmts, no_stmts, stmt, Otherwise}
@@ -10,11 +10,13 @@ use Rattle.resolution.specs.declared.body_limits.BodyLimits.{BodyLimits}
 
 -- ---- the left side of an assignment
 
+-- the local is a `var`
 abbrev pub is_var : LocalKind → Bool
 is_var Var = true
 is_var Let = false
 is_var Parameter = false
 
+-- the first name of a place
 abbrev pub first_name : Place → Ident
 first_name (lone x) = x
 first_name (element x e) = x
@@ -22,7 +24,7 @@ first_name (path x fs) = x
 
 -- ---- scopes
 
--- the scope ahead of the parameters of a section or a helper
+-- the scope before the parameters of a section or a helper
 abbrev pub ahead_of : List Decl → BodyLimits → Section → Scope
 ahead_of decls limits s = record { decls = decls; locals = []; result = result_of decls s; limits = limits }
 
@@ -31,7 +33,7 @@ abbrev pub entry : List Decl → BodyLimits → Section → Scope
 entry decls limits s = entered (ahead_of decls limits s) s.params
 
 abbrev mutual
-  -- the scope behind a statement
+  -- the scope after a statement
   pub after : Scope → Stmt → Scope
   after sc (let_local l) = bound sc Let l.name (type_of sc l.value_type)
   after sc (let_owned l o) = bound sc Let l.name (type_of sc l.value_type)
@@ -44,11 +46,12 @@ abbrev mutual
   after sc (return_value start e) = sc
   after sc (call start c) = sc
 
+  -- the scope after an otherwise part
   pub after_else : Scope → Otherwise → Scope
   after_else sc no_else = sc
   after_else sc (else_do body close) = left sc (after_all sc body)
 
-  -- the scope behind statements
+  -- the scope after statements
   pub after_all : Scope → Stmts → Scope
   after_all sc no_stmts = sc
   after_all sc (stmt s rest) = after_all (after sc s) rest

@@ -1,5 +1,5 @@
--- The tables of the program that a tree stands for: what each declaration adds to them. What is added to a table stands
--- at its end, and its number is how many stand there before it.
+-- The tables of the program that a tree stands for, and what each declaration adds to them. An added item stands at the
+-- end of its table, and its number is the number of items before it.
 use Rattle.std.specs.Prelude.{◌≡◌, ℕ, zero, suc, ◌+◌, ◌≤◌, List, [], ◌∷◌, ◌++◌, length, Some}
 use Rattle.source.specs.declared.token.Number.{Number}
 use Rattle.syntax.specs.Trees.{Ident, Const, Member, lock_member, final_member, field_member, Final, Field, Struct}
@@ -11,7 +11,7 @@ use Rattle.core_lang.specs.declared.value.Value.TheVariants.{Ref}
 use Rattle.core_lang.specs.declared.value.ValueType.{ValueType}
 use Rattle.core_lang.specs.declared.value.ValueType.TheVariants.{Reference}
 use Rattle.core_lang.specs.declared.typed.Cell.{Cell}
-use Rattle.core_lang.specs.declared.typed.Owner.TheVariants as owner
+use Rattle.core_lang.specs.declared.typed.CellOwner.TheVariants as owner
 use Rattle.resolution.specs.declared.init_target.InitTarget.{InitTarget}
 use Rattle.resolution.specs.declared.wanted.Want.TheVariants as wanted
 use Rattle.resolution.specs.Core as core
@@ -22,7 +22,7 @@ use Rattle.resolution.specs.Constants.{Yields, AreArguments, members_of, given, 
 use Rattle.resolution.specs.Annotations.{class_of, protection_of}
 use Rattle.resolution.specs.Typing.{TypesSection}
 
--- the tables before the first declaration
+-- the empty tables, before the first declaration
 abbrev pub nothing_yet : core.Program
 nothing_yet = record {
   classes = [];
@@ -40,7 +40,7 @@ nothing_yet = record {
 
 -- ---- structs
 
--- what members of the struct s, which stands at a place, make of it; its lock fields have the classes from a number on
+-- the members of the struct s at this place, resolved; its lock fields have the classes from this number on
 pub data Makes (decls : List Decl) (place : ℕ) (s : Struct) : ℕ → List Member → core.Struct → Type 0 where
   no_member : {class : ℕ} →
       Makes decls place s class [] (record { name = s.name.text; locks = []; finals = []; fields = [] })
@@ -57,14 +57,14 @@ pub data Makes (decls : List Decl) (place : ℕ) (s : Struct) : ℕ → List Mem
       Makes decls place s class (field_member f ∷ ms)
       (record t { fields = record { name = f.name.text; value_type = v; protection = p } ∷ t.fields })
 
--- the classes of lock fields of the struct that has number k; the first of them has number n there
+-- the lock classes of the fields of struct k, the first of which is its lock field n
 abbrev pub lock_classes : ℕ → ℕ → List core.LockField → List core.LockClass
 lock_classes k n [] = []
 lock_classes k n (l ∷ ls) = core.lock_field k n ∷ lock_classes k (n + 1) ls
 
 -- ---- arrays and pools
 
--- the cells of the array that has number a
+-- the cells of the array with number a
 abbrev pub elements : ℕ → ValueType → ℕ → List Cell
 elements a t zero = []
 elements a t (suc n) =
@@ -74,8 +74,8 @@ elements a t (suc n) =
 abbrev pub next : InitTarget → InitTarget
 next at = record at { member = at.member + 1 }
 
--- what an object opens with, from a member of its struct on: for each final reference an object, and for each field a
--- cell; n fields stand before
+-- the initial values of an object, from a member of its struct on: an object for each final reference, and a cell for
+-- each field; n fields come before
 pub data OpensWith (decls : List Decl) (object : ℕ) : InitTarget → ℕ → List Member → List ℕ → List Cell → Type 0 where
   with_nothing : {at : InitTarget} {n : ℕ} → OpensWith decls object at n [] [] []
   past_lock : {at : InitTarget} {n : ℕ} {x : Ident} {ms : List Member} {os : List ℕ} {cs : List Cell} →
@@ -93,8 +93,8 @@ pub data OpensWith (decls : List Decl) (object : ℕ) : InitTarget → ℕ → L
       OpensWith decls object at n (field_member f ∷ ms) os
       (record { owner = owner.Field object n; value_type = t; opening = v } ∷ cs)
 
--- what so many objects of the pool that stands at a place, and has this number and a struct of these members, add: the
--- tables before them and with them
+-- the given number of objects of the pool at `place` with this `number`, whose struct has the members `ms`: the tables
+-- before and after they are added
 pub data AddObjects (decls : List Decl) (place number : ℕ) (ms : List Member) :
     ℕ → core.Program → core.Program → Type 0 where
   no_object : {p : core.Program} → AddObjects decls place number ms zero p p
@@ -110,12 +110,12 @@ pub data AddObjects (decls : List Decl) (place number : ℕ) (ms : List Member) 
 
 -- ---- threads
 
--- a list so many times over
+-- a list repeated the given number of times
 abbrev pub copies : {A : Type 0} → ℕ → List A → List A
 copies zero xs = []
 copies (suc n) xs = xs ++ copies n xs
 
--- the calls of what a thread does, each `repeat` multiplied out. Each is of a section, with an argument that fits for
+-- the calls of a thread's items, with each `repeat` expanded; each is a call of a section, with a fitting argument for
 -- each parameter
 pub data AreCalls (decls : List Decl) : Items → List core.Call → Type 0 where
   no_call : AreCalls decls no_items []
@@ -128,7 +128,7 @@ pub data AreCalls (decls : List Decl) : Items → List core.Call → Type 0 wher
 
 -- ---- declarations
 
--- what the declaration at a place adds: the tables before it and with it
+-- what the declaration at this place adds: the tables before and after it
 pub data Adds (decls : List Decl) (i : ℕ) : Decl → core.Program → core.Program → Type 0 where
   adds_class : {x : Ident} {p : core.Program} →
       Adds decls i (lock x) p (record p { classes = p.classes ++ core.global_lock x.text ∷ [] })
@@ -168,12 +168,12 @@ pub data Adds (decls : List Decl) (i : ℕ) : Decl → core.Program → core.Pro
       total calls_of decls ≤ CALL_LIMIT → AreCalls decls x.items calls →
       Adds decls i (thread x) p (record p { threads = p.threads ++ record { name = x.name.text; calls = calls } ∷ [] })
 
--- what declarations from a place on add, one after another
+-- what the declarations from this place on add, one after another
 pub data AddAll (decls : List Decl) : ℕ → List Decl → core.Program → core.Program → Type 0 where
   no_declaration : {i : ℕ} {p : core.Program} → AddAll decls i [] p p
   first_and_rest : {i : ℕ} {d : Decl} {ds : List Decl} {p q r : core.Program} →
       Adds decls i d p q → AddAll decls (i + 1) ds q r → AddAll decls i (d ∷ ds) p r
 
--- the tables are those that the declarations add to none
+-- the tables that the declarations build from empty ones
 abbrev pub AreTables : List Decl → core.Program → Type 0
 AreTables decls p = AddAll decls 0 decls nothing_yet p

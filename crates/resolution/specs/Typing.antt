@@ -1,5 +1,5 @@
--- Which expressions, statements and sections are well typed, and what each of them is when every name in it is replaced
--- by the number of what it means. There is a rule for each form; what no rule says isn't so.
+-- Well-typed expressions, statements and sections, and the resolved form of each, in which names are replaced by
+-- numbers. Each form has a rule; nothing else is well typed.
 use Rattle.std.specs.Prelude.{◌≡◌, ℕ, ◌≤◌, pos, List, [], ◌∷◌, ◌++◌, length, Option, Some, None, true}
 use Rattle.source.specs.Texts.{NUMBER_LIMIT, SOURCE_LIMIT}
 use Rattle.source.specs.declared.span.Span.{Span}
@@ -39,7 +39,7 @@ use Rattle.resolution.specs.Constants.{want_of}
 -- ---- expressions
 
 mutual
-  -- an expression, and what it is: a value of a sort, or a condition
+  -- an expression, and its resolved form: a value of a sort, or a condition
   pub data Types (sc : Scope) : Expr → ResolvedExpr → Type 0 where
     types_int : {n : Number} →
         n.value ≤ NUMBER_LIMIT → Types sc (int n) (value (core.number (pos n.value)) (Of Integer))
@@ -90,20 +90,20 @@ mutual
         operator_of o ≡ Some p → Types sc e (value x (Of Integer)) → TypesOperands sc links rest →
         TypesOperands sc (link o e links) (core.operation p x rest)
 
-  -- a condition and the further operands of its chain: those ahead of the last, and the last
+  -- a condition and the further operands of its chain: the conditions before the last one, and the last one
   pub data TypesTests (sc : Scope) : core.Condition → Links → core.Conditions → core.Condition → Type 0 where
     last_test : {c : core.Condition} → TypesTests sc c no_links core.no_conditions c
     one_test : {c d last : core.Condition} {o : sign.Operator} {e : Expr} {links : Links} {before : core.Conditions} →
         Types sc e (truth d) → TypesTests sc d links before last →
         TypesTests sc c (link o e links) (core.condition c before) last
 
--- an expression is a value, and one that is wanted
+-- an expression is a value, which is expected here
 pub data Gives (sc : Scope) (w : Want) : Expr → core.Expr → Type 0 where
   gives : {e : Expr} {x : core.Expr} {s : Sort} → Types sc e (value x s) → fits_sort w s ≡ true → Gives sc w e x
 
 -- ---- what statements consist of
 
--- the left side of an assignment: the type of what is assigned, and what the statement does with it
+-- the target of an assignment: the type of the assigned value, and what the statement does with it
 pub data Assigns (sc : Scope) : Place → ValueType → (core.Expr → core.Action) → Type 0 where
   assigns_local : {x : Ident} {i : ℕ} {l : Local} {t : ValueType} →
       meaning sc x.text ≡ a_local i l → is_var l.kind ≡ true → l.value_type ≡ Some t →
@@ -119,7 +119,7 @@ pub data Assigns (sc : Scope) : Place → ValueType → (core.Expr → core.Acti
       meaning sc x.text ≡ a_local i l → walk_from sc.decls (a_local i l) fs ≡ reached (base ++ step.Field k n ∷ []) t →
       Assigns sc (path x fs) t (core.set_field (local_path x.span.start i base) k n)
 
--- behind `where`: the final reference of a type that a name means
+-- after `where`: the final reference of a type that a name refers to
 pub data IsFinalOf (decls : List Decl) : ValueType → Ident → OwnerField → Type 0 where
   is_final_of : {k i : ℕ} {s : Struct} {x : Ident} {f : Final} {t : ValueType} →
       the_struct decls k ≡ Some s → the_member s.members x.text ≡ Some (i, final_member f) →
@@ -127,16 +127,16 @@ pub data IsFinalOf (decls : List Decl) : ValueType → Ident → OwnerField → 
       IsFinalOf decls (Reference k) x
       (record { structure = k; number = member_number s.members i (final_member f); value_type = t })
 
--- a value of a type, and what it is when it is tested: whether its final reference names what a local names, which has
--- the reference's type. A struct past its limit has no number here, and the program has a fault; no source has so many
--- locals
+-- a value of a type with a `where`, and the resolved form of its test: its final reference equals a local, which has
+-- the reference's type. A struct past its limit has no number here, and the program has a fault; no source has more
+-- locals than SOURCE_LIMIT
 pub data TypesOwner (sc : Scope) (t : ValueType) : Owner → core.Expr → core.Expr → Type 0 where
   types_owner : {o : Owner} {x : core.Expr} {f : OwnerField} {i : ℕ} {l : Local} →
       IsFinalOf sc.decls t o.field f → meaning sc o.local.text ≡ a_local i l → l.value_type ≡ Some f.value_type →
       f.structure ≤ STRUCT_LIMIT → i ≤ SOURCE_LIMIT →
       TypesOwner sc t o x (core.owned x f.structure f.number o.local.span.start i)
 
--- arguments, one for each parameter
+-- one argument for each parameter
 pub data TypesArguments (sc : Scope) : List Param → List Expr → List core.Expr → Type 0 where
   no_argument : TypesArguments sc [] [] []
   one_argument : {p : Param} {e : Expr} {x : core.Expr} {ps : List Param} {es : List Expr} {xs : List core.Expr} →
@@ -152,7 +152,7 @@ pub data TypesCall (sc : Scope) : HelperCall → Section → ℕ → List core.E
 -- ---- statements
 
 mutual
-  -- a statement that is no `return`, with its scope: where it starts, and what it does
+  -- a statement other than `return`, in its scope: its first byte, and what it does
   pub data TypesStmt : Scope → Stmt → ℕ → core.Action → Type 0 where
     types_let : {sc : Scope} {l : tree.Local} {t : ValueType} {x : core.Expr} →
         type_of sc l.value_type ≡ Some t → Gives sc (Value t) l.value x →
@@ -186,7 +186,7 @@ mutual
     types_call_alone : {sc : Scope} {start : Span} {c : HelperCall} {s : Section} {n : ℕ} {xs : List core.Expr} →
         TypesCall sc c s n xs → TypesStmt sc (call start c) start.start (core.call n xs None)
 
-  -- statements, with the scope at the first of them, and the `return` that stands last, if one does
+  -- statements, in the scope at the first of them, and the `return` at their end, if there is one
   pub data TypesBody : Scope → Stmts → core.Stmts → Option core.Return → Type 0 where
     types_none : {sc : Scope} → TypesBody sc no_stmts core.no_stmts None
     types_return : {sc : Scope} {start : Span} {e : Expr} {x : core.Expr} →
@@ -200,20 +200,20 @@ mutual
 
 -- ---- sections and helpers
 
--- locals, the types of all without a fault
+-- locals whose types all have no fault
 pub data TypesLocals : List Local → List core.Local → Type 0 where
   no_local : TypesLocals [] []
   one_local : {l : Local} {t : ValueType} {ls : List Local} {rest : List core.Local} →
       l.value_type ≡ Some t → TypesLocals ls rest →
       TypesLocals (l ∷ ls) (record { name = l.name; kind = l.kind; value_type = t } ∷ rest)
 
--- the type of a result, and the `return`: both, or neither
+-- a result type and a `return`: both, or neither
 pub data TypesResult (decls : List Decl) : Option tree.ValueType → Option core.Return → Option ValueType → Type 0 where
   no_result : TypesResult decls None None None
   one_result : {t : tree.ValueType} {r : core.Return} {u : ValueType} →
       type_of (outside decls) t ≡ Some u → TypesResult decls (Some t) (Some r) (Some u)
 
--- a section or a helper, with how many parameters and locals it may have
+-- a section or a helper, with its limits of parameters and locals
 pub data TypesSection (decls : List Decl) (limits : BodyLimits) : Section → core.Section → Type 0 where
   types_section : {s : Section} {locals : List core.Local} {stmts : core.Stmts} {r : Option core.Return}
       {t : Option ValueType} →

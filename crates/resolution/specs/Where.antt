@@ -29,26 +29,26 @@ use Rattle.resolution.specs.Typing.{Assigns}
 use Rattle.resolution.specs.Constants.{want_of, initialised, member_want}
 use Rattle.resolution.specs.Statements.{ahead_of, entry}
 
--- it is one of the list
+-- the item is one of the list
 pub data Has {A : Type 0} : List A → A → Type 0 where
   first : {x : A} {xs : List A} → Has (x ∷ xs) x
   further : {x y : A} {xs : List A} → Has xs x → Has (y ∷ xs) x
 
 -- ---- expressions
 
--- what operands of a chain are to be
+-- what is expected of the operands of a chain
 abbrev pub operand_want : Level → Want
 operand_want Term = Value Integer
 operand_want Sum = Value Integer
 operand_want Conjunction = Condition
 operand_want Disjunction = Condition
 
--- what the operand behind a prefix sign is to be
+-- what is expected of the operand of a prefix sign
 abbrev pub prefix_want : Prefix → Want
 prefix_want Negate = Value Integer
 prefix_want Not = Condition
 
--- what each side of a comparison is to be by itself
+-- what is expected of each side of a comparison by itself
 abbrev pub side_want : written.Comparison → Want
 side_want sign.Equal = Anything
 side_want sign.NotEqual = Anything
@@ -57,12 +57,12 @@ side_want sign.LessOrEqual = Value Integer
 side_want sign.Greater = Value Integer
 side_want sign.GreaterOrEqual = Value Integer
 
--- an operator, with the operand behind it, is one of the chain's
+-- the chain has this operator with this operand
 pub data HasLink : Links → Operator → Expr → Type 0 where
   this_link : {o : Operator} {e : Expr} {rest : Links} → HasLink (link o e rest) o e
   later_link : {o p : Operator} {e f : Expr} {rest : Links} → HasLink rest p f → HasLink (link o e rest) p f
 
--- in an expression of which something is wanted, another stands, of which something is wanted
+-- an expression of which something is expected contains another one, of which something is expected
 pub data Within : Want → Expr → Want → Expr → Type 0 where
   itself : {w : Want} {e : Expr} → Within w e w e
   in_parentheses : {w v : Want} {at : Span} {e x : Expr} → Within Anything e v x → Within w (paren at e) v x
@@ -80,7 +80,7 @@ pub data Within : Want → Expr → Want → Expr → Type 0 where
 
 -- ---- statements
 
--- in statements, with the scope at the first of them, one stands, with the scope there
+-- the statements, in the scope at the first of them, contain a statement in its scope
 pub data Among : Scope → Stmts → Scope → Stmt → Type 0 where
   here : {sc : Scope} {s : Stmt} {rest : Stmts} → Among sc (stmt s rest) sc s
   later : {sc sc' : Scope} {s s' : Stmt} {rest : Stmts} → Among (after sc s) rest sc' s' → Among sc (stmt s rest) sc' s'
@@ -92,19 +92,19 @@ pub data Among : Scope → Stmts → Scope → Stmt → Type 0 where
   in_while : {sc sc' : Scope} {s' : Stmt} {start close : Span} {e : Expr} {body rest : Stmts} →
       Among sc body sc' s' → Among sc (stmt (while start e body close) rest) sc' s'
 
--- an argument of a call, and what is wanted of it: what its parameter takes, where a helper is called that has as many; anything, where no
--- helper is called
+-- an argument of a call, and what is expected of it: a value for its parameter, if the call is one of a helper with
+-- this many; anything, if it is not a call of a helper
 pub data IsArgument (decls : List Decl) : Option (ℕ × Section) → List Expr → Want → Expr → Type 0 where
   for_parameter : {i : ℕ} {s : Section} (k : ℕ) {p : Param} {es : List Expr} {e : Expr} →
       length es ≡ length s.params → slice_get s.params k ≡ Some p → slice_get es k ≡ Some e →
       IsArgument decls (Some (i, s)) es (want_of decls p) e
   for_nothing : {es : List Expr} {e : Expr} → Has es e → IsArgument decls None es Anything e
 
--- an argument of this call, where it stands
+-- an argument of this call in its scope
 abbrev pub Passes : Scope → HelperCall → Want → Expr → Type 0
 Passes sc c w e = IsArgument sc.decls (helper_meant (meaning sc c.helper.text)) c.arguments w e
 
--- an expression of a statement, and what is wanted of it
+-- an expression of a statement, and what is expected of it
 pub data Asks : Scope → Stmt → Want → Expr → Type 0 where
   of_let : {sc : Scope} {l : Local} → Asks sc (let_local l) (want (type_of sc l.value_type)) l.value
   of_owned : {sc : Scope} {l : Local} {o : Owner} → Asks sc (let_owned l o) (want (type_of sc l.value_type)) l.value
@@ -124,22 +124,22 @@ pub data Asks : Scope → Stmt → Want → Expr → Type 0 where
   of_call_alone : {sc : Scope} {start : Span} {c : HelperCall} {w : Want} {e : Expr} → Passes sc c w e →
       Asks sc (call start c) w e
 
--- a section or a helper of the program, with how many parameters and locals it may have
+-- a section or a helper of the program, with its limits of parameters and locals
 pub data HasBody (decls : List Decl) : BodyLimits → Section → Type 0 where
   of_section : {x : Section} → Has decls (atomic x) → HasBody decls section_limits x
   of_helper : {x : Section} → Has decls (helper x) → HasBody decls helper_limits x
 
--- a statement of the program, with the scope there
+-- a statement of the program, in its scope
 pub data HasStmt (decls : List Decl) : Scope → Stmt → Type 0 where
   in_body : {limits : BodyLimits} {x : Section} {sc : Scope} {s : Stmt} →
       HasBody decls limits x → Among (entry decls limits x) x.body.stmts sc s → HasStmt decls sc s
 
--- a call of a helper, with the scope there
+-- a call of a helper, in its scope
 pub data HasHelperCall (decls : List Decl) : Scope → HelperCall → Type 0 where
   by_let : {sc : Scope} {l : CalledLocal} → HasStmt decls sc (let_call l) → HasHelperCall decls sc l.call
   by_itself : {sc : Scope} {start : Span} {c : HelperCall} → HasStmt decls sc (call start c) → HasHelperCall decls sc c
 
--- an expression of the program, with the scope there and what is wanted of it
+-- an expression of the program in its scope, and what is expected of it
 pub data HasExpr (decls : List Decl) : Scope → Want → Expr → Type 0 where
   in_stmt : {sc : Scope} {s : Stmt} {w v : Want} {e x : Expr} →
       HasStmt decls sc s → Asks sc s w e → Within w e v x → HasExpr decls sc v x
@@ -151,7 +151,7 @@ pub data HasPlace (decls : List Decl) : Scope → Place → Type 0 where
 
 -- ---- names
 
--- a local that the program declares, with the scope ahead of it
+-- a local that the program declares, in the scope before it
 pub data Binds (decls : List Decl) : Scope → Ident → Type 0 where
   parameter : {limits : BodyLimits} {x : Section} (p : Param) (before behind : List Param) →
       HasBody decls limits x → x.params ≡ before ++ p ∷ behind → Binds decls (entered (ahead_of decls limits x) before) p.name
@@ -160,7 +160,7 @@ pub data Binds (decls : List Decl) : Scope → Ident → Type 0 where
   a_called_let : {sc : Scope} {l : CalledLocal} → HasStmt decls sc (let_call l) → Binds decls sc l.name
   a_var : {sc : Scope} {l : Local} → HasStmt decls sc (var_local l) → Binds decls sc l.name
 
--- a type of the program, with the scope there
+-- a type of the program, in its scope
 pub data HasType (decls : List Decl) : Scope → ValueType → Type 0 where
   of_global : {v : Variable} → Has decls (global v) → HasType decls (outside decls) v.value_type
   of_array : {a : Array} → Has decls (array a) → HasType decls (outside decls) a.value_type
@@ -179,7 +179,7 @@ pub data HasType (decls : List Decl) : Scope → ValueType → Type 0 where
   of_a_called_let : {sc : Scope} {l : CalledLocal} → HasStmt decls sc (let_call l) → HasType decls sc l.value_type
   of_a_var : {sc : Scope} {l : Local} → HasStmt decls sc (var_local l) → HasType decls sc l.value_type
 
--- a name behind `where` that is to be a final reference's, for a value of the struct with these members
+-- a name after `where` that has to be that of a final reference, for a value of the struct with these members
 pub data NamesOwner (decls : List Decl) : List Member → Ident → Type 0 where
   names_owner : {sc : Scope} {l : Local} {o : Owner} {k : ℕ} {s : Struct} →
       HasStmt decls sc (let_owned l o) → type_of sc l.value_type ≡ Some (Reference k) → the_struct decls k ≡ Some s →
@@ -187,16 +187,18 @@ pub data NamesOwner (decls : List Decl) : List Member → Ident → Type 0 where
 
 -- ---- threads and constants
 
--- a call of what a thread does
+-- a call of a thread's items
 pub data InItems : Items → Call → Type 0 where
   this_call : {c : Call} {rest : Items} → InItems (item (call c) rest) c
   in_repeat : {n : Number} {c : Call} {is rest : Items} → InItems is c → InItems (item (repeat n is) rest) c
   later_call : {i : Item} {c : Call} {rest : Items} → InItems rest c → InItems (item i rest) c
 
+-- a call of one of the program's threads
 pub data HasCall (decls : List Decl) : Call → Type 0 where
   in_thread : {t : Thread} {c : Call} → Has decls (thread t) → InItems t.items c → HasCall decls c
 
--- a constant that is judged, and what is wanted of it: a global's, an `init`'s, or an argument of a call that has as many as it should
+-- a constant that is checked, and what is expected of it: that of a global, of an `init`, or an argument of a call with
+-- the right number of them
 pub data HasConst (decls : List Decl) : Want → Const → Type 0 where
   opening : {v : Variable} {c : Const} →
       Has decls (global v) → v.value ≡ Some c → HasConst decls (want (type_of (outside decls) v.value_type)) c

@@ -14,19 +14,20 @@ use std::marker::Model;
 pub struct Finding {
     /// What is wrong.
     pub code: Code,
-    /// The byte of the text where it stands, counted from 0.
+    /// The byte of the text at which the fault is, from 0.
     pub start: usize,
     /// Why it is wrong.
     pub why: Why,
 }
 
-/// How many faults of a program are kept at most.
+/// The most faults of a program that are kept.
 pub const MOST: usize = 20;
 
-/// The first faults so far, by rising place and code: at most [`MOST`], each place and code once; and whether there were more.
+/// The first faults so far, at most [`MOST`], ordered by place and code with each pair once, and whether more were
+/// found.
 #[derive(Drop)]
 pub struct Firsts {
-    // (one more than are kept, for the one that is put in its place)
+    // (one more than are kept, for an insertion)
     kept: ArrayVec<Finding, 21>,
     more: bool,
 }
@@ -50,14 +51,14 @@ impl Finding {
         Finding { code, start, why }
     }
 
-    /// A fault of which no more is known than its code says.
+    /// A fault whose code says all that is known.
     pub fn plain(code: Code, start: usize) -> Finding
         ensures { result ≡ told code start Plain }
     {
         Finding::new(code, start, Why::Plain)
     }
 
-    /// Whether this fault is told before another: it starts before it, or at the same byte with a lower code.
+    /// Whether this fault is reported before `other`: it starts earlier, or at the same byte with a lower code.
     pub fn precedes(self, other: Finding) -> bool
         ensures { result ≡ goes_ahead self other }
     {
@@ -67,7 +68,7 @@ impl Finding {
 }
 
 impl Default for Firsts {
-    /// No fault.
+    /// No faults.
     fn default() -> Firsts
         ensures { result ≡ nothing_found }
     {
@@ -78,7 +79,7 @@ impl Default for Firsts {
 impl Firsts {
     ghost use Rattle.std.specs.Prelude.{is_some, not};
 
-    /// No fault.
+    /// No faults.
     pub fn new() -> Firsts
         ensures { result ≡ nothing_found }
     {
@@ -88,35 +89,35 @@ impl Firsts {
         }
     }
 
-    /// The faults, by rising place and code.
+    /// The faults, ordered by place and code.
     pub fn kept(&self) -> &[Finding]
         ensures { result.now ≡ self.now.kept }
     {
         self.kept.as_slice()
     }
 
-    /// Whether there were more than are kept.
+    /// Whether more faults were found than are kept.
     pub fn has_more(&self) -> bool
         ensures { result ≡ self.now.more }
     {
         self.more
     }
 
-    /// The first fault: none goes before it.
+    /// The first fault, before which no other one comes.
     pub fn first(&self) -> Option<Finding>
         ensures { result ≡ first self.now }
     {
         self.kept.as_slice().first().copied()
     }
 
-    /// Whether there is no fault.
+    /// Whether no fault was found.
     pub fn is_empty(&self) -> bool
         ensures { is_some (first self.now) ≡ not result }
     {
         self.kept.is_empty()
     }
 
-    /// Where a fault is put among those that are kept, or `None` where one of its code and place is.
+    /// The index at which a fault is inserted, or `None` if one with its code and place is kept.
     fn place(&self, found: Finding) -> Option<usize>
         ensures { result ≡ place_in 0 found self.now.kept }
     {
@@ -133,7 +134,7 @@ impl Firsts {
 }
 
 impl Default for Finding {
-    /// What the room that no fault has taken yet holds.
+    /// The content of the unused room.
     fn default() -> Finding {
         Finding::plain(Code::UnknownName, 0)
     }
@@ -141,8 +142,8 @@ impl Default for Finding {
 
 /// Notes a fault with its reason.
 ///
-/// A fault that has the code and place of a kept one, or that stands behind [`MOST`] others, isn't kept.
-pub fn note_found(found: Finding, firsts: &mut Firsts)
+/// A fault with the code and place of a kept one is not kept, nor is one that comes after [`MOST`] others.
+pub fn report_found(found: Finding, firsts: &mut Firsts)
     ensures { firsts.new ≡ with_found firsts.old found }
 {
     if let Some(at) = firsts.place(found) {
@@ -154,25 +155,25 @@ pub fn note_found(found: Finding, firsts: &mut Firsts)
     }
 }
 
-/// Notes a fault with its reason where there is one; else `firsts` stays as it is.
-pub fn note_found_if(is_fault: bool, found: Finding, firsts: &mut Firsts)
+/// Notes a fault with its reason if `is_fault`; otherwise `firsts` does not change.
+pub fn report_found_if(is_fault: bool, found: Finding, firsts: &mut Firsts)
     ensures { firsts.new ≡ found_in firsts.old (found_if is_fault found) }
 {
     if is_fault {
-        note_found(found, firsts);
+        report_found(found, firsts);
     }
 }
 
-/// Notes a fault of which no more is known than its code says.
-pub fn note(code: Code, start: usize, firsts: &mut Firsts)
+/// Notes a fault whose code says all that is known.
+pub fn report(code: Code, start: usize, firsts: &mut Firsts)
     ensures { firsts.new ≡ with_found firsts.old (told code start Plain) }
 {
-    note_found(Finding::plain(code, start), firsts);
+    report_found(Finding::plain(code, start), firsts);
 }
 
-/// The same where there is one; else `firsts` stays as it is.
-pub fn note_if(is_fault: bool, code: Code, start: usize, firsts: &mut Firsts)
+/// Notes such a fault if `is_fault`; otherwise `firsts` does not change.
+pub fn report_if(is_fault: bool, code: Code, start: usize, firsts: &mut Firsts)
     ensures { firsts.new ≡ found_in firsts.old (found_if is_fault (told code start Plain)) }
 {
-    note_found_if(is_fault, Finding::plain(code, start), firsts);
+    report_found_if(is_fault, Finding::plain(code, start), firsts);
 }

@@ -1,14 +1,14 @@
-//! What holds of resolution and of faults: functions that do nothing, and whose contracts are the laws.
+//! Laws of resolution and of faults: functions that do nothing, and whose contracts are the laws.
 
 ghost use Rattle.resolution.specs.Working.Laws.{ExpressionsByRules, FoundAreAssigned, AssignedAreFound, WantedAreAsked, FinalsByRules, StatementsByRules, BodiesByRules, SectionsByRules};
 ghost use Rattle.resolution.specs.Working.Laws.{SortsByRules, ConstantsByRules, ArgumentsByRules, OpeningsByRules, ReferencesByRules};
 ghost use Rattle.resolution.specs.Working.Laws.{TheFirstsAreFirstFaults, TheFirstIsTheLeast};
 ghost use Rattle.resolution.specs.Working.Laws.{TheLeastIsAFault, TheLeastHasItsReason, NoneGoesBeforeTheLeast, NoLeastIsNoFault, HaveAtMostOneLeast, FaultlessAreResolved, ResolvedByRules, RulesAreResolved, StandsForOne, GraphOfResolved, ResolvedAreChecked, WithoutHelpersAreWellFormed};
 
-use core_lang_calls::laws::{faultless_keep_limits, listed_faults};
+use core_lang_helpers::call_laws::{faultless_keep_limits, listed_faults};
 
-/// The least fault of the list is a fault of the program for the reason that is with it, and no fault of the program goes before it;
-/// and where the list is empty, the program has no fault.
+/// A law: the least fault of the list is a fault of the program for its reason, and no fault of the program comes
+/// before it. If the list is empty, the program has no fault.
 pub fn least_fault()
     ensures fault { TheLeastIsAFault }
     ensures reason { TheLeastHasItsReason }
@@ -18,7 +18,7 @@ pub fn least_fault()
     listed_faults();
 }
 
-/// The first faults of the list are first faults of the program, and the first of them is the least.
+/// A law: the first faults of the list are first faults of the program, and the first of them is the least.
 pub fn first_faults()
     ensures firsts { TheFirstsAreFirstFaults }
     ensures first { TheFirstIsTheLeast }
@@ -26,33 +26,33 @@ pub fn first_faults()
     listed_faults();
 }
 
-/// A program has at most one least fault: two faults before which none goes are the same.
+/// A law: a program has at most one least fault, before which no other one comes.
 pub fn one_least()
     ensures { HaveAtMostOneLeast }
 {}
 
-/// A program with no fault is resolved.
+/// A law: a program without faults is resolved.
 pub fn faultless_are_resolved()
     ensures { FaultlessAreResolved }
 {}
 
-/// What a tree stands for is built as the rules say, and what they say is built.
+/// A law: the program that a tree stands for is exactly the one that the rules build.
 pub fn resolved_by_rules()
     ensures there { ResolvedByRules }
     ensures back { RulesAreResolved }
 {}
 
-/// A tree stands for at most one program.
+/// A law: a tree stands for at most one program.
 pub fn one_program()
     ensures { StandsForOne }
 {}
 
-/// The graph of what a tree with no fault calls is that of the program to which it is resolved.
+/// A law: the call graph of a tree without faults is that of the resolved program.
 pub fn graph_of_resolved()
     ensures { GraphOfResolved }
 {}
 
-/// What a program with no fault is resolved to is as an accepted program should be.
+/// A law: the resolution of a program without faults is a checked program.
 pub fn resolved_are_checked()
     ensures { ResolvedAreChecked }
 {
@@ -60,13 +60,13 @@ pub fn resolved_are_checked()
     faultless_keep_limits();
 }
 
-/// What a program with no fault, in which no helper is declared, is resolved to is well formed.
+/// A law: the resolution of a program without faults and without helpers is well formed.
 pub fn without_helpers()
     ensures { WithoutHelpersAreWellFormed }
 {}
 
-/// What the code computes of expressions, the left sides of assignments, what stands behind `where`, statements, bodies
-/// and sections is what the rules of typing say of them, and the other way round.
+/// A law: what the code computes for expressions, left sides, `where`, statements, bodies and sections is exactly what
+/// the rules of typing say.
 pub fn typed_by_rules()
     ensures expressions { ExpressionsByRules }
     ensures found { FoundAreAssigned }
@@ -78,8 +78,8 @@ pub fn typed_by_rules()
     ensures sections { SectionsByRules }
 {}
 
-/// What the code computes of constants, of arguments, of what things open with and of what final references lead to is
-/// what the rules of constants say of them, and the other way round.
+/// A law: what the code computes for constants, arguments, initial values and final references is exactly what the
+/// rules of constants say.
 pub fn constants_by_rules()
     ensures sorts { SortsByRules }
     ensures constants { ConstantsByRules }

@@ -1,22 +1,22 @@
-//! What an expression gives, and what is wanted of it.
+//! What an expression is, and what is expected of it.
 
 use core_lang::value::ValueType;
 
-/// What an expression or a constant gives, as far as types tell.
+/// The sort of an expression or a constant.
 #[derive(Clone, Copy, Debug, PartialEq, Eq)]
 pub enum Sort {
-    /// A number, or a reference to an object of a struct.
+    /// A value of this type.
     Of(ValueType),
     /// `null`, which fits every reference.
     Null,
 }
 
-/// What is wanted where an expression stands.
+/// What is expected of an expression.
 #[derive(Clone, Copy, Debug, PartialEq, Eq)]
 pub enum Want {
-    /// Anything will do: what it is for has no type.
+    /// Anything: what it is used for has no type.
     Anything,
-    /// What is true or false.
+    /// A condition.
     Condition,
     /// A value of the type.
     Value(ValueType),

@@ -1,24 +1,24 @@
-//! Why a fault of names and types is one, where its code does not say it.
+//! The reason of a fault of names and types, if its code does not say it.
 
 use crate::wanted::{Sort, Want};
 use core_lang::tree::LocalKind;
 use core_lang::value::ValueType;
 
-/// What an expression or a constant is, as far as types tell.
+/// What an expression or a constant is.
 #[derive(Clone, Copy, Debug, PartialEq, Eq)]
 pub enum Kind {
-    /// What is true or false.
+    /// A condition.
     Condition,
-    /// A value, by its sort.
+    /// A value of this sort.
     Value(Sort),
 }
 
-/// What a name is to stand for where it is used.
+/// What a name is expected to refer to.
 #[derive(Clone, Copy, Debug, PartialEq, Eq)]
 pub enum Role {
     /// A value: a local or a global.
     Value,
-    /// What has elements: an array or a pool.
+    /// Something with elements: an array or a pool.
     Elements,
     /// A local.
     Local,
@@ -30,14 +30,14 @@ pub enum Role {
     Section,
     /// A helper.
     Helper,
-    /// What is assigned to: a `var`, a global or an element of an array.
+    /// The target of an assignment: a `var`, a global or an element of an array.
     Target,
 }
 
-/// What a name stands for.
+/// What a name refers to.
 #[derive(Clone, Copy, Debug, PartialEq, Eq)]
 pub enum Referent {
-    /// Nothing: it is unknown there.
+    /// Nothing: the name is unknown.
     Nothing,
     /// A parameter, a `let` or a `var`.
     Local(LocalKind),
@@ -59,30 +59,30 @@ pub enum Referent {
     Thread,
 }
 
-/// Why a fault of names and types is one.
+/// The reason of a fault of names and types.
 #[derive(Clone, Copy, Debug, PartialEq, Eq)]
 pub enum Why {
     /// The code says it.
     Plain,
-    /// One thing is wanted, and another is there.
+    /// The first is expected, and the second is found.
     Unwanted(Want, Kind),
-    /// The sides of a comparison are unlike: the left one, the right one.
+    /// The sides of a comparison do not match: the left one, and the right one.
     Unlike(Kind, Kind),
-    /// A value of this type is wanted, and the helper that is called has no result.
+    /// A value of this type is expected, and the called helper has no result.
     NoResult(ValueType),
-    /// A `where` wants a reference, and the `let` has an int.
+    /// A `where` needs a reference, and the type of the `let` is `int`.
     OwnedInt,
-    /// A `where` wants a final reference, and the field can change.
+    /// A `where` needs a final reference, and the field can change.
     OwnerField,
-    /// A name is to stand for the one, and stands for the other.
+    /// A name is expected to refer to the first, and refers to the second.
     Misnamed(Role, Referent),
-    /// A field is named of an int.
+    /// A field of an `int` is named.
     FieldOfInt,
-    /// A field is named of a lock.
+    /// A field of a lock is named.
     FieldOfLock,
-    /// An operator of conditions stands among numbers.
+    /// An operator of conditions is used on numbers.
     OperatorOfConditions,
-    /// So many arguments are wanted, and so many are given.
+    /// The first number of arguments is expected, and the second is found.
     Counted(usize, usize),
     /// A final reference is assigned to.
     FinalTarget,

@@ -55,7 +55,7 @@ module _ (own more : List ℕ) (groups : List (List (List ℕ))) where
       ∙ ap (λ (bytes : List ℕ). flat_map both (map (piece own groups) xs) ++ bytes) (drop-append-le last own more within)
       ∙ sym (append_assoc (flat_map both (map (piece own groups) xs)) (drop last own) more)
 
--- a growth adds a text where it isn't refused
+-- a growth adds a text, unless the allocation fails
 pub own_added : {T E : Type 0} (r : Result T E) (own grown more : List ℕ) (groups : List (List (List ℕ))) (count : ℕ) (xs : List Insert) (last : ℕ) (rope : RopeOf) →
     made own groups xs last ≡ rope → (last ≤ length own) × All (IsIn (length own) count) xs → grown ≡ (if is_ok r then own ++ more else own) →
     OnOk r (AddsTo more rope (made grown groups xs last))
@@ -63,7 +63,7 @@ own_added (Ok x) own grown more groups count xs last rope is well e =
     (own_grown own more groups count grown xs last well.1 well.0 e ∙ ap (λ v. rope_text v ++ more) is, ap (λ v. v.groups) is)
 own_added (Err x) own grown more groups count xs last rope is well e = record {}
 
--- ---- one insert more, behind all
+-- ---- one insert more, after all
 
 module _ (own : List ℕ) (groups : List (List (List ℕ))) (x : Insert) (at_end : x.at ≡ length own) where
   last_piece : piece own groups x ≡ (drop x.from own, part_of groups x.group x.number)
@@ -89,7 +89,7 @@ module _ (own : List ℕ) (groups : List (List (List ℕ))) (x : Insert) (at_end
       ∙ ap (λ (bytes : List ℕ). flat_map both before ++ bytes) (append-nil (rest ++ part))
       ∙ sym (append_assoc (flat_map both before) rest part)
 
--- a push adds it where it isn't refused
+-- a push adds it, unless the allocation fails
 pub part_added : (own : List ℕ) (groups : List (List (List ℕ))) (x : Insert) (xs grown : List Insert) (rope : RopeOf) →
     x.at ≡ length own → made own groups xs x.from ≡ rope → grown ≡ xs ++ x ∷ [] →
     AddsTo (part_of groups x.group x.number) rope (made own groups grown x.at)

@@ -1,4 +1,4 @@
 pub mod Working
 pub mod Theory
--- what the public clauses cite
+-- the definitions that public clauses cite
 pub use Rattle.rope.specs.Working.Ropes.{RopeOf, rope_text, part_of, Grows, AddsTo}

@@ -1,6 +1,6 @@
-//! Texts that are long because long parts recur: a [`Rope`] keeps each such part once, and where it comes in.
+//! Long texts with recurring parts: a [`Rope`] keeps each such part once, and the places where it is inserted.
 //!
-//! What a rope's text is, and how it grows, says `specs/Working/Ropes.antt`.
+//! `specs/Working/Ropes.antt` defines the text of a rope and how it grows.
 #![tactic(auto)]
 
 mod text;

@@ -7,7 +7,7 @@ ghost use Rattle.rope.specs.Working.Ropes.{rope_text, AddsTo, groups_of, part_of
 use std::alloc::{AllocError, Global};
 use std::marker::Model;
 
-// A part of a group comes in behind bytes that are the rope's own: behind those from one byte up to another.
+// An insertion of a part of a group, between bytes that are the rope's own.
 #[derive(Clone, Copy)]
 struct Insert {
     from: usize,
@@ -16,20 +16,20 @@ struct Insert {
     number: usize,
 }
 
-/// A text. As a value it is what of it is its own, with the parts that come in between, and the groups of parts that it
-/// keeps. A part that recurs takes 32 bytes each time, however long it is; a short one is copied.
+/// A text, as bytes of its own, insertions of shared parts between them, and the groups of parts that it keeps. An
+/// insertion takes 32 bytes, however long the part is; a short part is copied.
 #[derive(Drop)]
 pub struct Rope {
     own: Vec<u8>,
     groups: Vec<Vec<String>>,
     inserts: Vec<Insert>,
-    // Where the last of them comes in.
+    // The place of the last insertion.
     last: usize,
     // Room for the digits of a number.
     digits: String,
 }
 
-// A part that is no longer than this is copied.
+// A part of at most this many bytes is copied.
 const COPIED: usize = 256;
 
 impl Model for Rope {
@@ -50,7 +50,7 @@ impl Model for Rope {
 }
 
 impl Rope {
-    /// No text, and no parts.
+    /// An empty text, with no parts.
     pub fn new(alloc: Global) -> Rope
         ensures { result ≡ record { inserted = []; rest = []; groups = [] } }
     {
@@ -63,14 +63,14 @@ impl Rope {
         }
     }
 
-    /// A text of its own.
+    /// A rope that is `text`.
     pub fn of(alloc: Global, text: String) -> Rope
         ensures { result ≡ record { inserted = []; rest = string_bytes text; groups = [] } }
     {
         Rope::of_bytes(alloc, text.into_bytes())
     }
 
-    /// Bytes of its own, which may be no UTF-8.
+    /// A rope that is `bytes`, which need not be UTF-8.
     pub fn of_bytes(alloc: Global, bytes: Vec<u8>) -> Rope
         ensures { result ≡ record { inserted = []; rest = bytes.items; groups = [] } }
     {
@@ -83,14 +83,14 @@ impl Rope {
         }
     }
 
-    /// Puts a text behind. The one error is a refused growth.
+    /// Appends `text`. The only error is a failed allocation.
     pub fn push_str(&mut self, text: &str) -> Result<(), AllocError>
         ensures { OnOk result (AddsTo text.now self.old self.new) }
     {
         self.own.extend_from_slice(text.as_bytes())
     }
 
-    /// Puts a number behind, in decimal. The one error is a refused growth.
+    /// Appends `number` in decimal. The only error is a failed allocation.
     pub fn push_number(&mut self, number: usize) -> Result<(), AllocError>
         ensures { OnOk result (AddsTo (decimal number) self.old self.new) }
     {
@@ -99,7 +99,7 @@ impl Rope {
         self.own.extend_from_slice(self.digits.as_bytes())
     }
 
-    /// Keeps a group of parts; its number among the groups. The one error is a refused growth.
+    /// Keeps a group of parts and returns its index among the groups. The only error is a failed allocation.
     pub fn keep(&mut self, parts: Vec<String>) -> Result<usize, AllocError>
         ensures number { IfOk result (λ number. number ≡ length self.old.groups) }
         ensures groups { OnOk result (self.new.groups ≡ self.old.groups ++ map string_bytes parts.items ∷ []) }
@@ -110,7 +110,8 @@ impl Rope {
         Ok(number)
     }
 
-    /// Puts a part of a group behind; nothing where there is none. The one error is a refused growth.
+    /// Appends the part `number` of `group`, or nothing if one of the numbers is out of range. The only error is a
+    /// failed allocation.
     pub fn push_part(&mut self, group: usize, number: usize) -> Result<(), AllocError>
         ensures { OnOk result (AddsTo (part_of self.old.groups group number) self.old self.new) }
     {
@@ -129,14 +130,14 @@ impl Rope {
         Ok(())
     }
 
-    /// How many parts come in.
+    /// The number of insertions.
     pub fn inserts(&self) -> usize
         ensures { result ≡ length self.now.inserted }
     {
         self.inserts.len()
     }
 
-    /// What is its own between two parts that come in: before the part of this number, from the one before it on.
+    /// The rope's own bytes before the insertion `insert`, from the insertion before it on.
     pub fn own_before(&self, insert: usize) -> &[u8]
         requires { insert < length self.now.inserted }
         ensures { result.now ≡ own_at self.now.inserted insert }
@@ -145,7 +146,7 @@ impl Rope {
         &self.own[insert.from..insert.at]
     }
 
-    /// The part that comes in, by its number among those that do.
+    /// The part of the insertion `insert`.
     pub fn part_at(&self, insert: usize) -> &[u8]
         requires { insert < length self.now.inserted }
         ensures { result.now ≡ part_at self.now.inserted insert }
@@ -154,7 +155,7 @@ impl Rope {
         part_in(&self.groups, insert.group, insert.number).as_bytes()
     }
 
-    /// What is its own behind the last part that comes in.
+    /// The rope's own bytes after the last insertion.
     pub fn rest(&self) -> &[u8]
         ensures { result.now ≡ self.now.rest }
     {
@@ -162,7 +163,7 @@ impl Rope {
     }
 }
 
-// The part of a group; nothing, where there is none.
+// The part of the group, or the empty text if there is none.
 fn part_in(groups: &[Vec<String>], group: usize, number: usize) -> &str
     ensures { result.now ≡ part_of (groups_of groups.now) group number }
 {

@@ -1,4 +1,4 @@
--- One instruction more.
+-- One more instruction.
 use Rattle.std.proofs.Common.{◌≡◌, ℕ, zero, suc, ◌+◌, ◌<◌, ◌≤◌, ap, sym, ◌∙◌, subst, arith}
 use Rattle.runner.specs.Working.Opens.{OpenOf, IsRunning, moved, moved_by, Ran}
 

@@ -20,7 +20,7 @@ use Rattle.locks.specs.Order.{precedes}
 use Rattle.worlds.specs.Worlds.{section_at}
 use Rattle.runner.specs.Working.Asked.{lock_at, asked_at}
 
--- of two lists of one length, where one has nothing at a place, the other has nothing there
+-- if one of two lists of equal length has no item at a place, the other has none there
 pub not_there : {X Y : Type 0} (xs : List X) (ys : List Y) (i : ℕ) → length xs ≡ length ys → slice_get xs i ≡ None →
     slice_get ys i ≡ None
 not_there [] [] i e n = refl
@@ -29,7 +29,7 @@ not_there (x ∷ xs) [] i e n = refl
 not_there (x ∷ xs) (y ∷ ys) zero e n = absurd (cc)
 not_there (x ∷ xs) (y ∷ ys) (suc i) e n = not_there xs ys i (omega arith) n
 
--- and where it has something, so has the other
+-- if one of the lists has an item at a place, so has the other
 pub also_there : {X Y : Type 0} (xs : List X) (ys : List Y) (i : ℕ) (x : X) → length xs ≡ length ys →
     slice_get xs i ≡ Some x →
     (y : Y) × (slice_get ys i ≡ Some y)
@@ -75,7 +75,7 @@ of_path plan k locals i found x path are at some =
     lock_found plan k locals i found x are at
     ∙ ap (λ (o : Option written.LockPath). lookup o (λ (path : written.LockPath). lock_named (lock_path_of path) plan.program.shape locals)) some
 
--- ---- one lock path more
+-- ---- one more lock path
 
 more_of : (plan : Plan) (o : Option Section) (held : List Lock) (locals : List Value) (i : ℕ) (is : List ℕ) →
     option_map_or (λ (s : Section). to_ask plan.program s plan.ranks held locals (i ∷ is)) o []

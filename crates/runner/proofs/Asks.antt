@@ -18,7 +18,7 @@ use Rattle.layout.specs.Layouts.{LayoutOf}
 use Rattle.code.specs.Memory.{value_at, Agrees}
 use Rattle.moved_cells.specs.Working.Grants.{GrantOf, IsWhole, numbered, values_on}
 use Rattle.moved_cells.specs.Working.Laws.{ValuesAreWhole, ValuesAgree, HasItsCells}
-use Rattle.runner_cells.specs.Working.Held.{CanHold, with_grant}
+use Rattle.runner_machine.specs.Working.Held.{CanHold, with_grant}
 use Rattle.lock_manager.specs.declared.places.LockPlace.TheVariants.{Free}
 use Rattle.lock_manager.specs.Working.Sessions.{TicketOf}
 use Rattle.lock_manager.specs.Manager.{Managed}

@@ -24,7 +24,7 @@ use Rattle.worlds.specs.Worlds.{locals_at}
 use Rattle.worlds.specs.Working.InOrder.{SectionsStayInOrder}
 use Rattle.runner_machine.specs.Working.Machines.{RunOf}
 use Rattle.runner.specs.Working.Opens.{OpenOf, ReadyOf, IsOpen, Began}
-use Rattle.runner.specs.declared.body.Body.{Body}
+use Rattle.runner.specs.declared.body.SectionFrame.{SectionFrame}
 use Rattle.runner.specs.Working.Ties.{open_as, begun_as, cells_together, its_call, IsBeginning, IsKeptOpen}
 
 -- a call that fits has its section
@@ -67,14 +67,14 @@ few_arguments plan number arguments compiled can =
     omega (arith, same, named, taken section.parameters section.locals.items, compiled.well_formed.within.parameters number section can.1)
 
 -- the section as it begins
-pub as_begun : (plan : Plan) (b : Body) (ticket : TicketOf) (step : ℕ) → IsBeginning plan b →
+pub as_begun : (plan : Plan) (b : SectionFrame) (ticket : TicketOf) (step : ℕ) → IsBeginning plan b →
     ticket.session ≡ fresh ticket.session.begun b.room →
     open_as plan ticket step (its_call b) b.machine b.pending.items b.asked
     ≡ begun_as plan ticket.thread step b.room ticket.session.begun (its_call b)
 as_begun plan b ticket step p is =
     λ i. open_as plan (record { thread = ticket.thread; session = is i }) step (its_call b) (p.run_is i) (p.none_pending i) (p.not_asked i)
 
-pub kept_at_first : (plan : Plan) (b : Body) (ticket : TicketOf) (step : ℕ) → SectionsStayInOrder → IsBeginning plan b →
+pub kept_at_first : (plan : Plan) (b : SectionFrame) (ticket : TicketOf) (step : ℕ) → SectionsStayInOrder → IsBeginning plan b →
     ticket.session ≡ fresh ticket.session.begun b.room →
     IsKeptOpen (open_as plan ticket step (its_call b) b.machine b.pending.items b.asked) ticket b.machine
     (vec_capacity b.pending)

@@ -15,7 +15,7 @@ use Rattle.layout.specs.LockCells.{cells_of}
 use Rattle.moved_cells.specs.Working.Grants.{GrantOf, IsWhole, numbered, locks_of}
 use Rattle.lock_manager.specs.Manager.{Managed}
 use Rattle.lock_manager.specs.Working.Calls.{CanRelease}
-use Rattle.runner_cells.specs.Working.Held.{cells_granted}
+use Rattle.runner_machine.specs.Working.Held.{cells_granted}
 use Rattle.history.specs.Commits.{Commit}
 use Rattle.lock_manager.specs.Working.Sessions.{TicketOf}
 use Rattle.lowering.specs.Plans.{Plan}

@@ -5,3 +5,4 @@ pub mod Asks
 pub mod Endings
 pub mod Along
 pub mod Same
+pub mod Parts

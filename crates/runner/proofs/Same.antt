@@ -1,4 +1,4 @@
--- An instruction leaves a section what it is.
+-- An instruction keeps the plan, thread, call, room and begin of a section.
 use Rattle.std.proofs.Common.{◌≡◌, ℕ, zero, suc, refl, sym, ◌∙◌, subst}
 use Rattle.worlds.specs.Worlds.{next_effect}
 use Rattle.worlds.specs.Theory.Steps.{instructed_call, instructed_begun}

@@ -1,3 +1,4 @@
+pub mod Theory
 pub mod Working
 pub use Rattle.runner_machine.specs.Working.Operands.{OperandsOf, downward, pushed, popped, with_top}
 pub use Rattle.runner_machine.specs.Working.Prints.{IsPrinted}

@@ -1,4 +1,4 @@
-//! A section that comes to a point.
+//! The locks that a section asks for before a point.
 
 ghost use Rattle.std.specs.Prelude.{◌≡◌, ◌≤◌, ◌<◌, [], length, vec_capacity};
 ghost use Rattle.runner.specs.Working.Asked.{lock_at, with_lock_of, asked_of, asked_before};
@@ -8,7 +8,7 @@ use core_lang::value::Value;
 use locks::lock::Lock;
 use lowering::compiled::Program;
 
-// A section of a program that comes to a point: its number, the locks that it holds, and its locals.
+// A section of a program before a point: its number, the locks that it holds, and its locals.
 #[derive(Drop)]
 pub(crate) struct Asker<'a> {
     pub(crate) program: &'a Program,
@@ -18,7 +18,7 @@ pub(crate) struct Asker<'a> {
 }
 
 impl<'a> Asker<'a> {
-    // The lock that its lock path of this number names.
+    // The lock that the section's lock path `number` names.
     fn lock(&self, number: u8) -> Option<Lock>
         ensures { result ≡ lock_at self.now.program.now self.now.section self.now.locals.now number }
     {
@@ -31,7 +31,7 @@ impl<'a> Asker<'a> {
         path.lock(&self.program.expanded().shape, self.locals)
     }
 
-    // Puts the lock of a lock path in, unless it is held.
+    // Inserts the lock of lock path `number` into `pending`, unless the section holds it.
     fn add(&self, number: u8, pending: &mut Vec<Lock>)
         requires { length (with_lock_of self.now number pending.old.items) ≤ vec_capacity pending.old }
         ensures items { pending.new.items ≡ with_lock_of self.now number pending.old.items }
@@ -44,7 +44,7 @@ impl<'a> Asker<'a> {
         }
     }
 
-    // The locks that it asks for where these lock paths are listed.
+    // Fills `pending` with the locks that the section asks for at a list of lock paths.
     fn ask(&self, list: &[u8], pending: &mut Vec<Lock>)
         requires none { pending.old.items ≡ [] }
         requires room { length (asked_of self.now list.now) ≤ vec_capacity pending.old }
@@ -58,7 +58,7 @@ impl<'a> Asker<'a> {
         }
     }
 
-    // The locks that it asks for before a point.
+    // Fills `pending` with the locks that the section asks for before `point`.
     pub(crate) fn ask_before(&self, point: usize, pending: &mut Vec<Lock>)
         requires none { pending.old.items ≡ [] }
         requires room { length (asked_before self.now point) ≤ vec_capacity pending.old }

@@ -1,4 +1,4 @@
-//! The locks that a section is to be granted, in order.
+//! The pending locks of a section, in lock order.
 
 ghost use Rattle.std.specs.Prelude.{◌≡◌, ◌≤◌, ◌<◌, drop, length, IfSome, IfNone, vec_len, vec_capacity};
 ghost use Rattle.std.specs.List.{insert as inserted};
@@ -6,7 +6,7 @@ ghost use Rattle.worlds.specs.Asking.{insert};
 
 use locks::lock::Lock;
 
-// Where a lock goes, in front of those that it comes before; nowhere, if it is there.
+// The place of `lock` in `locks`: before the first lock that it precedes. `None` if it is in the list.
 fn place_for(ranks: &[u32], lock: Lock, locks: &[Lock]) -> Option<usize>
     ensures goes { IfSome result (λ i. insert ranks.now lock locks.now ≡ inserted locks.now i lock) }
     ensures within { IfSome result (λ i. i ≤ length locks.now) }
@@ -24,7 +24,7 @@ fn place_for(ranks: &[u32], lock: Lock, locks: &[Lock]) -> Option<usize>
     Some(locks.len())
 }
 
-// Puts a lock in front of those that it comes before; one that is there isn't put in again.
+// Inserts `lock` before the locks that it precedes, unless it is in the list.
 pub(crate) fn put_in(ranks: &[u32], lock: Lock, locks: &mut Vec<Lock>)
     requires { length (insert ranks.now lock locks.old.items) ≤ vec_capacity locks.old }
     ensures items { locks.new.items ≡ insert ranks.now lock locks.old.items }
@@ -35,7 +35,7 @@ pub(crate) fn put_in(ranks: &[u32], lock: Lock, locks: &mut Vec<Lock>)
     }
 }
 
-// Takes the first lock away.
+// Removes the first lock.
 pub(crate) fn take_first(locks: &mut Vec<Lock>)
     requires { 0 < vec_len locks.old }
     ensures items { locks.new.items ≡ drop 1 locks.old.items }

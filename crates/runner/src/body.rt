@@ -1,4 +1,4 @@
-//! What an open section has, in one block that its thread keeps from one section to the next.
+//! The state of an open section, in one block that its thread keeps from one section to the next.
 
 ghost use Rattle.std.specs.Prelude.{◌≡◌, ◌≤◌, [], OnOk, IfOk, vec_capacity};
 ghost use Rattle.core_lang.specs.WellFormed.{CanCall};
@@ -6,33 +6,33 @@ ghost use Rattle.runner.specs.Working.Ties.{IsBeginning, its_call, entry_in};
 
 use crate::opening::{opening_locals, refill};
 use core_lang::value::{Outcome, Value};
-use history::kept::Kept;
+use history::kept::EntryRef;
 use layout::room::Room;
 use lock_manager::ticket::Ticket;
 use locks::lock::Lock;
 use lowering::compiled::Program;
 use moved_cells::grant::Grant;
-use runner_machine::machine::Machine;
+use runner_machine::machine::StackMachine;
 use source::memory::NoMemory;
 use std::alloc::Global;
 
-// What an open section has, but for its program and its ticket.
-pub(crate) struct Body<'p> {
+// The state of an open section, except its program and its ticket.
+pub(crate) struct SectionFrame<'p> {
     pub(crate) alloc: Global,
     pub(crate) step: usize,
     pub(crate) section: usize,
     pub(crate) arguments: Vec<Value>,
     pub(crate) room: Room,
-    pub(crate) machine: Machine<'p>,
+    pub(crate) machine: StackMachine<'p>,
     pub(crate) pending: Vec<Lock>,
     pub(crate) asked: bool,
-    // Where it is over: how it ended, and its grants, which are the machine's till then.
+    // After the end: how the section ended, and its grants, which are the machine's before.
     pub(crate) outcome: Outcome,
     pub(crate) grants: Vec<Grant>,
 }
 
-impl<'p> Body<'p> {
-    // A call of a program is about to begin in it, whose number is still to come. Errors: want of memory.
+impl<'p> SectionFrame<'p> {
+    // Prepares the block for a call of a program; the number of the call is set later. Errors: out of memory.
     fn renew(
         &mut self,
         program: &'p Program,
@@ -60,12 +60,12 @@ impl<'p> Body<'p> {
         Ok(())
     }
 
-    // Its entry, where it is over.
-    pub(crate) fn entry(&self, ticket: &Ticket) -> Kept<'_>
+    // The entry of the section, which has ended.
+    pub(crate) fn entry(&self, ticket: &Ticket) -> EntryRef<'_>
         requires { self.now.machine.cell_room ≡ 0 }
         ensures { result ≡ entry_in ticket.now self.now }
     {
-        Kept {
+        EntryRef {
             thread: ticket.thread(),
             step: self.step,
             section: self.section,
@@ -79,7 +79,7 @@ impl<'p> Body<'p> {
     }
 }
 
-// No locks, and room for so many, in memory that is made larger where it is too small.
+// Empties `locks`, and makes room for `room` locks. Errors: out of memory.
 fn empty_for(room: usize, locks: &mut Vec<Lock>) -> Result<(), NoMemory>
     ensures none { locks.new.items ≡ [] }
     ensures room { OnOk result (room ≤ vec_capacity locks.new) }
@@ -89,18 +89,18 @@ fn empty_for(room: usize, locks: &mut Vec<Lock>) -> Result<(), NoMemory>
     Ok(())
 }
 
-/// A block that no section is in. What stands in it doesn't matter, but that it has no grants.
+/// A block that no section uses. It has no grants, and its other contents don't matter.
 pub(crate) struct Memory<'p> {
-    pub(crate) body: Box<Body<'p>>,
+    pub(crate) body: Box<SectionFrame<'p>>,
     ghost machine: { body.value.machine.locks ≡ [] },
     ghost grants: { body.value.grants.items ≡ [] },
 }
 
 impl<'p> Memory<'p> {
-    // The first one of a thread. Errors: want of memory.
+    // A new block. Errors: out of memory.
     pub(crate) fn new(alloc: Global, program: &'p Program) -> Result<Memory<'p>, NoMemory> {
-        let machine = Machine::new(alloc, program.layout())?;
-        let body = Body {
+        let machine = StackMachine::new(alloc, program.layout())?;
+        let body = SectionFrame {
             alloc,
             step: 0,
             section: 0,
@@ -127,7 +127,7 @@ impl<'p> Memory<'p> {
     }
 
     // The block itself.
-    pub(crate) fn into_body(self) -> Box<Body<'p>>
+    pub(crate) fn into_body(self) -> Box<SectionFrame<'p>>
         ensures body { result.value ≡ self.entry.body.value }
         ensures machine { result.value.machine.locks ≡ [] }
         ensures grants { result.value.grants.items ≡ [] }
@@ -136,7 +136,7 @@ impl<'p> Memory<'p> {
         body
     }
 
-    // With a call of a program that is about to begin. Errors: want of memory.
+    // The block, prepared for a call of a program. Errors: out of memory.
     pub(crate) fn prepared(
         self,
         program: &'p Program,
@@ -163,12 +163,12 @@ impl<'p> Drop for Memory<'p> {
     }
 }
 
-// Lets go what a block has that has no grants.
-fn let_go(body: Body<'_>)
+// Frees the contents of a block without grants.
+fn let_go(body: SectionFrame<'_>)
     requires machine { body.machine.locks ≡ [] }
     requires grants { body.grants.items ≡ [] }
 {
-    let Body {
+    let SectionFrame {
         alloc: _,
         step: _,
         section: _,

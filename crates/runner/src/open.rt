@@ -1,4 +1,4 @@
-//! An open section that has no outcome yet.
+//! An open section without an outcome.
 
 ghost use Rattle.std.specs.Prelude.{◌≡◌, [], slice_get, Some};
 ghost use Rattle.code.specs.Machine.{Asks};
@@ -8,7 +8,7 @@ ghost use Rattle.runner.specs.Working.Ties.{effect_on, HasMoved};
 
 use crate::asker::Asker;
 use crate::asking::take_first;
-use crate::body::{Body, Memory};
+use crate::body::{Memory, SectionFrame};
 use crate::states::Ready;
 use code::instr::Instr;
 use core_lang::value::Outcome;
@@ -20,11 +20,11 @@ use lowering::compiled::Program;
 use runner_machine::progress::Progress;
 use std::marker::Model;
 
-// A section that runs, or that is to be granted locks.
+// A section that is running, or that waits for a lock to be granted.
 pub(crate) struct Open<'p> {
     pub(crate) program: &'p Program,
     pub(crate) ticket: Ticket,
-    pub(crate) body: Box<Body<'p>>,
+    pub(crate) body: Box<SectionFrame<'p>>,
 }
 
 impl<'p> Model for Open<'p> {
@@ -48,7 +48,7 @@ impl<'p> Model for Open<'p> {
 }
 
 impl<'p> Open<'p> {
-    // Its next instruction.
+    // The next instruction.
     #[inline(always)]
     fn instruction(&self) -> Instr
         requires { self.now.activation.pending ≡ [] }
@@ -61,7 +61,7 @@ impl<'p> Open<'p> {
         instructions[body.machine.place()]
     }
 
-    // Passes on, with the locks before a point pending.
+    // Passes the instruction of `point`, and makes the locks before it pending.
     fn pass_on(&mut self, point: usize)
         requires pending { self.old.activation.pending ≡ [] }
         requires asks { next_effect self.old.plan self.old.activation ≡ Asks point }
@@ -81,7 +81,7 @@ impl<'p> Open<'p> {
         body.asked = false;
     }
 
-    // Does its next instruction, or says to which outcome it leads.
+    // Runs the next instruction. Returns the outcome, if the instruction ends the section.
     #[inline(always)]
     pub(crate) fn step(&mut self) -> Option<Outcome>
         requires { self.old.activation.pending ≡ [] }
@@ -112,7 +112,7 @@ impl<'p> Open<'p> {
     ghost use Rattle.runner.specs.Working.Opens.{IsKnown};
     ghost use Rattle.runner.specs.Working.Ties.{HasAsked};
 
-    // Asks for the first of its pending locks. It has it then, or this other thread holds it.
+    // Asks for the first pending lock. Returns none if the lock is granted, and otherwise the thread that holds it.
     pub(crate) fn ask(&mut self, manager: &mut Manager<'p>) -> Option<u32>
         requires known { IsKnown manager.old self.old }
         requires pending { self.old.activation.pending ≢ [] }
@@ -146,21 +146,21 @@ impl<'p> Open<'p> {
     ghost use Rattle.lock_manager.specs.Working.Calls.{Knows};
     ghost use Rattle.runner.specs.Working.Opens.{IsOpen, GivenUp, ticket_of, ready_again};
 
-    // Whether the manager knows it.
+    // Whether the manager knows the section.
     pub(crate) fn fits(&self, manager: &Manager<'p>) -> bool
         ensures { IsTrue result ↔ Knows manager.now (ticket_of self.now) }
     {
         manager.knows(&self.ticket)
     }
 
-    // It keeps the rules.
+    // A law: the section keeps its invariant.
     pub(crate) fn keeps_its_rules(&self)
         ensures { IsOpen self.now }
     {
         let _ticket = &self.ticket;
     }
 
-    // Whether its next step is an instruction: no lock is pending.
+    // Whether the next step is an instruction: no lock is pending.
     #[inline(always)]
     pub(crate) fn is_running(&self) -> bool
         ensures { IsTrue result ↔ (self.now.activation.pending ≡ []) }
@@ -168,7 +168,7 @@ impl<'p> Open<'p> {
         self.body.pending.is_empty()
     }
 
-    // The first of its pending locks.
+    // The first pending lock.
     pub(crate) fn lock(&self) -> Lock
         requires { self.now.activation.pending ≢ [] }
         ensures { slice_get self.now.activation.pending 0 ≡ Some result }
@@ -176,14 +176,14 @@ impl<'p> Open<'p> {
         self.body.pending[0]
     }
 
-    // Whether it asked for it.
+    // Whether the section has asked for the first pending lock.
     pub(crate) fn asked(&self) -> bool
         ensures { result ≡ self.now.activation.asked }
     {
         self.body.asked
     }
 
-    // Gives it up.
+    // Gives the section up.
     pub(crate) fn give_up(self, manager: &mut Manager<'p>) -> Ready<'p>
         ensures given_up { GivenUp manager.old self.entry manager.new }
         ensures ready { result ≡ ready_again self.entry }

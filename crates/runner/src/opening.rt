@@ -3,12 +3,12 @@
 ghost use Rattle.std.specs.Prelude.{◌≡◌, [], IfOk, OnOk};
 ghost use Rattle.core_lang.specs.Whole.{opening};
 
+use core_lang::opening::with_defaults;
 use core_lang::tree::Section;
 use core_lang::value::Value;
-use meaning_operations::opening::with_defaults;
 use source::memory::NoMemory;
 
-// A list gets a copy of these values, in memory that is made larger where it is too small.
+// Sets `list` to a copy of `values`. Errors: out of memory.
 pub(crate) fn refill(list: &mut Vec<Value>, values: &[Value]) -> Result<(), NoMemory>
     ensures { OnOk result (list.new.items ≡ values.now) }
 {
@@ -17,8 +17,8 @@ pub(crate) fn refill(list: &mut Vec<Value>, values: &[Value]) -> Result<(), NoMe
     Ok(())
 }
 
-// What the locals of a section hold where it begins: the arguments, and 0 or null in the others. They take memory that
-// is made larger where it is too small.
+// The initial locals of a section: the arguments, and 0 or null in the others. They use `memory`, which grows if it is
+// too small. Errors: out of memory.
 pub(crate) fn opening_locals(
     section: &Section,
     arguments: &[Value],

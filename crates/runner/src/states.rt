@@ -1,4 +1,4 @@
-//! The states of a thread: no section open, or one that runs, asks for a lock, or is over.
+//! The states of a thread: without an open section, or with one that is running, asking for a lock, or ended.
 
 ghost use Rattle.std.specs.Prelude.{◌≡◌, ◌≢◌, ◌<◌, ◌+◌, ◌^◌, ◌↔◌, [], slice_get, Some, None, IfOk, IfErr, OnErr, IsTrue};
 ghost use Rattle.core_lang.specs.Serial.{invocation};
@@ -9,11 +9,11 @@ ghost use Rattle.lock_manager.specs.Working.Sessions.{fresh};
 ghost use Rattle.runner.specs.Working.Ties.{over_by, IsBeginning, its_call, begun_as};
 ghost use Rattle.runner.specs.Working.Answers as answers;
 
-use crate::body::{Body, Memory};
+use crate::body::{Memory, SectionFrame};
 use crate::open::Open;
 use core_lang::typed::Call;
 use core_lang::value::{Outcome, Value};
-use history::kept::Kept;
+use history::kept::EntryRef;
 use lock_manager::manager::Manager;
 use lock_manager::ticket::{Receipt, Spare, Ticket};
 use locks::lock::Lock;
@@ -22,8 +22,8 @@ use std::alloc::Global;
 use std::marker::Model;
 use std::mem;
 
-/// A thread with no section open. As a value it is the thread and the number of its next call. It keeps the memory that
-/// its last section took for the next one.
+/// A thread without an open section. Its value is the thread and the number of its next call. It keeps the memory of its
+/// last section for the next one.
 #[derive(Drop)]
 pub struct Ready<'p> {
     thread: u32,
@@ -62,7 +62,7 @@ impl<'p> Model for Running<'p> {
     ghost invariant = { λ r. (r.open.activation.pending ≡ []) × (r.open.activation.outcome ≡ None) };
 }
 
-/// A section that is to be granted a lock next.
+/// A section that needs the first of its pending locks next.
 pub struct Asking<'p> {
     open: Open<'p>,
 }
@@ -88,7 +88,7 @@ impl<'p> Model for Asking<'p> {
 pub struct Ended<'p> {
     program: &'p Program,
     ticket: Ticket,
-    body: Box<Body<'p>>,
+    body: Box<SectionFrame<'p>>,
 }
 
 impl<'p> Model for Ended<'p> {
@@ -110,28 +110,28 @@ impl<'p> Model for Ended<'p> {
         (entry_in e.ticket e.body.value) };
 }
 
-/// What a section goes on as.
+/// The state in which a section goes on.
 pub enum Next<'p> {
     /// Its next step is an instruction.
     Running(Running<'p>),
-    /// It is to be granted a lock next.
+    /// It needs a lock next.
     Asking(Asking<'p>),
     /// It has an outcome.
     Ended(Ended<'p>),
 }
 
-/// What a section that asked for a lock goes on as.
+/// The state of a section after it has asked for a lock.
 pub enum Asked<'p> {
-    /// It has the lock.
+    /// The lock is granted.
     Got(Next<'p>),
-    /// It waits for the lock, which this other thread holds.
+    /// The section waits for the lock, which the given other thread holds.
     Waits(Asking<'p>, u32),
 }
 
 impl<'p> Ready<'p> {
     ghost use Rattle.runner.specs.Working.Opens.{Began, Prepares};
 
-    /// A thread before its first call.
+    /// The thread `thread` before its first call.
     pub fn new(thread: u32) -> Ready<'p>
         ensures { result ≡ record { thread = thread; step = 0 } }
     {
@@ -143,7 +143,7 @@ impl<'p> Ready<'p> {
         }
     }
 
-    // A thread with this call to come, in the memory of a section that is over.
+    // A thread whose next call has the number `step`, with the memory of a section that has ended.
     pub(crate) fn after(thread: u32, step: usize, memory: Memory<'p>) -> Ready<'p>
         ensures { result ≡ record { thread = thread; step = step } }
     {
@@ -155,7 +155,7 @@ impl<'p> Ready<'p> {
         }
     }
 
-    /// The thread.
+    /// The number of the thread.
     #[inline]
     pub fn thread(&self) -> u32
         ensures { result ≡ self.now.thread }
@@ -171,11 +171,11 @@ impl<'p> Ready<'p> {
         self.step
     }
 
-    /// Makes ready all the memory that a call can need, but for what the manager keeps.
+    /// Allocates all memory that a call of `section` can need, except that of the manager.
     ///
     /// # Errors
     ///
-    /// Want of memory.
+    /// Out of memory. The error is the thread, unchanged.
     pub fn prepare(
         self,
         alloc: Global,
@@ -218,11 +218,11 @@ impl<'p> Ready<'p> {
         }
     }
 
-    /// Begins a call, with all the memory that it can need.
+    /// Begins a call, and allocates all memory that it can need.
     ///
     /// # Errors
     ///
-    /// Want of memory; all is as it was.
+    /// Out of memory. The error is the thread; the thread and the manager are unchanged.
     pub fn begin(
         self,
         alloc: Global,
@@ -243,7 +243,7 @@ impl<'p> Ready<'p> {
         }
     }
 
-    /// With the memory of the ticket that the receipt is of, for the next one.
+    /// The thread, with the memory of the receipt's ticket for its next section.
     pub fn keep(self, receipt: Receipt) -> Ready<'p>
         ensures { result ≡ self.entry }
     {
@@ -262,7 +262,7 @@ impl<'p> Ready<'p> {
     }
 }
 
-/// A thread whose next call has all the memory that it can need, but for what the manager keeps.
+/// A thread for whose next call all memory is allocated, except that of the manager.
 #[derive(Drop)]
 pub struct Poised<'p> {
     program: &'p Program,
@@ -298,7 +298,7 @@ impl<'p> Model for Poised<'p> {
 impl<'p> Poised<'p> {
     ghost use Rattle.runner.specs.Working.Opens.{Began, ready_of};
 
-    /// The thread.
+    /// The number of the thread.
     #[inline]
     pub fn thread(&self) -> u32
         ensures { result ≡ self.now.thread }
@@ -310,7 +310,7 @@ impl<'p> Poised<'p> {
     ///
     /// # Errors
     ///
-    /// Want of memory; all is as it was.
+    /// Out of memory. The error is the thread; the thread and the manager are unchanged.
     pub fn begin(self, alloc: Global, manager: &mut Manager<'p>) -> Result<Running<'p>, Ready<'p>>
         requires thread { self.thread < 64 }
         requires closed { session_of manager.old self.thread ≡ None }
@@ -337,7 +337,7 @@ impl<'p> Poised<'p> {
         }
     }
 
-    /// Lets the call go: it doesn't begin.
+    /// Cancels the call, and returns the thread.
     pub fn let_go(self) -> Ready<'p>
         ensures { result ≡ ready_of self.entry }
     {
@@ -357,7 +357,7 @@ impl<'p> Poised<'p> {
     }
 }
 
-// A section that begins, as this call of its thread.
+// The section that begins as call `step` of its thread.
 fn begun<'p>(program: &'p Program, ticket: Ticket, step: usize, memory: Memory<'p>) -> Open<'p>
     requires prepared { IsBeginning program.now memory.body.value }
     requires ticket { ticket.session ≡ fresh ticket.session.begun memory.body.value.room }
@@ -374,7 +374,7 @@ fn begun<'p>(program: &'p Program, ticket: Ticket, step: usize, memory: Memory<'
     }
 }
 
-// A section by what it is to do next.
+// The section in the state of its next step.
 fn named<'p>(opened: Open<'p>) -> Next<'p>
     requires { opened.activation.outcome ≡ None }
     ensures is { answers.open_of result ≡ opened.entry }
@@ -387,7 +387,7 @@ fn named<'p>(opened: Open<'p>) -> Next<'p>
     }
 }
 
-// A section that has come to an outcome.
+// Ends a section with `outcome`.
 fn end<'p>(opened: Open<'p>, outcome: Outcome) -> Ended<'p>
     requires pending { opened.activation.pending ≡ [] }
     requires leads { moved opened ≡ over_by opened outcome }
@@ -414,7 +414,7 @@ impl<'p> Running<'p> {
     ghost use Rattle.runner.specs.Working.Opens.{GivenUp, IsRunning, Ran, IsSame, ready_again};
     ghost use Rattle.runner.specs.Working.Answers.{open_of, IsNamed};
 
-    /// How long the history was when it began.
+    /// The length of the history when the section began.
     #[inline]
     pub fn begun(&self) -> usize
         ensures { result ≡ self.now.activation.begun }
@@ -430,7 +430,7 @@ impl<'p> Running<'p> {
         self.open.body.section
     }
 
-    /// The place of its next instruction in the section's code.
+    /// The index of the next instruction in the section's code.
     #[inline]
     pub fn place(&self) -> usize
         ensures { result ≡ self.now.activation.machine.place }
@@ -438,7 +438,7 @@ impl<'p> Running<'p> {
         self.open.body.machine.place()
     }
 
-    /// Does its next instruction, which has its case.
+    /// Runs the next instruction.
     #[inline]
     pub fn step(self) -> Next<'p>
         ensures next { HasNext self.entry.plan self.entry.activation }
@@ -451,7 +451,8 @@ impl<'p> Running<'p> {
         next
     }
 
-    /// Does its instructions, at most so many, until it is to be granted a lock or has an outcome; and how many it did.
+    /// Runs at most `most` instructions, until the section needs a lock or has an outcome. Returns the number of
+    /// instructions run, which is less than `most` only if the next step is not an instruction.
     pub fn run(self, most: usize) -> (usize, Next<'p>)
         ensures ran { Ran most self.entry result.0 (open_of result.1) }
         ensures same { IsSame self.entry (open_of result.1) }
@@ -469,7 +470,7 @@ impl<'p> Running<'p> {
         (most, Next::Running(Running { open }))
     }
 
-    /// Gives the section up.
+    /// Gives the section up. The number of the thread's next call stays the same.
     pub fn give_up(self, manager: &mut Manager<'p>) -> Ready<'p>
         ensures given_up { GivenUp manager.old self.entry manager.new }
         ensures ready { result ≡ ready_again self.entry }
@@ -478,7 +479,8 @@ impl<'p> Running<'p> {
         open.give_up(manager)
     }
 
-    /// It keeps the rules, whatever the others do, and its next step is an instruction, which has its case.
+    /// A law: whatever other threads do, the section's plan is compiled, its room is that of its section, its next step
+    /// is an instruction, and that instruction has its case.
     pub fn keeps_its_rules(&self)
         ensures kept { IsOpen self.now }
         ensures running { IsRunning self.now }
@@ -494,7 +496,7 @@ impl<'p> Asking<'p> {
     ghost use Rattle.runner.specs.Working.Opens.{IsKnown, NextRises, GivenUp, ticket_of, ready_again};
     ghost use Rattle.runner.specs.Working.Answers.{Answered, IsNamedAfter, GoesOnSame};
 
-    /// The lock that it asks for.
+    /// The lock that the section needs next.
     #[inline]
     pub fn lock(&self) -> Lock
         ensures { slice_get self.now.activation.pending 0 ≡ Some result }
@@ -502,7 +504,7 @@ impl<'p> Asking<'p> {
         self.open.lock()
     }
 
-    /// Whether it has asked for it.
+    /// Whether the section has asked for the lock.
     #[inline]
     pub fn asked(&self) -> bool
         ensures { result ≡ self.now.activation.asked }
@@ -510,16 +512,25 @@ impl<'p> Asking<'p> {
         self.open.asked()
     }
 
-    /// Whether the manager knows the section: it is as the section's own steps left it. The rest of what [`Asking::ask`]
-    /// requires (the program's layout and ranks, cells with values of their types) isn't tested here: whoever keeps
-    /// the manager keeps that by its type.
+    /// Whether the manager's slot equals the section, as the section's own steps left it. The rest of what
+    /// [`Asking::ask`] requires (the program's layout and ranks, cells with values of their types) isn't tested here: the
+    /// type of the manager's owner guarantees it.
     pub fn fits(&self, manager: &Manager<'p>) -> bool
         ensures { IsTrue result ↔ Knows manager.now (ticket_of self.now) }
     {
         self.open.fits(manager)
     }
 
-    /// Asks for the lock.
+    /// The locks that the section holds, the oldest first.
+    #[inline]
+    pub fn held(&self) -> &[Lock]
+        ensures { result.now ≡ self.now.activation.held }
+    {
+        self.open.ticket.held()
+    }
+
+    /// Asks for the first pending lock. The lock is granted with its cells, or the request is noted, as by
+    /// [`Manager::request`]. Plan, thread, call, room and begin stay the same.
     pub fn ask(self, manager: &mut Manager<'p>) -> Asked<'p>
         requires { IsKnown manager.old self }
         ensures answered { Answered manager.old self.entry result manager.new }
@@ -542,7 +553,8 @@ impl<'p> Asking<'p> {
         open.give_up(manager)
     }
 
-    /// It keeps the rules, whatever the others do, and the lock that it asks for comes after all that it holds.
+    /// A law: whatever other threads do, the section keeps its invariant, and the lock that it needs comes after all
+    /// locks that it holds.
     pub fn keeps_its_rules(&self)
         ensures kept { IsOpen self.now }
         ensures rises { NextRises self.now }
@@ -553,9 +565,10 @@ impl<'p> Asking<'p> {
 }
 
 impl<'p> Ended<'p> {
+    ghost use Rattle.code.specs.Memory.{IsPartOf};
     ghost use Rattle.runner.specs.Working.Opens.{CanBeReleased, Released, GivenUp, IsItsEntry, HasTrueEntry, ready_again};
 
-    /// Whether it may be released.
+    /// Whether the section may be released.
     pub fn fits(&self, manager: &Manager<'p>) -> bool
         ensures { IsTrue result ↔ CanBeReleased manager.now self.now }
     {
@@ -563,7 +576,30 @@ impl<'p> Ended<'p> {
         body.step < usize::MAX && manager.fits(&self.ticket, &body.grants, &self.entry())
     }
 
-    /// Ends the section.
+    /// Whether the section may be released, for a section whose cells are part of what the manager's entries leave, with
+    /// its writes made. No cell is compared: it tests that the manager knows the section, and that the number of the
+    /// thread's next call has 64 bits.
+    pub fn fits_as_part(&self, manager: &Manager<'p>) -> bool
+        requires layout { manager.now.layout ≡ self.now.plan.layout }
+        requires part { IsPartOf manager.now.values self.now.activation.machine.memory }
+        ensures { IsTrue result ↔ CanBeReleased manager.now self.now }
+    {
+        moved_cells::laws::slots_are_cells();
+        manager.keeps_its_rules();
+        let body = &*self.body;
+        body.step < usize::MAX && manager.knows(&self.ticket)
+    }
+
+    /// The locks that the section holds, the oldest first.
+    #[inline]
+    pub fn held(&self) -> &[Lock]
+        ensures { result.now ≡ self.now.activation.held }
+    {
+        self.ticket.held()
+    }
+
+    /// Ends the section: its entry is appended to the history, and its cells go back to the manager. It requires exactly
+    /// what [`Ended::fits`] tests, which includes that the number of the thread's next call has 64 bits.
     pub fn release(self, manager: &mut Manager<'p>) -> (Ready<'p>, Receipt)
         requires { CanBeReleased manager.old self }
         ensures { Released manager.old self.entry result.0 result.1 manager.new }
@@ -600,15 +636,15 @@ impl<'p> Ended<'p> {
         Ready::after(thread, step, Memory { body })
     }
 
-    /// Its entry.
+    /// The entry of the section, which has at most 256 prints.
     #[inline]
-    pub fn entry(&self) -> Kept<'_>
+    pub fn entry(&self) -> EntryRef<'_>
         ensures { IsItsEntry self.now result }
     {
         self.body.entry(&self.ticket)
     }
 
-    /// It keeps the rules, whatever the others do, and its entry is true.
+    /// A law: whatever other threads do, the section keeps its invariant, and its entry is true.
     pub fn keeps_its_rules(&self)
         ensures kept { IsOpen self.now }
         ensures true_entry { HasTrueEntry self.now }

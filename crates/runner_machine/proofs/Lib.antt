@@ -1,2 +1,10 @@
-pub mod Stacks
+pub mod Granted
+pub mod Lists
 pub mod Locals
+pub mod Noting
+pub mod Padded
+pub mod Places
+pub mod Rising
+pub mod Sorted
+pub mod Stacks
+pub mod Steps

@@ -1,4 +1,4 @@
--- A local got, and a local set.
+-- Reading a local, and setting a local.
 use Rattle.std.proofs.Common.{◌≡◌, ◌∙◌, ℕ, ◌<◌, ◌≤◌, ◌+◌, List, [], ◌∷◌, Some, None, length, drop, slice_get, refl}
 use Rattle.std.proofs.Common.{sym, ap, subst}
 use Rattle.std.specs.Prelude.{slice_set}
@@ -43,7 +43,7 @@ set_past m k v top le =
     top_is m.stack v (λ w rest. or_trap (found (slice_get m.locals k)) (λ old. advances (record m { locals = slice_set m.locals k w }) rest)) top
     ∙ ap (λ o. or_trap (found o) (λ old. advances (record m { locals = slice_set m.locals k v }) (drop 1 m.stack))) (slice_get_past m.locals k le)
 
--- the run behind it
+-- the run after it
 abbrev pub set_run : RunOf → ℕ → Value → OperandsOf → RunOf
 set_run run k v o = record run {
   machine = record run.machine { place = run.machine.place + 1; stack = o.stack; locals = slice_set run.machine.locals k v };

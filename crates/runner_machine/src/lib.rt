@@ -1,15 +1,19 @@
-//! The machine of an open section, on the cells that it holds. It is made once, and begins anew in place for each section;
-//! after that begin nothing takes memory.
+//! A stack machine that runs the code of one section over the cells of the locks that it holds. It is allocated once and
+//! begins anew in place for each section; after that begin nothing allocates.
 //!
-//! - [`machine::Machine`]: the machine of an open section; [`progress::Progress`]: what an instruction did.
-//! - [`operands::Operands`]: the operand stack of a section.
-//! - [`prints::Prints`]: what a section has printed.
+//! - [`machine::StackMachine`]: the machine; [`progress::Progress`]: the result of an instruction.
+//! - [`operands::Operands`]: the operand stack of a section. [`prints::Prints`]: what a section has printed.
+//! - [`holding::Holding`]: reads and writes cells of the locks that are held. At the section's end its grants are moved
+//!   out, and its first reads and last writes are lent in order.
 //!
-//! `specs/` defines machines, what an instruction leaves and what a section's end does (`Machines`), what a push, a pop and
-//! a change of the top leave (`Operands`), and what printing does (`Prints`).
+//! `specs/Working` defines machines and the effect of an instruction, operand stacks, prints, and the cells that are
+//! held. Nobody has to believe it.
 #![tactic(auto)]
 
+mod finding;
+pub mod holding;
 pub mod machine;
+mod notes;
 pub mod operands;
 pub mod prints;
 pub mod progress;

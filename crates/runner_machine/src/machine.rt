@@ -1,39 +1,39 @@
-//! The machine of an open section.
+//! The stack machine of an open section.
 
 ghost use Rattle.std.specs.Prelude.{◌≡◌, ◌<◌, drop, length, Ok};
 ghost use Rattle.core_lang.specs.Arithmetic.{negated, on_values};
 ghost use Rattle.core_lang.specs.Cells.{element_cell, member_of, field_cell, final_value, not_null};
 ghost use Rattle.code.specs.Machine.{advances, jumps, negation, or_trap};
-ghost use Rattle.runner_cells.specs.Working.Held.{IsLoad, IsStore};
+ghost use Rattle.runner_machine.specs.Working.Held.{IsLoad, IsStore};
 ghost use Rattle.runner_machine.specs.Working.Machines.{FitsRoom, HasSmallCells, HasEffect, effect_of, putting_on, loading_on};
 ghost use Rattle.runner_machine.specs.Working.Machines.{storing_found, getting, setting, storing, owner_test, on_one, on_both, testing, passing};
 ghost use Rattle.runner_machine.specs.Working.Machines.{if_passed, loading_named, storing_named, branching, printing, back_by, returning};
 
+use crate::holding::Holding;
 use crate::operands::Operands;
 use crate::prints::Prints;
 use crate::progress::{Progress, failed};
 use crate::truths::{agrees, negate_truth, truth_in, truth_value};
 use code::instr::Instr;
+use core_lang::access::{
+    cell_of_element, cell_of_field, member, non_null, owned_by, value_at, value_of_final,
+};
+use core_lang::operators::{compare, negate, operate};
 use core_lang::shape::Shape;
 use core_lang::tree::{Comparison, Operator};
 use core_lang::value::{Failure, Outcome, Value};
 use history::kept::CellValue;
 use layout::room::Room;
 use layout::table::Layout;
-use meaning_operations::access::{
-    cell_of_element, cell_of_field, member, non_null, owned_by, value_at, value_of_final,
-};
-use meaning_operations::operators::{compare, negate, operate};
 use moved_cells::grant::Grant;
-use runner_cells::holding::Holding;
 use source::memory::NoMemory;
 use std::alloc::Global;
 use std::marker::Model;
 use std::mem;
 
-/// The machine of an open section: where it is in its code, its operands and locals, the cells that it holds, and what it
-/// has printed. It goes from one section to the next, and ends only where it holds no cells.
-pub struct Machine<'p> {
+/// The machine of an open section: its place in the code, its operands and locals, the cells that it holds, and what it
+/// has printed. It is passed from one section to the next, and ends only when it holds no cells.
+pub struct StackMachine<'p> {
     pub(crate) place: usize,
     pub(crate) operands: Operands,
     pub(crate) locals: Vec<Value>,
@@ -41,7 +41,7 @@ pub struct Machine<'p> {
     pub(crate) prints: Prints,
 }
 
-impl<'p> Model for Machine<'p> {
+impl<'p> Model for StackMachine<'p> {
     ghost use Rattle.runner_machine.specs.Working.Machines.{RunOf};
 
     ghost Value = { RunOf };
@@ -62,23 +62,22 @@ impl<'p> Model for Machine<'p> {
     } };
 }
 
-impl<'p> Machine<'p> {
+impl<'p> StackMachine<'p> {
     ghost use Rattle.std.specs.Prelude.{◌+◌, ◌≤◌, ◌^◌, [], IfOk, OnOk, slice_index};
     ghost use Rattle.code.specs.Machine.{passed};
-    ghost use Rattle.runner_cells.specs.Working.Held.{CanHold, with_grant};
+    ghost use Rattle.runner_machine.specs.Working.Held.{CanHold, with_grant};
     ghost use Rattle.runner_machine.specs.Working.Machines.{at_first, with_machine, with_holding, holding_of, IsFinished};
 
-    /// One with no cells, in memory that holds what a section may print. What else it needs it takes where a section
-    /// begins.
+    /// A machine without cells, with room for the most prints of a section. The begin of a section allocates the rest.
     ///
     /// # Errors
     ///
-    /// Want of memory.
-    pub fn new(alloc: Global, layout: &'p Layout) -> Result<Machine<'p>, NoMemory>
+    /// Out of memory.
+    pub fn new(alloc: Global, layout: &'p Layout) -> Result<StackMachine<'p>, NoMemory>
         ensures { IfOk result (λ m. m.locks ≡ []) }
     {
         let prints = Prints::new(alloc)?;
-        Ok(Machine {
+        Ok(StackMachine {
             place: 0,
             operands: Operands::new(alloc),
             locals: Vec::new(alloc),
@@ -87,18 +86,18 @@ impl<'p> Machine<'p> {
         })
     }
 
-    /// Takes the locals out, for their memory.
+    /// Moves the locals out, so that their memory can be used again.
     pub fn take_locals(&mut self, alloc: Global) -> Vec<Value>
         ensures { self.new.locks ≡ self.old.locks }
     {
         mem::replace(&mut self.locals, Vec::new(alloc))
     }
 
-    /// Begins anew, where a section begins: with these locals, no cells, and all the memory that it can need.
+    /// Begins the next section, with `locals`, without cells, and with all memory that the section can need.
     ///
     /// # Errors
     ///
-    /// Want of memory; then it has no cells.
+    /// Out of memory. The machine then has no cells.
     pub fn renew(
         &mut self,
         locals: Vec<Value>,
@@ -116,7 +115,7 @@ impl<'p> Machine<'p> {
         self.held.renew(layout, room)
     }
 
-    /// Where it is in its code.
+    /// The index of its next instruction.
     #[inline]
     pub fn place(&self) -> usize
         ensures { result ≡ self.now.machine.place }
@@ -124,7 +123,7 @@ impl<'p> Machine<'p> {
         self.place
     }
 
-    /// What its locals hold.
+    /// The values of its locals.
     #[inline]
     pub fn locals(&self) -> &[Value]
         ensures { result.now ≡ self.now.machine.locals }
@@ -132,7 +131,7 @@ impl<'p> Machine<'p> {
         self.locals.as_slice()
     }
 
-    /// Passes on to the next instruction.
+    /// Moves on to the next instruction.
     #[inline]
     pub fn pass(&mut self)
         requires { self.old.machine.place + 1 < 2 ^ 64 }
@@ -141,7 +140,7 @@ impl<'p> Machine<'p> {
         self.place += 1;
     }
 
-    /// Holds the cells of a lock.
+    /// Adds the cells of a lock.
     pub fn grant(&mut self, grant: Grant)
         requires { CanHold (holding_of self.old) grant }
         ensures { self.new ≡ with_holding self.old (with_grant (holding_of self.old) grant) }
@@ -149,8 +148,8 @@ impl<'p> Machine<'p> {
         self.held.grant(grant);
     }
 
-    /// Ends the section: the grants, the oldest first, go into a list that has none, and what was read and written is put
-    /// in order. All else stays as it is.
+    /// Ends the section: moves the grants, the oldest first, into the empty list `grants`, and puts the reads and writes
+    /// in order of the cells' numbers. The rest is unchanged.
     pub fn finish(&mut self, grants: &mut Vec<Grant>)
         requires none { grants.old.items ≡ [] }
         ensures { IsFinished self.old grants.new.items self.new }
@@ -160,7 +159,7 @@ impl<'p> Machine<'p> {
         self.held.finish(grants);
     }
 
-    /// Each cell that was read before it was written, with the value that was found, in order of the cells' numbers.
+    /// Each cell that was read before it was written, with the value found, in order of the cells' numbers.
     pub fn reads(&self) -> &[CellValue]
         requires { self.now.cell_room ≡ 0 }
         ensures { result.now ≡ self.now.machine.memory.reads }
@@ -168,7 +167,7 @@ impl<'p> Machine<'p> {
         self.held.reads()
     }
 
-    /// Each cell that was written, with the value that was written last, in the same order.
+    /// Each cell that was written, with the last value written, in order of the cells' numbers.
     pub fn writes(&self) -> &[CellValue]
         requires { self.now.cell_room ≡ 0 }
         ensures { result.now ≡ self.now.machine.memory.writes }
@@ -176,7 +175,7 @@ impl<'p> Machine<'p> {
         self.held.writes()
     }
 
-    /// The numbers that it printed, the first one first.
+    /// The numbers that the section printed, the first one first.
     pub fn prints(&self) -> &[i64]
         ensures items { result.now ≡ self.now.machine.prints }
         ensures few { length self.now.machine.prints ≤ 256 }
@@ -184,11 +183,11 @@ impl<'p> Machine<'p> {
         self.prints.numbers()
     }
 
-    /// Gives the memory back, where it holds no cells.
+    /// Frees the memory of a machine without cells.
     pub fn let_go(self)
         requires { self.locks ≡ [] }
     {
-        let Machine {
+        let StackMachine {
             place: _,
             operands: _,
             locals: _,
@@ -199,7 +198,7 @@ impl<'p> Machine<'p> {
     }
 }
 
-// A value of a cell that is held.
+// The value of `cell`, if it is held.
 #[inline(always)]
 fn load(held: &mut Holding, cell: usize) -> Option<Value>
     requires { HasSmallCells held.old.memory }
@@ -211,7 +210,7 @@ fn load(held: &mut Holding, cell: usize) -> Option<Value>
     }
 }
 
-// Writes a cell that is held.
+// Writes `cell`, and returns whether it is held.
 #[inline(always)]
 fn store(held: &mut Holding, cell: usize, value: Value) -> bool
     requires { HasSmallCells held.old.memory }
@@ -223,9 +222,9 @@ fn store(held: &mut Holding, cell: usize, value: Value) -> bool
     }
 }
 
-// What each of the instructions needs and does; the instructions themselves are in `step`.
-impl<'p> Machine<'p> {
-    // A value on the top.
+// The operations of the instructions, which `step` calls.
+impl<'p> StackMachine<'p> {
+    // Pushes `value`.
     #[inline(always)]
     fn push(&mut self, value: Value) -> Progress
         requires { FitsRoom self.old.operand_room (putting_on self.old.machine.stack (Ok value) self.old.machine) }
@@ -236,7 +235,7 @@ impl<'p> Machine<'p> {
         Progress::Moved
     }
 
-    // A value in place of the top.
+    // Replaces the top by `value`, unless it is a failure.
     #[inline(always)]
     fn replace_top(&mut self, value: Result<Value, Failure>) -> Progress
         requires top { 0 < length self.old.machine.stack }
@@ -253,7 +252,7 @@ impl<'p> Machine<'p> {
         }
     }
 
-    // A value in place of the two on top.
+    // Replaces the two operands on top by `value`, unless it is a failure.
     #[inline(always)]
     fn replace_two(&mut self, value: Result<Value, Failure>) -> Progress
         requires top { 1 < length self.old.machine.stack }
@@ -271,7 +270,7 @@ impl<'p> Machine<'p> {
         }
     }
 
-    // On, where a test of the top is passed.
+    // Moves on if `test` is passed.
     #[inline(always)]
     fn go_on_if<T: Drop>(&mut self, test: Result<T, Failure>) -> Progress
         requires { FitsRoom self.old.operand_room (passing test self.old.machine) }
@@ -315,7 +314,7 @@ impl<'p> Machine<'p> {
         Progress::Moved
     }
 
-    // What a cell holds in place of the top.
+    // Replaces the top by the value of `cell`.
     #[inline(always)]
     fn load_cell(&mut self, cell: Result<usize, Failure>) -> Progress
         requires top { 0 < length self.old.machine.stack }
@@ -336,7 +335,7 @@ impl<'p> Machine<'p> {
         }
     }
 
-    // A value in a cell, and the two on top off.
+    // Writes `value` to `cell`, and pops two operands.
     #[inline(always)]
     fn store_cell(&mut self, cell: Result<usize, Failure>, value: Value) -> Progress
         requires top { 1 < length self.old.machine.stack }
@@ -359,7 +358,7 @@ impl<'p> Machine<'p> {
     }
 }
 
-impl<'p> Machine<'p> {
+impl<'p> StackMachine<'p> {
     #[inline(always)]
     fn get_local(&mut self, local: usize) -> Progress
         requires { FitsRoom self.old.operand_room (getting local self.old.machine) }
@@ -512,7 +511,7 @@ impl<'p> Machine<'p> {
         self.replace_top(owned)
     }
 
-    // A reference whose final reference names what a local does, or null.
+    // `value`, if it is null or its final reference equals the local.
     #[inline(always)]
     fn owned(
         &self,
@@ -595,7 +594,7 @@ impl<'p> Machine<'p> {
         Progress::Moved
     }
 
-    // Behind so many instructions, where the truth value on the top is this; it is taken off.
+    // Pops a truth value, and jumps over `over` instructions if it equals `on`.
     #[inline(always)]
     fn branch(&mut self, over: usize, on: bool) -> Progress
         requires { FitsRoom self.old.operand_room (branching on over self.old.machine) }
@@ -646,8 +645,8 @@ impl<'p> Machine<'p> {
     }
 }
 
-impl<'p> Machine<'p> {
-    /// Does one instruction. The machine is moved where the answer says so, and else as it was; an instruction that asks for
+impl<'p> StackMachine<'p> {
+    /// Runs one instruction. The machine moves only if the answer is [`Progress::Moved`]; an instruction that asks for
     /// locks doesn't move it yet.
     pub fn step(&mut self, shape: &Shape, instruction: Instr) -> Progress
         requires small { HasSmallCells self.old.machine.memory }

@@ -8,11 +8,11 @@ use source::memory::NoMemory;
 use std::alloc::Global;
 use std::marker::Model;
 
-/// The operand stack of a section, with room for a number of operands. As a value it is the operands, the top first,
-/// and the room.
+/// The operand stack of a section, with room for a number of operands. Its value is the operands, the top first, and the
+/// room.
 #[derive(Drop)]
 pub struct Operands {
-    // The operands from the bottom up, and behind them what isn't used.
+    // The operands from the bottom up, then unused places.
     values: Vec<Value>,
     depth: usize,
 }
@@ -29,7 +29,7 @@ impl Model for Operands {
 }
 
 impl Operands {
-    /// No operands, and no room.
+    /// An empty stack without room.
     pub fn new(alloc: Global) -> Operands
         ensures { result ≡ record { stack = []; room = 0 } }
     {
@@ -39,11 +39,11 @@ impl Operands {
         }
     }
 
-    /// Begins anew: no operands, and room for so many, in memory that is made larger where it is too small.
+    /// Removes the operands, and makes room for `room` of them. The memory grows if it is too small.
     ///
     /// # Errors
     ///
-    /// Want of memory; then there are no operands.
+    /// Out of memory. The stack is then empty.
     pub fn renew(&mut self, room: usize) -> Result<(), NoMemory>
         ensures { OnOk result (self.new ≡ record { stack = []; room = room }) }
     {
@@ -52,7 +52,7 @@ impl Operands {
         Ok(())
     }
 
-    /// Puts one on the top.
+    /// Pushes `value`.
     #[inline(always)]
     pub fn push(&mut self, value: Value)
         requires { length self.old.stack < self.old.room }
@@ -62,7 +62,7 @@ impl Operands {
         self.depth += 1;
     }
 
-    /// The top.
+    /// The top, if the stack is not empty.
     #[inline(always)]
     pub fn top(&self) -> Option<Value>
         ensures { result ≡ slice_get self.now.stack 0 }
@@ -73,7 +73,7 @@ impl Operands {
         Some(self.values[self.depth - 1])
     }
 
-    /// The one below the top.
+    /// The operand below the top, if there are two.
     #[inline(always)]
     pub fn second(&self) -> Option<Value>
         ensures { result ≡ slice_get self.now.stack 1 }
@@ -84,7 +84,7 @@ impl Operands {
         Some(self.values[self.depth - 2])
     }
 
-    /// Takes the top off.
+    /// Removes the top.
     #[inline(always)]
     pub fn pop(&mut self)
         requires { 0 < length self.old.stack }
@@ -93,7 +93,7 @@ impl Operands {
         self.depth -= 1;
     }
 
-    /// Sets the top.
+    /// Replaces the top by `value`.
     #[inline(always)]
     pub fn set_top(&mut self, value: Value)
         requires { 0 < length self.old.stack }

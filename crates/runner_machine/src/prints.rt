@@ -1,17 +1,15 @@
-//! What a section prints.
+//! The prints of a section.
 
 ghost use Rattle.std.specs.Prelude.{◌≡◌, ◌≤◌, [], length, IfOk};
 ghost use Rattle.runner_machine.specs.Working.Prints.{IsPrinted};
 
 use core_lang::value::{Failure, Trap, Value};
+use source::limits::PRINT_LIMIT;
 use source::memory::NoMemory;
 use std::alloc::Global;
 use std::marker::Model;
 
-// How many numbers one run of a section may print.
-const MOST_PRINTS: usize = 256;
-
-/// The numbers that a section has printed, with room for all that it may print.
+/// The numbers that a section has printed, with room for the most that it may print.
 #[derive(Drop)]
 pub struct Prints {
     numbers: Vec<i64>,
@@ -28,31 +26,31 @@ impl Model for Prints {
 }
 
 impl Prints {
-    /// None yet, and room for all.
+    /// No numbers, with room for all.
     ///
     /// # Errors
     ///
-    /// Want of memory.
+    /// Out of memory.
     pub fn new(alloc: Global) -> Result<Prints, NoMemory>
         ensures { IfOk result (λ prints. prints ≡ []) }
     {
         let mut numbers = Vec::new(alloc);
-        numbers.reserve(MOST_PRINTS)?;
+        numbers.reserve(PRINT_LIMIT)?;
         Ok(Prints { numbers })
     }
 
-    /// None any more.
+    /// Removes the numbers.
     pub fn clear(&mut self)
         ensures { self.new ≡ [] }
     {
         self.numbers.clear();
     }
 
-    /// Prints a number, of at most 256.
+    /// Appends a printed number; at most 256 can be printed.
     ///
     /// # Errors
     ///
-    /// A value that is no number is wrong, and the 257th number is a trap; the numbers are as they were.
+    /// `Wrong` for a value that is not a number, and a trap for the 257th number. The numbers are then unchanged.
     #[inline]
     pub fn print(&mut self, value: Value) -> Result<(), Failure>
         ensures { IsPrinted self.old value result self.new }
@@ -60,7 +58,7 @@ impl Prints {
         let Value::Int(number) = value else {
             return Err(Failure::Wrong);
         };
-        if self.numbers.len() < MOST_PRINTS {
+        if self.numbers.len() < PRINT_LIMIT {
             self.numbers.push(number).unwrap();
             Ok(())
         } else {
@@ -76,7 +74,7 @@ impl Prints {
         self.numbers.as_slice()
     }
 
-    /// What holds of every value: there are no more than may be printed.
+    /// A law: the numbers don't exceed the most that may be printed.
     pub fn keeps_its_rules(&self)
         ensures { length self.now ≤ 256 }
     {

@@ -1,24 +1,24 @@
-//! What an instruction did.
+//! The result of an instruction.
 
 ghost use Rattle.std.specs.Prelude.{◌≡◌};
 ghost use Rattle.runner_machine.specs.Working.Machines.{told};
 
 use core_lang::value::{Failure, Outcome};
 
-/// What an instruction of an open section did.
+/// The result of an instruction of an open section.
 #[derive(Clone, Copy, PartialEq, Eq, Debug)]
 pub enum Progress {
     /// The machine moved.
     Moved,
-    /// The locks before this point are asked for next; then the machine passes on.
+    /// The section asks for the locks before this point next; then the machine moves on.
     Asks(usize),
-    /// The section has this outcome.
+    /// The section ends with this outcome.
     Finished(Outcome),
     /// The instruction has no case here.
     Undefined,
 }
 
-// The answer to a failure: a trap ends the section.
+// The result for a failure: a trap ends the section.
 #[inline(always)]
 pub(crate) fn failed(failure: Failure) -> Progress
     ensures { result ≡ told failure }

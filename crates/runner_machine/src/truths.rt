@@ -6,7 +6,7 @@ ghost use Rattle.runner_machine.specs.Working.Machines as machines;
 
 use core_lang::value::{Failure, Value};
 
-// Whether a truth value is true.
+// Whether the truth value `value` is true.
 #[inline(always)]
 pub(crate) fn truth_in(value: Value) -> Result<bool, Failure>
     ensures { result ≡ machine.is_true value }
@@ -18,7 +18,7 @@ pub(crate) fn truth_in(value: Value) -> Result<bool, Failure>
     }
 }
 
-// A truth value.
+// The truth value of `holds`.
 #[inline(always)]
 pub(crate) fn truth_value(holds: bool) -> Value
     ensures { result ≡ machine.truth holds }
@@ -26,7 +26,7 @@ pub(crate) fn truth_value(holds: bool) -> Value
     if holds { Value::Int(1) } else { Value::Int(0) }
 }
 
-// The other truth value.
+// The negated truth value.
 #[inline(always)]
 pub(crate) fn negate_truth(value: Value) -> Result<Value, Failure>
     ensures { result ≡ machine.negation value }
@@ -35,7 +35,7 @@ pub(crate) fn negate_truth(value: Value) -> Result<Value, Failure>
     Ok(truth_value(!holds))
 }
 
-// Whether a truth value is the one that it is to be.
+// Whether `holds` equals `wanted`.
 #[inline(always)]
 pub(crate) fn agrees(wanted: bool, holds: bool) -> bool
     ensures { result ≡ machines.agrees wanted holds }

@@ -1,4 +1,4 @@
--- What is printed of a fault's code.
+-- The printed name and the message of a fault's code.
 use Rattle.std.specs.Prelude.{ℕ, List, codes}
 use Rattle.source.specs.declared.fault.Code.{Code}
 use Rattle.source.specs.declared.fault.Code.TheVariants.{BadCharacter, NumberTooLarge, UnexpectedToken, NestedTooDeep}
@@ -32,7 +32,7 @@ code_name MisplacedReturn = codes "E18"
 code_name LockAsValue = codes "E19"
 code_name RecursiveHelper = codes "E20"
 
--- its fixed text
+-- the message of a code
 abbrev pub code_text : Code → List ℕ
 code_text BadCharacter = codes "bad character"
 code_text NumberTooLarge = codes "number too large"

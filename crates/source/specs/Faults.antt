@@ -1,4 +1,4 @@
--- Where a fault stands, the line that reports it, and refusals that are one fault.
+-- The position of a fault, the line that reports it, and refusals that are a given fault.
 use Rattle.std.specs.Prelude.{◌≡◌, ℕ, ◌+◌, List, [], ◌∷◌, ◌++◌, take, min, length, count_by, ◌==◌, not, codes}
 use Rattle.std.specs.Prelude.{string_bytes, Result, MatchResult}
 use Rattle.std.specs.List.{suffix_len}
@@ -9,15 +9,15 @@ use Rattle.source.specs.declared.fault.Refusal.{Refusal}
 use Rattle.source.specs.declared.fault.Refusal.TheVariants.{Fault, NoMemory}
 use Rattle.source.specs.Codes.{code_name, code_text}
 
--- a byte's line: 1 plus the number of line feeds before
+-- the line of the byte at this index: 1 plus the number of line feeds before it
 abbrev pub line_of : List ℕ → ℕ → ℕ
 line_of text at = 1 + count_by (λ byte. byte == 10) (take at text)
 
--- its column: 1 plus the number of bytes since the last line feed
+-- the column of the byte at this index: 1 plus the number of bytes since the last line feed
 abbrev pub column_of : List ℕ → ℕ → ℕ
 column_of text at = 1 + suffix_len (λ byte. not (byte == 10)) (take at text)
 
--- what follows the code's text: the classes of a cycle, if there are any
+-- what follows the code's message: the classes of a cycle, if it has any
 abbrev pub detail_text : List ℕ → List ℕ
 detail_text [] = []
 detail_text (byte ∷ bytes) = codes ": " ++ (byte ∷ bytes)
@@ -27,7 +27,7 @@ unfoldable pub placed_text : List ℕ → ℕ → ℕ → List ℕ → List ℕ 
 placed_text file line column name text =
     file ++ codes ":" ++ decimal line ++ codes ":" ++ decimal column ++ codes ": " ++ name ++ codes " " ++ text
 
--- the same of the place of a byte; one past the text's end stands at its end
+-- FILE:LINE:COL: CODE TEXT for the byte at an index; an index past the text's end means its end
 abbrev pub place_text : List ℕ → List ℕ → ℕ → List ℕ → List ℕ → List ℕ
 place_text file text start name words =
     let at = min start (length text) in placed_text file (line_of text at) (column_of text at) name words
@@ -37,7 +37,7 @@ abbrev pub fault_text : List ℕ → List ℕ → the_fault.Fault → List ℕ
 fault_text file text fault =
     place_text file text fault.start (code_name fault.code) (code_text fault.code) ++ detail_text (string_bytes fault.detail)
 
--- how a code shows, and how a fault does where no text is at hand
+-- a code as it is displayed, and a fault as it is displayed without its text
 abbrev pub shown_code : Code → List ℕ
 shown_code code = code_name code ++ codes " " ++ code_text code
 
@@ -48,11 +48,11 @@ shown_fault fault = shown_code fault.code ++ codes " at byte " ++ decimal fault.
 abbrev pub IsBare : Code → ℕ → the_fault.Fault → Type 0
 IsBare code start fault = (fault.code ≡ code) × (fault.start ≡ start) × (string_bytes fault.detail ≡ [])
 
--- the refusal is that fault, or for want of memory
+-- the refusal is this fault, without detail, or the failure of an allocation
 abbrev pub IsFaultAt : Code → ℕ → Refusal → Type 0
 IsFaultAt code start (Fault fault) = IsBare code start fault
 IsFaultAt code start NoMemory = Unit {0}
 
--- what is returned is this, as it is viewed, unless memory ran out
+-- a success has this view, and the only error is the failure of an allocation
 abbrev pub IsGiven : {X Y : Type 0} → (X → Y) → Y → Result X Refusal → Type 0
 IsGiven view y r = MatchResult r (λ x. view x ≡ y) (λ e. e ≡ NoMemory)

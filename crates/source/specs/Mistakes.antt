@@ -1,4 +1,4 @@
--- Which of two faults is told: the order of faults, and the least of several.
+-- Which of two faults is reported: the order of faults, and the least of several.
 use Rattle.std.specs.Prelude.{◌≡◌, ℕ, nat_lt, ◌==◌, ◌&&◌, ◌||◌, Bool, false, if◌then◌else◌, List, [], ◌∷◌, Option}
 use Rattle.std.specs.Prelude.{Some, None}
 use Rattle.source.specs.declared.fault.Code.{Code}
@@ -13,7 +13,7 @@ use Rattle.source.specs.declared.fault.Refusal.{Refusal}
 use Rattle.source.specs.declared.fault.Refusal.TheVariants as refusal
 use Rattle.source.specs.declared.mistake.Mistake.{Mistake}
 
--- the number in a code's name
+-- the number in a code's printed name
 abbrev pub code_number : Code → ℕ
 code_number BadCharacter = 1
 code_number NumberTooLarge = 2
@@ -36,21 +36,21 @@ code_number MisplacedReturn = 18
 code_number LockAsValue = 19
 code_number RecursiveHelper = 20
 
--- the one that starts first goes first; at one start the lower code
+-- the fault that starts first comes first; of two with one start, the one with the lower code
 abbrev pub goes_before : Mistake → Mistake → Bool
 goes_before f g = nat_lt f.start g.start || (f.start == g.start) && nat_lt (code_number f.code) (code_number g.code)
 
--- the lesser of a fault, if there is one, and another
+-- the lesser of a fault, if one is given, and another
 abbrev pub lesser : Option Mistake → Mistake → Option Mistake
 lesser None g = Some g
 lesser (Some f) g = if goes_before g f then Some g else Some f
 
--- the least of a fault, if there is one, and further ones
+-- the least of a list of faults and of one more, if it is given
 abbrev pub least_of : Option Mistake → List Mistake → Option Mistake
 least_of f [] = f
 least_of f (g ∷ gs) = least_of (lesser f g) gs
 
--- of the faults of a relation, by code and place, none goes before the one that is given
+-- no fault of the relation, which is by code and start, comes before the fault of the refusal
 abbrev pub IsLeastOf : (Code → ℕ → Type 0) → Refusal → Type 0
 IsLeastOf IsFault refusal.NoMemory = Unit {0}
 IsLeastOf IsFault (refusal.Fault f) =

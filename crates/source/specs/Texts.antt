@@ -17,12 +17,15 @@ use Rattle.source.specs.declared.token.Sign.TheVariants.{DoubleEquals, NotEquals
 use Rattle.source.specs.declared.token.Sign.TheVariants.{GreaterEquals, Plus, Minus, Star, Slash, Percent, And, Or}
 use Rattle.source.specs.declared.token.Sign.TheVariants.{Not}
 use Rattle.source.specs.Tokens.{Lexeme, name, int, word, mark, end, Tok}
+pub use Rattle.source.specs.Limits.{NUMBER_LIMIT, NAME_LIMIT, SOURCE_LIMIT}
 
 -- ---- bytes
 
+-- the number `b` lies from `low` to `high`, both included
 abbrev pub is_between : ℕ → ℕ → ℕ → Bool
 is_between low high b = nat_le low b && nat_le b high
 
+-- an ASCII digit
 abbrev pub is_digit : ℕ → Bool
 is_digit b = is_between 48 57 b
 
@@ -30,6 +33,7 @@ is_digit b = is_between 48 57 b
 abbrev pub is_letter : ℕ → Bool
 is_letter b = is_between 65 90 b || is_between 97 122 b || (b == 95)
 
+-- a letter, `_` or a digit
 abbrev pub is_name_byte : ℕ → Bool
 is_name_byte b = is_letter b || is_digit b
 
@@ -39,6 +43,7 @@ is_white b = (b == 32) || (b == 9) || (b == 13) || (b == 10)
 
 -- ---- single tokens
 
+-- how each keyword is written
 abbrev pub keyword_text : Keyword → List ℕ
 keyword_text Lock = codes "lock"
 keyword_text Struct = codes "struct"
@@ -63,6 +68,7 @@ keyword_text Null = codes "null"
 keyword_text Where = codes "where"
 keyword_text Call = codes "call"
 
+-- how each sign is written
 abbrev pub sign_text : Sign → List ℕ
 sign_text OpenBrace = codes "{"
 sign_text CloseBrace = codes "}"
@@ -90,6 +96,7 @@ sign_text And = codes "&&"
 sign_text Or = codes "||"
 sign_text Not = codes "!"
 
+-- the number that these decimal digits write
 abbrev pub value_of : List ℕ → ℕ
 value_of digits = fold (λ n b. n * 10 + (b - 48)) 0 digits
 
@@ -101,21 +108,13 @@ pub data IsUnit : List ℕ → Lexeme → Type 0 where
   is_word : (w : Keyword) → IsUnit (keyword_text w) (word w)
   is_mark : (s : Sign) → IsUnit (sign_text s) (mark s)
 
--- no more bytes would make a unit with these
+-- these bytes with more of the rest make no token
 abbrev pub IsLongest : List ℕ → List ℕ → Type 0
 IsLongest bytes rest = (b : ℕ) (more other : List ℕ) (k : Lexeme) → rest ≡ (b ∷ more) ++ other → IsUnit (bytes ++ b ∷ more) k → ⊥
 
 -- ---- limits
 
-abbrev pub NUMBER_LIMIT : ℕ
-NUMBER_LIMIT = 9223372036854775807
-
-abbrev pub NAME_LIMIT : ℕ
-NAME_LIMIT = 64
-
-abbrev pub SOURCE_LIMIT : ℕ
-SOURCE_LIMIT = 1048576
-
+-- a number and a name keep their limits; other tokens have none
 abbrev pub IsWithin : Lexeme → Type 0
 IsWithin (int n) = n ≤ NUMBER_LIMIT
 IsWithin (name text) = length text ≤ NAME_LIMIT
@@ -123,11 +122,12 @@ IsWithin _ = Unit {0}
 
 -- ---- between tokens
 
--- a line's end, or the text's
+-- the end of a line, or of the text
 abbrev pub IsLineEnd : List ℕ → Type 0
 IsLineEnd [] = Unit {0}
 IsLineEnd (b ∷ bs) = b ≡ 10
 
+-- any byte but a line feed
 abbrev pub is_in_line : ℕ → Bool
 is_in_line b = not (b == 10)
 
@@ -144,25 +144,26 @@ BeginsComment text = (rest : List ℕ) × (text ≡ 47 ∷ 47 ∷ rest)
 
 -- ---- whole texts
 
--- the next token of the text is these bytes, and rest is behind it
+-- the next token of the text has these bytes, and `rest` follows it
 pub record IsNext (text bytes rest : List ℕ) (k : Lexeme) : Type 0 where
   pub gap : IsGap text (bytes ++ rest)
   pub no_comment : BeginsComment (bytes ++ rest) → ⊥
   pub unit : IsUnit bytes k
   pub longest : IsLongest bytes rest
 
--- the place of what is left, in a text of so many bytes
+-- the position at which the rest of a text with `total` bytes begins
 abbrev pub place : ℕ → List ℕ → ℕ
 place total rest = total - length rest
 
--- a token of the text, and where it stands
+-- a token of the text and its position
 abbrev pub tok_at : ℕ → List ℕ → List ℕ → Lexeme → Tok
 tok_at total bytes rest k = record { kind = k; span = record { start = place total (bytes ++ rest); end = place total rest } }
 
+-- the end of a text with this number of bytes, as a token
 abbrev pub end_at : ℕ → Tok
 end_at total = record { kind = end; span = record { start = total; end = total } }
 
--- the tokens of what is left of a text of so many bytes
+-- the tokens of the rest of a text with `total` bytes
 pub data AreTokens (total : ℕ) : List ℕ → List Tok → Type 0 where
   at_end : {text : List ℕ} → IsGap text [] → AreTokens total text (end_at total ∷ [])
   token : {text bytes rest : List ℕ} {k : Lexeme} {ts : List Tok}
@@ -173,25 +174,25 @@ pub data AreTokens (total : ℕ) : List ℕ → List Tok → Type 0 where
 abbrev pub HasTokens : List ℕ → List Tok → Type 0
 HasTokens text ts = AreTokens (length text) text ts
 
--- each token begins where the one before it ends or later, and ends where it begins or later
+-- each token begins at or after the end of the one before it, and ends at or after its start
 abbrev pub DoRise : ℕ → List Tok → Type 0
 DoRise from [] = Unit {0}
 DoRise from (t ∷ ts) = (from ≤ t.span.start) × (t.span.start ≤ t.span.end) × DoRise t.span.end ts
 
--- each token but the end is what the text has from its start to its end
+-- each token except the end has the bytes of the text from its start to its end
 abbrev pub AreSlices : List ℕ → List Tok → Type 0
 AreSlices text [] = Unit {0}
 AreSlices text (t ∷ ts) = ((t.kind ≡ end → ⊥) → IsUnit (slice_range text t.span.start t.span.end) t.kind) × AreSlices text ts
 
 -- ---- faults
 
--- the text up to here is tokens and what stands between them
+-- from the first text to the second, only tokens and gaps between them
 pub data Leads : List ℕ → List ℕ → Type 0 where
   here : {text : List ℕ} → Leads text text
   past : {text bytes rest here : List ℕ} {k : Lexeme} → IsNext text bytes rest k → IsWithin k → Leads rest here →
       Leads text here
 
--- E01: after tokens, a byte that begins no token and no comment and is no white space
+-- E01: after tokens, a byte that begins neither a token nor a comment and is not white space
 pub record IsBadCharacter (total : ℕ) (text : List ℕ) (start : ℕ) : Type 0 where
   pub from : List ℕ
   pub byte : ℕ
@@ -213,20 +214,20 @@ pub record IsOver (total : ℕ) (text : List ℕ) (start : ℕ) (k : Lexeme) : T
   pub is_at : place total (bytes ++ rest) ≡ start
   pub over : IsWithin k → ⊥
 
--- the fault of what is left of a text of so many bytes: E01, E02, or E15 of a name
+-- the fault of a text with `total` bytes, after its first tokens: E01, E02, or E15 of a name
 pub data IsFaultFrom (total : ℕ) (text : List ℕ) : Code → ℕ → Type 0 where
   bad_character : {start : ℕ} → IsBadCharacter total text start → IsFaultFrom total text BadCharacter start
   too_large : {start : ℕ} (value : ℕ) → IsOver total text start (int value) →
       IsFaultFrom total text NumberTooLarge start
   too_long : {start : ℕ} (x : List ℕ) → IsOver total text start (name x) → IsFaultFrom total text LimitExceeded start
 
--- a source over the limit has one fault alone, E15 at its first byte
+-- a source over the limit has only one fault, E15 at its first byte
 pub data IsFault (text : List ℕ) : Code → ℕ → Type 0 where
   too_big : SOURCE_LIMIT < length text → IsFault text LimitExceeded 0
   within : {code : Code} {start : ℕ} → length text ≤ SOURCE_LIMIT → IsFaultFrom (length text) text code start →
       IsFault text code start
 
--- the refusal is a fault of the text, with no detail, or for want of memory
+-- the refusal is a fault of the text, with no detail, or the failure of an allocation
 abbrev pub IsRefusal : List ℕ → Refusal → Type 0
 IsRefusal text NoMemory = Unit {0}
 IsRefusal text (Fault f) = IsFault text f.code f.start × (string_bytes f.detail ≡ [])

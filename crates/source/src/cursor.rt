@@ -3,14 +3,14 @@
 ghost use Rattle.std.specs.Prelude.{◌≡◌, ◌+◌, ◌≤◌, length};
 ghost use Rattle.source.specs.Faults.{line_of, column_of};
 
-/// A byte of a text, or its end, with its line and column, both from 1.
+/// A position in a text: a byte, or the text's end, with its line and column, both counted from 1.
 #[derive(Clone, Copy)]
 pub struct Cursor<'a> {
     text: &'a [u8],
     at: usize,
-    /// Its line.
+    /// The line, from 1.
     pub line: usize,
-    /// Its column, in bytes.
+    /// The column, in bytes from 1.
     pub column: usize,
     ghost within: { at ≤ length text.now },
     ghost of_line: { line ≡ line_of text.now at },
@@ -20,7 +20,7 @@ pub struct Cursor<'a> {
 }
 
 impl<'a> Cursor<'a> {
-    /// At the beginning of the text.
+    /// A cursor at the beginning of `text`.
     pub fn new(text: &'a [u8]) -> Cursor<'a>
         ensures same { result.text.now ≡ text.entry.now }
         ensures first { result.at ≡ 0 }
@@ -33,7 +33,7 @@ impl<'a> Cursor<'a> {
         }
     }
 
-    // Over the bytes between, one by one.
+    // Moves forward to `to` over the bytes between, one by one.
     fn advance(&mut self, to: usize)
         requires ahead { self.old.at ≤ to }
         requires within { to ≤ length self.old.text.now }
@@ -54,8 +54,8 @@ impl<'a> Cursor<'a> {
         self.column = column;
     }
 
-    /// To the byte at `start`, or the end of the text where that lies before it. A way forward passes only the bytes
-    /// between, and a way back those from the beginning.
+    /// Moves to the byte at `start`, or to the end of the text if `start` lies past it. A move forward reads only the
+    /// bytes between; a move back reads those from the beginning.
     pub fn go_to(&mut self, start: usize)
         ensures same { self.new.text.now ≡ self.old.text.now }
         ensures line { self.new.line ≡ line_of self.old.text.now start }

@@ -1,4 +1,4 @@
-//! Faults of a source text, and why a pass gives no answer.
+//! Faults of a source text, and why a pass gives no result.
 
 ghost use Rattle.std.specs.Prelude.{◌≡◌, [], string_bytes};
 ghost use Rattle.source.specs.declared.fault.Refusal.TheVariants.{NoMemory};
@@ -9,48 +9,48 @@ use std::alloc::{AllocError, AllocFailed, Global};
 use std::fmt;
 use thiserror::Error;
 
-/// What is wrong with a text. The documents call each by its printed name, `E01` to `E20`.
+/// The code of a fault, which says what is wrong with a text. It is printed as `E01` to `E20`.
 #[derive(Clone, Copy, Debug, PartialEq, Eq)]
 pub enum Code {
     /// `E01`: a byte that begins no token.
     BadCharacter,
-    /// `E02`: a number over 9223372036854775807.
+    /// `E02`: a number above 9223372036854775807.
     NumberTooLarge,
-    /// `E03`: a token with which no program begins.
+    /// `E03`: an unexpected token: some program begins with the tokens before it, and none with it too.
     UnexpectedToken,
     /// `E04`: an opening sign inside 64 open ones.
     NestedTooDeep,
-    /// `E05`: a name that is declared already.
+    /// `E05`: a name that is declared twice.
     DeclaredTwice,
-    /// `E06`: a name that is not declared, or not in scope, or no such field.
+    /// `E06`: a name that is not declared or not in scope, or a field that does not exist.
     UnknownName,
-    /// `E07`: an expression, a constant or a name of another type or kind than is wanted.
+    /// `E07`: an expression, a constant or a name of another type or kind than expected.
     WrongType,
     /// `E08`: a call with too many or too few arguments.
     WrongArgumentCount,
-    /// `E09`: a left side that can't be assigned to.
+    /// `E09`: the target of an assignment that can't be assigned to.
     NotAssignable,
     /// `E10`: a global or field that no lock protects and that is not final.
     NeitherFinalNorProtected,
-    /// `E11`: an annotation whose last name is no lock.
+    /// `E11`: an annotation whose last name is not a lock.
     ProtectedByNoLock,
-    /// `E12`: an annotation that passes a field that can change.
+    /// `E12`: an annotation that passes through a field that can change.
     ProtectedByPassesNonFinal,
     /// `E13`: an access under an object's lock through a base that can change.
     UnstableBase,
-    /// `E14`: lock classes that no order fits.
+    /// `E14`: a cycle in the order of lock classes.
     LockOrderCycle,
     /// `E15`: more of something than the language allows.
     LimitExceeded,
-    /// `E16`: a final reference that no `init` gives.
+    /// `E16`: a final reference without an `init`.
     FinalWithoutOpeningValue,
-    /// `E17`: an index past the pool, or a second `init` of one field.
+    /// `E17`: an index past the pool's length, or a second `init` of one field.
     InitOutOfRangeOrRepeated,
-    /// `E18`: a `return` that may not stand there, or one that is missing.
+    /// `E18`: a misplaced or missing `return`.
     MisplacedReturn,
-    /// `E19`: a lock where a value is wanted.
+    /// `E19`: a lock where a value is expected.
     LockAsValue,
-    /// `E20`: a helper that calls itself, by itself or through others.
+    /// `E20`: a helper that calls itself, directly or through other helpers.
     RecursiveHelper,
 }
 
@@ -111,7 +111,7 @@ impl Code {
         }
     }
 
-    /// What the code says, in fixed words.
+    /// The message of the code.
     pub fn text(self) -> &'static str
         ensures { result.now ≡ code_text self }
     {
@@ -151,19 +151,19 @@ impl fmt::Display for Code {
     }
 }
 
-/// What is wrong, and where.
+/// A fault: what is wrong, and where.
 #[derive(Debug, Drop)]
 pub struct Fault {
     /// What is wrong.
     pub code: Code,
-    /// The byte at which it stands, counted from 0; the text's length stands for its end.
+    /// The byte of the text at which the fault is, from 0. The text's length means its end.
     pub start: usize,
     /// The lock classes of a cycle, as `A.l -> B.m -> A.l`; empty for every other code.
     pub detail: String,
 }
 
 impl Fault {
-    /// The fault of this code at this byte, with no detail. Takes no memory.
+    /// A fault of this code at this byte, with an empty detail. It allocates nothing.
     pub fn at(alloc: Global, code: Code, start: usize) -> Fault
         ensures code { result.code ≡ code }
         ensures start { result.start ≡ start }
@@ -188,13 +188,13 @@ impl fmt::Display for Fault {
     }
 }
 
-/// Why a pass gives no answer.
+/// The reason why a pass has no result.
 #[derive(Debug, Drop, Error)]
 pub enum Refusal {
     /// The text has this fault.
     #[error("{0}")]
     Fault(Fault),
-    /// A growth was refused.
+    /// An allocation failed.
     #[error("no memory")]
     NoMemory,
 }

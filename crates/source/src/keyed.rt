@@ -1,13 +1,13 @@
-//! Hashes that whoever writes a text cannot foresee.
+//! Hashes that the author of a text cannot predict.
 
 use core::hash::keyed_hasher;
 use std::hash::{BuildHasher, DefaultHasher, Hasher};
 
 /// A hash builder (SipHash-1-3) whose keys are a digest of a text.
 ///
-/// Whoever writes a text picks the names and numbers that tables of it are searched by, and a table whose hashes are
-/// known beforehand can be made slow by keys of one hash. Here each change of the text changes all hashes. No clause
-/// speaks of the keys: they change no answer.
+/// The author of a text picks the names and numbers that the tables of a pass are searched by. If the hashes were known
+/// beforehand, keys with equal hashes could make a table slow. Here each change of the text changes all hashes. No
+/// clause mentions the keys, since they change no result.
 #[derive(Clone, Copy, Debug)]
 pub struct KeyedState {
     first: u64,
@@ -15,7 +15,7 @@ pub struct KeyedState {
 }
 
 impl KeyedState {
-    /// Keyed by this text.
+    /// A hash builder keyed by `text`.
     pub fn of(text: &[u8]) -> KeyedState {
         let mut digest = Digest::new();
         digest.add(text);
@@ -43,7 +43,7 @@ pub struct Digest {
 }
 
 impl Digest {
-    /// Of no text.
+    /// The digest of the empty text.
     pub fn new() -> Digest {
         Digest {
             first: keyed_hasher(0x6c6f_636b, 0x6f72_6465),
@@ -51,7 +51,7 @@ impl Digest {
         }
     }
 
-    /// One part more.
+    /// Appends one part of the text.
     pub fn add(&mut self, part: &[u8]) {
         self.first.write(part);
         self.first.write_u8(0xff);
@@ -59,7 +59,7 @@ impl Digest {
         self.second.write_u8(0xff);
     }
 
-    /// The keys.
+    /// The hash builder keyed by the parts so far.
     pub fn into_keys(self) -> KeyedState {
         KeyedState {
             first: self.first.finish(),

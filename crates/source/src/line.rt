@@ -31,7 +31,7 @@ fn column_at(text: &[u8], at: usize) -> usize
     column
 }
 
-/// `FILE:LINE:COL: CODE TEXT`.
+/// The text `FILE:LINE:COL: CODE TEXT`.
 #[tactic(auto, unfolding(crate::specs::Faults::placed_text))]
 fn placed(
     alloc: Global,
@@ -46,24 +46,23 @@ fn placed(
     format!(in alloc; "{file}:{line}:{column}: {name} {text}")
 }
 
-/// A place in a text.
+/// A position in a text, with the name of its file.
 #[derive(Drop)]
 pub struct TextPlace<'a> {
     /// The name of the text's file.
     pub file: &'a str,
     /// The text.
     pub text: &'a [u8],
-    /// The place of a byte, from 0; one past the text's end stands for its end.
+    /// The byte, from 0. A value past the text's length means its end.
     pub start: usize,
 }
 
 impl TextPlace<'_> {
-    /// What stands there, under a name and in words: `FILE:LINE:COL: NAME WORDS`. Lines and columns count from 1, columns
-    /// in bytes.
+    /// The line `FILE:LINE:COL: NAME WORDS` for this position. Lines and columns count from 1, columns in bytes.
     ///
     /// # Errors
     ///
-    /// Want of memory.
+    /// Out of memory.
     pub fn line(&self, alloc: Global, name: &str, words: &str) -> Result<String, NoMemory>
         ensures { IfOk result (λ s. string_bytes s ≡ place_text self.now.file.now self.now.text.now self.now.start name.now words.now) }
     {
@@ -74,9 +73,9 @@ impl TextPlace<'_> {
     }
 }
 
-/// The line that reports `fault` in the text of the file of this name: `FILE:LINE:COL: CODE TEXT`,
-/// for a cycle followed by `: ` and its classes. Lines and columns count from 1, columns in bytes.
-/// A fault past the end of the text is reported at its end. The only error is a refused growth.
+/// The line that reports `fault` in the text `text` of the file named `file`: `FILE:LINE:COL: CODE TEXT`, for a cycle
+/// followed by `: ` and its classes. Lines and columns count from 1, columns in bytes. A fault past the end of the text
+/// is reported at its end. The only error is a failed allocation.
 pub fn fault_line(alloc: Global, file: &str, text: &[u8], fault: &Fault) -> Result<String, NoMemory>
     ensures { IfOk result (λ line. string_bytes line ≡ fault_text file.now text.now fault.now) }
 {

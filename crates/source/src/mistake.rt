@@ -1,4 +1,4 @@
-//! Faults by what is wrong and where, and the order in which they are told: the one that starts first, and at one place
+//! Faults by code and position, and which of several is reported: the one that starts first, and of those at one byte
 //! the one with the lowest code.
 
 ghost use Rattle.std.specs.Prelude.{◌≡◌};
@@ -6,17 +6,17 @@ ghost use Rattle.source.specs.Mistakes.{code_number, goes_before, lesser};
 
 use crate::fault::Code;
 
-/// A fault: what is wrong, and where.
+/// A fault: its code and its position.
 #[derive(Clone, Copy, Debug, PartialEq, Eq)]
 pub struct Mistake {
     /// What is wrong.
     pub code: Code,
-    /// The byte of the text where it stands, counted from 0.
+    /// The byte of the text at which the fault is, from 0.
     pub start: usize,
 }
 
 impl Mistake {
-    /// Whether this fault is told before another: it starts before it, or at the same byte with a lower code.
+    /// Whether this fault is reported before `other`: it starts earlier, or at the same byte with a lower code.
     pub fn precedes(self, other: Mistake) -> bool
         ensures { result ≡ goes_before self other }
     {
@@ -25,10 +25,10 @@ impl Mistake {
     }
 }
 
-/// Notes faults and keeps the least: `None` before the first.
+/// Replaces `least` by the fault with this code at this byte if `least` is `None` or is reported later.
 ///
-/// A fault that stands behind a kept one, or is the same, changes nothing.
-pub fn note(least: &mut Option<Mistake>, code: Code, start: usize)
+/// If the kept fault is the same or is reported earlier, it stays.
+pub fn report(least: &mut Option<Mistake>, code: Code, start: usize)
     ensures { least.new ≡ lesser least.old (record { code = code; start = start }) }
 {
     let found = Mistake { code, start };

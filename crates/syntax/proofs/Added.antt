@@ -1,4 +1,4 @@
--- What a printer adds, piece by piece.
+-- The text that a printer appends, piece by piece.
 use Rattle.std.proofs.Common.{◌≡◌, ℕ, ◌<◌, ◌≤◌, ◌+◌, List, [], ◌∷◌, ◌++◌, Bool, Result, Ok, Err, true, false, length}
 use Rattle.std.proofs.Common.{get_or, drop, string_bytes, refl, sym, ap, ◌∙◌, append_assoc, subst}
 use Rattle.std.specs.Prelude.{not, if◌then◌else◌}
@@ -10,7 +10,7 @@ use Rattle.syntax.specs.Working.Adding.{Adds}
 pub nothing_added : (p : Printer) → Adds p p []
 nothing_added p = record { unrefused = λ ok. ok; bytes = λ ok. sym (append-nil (string_bytes p.text)) }
 
--- a piece, and one behind it
+-- a piece, and one after it
 pub followed_by : {p q r : Printer} {x y : List ℕ} → Adds p q x → Adds q r y → Adds p r (x ++ y)
 followed_by {p = p} {x = x} {y = y} a b = record {
   unrefused = λ ok. a.unrefused (b.unrefused ok);
@@ -25,7 +25,7 @@ followed_by_both {p = p} {r = r} {x = x} y z a b = subst (Adds p r) (sym (append
 pub spelled : {p q : Printer} {x y : List ℕ} → x ≡ y → Adds p q x → Adds p q y
 spelled {p = p} {q = q} e a = subst (Adds p q) e a
 
--- In a loop: what was printed since it began, and the rest behind it, are the whole.
+-- In a loop: what was printed since it began, and the rest after it, are the whole.
 pub record Leads (first here : Printer) (rest whole : List ℕ) : Type 0 where
   pub unrefused : here.is_refused ≡ false → first.is_refused ≡ false
   pub bytes : here.is_refused ≡ false → string_bytes here.text ++ rest ≡ string_bytes first.text ++ whole
@@ -63,7 +63,7 @@ all_added {p = p} {q = q} {whole = whole} rest xs i above none l =
 
 -- ---- one call
 
--- nothing is tried where memory was refused
+-- after a failed allocation nothing is tried
 pub refused_before : (p : Printer) (text : List ℕ) → p.is_refused ≡ true → Adds p p text
 refused_before p text refused = record { unrefused = λ ok. ok; bytes = λ ok. absurd cc }
 

@@ -1,4 +1,4 @@
--- Printed threads and declarations are read again.
+-- Printed threads and declarations are parsed as the same trees.
 use Rattle.std.proofs.Common.{◌≡◌, ℕ, List, [], ◌∷◌, ◌++◌, Option, None, Some, refl, sym, ap, append_assoc}
 use Rattle.std.specs.Fmt.{decimal}
 use Rattle.source.specs.declared.span.Span.{Span}
@@ -229,7 +229,7 @@ section_again (is_section {s} ps t (is_block b)) g {total} {tail} r a =
 
 -- ---- declarations
 
--- the same opening value, whose first word stands there
+-- the same initial value, whose first word is at this place
 abbrev init_from : Span → Init → Init
 init_from at i = record { start = at; pool = i.pool; index = i.index; field = i.field; value = i.value }
 
@@ -332,7 +332,7 @@ decl_again (is_thread_decl (is_thread {t} f)) g {total} {tail} r =
     let w = word_on keyword.Thread (gap_on (along (sym (block_line t.name.text (items_text 1 t.items) tail)) n)) refl in
     record { reads = w; tree = thread (record { name = named t.name n; items = is.tree }); is = is_thread_decl (is_thread is.is); same = rw is.same refl }
 
--- declarations, behind which anything may stand
+-- declarations, which anything may follow
 pub decls_again : {ds : List Decl} {ts rest : List Tok} → AreMany IsDecl ds ts rest → Good ts →
     {total : ℕ} {tail : List ℕ} (r : Reads total tail (kinds rest)) →
     Again (AreMany IsDecl) bare ds total (many_text decl_text ds ++ tail) ts r.tokens

@@ -1,4 +1,4 @@
--- Printed names, types, constants and expressions are read again.
+-- Printed names, types, constants and expressions are parsed as the same trees.
 use Rattle.std.proofs.Common.{◌≡◌, ℕ, ◌≤◌, List, [], ◌∷◌, ◌++◌, map, refl, sym, ap, append_assoc}
 use Rattle.std.specs.Fmt.{decimal}
 use Rattle.source.specs.declared.token.Keyword.TheVariants as keyword

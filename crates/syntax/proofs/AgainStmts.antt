@@ -1,4 +1,4 @@
--- Printed statements are read again.
+-- Printed statements are parsed as the same trees.
 use Rattle.std.proofs.Common.{◌≡◌, ℕ, List, [], ◌∷◌, ◌++◌, refl, sym, ap, append_assoc}
 use Rattle.source.specs.declared.span.Span.{Span}
 use Rattle.source.specs.declared.token.Keyword.TheVariants as keyword
@@ -109,7 +109,7 @@ helper_call_again (is_helper_call {c} f) g {total} {tail} r a =
       same = rw es.same refl;
     }
 
--- the same local's statement, whose first word stands there
+-- the same local's statement, whose first word is at this place
 abbrev from_start : Span → Local → Local
 from_start at l = record { start = at; name = l.name; value_type = l.value_type; value = l.value }
 

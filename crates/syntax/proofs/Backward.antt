@@ -67,7 +67,7 @@ abbrev pub number_on : {total : ℕ} {tail : List ℕ} {ks : List Lexeme} (n : �
     Reads total tail ks → Apart tail → Reads total (decimal n ++ tail) (int n ∷ ks)
 number_on {total} {tail} n g r a = token_on (decimal n) (int n) r (put total (decimal n) tail (int n) r.tokens (decimal_unit n g) g a r.read)
 
--- signs behind which a name may stand
+-- signs that a name may follow
 abbrev lone_on : {total : ℕ} {tail : List ℕ} {ks : List Lexeme} (s : Sign) (b : ℕ) → IsUnit (b ∷ []) (mark s) →
     is_lone b ≡ true → Reads total tail ks → Reads total (b ∷ tail) (mark s ∷ ks)
 lone_on {total} {tail} s b u l r = token_on (b ∷ []) (mark s) r (put_lone total b tail (mark s) r.tokens l u tt r.read)
@@ -122,7 +122,7 @@ pub record Again {A : Type 0} (R : A → List Tok → List Tok → Type 0) (bare
   pub is : R tree reads.tokens us
   pub same : bare tree ≡ bare x
 
--- a part's text is read again as that part, whatever apart from it stands behind
+-- a part's text is read again as that part, whatever apart from it follows
 abbrev pub Rereads : {A : Type 0} → (A → List Tok → List Tok → Type 0) → (A → A) → (A → List ℕ) → Type 0
 Rereads {A} R bare text = (x : A) (ts rest : List Tok) → R x ts rest → Good ts → (total : ℕ) (tail : List ℕ) (r : Reads total tail (kinds rest)) → Apart tail → Again R bare x total (text x ++ tail) ts r.tokens
 
@@ -145,7 +145,7 @@ many_again R bare text keeps again apart xs ts rest (one_more {x} {xs = more} p 
       same = rw (m.same, ms.same) refl;
     }
 
--- a part behind a sign and a space
+-- a part after a sign and a space
 pub after_again : {A : Type 0} (s : Sign) (R : A → List Tok → List Tok → Type 0) (bare : A → A) (text : A → List ℕ) →
     Rereads R bare text → Rereads (IsAfter s R) bare (λ x. sign_text s ++ 32 ∷ text x)
 after_again s R bare text again x ts rest (after p) g total tail r a =

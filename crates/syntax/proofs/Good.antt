@@ -1,4 +1,4 @@
--- The names and numbers of tokens that some text has are names and numbers within their limits.
+-- Tokens that some text has keep the limits of names and numbers.
 use Rattle.std.proofs.Common.{ℕ, ◌≤◌, List, [], ◌∷◌, length}
 use Rattle.source.specs.Tokens.{Lexeme, name, int, Tok}
 use Rattle.source.specs.Texts as text
@@ -45,9 +45,9 @@ pub tokens_good : {total : ℕ} {bytes : List ℕ} {ts : List Tok} → AreTokens
 tokens_good (at_end g) = (tt, tt)
 tokens_good (token n w ts) = (good_kind n.unit w, tokens_good ts)
 
--- ---- what stands behind a part is good too
+-- ---- what follows a part is good too
 
--- a part of this kind, from good tokens on, has good tokens behind it
+-- a part of this kind, from good tokens on, has good tokens after it
 abbrev pub Keeps : {A : Type 0} → (A → List Tok → List Tok → Type 0) → Type 0
 Keeps {A} R = (x : A) (ts rest : List Tok) → R x ts rest → Good ts → Good rest
 

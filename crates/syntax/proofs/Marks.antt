@@ -1,4 +1,4 @@
--- Tokens one behind the other in a text.
+-- Tokens one after another in a text.
 use Rattle.std.proofs.Common.{◌≡◌, ℕ, ◌+◌, ◌-◌, ◌*◌, ◌/◌, ◌%◌, ◌<◌, ◌≤◌, Bool, true, false, List, [], ◌∷◌, ◌++◌, length}
 use Rattle.std.proofs.Common.{refl, sym, ◌∙◌, subst, arith, length-append}
 use Rattle.std.specs.Prelude.{◌==◌, ◌&&◌, ◌||◌, not}
@@ -23,16 +23,16 @@ use Rattle.source.specs.Texts.{is_letter, is_digit, is_name_byte, is_white, keyw
 use Rattle.source.specs.Texts.{is_name, is_number, is_word, is_mark, IsLongest, NUMBER_LIMIT, IsWithin, no_gap, white}
 use Rattle.source.specs.Texts.{BeginsComment, tok_at, AreTokens, at_end, token}
 
--- ---- which bytes stand behind the first one of a unit
+-- ---- which bytes follow the first one of a unit
 
 abbrev pub is_tail : ℕ → Bool
 is_tail b = is_name_byte b || (b == 61) || (b == 38) || (b == 124)
 
--- `(`, `[`, `.` and `-`, behind which nothing stands
+-- `(`, `[`, `.` and `-`, which no byte can follow
 abbrev pub is_lone : ℕ → Bool
 is_lone b = (b == 40) || (b == 91) || (b == 46) || (b == 45)
 
--- and behind `!` stands `=` or nothing
+-- and `=` or nothing follows `!`
 abbrev is_joined : ℕ → List ℕ → Bool
 is_joined b [] = true
 is_joined b (c ∷ bs) = not (is_lone b) && (not (b == 33) || (c == 61))
@@ -125,7 +125,7 @@ test_unit (is_number {b} {bs} all) = let s = and_parts (is_digit b) (list_all is
 test_unit (is_word w) = keyword_test w
 test_unit (is_mark s) = sign_test s
 
--- ---- what may stand behind any token
+-- ---- tokens that may follow any token
 
 abbrev pub is_apart : ℕ → Bool
 is_apart b = not (is_tail b) && not (b == 47)
@@ -166,7 +166,7 @@ pub put : (total : ℕ) (bytes tail : List ℕ) (k : Lexeme) (us : List Tok) →
     AreTokens total tail us → AreTokens total (bytes ++ tail) (tok_at total bytes tail k ∷ us)
 put total bytes tail k us u w a h = token (record { gap = no_gap; no_comment = apart_no_comment bytes tail k u a; unit = u; longest = apart_longest bytes tail k u a }) w h
 
--- ---- signs behind which a name may stand
+-- ---- signs that a name may follow
 
 lone_longest : (b : ℕ) (tail : List ℕ) → is_lone b ≡ true → IsLongest (b ∷ []) tail
 lone_longest b tail lone = λ c more other l e v.

@@ -1,10 +1,10 @@
--- A printed tree is read again as that tree, but for places.
+-- A printed tree is parsed as that tree, except for positions.
 use Rattle.std.proofs.Common.{◌≡◌, ℕ, ◌<◌, List, [], ◌∷◌, ◌++◌, length, refl, sym, ap, ◌∙◌, subst}
 use Rattle.std.proofs.lemmas.List.{append-nil}
 use Rattle.source.specs.Tokens.{end, Tok}
 use Rattle.source.specs.Texts.{no_gap, end_at, AreTokens, at_end, HasTokens}
 use Rattle.syntax.specs.Trees.{Decl}
-use Rattle.syntax.specs.Grammar.{Spells, spells, open_after, nesting, IsOpening, LIMIT, IsShallow, HasTree}
+use Rattle.syntax.specs.Grammar.{Spells, spells, open_after, nesting, IsOpening, NESTING_LIMIT, IsShallow, HasTree}
 use Rattle.syntax.specs.Working.Printing.{tree_text}
 use Rattle.syntax.specs.Working.Bare.{HasTextOf}
 use Rattle.syntax.proofs.Good.{Good, tokens_good}
@@ -13,7 +13,7 @@ use Rattle.syntax.proofs.AgainDecls.{decls_again}
 
 -- ---- nesting goes by the kinds alone
 
--- tokens ts have, where others have t behind before, a token of its kind, as deep
+-- tokens ts have, where others have t after before, a token of its kind, as deep
 record Split (n : ℕ) (ts before : List Tok) (t : Tok) : Type 0 where
   front : List Tok
   one : Tok
@@ -35,7 +35,7 @@ split n (u ∷ us) (b ∷ before) after t e =
 shallow_again : (ts us : List Tok) → kinds us ≡ kinds ts → IsShallow ts → IsShallow us
 shallow_again ts us e h = λ before after t parts opens.
     let s = split 0 ts before after t (sym e ∙ ap kinds parts) in
-    subst (λ n. n < LIMIT) s.level (h s.front s.back s.one s.parts (subst IsOpening (sym s.kind) opens))
+    subst (λ n. n < NESTING_LIMIT) s.level (h s.front s.back s.one s.parts (subst IsOpening (sym s.kind) opens))
 
 -- ---- the whole
 

@@ -1,4 +1,4 @@
--- What was printed, where it is not word for word the text of the tree.
+-- Printed texts that are written in other pieces than those of the tree's text.
 use Rattle.std.proofs.Common.{◌≡◌, ℕ, ◌<◌, ◌≤◌, ◌-◌, zero, suc, List, [], ◌∷◌, ◌++◌, Vec, Global, length, get_or}
 use Rattle.std.proofs.Common.{take, drop, map, refl, sym, ap, ◌∙◌, append_assoc, arith}
 use Rattle.std.specs.Prelude.{Box, codes}
@@ -47,7 +47,7 @@ some_listed text view (y ∷ ys) x some is =
     ap (λ l. text (view x) ++ many_text (after_comma text) (map view l)) (take_all _ ys all)
     ∙ ap (λ z. text (view z) ++ many_text (after_comma text) (map view ys)) is
 
--- ---- where a `Vec` stands in a recursive type
+-- ---- a `Vec` in a recursive type
 
 pub pair_is : (op : Operator) (left right : Expr) →
     expr_text left ++ (op_text op ++ expr_text right) ≡ expr_text (pair_of op left right)

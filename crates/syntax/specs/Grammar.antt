@@ -1,5 +1,5 @@
--- The grammar: which tokens spell which tree.
--- Each fact is between a part of a tree, the tokens from its first one on, and the tokens after it.
+-- The grammar: which tokens spell which tree. Each relation is between a part of a tree, the tokens from its first one
+-- on, and the tokens after it.
 use Rattle.std.specs.Prelude.{◌≡◌, ℕ, zero, suc, ◌<◌, ◌≤◌, List, [], ◌∷◌, ◌++◌, Option, Some, None}
 use Rattle.source.specs.declared.span.Span.{Span}
 use Rattle.source.specs.declared.token.Keyword.TheVariants as keyword
@@ -29,14 +29,17 @@ use Rattle.syntax.specs.Trees.{no_stmts, stmt, Otherwise, no_else, else_do, Bloc
 use Rattle.syntax.specs.Trees.{Field, Member, lock_member, final_member, field_member, Struct, Pool, Init, Param}
 use Rattle.syntax.specs.Trees.{Section, Call, Item, repeat, Items, no_items, item, Thread, Decl, lock, struct, global}
 use Rattle.syntax.specs.Trees.{array, pool, init, atomic, helper, thread}
+pub use Rattle.source.specs.Limits.{NESTING_LIMIT}
 
+-- the token of this kind at this position
 abbrev pub tok : Lexeme → Span → Tok
 tok k at = record { kind = k; span = at }
 
--- a name and a number as tokens
+-- a name as a token
 abbrev pub name_tok : Ident → Tok
 name_tok n = tok (name n.text) n.span
 
+-- a number as a token
 abbrev pub int_tok : Number → Tok
 int_tok n = tok (lexeme.int n.value) n.span
 
@@ -53,7 +56,7 @@ pub data AreMany {A : Type 0} (R : A → List Tok → List Tok → Type 0) : Lis
   one_more : {x : A} {xs : List A} {ts mid rest : List Tok} → R x ts mid → AreMany R xs mid rest →
       AreMany R (x ∷ xs) ts rest
 
--- a part behind a sign
+-- a part after a sign
 pub data IsAfter {A : Type 0} (s : Sign) (R : A → List Tok → List Tok → Type 0) : A → List Tok → List Tok → Type 0 where
   after : {x : A} {at : Span} {ts rest : List Tok} → R x ts rest → IsAfter s R x (tok (mark s) at ∷ ts) rest
 
@@ -65,14 +68,17 @@ pub data AreListed {A : Type 0} (R : A → List Tok → List Tok → Type 0) : L
 
 -- ---- names, types, constants
 
+-- one token, the name
 pub data IsName : Ident → List Tok → List Tok → Type 0 where
   is_name : {x : Ident} {ts : List Tok} → IsName x (name_tok x ∷ ts) ts
 
+-- `int`, or `ref` and the name of a struct
 pub data IsType : ValueType → List Tok → List Tok → Type 0 where
   is_int_type : {at : Span} {ts : List Tok} → IsType int_type (tok (word keyword.Int) at ∷ ts) ts
   is_ref_type : {target : Ident} {at : Span} {ts : List Tok} →
       IsType (ref_type target) (tok (word keyword.Ref) at ∷ name_tok target ∷ ts) ts
 
+-- a constant: `7`, `-7`, `null` or `p[3]`
 pub data IsConst : Const → List Tok → List Tok → Type 0 where
   is_int_const : {n : Number} {ts : List Tok} → IsConst (int_const n) (int_tok n ∷ ts) ts
   is_negative : {n : Number} {sign : Span} {ts : List Tok} →
@@ -83,6 +89,7 @@ pub data IsConst : Const → List Tok → List Tok → Type 0 where
 
 -- ---- expressions
 
+-- the sign of an operator
 abbrev pub sign_of : Operator → Sign
 sign_of Add = Plus
 sign_of Sub = Minus
@@ -92,6 +99,7 @@ sign_of Rem = Percent
 sign_of And = sign.And
 sign_of Or = sign.Or
 
+-- the precedence level of an operator
 abbrev pub level_of : Operator → Level
 level_of Add = Sum
 level_of Sub = Sum
@@ -101,10 +109,12 @@ level_of Rem = Term
 level_of And = Conjunction
 level_of Or = Disjunction
 
+-- the sign of an operator before its operand
 abbrev pub prefix_sign : Prefix → Sign
 prefix_sign Negate = Minus
 prefix_sign Not = sign.Not
 
+-- the sign of a comparison
 abbrev pub comparison_sign : Comparison → Sign
 comparison_sign Equal = DoubleEquals
 comparison_sign NotEqual = NotEquals
@@ -113,30 +123,34 @@ comparison_sign LessOrEqual = LessEquals
 comparison_sign Greater = sign.Greater
 comparison_sign GreaterOrEqual = GreaterEquals
 
--- how loosely an expression binds, from a lone one up to any
+-- the ranks of expressions, by how loosely they bind. The tightest: a number, `null`, a place, or an expression in
+-- parentheses
 abbrev pub PRIM : ℕ
 PRIM = 0
 
+-- the rank of an operand with prefix operators or without
 abbrev pub UNARY : ℕ
 UNARY = 1
 
--- a chain of a level binds by its rank, and its operands bind tighter
+-- the rank of a chain by its level: its operands bind tighter
 abbrev pub rank : Level → ℕ
 rank Term = 2
 rank Sum = 3
 rank Conjunction = 5
 rank Disjunction = 6
 
+-- the rank of the operands of a chain, by its level
 abbrev pub below : Level → ℕ
 below Term = 1
 below Sum = 2
 below Conjunction = 4
 below Disjunction = 5
 
--- two sums with a comparison between them
+-- the rank of two sums with a comparison between them
 abbrev pub COMPARED : ℕ
 COMPARED = 4
 
+-- the rank of a sum
 abbrev pub SUM : ℕ
 SUM = 3
 
@@ -145,7 +159,7 @@ abbrev pub ANY : ℕ
 ANY = 6
 
 mutual
-  -- an expression that binds so loosely at most
+  -- an expression of at most this rank
   pub data IsExpr : ℕ → Expr → List Tok → List Tok → Type 0 where
     is_int : {n : ℕ} {v : Number} {ts : List Tok} → IsExpr n (int v) (int_tok v ∷ ts) ts
     is_null : {n : ℕ} {at : Span} {ts : List Tok} → IsExpr n (null at) (tok (word keyword.Null) at ∷ ts) ts
@@ -173,7 +187,7 @@ mutual
         → AreMany (IsAfter Dot IsName) fields ts rest
         → IsPlace (path x (first ∷ fields)) (name_tok x ∷ tok (mark Dot) dot ∷ name_tok first ∷ ts) rest
 
-  -- operators of a level, each with its operand
+  -- the operators of a level, each with its operand
   pub data IsLinks : Level → Links → List Tok → List Tok → Type 0 where
     are_no_links : {k : Level} {ts : List Tok} → IsLinks k no_links ts ts
     is_link : {op : Operator} {x : Expr} {more : Links} {at : Span} {ts mid rest : List Tok}
@@ -182,25 +196,26 @@ mutual
 
 -- ---- statements
 
--- `let` and `var`, behind their first word, up to the end of the value
+-- `let` and `var`, after their first word, up to the end of the value
 pub data IsLocal : Local → List Tok → List Tok → Type 0 where
   is_local : {l : Local} {colon equals : Span} {ts mid rest : List Tok}
       → IsType l.value_type ts (tok (mark Equals) equals ∷ mid)
       → IsExpr ANY l.value mid rest
       → IsLocal l (name_tok l.name ∷ tok (mark Colon) colon ∷ ts) rest
 
--- which final reference names what which local names
+-- `where` and the final reference that has to equal the named local
 pub data IsOwner : Owner → List Tok → List Tok → Type 0 where
   is_owner : {o : Owner} {start equals : Span} {rest : List Tok}
       → IsOwner o (tok (word keyword.Where) start ∷ name_tok o.field ∷ tok (mark DoubleEquals) equals ∷ name_tok o.local ∷ rest) rest
 
--- a call of a helper, behind the word `call`
+-- a call of a helper, after the word `call`
 pub data IsHelperCall : HelperCall → List Tok → List Tok → Type 0 where
   is_helper_call : {c : HelperCall} {before after : Span} {ts rest : List Tok}
       → AreListed (IsExpr ANY) c.arguments ts (tok (mark CloseParen) after ∷ rest)
       → IsHelperCall c (name_tok c.helper ∷ tok (mark OpenParen) before ∷ ts) rest
 
 mutual
+  -- a statement, with its semicolon if it has one
   pub data IsStmt : Stmt → List Tok → List Tok → Type 0 where
     is_let : {l : Local} {semicolon : Span} {ts rest : List Tok}
         → IsLocal l ts (tok (mark Semicolon) semicolon ∷ rest)
@@ -239,17 +254,19 @@ mutual
         → IsHelperCall c ts (tok (mark Semicolon) semicolon ∷ rest)
         → IsStmt (Stmt.call start c) (tok (word keyword.Call) start ∷ ts) rest
 
+  -- statements, one after another
   pub data IsStmts : Stmts → List Tok → List Tok → Type 0 where
     are_no_stmts : {ts : List Tok} → IsStmts no_stmts ts ts
     are_stmts : {s : Stmt} {more : Stmts} {ts mid rest : List Tok}
         → IsStmt s ts mid → IsStmts more mid rest → IsStmts (stmt s more) ts rest
 
-  -- statements in braces, of which the closing one stands there
+  -- statements in braces; the span is that of the closing brace
   pub data IsBraced : Stmts → Span → List Tok → List Tok → Type 0 where
     is_braced : {ss : Stmts} {begin close : Span} {ts rest : List Tok}
         → IsStmts ss ts (tok (mark CloseBrace) close ∷ rest)
         → IsBraced ss close (tok (mark OpenBrace) begin ∷ ts) rest
 
+  -- nothing, or `else` and a block
   pub data IsElse : Otherwise → List Tok → List Tok → Type 0 where
     is_no_else : {ts : List Tok} → IsElse no_else ts ts
     is_else : {ss : Stmts} {at close : Span} {ts rest : List Tok}
@@ -262,16 +279,18 @@ pub data IsBlock : Block → List Tok → List Tok → Type 0 where
 
 -- ---- declarations
 
--- the length of an array or a pool, and the index of a member
+-- a number in brackets: the length of an array or a pool, or the index of a member
 pub data IsIndex : Number → List Tok → List Tok → Type 0 where
   is_index : {n : Number} {begin close : Span} {ts : List Tok}
       → IsIndex n (tok (mark OpenBracket) begin ∷ int_tok n ∷ tok (mark CloseBracket) close ∷ ts) ts
 
+-- `protected_by(a.b.c)`
 pub data IsProtection : Protection → List Tok → List Tok → Type 0 where
   is_protection : {p : Protection} {start begin close : Span} {ts rest : List Tok}
       → AreMany (IsAfter Dot IsName) p.rest ts (tok (mark CloseParen) close ∷ rest)
       → IsProtection p (tok (word keyword.ProtectedBy) start ∷ tok (mark OpenParen) begin ∷ name_tok p.first ∷ ts) rest
 
+-- a global variable, after the word `global`
 pub data IsVariable : Variable → List Tok → List Tok → Type 0 where
   is_variable : {v : Variable} {semicolon : Span} {ts1 ts2 ts3 rest : List Tok}
       → IsType v.value_type ts1 (name_tok v.name ∷ ts2)
@@ -279,6 +298,7 @@ pub data IsVariable : Variable → List Tok → List Tok → Type 0 where
       → IsOptional (IsAfter Equals IsConst) v.value ts3 (tok (mark Semicolon) semicolon ∷ rest)
       → IsVariable v ts1 rest
 
+-- a global array, after the word `global`
 pub data IsArray : Array → List Tok → List Tok → Type 0 where
   is_array : {a : Array} {semicolon : Span} {ts1 ts2 ts3 rest : List Tok}
       → IsType a.value_type ts1 (name_tok a.name ∷ ts2)
@@ -286,16 +306,19 @@ pub data IsArray : Array → List Tok → List Tok → Type 0 where
       → IsOptional IsProtection a.protection ts3 (tok (mark Semicolon) semicolon ∷ rest)
       → IsArray a ts1 rest
 
+-- a final reference, after the word `final`
 pub data IsFinal : Final → List Tok → List Tok → Type 0 where
   is_final : {f : Final} {ref semicolon : Span} {rest : List Tok}
       → IsFinal f (tok (word keyword.Ref) ref ∷ name_tok f.target ∷ name_tok f.name ∷ tok (mark Semicolon) semicolon ∷ rest) rest
 
+-- a field that can change
 pub data IsField : Field → List Tok → List Tok → Type 0 where
   is_field : {f : Field} {semicolon : Span} {ts1 ts2 rest : List Tok}
       → IsType f.value_type ts1 (name_tok f.name ∷ ts2)
       → IsOptional IsProtection f.protection ts2 (tok (mark Semicolon) semicolon ∷ rest)
       → IsField f ts1 rest
 
+-- a member of a struct: a lock, a final reference or a field
 pub data IsMember : Member → List Tok → List Tok → Type 0 where
   is_lock_member : {x : Ident} {start semicolon : Span} {rest : List Tok}
       → IsMember (lock_member x) (tok (word keyword.Lock) start ∷ name_tok x ∷ tok (mark Semicolon) semicolon ∷ rest) rest
@@ -303,27 +326,30 @@ pub data IsMember : Member → List Tok → List Tok → Type 0 where
       IsMember (final_member f) (tok (word keyword.Final) start ∷ ts) rest
   is_field_member : {f : Field} {ts rest : List Tok} → IsField f ts rest → IsMember (field_member f) ts rest
 
+-- a struct, after its first word
 pub data IsStruct : Struct → List Tok → List Tok → Type 0 where
   is_struct : {s : Struct} {begin close : Span} {ts rest : List Tok}
       → AreMany IsMember s.members ts (tok (mark CloseBrace) close ∷ rest)
       → IsStruct s (name_tok s.name ∷ tok (mark OpenBrace) begin ∷ ts) rest
 
+-- a pool, after its first word
 pub data IsPool : Pool → List Tok → List Tok → Type 0 where
   is_pool : {p : Pool} {semicolon : Span} {ts rest : List Tok}
       → IsIndex p.length ts (tok (mark Semicolon) semicolon ∷ rest)
       → IsPool p (name_tok p.target ∷ name_tok p.name ∷ ts) rest
 
--- behind the word `init`
+-- an initial value, after the word `init`
 pub data IsInit : Init → List Tok → List Tok → Type 0 where
   is_init : {i : Init} {dot equals semicolon : Span} {ts1 ts2 rest : List Tok}
       → IsIndex i.index ts1 (tok (mark Dot) dot ∷ name_tok i.field ∷ tok (mark Equals) equals ∷ ts2)
       → IsConst i.value ts2 (tok (mark Semicolon) semicolon ∷ rest)
       → IsInit i (name_tok i.pool ∷ ts1) rest
 
+-- a parameter: its type and its name
 pub data IsParam : Param → List Tok → List Tok → Type 0 where
   is_param : {p : Param} {ts rest : List Tok} → IsType p.value_type ts (name_tok p.name ∷ rest) → IsParam p ts rest
 
--- a section or a helper, behind its first word
+-- a section or a helper, after its first word
 pub data IsSection : Section → List Tok → List Tok → Type 0 where
   is_section : {s : Section} {before after : Span} {ts1 ts2 ts3 rest : List Tok}
       → AreListed IsParam s.params ts1 (tok (mark CloseParen) after ∷ ts2)
@@ -331,28 +357,33 @@ pub data IsSection : Section → List Tok → List Tok → Type 0 where
       → IsBlock s.body ts3 rest
       → IsSection s (name_tok s.name ∷ tok (mark OpenParen) before ∷ ts1) rest
 
+-- a call in a thread: the section, its constants and a semicolon
 pub data IsCall : Call → List Tok → List Tok → Type 0 where
   is_call : {c : Call} {before after semicolon : Span} {ts rest : List Tok}
       → AreListed IsConst c.arguments ts (tok (mark CloseParen) after ∷ tok (mark Semicolon) semicolon ∷ rest)
       → IsCall c (name_tok c.section ∷ tok (mark OpenParen) before ∷ ts) rest
 
 mutual
+  -- a call, or `repeat` with a number and items in braces
   pub data IsItem : Item → List Tok → List Tok → Type 0 where
     is_call_item : {c : Call} {ts rest : List Tok} → IsCall c ts rest → IsItem (Item.call c) ts rest
     is_repeat : {n : Number} {is : Items} {start begin close : Span} {ts rest : List Tok}
         → IsItems is ts (tok (mark CloseBrace) close ∷ rest)
         → IsItem (repeat n is) (tok (word keyword.Repeat) start ∷ int_tok n ∷ tok (mark OpenBrace) begin ∷ ts) rest
 
+  -- items, one after another
   pub data IsItems : Items → List Tok → List Tok → Type 0 where
     are_no_items : {ts : List Tok} → IsItems no_items ts ts
     are_items : {i : Item} {more : Items} {ts mid rest : List Tok}
         → IsItem i ts mid → IsItems more mid rest → IsItems (item i more) ts rest
 
+-- a thread, after its first word
 pub data IsThread : Thread → List Tok → List Tok → Type 0 where
   is_thread : {t : Thread} {begin close : Span} {ts rest : List Tok}
       → IsItems t.items ts (tok (mark CloseBrace) close ∷ rest)
       → IsThread t (name_tok t.name ∷ tok (mark OpenBrace) begin ∷ ts) rest
 
+-- a declaration
 pub data IsDecl : Decl → List Tok → List Tok → Type 0 where
   is_lock : {x : Ident} {start semicolon : Span} {rest : List Tok}
       → IsDecl (lock x) (tok (word keyword.Lock) start ∷ name_tok x ∷ tok (mark Semicolon) semicolon ∷ rest) rest
@@ -373,17 +404,18 @@ pub data IsDecl : Decl → List Tok → List Tok → Type 0 where
   is_thread_decl : {t : Thread} {start : Span} {ts rest : List Tok} → IsThread t ts rest →
       IsDecl (thread t) (tok (word keyword.Thread) start ∷ ts) rest
 
--- the tokens spell the program, whatever the nesting: declarations, and the end of the text
+-- the tokens are those of the program, whatever its nesting: declarations, and the end of the text
 pub data Spells : List Decl → List Tok → Type 0 where
   spells : {ds : List Decl} {at : Span} {ts : List Tok} → AreMany IsDecl ds ts (tok end at ∷ []) → Spells ds ts
 
 -- ---- nesting
 
+-- the predecessor, and 0 of 0
 abbrev pub one_less : ℕ → ℕ
 one_less zero = zero
 one_less (suc n) = n
 
--- how many opening signs are still open after a token, given how many were before it
+-- the number of opening signs that are open after a token, if n were open before it
 abbrev pub open_after : ℕ → Lexeme → ℕ
 open_after n (mark OpenBrace) = suc n
 open_after n (mark OpenParen) = suc n
@@ -393,23 +425,21 @@ open_after n (mark CloseParen) = one_less n
 open_after n (mark CloseBracket) = one_less n
 open_after n _ = n
 
--- and after tokens
+-- the number of opening signs that are open after several tokens, if n were open before them
 abbrev pub nesting : ℕ → List Tok → ℕ
 nesting n [] = n
 nesting n (t ∷ ts) = nesting (open_after n t.kind) ts
 
+-- the sign opens a brace, a parenthesis or a bracket
 abbrev pub IsOpening : Lexeme → Type 0
 IsOpening (mark OpenBrace) = Unit {0}
 IsOpening (mark OpenParen) = Unit {0}
 IsOpening (mark OpenBracket) = Unit {0}
 IsOpening _ = ⊥
 
-abbrev pub LIMIT : ℕ
-LIMIT = 64
-
--- each opening sign has a nesting below the limit
+-- each opening sign is nested less deep than the limit
 abbrev pub IsShallow : List Tok → Type 0
-IsShallow ts = (before after : List Tok) (t : Tok) → ts ≡ before ++ t ∷ after → IsOpening t.kind → nesting 0 before < LIMIT
+IsShallow ts = (before after : List Tok) (t : Tok) → ts ≡ before ++ t ∷ after → IsOpening t.kind → nesting 0 before < NESTING_LIMIT
 
 -- the tokens have this tree
 abbrev pub HasTree : List Tok → List Decl → Type 0

@@ -5,7 +5,7 @@ pub mod Returns
 pub mod Faults
 pub mod Working
 pub mod Theory
--- what public clauses cite
+-- the definitions that public clauses cite
 pub use Rattle.syntax.specs.Trees.{Decl}
 pub use Rattle.syntax.specs.Views.{tree_of}
 pub use Rattle.syntax.specs.Grammar.{HasTree}

@@ -1,5 +1,5 @@
--- Where a `return` is misplaced or missing: it is the last statement of the body of a section or a
--- helper that has a result, and stands nowhere else.
+-- Misplaced and missing returns. A `return` is the last statement of the body of a section or helper that has a result,
+-- and is allowed nowhere else.
 use Rattle.std.specs.Prelude.{◌≡◌, ℕ, ◌≤◌, List, ◌∷◌, Some, None}
 use Rattle.source.specs.declared.span.Span.{Span}
 use Rattle.syntax.specs.Trees.{ValueType, Expr, Stmt, if_then, while, return_value, Stmts, no_stmts, stmt, Otherwise}
@@ -10,13 +10,13 @@ pub data IsReturn : Stmt → ℕ → Type 0 where
   is_return : {at : Span} {e : Expr} → IsReturn (return_value at e) at.start
 
 mutual
-  -- a `return` stands among the statements, or in a block of one of them
+  -- a statement of the list is a `return` at this byte, or has one in a block
   pub data HasReturn : Stmts → ℕ → Type 0 where
     this_returns : {s : Stmt} {more : Stmts} {at : ℕ} → IsReturn s at → HasReturn (stmt s more) at
     returns_inside : {s : Stmt} {more : Stmts} {at : ℕ} → HasReturnInside s at → HasReturn (stmt s more) at
     later_returns : {s : Stmt} {more : Stmts} {at : ℕ} → HasReturn more at → HasReturn (stmt s more) at
 
-  -- one stands in a block of the statement
+  -- a `return` is in a block of the statement
   pub data HasReturnInside : Stmt → ℕ → Type 0 where
     in_then : {start close : Span} {e : Expr} {body : Stmts} {other : Otherwise} {at : ℕ} → HasReturn body at →
         HasReturnInside (if_then start e body close other) at
@@ -25,7 +25,7 @@ mutual
     in_while : {start close : Span} {e : Expr} {body : Stmts} {at : ℕ} → HasReturn body at →
         HasReturnInside (while start e body close) at
 
--- a `return` stands there with a statement behind it, or in a block of a statement
+-- a `return` at this byte has a statement after it, or is in a block of a statement
 pub data HasStrayReturn : Stmts → ℕ → Type 0 where
   this_early : {s next : Stmt} {more : Stmts} {at : ℕ} → IsReturn s at → HasStrayReturn (stmt s (stmt next more)) at
   stray_inside : {s : Stmt} {more : Stmts} {at : ℕ} → HasReturnInside s at → HasStrayReturn (stmt s more) at
@@ -36,7 +36,7 @@ pub data EndsInReturn : Stmts → Type 0 where
   last_returns : {s : Stmt} {at : ℕ} → IsReturn s at → EndsInReturn (stmt s no_stmts)
   ends_later : {s : Stmt} {more : Stmts} → EndsInReturn more → EndsInReturn (stmt s more)
 
--- the fault of a section or a helper, at this byte
+-- the byte of a fault of the returns of a section or a helper
 pub data IsSectionFault : Section → ℕ → Type 0 where
   no_result : {s : Section} {at : ℕ} → s.result ≡ None → HasReturn s.body.stmts at → IsSectionFault s at
   stray : {s : Section} {t : ValueType} {at : ℕ} → s.result ≡ Some t → HasStrayReturn s.body.stmts at →
@@ -44,16 +44,16 @@ pub data IsSectionFault : Section → ℕ → Type 0 where
   missing : {s : Section} {t : ValueType} → s.result ≡ Some t → (EndsInReturn s.body.stmts → ⊥) →
       IsSectionFault s s.body.close.start
 
--- a program's
+-- the byte of a fault of a program's returns
 pub data IsReturnFault : List Decl → ℕ → Type 0 where
   this_section : {s : Section} {ds : List Decl} {at : ℕ} → IsSectionFault s at → IsReturnFault (atomic s ∷ ds) at
   this_helper : {s : Section} {ds : List Decl} {at : ℕ} → IsSectionFault s at → IsReturnFault (helper s ∷ ds) at
   later_section : {d : Decl} {ds : List Decl} {at : ℕ} → IsReturnFault ds at → IsReturnFault (d ∷ ds) at
 
--- no fault of returns
+-- the program has no fault of returns
 abbrev pub ReturnsRight : List Decl → Type 0
 ReturnsRight ds = (at : ℕ) → IsReturnFault ds at → ⊥
 
--- the first of them
+-- the lowest byte of a fault of a program's returns
 abbrev pub IsFirstReturnFault : List Decl → ℕ → Type 0
 IsFirstReturnFault ds at = IsReturnFault ds at × ((other : ℕ) → IsReturnFault ds other → at ≤ other)

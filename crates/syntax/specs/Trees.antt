@@ -1,4 +1,4 @@
--- Trees of programs, without where they lie in memory.
+-- Trees of programs as plain data, without their place in memory.
 use Rattle.std.specs.Prelude.{ℕ, List, Option}
 use Rattle.source.specs.declared.span.Span.{Span}
 use Rattle.syntax.specs.declared.tree.Operator.{Operator}
@@ -7,22 +7,24 @@ use Rattle.syntax.specs.declared.tree.Prefix.{Prefix}
 use Rattle.syntax.specs.declared.tree.Comparison.{Comparison}
 use Rattle.source.specs.declared.token.Number.{Number}
 
--- a name, and where it stands
+-- a name and its position
 pub record Ident : Type 0 where
   pub text : List ℕ
   pub span : Span
 
+-- a type: `int`, or a reference to members of the pools of a struct
 pub data ValueType : Type 0 where
   int_type : ValueType
   ref_type : (target : Ident) → ValueType
 
+-- a constant: a number, a negative one, `null` or a member of a pool
 pub data Const : Type 0 where
   int_const : Number → Const
   negative : (sign : Span) → Number → Const
   null_const : (at : Span) → Const
   member_const : (pool : Ident) → (index : Number) → Const
 
--- an expression, what a value is read from and an assignment writes to, and the rest of a chain
+-- an expression, a place that a value is read from or written to, and the rest of a chain of operators
 mutual
   pub data Expr : Type 0 where
     int : Number → Expr
@@ -42,14 +44,14 @@ mutual
     no_links : Links
     link : Operator → Expr → Links → Links
 
--- a local's statement
+-- the declaration of a local by `let` or `var`: its start, name, type and value
 pub record Local : Type 0 where
   pub start : Span
   pub name : Ident
   pub value_type : ValueType
   pub value : Expr
 
--- behind a `let`: which final reference of its value names what which local names
+-- the `where` of a `let`: the final reference of its value, and the local that this has to equal
 pub record Owner : Type 0 where
   pub field : Ident
   pub local : Ident
@@ -59,14 +61,14 @@ pub record HelperCall : Type 0 where
   pub helper : Ident
   pub arguments : List Expr
 
--- a `let` of what a helper returns
+-- a `let` that binds the result of a helper
 pub record CalledLocal : Type 0 where
   pub start : Span
   pub name : Ident
   pub value_type : ValueType
   pub call : HelperCall
 
--- a statement, those of a block with where its closing brace stands, and what stands behind `else`
+-- a statement, the statements of a block, and what follows the block of an `if`: an `else` with its block, or nothing
 mutual
   pub data Stmt : Type 0 where
     let_local : Local → Stmt
@@ -88,7 +90,7 @@ mutual
     no_else : Otherwise
     else_do : Stmts → (close : Span) → Otherwise
 
--- statements in braces, and where the closing one stands
+-- statements in braces, and the position of the closing brace
 pub record Block : Type 0 where
   pub stmts : Stmts
   pub close : Span
@@ -98,7 +100,7 @@ pub record Protection : Type 0 where
   pub first : Ident
   pub rest : List Ident
 
--- a global that is no array
+-- a global that is not an array
 pub record Variable : Type 0 where
   pub name : Ident
   pub value_type : ValueType
@@ -112,30 +114,35 @@ pub record Array : Type 0 where
   pub length : Number
   pub protection : Option Protection
 
--- a reference that never changes, and a field that can
+-- a reference that never changes
 pub record Final : Type 0 where
   pub name : Ident
   pub target : Ident
 
+-- a field that can change: its name, its type and its annotation, if it has one
 pub record Field : Type 0 where
   pub name : Ident
   pub value_type : ValueType
   pub protection : Option Protection
 
+-- a member of a struct
 pub data Member : Type 0 where
   lock_member : Ident → Member
   final_member : Final → Member
   field_member : Field → Member
 
+-- a struct: its name and its members
 pub record Struct : Type 0 where
   pub name : Ident
   pub members : List Member
 
+-- a pool: the struct of its members, its name and its length
 pub record Pool : Type 0 where
   pub name : Ident
   pub target : Ident
   pub length : Number
 
+-- an initial value for one field of one pool member
 pub record Init : Type 0 where
   pub start : Span
   pub pool : Ident
@@ -143,6 +150,7 @@ pub record Init : Type 0 where
   pub field : Ident
   pub value : Const
 
+-- a parameter: its name and its type
 pub record Param : Type 0 where
   pub name : Ident
   pub value_type : ValueType
@@ -159,7 +167,7 @@ pub record Call : Type 0 where
   pub section : Ident
   pub arguments : List Const
 
--- what a thread does
+-- the items of a thread: calls and repetitions
 mutual
   pub data Item : Type 0 where
     call : Call → Item
@@ -169,10 +177,12 @@ mutual
     no_items : Items
     item : Item → Items → Items
 
+-- a thread: its name and its items, in order
 pub record Thread : Type 0 where
   pub name : Ident
   pub items : Items
 
+-- a declaration of a program
 pub data Decl : Type 0 where
   lock : Ident → Decl
   struct : Struct → Decl

@@ -16,7 +16,7 @@ use Rattle.syntax.specs.declared.tree.Joined.{Row_of-Link, end_of-Link, more_of-
 use Rattle.syntax.specs.declared.tree.Operator.{Operator}
 use Rattle.syntax.specs.declared.tree.Link as the_link
 use Rattle.syntax.specs.declared.tree.Local as the_local
-use Rattle.syntax.specs.declared.tree.Owner as the_owner
+use Rattle.syntax.specs.declared.tree.OwnerClause as the_owner
 use Rattle.syntax.specs.declared.tree.OwnedLocal as the_owned_local
 use Rattle.syntax.specs.declared.tree.HelperCall as the_helper_call
 use Rattle.syntax.specs.declared.tree.CalledLocal as the_called_local
@@ -101,7 +101,7 @@ place_of (place_case.Name n) = lone (ident n)
 place_of (place_case.Element e) = element_of e.value
 place_of (place_case.Path p) = path_of p.value
 
--- the same of a list
+-- the tree of the rest of a chain
 abbrev pub links_of : List the_link.Link → Links
 links_of [] = no_links
 links_of (l ∷ ls) = link l.op (expr_of l.operand) (links_of ls)
@@ -113,7 +113,7 @@ link_of l = (l.op, expr_of l.operand)
 abbrev pub local_of : the_local.Local → Local
 local_of l = record { start = l.start; name = ident l.name; value_type = type_of l.value_type; value = expr_of l.value }
 
-abbrev pub owner_of : the_owner.Owner → Owner
+abbrev pub owner_of : the_owner.OwnerClause → Owner
 owner_of o = record { field = ident o.field; local = ident o.local }
 
 abbrev pub owned_local_of : the_owned_local.OwnedLocal → Stmt
@@ -149,12 +149,12 @@ abbrev mutual
   stmts_of_row end_of-Stmt = no_stmts
   stmts_of_row (more_of-Stmt s rest) = stmt (stmt_of s) (stmts_of_row rest)
 
--- the same of a list
+-- the tree of the statements of a block
 abbrev pub stmts_of : List the_stmt.Stmt → Stmts
 stmts_of [] = no_stmts
 stmts_of (x ∷ ss) = stmt (stmt_of x) (stmts_of ss)
 
--- what stands behind `else`, by itself
+-- the otherwise part that an optional block stands for
 abbrev pub else_of : Option the_block.Block → Otherwise
 else_of None = no_else
 else_of (Some b) = else_do (stmts_of b.stmts.items) b.close
@@ -165,7 +165,7 @@ block_of b = record { stmts = stmts_of b.stmts.items; close = b.close }
 abbrev pub protection_of : the_protection.Protection → Protection
 protection_of p = record { first = ident p.first; rest = map ident p.rest.items }
 
--- what stands in an option, seen by view
+-- the view of what an option holds
 abbrev pub option_of : {A B : Type 0} → (A → B) → Option A → Option B
 option_of view None = None
 option_of view (Some x) = Some (view x)
@@ -214,7 +214,7 @@ abbrev mutual
   items_of_row end_of-Item = no_items
   items_of_row (more_of-Item i rest) = item (item_of i) (items_of_row rest)
 
--- the same of a list
+-- the tree of a list of items
 abbrev pub items_of : List the_item.Item → Items
 items_of [] = no_items
 items_of (i ∷ is) = item (item_of i) (items_of is)

@@ -1,11 +1,10 @@
-//! The trees of programs: how declarations, statements and expressions are made up, and where
-//! each of their parts stands in the text.
+//! The syntax tree of a program: its declarations, statements and expressions, each part with its position in the text.
 //!
-//! - [`tree`]: the types. Chains of more than two operands are lists, and parentheses are kept.
-//! - `specs/Trees.antt`: the same trees as plain data, and `specs/Views.antt`, which tree a value is.
-//! - `specs/Grammar.antt`: which tokens spell which tree, the bound on nesting, and the faults of
-//!   tokens that spell none.
-//! - [`print_tree`]: a text of a tree, read again as that tree (`specs/Working/Bare.antt`).
+//! - [`tree`]: the types. A chain of more than two operands is a list, and parentheses are kept.
+//! - `specs/Trees.antt`: the same trees as plain data. `specs/Views.antt`: the tree that a value stands for.
+//! - `specs/Grammar.antt`: which tokens spell which tree, the bound on nesting, and the faults of tokens that spell
+//!   none.
+//! - [`print_tree`]: prints a tree as a text that is parsed as that tree again (`specs/Working/Bare.antt`).
 //! - `specs/Returns.antt`: where a `return` is misplaced or missing.
 #![tactic(auto)]
 

@@ -1,4 +1,4 @@
-//! The texts of trees.
+//! Writes expressions and places.
 
 ghost use Rattle.std.specs.Prelude.{◌≡◌, ◌++◌, map};
 ghost use Rattle.syntax.specs.Working.Adding.{Adds};
@@ -11,7 +11,7 @@ use crate::tree::{
 };
 use source::token::Number;
 
-/// A number in brackets.
+/// Appends a number in brackets.
 pub fn push_index(out: &mut Printer, index: &Number)
     ensures { Adds out.old out.new (index_text index.now) }
 {
@@ -46,7 +46,7 @@ pub fn push_const(out: &mut Printer, value: &Const)
     }
 }
 
-/// Names, each behind a dot.
+/// Appends names, each after a dot.
 pub fn push_fields(out: &mut Printer, fields: &[Name])
     ensures { Adds out.old out.new (many_text field_text (map ident fields.now)) }
 {
@@ -161,7 +161,7 @@ fn push_links(out: &mut Printer, links: &[Link])
     }
 }
 
-/// An operator of a chain, and the operand behind it.
+/// Appends an operator of a chain and the operand after it.
 #[cycle(print_expr)]
 fn push_link(out: &mut Printer, op: Operator, operand: &Expr)
     ensures { Adds out.old out.new (op_text op ++ expr_text (expr_of operand.now)) }
@@ -170,7 +170,7 @@ fn push_link(out: &mut Printer, op: Operator, operand: &Expr)
     push_expr(out, operand);
 }
 
-/// What stands before `=` in an assignment.
+/// Appends what precedes `=` in an assignment.
 pub fn push_place(out: &mut Printer, place: &Place)
     ensures { Adds out.old out.new (place_text (place_of place.now)) }
 {

@@ -1,4 +1,4 @@
-//! The texts of declarations.
+//! Writes declarations.
 
 ghost use Rattle.std.specs.Prelude.{map};
 ghost use Rattle.syntax.specs.Working.Adding.{Adds};
@@ -54,7 +54,7 @@ fn push_result(out: &mut Printer, value_type: &Option<ValueType>)
     }
 }
 
-/// A member, on a line of its own.
+/// Appends a member, on a line of its own.
 fn push_member(out: &mut Printer, member: &Member)
     ensures { Adds out.old out.new (member_text (member_of member.now)) }
 {
@@ -144,7 +144,7 @@ fn push_param(out: &mut Printer, param: &Param)
     out.push_named(" ", &param.name);
 }
 
-/// Parameters, with a comma before each.
+/// Appends parameters, with a comma before each.
 fn push_more_params(out: &mut Printer, params: &[Param])
     ensures { Adds out.old out.new (many_text (after_comma param_text) (map param_of params.now)) }
 {
@@ -154,7 +154,7 @@ fn push_more_params(out: &mut Printer, params: &[Param])
     }
 }
 
-/// Parameters, with commas between them.
+/// Appends parameters, with commas between them.
 fn push_params(out: &mut Printer, params: &[Param])
     ensures { Adds out.old out.new (listed_text param_text (map param_of params.now)) }
 {
@@ -167,7 +167,7 @@ fn push_params(out: &mut Printer, params: &[Param])
     }
 }
 
-/// A section or a helper, with this word before its name.
+/// Appends a section or a helper, with this word before its name.
 fn push_section(out: &mut Printer, word: &str, section: &Section)
     ensures { Adds out.old out.new (section_text word.now (section_of section.now)) }
 {
@@ -200,7 +200,7 @@ fn push_decl(out: &mut Printer, decl: &Decl)
     }
 }
 
-/// Declarations, one behind the other.
+/// Appends declarations, one after another.
 pub fn push_decls(out: &mut Printer, decls: &[Decl])
     ensures { Adds out.old out.new (tree_text (map decl_of decls.now)) }
 {

@@ -1,4 +1,4 @@
-//! The texts of statements.
+//! Writes statements.
 
 ghost use Rattle.std.specs.Prelude.{◌≡◌, ◌++◌, codes, map};
 ghost use Rattle.syntax.specs.Working.Adding.{Adds};
@@ -9,7 +9,7 @@ ghost use Rattle.syntax.specs.Working.Printing.{many_text, after_comma, listed_t
 use crate::print::{push_expr, push_place, push_type};
 use crate::printer::Printer;
 use crate::tree::{
-    Block, CalledLocal, Expr, HelperCall, If, Local, OwnedLocal, Owner, Place, Stmt, While,
+    Block, CalledLocal, Expr, HelperCall, If, Local, OwnedLocal, OwnerClause, Place, Stmt, While,
 };
 
 pub fn push_indent(out: &mut Printer, depth: usize)
@@ -28,7 +28,7 @@ pub fn deeper(depth: usize) -> usize
     if depth < 64 { depth + 1 } else { depth }
 }
 
-/// A local, behind this word, up to the end of its value.
+/// Appends a local, after this word, up to the end of its value.
 fn push_local(out: &mut Printer, word: &str, local: &Local)
     ensures { Adds out.old out.new (word.now ++ local_text (local_of local.now)) }
 {
@@ -40,7 +40,7 @@ fn push_local(out: &mut Printer, word: &str, local: &Local)
     push_expr(out, &local.value);
 }
 
-/// The statement of a local of which no owner is told.
+/// Appends the statement of a local without an owner.
 fn push_plain(out: &mut Printer, word: &str, local: &Local)
     ensures { Adds out.old out.new (word.now ++ local_text (local_of local.now) ++ codes ";") }
 {
@@ -48,7 +48,7 @@ fn push_plain(out: &mut Printer, word: &str, local: &Local)
     out.push_str(";");
 }
 
-fn push_owner(out: &mut Printer, owner: &Owner)
+fn push_owner(out: &mut Printer, owner: &OwnerClause)
     ensures { Adds out.old out.new (owner_text (owner_of owner.now)) }
 {
     out.push_named(" where ", &owner.field);
@@ -63,7 +63,7 @@ fn push_owned(out: &mut Printer, owned: &OwnedLocal, depth: usize)
     out.push_str(";");
 }
 
-/// Expressions, with a comma before each.
+/// Appends expressions, with a comma before each.
 fn push_more_arguments(out: &mut Printer, arguments: &[Expr])
     ensures { Adds out.old out.new (many_text (after_comma expr_text) (map expr_of arguments.now)) }
 {
@@ -73,7 +73,7 @@ fn push_more_arguments(out: &mut Printer, arguments: &[Expr])
     }
 }
 
-/// Expressions, with commas between them.
+/// Appends expressions, with commas between them.
 fn push_arguments(out: &mut Printer, arguments: &[Expr])
     ensures { Adds out.old out.new (listed_text expr_text (map expr_of arguments.now)) }
 {
@@ -95,7 +95,7 @@ fn push_helper_call(out: &mut Printer, call: &HelperCall)
     out.push_str(")");
 }
 
-/// A local of what a helper returns, behind the word `let`.
+/// Appends a local with the result of a helper, after the word `let`.
 fn push_called_rest(out: &mut Printer, called: &CalledLocal)
     ensures { Adds out.old out.new (called_text (called_local_of called.now)) }
 {
@@ -114,7 +114,7 @@ fn push_called(out: &mut Printer, called: &CalledLocal)
     out.push_str(";");
 }
 
-/// The statement of a call whose result is dropped.
+/// Appends the statement of a call whose result is dropped.
 fn push_call(out: &mut Printer, call: &HelperCall)
     ensures { Adds out.old out.new (codes "call " ++ helper_call_text (helper_call_of call.now) ++ codes ";") }
 {
@@ -132,7 +132,7 @@ fn push_assignment(out: &mut Printer, place: &Place, e: &Expr)
     out.push_str(";");
 }
 
-/// A statement of a word and an expression.
+/// Appends a statement of a word and an expression.
 fn push_worded(out: &mut Printer, word: &str, e: &Expr)
     ensures { Adds out.old out.new (word.now ++ expr_text (expr_of e.now) ++ codes ";") }
 {
@@ -141,7 +141,7 @@ fn push_worded(out: &mut Printer, word: &str, e: &Expr)
     out.push_str(";");
 }
 
-/// A statement, whose lines stand at this depth.
+/// Appends a statement, whose lines are at this depth.
 #[cycle(print_stmt)]
 fn push_stmt(out: &mut Printer, s: &Stmt, depth: usize)
     ensures { Adds out.old out.new (stmt_text depth (stmt_of s.now)) }
@@ -181,7 +181,7 @@ fn push_while(out: &mut Printer, repetition: &While, depth: usize)
     push_braced(out, &repetition.block, depth);
 }
 
-/// What stands behind `else`, with the word, or nothing.
+/// Appends what follows `else`, with the word, or nothing.
 #[cycle(print_stmt)]
 fn push_else(out: &mut Printer, other: &Option<Block>, depth: usize)
     ensures { Adds out.old out.new (else_text depth (else_of other.now)) }
@@ -195,7 +195,7 @@ fn push_else(out: &mut Printer, other: &Option<Block>, depth: usize)
     }
 }
 
-/// A block in braces behind what its line begins with, whose own lines stand one level further in than that line.
+/// Appends a block in braces after the begin of its line. Its own lines are one level deeper than that line.
 #[cycle(print_stmt)]
 fn push_braced(out: &mut Printer, body: &Block, depth: usize)
     ensures { Adds out.old out.new (braced depth (stmts_text (deeper depth) (stmts_of body.now.stmts.items))) }
@@ -207,7 +207,7 @@ fn push_braced(out: &mut Printer, body: &Block, depth: usize)
     out.push_str("}");
 }
 
-/// Statements, each on a line of its own.
+/// Appends statements, each on a line of its own.
 #[cycle(print_stmt)]
 pub fn push_stmts(out: &mut Printer, stmts: &[Stmt], depth: usize)
     ensures { Adds out.old out.new (stmts_text depth (stmts_of stmts.now)) }

@@ -1,4 +1,4 @@
-//! The texts of threads.
+//! Writes threads.
 
 ghost use Rattle.std.specs.Prelude.{map};
 ghost use Rattle.syntax.specs.Working.Adding.{Adds};
@@ -10,7 +10,7 @@ use crate::print_stmt::{deeper, push_indent};
 use crate::printer::Printer;
 use crate::tree::{Call, Const, Item, Thread};
 
-/// Constants, with a comma before each.
+/// Appends constants, with a comma before each.
 fn push_more_consts(out: &mut Printer, consts: &[Const])
     ensures { Adds out.old out.new (many_text (after_comma const_text) (map const_of consts.now)) }
 {
@@ -20,7 +20,7 @@ fn push_more_consts(out: &mut Printer, consts: &[Const])
     }
 }
 
-/// Constants, with commas between them.
+/// Appends constants, with commas between them.
 fn push_consts(out: &mut Printer, consts: &[Const])
     ensures { Adds out.old out.new (listed_text const_text (map const_of consts.now)) }
 {
@@ -42,7 +42,7 @@ fn push_call(out: &mut Printer, call: &Call)
     out.push_str(");");
 }
 
-/// An item, whose lines stand at this depth.
+/// Appends an item, whose lines are at this depth.
 #[cycle(print_item)]
 fn push_item(out: &mut Printer, item: &Item, depth: usize)
     ensures { Adds out.old out.new (item_text depth (item_of item.now)) }
@@ -61,7 +61,7 @@ fn push_item(out: &mut Printer, item: &Item, depth: usize)
     }
 }
 
-/// Items, each on a line of its own.
+/// Appends items, each on a line of its own.
 #[cycle(print_item)]
 fn push_items(out: &mut Printer, items: &[Item], depth: usize)
     ensures { Adds out.old out.new (items_text depth (items_of items.now)) }

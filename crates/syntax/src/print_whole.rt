@@ -1,4 +1,4 @@
-//! The text of a tree.
+//! Writes the text of a tree.
 
 ghost use Rattle.std.specs.Prelude.{◌≡◌, IfOk, string_bytes};
 ghost use Rattle.syntax.specs.Views.{tree_of};
@@ -11,13 +11,13 @@ use crate::tree::Tree;
 use source::memory::NoMemory;
 use std::alloc::Global;
 
-/// A text of the tree, with a statement a line, moved in by its depth.
+/// The text of `tree`, one statement a line, indented by its depth.
 ///
-/// The one error is a refused growth.
+/// The only error is a failed allocation.
 pub fn print_tree(alloc: Global, tree: &Tree) -> Result<String, NoMemory>
-    // What is printed, byte for byte.
+    // The text, byte for byte.
     ensures text { IfOk result (λ printed. string_bytes printed ≡ tree_text (tree_of tree.now)) }
-    // For a tree that some text has, the text printed has that tree, but for places.
+    // If any text has this tree, the printed text has it too, except for positions.
     ensures same { IfOk result (λ printed. HasTextIfAny (string_bytes printed) (tree_of tree.now)) }
 {
     let mut out = Printer::new(alloc);

@@ -1,4 +1,4 @@
-//! A text that grows until memory is refused.
+//! A text that grows until an allocation fails.
 
 ghost use Rattle.std.specs.Prelude.{◌≡◌, ◌++◌, [], IfOk, OnOk, false, string_bytes};
 ghost use Rattle.std.specs.Fmt.{decimal};
@@ -9,8 +9,8 @@ use crate::tree::Name;
 use source::memory::NoMemory;
 use std::alloc::{AllocError, Global};
 
-/// A text, and whether a growth of it was refused. From then on nothing is added, and `finish`
-/// gives the error, so what adds several pieces has no way out behind each.
+/// A text, and whether an allocation for it has failed. After a failure nothing is appended and `finish` returns the
+/// error, so that callers need not check after each piece.
 #[derive(Drop)]
 pub struct Printer {
     pub text: String,
@@ -42,7 +42,7 @@ impl Printer {
         self.push_str(name.text.as_str());
     }
 
-    /// A name behind a piece.
+    /// Appends `before` and then the name.
     pub fn push_named(&mut self, before: &str, name: &Name)
         ensures { Adds self.old self.new (before.now ++ (ident name.now).text) }
     {
@@ -59,7 +59,7 @@ impl Printer {
         self.is_refused = append_number(&mut self.text, n).is_err();
     }
 
-    /// The text, unless a growth of it was refused.
+    /// The text, or the error if an allocation for it has failed.
     pub fn finish(self) -> Result<String, NoMemory>
         ensures { IfOk result (λ text. self.is_refused ≡ false × (text ≡ self.text)) }
     {

@@ -5,16 +5,16 @@ use source::span::Span;
 use source::token::Number;
 use std::rc::RcStr;
 
-/// A program: its declarations, as they stand in the text.
+/// A program: its declarations, in the order of the text.
 #[derive(Drop)]
 pub struct Tree {
     pub decls: Vec<Decl>,
-    /// How tables of the tree's names hash them: keyed by all names of the text. It is no part of what the tree says.
+    /// The hash builder for tables of the tree's names, keyed by all names of the text. It is not a part of the tree's
+    /// meaning.
     pub hashing: KeyedState,
 }
 
-/// A name, and its first byte. It stands up to where its text ends. The names of one program that
-/// are the same share their bytes.
+/// A name, and its first byte. It ends where its text ends. Equal names of one program share their bytes.
 #[derive(Drop)]
 pub struct Name {
     pub text: RcStr,
@@ -35,15 +35,15 @@ pub enum ValueType {
 pub enum Const {
     /// `7`
     Int(Number),
-    /// `-7`: where the sign stands, and the number behind it.
+    /// `-7`: the position of the sign, and the number after it.
     Negative(Span, Number),
-    /// `null`, and where it stands.
+    /// `null`, and its position.
     Null(Span),
     /// `p[3]`: a member of a pool.
     Member(Name, Number),
 }
 
-/// An operator of a chain.
+/// An operator between the operands of a chain.
 #[derive(Clone, Copy, PartialEq, Eq)]
 pub enum Operator {
     /// `+`
@@ -62,7 +62,7 @@ pub enum Operator {
     Or,
 }
 
-/// How tightly the operators of a chain bind.
+/// The precedence level of the operators of a chain.
 #[derive(Clone, Copy)]
 pub enum Level {
     /// `*`, `/` and `%`
@@ -79,7 +79,7 @@ impl Operator {
     ghost use Rattle.std.specs.Prelude.{◌≡◌};
     ghost use Rattle.syntax.specs.Grammar.{level_of};
 
-    /// How tightly the operator binds.
+    /// The precedence level of the operator.
     pub fn level(self) -> Level
         ensures { result ≡ level_of self }
     {
@@ -92,7 +92,7 @@ impl Operator {
     }
 }
 
-/// An operator between two sums.
+/// A comparison between two sums.
 #[derive(Clone, Copy)]
 pub enum Comparison {
     /// `==`
@@ -118,14 +118,14 @@ pub enum Prefix {
     Not,
 }
 
-/// `a.b.c`: a name, and one or more fields behind dots.
+/// `a.b.c`: a name, and one or more fields after dots.
 #[derive(Drop)]
 pub struct Path {
     pub first: Name,
     pub fields: Vec<Name>,
 }
 
-/// What an assignment writes to.
+/// The target of an assignment.
 #[derive(Drop)]
 pub enum Place {
     /// `x`
@@ -138,14 +138,14 @@ pub enum Place {
 
 /// An expression.
 ///
-/// A program may have one for every other byte, so an expression takes 24 bytes: what is larger
-/// stands apart, and what is small comes first.
+/// A program may have one for every other byte, so an expression takes 24 bytes: larger parts are boxed, and small ones
+/// come first.
 #[derive(Drop)]
 #[cycle(expr)]
 pub enum Expr {
     /// `7`
     Int(Number),
-    /// `null`, and where it stands.
+    /// `null`, and its position.
     Null(Span),
     /// `x`
     Name(Name),
@@ -153,9 +153,9 @@ pub enum Expr {
     Element(Box<Element>),
     /// `x.a.b`
     Path(Box<Path>),
-    /// `(e)`, and where the opening parenthesis stands.
+    /// `(e)`, and the position of the opening parenthesis.
     Paren(Span, Box<Expr>),
-    /// `-e`, and where the operator stands.
+    /// `-e`, and the position of the operator.
     Prefix(Prefix, Span, Box<Expr>),
     /// `a + b - c` or `a == b`
     Joined(Box<Joined>),
@@ -173,7 +173,8 @@ pub struct Element {
 #[derive(Drop)]
 #[cycle(expr)]
 pub enum Joined {
-    /// `a + b`: a chain of two operands. Most chains are, and a list of one would take a block of memory of its own.
+    /// `a + b`: a chain of two operands. Most chains have two, and a list of one link would take a block of memory of
+    /// its own.
     Pair(Operator, Expr, Expr),
     /// `a + b - c`: an operand, and operators of one level with an operand each.
     Chain(Level, Expr, Vec<Link>),
@@ -181,7 +182,7 @@ pub enum Joined {
     Compare(Comparison, Expr, Expr),
 }
 
-/// An operator of a chain, and the operand behind it.
+/// An operator of a chain, and the operand after it.
 #[derive(Drop)]
 #[cycle(expr)]
 pub struct Link {
@@ -192,19 +193,19 @@ pub struct Link {
 /// `let x: int = e;` or `var x: int = e;`
 #[derive(Drop)]
 pub struct Local {
-    /// Where the statement stands, by its first word.
+    /// The position of the statement's first word.
     pub start: Span,
     pub name: Name,
     pub value_type: ValueType,
     pub value: Expr,
 }
 
-/// `where owner == b`: which of its final references a local's value is tested by, and what this has to name.
+/// `where owner == b`: the final reference of a local's value that is tested, and the local it has to refer to.
 #[derive(Drop)]
-pub struct Owner {
+pub struct OwnerClause {
     /// The final reference.
     pub field: Name,
-    /// The local that names what the final reference has to name.
+    /// The local that the final reference has to equal.
     pub local: Name,
 }
 
@@ -212,7 +213,7 @@ pub struct Owner {
 #[derive(Drop)]
 pub struct OwnedLocal {
     pub local: Local,
-    pub owner: Owner,
+    pub owner: OwnerClause,
 }
 
 /// `f(a + 1, b)`: a call of a helper.
@@ -225,7 +226,7 @@ pub struct HelperCall {
 /// `let x: int = call f(e);`
 #[derive(Drop)]
 pub struct CalledLocal {
-    /// Where the statement stands, by its first word.
+    /// The position of the statement's first word.
     pub start: Span,
     pub name: Name,
     pub value_type: ValueType,
@@ -234,8 +235,7 @@ pub struct CalledLocal {
 
 /// A statement.
 ///
-/// A program may have one for every four bytes, so a statement takes 56 bytes: what is larger stands
-/// apart.
+/// A program may have one for every four bytes, so a statement takes 56 bytes: larger parts are boxed.
 #[derive(Drop)]
 #[cycle(stmt)]
 pub enum Stmt {
@@ -253,11 +253,11 @@ pub enum Stmt {
     If(Box<If>),
     /// `while (e) { .. }`
     While(Box<While>),
-    /// `print e;`, and where its first word stands.
+    /// `print e;`, and the position of its first word.
     Print(Span, Expr),
-    /// `return e;`, and where its first word stands.
+    /// `return e;`, and the position of its first word.
     Return(Span, Expr),
-    /// `call f(e);`, and where its first word stands.
+    /// `call f(e);`, and the position of its first word.
     Call(Span, Box<HelperCall>),
 }
 
@@ -265,11 +265,11 @@ pub enum Stmt {
 #[derive(Drop)]
 #[cycle(stmt)]
 pub struct If {
-    /// Where the statement stands, by its first word.
+    /// The position of the statement's first word.
     pub start: Span,
     pub condition: Expr,
     pub block: Block,
-    /// The block behind `else`, where there is one.
+    /// The block after `else`, if it has one.
     pub otherwise: Option<Block>,
 }
 
@@ -277,13 +277,13 @@ pub struct If {
 #[derive(Drop)]
 #[cycle(stmt)]
 pub struct While {
-    /// Where the statement stands, by its first word.
+    /// The position of the statement's first word.
     pub start: Span,
     pub condition: Expr,
     pub block: Block,
 }
 
-/// Statements in braces, and where the closing one stands.
+/// Statements in braces, and the position of the closing brace.
 #[derive(Drop)]
 #[cycle(stmt)]
 pub struct Block {
@@ -291,20 +291,20 @@ pub struct Block {
     pub close: Span,
 }
 
-/// `protected_by(a.b.c)`: the first name, and those behind the dots.
+/// `protected_by(a.b.c)`: the first name, and those after the dots.
 #[derive(Drop)]
 pub struct Protection {
     pub first: Name,
     pub rest: Vec<Name>,
 }
 
-/// `global int x protected_by(G) = 7;`: a global that is no array.
+/// `global int x protected_by(G) = 7;`: a global that is not an array.
 #[derive(Drop)]
 pub struct Variable {
     pub name: Name,
     pub value_type: ValueType,
     pub protection: Option<Protection>,
-    /// The opening value, where one is given.
+    /// The initial value, if one is given.
     pub value: Option<Const>,
 }
 
@@ -361,10 +361,10 @@ pub struct Pool {
     pub length: Number,
 }
 
-/// `init p[2].x = 7;`: the opening value of a field of a member.
+/// `init p[2].x = 7;`: the initial value of a field of a pool member.
 #[derive(Drop)]
 pub struct Init {
-    /// Where the declaration stands, by its first word.
+    /// The position of the declaration's first word.
     pub start: Span,
     pub pool: Name,
     pub index: Number,
@@ -385,7 +385,7 @@ pub struct Param {
 pub struct Section {
     pub name: Name,
     pub params: Vec<Param>,
-    /// The type of what it returns, where it returns something.
+    /// The result type, if it returns a value.
     pub result: Option<ValueType>,
     pub body: Block,
 }
@@ -397,7 +397,7 @@ pub struct Call {
     pub arguments: Vec<Const>,
 }
 
-/// What a thread does.
+/// An item of a thread.
 #[derive(Drop)]
 pub enum Item {
     /// `f(1, -2);`
@@ -406,7 +406,7 @@ pub enum Item {
     Repeat(Number, Vec<Item>),
 }
 
-/// `thread t { .. }`: a thread, and what it does, in order.
+/// `thread t { .. }`: a thread and its items, in order.
 #[derive(Drop)]
 pub struct Thread {
     pub name: Name,

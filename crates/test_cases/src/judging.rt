@@ -2,14 +2,14 @@
 
 use source::memory::NoMemory;
 use std::alloc::Global;
-use test_answers::saying::said_of;
-use test_answers::told::Told;
-use test_files::asked::{Asked, Engine};
-use test_files::paragraph::{Paragraph, read_paragraph};
-use test_files::repetition::written_out;
-use test_files::tally::Tally;
+use test_support::asked::{Asked, Engine};
+use test_support::paragraph::{Paragraph, read_paragraph};
+use test_support::repetition::written_out;
+use test_support::saying::said_of;
+use test_support::tally::Tally;
+use test_support::told::Told;
 
-/// What must be said of a case's text; as it stands, where what is between `<<` and `>>` can't be read.
+/// The expected text of a case, with the pieces in `<<` and `>>` written out; unchanged if one of them can't be read.
 fn wanted(alloc: Global, want: &str) -> Result<String, NoMemory> {
     match written_out(alloc, want)? {
         Some(want) => Ok(want),
@@ -17,7 +17,7 @@ fn wanted(alloc: Global, want: &str) -> Result<String, NoMemory> {
     }
 }
 
-/// What is said of a case's text, with what stands ahead of it.
+/// The answer for a case's text, with the text of `@head` before it.
 fn said_behind(
     alloc: Global,
     asked: Asked<'_>,
@@ -39,7 +39,7 @@ fn said_behind(
     }
 }
 
-/// Judges the cases of the text of the file of this name.
+/// Checks the cases in the text of the file of this name.
 pub fn judge_text(alloc: Global, file: &str, text: &str) -> Result<Tally, NoMemory> {
     let mut tally = Tally::new(alloc);
     let mut asked = Asked::Engine(Engine::Check);

@@ -1,8 +1,8 @@
 //! Tests of the crate `layout`: a program is laid out.
 
 use std::test::Fail;
-use test_files::judging::compare;
-use test_texts::laid_out;
+use test_support::judging::compare;
+use test_support::texts::laid_out;
 
 /// Two objects whose field is under the lock of a third one.
 const SHARED_OWNER: &str = "struct B { lock l; int n protected_by(l); }

@@ -1,9 +1,10 @@
-//! Tests of the crate `lock_manager`: who is granted which lock with which cells, who waits, and what is kept.
+//! Tests of the crate `lock_manager`: which thread is granted which lock with which cells, which thread waits, and what
+//! is kept.
 
 use std::test::Fail;
-use test_files::judging::compare;
-use test_manager::Scenario;
-use test_texts::said_of_calls;
+use test_support::Scenario;
+use test_support::judging::compare;
+use test_support::texts::said_of_calls;
 
 /// Two cells, each under a lock of its own.
 const DISJOINT_LOCKS: &str = "lock G; lock H;

@@ -1,8 +1,8 @@
-//! Tests of the crate `interleavings`: what the steps of a thread are, one by one.
+//! Tests of the crate `interleavings`: the steps of a thread, one by one.
 
 use std::test::Fail;
-use test_files::judging::compare;
-use test_texts::stepped;
+use test_support::judging::compare;
+use test_support::texts::stepped;
 
 const LOST_UPDATE: &str = "lock G;
 global int n protected_by(G);

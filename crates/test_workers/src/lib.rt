@@ -1,7 +1,7 @@
-//! Tests of the crate `workers` over compiled programs, of what no clause says: that threads run side by side, that one
-//! who waits is woken, that no call of the seats is refused; against values from outside.
+//! Tests of `workers` over compiled programs. They test what no clause says, against values from outside: that threads
+//! run side by side, that a waiting thread is woken, and that no call of the seats is refused.
 //!
-//! They stand here and not in `workers`, since a crate with tests is proved twice.
+//! They are here and not in `workers`, since a crate with tests is proved twice.
 #![tactic(auto)]
 
 #[cfg(test)]

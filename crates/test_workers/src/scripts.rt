@@ -1,8 +1,8 @@
 //! Tests of scripts: each is run by a thread of its own.
 
 use std::test::Fail;
-use test_files::judging::compare;
-use test_threads::{Hold, Mark, Scene, by_threads};
+use test_support::judging::compare;
+use test_support::{Hold, Mark, Scene, by_threads};
 
 /// Two threads, each with a cell under a lock of its own.
 const DISJOINT_LOCKS: &str = "lock G; lock H;
@@ -27,7 +27,7 @@ thread t { repeat 1000 { transfer(p[0], p[1], 5); } }
 thread u { repeat 1000 { transfer(p[1], p[0], 7); } }
 ";
 
-/// One counter, and no thread yet.
+/// One counter, and no thread.
 const COUNTER: &str = "lock G;
 global int n protected_by(G);
 atomic inc() { n = n + 1; }

@@ -1,12 +1,12 @@
-//! Tests of seats: what their calls are answered, and who waits for whom.
+//! Tests of seats: the answers of their calls, and which seat waits for which.
 
 use core_lang::value::Value;
 use std::alloc::Global;
 use std::sync::Wait;
 use std::test::Fail;
 use std::thread::Threads;
-use test_files::judging::compare;
-use test_threads::{
+use test_support::judging::compare;
+use test_support::{
     Hold, Mark, Scene, SeatCall, in_agreement, in_turn, over_one_row, side_by_side,
 };
 
@@ -46,7 +46,7 @@ const G: SeatCall<'static> = SeatCall {
     arguments: &[],
 };
 
-/// A thread with its first lock is held until another has come so far.
+/// A thread with its first lock is held until another has come to this mark.
 const fn with_its_lock(thread: u32, other: u32, until: Mark, turns: u32) -> Hold {
     Hold {
         thread,
@@ -57,7 +57,7 @@ const fn with_its_lock(thread: u32, other: u32, until: Mark, turns: u32) -> Hold
     }
 }
 
-/// A thread doesn't call before another has passed a step.
+/// A thread does not call before another has passed a step.
 const fn behind(thread: u32, other: u32, step: u32) -> Hold {
     Hold {
         thread,
@@ -68,7 +68,7 @@ const fn behind(thread: u32, other: u32, step: u32) -> Hold {
     }
 }
 
-/// Compares what is said where the scene's seats call side by side.
+/// Compares the expected answers with those that the scene's seats get when they call side by side.
 fn judge_side_by_side<R: Threads + Wait + Sync>(
     rt: &R,
     alloc: Global,
@@ -98,7 +98,7 @@ fn a_seat_sees_what_another_wrote(rt: HostRuntime) -> Result<(), Fail> {
     )
 }
 
-/// What seat 1 has seen goes on where what seat 0 has seen ends.
+/// What seat 1 has seen continues where what seat 0 has seen ends.
 #[test]
 fn who_calls_later_has_seen_more(rt: HostRuntime) -> Result<(), Fail> {
     let alloc = rt.alloc();
@@ -178,7 +178,7 @@ fn a_gate_holds_no_other_seat(rt: HostRuntime) -> Result<(), Fail> {
     )
 }
 
-/// Seat 1 is answered while the gate holds seat 0 behind its begin, before any lock.
+/// Seat 1 is answered while the gate holds seat 0 after its begin, before any lock.
 #[test]
 fn a_begin_holds_no_other_seat(rt: HostRuntime) -> Result<(), Fail> {
     let scene = Scene {
@@ -304,7 +304,7 @@ atomic long() { x = 1; var i: int = 0; while (i < 3000000) { i = i + 1; } x = x 
 atomic g() { y = y + 2; }
 ";
 
-/// Seats 1 and 2 have waited long, each for one of the two locks that seat 0 gives back. Both are woken: seat 1 is held
+/// Seats 1 and 2 have waited long, each for one of the two locks that seat 0 releases. Both are woken: seat 1 is held
 /// with its lock until seat 2 is answered.
 #[test]
 fn a_release_wakes_who_waits_for_each_lock(rt: HostRuntime) -> Result<(), Fail> {

@@ -14,8 +14,8 @@ use Rattle.resolution.specs.Tables.{nothing_yet}
 use Rattle.resolution.specs.Working.Building.{resolved, resolved_from}
 use Rattle.resolution.specs.Working.FaultLists.{twice_faults, struct_faults, total_faults, repeated_faults, each_faults}
 use Rattle.resolution.specs.Working.Laws.{the_firsts}
-use Rattle.types_declarations.specs.Working.Grown.{if_right}
-use Rattle.core_lang_calls.specs.Working.FaultLists.{graph_faults}
+use Rattle.types.specs.Working.Grown.{if_right}
+use Rattle.core_lang_helpers.specs.Working.FaultLists.{graph_faults}
 use Rattle.resolution.specs.CallGraphs.{tree_graph}
 use Rattle.types.specs.Working.Whole.{judged_faults}
 
@@ -37,7 +37,7 @@ whole_firsts ds ps f g same hf hg =
     ∙ ap (λ (s : Firsts). found_in s calls) (sym (found_append nothing_found ahead each))
     ∙ sym (found_append nothing_found (ahead ++ each) calls)
 
--- where there is no fault, the whole is resolved
+-- without a fault, the whole is resolved
 pub whole_built : (ds ps : List Decl) (start v : Option core.Program) → ps ≡ ds → start ≡ Some nothing_yet →
     v ≡ resolved_from ps 0 start ps → v ≡ resolved ds
 whole_built ds ps start v same begun made =
@@ -48,7 +48,7 @@ pub none_built : (ds : List Decl) (v : Option core.Program) → v ≡ resolved d
     ((p : core.Program) × (resolved ds ≡ Some p)) → ⊥
 none_built ds v is none some = let e : None ≡ Some some.0 = sym none ∙ is ∙ some.1 in cc
 
--- nothing is declared, and all of it is right, where there is no fault yet
+-- without declarations and without a fault so far, all is right
 pub begun : (f : Option Finding) (b : Bool) (t : Typed) → f ≡ None → is_some f ≡ not b → core_of t ≡ nothing_yet →
     if_right b t ≡ Some nothing_yet
 begun f true t none is made = ap Some made

@@ -1,2 +1,9 @@
-pub mod Whole
+pub mod Adding
+pub mod Arguments
 pub mod Checked
+pub mod Lost
+pub mod Objects
+pub mod Shapes
+pub mod Steps
+pub mod Threads
+pub mod Whole

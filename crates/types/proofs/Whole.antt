@@ -1,4 +1,4 @@
--- A struct in its place.
+-- A struct in its place among the declarations.
 use Rattle.std.proofs.Common.{◌≡◌, ℕ, List, Option, Some, None, ap, ◌∙◌}
 use Rattle.std.specs.Prelude.{slice_get}
 use Rattle.syntax.specs.declared.tree.Decl as rust

@@ -1,4 +1,4 @@
--- What stands ahead of places, and the numbers of declarations and members.
+-- What comes before each place, and the numbers of declarations and members.
 use Rattle.std.proofs.Common.{◌≡◌, ℕ, zero, suc, ◌+◌, List, [], ◌∷◌, ◌++◌, Option, Some, None, Bool, true, false}
 use Rattle.std.proofs.Common.{length, take, refl, sym, ap, ◌∙◌, arith, if◌then◌else◌}
 use Rattle.std.specs.Prelude.{slice_get, nat_le, min}
@@ -217,7 +217,7 @@ or_some o c all is = sym (ap (λ x. or_else x all) is)
 pub or_none : {C : Type 0} (o : Option C) (all : C) → o ≡ None → all ≡ or_else o all
 or_none o all is = sym (ap (λ x. or_else x all) is)
 
--- what the table gives, at a place and behind its end
+-- what the table gives, at a place and after its end
 module _ {A C : Type 0} (made : List A → C) (xs : List A) (ahead : List C) (all : C) (place : ℕ) (table : AreAhead made xs ahead all) where
   pub ahead_here : (b : Bor C) → IsItemAt ahead place (Some b) → b.now ≡ made (take place xs)
   ahead_here b here = or_some (slice_get ahead place) b.now all (item_here ahead place b here) ∙ table place

@@ -1,4 +1,4 @@
--- Sums and counts, one more thing at a time.
+-- Sums and counts, one more item at a time.
 use Rattle.std.proofs.Common.{◌≡◌, ◌∙◌, ◌+◌, ◌≤◌, ℕ, List, Bool, true, false, ◌∷◌, arith, sym, ap, subst, refl}
 use Rattle.std.specs.Prelude.{min}
 use Rattle.resolution.specs.Working.FaultLists.{lock_count}

@@ -1,4 +1,4 @@
--- What is found by a table of names: its place, and what stands there.
+-- The results of a table of names: a name's place, and the item there.
 use Rattle.std.proofs.Common.{◌≡◌, ℕ, List, Option, Some, None, slice_get, sym, ap, ◌∙◌, Bool}
 use Rattle.std.specs.Borrow.{Bor}
 use Rattle.std.specs.Prelude.{map}

@@ -1,4 +1,4 @@
--- What is given, one declaration after another.
+-- The targets of `init`s, one declaration after another.
 use Rattle.std.proofs.Common.{◌≡◌, ℕ, ◌+◌, List, [], ◌∷◌, ◌++◌, Option, Some, None, Bool, true, length, refl, sym, ap}
 use Rattle.std.proofs.Common.{◌∙◌, arith, if◌then◌else◌}
 use Rattle.std.specs.Prelude.{slice_get, is_some}

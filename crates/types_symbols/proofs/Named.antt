@@ -1,4 +1,4 @@
--- What a name is found to be: a pool's struct and its member, or a local.
+-- What a name refers to: a pool's struct and its member, or a local.
 use Rattle.std.proofs.Common.{◌≡◌, ◌∙◌, ◌<◌, ℕ, List, Option, Some, None, Bool, true, if◌then◌else◌, ap, sym, refl}
 use Rattle.std.specs.Prelude.{nat_lt, option_map}
 use Rattle.std.proofs.lemmas.Bool.{lt-ltb}

@@ -55,7 +55,7 @@ structs_push (atomic x ∷ ds) d = structs_push ds d
 structs_push (helper x ∷ ds) d = structs_push ds d
 structs_push (thread x ∷ ds) d = structs_push ds d
 
--- what a declaration adds
+-- the structures with those that a declaration adds
 pub structures_more : (ds : List Decl) (d : Decl) (ss new : List rust_struct.Struct) →
     map struct_of new ≡ map struct_of ss ++ structs_in (d ∷ []) → AreStructures ds ss →
     AreStructures (ds ++ d ∷ []) new
@@ -85,7 +85,7 @@ module _ (d : rust.Decl) (x : rust_struct.Struct) where
   structure_blamed f g is noted =
       noted ∙ ap (found_in f) (sym (append-nil (member_twice_faults [] (struct_of x).members))) ∙ ap (λ (e : rust.Decl). found_in f (struct_faults (decl_of e ∷ []))) (sym is)
 
--- and what is none
+-- a declaration that is not a struct has none
 none_struct : (d : rust.Decl) → ((x : rust_struct.Struct) → d ≡ variant.Struct x → ⊥) → structs_in (decl_of d ∷ []) ≡ []
 none_struct (variant.Lock x) h = refl
 none_struct (variant.Struct x) h = absurd (h x refl)

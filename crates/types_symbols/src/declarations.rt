@@ -1,4 +1,4 @@
-//! The declarations, with tables to find them by name and to number them.
+//! The declarations, with tables by name and by number.
 
 ghost use Rattle.std.specs.Prelude.{◌≡◌, ◌<◌, ◌+◌, ◌∷◌, ◌++◌, ◌^◌, [], OnOk, IfOk, option_map, map, slice_get, take};
 ghost use Rattle.syntax.specs.Views.{ident, decl_of, struct_of};
@@ -12,21 +12,21 @@ ghost use Rattle.types_symbols.specs.Working.Views.{decls_of, name_seen, struct_
 
 use crate::members::Structure;
 use crate::names::{Names, TableMaker};
-use crate::totals::SECTION_LIMIT;
-use resolution::finding::{Firsts, note};
+use resolution::finding::{Firsts, report};
 use source::fault::Code;
+use source::limits::SECTION_LIMIT;
 use std::alloc::{AllocError, Global};
 use std::marker::Model;
 use syntax::tree::{Decl, Name};
 
-/// How many declarations of each kind there are. Those whose name another bears count too.
+/// The number of declarations of each kind, those with a repeated name included.
 #[derive(Clone, Copy)]
 pub struct Counts {
     /// The global locks.
     pub locks: usize,
     /// The structs.
     pub structs: usize,
-    /// The globals that are no arrays.
+    /// The globals that are not arrays.
     pub globals: usize,
     /// The arrays.
     pub arrays: usize,
@@ -49,15 +49,15 @@ pub struct Declarations<'t> {
     items: &'t [Decl],
     /// The place of the first declaration of each name.
     names: Names,
-    /// How many of each kind stand ahead of each declaration, by the declaration's place.
+    /// For each declaration, by its place, the number of each kind before it.
     ahead: Vec<Counts>,
-    /// How many of each kind there are in all.
+    /// The total number of each kind.
     all: Counts,
-    /// The structs, by number: those among the declarations, in their order.
+    /// The structs, by number, which is their order among the declarations.
     structs: Vec<Structure<'t>>,
 }
 
-// They stand for the declarations as they are written, and the tables are those of these.
+// The model is the declarations as written, and an invariant says that the tables are theirs.
 impl<'t> Model for Declarations<'t> {
     ghost use Rattle.std.specs.Prelude.{List};
     ghost use Rattle.std.specs.Coded.{codes};
@@ -80,7 +80,7 @@ impl<'t> Model for Declarations<'t> {
         × AreStructures (decls_of d.items.now) d.structs.items };
 }
 
-/// The name that is declared.
+/// The name that a declaration declares.
 fn name_in(d: &Decl) -> Option<&Name>
     ensures { name_seen result ≡ declared (decl_of d.now) }
 {
@@ -106,7 +106,7 @@ fn count_one(counter: &mut usize)
 }
 
 impl Counts {
-    /// None of any kind.
+    /// Zero of each kind.
     fn new() -> Counts
         ensures { result ≡ no_counts }
     {
@@ -123,7 +123,7 @@ impl Counts {
         }
     }
 
-    /// How many there are of a declaration's kind.
+    /// The number of declarations of the kind of `d`.
     fn of(self, d: &Decl) -> usize
         ensures { result ≡ count_of self (decl_of d.now) }
     {
@@ -140,8 +140,8 @@ impl Counts {
         }
     }
 
-    /// How many there are that have a limit together with a declaration: those of its kind; of sections and helpers those
-    /// of both, of each no more than the limit.
+    /// The number of declarations that share a limit with `d`: those of its kind, or for a section or a helper those of
+    /// both kinds, each counted up to the limit.
     fn limited(self, d: &Decl) -> usize
         ensures { result ≡ limited_of self (decl_of d.now) }
     {
@@ -159,7 +159,7 @@ impl Counts {
         }
     }
 
-    /// Counts a declaration.
+    /// Counts `d`.
     fn count(&mut self, d: &Decl)
         requires { count_of self.old (decl_of d.now) < 2 ^ 63 }
         ensures { self.new ≡ counted self.old (decl_of d.now) }
@@ -178,18 +178,18 @@ impl Counts {
     }
 }
 
-/// Notes a name that is declared already.
-fn note_twice(names: &Names, name: Option<&Name>, firsts: &mut Firsts)
+/// Notes a name that is declared twice.
+fn report_twice(names: &Names, name: Option<&Name>, firsts: &mut Firsts)
     ensures { firsts.new ≡ found_in firsts.old (declared_in names.now (name_seen name.entry)) }
 {
     if let Some(name) = name {
         if names.find(name.text.as_str()).is_some() {
-            note(Code::DeclaredTwice, name.start as usize, firsts);
+            report(Code::DeclaredTwice, name.start as usize, firsts);
         }
     }
 }
 
-/// Adds the name of a declaration, if it has one that isn't there yet.
+/// Adds the name of a declaration, if it has a new one.
 fn add_name(
     alloc: Global,
     names: &mut Names,
@@ -204,8 +204,9 @@ fn add_name(
     }
 }
 
-/// The names of declarations, and how many of each kind stand ahead of each and are in all.
-fn judge_names(
+/// Makes the tables of the declarations: their names, the number of each kind before each declaration, and the totals.
+/// Notes names that are declared twice.
+fn check_names(
     maker: TableMaker,
     decls: &[Decl],
     firsts: &mut Firsts,
@@ -220,7 +221,7 @@ fn judge_names(
     let mut counts = Counts::new();
     for (place, d) in decls.iter().enumerate() {
         let name = name_in(d);
-        note_twice(&names, name, firsts);
+        report_twice(&names, name, firsts);
         add_name(alloc, &mut names, name, place)?;
         ahead.push(counts)?;
         counts.count(d);
@@ -229,7 +230,7 @@ fn judge_names(
 }
 
 /// Adds a declaration to the structs if it is one, with tables of its members.
-fn judge_struct<'t>(
+fn check_struct<'t>(
     maker: TableMaker,
     d: &'t Decl,
     structs: &mut Vec<Structure<'t>>,
@@ -247,7 +248,7 @@ fn judge_struct<'t>(
 }
 
 /// The structs among declarations, by number, with tables of their members.
-fn judge_structs<'t>(
+fn check_structs<'t>(
     maker: TableMaker,
     decls: &'t [Decl],
     firsts: &mut Firsts,
@@ -257,13 +258,13 @@ fn judge_structs<'t>(
 {
     let mut structs = Vec::new(maker.alloc);
     for d in decls {
-        judge_struct(maker, d, &mut structs, firsts)?;
+        check_struct(maker, d, &mut structs, firsts)?;
     }
     Ok(structs)
 }
 
 impl<'t> Declarations<'t> {
-    /// The declarations with their tables. Names that are declared twice are noted. The one error is a refused growth.
+    /// The declarations with their tables. Notes names that are declared twice. The only error is a failed allocation.
     pub(crate) fn new(
         maker: TableMaker,
         items: &'t [Decl],
@@ -272,8 +273,8 @@ impl<'t> Declarations<'t> {
         ensures items { IfOk result (λ t. t ≡ items.now) }
         ensures faults { OnOk result (firsts.new ≡ found_in firsts.old (name_faults (decls_of items.now))) }
     {
-        let (names, ahead, all) = judge_names(maker, items, firsts)?;
-        let structs = judge_structs(maker, items, firsts)?;
+        let (names, ahead, all) = check_names(maker, items, firsts)?;
+        let structs = check_structs(maker, items, firsts)?;
         Ok(Declarations {
             items,
             names,
@@ -297,7 +298,7 @@ impl<'t> Declarations<'t> {
         self.items.get(place)
     }
 
-    /// The first declaration of the name, with its place, counted from 0. `None` where none bears it.
+    /// The first declaration named `name`, with its place from 0.
     pub fn find(&self, name: &str) -> Option<(usize, &'t Decl)>
         ensures { option_map (λ f. (f.0, decl_of f.1.now)) result ≡ the_decl (decls_of self.now) name.now }
     {
@@ -306,7 +307,7 @@ impl<'t> Declarations<'t> {
         Some((place, decl))
     }
 
-    /// How many of each kind stand ahead of a place.
+    /// The number of each kind before `place`.
     fn ahead_of(&self, place: usize) -> Counts
         ensures { result ≡ counts_from no_counts (take place (decls_of self.now)) }
     {
@@ -316,7 +317,7 @@ impl<'t> Declarations<'t> {
         }
     }
 
-    /// The number of a declaration, of which `place` is the place: how many declarations of its kind stand ahead of it.
+    /// The number of the declaration `d` at `place`: how many of its kind come before it.
     #[tactic(auto, using(crate::proofs::Ahead::counts_none))]
     pub fn number(&self, place: usize, d: &Decl) -> usize
         ensures { result ≡ number_at (decls_of self.now) place (decl_of d.now) }
@@ -324,8 +325,8 @@ impl<'t> Declarations<'t> {
         self.ahead_of(place).of(d)
     }
 
-    /// How many declarations ahead of a place have a limit together with the one there: those of its kind; of sections and
-    /// helpers those of both, of each no more than the limit.
+    /// How many declarations before `place` share a limit with the one there: those of its kind, or for a section or a
+    /// helper those of both kinds, each counted up to the limit.
     #[tactic(auto, using(crate::proofs::Ahead::limited_none))]
     pub(crate) fn limited(&self, place: usize, d: &Decl) -> usize
         ensures { result ≡ limited (take place (decls_of self.now)) (decl_of d.now) }
@@ -333,15 +334,15 @@ impl<'t> Declarations<'t> {
         self.ahead_of(place).limited(d)
     }
 
-    /// The struct of this number, with its tables. `None` where there are no more structs than that.
+    /// The struct of this number, with its tables. `None` if the program has fewer structs.
     pub fn structure(&self, number: usize) -> Option<&Structure<'t>>
         ensures { option_map (λ s. struct_of s.now) result ≡ the_struct (decls_of self.now) number }
     {
         self.structs.get(number)
     }
 
-    /// The struct that the name means outside of sections, with its tables and its place among the declarations. `None`
-    /// where the name means something else or nothing.
+    /// The struct that `name` refers to outside of sections, with its tables and its place among the declarations.
+    /// `None` if the name does not refer to a struct.
     pub fn struct_of(&self, name: &Name) -> Option<(usize, &Structure<'t>)>
         ensures { option_map (λ s. (s.0, struct_of s.1.now)) result ≡ struct_in (the_decl (decls_of self.now) (ident name.now).text) }
     {

@@ -1,4 +1,4 @@
-//! What `init`s give the members of pools.
+//! The values that `init`s give to the members of pools.
 
 ghost use Rattle.std.specs.Prelude.{◌≡◌, [], OnOk, IfOk, option_map, None};
 ghost use Rattle.syntax.specs.Views.{decl_of, init_of, pool_of, member_of, struct_of};
@@ -12,13 +12,13 @@ ghost use Rattle.types_symbols.specs.Working.Views.{decls_of, decl_named, member
 use crate::declarations::Declarations;
 use crate::members::Structure;
 use indexmap::IndexMap;
-use resolution::finding::{Firsts, note};
+use resolution::finding::{Firsts, report};
 use resolution::init_target::InitTarget;
 use source::fault::Code;
 use std::alloc::{AllocError, Global};
 use syntax::tree::{Decl, Init, Member, Pool};
 
-/// For each thing that is given a value, the place of the first `init` that gives it.
+/// For each target of an `init`, the place of the first `init` that gives it a value.
 #[derive(Drop)]
 pub struct FirstInits {
     /// The places, among the declarations.
@@ -26,7 +26,7 @@ pub struct FirstInits {
 }
 
 impl FirstInits {
-    /// Nothing is given.
+    /// An empty table.
     fn new(alloc: Global) -> FirstInits
         ensures { (g : the_init_target.InitTarget) → init_target_found result g ≡ None }
     {
@@ -35,7 +35,7 @@ impl FirstInits {
         }
     }
 
-    /// The place of the first `init` that gives it. `None` where none does.
+    /// The place of the first `init` for this target, if it has one.
     pub(crate) fn find(&self, init_target: InitTarget) -> Option<usize>
         ensures { result ≡ init_target_found self.now init_target }
     {
@@ -45,7 +45,7 @@ impl FirstInits {
         }
     }
 
-    /// Adds what an `init` gives a value to, with the place of that `init`, if it isn't there yet.
+    /// Adds the target of an `init` with the place of that `init`, unless the table has it.
     fn add(&mut self, init_target: InitTarget, place: usize) -> Result<(), AllocError>
         ensures { OnOk result (IsInitTargetTableWith (same_init_target init_target) place self.old self.new) }
     {
@@ -66,8 +66,8 @@ fn pool_at<'a, 't>(decls: &'a Declarations<'t>, i: &Init) -> Option<(usize, &'t 
     }
 }
 
-/// The struct, with its tables, of the members of the pool that an `init` names. `None` where it names no pool, or the
-/// pool's struct is unknown.
+/// The struct of the members of the pool that an `init` names, with its tables. `None` if it does not name a pool, or
+/// the pool's struct is unknown.
 pub fn structure_given<'a, 't>(decls: &'a Declarations<'t>, i: &Init) -> Option<&'a Structure<'t>>
     ensures structure { option_map (λ s. struct_of s.now) result ≡ struct_of_pool (decls_of decls.now) (pool_named decls.now i.now.pool) }
     ensures members { option_map (λ s. members_seen s.now) result ≡ pool_members (decls_of decls.now) (decl_named decls.now i.now.pool) }
@@ -77,15 +77,15 @@ pub fn structure_given<'a, 't>(decls: &'a Declarations<'t>, i: &Init) -> Option<
     Some(structure)
 }
 
-/// The member of the pool's struct that an `init` names, a lock field among them, with its place in the struct. `None`
-/// where the pool, its struct or the member is unknown.
+/// The member of the pool's struct that an `init` names, which may be a lock field, with its place in the struct.
+/// `None` if the pool, its struct or the member is unknown.
 pub fn initialised<'t>(decls: &Declarations<'t>, i: &Init) -> Option<(usize, &'t Member)>
     ensures { option_map (λ f. (f.0, member_of f.1.now)) result ≡ initialised (decls_of decls.now) (init_of i.now) }
 {
     structure_given(decls, i)?.find(i.field.text.as_str())
 }
 
-/// What an `init` gives a value to. `None` where it names nothing that can be given one.
+/// The target of an `init`. `None` if it does not name a field that can have a value.
 fn init_target_of(decls: &Declarations, i: &Init) -> Option<InitTarget>
     ensures { result ≡ init_target_of (decls_of decls.now) (init_of i.now) }
 {
@@ -105,8 +105,8 @@ fn init_target_of(decls: &Declarations, i: &Init) -> Option<InitTarget>
     }
 }
 
-/// Notes an `init` that gives what is given already.
-fn note_again(
+/// Notes an `init` whose target has a value.
+fn report_again(
     first_inits: &FirstInits,
     init_target: Option<InitTarget>,
     start: usize,
@@ -116,13 +116,13 @@ fn note_again(
 {
     if let Some(init_target) = init_target {
         if first_inits.find(init_target).is_some() {
-            note(Code::InitOutOfRangeOrRepeated, start, firsts);
+            report(Code::InitOutOfRangeOrRepeated, start, firsts);
         }
     }
 }
 
-/// Adds what a declaration gives. Notes an `init` that gives what is given already.
-fn judge_decl(
+/// Adds the target of a declaration that is an `init`, or notes that it has a value.
+fn check_decl(
     decls: &Declarations,
     first_inits: &mut FirstInits,
     place: usize,
@@ -134,7 +134,7 @@ fn judge_decl(
 {
     if let Decl::Init(i) = d {
         let init_target = init_target_of(decls, i);
-        note_again(first_inits, init_target, i.start.start as usize, firsts);
+        report_again(first_inits, init_target, i.start.start as usize, firsts);
         if let Some(init_target) = init_target {
             first_inits.add(init_target, place)?;
         }
@@ -142,8 +142,8 @@ fn judge_decl(
     Ok(())
 }
 
-/// What `init`s give. Notes those that give what is given already. The one error is a refused growth.
-pub(crate) fn judge_first_inits(
+/// The targets of all `init`s. Notes repeated ones. The only error is a failed allocation.
+pub(crate) fn check_first_inits(
     alloc: Global,
     decls: &Declarations,
     firsts: &mut Firsts,
@@ -154,7 +154,7 @@ pub(crate) fn judge_first_inits(
     let mut first_inits = FirstInits::new(alloc);
     let items = decls.items();
     for (place, d) in items.iter().enumerate() {
-        let Ok(()) = judge_decl(decls, &mut first_inits, place, d, firsts) else {
+        let Ok(()) = check_decl(decls, &mut first_inits, place, d, firsts) else {
             drop(first_inits);
             return Err(AllocError);
         };

@@ -1,4 +1,4 @@
-//! Structs, with tables to find their members by name and to number them.
+//! Structs, with tables of their members by name and by number.
 
 ghost use Rattle.std.specs.Prelude.{◌≡◌, ◌<◌, ◌+◌, ◌^◌, [], OnOk, IfOk, option_map, map, not, take};
 ghost use Rattle.syntax.specs.Views.{ident, member_of, struct_of};
@@ -13,42 +13,40 @@ ghost use Rattle.types_symbols.specs.Working.Counted.{member_count, member_count
 ghost use Rattle.types_symbols.specs.Working.Views.{members_seen};
 
 use crate::names::{Names, TableMaker};
-use resolution::finding::{Firsts, note};
+use resolution::finding::{Firsts, report};
 use source::fault::Code;
+use source::limits::MEMBER_LIMIT;
 use std::alloc::{AllocError, Global};
 use std::marker::Model;
 use syntax::tree::{Member, Name, Struct};
 
-/// How many members a struct may have.
-pub(crate) const MEMBER_LIMIT: usize = 32;
-
-/// How many members of each kind there are. Members whose name another bears count too.
+/// The number of members of each kind, those with a repeated name included.
 #[derive(Clone, Copy)]
 pub struct MemberCounts {
     /// The lock fields.
     pub locks: usize,
     /// The final references.
     pub finals: usize,
-    /// The fields that are neither.
+    /// The other fields.
     pub fields: usize,
 }
 
 /// A struct, with tables of its members.
 #[derive(Drop)]
 pub struct Structure<'t> {
-    /// The struct as it is declared.
+    /// The struct as declared.
     item: &'t Struct,
     /// The place of the first member of each name.
     names: Names,
-    /// How many of each kind stand ahead of each member, by the member's place.
+    /// For each member, by its place, the number of each kind before it.
     ahead: Vec<MemberCounts>,
-    /// How many of each kind there are in all.
+    /// The total number of each kind.
     all: MemberCounts,
-    /// How many fields that are neither locks nor final have a name of their own.
+    /// The number of fields, without locks, final references and repeated names.
     width: usize,
 }
 
-// It stands for the struct as it is declared, and the tables are those of its members.
+// The model is the struct as declared, and an invariant says that the tables are those of its members.
 impl<'t> Model for Structure<'t> {
     ghost use Rattle.std.specs.Prelude.{◌≡◌, []};
     ghost use Rattle.syntax.specs.declared.tree.Struct as the_struct;
@@ -80,7 +78,7 @@ pub(crate) fn name_of(m: &Member) -> &Name
 }
 
 impl MemberCounts {
-    /// None of any kind.
+    /// Zero of each kind.
     fn new() -> MemberCounts
         ensures { result ≡ no_members }
     {
@@ -91,7 +89,7 @@ impl MemberCounts {
         }
     }
 
-    /// How many there are of a member's kind.
+    /// The number of members of the kind of `m`.
     fn of(self, m: &Member) -> usize
         ensures { result ≡ member_count self (member_of m.now) }
     {
@@ -102,7 +100,7 @@ impl MemberCounts {
         }
     }
 
-    /// Counts a member.
+    /// Counts `m`.
     fn count(&mut self, m: &Member)
         requires { member_count self.old (member_of m.now) < 2 ^ 63 }
         ensures { self.new ≡ member_counted self.old (member_of m.now) }
@@ -115,7 +113,7 @@ impl MemberCounts {
     }
 }
 
-/// How many fields a member adds that is the first of its name or not.
+/// The number of fields that a member adds: a member that repeats a name adds none.
 fn fields_with(is_first: bool, m: &Member) -> usize
     ensures { result ≡ field_if is_first (member_of m.now) }
 {
@@ -125,18 +123,18 @@ fn fields_with(is_first: bool, m: &Member) -> usize
     }
 }
 
-/// Notes a name that is borne already.
-fn note_again(is_first: bool, start: usize, firsts: &mut Firsts)
+/// Notes a repeated name.
+fn report_again(is_first: bool, start: usize, firsts: &mut Firsts)
     ensures { firsts.new ≡ found_in firsts.old (one_if (not is_first) DeclaredTwice start) }
 {
     if !is_first {
-        note(Code::DeclaredTwice, start, firsts);
+        report(Code::DeclaredTwice, start, firsts);
     }
 }
 
-/// Members with their tables: their names, how many of each kind stand ahead of each and are in all, and how many fields
-/// that are neither locks nor final have a name of their own. Names that two members bear are noted.
-fn judge_members(
+/// The members with their tables: their names, the number of each kind before each member, the totals, and the number
+/// of fields without repeated names. Notes repeated names.
+fn check_members(
     maker: TableMaker,
     members: &[Member],
     firsts: &mut Firsts,
@@ -154,7 +152,7 @@ fn judge_members(
     for (place, m) in members.iter().enumerate() {
         let name = name_of(m);
         let is_first = names.find(name.text.as_str()).is_none();
-        note_again(is_first, name.start as usize, firsts);
+        report_again(is_first, name.start as usize, firsts);
         width = width + fields_with(is_first, m);
         names.add(alloc, &name.text, place)?;
         ahead.push(counts)?;
@@ -164,7 +162,7 @@ fn judge_members(
 }
 
 impl<'t> Structure<'t> {
-    /// A struct with its tables. Names that two members bear are noted. The one error is a refused growth.
+    /// A struct with its tables. Notes names that two members have. The only error is a failed allocation.
     pub(crate) fn new(
         maker: TableMaker,
         item: &'t Struct,
@@ -173,7 +171,7 @@ impl<'t> Structure<'t> {
         ensures item { IfOk result (λ s. s ≡ item.now) }
         ensures faults { OnOk result (firsts.new ≡ found_in firsts.old (member_twice_faults [] (struct_of item.now).members)) }
     {
-        let (names, ahead, all, width) = judge_members(maker, &item.members, firsts)?;
+        let (names, ahead, all, width) = check_members(maker, &item.members, firsts)?;
         Ok(Structure {
             item,
             names,
@@ -183,28 +181,28 @@ impl<'t> Structure<'t> {
         })
     }
 
-    /// The struct as it is declared.
+    /// The struct as declared.
     pub fn item(&self) -> &'t Struct
         ensures { result.now ≡ self.now }
     {
         self.item
     }
 
-    /// How many fields that are neither locks nor final have a name of their own.
+    /// The number of fields, without locks, final references and repeated names.
     pub(crate) fn width(&self) -> usize
         ensures { result ≡ fields_from [] (members_seen self.now) }
     {
         self.width
     }
 
-    /// The place of the first member of the name, counted from 0. `None` where none bears it.
+    /// The place of the first member named `name`, from 0.
     pub fn place_of(&self, name: &str) -> Option<usize>
         ensures { result ≡ place_of member_bears (members_seen self.now) name.now }
     {
         self.names.find(name)
     }
 
-    /// The first member of the name, with its place among the members, counted from 0. `None` where none bears it.
+    /// The first member named `name`, with its place among the members from 0.
     pub fn find(&self, name: &str) -> Option<(usize, &'t Member)>
         ensures { option_map (λ f. (f.0, member_of f.1.now)) result ≡ the_member (members_seen self.now) name.now }
     {
@@ -213,7 +211,7 @@ impl<'t> Structure<'t> {
         Some((place, member))
     }
 
-    /// How many of each kind stand ahead of a place.
+    /// The number of each kind before `place`.
     fn ahead_of(&self, place: usize) -> MemberCounts
         ensures { result ≡ member_counts_from no_members (take place (members_seen self.now)) }
     {
@@ -223,7 +221,7 @@ impl<'t> Structure<'t> {
         }
     }
 
-    /// The number of a member, of which `place` is the place: how many members of its kind stand ahead of it.
+    /// The number of the member `m` at `place`: how many of its kind come before it.
     #[tactic(auto, using(crate::proofs::Ahead::member_counts_none))]
     pub fn number(&self, place: usize, m: &Member) -> usize
         ensures { result ≡ number_in (members_seen self.now) place (member_of m.now) }
@@ -231,8 +229,8 @@ impl<'t> Structure<'t> {
         self.ahead_of(place).of(m)
     }
 
-    /// The number by which paths name a member, of which `place` is the place: how many members of its kind stand ahead
-    /// of it, and 32, the limit of members, where there are more.
+    /// The number by which paths name the member `m` at `place`: how many of its kind come before it, but at most 32,
+    /// the limit of members.
     pub fn step(&self, place: usize, m: &Member) -> u32
         ensures { result ≡ member_number (members_seen self.now) place (member_of m.now) }
     {

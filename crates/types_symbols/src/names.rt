@@ -9,25 +9,25 @@ use source::keyed::KeyedState;
 use std::alloc::{AllocError, Global};
 use std::rc::RcStr;
 
-/// Makes tables of names.
+/// A maker of tables of names.
 #[derive(Clone, Copy)]
 pub struct TableMaker {
-    /// Where memory is taken.
+    /// The allocator.
     pub alloc: Global,
-    /// How they hash names.
+    /// The hash builder.
     pub hashing: KeyedState,
 }
 
-/// A table of names, in the order of their declarations: for each name the place of the first thing that bears it, in the
-/// list that the table is of.
+/// A table of names, in the order of their declarations: for each name the place of the first item of the list that has
+/// it.
 #[derive(Drop)]
 pub struct Names {
-    /// The place of each name that there is, counted from 0.
+    /// The place of each name, from 0.
     pub places: IndexMap<String, usize, KeyedState>,
 }
 
 impl Names {
-    /// A table without names.
+    /// An empty table.
     pub(crate) fn new(maker: TableMaker) -> Names
         ensures { (q : List ℕ) → found result q ≡ None }
     {
@@ -36,12 +36,12 @@ impl Names {
         }
     }
 
-    /// How it hashes names.
+    /// The hash builder of the table.
     pub(crate) fn hashing(&self) -> KeyedState {
         *self.places.hasher()
     }
 
-    /// The place of the first thing that bears the name, counted from 0. `None` where nothing does.
+    /// The place of the first item with this name, from 0.
     pub fn find(&self, name: &str) -> Option<usize>
         ensures { result ≡ found self.now name.now }
     {
@@ -51,7 +51,7 @@ impl Names {
         }
     }
 
-    /// Adds a name with its place, if it isn't there yet. The one error is a refused growth.
+    /// Adds a name with its place, unless the table has it. The only error is a failed allocation.
     pub(crate) fn add(
         &mut self,
         alloc: Global,

@@ -1,4 +1,4 @@
-//! What names mean, and the types that are written.
+//! What names refer to, and types as they are written.
 
 ghost use Rattle.std.specs.Prelude.{◌≡◌, ◌∷◌, ◌++◌, [], OnOk, length, option_map};
 ghost use Rattle.std.specs.Rc.{rc_str_bytes};
@@ -18,7 +18,7 @@ use crate::table::SymbolTable;
 use core_lang::tree::LocalKind;
 use core_lang::value::ValueType;
 use resolution::body_limits::BodyLimits;
-use resolution::finding::{Finding, Firsts, note, note_found, note_found_if};
+use resolution::finding::{Finding, Firsts, report, report_found, report_found_if};
 use resolution::why::{Referent, Role, Why};
 use source::fault::Code;
 use std::alloc::{AllocError, Global};
@@ -27,33 +27,33 @@ use std::rc::RcStr;
 use syntax::tree;
 use syntax::tree::{Decl, Member, Name};
 
-/// A local: its type, unless that is faulty, and whether it is in scope.
+/// A local: its type, unless this is faulty, and whether it is in scope.
 #[derive(Drop)]
 pub struct Local {
     /// Its name.
     pub name: String,
     /// Whether it is a parameter, a `let` or a `var`.
     pub kind: LocalKind,
-    /// What it may hold. `None` where its type names no struct.
+    /// Its type. `None` if that does not name a struct.
     pub value_type: Option<ValueType>,
-    /// Whether the place that is judged stands in its scope: in its block, behind it.
+    /// Whether the current place is in its scope: after it, in its block.
     pub is_visible: bool,
 }
 
-/// The locals of a section or a helper so far, by number, the type of its result, and how many there may be.
+/// The locals of a section or a helper so far, by number, the result type, and the limits.
 #[derive(Drop)]
 pub struct Locals {
     /// The number of the first local of each name.
     names: Names,
     /// The locals, by number: parameters first, then the others in the order of the text.
     items: Vec<Local>,
-    /// The type of the result. `None` where there is no result, or its type names no struct.
+    /// The result type. `None` without a result, or if its type does not name a struct.
     result: Option<ValueType>,
-    /// How many parameters and locals there may be.
+    /// The limits of parameters and locals.
     limits: BodyLimits,
 }
 
-// They stand for the locals, the type and the limits, and the table is that of the locals.
+// The model is the locals, the type and the limits; an invariant says that the table is that of the locals.
 impl Model for Locals {
     ghost use Rattle.resolution.specs.Scopes.{local_bears};
     ghost use Rattle.types_symbols.specs.Working.Found.{IsTableOf};
@@ -66,18 +66,18 @@ impl Model for Locals {
     ghost invariant = { λ ls. IsTableOf local_bears (locals_seen ls.items.items) ls.names };
 }
 
-/// What a name means.
+/// What a name refers to.
 #[derive(Clone, Copy)]
-pub enum Meaning<'a> {
+pub enum ResolvedName<'a> {
     /// A local, with its number.
     Local(usize, &'a Local),
     /// A declaration, with its place.
     Decl(usize, &'a Decl),
-    /// Nothing: the name is unknown there.
+    /// Nothing: the name is unknown here.
     Nothing,
 }
 
-/// Adds a local behind the others, and its name to their table.
+/// Appends a local, and adds its name to the table.
 fn push_local(
     alloc: Global,
     names: &mut Names,
@@ -94,7 +94,7 @@ fn push_local(
 }
 
 impl Locals {
-    /// No locals, where the result has this type and so many parameters and locals may stand.
+    /// No locals, with this result type and these limits.
     pub fn new(maker: TableMaker, result_type: Option<ValueType>, limits: BodyLimits) -> Locals
         ensures none { result.locals ≡ [] }
         ensures result_type { result.result ≡ result_type }
@@ -108,14 +108,14 @@ impl Locals {
         }
     }
 
-    /// How many parameters and locals there may be.
+    /// The limits of parameters and locals.
     pub fn limits(&self) -> BodyLimits
         ensures { result ≡ self.now.limits }
     {
         self.limits
     }
 
-    /// The type of the result. `None` where there is no result, or its type names no struct.
+    /// The result type. `None` without a result, or if its type does not name a struct.
     pub fn result(&self) -> Option<ValueType>
         ensures { result ≡ self.now.result }
     {
@@ -129,14 +129,14 @@ impl Locals {
         &self.items
     }
 
-    /// How many locals there are, those that are no longer in scope among them.
+    /// The number of locals, those that are no longer in scope included.
     pub fn len(&self) -> usize
         ensures { result ≡ length self.now.locals }
     {
         self.items.len()
     }
 
-    /// The first local of the name, with its number. `None` where none bears it.
+    /// The first local named `name`, with its number.
     pub fn find(&self, name: &str) -> Option<(usize, &Local)>
         ensures { option_map (λ f. (f.0, local_seen f.1.now)) result ≡ the_local self.now.locals name.now }
     {
@@ -145,7 +145,7 @@ impl Locals {
         Some((place, local))
     }
 
-    /// Adds a local behind the others, in scope from here on. The one error is a refused growth, behind which no locals
+    /// Appends a local, which is in scope from here on. The only error is a failed allocation, after which no locals
     /// are kept.
     pub fn bind(
         &mut self,
@@ -163,7 +163,7 @@ impl Locals {
             is_visible: true,
         };
         let Ok(()) = push_local(alloc, &mut self.names, &mut self.items, &name.text, local) else {
-            // There may be a local that the table lacks, so none is kept.
+            // The table may lack a local here, so none is kept.
             let hashing = self.names.hashing();
             *self = Locals::new(TableMaker { alloc, hashing }, None, self.limits);
             return Err(AllocError);
@@ -171,7 +171,7 @@ impl Locals {
         Ok(())
     }
 
-    /// Leaves a block: the locals from a number on are no longer in scope.
+    /// Leaves a block: the locals from `place` on are no longer in scope.
     pub fn hide_from(&mut self, place: usize)
         ensures hidden { self.new.locals ≡ hidden_from place self.old.locals }
         ensures result_type { self.new.result ≡ self.old.result }
@@ -183,49 +183,50 @@ impl Locals {
     }
 }
 
-/// What a name means outside of sections and helpers.
-fn meaning_outside<'a>(symbols: &'a SymbolTable, name: &Name) -> Meaning<'a>
+/// What a name refers to outside of sections and helpers.
+fn meaning_outside<'a>(symbols: &'a SymbolTable, name: &Name) -> ResolvedName<'a>
     ensures { meaning_of result ≡ meaning (outside (decls_of symbols.now)) (ident name.now).text }
 {
     match symbols.find(name.text.as_str()) {
-        Some((place, decl)) => Meaning::Decl(place, decl),
-        None => Meaning::Nothing,
+        Some((place, decl)) => ResolvedName::Decl(place, decl),
+        None => ResolvedName::Nothing,
     }
 }
 
-/// What a name means in a section or a helper: the first local of the name if that is in scope, else what it means outside.
-pub fn meaning_at<'a>(symbols: &'a SymbolTable, locals: &'a Locals, name: &Name) -> Meaning<'a>
+/// What a name refers to in a section or a helper: the first local of the name if that is in scope, else what it refers
+/// to outside.
+pub fn meaning_at<'a>(symbols: &'a SymbolTable, locals: &'a Locals, name: &Name) -> ResolvedName<'a>
     ensures { meaning_of result ≡ meaning (scope_of (decls_of symbols.now) locals.now) (ident name.now).text }
 {
     if let Some((place, local)) = locals.find(name.text.as_str()) {
         if local.is_visible {
-            return Meaning::Local(place, local);
+            return ResolvedName::Local(place, local);
         }
     }
     meaning_outside(symbols, name)
 }
 
-/// The number of the struct that is meant.
-fn struct_meant(symbols: &SymbolTable, m: Meaning) -> Option<usize>
+/// The number of the struct that a name refers to.
+fn struct_meant(symbols: &SymbolTable, m: ResolvedName) -> Option<usize>
     ensures { result ≡ struct_meant (decls_of symbols.now) (meaning_of m.entry) }
 {
     match m {
-        Meaning::Decl(place, d) => match d {
+        ResolvedName::Decl(place, d) => match d {
             Decl::Struct(_) => Some(symbols.number(place, d)),
             _ => None,
         },
-        Meaning::Local(_, _) | Meaning::Nothing => None,
+        ResolvedName::Local(_, _) | ResolvedName::Nothing => None,
     }
 }
 
-/// The number of the struct that a declaration names. `None` where the name means no struct.
+/// The number of the struct that `name` refers to in a declaration. `None` if it does not refer to a struct.
 pub fn struct_named(symbols: &SymbolTable, name: &Name) -> Option<usize>
     ensures { result ≡ struct_named (decls_of symbols.now) (ident name.now) }
 {
     struct_meant(symbols, meaning_outside(symbols, name))
 }
 
-/// The type that is written in a declaration. `None` where it names no struct.
+/// The type that is written in a declaration. `None` if it does not name a struct.
 pub fn type_outside(symbols: &SymbolTable, t: &tree::ValueType) -> Option<ValueType>
     ensures { result ≡ type_of (outside (decls_of symbols.now)) (type_seen t.now) }
 {
@@ -238,7 +239,7 @@ pub fn type_outside(symbols: &SymbolTable, t: &tree::ValueType) -> Option<ValueT
     }
 }
 
-/// The type that is written at a local. `None` where it names no struct: a local in scope can hide a struct's name.
+/// The type that is written at a local. `None` if it does not name a struct: a local in scope can hide a struct's name.
 pub fn type_at(symbols: &SymbolTable, locals: &Locals, t: &tree::ValueType) -> Option<ValueType>
     ensures { result ≡ type_of (scope_of (decls_of symbols.now) locals.now) (type_seen t.now) }
 {
@@ -254,24 +255,24 @@ pub fn type_at(symbols: &SymbolTable, locals: &Locals, t: &tree::ValueType) -> O
     }
 }
 
-/// Whether what is meant has no fault in its type.
-fn has_type(symbols: &SymbolTable, m: Meaning) -> bool
+/// Whether the declaration that a name refers to has no fault in its type.
+fn has_type(symbols: &SymbolTable, m: ResolvedName) -> bool
     ensures { result ≡ has_type (decls_of symbols.now) (meaning_of m.entry) }
 {
     match m {
-        Meaning::Local(_, local) => local.value_type.is_some(),
-        Meaning::Decl(_, Decl::Global(v)) => type_outside(symbols, &v.value_type).is_some(),
-        Meaning::Decl(_, Decl::Array(a)) => type_outside(symbols, &a.value_type).is_some(),
-        Meaning::Decl(_, Decl::Pool(p)) => struct_named(symbols, &p.target).is_some(),
-        Meaning::Decl(_, _) | Meaning::Nothing => true,
+        ResolvedName::Local(_, local) => local.value_type.is_some(),
+        ResolvedName::Decl(_, Decl::Global(v)) => type_outside(symbols, &v.value_type).is_some(),
+        ResolvedName::Decl(_, Decl::Array(a)) => type_outside(symbols, &a.value_type).is_some(),
+        ResolvedName::Decl(_, Decl::Pool(p)) => struct_named(symbols, &p.target).is_some(),
+        ResolvedName::Decl(_, _) | ResolvedName::Nothing => true,
     }
 }
 
-/// Notes the fault of a thing that can't stand there, unless its type has a fault.
-pub fn note_unfit(symbols: &SymbolTable, found: Finding, m: Meaning, firsts: &mut Firsts)
+/// Notes the fault of a name that can't stand here, unless the type of its declaration has a fault.
+pub fn report_unfit(symbols: &SymbolTable, found: Finding, m: ResolvedName, firsts: &mut Firsts)
     ensures { firsts.new ≡ found_in firsts.old (unfit (decls_of symbols.now) found (meaning_of m.entry)) }
 {
-    note_found_if(has_type(symbols, m), found, firsts);
+    report_found_if(has_type(symbols, m), found, firsts);
 }
 
 /// Whether a member has no fault in its type.
@@ -285,14 +286,14 @@ fn member_has_type(symbols: &SymbolTable, m: &Member) -> bool
     }
 }
 
-/// Notes the fault of a member that can't stand there, unless its type has a fault.
-pub fn note_unfit_member(symbols: &SymbolTable, found: Finding, m: &Member, firsts: &mut Firsts)
+/// Notes the fault of a member that can't stand here, unless its type has a fault.
+pub fn report_unfit_member(symbols: &SymbolTable, found: Finding, m: &Member, firsts: &mut Firsts)
     ensures { firsts.new ≡ found_in firsts.old (unfit_member (decls_of symbols.now) found (member_of m.now)) }
 {
-    note_found_if(member_has_type(symbols, m), found, firsts);
+    report_found_if(member_has_type(symbols, m), found, firsts);
 }
 
-/// What the name of a declaration stands for.
+/// What the name of a declaration refers to.
 fn declared_referent(d: &Decl) -> Referent
     ensures { result ≡ referent_of (decl_of d.now) }
 {
@@ -309,54 +310,54 @@ fn declared_referent(d: &Decl) -> Referent
     }
 }
 
-/// What a name stands for.
-fn referent(m: Meaning) -> Referent
+/// What a name refers to.
+fn referent(m: ResolvedName) -> Referent
     ensures { result ≡ stands_for (meaning_of m.entry) }
 {
     match m {
-        Meaning::Local(_, local) => Referent::Local(local.kind),
-        Meaning::Decl(_, d) => declared_referent(d),
-        Meaning::Nothing => Referent::Nothing,
+        ResolvedName::Local(_, local) => Referent::Local(local.kind),
+        ResolvedName::Decl(_, d) => declared_referent(d),
+        ResolvedName::Nothing => Referent::Nothing,
     }
 }
 
-/// The fault of a name that is to stand for something else.
-pub fn misnamed(code: Code, role: Role, start: usize, m: Meaning) -> Finding
+/// The fault of a name that refers to something other than expected.
+pub fn misnamed(code: Code, role: Role, start: usize, m: ResolvedName) -> Finding
     ensures { result ≡ told code start (Misnamed role (stands_for (meaning_of m.entry))) }
 {
     Finding::new(code, start, Why::Misnamed(role, referent(m)))
 }
 
-/// Notes a type's name that names no struct.
-fn note_no_struct(start: usize, m: Meaning, firsts: &mut Firsts)
+/// Notes the name of a type that does not refer to a struct.
+fn report_no_struct(start: usize, m: ResolvedName, firsts: &mut Firsts)
     ensures { firsts.new ≡ found_in firsts.old (no_struct start (meaning_of m.entry)) }
 {
     match m {
-        Meaning::Decl(_, Decl::Struct(_)) => {}
-        Meaning::Nothing => note(Code::UnknownName, start, firsts),
-        _ => note_found(misnamed(Code::WrongType, Role::Struct, start, m), firsts),
+        ResolvedName::Decl(_, Decl::Struct(_)) => {}
+        ResolvedName::Nothing => report(Code::UnknownName, start, firsts),
+        _ => report_found(misnamed(Code::WrongType, Role::Struct, start, m), firsts),
     }
 }
 
-/// Notes what is wrong with the name of a struct in a declaration: it is unknown, or means no struct.
-pub fn note_target(symbols: &SymbolTable, name: &Name, firsts: &mut Firsts)
+/// Notes the fault of a struct's name in a declaration: it is unknown, or not that of a struct.
+pub fn report_target(symbols: &SymbolTable, name: &Name, firsts: &mut Firsts)
     ensures { firsts.new ≡ found_in firsts.old (type_faults (outside (decls_of symbols.now)) (ref_type (ident name.now))) }
 {
-    note_no_struct(name.start as usize, meaning_outside(symbols, name), firsts);
+    report_no_struct(name.start as usize, meaning_outside(symbols, name), firsts);
 }
 
-/// Notes what is wrong with a declaration's type: the struct that it refers to is unknown, or is none.
-pub fn note_type(symbols: &SymbolTable, t: &tree::ValueType, firsts: &mut Firsts)
+/// Notes the fault of a declaration's type: its struct is unknown, or not a struct.
+pub fn report_type(symbols: &SymbolTable, t: &tree::ValueType, firsts: &mut Firsts)
     ensures { firsts.new ≡ found_in firsts.old (type_faults (outside (decls_of symbols.now)) (type_seen t.now)) }
 {
     match t {
         tree::ValueType::Int => {}
-        tree::ValueType::Ref(name) => note_target(symbols, name, firsts),
+        tree::ValueType::Ref(name) => report_target(symbols, name, firsts),
     }
 }
 
-/// Notes what is wrong with a local's type: the struct that it refers to is unknown there, or is none.
-pub fn note_local_type(
+/// Notes the fault of a local's type: its struct is unknown here, or not a struct.
+pub fn report_local_type(
     symbols: &SymbolTable,
     locals: &Locals,
     t: &tree::ValueType,
@@ -368,7 +369,7 @@ pub fn note_local_type(
         tree::ValueType::Int => {}
         tree::ValueType::Ref(name) => {
             let meant = meaning_at(symbols, locals, name);
-            note_no_struct(name.start as usize, meant, firsts);
+            report_no_struct(name.start as usize, meant, firsts);
         }
     }
 }

@@ -1,4 +1,4 @@
-//! The declarations, with all that is known of them before their parts are looked at.
+//! The declarations of a program, with all tables that later passes use.
 
 ghost use Rattle.std.specs.Prelude.{◌≡◌, OnOk, IfOk, Some, option_map, take};
 ghost use Rattle.syntax.specs.Views.{const_of, decl_of, ident, struct_of};
@@ -13,12 +13,13 @@ ghost use Rattle.types_symbols.specs.Working.Faults.{table_faults};
 ghost use Rattle.types_symbols.specs.Working.Views.{decls_of, struct_in};
 
 use crate::declarations::Declarations;
-use crate::first_inits::{FirstInits, judge_first_inits};
+use crate::first_inits::{FirstInits, check_first_inits};
 use crate::members::Structure;
 use crate::names::TableMaker;
-use crate::totals::{CALL_LIMIT, CELL_LIMIT, CLASS_LIMIT, OBJECT_LIMIT, Totals, judge_totals};
+use crate::totals::{Totals, check_totals};
 use resolution::finding::Firsts;
 use resolution::init_target::InitTarget;
+use source::limits::{CALL_LIMIT, CELL_LIMIT, CLASS_LIMIT, OBJECT_LIMIT};
 use std::alloc::AllocError;
 use std::marker::Model;
 use syntax::tree::{Const, Decl, Name};
@@ -26,18 +27,18 @@ use syntax::tree::{Const, Decl, Name};
 /// The declarations, with all their tables.
 #[derive(Drop)]
 pub struct SymbolTable<'t> {
-    /// The declarations, to be found by name, by place and by number.
+    /// The declarations, with tables by name, place and number.
     decls: Declarations<'t>,
-    /// How much stands ahead of each declaration, by the declaration's place.
+    /// For each declaration, by its place, the totals before it.
     ahead: Vec<Totals>,
-    /// How much there is in all.
+    /// The totals of all declarations.
     all: Totals,
-    /// What `init`s give.
+    /// The targets of `init`s.
     first_inits: FirstInits,
     maker: TableMaker,
 }
 
-// It stands for the declarations as they are written, and the tables are those of these.
+// The model is the declarations as written, and an invariant says that the tables are theirs.
 impl<'t> Model for SymbolTable<'t> {
     ghost use Rattle.std.specs.Prelude.{List};
     ghost use Rattle.std.specs.Coded.{codes};
@@ -60,8 +61,8 @@ impl<'t> Model for SymbolTable<'t> {
 }
 
 impl<'t> SymbolTable<'t> {
-    /// The declarations with all their tables. What is wrong with names, counts and repeated `init`s is noted. The one
-    /// error is a refused growth.
+    /// The declarations with all their tables. Notes the faults of names, limits and repeated `init`s. The only error
+    /// is a failed allocation.
     pub fn new(
         maker: TableMaker,
         items: &'t [Decl],
@@ -72,11 +73,11 @@ impl<'t> SymbolTable<'t> {
     {
         let alloc = maker.alloc;
         let decls = Declarations::new(maker, items, firsts)?;
-        let Ok((ahead, all)) = judge_totals(alloc, &decls, firsts) else {
+        let Ok((ahead, all)) = check_totals(alloc, &decls, firsts) else {
             drop(decls);
             return Err(AllocError);
         };
-        let Ok(first_inits) = judge_first_inits(alloc, &decls, firsts) else {
+        let Ok(first_inits) = check_first_inits(alloc, &decls, firsts) else {
             drop(decls);
             drop(ahead);
             return Err(AllocError);
@@ -90,12 +91,12 @@ impl<'t> SymbolTable<'t> {
         })
     }
 
-    /// Makes further tables of the program's names.
+    /// A maker of further tables of the program's names.
     pub fn maker(&self) -> TableMaker {
         self.maker
     }
 
-    /// The declarations with the tables of their names, numbers and structs alone.
+    /// The declarations with the tables of their names, numbers and structs only.
     pub fn decls(&self) -> &Declarations<'t>
         ensures { result.now ≡ self.now }
     {
@@ -109,36 +110,36 @@ impl<'t> SymbolTable<'t> {
         self.decls.items()
     }
 
-    /// The first declaration of the name, with its place, counted from 0. `None` where none bears it.
+    /// The first declaration named `name`, with its place from 0.
     pub fn find(&self, name: &str) -> Option<(usize, &'t Decl)>
         ensures { option_map (λ f. (f.0, decl_of f.1.now)) result ≡ the_decl (decls_of self.now) name.now }
     {
         self.decls.find(name)
     }
 
-    /// The number of a declaration, of which `place` is the place: how many declarations of its kind stand ahead of it.
+    /// The number of the declaration `d` at `place`: how many of its kind come before it.
     pub fn number(&self, place: usize, d: &Decl) -> usize
         ensures { result ≡ number_at (decls_of self.now) place (decl_of d.now) }
     {
         self.decls.number(place, d)
     }
 
-    /// The struct of this number, with its tables. `None` where there are no more structs than that.
+    /// The struct of this number, with its tables. `None` if the program has fewer structs.
     pub fn structure(&self, number: usize) -> Option<&Structure<'t>>
         ensures { option_map (λ s. struct_of s.now) result ≡ the_struct (decls_of self.now) number }
     {
         self.decls.structure(number)
     }
 
-    /// The struct that the name means outside of sections, with its tables and its place among the declarations. `None`
-    /// where the name means something else or nothing.
+    /// The struct that `name` refers to outside of sections, with its tables and its place among the declarations.
+    /// `None` if the name does not refer to a struct.
     pub fn struct_of(&self, name: &Name) -> Option<(usize, &Structure<'t>)>
         ensures { option_map (λ s. (s.0, struct_of s.1.now)) result ≡ struct_in (the_decl (decls_of self.now) (ident name.now).text) }
     {
         self.decls.struct_of(name)
     }
 
-    /// How much stands ahead of a place.
+    /// The totals before `place`.
     fn ahead_of(&self, place: usize) -> Totals
         ensures { result ≡ totals_of (decls_of self.now) (take place (decls_of self.now)) }
     {
@@ -148,16 +149,15 @@ impl<'t> SymbolTable<'t> {
         }
     }
 
-    /// The first cell of the declaration at a place: how many cells stand ahead of it, and 262,144, the limit, where
-    /// there are more.
+    /// The first cell of the declaration at `place`: the number of cells before it, but at most 262,144, the limit.
     pub fn cell(&self, place: usize) -> u32
         ensures { result ≡ cell_of (decls_of self.now) place }
     {
         self.ahead_of(place).cells.min(CELL_LIMIT) as u32
     }
 
-    /// The object that is the member of this index of the pool at a place: how many objects stand ahead of it, and
-    /// 65,536, the limit, where there are more.
+    /// The object that is member `index` of the pool at `place`: its number among all objects, but at most 65,536, the
+    /// limit.
     pub fn object(&self, place: usize, index: u64) -> u32
         ensures { result ≡ object_of (decls_of self.now) place index }
     {
@@ -165,8 +165,8 @@ impl<'t> SymbolTable<'t> {
         (first + index.min(OBJECT_LIMIT as u64) as usize).min(OBJECT_LIMIT) as u32
     }
 
-    /// The class of the lock at a place, where `number` is 0, or of the lock of this number of the struct there: how
-    /// many classes stand ahead of it, and 128, the limit, where there are more.
+    /// The class of the lock at `place`, if `number` is 0, or of lock `number` of the struct there: the number of
+    /// classes before it, but at most 128, the limit.
     pub fn class(&self, place: usize, number: usize) -> usize
         ensures { result ≡ class_number (decls_of self.now) place number }
     {
@@ -174,14 +174,14 @@ impl<'t> SymbolTable<'t> {
         (first + number.min(CLASS_LIMIT)).min(CLASS_LIMIT)
     }
 
-    /// Whether all threads together make no more calls than they may, 100,000.
+    /// Whether all threads together make at most 100,000 calls, the limit.
     pub fn has_few_calls(&self) -> bool
         ensures { result ≡ few_calls (decls_of self.now) }
     {
         self.ahead_of(self.items().len()).calls <= CALL_LIMIT
     }
 
-    /// The constant that a field of a pool's member is given by the first `init` that names it. `None` where none does.
+    /// The constant that the first `init` for `init_target` gives, if there is one.
     pub fn given(&self, init_target: InitTarget) -> Option<&'t Const>
         ensures { option_map (λ c. const_of c.now) result ≡ given (decls_of self.now) init_target }
     {
@@ -191,7 +191,7 @@ impl<'t> SymbolTable<'t> {
     }
 }
 
-/// The constant that the declaration at a place gives: an `init` gives one.
+/// The constant that the declaration gives, if it is an `init`.
 fn value_in(place: usize, d: &Decl) -> Option<&Const>
     ensures { option_map (λ c. const_of c.now) result ≡ value_in (Some (place, decl_of d.now)) }
 {

@@ -1,4 +1,4 @@
-//! How much there is: what stands ahead of each declaration, and where there are too many.
+//! The totals before each declaration, and the limits that they exceed.
 
 ghost use Rattle.std.specs.Prelude.{◌≡◌, ◌≤◌, ◌<◌, ◌^◌, ◌+◌, ◌*◌, ◌&&◌, nat_le, [], OnOk, IfOk, map};
 ghost use Rattle.source.specs.declared.fault.Code.TheVariants.{LimitExceeded};
@@ -13,34 +13,17 @@ ghost use Rattle.types_symbols.specs.Working.Capped.{capped, totals_of, no_total
 ghost use Rattle.types_symbols.specs.Working.Views.{decls_of};
 
 use crate::declarations::Declarations;
-use crate::members::{MEMBER_LIMIT, name_of};
-use resolution::finding::{Firsts, note_if};
+use crate::members::name_of;
+use resolution::finding::{Firsts, report_if};
 use source::fault::Code;
+use source::limits::{
+    CALL_LIMIT, CELL_LIMIT, CLASS_LIMIT, MEMBER_LIMIT, OBJECT_LIMIT, SECTION_LIMIT, STRUCT_LIMIT,
+    THREAD_LIMIT,
+};
 use std::alloc::{AllocError, Global};
 use syntax::tree::{Decl, Item, Member, Pool, Struct};
 
-/// How many structs there may be.
-const STRUCT_LIMIT: usize = 64;
-
-/// How many lock classes there may be.
-pub(crate) const CLASS_LIMIT: usize = 128;
-
-/// How many objects there may be, the members of all pools together.
-pub const OBJECT_LIMIT: usize = 65536;
-
-/// How many cells there may be: one for each global, each element of an array and each field of an object.
-pub const CELL_LIMIT: usize = 262144;
-
-/// How many sections and helpers there may be together.
-pub(crate) const SECTION_LIMIT: usize = 256;
-
-/// How many threads there may be.
-const THREAD_LIMIT: usize = 64;
-
-/// How many calls all threads may make together.
-pub(crate) const CALL_LIMIT: usize = 100000;
-
-/// How much declarations add together. Each is at most one more than its limit: all past the limit count alike.
+/// The sums of what declarations add, each capped at one more than its limit.
 #[derive(Clone, Copy)]
 pub struct Totals {
     /// The lock classes: global locks, and lock fields of structs.
@@ -49,11 +32,11 @@ pub struct Totals {
     pub objects: usize,
     /// The cells, of globals, elements and fields.
     pub cells: usize,
-    /// The calls of threads, each as often as it is repeated.
+    /// The calls of threads, with repetitions.
     pub calls: usize,
 }
 
-/// A number, where all past the limit count alike.
+/// A number, capped at one more than the limit.
 fn cap(limit: usize, n: u64) -> usize
     requires { limit ≤ 2 ^ 32 }
     ensures { result ≡ capped limit n }
@@ -61,7 +44,7 @@ fn cap(limit: usize, n: u64) -> usize
     n.min(limit as u64 + 1) as usize
 }
 
-/// A sum, where all past the limit count alike.
+/// A sum, capped at one more than the limit.
 fn add(limit: usize, a: usize, b: usize) -> usize
     requires limit { limit ≤ 2 ^ 32 }
     requires first { a ≤ limit + 1 }
@@ -72,7 +55,7 @@ fn add(limit: usize, a: usize, b: usize) -> usize
     (a + b).min(limit + 1)
 }
 
-/// A product, where all past the limit count alike.
+/// A product, capped at one more than the limit.
 fn times(limit: usize, a: u64, b: usize) -> usize
     requires { limit ≤ 2 ^ 30 }
     ensures product { result ≡ capped limit (a * b) }
@@ -96,7 +79,7 @@ fn locks_in(structure: &Struct) -> usize
     locks
 }
 
-/// The calls of a thing that a thread does.
+/// The number of calls of an item of a thread.
 #[cycle(calls)]
 fn calls_of_item(item: &Item) -> usize
     ensures calls { result ≡ capped CALL_LIMIT (calls_in (item_of item.now)) }
@@ -108,7 +91,7 @@ fn calls_of_item(item: &Item) -> usize
     }
 }
 
-/// The calls of what a thread does.
+/// The number of calls of a thread's items.
 #[cycle(calls)]
 fn calls_of_items(items: &[Item]) -> usize
     ensures calls { result ≡ capped CALL_LIMIT (calls_in_all (items_of items.now)) }
@@ -132,7 +115,7 @@ fn cells_of_pool(decls: &Declarations, p: &Pool) -> usize
 }
 
 impl Totals {
-    /// Nothing.
+    /// Zero of each.
     fn new() -> Totals
         ensures { result ≡ no_totals }
     {
@@ -144,7 +127,7 @@ impl Totals {
         }
     }
 
-    /// How much a declaration adds.
+    /// What a declaration adds.
     fn of(decls: &Declarations, d: &Decl) -> Totals
         ensures { result ≡ added_by (decls_of decls.now) (decl_of d.now) }
     {
@@ -164,7 +147,7 @@ impl Totals {
         totals
     }
 
-    /// Both together.
+    /// The sum of both.
     fn with(self, more: Totals) -> Totals
         requires first { AreCapped self }
         requires second { AreCapped more }
@@ -180,7 +163,7 @@ impl Totals {
     }
 }
 
-/// Whether so many more are first too many.
+/// Whether `own` more first exceed the limit, after `before`.
 fn passes(limit: usize, before: usize, own: usize) -> bool
     requires limit { limit ≤ 2 ^ 32 }
     requires before { before ≤ limit + 1 }
@@ -190,83 +173,82 @@ fn passes(limit: usize, before: usize, own: usize) -> bool
     before <= limit && limit < before + own
 }
 
-/// Notes the members by which there are too many of a struct, or too many lock classes.
+/// Notes the members that exceed the limit of members of a struct, or of lock classes.
 #[tactic(auto, using(resolution::specs::Theory::Leasts::found_append))]
-fn note_members(classes: usize, members: &[Member], firsts: &mut Firsts)
+fn report_members(classes: usize, members: &[Member], firsts: &mut Firsts)
     requires { classes ≤ CLASS_LIMIT + 1 }
     ensures { firsts.new ≡ found_in firsts.old (member_counts classes 0 (map member_of members.now)) }
 {
     let mut classes = classes;
     for (place, m) in members.iter().enumerate() {
         let start = name_of(m).start as usize;
-        note_if(MEMBER_LIMIT <= place, Code::LimitExceeded, start, firsts);
-        classes = note_lock(classes, m, start, firsts);
+        report_if(MEMBER_LIMIT <= place, Code::LimitExceeded, start, firsts);
+        classes = report_lock(classes, m, start, firsts);
     }
 }
 
-/// Notes a lock field by which there are too many lock classes, and says how many there are with it.
-fn note_lock(classes: usize, m: &Member, start: usize, firsts: &mut Firsts) -> usize
+/// Notes a lock field that exceeds the limit of lock classes, and returns the number of classes with it.
+fn report_lock(classes: usize, m: &Member, start: usize, firsts: &mut Firsts) -> usize
     requires { classes < 2 ^ 63 }
     ensures classes { result ≡ classes + lock_count (is_lock (member_of m.now)) }
     ensures faults { firsts.new ≡ found_in firsts.old (one_if (is_lock (member_of m.now) && nat_le CLASS_LIMIT classes) LimitExceeded start) }
 {
     match m {
         Member::Lock(_) => {
-            note_if(CLASS_LIMIT <= classes, Code::LimitExceeded, start, firsts);
+            report_if(CLASS_LIMIT <= classes, Code::LimitExceeded, start, firsts);
             classes + 1
         }
         Member::Final(_) | Member::Field(_) => classes,
     }
 }
 
-/// Notes a declaration by which there are too many of something.
+/// Notes a declaration that exceeds a limit.
 #[tactic(auto, using(resolution::specs::Theory::Leasts::found_append))]
-fn note_decl(number: usize, ahead: Totals, own: Totals, d: &Decl, firsts: &mut Firsts)
+fn report_decl(number: usize, ahead: Totals, own: Totals, d: &Decl, firsts: &mut Firsts)
     requires ahead { AreCapped ahead }
     requires own { AreCapped own }
     ensures { firsts.new ≡ found_in firsts.old (faults_by number ahead own (decl_of d.now)) }
 {
     let code = Code::LimitExceeded;
     match d {
-        Decl::Lock(name) => note_if(
+        Decl::Lock(name) => report_if(
             CLASS_LIMIT <= ahead.classes,
             code,
             name.start as usize,
             firsts,
         ),
         Decl::Struct(s) => {
-            note_if(STRUCT_LIMIT <= number, code, s.name.start as usize, firsts);
-            note_members(ahead.classes, &s.members, firsts);
+            report_if(STRUCT_LIMIT <= number, code, s.name.start as usize, firsts);
+            report_members(ahead.classes, &s.members, firsts);
         }
         Decl::Global(v) => {
             let is_over = passes(CELL_LIMIT, ahead.cells, own.cells);
-            note_if(is_over, code, v.name.start as usize, firsts);
+            report_if(is_over, code, v.name.start as usize, firsts);
         }
         Decl::Array(a) => {
             let is_over = passes(CELL_LIMIT, ahead.cells, own.cells);
-            note_if(is_over, code, a.name.start as usize, firsts);
+            report_if(is_over, code, a.name.start as usize, firsts);
         }
         Decl::Pool(p) => {
             let are_over = passes(OBJECT_LIMIT, ahead.objects, own.objects);
-            note_if(are_over, code, p.name.start as usize, firsts);
+            report_if(are_over, code, p.name.start as usize, firsts);
             let is_over = passes(CELL_LIMIT, ahead.cells, own.cells);
-            note_if(is_over, code, p.name.start as usize, firsts);
+            report_if(is_over, code, p.name.start as usize, firsts);
         }
         Decl::Init(_) => {}
         Decl::Atomic(s) | Decl::Helper(s) => {
-            note_if(SECTION_LIMIT <= number, code, s.name.start as usize, firsts);
+            report_if(SECTION_LIMIT <= number, code, s.name.start as usize, firsts);
         }
         Decl::Thread(t) => {
-            note_if(THREAD_LIMIT <= number, code, t.name.start as usize, firsts);
+            report_if(THREAD_LIMIT <= number, code, t.name.start as usize, firsts);
             let is_over = passes(CALL_LIMIT, ahead.calls, own.calls);
-            note_if(is_over, code, t.name.start as usize, firsts);
+            report_if(is_over, code, t.name.start as usize, firsts);
         }
     }
 }
 
-/// How much stands ahead of each declaration and is in all. Notes where there are too many. The one error is a refused
-/// growth.
-pub(crate) fn judge_totals(
+/// The totals before each declaration, and of all. Notes exceeded limits. The only error is a failed allocation.
+pub(crate) fn check_totals(
     alloc: Global,
     decls: &Declarations,
     firsts: &mut Firsts,
@@ -279,7 +261,7 @@ pub(crate) fn judge_totals(
     let items = decls.items();
     for (place, d) in items.iter().enumerate() {
         let own = Totals::of(decls, d);
-        note_decl(decls.limited(place, d), totals, own, d, firsts);
+        report_decl(decls.limited(place, d), totals, own, d, firsts);
         let Ok(()) = ahead.push(totals) else {
             drop(ahead);
             return Err(AllocError);

@@ -1,4 +1,4 @@
--- Calls that run on what is compiled run so on the program as it was accepted, whose helpers are not written out.
+-- Calls that run on the compiled program run the same on the program as it was accepted, before its helpers are expanded.
 use Rattle.std.proofs.Common.{◌≡◌, ℕ, ℤ, List, [], ◌∷◌, length, map, refl, sym, ap, ◌∙◌, subst, slice_get, Some, take}
 use Rattle.std.proofs.lemmas.List.{length-map}
 use Rattle.std.proofs.lemmas.List.Elements.{All-head, All-tail}
@@ -19,7 +19,7 @@ use Rattle.layout.specs.Layouts.{LayoutOf}
 use Rattle.lock_manager.specs.Manager.{Managed}
 use Rattle.lock_manager.specs.Working.Managers.{IsKept}
 use Rattle.lowering.specs.Plans.{Plan, IsCompiled, CompiledRunAlike}
-use Rattle.workers_seen.specs.Logs.{IsSound}
+use Rattle.workers.specs.Logs.{IsSound}
 use Rattle.runner.specs.Working.Opens.{OpenOf, ReadyOf, IsItsEntry, IsSame, entry_of}
 use Rattle.workers.specs.Answers.{RunsAsAccepted, IsAnswerAsAccepted}
 use Rattle.workers.specs.Working.Guarding.{AreCallable, IsManagerOf}
@@ -95,7 +95,7 @@ closed_accepted plan m serial alike ok d kept =
     } in
     subst (RunsAsAccepted plan m.history) (sym left) (log_accepted plan m.history serial alike ok d.callable sound)
 
--- an entry that stands behind a sound log answers its call so
+-- an entry that follows a sound log answers its call on the accepted program
 accepted_from : (plan : Plan) (floor position : ℕ) (o : OpenOf) (e : Commit) → LegalIsSerial → CompiledRunAlike →
     ExpansionsRunAlike → IsCompiled plan → CanCall plan.program o.activation.call.section o.activation.call.arguments →
     IsItsEntry o e → IsEntered plan floor o position →
@@ -116,7 +116,7 @@ accepted_from plan floor position o e serial alike expansions ok can its entered
     } in
     subst (λ (ps : List ℤ). IsAnswerAsAccepted plan o.activation.call position e.outcome ps) prints is
 
--- and so does what is told of it
+-- and so does the answer that has its parts
 pub answered_as_accepted : (plan : Plan) (position section floor : ℕ) (arguments : List Value) (ready : ReadyOf) (b o : OpenOf)
     (e : Commit) (told : Done) → LegalIsSerial → CompiledRunAlike → ExpansionsRunAlike → IsCompiled plan →
     CanCall plan.program section arguments → HasBegun plan (record { section = section; arguments = arguments }) ready b →

@@ -1,4 +1,4 @@
--- What a hold of the lock leaves under it.
+-- The state under the Mutex after one hold of it.
 use Rattle.std.proofs.Common.{◌≡◌, ◌≤◌, ℕ, List, [], ◌∷◌, ◌++◌, length, drop, sym, ap, ◌∙◌, subst, Some}
 use Rattle.core_lang.specs.declared.value.Outcome.{Outcome}
 use Rattle.std.proofs.lemmas.List.{length-map, drop_at}
@@ -22,7 +22,7 @@ use Rattle.worlds.specs.Working.InOrder.{SectionsStayInOrder}
 use Rattle.runner.specs.Working.Opens.{OpenOf, ReadyOf, IsOpen, IsSame, IsItsEntry, CanBeReleased, Released, entry_of}
 use Rattle.workers.specs.Working.Guarding.{IsManagerOf, AreCallable}
 use Rattle.workers.specs.Working.Within.{IsEntered, SeesItsOwn}
-use Rattle.workers_seen.specs.Logs.{Begins, IsSound, NoneOf}
+use Rattle.workers.specs.Logs.{Begins, IsSound, NoneOf}
 
 pub has_cells : (program : Typed) (heap : List Value) → IsHeap program heap → HasCells program heap
 has_cells program heap h =
@@ -97,7 +97,7 @@ history_after m m' o ready receipt e its r =
     let same : e ≡ entry_of o r.outcome = its.is ∙ ap (entry_of o) (some_same e.outcome r.outcome (sym its.over ∙ r.over)) in
     ap (λ (v : Managed). v.history) r.releases.manager ∙ ap (λ (x : Commit). m.history ++ x ∷ []) (sym same)
 
--- a sound log and an entry that stands behind it
+-- a sound log and an entry that follows it
 more_sound : (plan : Plan) (log : List Commit) (o : OpenOf) (e : Commit) → LegalOfOneMore → TrueOfOneMore → IsItsEntry o e →
     IsSound plan log → Agrees (committed plan.layout.opening log) o.activation.machine.memory.reads →
     IsTrueCommit plan.program (entry_of o e.outcome) → IsSound plan (log ++ e ∷ [])
@@ -117,7 +117,7 @@ sound_after m m' o ready receipt e floor legal more laws d kept is_open can r ab
     let stands = entered m m' o ready receipt floor laws d kept is_open can r above begun in
     more_sound o.plan m.history o e legal more its stands.sound stands.agrees (stands.is_true e.outcome its.over)
 
--- what a seat sees once its section's entry stands behind the log, of which it had seen a beginning
+-- what a seat sees after its section's entry is appended to the log, of which it had seen a prefix
 pub sees_its_own : (o : OpenOf) (e : Commit) (old log new : List Commit) (position floor thread : ℕ) → IsItsEntry o e → Begins old log →
     floor ≡ length old → thread ≡ e.thread → NoneOf thread (drop floor log) → new ≡ log ++ e ∷ [] → position ≡ length log →
     SeesItsOwn o position old new

@@ -1,6 +1,11 @@
-pub mod Passing
 pub mod Accepted
-pub mod Scripts
+pub mod Adding
+pub mod Ends
+pub mod Fronts
 pub mod Guarding
-pub mod Seats
+pub mod LockEnds
+pub mod Parts
+pub mod Passing
 pub mod Printed
+pub mod Scripts
+pub mod Seats

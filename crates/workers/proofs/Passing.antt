@@ -5,7 +5,7 @@ use Rattle.std.proofs.lemmas.List.{append-nil, drop_at}
 use Rattle.std.proofs.lemmas.List.Elements.{All-nil, All-cons, All-head, All-tail}
 use Rattle.history.specs.Commits.{Commit}
 use Rattle.workers.specs.Seats.{ReplyOf, SeatOf, AllBelow, AreBegunInTurn}
-use Rattle.workers_seen.specs.Logs.{Begins, NoneOf}
+use Rattle.workers.specs.Logs.{Begins, NoneOf}
 use Rattle.workers.specs.Answers.{reply_at, replies_of, in_step}
 use Rattle.lowering.specs.Plans.{Plan}
 use Rattle.workers.specs.Working.Within.{IsSeat, IsIn, SeesOwn}
@@ -98,9 +98,9 @@ steps-one t k e own step =
     let is : (e.thread == t) ≡ true = eq-eqb e.thread t own in
     let up : (e.step == k) ≡ true = eq-eqb e.step k step in rw (is, up) refl
 
--- ---- a seat's own entry behind those of others
+-- ---- a seat's own entry after those of others
 
--- one answer more
+-- one more answer
 pub replies_more : (t position : ℕ) (e : Commit) (old new : List Commit) → SeesOwn t position e old new → e.thread ≡ t →
     replies_of t 0 new ≡ replies_of t 0 old ++ reply_at position e ∷ []
 replies_more t position e old new seen own =
@@ -113,7 +113,7 @@ replies_more t position e old new seen own =
     ∙ ap (λ (rs : List ReplyOf). replies_of t 0 old ++ rs) (replies-one t (0 + length (old ++ between)) e own)
     ∙ ap (λ (n : ℕ). replies_of t 0 old ++ reply_at n e ∷ []) (omega (arith, seen.long))
 
--- one step more
+-- one more step
 pub steps_more : (t position : ℕ) (e : Commit) (old new : List Commit) → SeesOwn t position e old new → e.thread ≡ t →
     e.step ≡ length (replies_of t 0 old) → in_step t 0 old ≡ true → in_step t 0 new ≡ true
 steps_more t position e old new seen own step steps =

@@ -1,4 +1,4 @@
--- There is room for what a call prints.
+-- The room for prints suffices for a call.
 use Rattle.std.proofs.Common.{◌≡◌, ◌≤◌, ◌<◌, ◌∙◌, ℕ, ℤ, List, length, map, Some, sym, ap, subst, arith, option_map, slice_get}
 use Rattle.std.proofs.lemmas.List.{length-map}
 use Rattle.std.proofs.lemmas.Option.{slice_get-map}
@@ -6,8 +6,8 @@ use Rattle.core_lang.specs.declared.value.Value.{Value}
 use Rattle.core_lang.specs.declared.value.Outcome.{Outcome}
 use Rattle.core_lang.specs.Serial.{Invocation}
 use Rattle.core_lang.specs.WellFormed.{CanCall}
-use Rattle.core_lang_laws.specs.Prints.{most_prints}
-use Rattle.core_lang_laws.specs.Laws.{NoRunPrintsMore}
+use Rattle.core_lang_helpers.specs.Prints.{most_prints}
+use Rattle.core_lang_helpers.specs.Laws.{NoRunPrintsMore}
 use Rattle.history.specs.Commits.{Commit, committed}
 use Rattle.lowering.specs.Plans.{Plan}
 use Rattle.runner.specs.Working.Opens.{OpenOf, ReadyOf, IsItsEntry, IsSame}

@@ -1,4 +1,4 @@
--- Where the seats are those of all threads, the history has their scripts.
+-- If the seats are those of all threads, the history has their scripts.
 use Rattle.std.proofs.Common.{◌≡◌, ℕ, zero, suc, ◌+◌, ◌<◌, ◌==◌, Bool, true, false, if◌then◌else◌, List, [], ◌∷◌, ◌++◌}
 use Rattle.std.proofs.Common.{length, refl, sym, ◌∙◌, ap, subst, map, take, get_or, arith, Some, Option, None}
 use Rattle.std.proofs.Common.{slice_get, option_map}

@@ -13,7 +13,7 @@ use Rattle.core_lang.specs.declared.value.Value.{Value}
 use Rattle.runner.specs.Working.Opens.{OpenOf, PoisedOf, ReadyOf, Prepares, IsItsEntry, IsSame, entry_of}
 use Rattle.workers.specs.Seats.{ReplyOf, SeatOf, AllBelow, AreBegunInTurn, Gains, reply}
 use Rattle.workers.specs.Answers.{IsAnswer, reply_at, replies_of}
-use Rattle.workers_seen.specs.Logs.{IsSound}
+use Rattle.workers.specs.Logs.{IsSound}
 use Rattle.workers.specs.Seen.{Sees}
 use Rattle.workers.specs.Working.Within.{IsSeat, IsBegun, HasBegun, IsEntered, IsNotedOf, SeesOwn, SeesItsOwn, HasAnswer}
 use Rattle.workers.proofs.Passing.{replies-below, replies_more, steps_more, begun-push}
@@ -22,7 +22,7 @@ use Rattle.workers.specs.declared.seat.Done.{Done}
 pub raised : (a b : ℕ) (hs : List ReplyOf) → a ≤ b → AllBelow a hs → AllBelow b hs
 raised a b hs le h = All-weaker (λ (x : ReplyOf). x.position < a) (λ (x : ReplyOf). x.position < b) (λ x l. omega (arith, l, le)) hs h
 
--- an entry that stands behind a sound log answers its call
+-- an entry that follows a sound log answers its call
 pub answer_from : (plan : Plan) (floor position : ℕ) (o : OpenOf) (e : Commit) → IsItsEntry o e →
     IsEntered plan floor o position →
     IsAnswer plan o.activation.call position e.outcome e.prints
@@ -54,6 +54,7 @@ has_begun plan named section arguments ready p b prepared is begun = record {
   thread = begun.thread ∙ ap (λ (q : PoisedOf). q.thread) prepared;
   step = begun.step ∙ ap (λ (q : PoisedOf). q.step) prepared;
   call_is = begun.call ∙ ap (λ (q : PoisedOf). q.call) prepared;
+  nothing = begun.nothing;
 }
 
 some_same : (x y : Outcome) → Some x ≡ Some y → x ≡ y
@@ -64,7 +65,7 @@ one_entry : (o : OpenOf) (e e' : Commit) → IsItsEntry o e → IsItsEntry o e' 
 one_entry o e e' a b =
     a.is ∙ ap (entry_of o) (some_same e.outcome e'.outcome (sym a.over ∙ b.over)) ∙ sym b.is
 
--- what is told of an entry stays so with a list of the same prints
+-- an answer that has the parts of an entry keeps them with an equal list of prints
 pub noted_still : {entry : Commit} {told : Done} (prints : Vec ℤ Global) → IsNotedOf entry told →
     prints.items ≡ told.prints.items → IsNotedOf entry (record told { prints = prints })
 noted_still prints noted same = record { outcome = noted.outcome; prints = same ∙ noted.prints }

@@ -1,16 +1,16 @@
-//! Room for an answer.
+//! The room for an answer.
 
 ghost use Rattle.std.specs.Prelude.{◌≡◌, ◌≤◌, ◌+◌, ◌++◌, [], length, IfOk, vec_len, vec_capacity};
 ghost use Rattle.workers.specs.Working.Within.{IsNotedOf};
 
 use crate::seat::Done;
-use history::kept::Kept;
+use history::kept::EntryRef;
 use source::memory::NoMemory;
 use std::alloc::Global;
 use std::marker::Model;
 
-/// Room for an answer, made before a call begins, so that its answer is never refused. As a value it is for how many
-/// prints there is room.
+/// Room for an answer, made before a call begins, so that its answer is never refused. Its value is the number of
+/// prints for which there is room.
 #[derive(Drop)]
 pub(crate) struct AnswerRoom {
     told: Vec<i64>,
@@ -27,11 +27,11 @@ impl Model for AnswerRoom {
 }
 
 impl AnswerRoom {
-    /// For a call that prints at most so many numbers.
+    /// Room for a call that prints at most `prints` numbers.
     ///
     /// # Errors
     ///
-    /// Want of memory.
+    /// `NoMemory`: a growth was refused.
     pub fn new(alloc: Global, prints: usize) -> Result<AnswerRoom, NoMemory>
         ensures { IfOk result (λ room. prints ≤ room) }
     {
@@ -39,8 +39,8 @@ impl AnswerRoom {
         Ok(AnswerRoom { told })
     }
 
-    /// The answer that an entry gives, if there is room for its prints. Its position is still to come.
-    pub fn of(self, entry: &Kept<'_>) -> Done
+    /// The answer of an entry, if there is room for its prints. Its position is set later.
+    pub fn of(self, entry: &EntryRef<'_>) -> Done
         ensures { length entry.now.prints ≤ self → IsNotedOf entry.now result }
     {
         let AnswerRoom { mut told } = self;
@@ -55,7 +55,7 @@ impl AnswerRoom {
     }
 }
 
-// Fills a list that is empty, in room that is there.
+// Fills an empty list, whose room suffices.
 fn fill(into: &mut Vec<i64>, from: &[i64])
     requires { vec_len into.old + length from.now ≤ vec_capacity into.old }
     ensures { into.new.items ≡ into.old.items ++ from.now }

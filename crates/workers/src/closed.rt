@@ -1,4 +1,4 @@
-//! A history that is over.
+//! A closed history.
 
 ghost use Rattle.std.specs.Prelude.{◌≡◌, ◌<◌, length, slice_get, Some};
 ghost use Rattle.lock_manager.specs.Manager.{IsQuiet};
@@ -9,7 +9,7 @@ use lock_manager::manager::Manager;
 use std::marker::Model;
 use thiserror::Error;
 
-/// A history that is over, with the values that it leaves. As a value it is a manager with no open section.
+/// A closed history, with the values that it leaves. Its value is a manager with no open section.
 #[derive(Drop)]
 pub struct Closed<'p> {
     pub(crate) manager: Manager<'p>,
@@ -26,14 +26,14 @@ impl<'p> Model for Closed<'p> {
 }
 
 impl<'p> Closed<'p> {
-    /// The entries, the first one first.
+    /// The entries in order.
     pub fn history(&self) -> &History
         ensures { result.now.commits ≡ self.now.history }
     {
         self.manager.history()
     }
 
-    /// What the entries leave in a cell.
+    /// The value that the entries leave in `cell`.
     pub fn cell(&self, cell: usize) -> Value
         requires { cell < length self.now.values }
         ensures { slice_get self.now.values cell ≡ Some result }
@@ -41,7 +41,7 @@ impl<'p> Closed<'p> {
         self.manager.committed(cell)
     }
 
-    /// No thread has a section open.
+    /// A law: no thread has an open section.
     pub fn keeps_its_rules(&self)
         ensures { IsQuiet self.now }
     {
@@ -49,7 +49,8 @@ impl<'p> Closed<'p> {
     }
 }
 
-/// The answers of the seats aren't just the entries of the history, their row has others, or a section is open.
+/// The error of closing: the seats' answers are not exactly the entries of the history, the row has other entries, or a
+/// section is open.
 #[derive(Clone, Copy, PartialEq, Eq, Debug, Error)]
 #[error("strange")]
 pub struct Strange;

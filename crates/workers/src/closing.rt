@@ -1,31 +1,31 @@
-//! Whether what seats have seen are a history's entries, up to the last one of each seat's thread, and these are all that
-//! their row has.
+//! Whether what seats have seen are a history's entries, up to the last one of each seat's thread, and these are all
+//! entries of the row.
 
 ghost use Rattle.std.specs.Prelude.{◌⊎◌, IsTrue};
 ghost use Rattle.std.specs.List.{All};
 ghost use Rattle.workers.specs.Answers.{HasSeat, IsSeated};
 ghost use Rattle.workers.specs.Working.Within.{IsIn};
-ghost use Rattle.workers_seen.specs.Logs.{NoneOf};
+ghost use Rattle.workers.specs.Logs.{NoneOf};
 
+use crate::log::Log;
+use crate::naming::Naming;
 use crate::seat::Seat;
-use workers_seen::log::Log;
-use workers_seen::naming::Naming;
 
-/// Whether what each seat has seen begins the entries, none of those behind it is of the seat's thread, each entry's
-/// thread has a seat, and the row has no others.
+/// Whether what each seat has seen is a prefix of the entries, no later entry is of the seat's thread, each entry's
+/// thread has a seat, and the row has no other entries.
 pub fn fit<J: Naming>(seats: &[Seat<'_, '_, J>], log: &Log<'_, J>) -> bool
     ensures seen { IsTrue result → All (IsIn log.now) seats.now }
     ensures seated { IsTrue result → All (IsSeated seats.now) log.now }
 {
     let entries = log.front();
-    // (a look, of which no clause tells: another log on the row may have got further in the meantime)
+    // (a look that no clause mentions: another log on the row may have got further in the meantime)
     if entries.whole().len() != entries.len() {
         return false;
     }
     all_in(seats, log) && are_seated(seats, log)
 }
 
-// Whether what each seat has seen begins the entries, and none of those behind it is of the seat's thread.
+// Whether what each seat has seen is a prefix of the entries, and no later entry is of the seat's thread.
 fn all_in<J: Naming>(seats: &[Seat<'_, '_, J>], log: &Log<'_, J>) -> bool
     ensures { IsTrue result → All (IsIn log.now) seats.now }
 {
@@ -53,7 +53,7 @@ fn are_seated<J: Naming>(seats: &[Seat<'_, '_, J>], log: &Log<'_, J>) -> bool
     log.is_below(64)
 }
 
-// Whether a thread has no entry, or a seat.
+// Whether `thread` has no entry, or has a seat.
 fn is_settled<J: Naming>(seats: &[Seat<'_, '_, J>], log: &Log<'_, J>, thread: u32) -> bool
     ensures { IsTrue result → NoneOf thread log.now ⊎ HasSeat seats.now thread }
 {
@@ -63,7 +63,7 @@ fn is_settled<J: Naming>(seats: &[Seat<'_, '_, J>], log: &Log<'_, J>, thread: u3
     is_seated(seats, thread)
 }
 
-// Whether a thread has a seat.
+// Whether `thread` has a seat.
 fn is_seated<J: Naming>(seats: &[Seat<'_, '_, J>], thread: u32) -> bool
     ensures { IsTrue result → HasSeat seats.now thread }
 {

@@ -1,7 +1,7 @@
-//! Who is told how far calls have come.
+//! The observer of the progress of calls.
 
-/// Is told how far each call has come. It is called with no lock held, so it may wait for other threads.
+/// The observer of the progress of each call. It is called while no lock is held, and may wait for other threads.
 pub trait Gate: Sync {
-    /// A thread's call has come this far: 0 after its begin, k after its k-th grant.
+    /// A call of `thread` has come as far as `step`: 0 after its begin, k after its k-th grant.
     fn pass(&self, thread: u32, step: u32);
 }

@@ -1,55 +1,64 @@
-//! What lies under the Mutex.
+//! The state under the Mutex.
 
-ghost use Rattle.std.specs.Prelude.{◌≡◌, ◌<◌, ◌+◌, ◌^◌, [], length, IfOk, IfErr, OnOk, OnErr, IfSome};
+ghost use Rattle.std.specs.Prelude.{◌≡◌, ◌<◌, ◌+◌, ◌^◌, [], length, IfOk, IfErr, OnOk, OnErr, IfSome, IsTrue};
 ghost use Rattle.locks.specs.Waiting.{HasNoCycle};
 ghost use Rattle.lock_manager.specs.Manager.{IsQuiet};
 ghost use Rattle.lock_manager.specs.Working.Managers.{opened, askers_of, IsKept};
 ghost use Rattle.runner.specs.Working.Opens.{ready_of, ready_again};
 ghost use Rattle.runner.specs.Working.Answers.{GoesOnSame};
 ghost use Rattle.workers.specs.Working.Guarding.{IsManagerOf};
-ghost use Rattle.workers_seen.specs.Logs.{IsSound};
+ghost use Rattle.workers.specs.Working.LockEnds.{AreAsSeen, IsPartAt, asked_open};
+ghost use Rattle.workers.specs.Logs.{IsSound};
 ghost use Rattle.workers.specs.Working.Within.{IsBegun, IsEntered, SeesItsOwn};
 
+use crate::front::Front;
+use crate::lock_ends::LockEnds;
+use crate::log::Log;
+use crate::naming::Naming;
 use crate::seat::CallRefusal;
 use lock_manager::manager::Manager;
 use lock_manager::ticket::Receipt;
+use locks::lock::Lock;
 use lowering::compiled::Program;
 use runner::states::{Asked, Asking, Ended, Poised, Ready, Running};
 use source::memory::NoMemory;
 use std::alloc::Global;
 use std::marker::Model;
-use workers_seen::front::Front;
-use workers_seen::log::Log;
-use workers_seen::naming::Naming;
 
-/// What the Mutex guards: a manager of the program that `J` names, whose entries are true, and the log of these entries.
-/// As a value it is the manager.
+/// The state that the Mutex guards: a manager of the program that `J` names, whose entries are true, and the log of these
+/// entries. Its value is the manager.
 ///
 /// Each method is one hold of the Mutex. What one hold left for the next is tested, never taken for granted.
 #[derive(Drop)]
 pub struct Guarded<'p, 'r, J: Naming> {
     manager: Manager<'p>,
     log: Log<'r, J>,
+    ends: LockEnds<'p>,
 }
 
 impl<'p, 'r, J: Naming> Model for Guarded<'p, 'r, J> {
     ghost use Rattle.std.specs.Prelude.{◌≡◌};
     ghost use Rattle.lock_manager.specs.Manager.{Managed};
     ghost use Rattle.workers.specs.Working.Guarding.{IsManagerOf};
+    ghost use Rattle.workers.specs.Working.LockEnds.{AreEndsOf};
 
     ghost Value = { Managed };
 
     ghost view = { λ g. g.manager };
 
-    ghost invariant = { λ g. IsManagerOf J.plan g.manager × (g.log ≡ g.manager.history) };
+    ghost invariant = { λ g.
+        IsManagerOf J.plan g.manager
+        × (g.log ≡ g.manager.history)
+        × (g.ends.layout ≡ J.plan.layout)
+        × AreEndsOf g.ends g.manager.history };
 }
 
 impl<'p, 'r, J: Naming> Guarded<'p, 'r, J> {
-    /// Before any call.
+    /// The state before any call.
     ///
     /// # Errors
     ///
-    /// Want of memory.
+    /// `NoMemory`: a growth was refused.
     pub fn open(
         alloc: Global,
         program: &'p Program,
@@ -62,14 +71,15 @@ impl<'p, 'r, J: Naming> Guarded<'p, 'r, J> {
         worlds::laws::worlds_stay_ready();
         let _typed = program.expanded();
         let manager = Manager::open(alloc, program.layout(), program.ranks())?;
-        Ok(Guarded { manager, log })
+        let ends = LockEnds::of(alloc, program.layout())?;
+        Ok(Guarded { manager, log, ends })
     }
 
     /// Begins a call.
     ///
     /// # Errors
     ///
-    /// Want of memory, or the thread has a section open; nothing has begun.
+    /// An allocation fails, or the thread has an open section. Nothing has begun.
     pub fn begin(
         &mut self,
         alloc: Global,
@@ -89,35 +99,67 @@ impl<'p, 'r, J: Naming> Guarded<'p, 'r, J> {
         }
     }
 
-    /// Asks for the next lock.
+    // Tests that the cells of these locks have the values that the log `front`, which was seen, leaves: since then
+    // nothing was entered, or none of the locks was given back. No cell is read.
+    fn are_as_seen(&self, locks: &[Lock], front: &Front<'r, J>) -> bool
+        ensures { IsTrue result → AreAsSeen J.plan locks.now front.now self.now.history }
+    {
+        history::laws::commuting();
+        history::laws::one_entry_more();
+        self.manager.keeps_its_rules();
+        let log = self.log.front();
+        if !front.begins(&log) {
+            return false;
+        }
+        front.len() == log.len() || self.ends.are_before(locks, front.len())
+    }
+
+    /// Asks for the next lock, for a section whose cells are part of what the log `front` leaves. Afterwards `front` is
+    /// the present log, and they are part of what that leaves.
     ///
     /// # Errors
     ///
-    /// The manager isn't the one that the section left; the section has ended without an entry.
-    pub fn ask(&mut self, asking: Asking<'p>) -> Result<Asked<'p>, Ready<'p>>
-        requires { asking.plan ≡ J.plan }
+    /// The manager isn't the one that the section left. The section has ended without an entry.
+    pub fn ask(
+        &mut self,
+        asking: Asking<'p>,
+        front: &mut Front<'r, J>,
+    ) -> Result<Asked<'p>, Ready<'p>>
+        requires plan { asking.plan ≡ J.plan }
+        requires part { IsPartAt J.plan front.old asking }
         ensures ok { IfOk result (λ asked. GoesOnSame asking.entry asked) }
+        ensures part { IfOk result (λ asked. IsPartAt J.plan front.new (asked_open asked)) }
         ensures err { IfErr result (λ ready. ready ≡ ready_again asking.entry) }
         ensures history { self.new.history ≡ self.old.history }
     {
+        runner::laws::sections_stay_part();
+        asking.keeps_its_rules();
+        self.manager.keeps_its_rules();
         if !asking.fits(&self.manager) {
             return Err(asking.give_up(&mut self.manager));
         }
+        if !self.are_as_seen(asking.held(), front) {
+            return Err(asking.give_up(&mut self.manager));
+        }
+        *front = self.log.front();
         Ok(asking.ask(&mut self.manager))
     }
 
-    /// Enters the entry of a section that began when the history was at least as long as what its seat has seen. Then the
-    /// seat has seen all entries up to and with it.
+    /// Enters the entry of a section that began when the history was at least as long as what its seat has seen, and
+    /// whose cells are part of what the log `front` leaves. Afterwards the seat has seen all entries up to this one,
+    /// which is included.
     ///
     /// # Errors
     ///
-    /// It doesn't fit, or another entry of the thread came between; the section has ended without an entry.
+    /// The entry doesn't fit, or another entry of the thread came between. The section has ended without an entry.
     pub fn finish(
         &mut self,
         ended: Ended<'p>,
+        front: &Front<'r, J>,
         seen: &mut Front<'r, J>,
     ) -> Result<(Ready<'p>, Receipt), Ready<'p>>
-        requires { ended.plan ≡ J.plan }
+        requires plan { ended.plan ≡ J.plan }
+        requires part { IsPartAt J.plan front.now ended }
         ensures entered { IfOk result (λ r. IsEntered J.plan (length seen.old) ended.entry r.1.position) }
         ensures own { IfOk result (λ r. SeesItsOwn ended.entry r.1.position seen.old seen.new) }
         ensures sound { OnOk result (IsSound J.plan seen.new) }
@@ -130,13 +172,17 @@ impl<'p, 'r, J: Naming> Guarded<'p, 'r, J> {
     {
         history::laws::one_entry_more();
         worlds::laws::sections_stay_in_order();
+        runner::laws::sections_stay_part();
         ended.keeps_its_rules();
         self.manager.keeps_its_rules();
         let floor = seen.len();
         let position = self.manager.history().len();
         let entry = ended.entry();
         let begun = entry.begun();
-        if begun < floor || position < begun || !ended.fits(&self.manager) {
+        if begun < floor || position < begun || !self.are_as_seen(ended.held(), front) {
+            return Err(self.give_up(ended));
+        }
+        if !ended.fits_as_part(&self.manager) {
             return Err(self.give_up(ended));
         }
         if !seen.begins(&self.log.front())
@@ -146,6 +192,7 @@ impl<'p, 'r, J: Naming> Guarded<'p, 'r, J> {
             return Err(self.give_up(ended));
         }
         *seen = self.log.front();
+        self.ends.give_back(ended.held(), seen.len());
         Ok(ended.release(&mut self.manager))
     }
 
@@ -157,21 +204,26 @@ impl<'p, 'r, J: Naming> Guarded<'p, 'r, J> {
         ended.give_up(&mut self.manager)
     }
 
-    /// The manager and the log, where no section is open.
+    /// The manager and the log, if no section is open.
     pub fn into_parts(self) -> Option<(Manager<'p>, Log<'r, J>)>
         ensures manager { IfSome result (λ r. r.0 ≡ self.entry) }
         ensures of_the_program { IfSome result (λ r. IsManagerOf J.plan r.0) }
         ensures quiet { IfSome result (λ r. IsQuiet r.0) }
         ensures log { IfSome result (λ r. r.1 ≡ r.0.history) }
     {
-        let Guarded { manager, log } = self;
+        let Guarded {
+            manager,
+            log,
+            ends: _,
+        } = self;
         if !manager.is_quiet() {
             return None;
         }
         Some((manager, log))
     }
 
-    /// The manager keeps its rules, and nobody waits in a circle.
+    /// A law: the manager keeps its rules, and no threads wait in a cycle. It has the layout and the ranks of the
+    /// program, and its entries are true.
     pub fn keeps_its_rules(&self)
         ensures of_the_program { IsManagerOf J.plan self.now }
         ensures rules_kept { IsKept self.now }

@@ -1,4 +1,4 @@
-//! Where threads wait for locks, and who ends their waiting.
+//! The places where threads wait for locks, and what ends the waiting.
 
 use crossbeam_utils::sync::{Parker, Unparker};
 use std::alloc::{AllocError, Global};
@@ -6,44 +6,44 @@ use std::hint::spin_loop;
 use std::sync::atomic::{AtomicBool, Ordering};
 use std::sync::{Arc, Wait};
 
-/// How often a thread looks whether it was woken before it sleeps. To sleep and to be woken are two calls of the system,
-/// which take longer than most sections hold their locks.
+/// The number of times that a thread looks whether it was woken before it sleeps. To sleep and to be woken are two system
+/// calls, which take longer than most sections hold their locks.
 const LOOKS: u32 = 200;
 
-/// Where one thread waits.
+/// The place where one thread waits.
 #[derive(Drop)]
 pub struct Parking {
     parker: Parker,
-    // Whether it was woken. It says when to look no more; whether the thread goes on, the parker says.
+    // Whether it was woken. This decides when to stop looking; the parker decides whether the thread goes on.
     woken: Arc<AtomicBool, Global>,
 }
 
 unsafe impl Send for Parking {}
 
 impl Parking {
-    /// Nobody waits.
+    /// A place where no thread waits.
     ///
     /// # Errors
     ///
-    /// Want of memory.
+    /// An allocation fails.
     pub fn new(alloc: Global) -> Result<Parking, AllocError> {
         let parker = Parker::new(alloc)?;
         let woken = Arc::new(alloc, AtomicBool::new(false))?;
         Ok(Parking { parker, woken })
     }
 
-    /// What ends the waiting here.
+    /// The handle that wakes the thread.
     ///
     /// # Errors
     ///
-    /// Want of memory.
+    /// An allocation fails.
     pub fn waking(&self) -> Result<Waking, AllocError> {
         let unparker = self.parker.unparker().clone()?;
         let woken = Arc::try_clone(&self.woken)?;
         Ok(Waking { unparker, woken })
     }
 
-    /// Waits until it is woken, or goes on at once if it was woken since it waited last.
+    /// Waits until the thread is woken, or returns at once if it was woken after its last wait.
     pub fn wait<R: Wait>(&self, rt: &R) {
         for _ in 0..LOOKS {
             if self.woken.load(Ordering::SeqCst) {
@@ -56,7 +56,7 @@ impl Parking {
     }
 }
 
-/// What ends the waiting of one thread.
+/// The handle that wakes one thread.
 #[derive(Drop)]
 pub struct Waking {
     unparker: Unparker,
@@ -74,10 +74,10 @@ impl Waking {
     }
 }
 
-/// What ends the waiting of each thread.
+/// The handles that wake the threads.
 #[derive(Drop)]
 pub struct Wakings {
-    // By thread.
+    // The handles, by thread.
     all: Vec<Waking>,
 }
 
@@ -86,12 +86,12 @@ unsafe impl Send for Wakings {}
 unsafe impl Sync for Wakings {}
 
 impl Wakings {
-    /// By thread.
+    /// The handles, by thread.
     pub fn new(all: Vec<Waking>) -> Wakings {
         Wakings { all }
     }
 
-    /// Wakes a thread.
+    /// Wakes `thread`.
     pub fn wake(&self, thread: u32) {
         if let Some(waking) = self.all.get(thread as usize) {
             waking.wake();

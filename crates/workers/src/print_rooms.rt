@@ -1,16 +1,16 @@
-//! For how many prints calls make room.
+//! The numbers of prints for which calls make room.
 
 ghost use Rattle.std.specs.Prelude.{◌≡◌, ◌<◌, Some, length, map, slice_get, IfOk};
-ghost use Rattle.core_lang_laws.specs.Prints.{most_prints};
+ghost use Rattle.core_lang_helpers.specs.Prints.{most_prints};
 
 use core_lang::typed::Typed;
-use core_lang_laws::prints;
+use core_lang_helpers::prints;
 use source::memory::NoMemory;
 use std::alloc::Global;
 use std::marker::Model;
 
-/// For how many prints a call of each section makes room: for the most that one run of it prints. As a value it is these
-/// numbers, by section.
+/// The number of prints for which a call of each section makes room: the most that one run of the section prints. Its
+/// value is these numbers, by section.
 #[derive(Drop)]
 pub(crate) struct PrintRooms {
     rooms: Vec<usize>,
@@ -25,11 +25,11 @@ impl Model for PrintRooms {
 }
 
 impl PrintRooms {
-    /// For the sections of a program.
+    /// The numbers for the sections of a program.
     ///
     /// # Errors
     ///
-    /// Want of memory.
+    /// `NoMemory`: a growth was refused.
     pub fn of(alloc: Global, program: &Typed) -> Result<PrintRooms, NoMemory>
         ensures { IfOk result (λ rooms. rooms ≡ map most_prints program.now.sections.items) }
     {
@@ -40,7 +40,7 @@ impl PrintRooms {
         Ok(PrintRooms { rooms })
     }
 
-    /// For a call of a section.
+    /// The number for a call of `section`.
     pub fn room(&self, section: usize) -> usize
         requires { section < length self.now }
         ensures { slice_get self.now section ≡ Some result }

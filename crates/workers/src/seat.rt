@@ -2,8 +2,10 @@
 
 ghost use Rattle.std.specs.Prelude.{◌≡◌, ◌<◌, [], IsTrue};
 ghost use Rattle.workers.specs.Seats.{new_seat};
-ghost use Rattle.workers_seen.specs.Logs.{IsSound};
+ghost use Rattle.workers.specs.Logs.{IsSound};
 
+use crate::front::Front;
+use crate::naming::Naming;
 use crate::parking::Parking;
 use core_lang::value::Outcome;
 use runner::states::Ready;
@@ -11,27 +13,25 @@ use source::memory::NoMemory;
 use std::alloc::AllocError;
 use std::marker::Model;
 use thiserror::Error;
-use workers_seen::front::Front;
-use workers_seen::naming::Naming;
 
-/// What a call answers.
+/// The answer of a call.
 #[derive(Drop)]
 pub struct Done {
     /// The position of its entry in the history.
     pub position: usize,
-    /// How it ended.
+    /// How the call ended.
     pub outcome: Outcome,
-    /// What it printed.
+    /// The numbers that it printed.
     pub prints: Vec<i64>,
 }
 
 /// Why a call is refused.
 #[derive(Clone, Copy, PartialEq, Eq, Debug, Error)]
 pub enum CallRefusal {
-    /// Want of memory.
+    /// A growth was refused.
     #[error("no memory")]
     NoMemory,
-    /// The manager isn't the one that the seat left, or there is an entry of its thread that it hasn't seen.
+    /// The manager is not the one that the seat left, or its thread has an entry that the seat has not seen.
     #[error("strange")]
     Strange,
 }
@@ -48,11 +48,11 @@ impl From<NoMemory> for CallRefusal {
     }
 }
 
-/// A thread's place at a [`crate::shared::Shared`]. As a value it is the thread, the answers to its calls, in order, and
-/// what it has seen of the history. The answers are those that its own entries give among what it has seen.
+/// A thread's place at a [`crate::shared::Shared`]. Its value is the thread, the answers to its calls in order, and
+/// what it has seen of the history. The answers are those of its own entries among the seen ones.
 #[derive(Drop)]
 pub struct Seat<'p, 'r, J: Naming> {
-    // The number of its next call is that of its answers: only a release raises it.
+    // The number of its next call is the number of its answers: only a release raises it.
     pub(crate) ready: Ready<'p>,
     pub(crate) parking: Parking,
     pub(crate) seen: Front<'r, J>,
@@ -98,14 +98,14 @@ impl<'p, 'r, J: Naming> Seat<'p, 'r, J> {
         self.ready.thread()
     }
 
-    // Whether it has no answer yet.
+    // Whether the seat is without an answer.
     pub(crate) fn is_new(&self) -> bool
         ensures { IsTrue result → self.now.answers ≡ [] }
     {
         self.ready.step() == 0
     }
 
-    /// What it has seen is a legal list of true entries.
+    /// A law: what the seat has seen is a legal list of true entries.
     pub fn keeps_its_rules(&self)
         ensures { IsSound J.plan self.now.seen }
     {

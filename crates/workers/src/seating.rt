@@ -1,16 +1,16 @@
-//! Seats as they are made.
+//! The making of seats.
 
 ghost use Rattle.std.specs.Prelude.{◌≡◌, ◌<◌, ◌≤◌, ◌++◌, ◌∷◌, [], IfOk, OnOk};
 ghost use Rattle.workers.specs.Seats.{new_seat, new_seats};
 
+use crate::front::Front;
+use crate::naming::Naming;
 use crate::parking::{Parking, Waking};
 use crate::seat::Seat;
 use source::memory::NoMemory;
 use std::alloc::Global;
-use workers_seen::front::Front;
-use workers_seen::naming::Naming;
 
-/// Seats of the threads from 0 on, none of which has seen anything, and what ends the waiting of each.
+/// Seats of the threads from 0 on, which have seen nothing, and the handles that wake their threads.
 #[derive(Drop)]
 pub(crate) struct Seating<'p, 'r, J: Naming> {
     alloc: Global,
@@ -21,7 +21,7 @@ pub(crate) struct Seating<'p, 'r, J: Naming> {
 }
 
 impl<'p, 'r, J: Naming> Seating<'p, 'r, J> {
-    // So many seats.
+    // The seats of the first `count` threads.
     pub(crate) fn of(
         alloc: Global,
         front: Front<'r, J>,
@@ -43,7 +43,7 @@ impl<'p, 'r, J: Naming> Seating<'p, 'r, J> {
         Ok(seating)
     }
 
-    // One more, of this thread.
+    // Adds the seat of `thread`.
     fn add(&mut self, thread: u32) -> Result<(), NoMemory>
         requires { thread < 64 }
         ensures { OnOk result (self.new.seats.items ≡ self.old.seats.items ++ new_seat thread ∷ []) }

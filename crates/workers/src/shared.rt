@@ -3,22 +3,27 @@
 ghost use Rattle.std.specs.Prelude.{◌≡◌, ◌<◌, ◌≤◌, ◌+◌, ◌^◌, ◌↔◌, length, map, IsTrue, MatchBool, IfOk, IfErr, OnOk, OnErr};
 ghost use Rattle.std.specs.List.{All};
 ghost use Rattle.core_lang.specs.WellFormed.{CanCall};
-ghost use Rattle.core_lang_laws.specs.Prints.{most_prints};
+ghost use Rattle.core_lang_helpers.specs.Prints.{most_prints};
 ghost use Rattle.lock_manager.specs.Manager.{IsQuiet};
 ghost use Rattle.runner.specs.Working.Opens.{IsSame, ready_again};
 ghost use Rattle.workers.specs.Seats.{AllBelow, Gains, new_seats};
 ghost use Rattle.workers.specs.Answers.{IsAnswer, IsAnswerAsAccepted, RunsAsAccepted, IsSeated, IsHistoryOf, AnswersAreIn, as_call};
-ghost use Rattle.workers_seen.specs.Logs.{Begins, IsSound};
+ghost use Rattle.workers.specs.Logs.{Begins, IsSound};
 ghost use Rattle.workers.specs.Seen.{Sees, SeenIsIn};
+ghost use Rattle.workers.specs.Working.LockEnds.{IsPartAt};
 ghost use Rattle.workers.specs.Working.Within.{HasAnswer, HasBegun, HasRoomFor, IsEntered, SeesItsOwn};
 
 use crate::answer_room::AnswerRoom;
 use crate::closed::{Closed, Strange};
 use crate::closing::fit;
+use crate::front::Front;
 use crate::gate::Gate;
 use crate::guarded::Guarded;
+use crate::log::Log;
+use crate::naming::Naming;
 use crate::parking::{Parking, Wakings};
 use crate::print_rooms::PrintRooms;
+use crate::row::Row;
 use crate::seat::{CallRefusal, Done, Seat};
 use crate::seating::Seating;
 use core_lang::value::Value;
@@ -29,13 +34,9 @@ use source::memory::NoMemory;
 use std::alloc::Global;
 use std::mem;
 use std::sync::{Mutex, Wait};
-use workers_seen::front::Front;
-use workers_seen::log::Log;
-use workers_seen::naming::Naming;
-use workers_seen::row::Row;
 
 /// A program whose sections threads run, each from its own [`Seat`]. The manager of its locks, with the cells and the
-/// history, lies under a Mutex.
+/// history, is under a Mutex.
 #[derive(Drop)]
 pub struct Shared<'p, 'r, J: Naming> {
     alloc: Global,
@@ -47,7 +48,7 @@ pub struct Shared<'p, 'r, J: Naming> {
     ghost rooms: { print_rooms ≡ map most_prints J.plan.program.sections.items },
 }
 
-// Takes a thread out of its seat. In its place is the thread as it was before its first call.
+// Takes a thread out of its seat. The thread as it was before its first call takes its place.
 fn take_out<'p>(ready: &mut Ready<'p>) -> Ready<'p>
     ensures { result ≡ ready.old }
 {
@@ -55,30 +56,31 @@ fn take_out<'p>(ready: &mut Ready<'p>) -> Ready<'p>
     mem::replace(ready, Ready::new(thread))
 }
 
-// Puts it back.
+// Puts a thread back.
 fn put_back<'p>(place: &mut Ready<'p>, ready: Ready<'p>)
     ensures { place.new ≡ ready.entry }
 {
     let _first = mem::replace(place, ready);
 }
 
-// A call of a section, and where its thread waits.
+// A call of a section by a thread, and the place where the thread waits.
 #[derive(Clone, Copy)]
 struct Request<'a> {
+    thread: u32,
     section: usize,
     arguments: &'a [Value],
     parking: &'a Parking,
 }
 
 impl<'p, 'r, J: Naming> Shared<'p, 'r, J> {
-    /// Before any call, with so many seats, of the threads from 0 on. Its calls are entered into the row that is lent,
-    /// which `J` names. The row stays as it was, also where this is refused, so it can be lent again. Of all that are
-    /// opened over one row only the one that enters a call first enters any: whatever the others call is strange, and so
-    /// is their `close`.
+    /// The program before any call, with the seats of the first `count` threads. The seats have no answers and have seen
+    /// nothing. The calls are entered into `row`, which `J` names. The row is unchanged, also after an error, and can be
+    /// lent again. Where several are opened over one row, only the one that enters a call first can enter any: the calls
+    /// and the `close` of the others fail with `Strange`.
     ///
     /// # Errors
     ///
-    /// Want of memory.
+    /// `NoMemory`: a growth was refused.
     pub fn open(
         row: &'r Row,
         alloc: Global,
@@ -119,16 +121,19 @@ impl<'p, 'r, J: Naming> Shared<'p, 'r, J> {
     }
 
     /// Runs a section from a seat, and enters it into the history. Other threads may run sections meanwhile. The gate
-    /// is told how far it has come.
+    /// observes its progress.
     ///
-    /// Then the seat has seen all entries up to and with its own.
+    /// The answer is the result of the call after some legal history of true entries, as long as the answer's position.
+    /// The call began after all earlier answers of the seat, at the latest at its own position. What the seat has seen
+    /// is what it had seen, then entries of others, then this call. After its begin a call is not refused memory, which
+    /// no clause says.
     ///
     /// # Errors
     ///
-    /// Want of memory; or the manager isn't the one that the seat left, the thread has another entry that the seat
-    /// hasn't seen, the log has no place for the thread, or the row has entries of another [`Shared`]. The seat is then
-    /// as it was, and nothing was entered: between what the seat had seen and the entry of a later call there is none of
-    /// the thread (`seen`), and a closed history has just the entries of the seat's answers (`close`: `answers`).
+    /// `NoMemory`; or `Strange`: the manager is not the one that the seat left, the thread has another entry that the
+    /// seat has not seen, the log has no place for the thread, or the row has entries of another [`Shared`]. The seat is
+    /// then unchanged, and nothing was entered: the thread has no entry between what the seat had seen and the entry of a
+    /// later call (`seen`), and a closed history has exactly the entries of the seat's answers (`close`: `answers`).
     pub fn call<R: Wait, G: Gate>(
         &self,
         rt: &R,
@@ -150,6 +155,7 @@ impl<'p, 'r, J: Naming> Shared<'p, 'r, J> {
     {
         let ready = take_out(&mut seat.ready);
         let request = Request {
+            thread: ready.thread(),
             section,
             arguments,
             parking: &seat.parking,
@@ -166,8 +172,8 @@ impl<'p, 'r, J: Naming> Shared<'p, 'r, J> {
         }
     }
 
-    // A call of a thread, from its begin to its entry. That there was room for its prints shows where it is entered: it is
-    // run whole there.
+    // Makes a call of a thread, from its begin to its entry. Entering it shows that there was room for its prints: it
+    // is run whole there.
     fn run<R: Wait, G: Gate>(
         &self,
         rt: &R,
@@ -189,19 +195,19 @@ impl<'p, 'r, J: Naming> Shared<'p, 'r, J> {
         lowering::laws::compiled_run_alike();
         core_lang::laws::writing_out_changes_nothing();
         let _typed = self.program.expanded();
-        core_lang_laws::laws::no_run_prints_more();
-        let thread = ready.thread();
+        core_lang_helpers::laws::no_run_prints_more();
         let (room, running) = self.begin(rt, ready, request)?;
-        gate.pass(thread, 0);
-        let ended = match self.go_on(rt, thread, running, request.parking, gate) {
+        gate.pass(request.thread, 0);
+        let mut front = seen.again();
+        let ended = match self.go_on(rt, running, &mut front, request, gate) {
             Ok(ended) => ended,
             Err(ready) => return Err((ready, CallRefusal::Strange)),
         };
         let mut done = room.of(&ended.entry());
-        match self.finish(rt, ended, seen) {
+        match self.finish(rt, ended, &front, seen) {
             Ok((ready, position)) => {
                 done.position = position;
-                // (only now, since an open section neither takes memory nor gives any back)
+                // (only now, since an open section neither takes nor frees memory)
                 done.prints.shrink_to_fit();
                 Ok((ready, done))
             }
@@ -209,7 +215,7 @@ impl<'p, 'r, J: Naming> Shared<'p, 'r, J> {
         }
     }
 
-    // Makes ready all that a call can need, and begins it.
+    // Prepares all that a call can need, and begins it.
     fn begin<R: Wait>(
         &self,
         rt: &R,
@@ -239,35 +245,39 @@ impl<'p, 'r, J: Naming> Shared<'p, 'r, J> {
         }
     }
 
-    // Runs an open section to its end, and waits for its locks. Errors: the manager isn't the one that it left; it has
-    // ended without an entry.
+    // Runs an open section to its end, and waits for its locks. Its cells are part of what the log `front` leaves,
+    // before and after. Errors: the manager is not the one that the section left; the section has ended without an
+    // entry.
     fn go_on<R: Wait, G: Gate>(
         &self,
         rt: &R,
-        thread: u32,
         running: Running<'p>,
-        parking: &Parking,
+        front: &mut Front<'r, J>,
+        request: Request<'_>,
         gate: &G,
     ) -> Result<Ended<'p>, Ready<'p>>
-        requires { running.plan ≡ J.plan }
+        requires plan { running.plan ≡ J.plan }
+        requires part { IsPartAt J.plan front.old running }
         ensures ok { IfOk result (λ ended. IsSame running.entry ended) }
+        ensures part { IfOk result (λ ended. IsPartAt J.plan front.new ended) }
         ensures err { IfErr result (λ ready. ready ≡ ready_again running.entry) }
     {
+        runner::laws::sections_stay_part();
         let mut next = Next::Running(running);
         let mut granted = 0u32;
         for _ in rt.forever() {
             next = match next {
                 Next::Running(running) => running.run(usize::MAX).1,
                 Next::Asking(asking) => {
-                    let answer = self.guarded.lock(rt).ask(asking);
+                    let answer = self.guarded.lock(rt).ask(asking, front);
                     match answer {
                         Ok(Asked::Got(further)) => {
                             granted = granted.wrapping_add(1);
-                            gate.pass(thread, granted);
+                            gate.pass(request.thread, granted);
                             further
                         }
                         Ok(Asked::Waits(again, _)) => {
-                            parking.wait(rt);
+                            request.parking.wait(rt);
                             Next::Asking(again)
                         }
                         Err(ready) => {
@@ -283,15 +293,17 @@ impl<'p, 'r, J: Naming> Shared<'p, 'r, J> {
     }
 
     // Enters the entry of a section that began when the history was at least as long as what its seat has seen, and wakes
-    // who waits first for each of its locks. Errors: it doesn't fit, or another entry of the thread came between; the
-    // section has ended without an entry.
+    // the first waiter for each of its locks. Errors: the entry doesn't fit, or another entry of the thread came between;
+    // the section has ended without an entry.
     fn finish<R: Wait>(
         &self,
         rt: &R,
         ended: Ended<'p>,
+        front: &Front<'r, J>,
         seen: &mut Front<'r, J>,
     ) -> Result<(Ready<'p>, usize), Ready<'p>>
-        requires { ended.plan ≡ J.plan }
+        requires plan { ended.plan ≡ J.plan }
+        requires part { IsPartAt J.plan front.now ended }
         ensures entered { IfOk result (λ r. IsEntered J.plan (length seen.old) ended.entry r.1) }
         ensures own { IfOk result (λ r. SeesItsOwn ended.entry r.1 seen.old seen.new) }
         ensures sound { OnOk result (IsSound J.plan seen.new) }
@@ -299,7 +311,7 @@ impl<'p, 'r, J: Naming> Shared<'p, 'r, J> {
         ensures err { IfErr result (λ ready. ready ≡ ready_again ended.entry) }
         ensures same { OnErr result (seen.new ≡ seen.old) }
     {
-        let finished = self.guarded.lock(rt).finish(ended, seen);
+        let finished = self.guarded.lock(rt).finish(ended, front, seen);
         match finished {
             Ok((ready, receipt)) => {
                 self.wake(&receipt);
@@ -313,7 +325,7 @@ impl<'p, 'r, J: Naming> Shared<'p, 'r, J> {
         }
     }
 
-    // Wakes those that a receipt names.
+    // Wakes the threads that a receipt names.
     fn wake(&self, receipt: &Receipt) {
         for i in 0..64usize {
             match receipt.wake(i) {
@@ -323,7 +335,8 @@ impl<'p, 'r, J: Naming> Shared<'p, 'r, J> {
         }
     }
 
-    /// Of what two seats have seen one begins the other: whether the first's begins the second's.
+    /// What two seats of one log have seen are prefixes of each other; returns whether that of `one` is a prefix of that
+    /// of `other`.
     pub fn agree(one: &Seat<'p, 'r, J>, other: &Seat<'p, 'r, J>) -> bool
         ensures one_begins { MatchBool result (Begins one.now.seen other.now.seen) (Begins other.now.seen one.now.seen) }
         ensures exact { IsTrue result ↔ Begins one.now.seen other.now.seen }
@@ -331,12 +344,12 @@ impl<'p, 'r, J: Naming> Shared<'p, 'r, J> {
         one.seen.begins(&other.seen)
     }
 
-    /// The history with the values that it leaves, where no section is open, the seats' answers are just its entries, and
-    /// what they have seen begins it.
+    /// Closes the history, and returns it with the values that it leaves, if no section is open, the seats' answers are
+    /// exactly its entries, and what they have seen is a prefix of it.
     ///
     /// # Errors
     ///
-    /// A section is open, the answers aren't just the entries, or the row has others.
+    /// A section is open, the answers are not exactly the entries, or the row has others.
     #[tactic(auto, using(crate::proofs::Guarding::has_cells))]
     pub fn close(self, seats: Vec<Seat<'p, 'r, J>>) -> Result<Closed<'p>, Strange>
         ensures history { IfOk result (λ c. IsHistoryOf J.plan c.history c.values) }

@@ -10,6 +10,8 @@ ghost use Rattle.workers.specs.Working.Within.{AreInOrder, HasCalls, NoCall, IsC
 
 use crate::closed::{Closed, Strange};
 use crate::gate::Gate;
+use crate::naming::Naming;
+use crate::row::Row;
 use crate::seat::{CallRefusal, Seat};
 use crate::shared::Shared;
 use core_lang::typed::Call;
@@ -20,15 +22,15 @@ use std::marker::Brand;
 use std::sync::Wait;
 use std::thread;
 use std::thread::Threads;
-use workers_seen::naming::Naming;
-use workers_seen::row::Row;
 
-/// Runs each script of the program in a thread of its own, to its end. The gate is told how far each call has come.
+/// Runs each script of the program in a thread of its own, to its end. The gate observes the progress of each call. The
+/// history is legal and its entries are true. Each thread's entries are the calls of its script, in order and each once,
+/// begun in turn; the history has no other entries.
 ///
 /// # Errors
 ///
-/// A thread that is refused memory, or can't be started, stops; the others go on, and the answer is want of memory. It
-/// is strange where a thread's call was, whatever else was refused: [`joined`].
+/// A thread that is refused memory, or can't be started, stops, and the others go on; the error is then `NoMemory`. It is
+/// `Strange` where the call of a thread was, whatever else was refused: [`joined`].
 pub fn run_threads<'p, R: Threads + Wait + Sync, G: Gate>(
     rt: &R,
     alloc: Global,
@@ -45,7 +47,7 @@ pub fn run_threads<'p, R: Threads + Wait + Sync, G: Gate>(
     run_named::<Brand, R, G>(rt, alloc, program, &row, gate)
 }
 
-// The same, of the program and into the row that `J` names.
+// Runs each script of the program that `J` names, into the row that `J` names.
 fn run_named<'p, 'r, J: Naming + Send + Sync, R: Threads + Wait + Sync, G: Gate>(
     rt: &R,
     alloc: Global,
@@ -80,7 +82,7 @@ fn run_named<'p, 'r, J: Naming + Send + Sync, R: Threads + Wait + Sync, G: Gate>
     }
 }
 
-/// A seat, and whether its thread's script has run: its answers are to just the calls of that, in order.
+/// A seat, and whether its thread's script has run: if so, its answers are to exactly the calls of the script, in order.
 #[derive(Drop)]
 pub(crate) struct ScriptSeat<'p, 'r, J: Naming> {
     seat: Seat<'p, 'r, J>,
@@ -88,7 +90,7 @@ pub(crate) struct ScriptSeat<'p, 'r, J: Naming> {
     ghost calls: { ran ≡ true → Some (map call_in seat.answers) ≡ script_at J.plan seat.thread },
 }
 
-// A seat before its thread's script has run.
+// The seat before its thread's script has run.
 fn place_of<'p, 'r, J: Naming>(seat: Seat<'p, 'r, J>) -> ScriptSeat<'p, 'r, J> {
     ScriptSeat { seat, ran: false }
 }
@@ -153,7 +155,7 @@ fn run_all<'p, 'r, J: Naming + Send + Sync, R: Threads + Wait + Sync, G: Gate>(
     }
 }
 
-/// What the answers of two threads come to: strange, where one is, whatever the other; else want of memory, where one is.
+/// The joint result of two threads: `Strange` where one is, whatever the other is; otherwise `NoMemory` where one is.
 pub fn joined(
     one: Result<(), CallRefusal>,
     other: Result<(), CallRefusal>,
@@ -171,7 +173,7 @@ pub fn joined(
     }
 }
 
-// The call of a thread of this number, if there is one.
+// The call of `thread` with the number `step`, if there is one.
 fn call_at(program: &Program, thread: u32, step: usize) -> Option<&Call>
     ensures { MatchOption result (NoCall program.now thread step) (λ call. IsCall program.now thread step call.now) }
 {
@@ -179,7 +181,7 @@ fn call_at(program: &Program, thread: u32, step: usize) -> Option<&Call>
     thread.calls.get(step)
 }
 
-// How many calls a thread has, if there is the thread.
+// The number of calls of `thread`, if the thread exists.
 fn calls_of(program: &Program, thread: u32) -> Option<usize>
     ensures { IfSome result (λ n. HasCalls program.now thread n) }
 {
@@ -187,7 +189,7 @@ fn calls_of(program: &Program, thread: u32) -> Option<usize>
     Some(thread.calls.len())
 }
 
-// Runs the script of a seat's thread.
+// Runs the script of a seat's thread, and marks the seat.
 fn run_place<'p, 'r, J: Naming, R: Wait, G: Gate>(
     rt: &R,
     shared: &Shared<'p, 'r, J>,
@@ -226,7 +228,7 @@ fn run_script<'p, 'r, J: Naming, R: Wait, G: Gate>(
     Ok(())
 }
 
-// The seats, where all scripts have run and they are those of all threads, in order.
+// The seats, if all scripts have run and the seats are those of all threads, in order.
 fn in_order<'p, 'r, J: Naming>(
     alloc: Global,
     places: Vec<ScriptSeat<'p, 'r, J>>,

@@ -1,5 +1,5 @@
--- The plan of the lost update is one of a compiled program, by the definitions of its passes: what is claimed of all
--- compiled plans is claimed of something.
+-- The claims about compiled plans are not vacuous: the plan of the lost update is compiled, by the definitions of the
+-- passes.
 use Rattle.std.specs.Prelude.{◌≡◌, ◌≤◌, ℕ, zero, suc, List, [], ◌∷◌, ◌++◌, length, slice_get, Some, None, String}
 use Rattle.std.proofs.Common.{refl, sym, ap, ◌∙◌, subst, inl, Global, arith}
 use Rattle.std.specs.List.{Contains}
@@ -9,14 +9,14 @@ use Rattle.core_lang.specs.declared.typed.Cell.{Cell}
 use Rattle.core_lang.specs.declared.typed.GlobalVariable.{GlobalVariable}
 use Rattle.core_lang.specs.declared.typed.LockClass.{LockClass}
 use Rattle.core_lang.specs.declared.typed.LockClass.TheVariants as class
-use Rattle.core_lang.specs.declared.typed.Owner.TheVariants as owner
+use Rattle.core_lang.specs.declared.typed.CellOwner.TheVariants as owner
 use Rattle.core_lang.specs.declared.typed.Thread.{Thread}
 use Rattle.core_lang.specs.declared.value.ValueType.TheVariants.{Integer}
 use Rattle.core_lang.specs.Typing.{IsWellTypedSection}
 use Rattle.core_lang.specs.Scopes.{IsWellScoped}
 use Rattle.core_lang.specs.Theory.Checked.{checked}
 use Rattle.core_lang.specs.Expansion.{entered, IsWrittenOut}
-use Rattle.core_lang_expansion.specs.Data.{IsExpanded}
+use Rattle.core_lang_helpers.specs.Data.{IsExpanded}
 use Rattle.core_lang.specs.WellFormed.{IsWithinLimits, IsLaidOut, IsProtected, IsGlobalClass, IsCell, IsCellOf}
 use Rattle.core_lang.specs.WellFormed.{IsClassOf, CanCall, IsWellFormed}
 use Rattle.locks.specs.LockPaths.{LockPath, global_path, lock_path, paths_of, each_once, Uses}

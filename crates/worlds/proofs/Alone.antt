@@ -1,4 +1,4 @@
--- One instruction more of a run.
+-- One more instruction of a run.
 use Rattle.std.proofs.Common.{◌≡◌, ℕ, zero, suc, List, slice_get, Option, ap}
 use Rattle.core_lang.specs.declared.value.Value.{Value}
 use Rattle.core_lang.specs.declared.shape.Shape.{Shape}

@@ -161,7 +161,7 @@ pub length-without : (cells : List (Option Value)) (cs : List ℕ) → length (w
 length-without cells [] = refl
 length-without cells (c ∷ cs) = length-set (without cells cs) c None ∙ length-without cells cs
 
--- what is there no longer, and what stays
+-- cells that were removed, and cells that stay
 pub without_some : (cells : List (Option Value)) (cs : List ℕ) (c : ℕ) (v : Value) →
     slice_get (without cells cs) c ≡ Some (Some v) →
     slice_get cells c ≡ Some (Some v)
@@ -277,7 +277,7 @@ pub overwritten_cong : (h k : List Value) (ws : List (ℕ × Value)) (c : ℕ) �
 overwritten_cong h k [] c e = e
 overwritten_cong h k (w ∷ ws) c e = set_cong (overwritten h ws) (overwritten k ws) w.0 c w.1 (overwritten_cong h k ws c e)
 
--- a value that stands behind another is seen, or hidden by one of its own cell
+-- a value that follows another is seen, or hidden by one of its own cell
 pub seen_before : (x : ℕ × Value) (xs : List (ℕ × Value)) (c : ℕ) (v : Value) → value_at xs c ≡ Some v →
     (w : Value) × (value_at (x ∷ xs) c ≡ Some w)
 seen_before x xs c v h = elim (cases_Bool (nat_eq x.0 c)) [

@@ -1,4 +1,4 @@
--- Where the listed locks of a point are held, the point can be executed on the cells of held locks.
+-- If the listed locks of a point are held, the point can be executed on the cells of held locks.
 use Rattle.std.proofs.Common.{◌≡◌, ℕ, zero, suc, List, [], ◌∷◌, Option, Some, None, slice_get, sym, ap, ◌∙◌, subst}
 use Rattle.std.proofs.Common.{arith, inl, inr}
 use Rattle.std.proofs.lemmas.List.Elements.{Contains-append_left, Contains-append_right}
@@ -80,7 +80,7 @@ module _ (laws : CoverLaws) (plan : Plan) (section : Section) (lists : List (Lis
     (ordered : IsOrdered plan.program section plan.ranks lists) (p : ℕ) (point : Point) (at : slice_get (points section) p ≡ Some point)
     (held : List Lock) (m : Machine HeldCells) (heap : List Value) (come : HasCome plan section lists p held m)
     (is_heap : IsHeap plan.program heap) (shows : Shows (held_value m.memory) heap) where
-  -- what it accesses it sees
+  -- it sees each cell that it accesses
   covers : ((lock : Lock) → IsListed plan.program section plan.ranks lists p m.locals lock → Contains held lock) →
       ((cell : ℕ) (lock : Lock) → lock_of_cell plan.program cell ≡ Some lock → Contains held lock → IsSeen (held_value m.memory) cell) →
       Covers plan.program.shape m.locals heap (held_value m.memory) (accesses_at point)

@@ -1,5 +1,5 @@
--- Worked plans, written by hand, and what the definitions compute of their runs. Nothing rests on these: they show the
--- definitions at work.
+-- Worked plans, written by hand, and what the definitions compute for their runs. No proof depends on these: they show
+-- the definitions at work.
 use Rattle.std.specs.Prelude.{◌≡◌, ℕ, false, ◌+◌, ◌<◌, ◌^◌, length, List, [], ◌∷◌, ◌++◌, replicate, map, Some, None}
 use Rattle.std.specs.Prelude.{pos, String}
 use Rattle.std.proofs.Common.{refl, Vec, Box, Global, arith}
@@ -27,8 +27,8 @@ use Rattle.core_lang.specs.declared.typed.Call.{Call}
 use Rattle.core_lang.specs.declared.typed.Cell.{Cell}
 use Rattle.core_lang.specs.declared.typed.GlobalVariable.{GlobalVariable}
 use Rattle.core_lang.specs.declared.typed.LockClass.TheVariants as class
-use Rattle.core_lang.specs.declared.typed.Owner.{Owner}
-use Rattle.core_lang.specs.declared.typed.Owner.TheVariants as owner
+use Rattle.core_lang.specs.declared.typed.CellOwner.{CellOwner}
+use Rattle.core_lang.specs.declared.typed.CellOwner.TheVariants as owner
 use Rattle.core_lang.specs.declared.typed.Thread.{Thread}
 use Rattle.core_lang.specs.declared.typed.Typed.{Typed}
 use Rattle.core_lang.specs.Serial.{Ended as Ended_call}
@@ -39,7 +39,7 @@ use Rattle.worlds.specs.declared.event.Event.{Event}
 use Rattle.worlds.specs.declared.event.Event.TheVariants.{Began, Got, Waits, Moved, Ended}
 use Rattle.worlds.specs.Worlds.{final, trace}
 
--- so many steps of a thread
+-- the given number of steps of a thread
 abbrev times : ℕ → ℕ → List ℕ
 times t n = replicate n t
 
@@ -78,7 +78,7 @@ module _ (alloc : Global) (name : String Global) where
   abbrev pub int_global : ℕ → GlobalVariable
   int_global k = record { name = name; cell = k; class = k }
 
-  abbrev pub int_cell : Owner → ℕ → Cell
+  abbrev pub int_cell : CellOwner → ℕ → Cell
   int_cell o n = record { owner = o; value_type = Integer; opening = Int (pos n) }
 
   abbrev pub no_shape : Shape

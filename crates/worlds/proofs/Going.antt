@@ -103,7 +103,7 @@ module _ (laws : GoingLaws) (plan : Plan) (ok : IsCompiled plan) (k : ℕ) (sect
   code_is : code_at plan k ≡ code
   code_is = ap (λ x. option_map_or (λ (s : Section). section_code lists s) x []) is
 
-  -- what it is to go on at a machine
+  -- a machine that goes on by its next instruction
   abbrev IsStepping : List Lock → Machine HeldCells → Type 0
   IsStepping held m = Steps load_held store_held plan.program.shape code Any (IsAtPoint plan section lists held) room m
 
@@ -157,7 +157,7 @@ module _ (laws : GoingLaws) (plan : Plan) (ok : IsCompiled plan) (k : ℕ) (sect
         };
       })
 
-  -- behind what is acquired before a point, with each listed lock held
+  -- after the acquire before a point, with each listed lock held
   point_steps : (x : Spot) → InSection lists section x → (held : List Lock) (m : Machine HeldCells) →
       m.place ≡ x.place + length (acquire_code lists x.number) → m.stack ≡ [] → HasCome plan section lists x.number held m →
       HoldsListed x.number held m.locals → HasCells held m → IsStepping held m
@@ -177,7 +177,7 @@ module _ (laws : GoingLaws) (plan : Plan) (ok : IsCompiled plan) (k : ℕ) (sect
       subst (λ place. IsStepping held (machine place m.stack)) (sym place)
       (subst (λ stack. IsStepping held (machine (x.place + length (acquire_code lists x.number)) stack)) (sym stack) at)
 
-  -- ---- where a point begins
+  -- ---- the begin of a point
 
   record IsAtAcquire (held : List Lock) (m : Machine HeldCells) : Type 0 where
     at : IsAtPoint plan section lists held m

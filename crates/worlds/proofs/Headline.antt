@@ -1,4 +1,4 @@
--- What a sound and ready world at the end of a run says.
+-- The headline, from a sound and ready world at the end of a run.
 use Rattle.std.proofs.Common.{◌≡◌, ℕ, true, List, [], ◌∷◌, map, take, Some, slice_get, sym, ◌∙◌, subst}
 use Rattle.core_lang.specs.Serial.{Serial}
 use Rattle.history.specs.Commits.{call_of, answer_of, committed}

@@ -8,13 +8,13 @@ get_set_same [] i x y h = absurd cc
 get_set_same (z ∷ xs) zero x y h = refl
 get_set_same (z ∷ xs) (suc i) x y h = get_set_same xs i x y h
 
--- what stands at the place that was set
+-- the item at the place that was set
 pub get_set_is : {X : Type 0} (xs : List X) (i : ℕ) (y z : X) → slice_get (set xs i y) i ≡ Some z → y ≡ z
 get_set_is [] i y z h = absurd cc
 get_set_is (x ∷ xs) zero y z h = cc
 get_set_is (x ∷ xs) (suc i) y z h = get_set_is xs i y z h
 
--- with one more behind: what was there, or that one, in the last place
+-- with one more after: what was there, or that one, in the last place
 pub get_push : {X : Type 0} (xs : List X) (x y : X) (i : ℕ) → slice_get (xs ++ x ∷ []) i ≡ Some y →
     (slice_get xs i ≡ Some y) ⊎ ((x ≡ y) × (length xs ≡ i))
 get_push [] x y zero h = inr (cc, refl)

@@ -1,4 +1,4 @@
--- Each step keeps a world ready; and in a ready world pending locks rise, and the next instruction has its case.
+-- Each step keeps a world ready. In a ready world pending locks rise, and the next instruction has its case.
 use Rattle.std.proofs.Common.{◌≡◌, ℕ, ◌+◌, true, List, [], ◌∷◌, ◌++◌, length, Option, Some, None, sym, ◌∙◌, subst}
 use Rattle.std.proofs.Common.{inl, inr}
 use Rattle.std.proofs.lemmas.Bool.{cases_eq}

@@ -1,4 +1,4 @@
--- Where pending locks rise, nobody waits in a circle, and someone goes on.
+-- If pending locks rise, nobody waits in a cycle, and some thread goes on.
 use Rattle.std.proofs.Common.{◌≡◌, ◌⊎◌, ◌<◌, ◌≤◌, ℕ, zero, suc, ◌+◌, Bool, true, false, if◌then◌else◌, List, [], ◌∷◌}
 use Rattle.std.proofs.Common.{map, length, Option, Some, None, slice_get, refl, sym, ap, ◌∙◌, subst, arith, inl, inr}
 use Rattle.std.proofs.Common.{true≢false}
@@ -32,7 +32,7 @@ first_pending true (l ∷ rest) lock h =
     let e : l ≡ lock = cc h in (rest, ap (λ x. x ∷ rest) e)
 first_pending false locks lock h = absurd cc
 
--- what a thread's section says, where it has one
+-- the claim for a thread, by its section
 rises_at : (ranks : List ℕ) (w : World) → PendingRises ranks w →
     (t : ℕ) (thread : ThreadState) (lock other : Lock) (x : Option Activation) →
     slice_get w.threads t ≡ Some thread → thread.active ≡ x → (asker_of x).ask ≡ Some lock → Contains (asker_of x).held other →

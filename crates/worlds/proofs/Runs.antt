@@ -20,7 +20,7 @@ IsOpen w t = (a : Activation) × HasOpen w t a
 
 -- ---- one step
 
--- a section that is open behind a step of its thread was open before it, or begins with it
+-- a section that is open after a step of its thread was open before it, or begins with it
 open_before : (plan : Plan) (w : World) (t : ℕ) (e : Event) (after : World) → Turn plan w t e after → IsOpen after t →
     (e ≡ Began) ⊎ (IsOpen w t × ((p : ℕ) → e ≡ Ended p → ⊥))
 open_before plan w t e after idles o = inr (o, λ p h. absurd cc)
@@ -74,7 +74,7 @@ entry_before plan w t e after (moves at none out) p c h = inl h
 
 -- ---- runs
 
--- no step of the thread behind the one and before the other ends a section
+-- no step of the thread after the one and before the other ends a section
 abbrev NoneEndsBetween : Plan → World → List ℕ → ℕ → ℕ → ℕ → Type 0
 NoneEndsBetween plan w steps t b e =
     (k q : ℕ) → b < k → k < e → slice_get steps k ≡ Some t → slice_get (events plan w steps) k ≡ Some (Ended q) → ⊥

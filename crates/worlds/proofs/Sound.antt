@@ -1,4 +1,4 @@
--- What a change of one thread needs to keep a world sound.
+-- Sufficient conditions for a change of one thread to keep a world sound.
 use Rattle.std.proofs.Common.{◌≡◌, ◌⊎◌, ℕ, true, List, length, Option, Some, None, slice_get, set, sym, ap, ◌∙◌, inl}
 use Rattle.std.proofs.Common.{inr}
 use Rattle.std.proofs.lemmas.Bool.{cases_eq}

@@ -279,7 +279,7 @@ sound_ends laws plan w t thread a outcome ok s at out =
             | inr h ↦ absurd (let bad : None ≡ Some h.0 = sym back.0 ∙ h.1 in cc bad)
           ]);
     }) where
-      -- what was read is held
+      -- each cell that was read is held
       read_held : (x : Activation) → IsWell plan x → (cell : ℕ) (v : Value) →
           value_at x.machine.memory.reads cell ≡ Some v → HoldsCell x cell
       read_held x well cell v h = elim (some_or_none (value_at x.machine.memory.writes cell)) [

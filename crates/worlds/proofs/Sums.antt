@@ -1,4 +1,4 @@
--- Locks that paths name, each its own, have no more cells together than the paths may name.
+-- Locks that paths name, each path its own, have together at most as many cells as the paths may name.
 use Rattle.std.proofs.Common.{◌≡◌, ℕ, zero, suc, ◌+◌, ◌≤◌, max, Bool, true, false, List, [], ◌∷◌, length, map, set}
 use Rattle.std.proofs.Common.{Option, Some, None, refl, sym, ap, ◌∙◌, subst, arith}
 use Rattle.std.specs.Prelude.{◌≢◌, ◌==◌, slice_get, if◌then◌else◌}
@@ -38,7 +38,8 @@ without_one (x ∷ ns) (suc i) n h = let rest = without_one ns i n h in omega (a
 distinct_rest : {X : Type 0} (x : X) (xs : List X) → AllPairs ◌≢◌ (x ∷ xs) → AllPairs ◌≢◌ xs
 distinct_rest x xs d i j z lt b = d (suc i) (suc j) z (omega (arith, lt)) (omega (arith, b))
 
--- each item has a number of its own, under which stands no less than its weight: so all weigh no more than what stands there
+-- each item has a number of its own, whose entry is at least the item's weight. Hence the sum of the weights is at most
+-- that of the entries
 module _ {X : Type 0} (weight : X → ℕ) (HasNumber : ℕ → X → Type 0) (one : (i : ℕ) (x y : X) → HasNumber i x → HasNumber i y → x ≡ y) where
   pub record HasPlace (ns : List ℕ) (x : X) : Type 0 where
     pub number : ℕ

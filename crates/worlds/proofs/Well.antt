@@ -1,4 +1,4 @@
--- What an open section carries by itself stays true along its own steps.
+-- The properties that an open section has by itself hold along its own steps.
 use Rattle.std.proofs.Common.{◌≡◌, ◌<◌, ℕ, zero, suc, true, List, [], ◌∷◌, length, map, Option, Some, None, slice_get}
 use Rattle.std.proofs.Common.{refl, sym, ap, ◌∙◌, arith, inl, inr, true≢false}
 use Rattle.std.proofs.lemmas.List.{length-map}
@@ -87,7 +87,7 @@ covered plan ok a w heap n cell v h =
     let same = cells_are plan ok in
     omega (arith, less, same, n)
 
--- where the section stands, alone
+-- the state of the section, alone
 there : (plan : Plan) (a : Activation) (w : IsWell plan a) (heap : List Value) → a.outcome ≡ None →
     length heap ≡ length plan.layout.opening →
     Agrees heap a.machine.memory.reads →

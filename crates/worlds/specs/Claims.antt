@@ -1,4 +1,4 @@
--- What is claimed of every run.
+-- The claims about every run.
 use Rattle.std.specs.Prelude.{◌≡◌, ◌↔◌, ◌<◌, ◌≤◌, ℕ, ◌+◌, ◌==◌, if◌then◌else◌, List, [], ◌∷◌, length, map, take}
 use Rattle.std.specs.Prelude.{slice_get, Some, None, ⊤}
 use Rattle.std.specs.List.{Contains}
@@ -32,7 +32,7 @@ abbrev pub calls_by : ℕ → List Commit → List Scheduled
 calls_by t [] = []
 calls_by t (c ∷ cs) = if c.thread == t then script_call c ∷ calls_by t cs else calls_by t cs
 
--- the calls of a thread's script; the first has this number
+-- the calls of a thread's script, numbered from this one on
 abbrev pub numbered : ℕ → ℕ → List Invocation → List Scheduled
 numbered t step [] = []
 numbered t step (call ∷ calls) = record { thread = t; step = step; call = call } ∷ numbered t (step + 1) calls
@@ -49,9 +49,9 @@ pub record IsSectionRun (plan : Plan) (steps : List ℕ) (t begin end position :
 
 -- ---- the rules of locking
 
--- no two sections hold one lock, and none holds one twice; a section has just the cells of the locks that it holds; what
--- it read is what the history leaves, and its cells hold that with its writes made; each lock that a section is to be
--- granted next comes after all that it holds; and the history is legal, its entries true
+-- no two sections hold one lock, and none holds one twice. A section has exactly the cells of the locks that it holds.
+-- What it read is what the history leaves, and its cells have that with its writes made. Each lock that a section is to
+-- be granted next comes after all that it holds. The history is legal, and its entries are true
 pub record KeepsTheRules (plan : Plan) (w : World) : Type 0 where
   pub one_holder : (t u : ℕ) (a b : Activation) (lock : Lock) → HasOpen w t a → HasOpen w u b →
       Contains a.held lock → Contains b.held lock → t ≡ u
@@ -64,53 +64,53 @@ pub record KeepsTheRules (plan : Plan) (w : World) : Type 0 where
   pub legal : IsLegal plan.layout.opening w.history
   pub true_entries : AreTrue plan.program w.history
 
--- so it is in each world that a compiled program reaches
+-- this holds in each world that a compiled program reaches
 abbrev pub EveryWorldKeepsTheRules : Type 0
 EveryWorldKeepsTheRules = (plan : Plan) (steps : List ℕ) → IsCompiled plan → KeepsTheRules plan (final plan steps)
 
 -- ---- the headline
 
--- the history's calls, run whole one after another from the opening cells, end and print as the history says, and
--- leave this heap: as calls of the program that was accepted, whose helpers are not written out
+-- the history's calls, run serially from the initial cells, end and print as the history says, and leave this heap: as
+-- calls of the accepted program, whose helpers are not expanded
 abbrev pub IsSerial : Plan → World → List Value → Type 0
 IsSerial plan w heap = SerialFromOpening plan.accepted (map call_of w.history) (map answer_of w.history) heap
 
--- each entry is of a call of its thread's script
+-- each entry is for a call of its thread's script
 abbrev pub AreOfScripts : Plan → List Commit → Type 0
 AreOfScripts plan [] = ⊤
 AreOfScripts plan (c ∷ cs) = ((k : ℕ) × (call_at plan c.thread k ≡ Some (call_of c))) × AreOfScripts plan cs
 
--- such calls, run whole one after another on what is compiled, run so on the program that was accepted
+-- such calls, run serially on the compiled program, run in the same way on the accepted one
 abbrev pub OfScriptsRunAlike : Type 0
 OfScriptsRunAlike =
     (plan : Plan) (cs : List Commit) (heap : List Value) → IsCompiled plan → AreOfScripts plan cs →
     SerialFromOpening plan.program (map call_of cs) (map answer_of cs) heap →
     SerialFromOpening plan.accepted (map call_of cs) (map answer_of cs) heap
 
--- a cell that no section holds has the value that the heap has there
+-- a cell that no section holds has its value in the heap
 abbrev pub FreeCellsAre : World → List Value → Type 0
 FreeCellsAre w heap = (cell : ℕ) (v : Value) → slice_get w.cells cell ≡ Some (Some v) → slice_get heap cell ≡ Some v
 
--- a cell has no value exactly where a section holds its lock
+-- a cell has no value exactly if a section holds its lock
 abbrev pub HeldCellsAre : Plan → World → Type 0
 HeldCellsAre plan w =
     (cell : ℕ) (lock : Lock) → lock_of_cell plan.program cell ≡ Some lock →
     (slice_get w.cells cell ≡ Some None) ↔ IsHeld w lock
 
--- a section that ended before another began stands before it
+-- a section that ended before another began comes before it
 abbrev pub EndsInOrder : Plan → List ℕ → Type 0
 EndsInOrder plan steps =
     (u b c e p q : ℕ) → slice_get (trace plan steps) b ≡ Some (Ended p) → IsSectionRun plan steps u c e q → b < c → p < q
 
--- each end is that of a section's run, and so is each entry of the history
+-- each end belongs to a section's run, and so does each entry of the history
 pub record EndsAreRuns (plan : Plan) (steps : List ℕ) : Type 0 where
   pub has_begun : (t end position : ℕ) → slice_get steps end ≡ Some t →
       slice_get (trace plan steps) end ≡ Some (Ended position) → (begin : ℕ) × IsSectionRun plan steps t begin end position
   pub has_ended : (position : ℕ) (c : Commit) → slice_get (final plan steps).history position ≡ Some c →
       (begin : ℕ) × (end : ℕ) × IsSectionRun plan steps c.thread begin end position
 
--- the history has of each thread the first calls of its script, in order, each once, and of nobody else; and an open
--- section is of the call that is next in its thread's script
+-- the history has for each thread the first calls of its script, in order, each once, and no others; and an open
+-- section runs the next call of its thread's script
 pub record FollowsScripts (plan : Plan) (w : World) : Type 0 where
   pub calls : (t : ℕ) (thread : ThreadState) (script : List Invocation) → slice_get w.threads t ≡ Some thread →
       slice_get (scripts plan) t ≡ Some script → calls_by t w.history ≡ take thread.step (numbered t 0 script)
@@ -120,7 +120,7 @@ pub record FollowsScripts (plan : Plan) (w : World) : Type 0 where
   pub nobody_else : (position : ℕ) (c : Commit) → slice_get w.history position ≡ Some c →
       c.thread < length (scripts plan)
 
--- at its position stands an entry of the thread, which notes how long the history was when the section began
+-- the history has an entry of the thread at this position, with the length of the history at the section's begin
 pub record HasEntry (plan : Plan) (steps : List ℕ) (t begin position : ℕ) : Type 0 where
   pub entry : Commit
   pub there : slice_get (final plan steps).history position ≡ Some entry
@@ -132,13 +132,13 @@ pub record HasEntry (plan : Plan) (steps : List ℕ) (t begin position : ℕ) : 
 abbrev pub HaveEntries : Plan → List ℕ → Type 0
 HaveEntries plan steps = (t b e p : ℕ) → IsSectionRun plan steps t b e p → HasEntry plan steps t b p
 
--- of every list of steps: the finished sections' results and prints, and every cell that no section holds, are those
--- of running the history's sections whole, one after another, from the opening cells; a section that ended before
--- another began stands before it; the entries are those of the sections that began and ended, each where it ended, with
--- what is noted of its begin; each thread's are the first calls of its script, in order, and its open section is of the
--- next. And in each world on the way: the cells that are away are those of the locks held; sections keep the rules of
--- locking; no threads wait for each other in a circle; who waits does so for another's open section; where a section is
--- open, some open section goes on; and each open section's next instruction has its case
+-- a claim about every list of steps. The results and prints of the finished sections, and every cell that no section
+-- holds, are those of a serial run of the history's sections from the initial cells. A section that ended before
+-- another began comes before it. The entries are those of the sections that began and ended, each where it ended, with
+-- a note of its begin. Those of each thread are the first calls of its script, in order, and its open section is the
+-- next one. In each world on the way, the cells that are away are those of the locks held, sections keep the rules of
+-- locking, no threads wait for each other in a cycle, and a thread that waits does so for another's open section. If a
+-- section is open, some open section goes on. The next instruction of each open section has its case
 pub record Headline (plan : Plan) (steps : List ℕ) : Type 0 where
   pub heap : List Value
   pub results_and_prints : IsSerial plan (final plan steps) heap

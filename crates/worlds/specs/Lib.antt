@@ -4,7 +4,7 @@ pub mod Claims
 pub mod Waiting
 pub mod Working
 pub mod Theory
--- what the public clauses cite
+-- the definitions that public clauses cite
 pub use Rattle.worlds.specs.Worlds.{World, ThreadState, Activation, happens, final, trace}
 pub use Rattle.worlds.specs.Claims.{Headline, EveryRunHasIt, KeepsTheRules, EveryWorldKeepsTheRules, OfScriptsRunAlike}
 pub use Rattle.worlds.specs.Working.States.{IsSound, OpeningIsSound, StepsKeepSound}

@@ -1,4 +1,5 @@
--- Who waits for whom in a world, who goes on, and that next instructions have their case.
+-- Waiting in a world: which thread waits for which, that some thread goes on, and that each next instruction has its
+-- case.
 use Rattle.std.specs.Prelude.{◌≡◌, ◌≢◌, ◌≤◌, ℕ, Bool, true, false, List, [], ◌∷◌, length, map, slice_get, Option}
 use Rattle.std.specs.Prelude.{Some, None, ⊤}
 use Rattle.std.specs.List.{Contains}
@@ -19,30 +20,32 @@ first_if true (lock ∷ rest) = Some lock
 first_if true [] = None
 first_if false locks = None
 
--- what a thread holds, and what it asked for and wasn't granted yet
+-- the locks that a thread holds, and the one that it has asked for and not been granted yet
 abbrev pub asker_of : Option Activation → Asker
 asker_of None = record { held = []; ask = None }
 asker_of (Some a) = record { held = a.held; ask = first_if a.asked a.pending }
 
+-- the asker of a thread
 abbrev pub asker : ThreadState → Asker
 asker thread = asker_of thread.active
 
--- no threads wait for each other in a circle
+-- no threads wait for each other in a cycle
 abbrev pub NobodyWaitsInACircle : World → Type 0
 NobodyWaitsInACircle w = HasNoCycle (map asker w.threads)
 
+-- the event is not a wait
 abbrev pub IsNoWait : Event → Type 0
 IsNoWait (Waits lock h) = ⊥
 IsNoWait _ = ⊤
 
--- where a section is open, the next step of some open section is no wait
+-- if a section is open, the next step of some open section is not a wait
 abbrev pub SomeoneGoesOn : Plan → World → Type 0
 SomeoneGoesOn plan w =
     (t : ℕ) (a : Activation) → HasOpen w t a →
     (u : ℕ) × (b : Activation) × HasOpen w u b × IsNoWait (happens plan w u).0
 
--- a thread's step was to ask for a lock and not to be granted it: another thread's open section holds the lock, and it
--- is the first that the thread's own section is to be granted, asked for now
+-- a thread's step asked for a lock and was not granted it: another thread's open section holds the lock, and it is the
+-- first that the thread's own section is to be granted, and is now asked for
 pub record IsWait (plan : Plan) (w : World) (t : ℕ) (lock : Lock) (h : ℕ) : Type 0 where
   pub another : h ≢ t
   pub holder : Activation
@@ -53,7 +56,7 @@ pub record IsWait (plan : Plan) (w : World) (t : ℕ) (lock : Lock) (h : ℕ) : 
   pub first : slice_get waiter.pending 0 ≡ Some lock
   pub asked : waiter.asked ≡ true
 
--- so it is wherever a step's event says so
+-- each step whose event is a wait is such a wait
 abbrev pub WaitsAreForHolders : Plan → World → Type 0
 WaitsAreForHolders plan w =
     (t : ℕ) (lock : Lock) (h : ℕ) → (happens plan w t).0 ≡ Waits lock h → IsWait plan w t lock h
@@ -64,15 +67,15 @@ PendingRises ranks w =
     (t : ℕ) (a : Activation) (lock other : Lock) (rest : List Lock) → HasOpen w t a → a.pending ≡ lock ∷ rest →
     Contains a.held other → Precedes ranks other lock
 
--- where pending locks rise, nobody waits in a circle
+-- if pending locks rise, no threads wait in a cycle
 abbrev pub RisingHasNoCycle : Type 0
 RisingHasNoCycle = (ranks : List ℕ) (w : World) → PendingRises ranks w → NobodyWaitsInACircle w
 
--- who waits does so for another's open section
+-- if pending locks rise, a thread that waits does so for another's open section
 abbrev pub RisingWaitsForHolders : Type 0
 RisingWaitsForHolders = (plan : Plan) (w : World) → PendingRises plan.ranks w → WaitsAreForHolders plan w
 
--- and someone goes on
+-- if pending locks rise and a section is open, some open section goes on
 abbrev pub RisingGoesOn : Type 0
 RisingGoesOn = (plan : Plan) (w : World) → PendingRises plan.ranks w → SomeoneGoesOn plan w
 
@@ -85,10 +88,10 @@ pub record HasNext (plan : Plan) (a : Activation) : Type 0 where
   pub defined : next_effect plan a ≢ Undefined
   pub fits : length a.machine.stack ≤ operand_need section
 
--- so it is with each open section that has no pending lock and no outcome
+-- this holds of each open section that has no pending lock and no outcome
 abbrev pub AllHaveNext : Plan → World → Type 0
 AllHaveNext plan w = (t : ℕ) (a : Activation) → HasOpen w t a → a.pending ≡ [] → a.outcome ≡ None → HasNext plan a
 
--- in every world that is reached
+-- this holds in every world that is reached
 abbrev pub InstructionsHaveTheirCase : Type 0
 InstructionsHaveTheirCase = (plan : Plan) (steps : List ℕ) → IsCompiled plan → AllHaveNext plan (final plan steps)

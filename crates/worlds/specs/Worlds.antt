@@ -22,11 +22,11 @@ use Rattle.worlds.specs.declared.event.Event.TheVariants as event
 use Rattle.worlds.specs.Asking.{to_ask}
 use Rattle.locks.specs.Locks.{among}
 
--- ---- what there is
+-- ---- the state
 
--- an open section: its call, how long the history was when it began, its machine over the cells that it holds, the
--- locks that it holds, the oldest first, the locks that it is still to be granted, whether it asked for the first of
--- them, and its outcome
+-- an open section: its call, the length of the history at its begin, its machine over the cells that it holds, the
+-- locks that it holds, the oldest first, the locks that it is still to be granted, whether it has asked for the first
+-- of them, and its outcome
 pub record Activation : Type 0 where
   pub call : Invocation
   pub begun : ℕ
@@ -36,32 +36,33 @@ pub record Activation : Type 0 where
   pub asked : Bool
   pub outcome : Option Outcome
 
--- a thread: the number of its next call, or of that of its open section
+-- a thread: the number of its next call or of its open section's call
 pub record ThreadState : Type 0 where
   pub step : ℕ
   pub active : Option Activation
 
--- what each cell holds, but for those that sections hold; the history; and the threads
+-- the value of each cell that no section holds, the history, and the threads
 pub record World : Type 0 where
   pub cells : List (Option Value)
   pub history : List Commit
   pub threads : List ThreadState
 
--- the section that a thread has open
+-- the open section of a thread
 abbrev pub HasOpen : World → ℕ → Activation → Type 0
 HasOpen w t a = (thread : ThreadState) × (slice_get w.threads t ≡ Some thread) × (thread.active ≡ Some a)
 
 -- ---- reading a plan
 
+-- the section of this number
 abbrev pub section_at : Plan → ℕ → Option Section
 section_at plan k = slice_get plan.program.sections.items k
 
--- the code of the section of a number
+-- the code of the section of this number
 abbrev pub code_at : Plan → ℕ → List Instr
 code_at plan k =
     option_map_or (λ (section : Section). section_code (lists_at plan.lists k) section) (section_at plan k) []
 
--- what its locals hold where it begins
+-- the initial locals of a call
 abbrev pub locals_at : Plan → Invocation → List Value
 locals_at plan call =
     option_map_or (λ (section : Section). (opening section call.arguments []).locals) (section_at plan call.section) []
@@ -80,39 +81,41 @@ script_of thread = map invocation thread.calls.items
 abbrev pub scripts : Plan → List (List Invocation)
 scripts plan = map script_of plan.program.threads.items
 
+-- the call with this number in the thread's script
 abbrev pub call_at : Plan → ℕ → ℕ → Option Invocation
 call_at plan t step =
     option_map_or (λ (calls : List Invocation). slice_get calls step) (slice_get (scripts plan) t) None
 
 -- ---- moving cells
 
--- a cell with its value, where it is, in front of others
+-- a cell with its value, if it has one, before others
 abbrev pub with_taken : ℕ → Option (Option Value) → List (ℕ × Value) → List (ℕ × Value)
 with_taken cell (Some (Some v)) others = (cell, v) ∷ others
 with_taken cell (Some None) others = others
 with_taken cell None others = others
 
--- cells with their values, where they are
+-- these cells with their values, if they have them
 abbrev pub taken : List (Option Value) → List ℕ → List (ℕ × Value)
 taken cells [] = []
 taken cells (c ∷ cs) = with_taken c (slice_get cells c) (taken cells cs)
 
--- without these cells
+-- the cells without these
 abbrev pub without : List (Option Value) → List ℕ → List (Option Value)
 without cells [] = cells
 without cells (c ∷ cs) = slice_set (without cells cs) c None
 
--- with these cells back, as they are
+-- the cells with these put back, with their values
 abbrev pub with_back : List (Option Value) → List (ℕ × Value) → List (Option Value)
 with_back cells [] = cells
 with_back cells (c ∷ cs) = slice_set (with_back cells cs) c.0 (Some c.1)
 
 -- ---- changing a world
 
+-- the world with a changed thread
 abbrev pub with_thread : World → ℕ → ThreadState → World
 with_thread w t thread = record w { threads = slice_set w.threads t thread }
 
--- with the thread's section as it is now
+-- the world with the thread's changed section
 abbrev pub with_active : World → ℕ → ThreadState → Activation → World
 with_active w t thread a = with_thread w t (record { step = thread.step; active = Some a })
 
@@ -128,7 +131,7 @@ activation plan begun call = record {
   outcome = None;
 }
 
--- whether a section is open and holds the lock
+-- the thread has an open section that holds the lock
 abbrev pub holds : Lock → ThreadState → Bool
 holds lock thread = option_map_or (λ (a : Activation). among a.held lock) thread.active false
 
@@ -137,17 +140,18 @@ abbrev pub holder_from : ℕ → List ThreadState → Lock → Option ℕ
 holder_from t [] lock = None
 holder_from t (thread ∷ threads) lock = if holds lock thread then Some t else holder_from (t + 1) threads lock
 
+-- the thread that holds a lock in the world
 abbrev pub holder : World → Lock → Option ℕ
 holder w lock = holder_from 0 w.threads lock
 
 -- ---- the six kinds of step
 
--- no section open: the next call begins, if one is left
+-- without an open section, the next call begins, if there is one
 abbrev pub begins : Plan → World → ℕ → ThreadState → Option Invocation → Event × World
 begins plan w t thread None = (event.Idle, w)
 begins plan w t thread (Some call) = (event.Began, with_active w t thread (activation plan (length w.history) call))
 
--- the section with a lock, and its cells, granted
+-- the section with a lock and its cells granted
 abbrev pub granted : Activation → Lock → List Lock → List (ℕ × Value) → Activation
 granted a lock rest values =
     let m = a.machine in
@@ -158,7 +162,8 @@ granted a lock rest values =
       asked = false;
     }
 
--- a pending lock: it is granted, and its cells move, where no thread holds it; else it is only asked for
+-- a step of a section with a pending lock: if no thread holds the lock, it is granted, and its cells move to the
+-- section; else it is only asked for
 abbrev pub asks : Plan → World → ℕ → ThreadState → Activation → Lock → List Lock → Option ℕ → Event × World
 asks plan w t thread a lock rest None =
     let cells = cells_of plan.layout.cell_locks lock in
@@ -166,7 +171,7 @@ asks plan w t thread a lock rest None =
     (event.Got lock, record next { cells = without w.cells cells })
 asks plan w t thread a lock rest (Some h) = (event.Waits lock h, with_active w t thread (record a { asked = true }))
 
--- what goes into the history
+-- the entry in the history
 abbrev pub commit : ℕ → ℕ → Activation → Outcome → Commit
 commit t step a outcome = record {
   thread = t;
@@ -180,7 +185,7 @@ commit t step a outcome = record {
   prints = a.machine.prints;
 }
 
--- an outcome: all locks and cells go back, and the section goes last into the history
+-- an outcome: all locks and cells are given back, and the section's entry is appended to the history
 abbrev pub ends : World → ℕ → ThreadState → Activation → Outcome → Event × World
 ends w t thread a outcome = (
   event.Ended (length w.history),
@@ -191,7 +196,7 @@ ends w t thread a outcome = (
   },
 )
 
--- what the section's next instruction does
+-- the effect of the section's next instruction
 abbrev pub next_effect : Plan → Activation → Effect HeldCells
 next_effect plan a =
     act load_held store_held plan.program.shape (slice_get (code_at plan a.call.section) a.machine.place) a.machine
@@ -205,21 +210,23 @@ instructed plan a (Asks point) =
 instructed plan a (Finishes outcome) = record a { outcome = Some outcome }
 instructed plan a Undefined = a
 
--- an open section: a pending lock goes first, then an outcome, then an instruction
+-- an open section: a pending lock comes first, then an outcome, then an instruction
 abbrev pub goes_on : Plan → World → ℕ → ThreadState → Activation → List Lock → Option Outcome → Event × World
 goes_on plan w t thread a (lock ∷ rest) outcome = asks plan w t thread a lock rest (holder w lock)
 goes_on plan w t thread a [] (Some outcome) = ends w t thread a outcome
 goes_on plan w t thread a [] None = (event.Moved, with_active w t thread (instructed plan a (next_effect plan a)))
 
+-- a step of a thread with this open section, or with none
 abbrev pub steps_with : Plan → World → ℕ → ThreadState → Option Activation → Event × World
 steps_with plan w t thread None = begins plan w t thread (call_at plan t thread.step)
 steps_with plan w t thread (Some a) = goes_on plan w t thread a a.pending a.outcome
 
+-- a step of a thread; a step of an unknown thread is `Idle`
 abbrev pub thread_steps : Plan → World → ℕ → Option ThreadState → Event × World
 thread_steps plan w t None = (event.Idle, w)
 thread_steps plan w t (Some thread) = steps_with plan w t thread thread.active
 
--- what a step of a thread does: its event, and the world after it
+-- a step of a thread: its event, and the world after it
 abbrev pub happens : Plan → World → ℕ → Event × World
 happens plan w t = thread_steps plan w t (slice_get w.threads t)
 
@@ -229,7 +236,7 @@ happens plan w t = thread_steps plan w t (slice_get w.threads t)
 abbrev pub at_first : List Invocation → ThreadState
 at_first script = record { step = 0; active = None }
 
--- before any step: all cells with their opening values, no history, and no section open
+-- the world before any step: all cells with their initial values, no history, and no section open
 abbrev pub opening_world : Plan → World
 opening_world plan = record {
   cells = map (λ (v : Value). Some v) plan.layout.opening;
@@ -247,9 +254,10 @@ abbrev pub events : Plan → World → List ℕ → List Event
 events plan w [] = []
 events plan w (t ∷ ts) = (happens plan w t).0 ∷ events plan (happens plan w t).1 ts
 
--- the same from the opening world
+-- the world after these steps from the opening world
 abbrev pub final : Plan → List ℕ → World
 final plan ts = world_after plan (opening_world plan) ts
 
+-- the events of these steps from the opening world
 abbrev pub trace : Plan → List ℕ → List Event
 trace plan ts = events plan (opening_world plan) ts

@@ -1,20 +1,20 @@
-//! What one step of a thread was.
+//! The event of one step of a thread.
 
 use locks::lock::Lock;
 
-/// What one step of a thread was.
+/// The event of one step of a thread.
 #[derive(Clone, Copy, PartialEq, Eq, Debug)]
 pub enum Event {
-    /// Nothing: no section is open, and no call is left.
+    /// Nothing: it has no open section and no further call.
     Idle,
     /// Its next call began.
     Began,
     /// It was granted a lock.
     Got(Lock),
-    /// A thread holds the lock that it asked for.
+    /// The given thread holds the lock that it asked for.
     Waits(Lock, u32),
-    /// One instruction.
+    /// It ran one instruction.
     Moved,
-    /// Its section ended, with this position in the history.
+    /// Its section ended, and its entry has this index in the history.
     Ended(usize),
 }

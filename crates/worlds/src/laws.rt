@@ -1,4 +1,4 @@
-//! What holds of every run: functions that do nothing, and whose contracts are the laws.
+//! Laws of every run: functions that do nothing, and whose contracts are the laws.
 
 ghost use Rattle.worlds.specs.Claims.{EveryRunHasIt, EveryWorldKeepsTheRules, OfScriptsRunAlike};
 ghost use Rattle.worlds.specs.Waiting.{RisingHasNoCycle, RisingWaitsForHolders, RisingGoesOn, InstructionsHaveTheirCase};
@@ -7,8 +7,9 @@ ghost use Rattle.worlds.specs.Working.States.{OpeningIsSound, StepsKeepSound};
 ghost use Rattle.worlds.specs.Working.Ahead.{WorldsStayReady};
 ghost use Rattle.worlds.specs.Working.InOrder.{SectionsStayInOrder};
 
-/// Before any step a world is sound, and each step of a thread of a compiled program keeps it so: its history is legal and true, each open
-/// section keeps the rules, and each cell is either as the history leaves it or with exactly one section.
+/// A law: before any step a world is sound, and each step of a thread of a compiled program keeps it so. Its history is
+/// legal and true, each open section keeps the rules, and each cell is either as the history leaves it or with exactly
+/// one section.
 pub fn steps_keep_sound()
     ensures opening { OpeningIsSound }
     ensures step { StepsKeepSound }
@@ -19,10 +20,10 @@ pub fn steps_keep_sound()
     history::laws::one_entry_more();
 }
 
-/// Before any step a world is ready, and each step of a thread of a compiled program keeps a sound world so: what its history leaves is a
-/// heap of the program, and each open section runs on to an outcome or to a point, or asks for the locks of one. In a
-/// ready world each lock that a section is to be granted next comes after all that it holds; and where it is sound too,
-/// the next instruction of each open section has its case.
+/// A law: before any step a world is ready, and each step of a thread of a compiled program keeps a sound world ready.
+/// What its history leaves is a heap of the program, and each open section runs on to an outcome or to a point, or asks
+/// for the locks of one. In a ready world each lock that a section is to be granted next comes after all that it holds;
+/// if it is sound too, the next instruction of each open section has its case.
 pub fn worlds_stay_ready()
     ensures { WorldsStayReady }
 {
@@ -42,10 +43,10 @@ pub fn worlds_stay_ready()
     locks_are_asked_in_turn();
 }
 
-/// An open section keeps the rules and can go on, by itself: from the begin of a call that fits, by each instruction, which
-/// has its case, and by each lock that it is granted with its cells. A lock that it is to be granted next comes after all
-/// that it holds; where locks are pending, all of these are locks of the program and fit the section's room; and where it
-/// has an outcome, its entry is true.
+/// A law: an open section keeps the rules and can go on, by itself: from the begin of a call that fits, by each
+/// instruction, which has its case, and by each lock that it is granted with its cells. A lock that it is to be granted
+/// next comes after all that it holds. Pending locks are locks of the program and fit the section's room. If the
+/// section has an outcome, its entry is true.
 pub fn sections_stay_in_order()
     ensures { SectionsStayInOrder }
 {
@@ -68,13 +69,13 @@ pub fn sections_stay_in_order()
     locks_are_asked_in_turn();
 }
 
-/// Every run of a compiled program, whatever the steps: its finished sections' results and prints, and every cell that
-/// no section holds, are those of running these sections whole, one after another, from the opening cells; a section
-/// that ended before another began stands before it; each thread's finished sections are the first calls of its script,
-/// in order, and its open one is the next; where a section ended stands an entry of its thread. And in each world on the
-/// way sections keep the rules of locking, no threads wait for each other in a circle, who waits does so for another's
-/// open section, where a section is open the next step of some open section is no wait, and each open section's next
-/// instruction has its case.
+/// A law about every run of a compiled program, whatever the steps. The results and prints of its finished sections,
+/// and every cell that no section holds, are those of a serial run of these sections from the initial cells. A section
+/// that ended before another began comes before it. The finished sections of each thread are the first calls of its
+/// script, in order, and its open section is the next one. Each end has an entry of its thread. In each world on the
+/// way, sections keep the rules of locking, no threads wait for each other in a cycle, and a thread that waits does so
+/// for another's open section. If a section is open, the next step of some open section is not a wait. The next
+/// instruction of each open section has its case.
 pub fn every_run()
     ensures { EveryRunHasIt }
 {
@@ -86,18 +87,18 @@ pub fn every_run()
     locks::laws::precedes_is_strict();
 }
 
-/// Calls of scripts that are run whole one after another on what is compiled run so on the program that was accepted, whose
-/// helpers are not written out.
+/// A law: calls of scripts that run serially on the compiled program run in the same way on the accepted one, whose
+/// helpers are not expanded.
 pub fn of_scripts_run_alike()
     ensures { OfScriptsRunAlike }
 {
     lowering::laws::compiled_run_alike();
 }
 
-/// In every world that a compiled program reaches: no two sections hold one lock, and none holds one twice; a section has
-/// just the cells of the locks that it holds; what it read is what the history leaves, and its cells hold that with its
-/// writes made; each lock that it is to be granted next comes after all that it holds; and the history is legal, its
-/// entries true.
+/// A law: in every world that a compiled program reaches, no two sections hold one lock, and none holds one twice. A
+/// section has exactly the cells of the locks that it holds. What it read is what the history leaves, and its cells
+/// have that with its writes made. Each lock that it is to be granted next comes after all that it holds. The history
+/// is legal, and its entries are true.
 pub fn sections_keep_the_rules()
     ensures { EveryWorldKeepsTheRules }
 {
@@ -106,8 +107,9 @@ pub fn sections_keep_the_rules()
     locks::laws::precedes_is_strict();
 }
 
-/// In every world that a compiled program reaches, the next instruction of an open section has its case, and its operands
-/// fit the room that the section's code needs; unless the section still has to be granted a lock, or has an outcome.
+/// A law: in every world that a compiled program reaches, the next instruction of an open section has its case, and its
+/// operands fit the room that the section's code needs, unless the section still has to be granted a lock, or has an
+/// outcome.
 pub fn instructions_have_their_case()
     ensures { InstructionsHaveTheirCase }
 {
@@ -115,9 +117,9 @@ pub fn instructions_have_their_case()
     worlds_stay_ready();
 }
 
-/// In a world where each lock that a section is to be granted next comes after all that it holds, nobody waits in a
-/// circle; who waits does so for the open section of another; and where a section is open, the next step of some open
-/// section is no wait.
+/// A law: in a world where each lock that a section is to be granted next comes after all that it holds, no threads
+/// wait in a cycle. A thread that waits does so for the open section of another. If a section is open, the next step of
+/// some open section is not a wait.
 pub fn rising_sections_go_on()
     ensures no_cycle { RisingHasNoCycle }
     ensures waits { RisingWaitsForHolders }
@@ -127,8 +129,8 @@ pub fn rising_sections_go_on()
     locks::laws::precedes_is_strict();
 }
 
-/// What a run of a section asks for before a point rises behind what it holds, lock after lock; and once all of it is
-/// granted, the run is still at that point and holds each lock that is listed there.
+/// A law: the locks that a run of a section asks for before a point come after those that it holds, one after another.
+/// Once all are granted, the run is still at that point and holds each lock that is listed there.
 pub fn locks_are_asked_in_turn()
     ensures { AskedInTurn }
 {

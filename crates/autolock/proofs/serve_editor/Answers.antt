@@ -4,8 +4,8 @@ use Rattle.driver.specs.{Tells, cannot_read, cannot_write, no_memory}
 use Rattle.driver.specs.Editors.{status_for, message_for}
 use Rattle.driver.specs.declared.status.Status.TheVariants as status
 use Rattle.driver.specs.declared.streams.Streams.{Streams}
-use Rattle.lsp_loop.specs.declared.serving.End.{End}
-use Rattle.lsp_loop.specs.declared.serving.End.TheVariants.{Exit, Input, Unread, Unwritten, OutOfMemory}
+use Rattle.lsp_protocol.specs.declared.serving.End.{End}
+use Rattle.lsp_protocol.specs.declared.serving.End.TheVariants.{Exit, Input, Unread, Unwritten, OutOfMemory}
 use Rattle.autolock.proofs.serve_editor.Goals as goal
 
 no_words : (end : End) → status_for end ≢ status.BadWords

@@ -21,7 +21,7 @@ pub or_none : (b : Bool) → b ≡ (b || false)
 or_none true = refl
 or_none false = refl
 
--- with one more bit of a number of so many bits
+-- the bits of a number after one more bit of its width is set
 pub bit_with : (w : Width) (n k : ℕ) → k < bits w → (j : ℕ) →
     bit (bit_or n (1 * 2 ^ k % 2 ^ bits w)) j ≡ (bit n j || (j == k))
 bit_with w n k h j =

@@ -1,4 +1,4 @@
--- The texts of instructions, of values of the code. Nobody has to believe these.
+-- The texts of instructions, as values of the code have them. Nobody has to believe these.
 use Rattle.std.specs.Prelude.{◌≡◌, ℕ, List, map, Option}
 use Rattle.core_lang.specs.declared.typed.Typed.{Typed}
 use Rattle.locks.specs.LockPaths.{LockPath, lock_path_of}
@@ -7,7 +7,7 @@ use Rattle.code.specs.declared.listed.Listed.{Listed}
 use Rattle.code.specs.Listing.{text_at}
 use Rattle.code.specs.Working.Asked.{lists_of}
 use Rattle.c_language.specs.declared.statement.Statement.{Statement}
-use Rattle.c_groups.specs.Plans.{IsPlan, plan}
+use Rattle.c_language.specs.Plans.{IsPlan, plan}
 use Rattle.c_sections.specs.declared.groups.Groups.{Groups}
 use Rattle.c_sections.specs.declared.instructions.InstructionLines.{InstructionLines}
 use Rattle.c_sections.specs.Instructions as text
@@ -36,7 +36,7 @@ pub record IsBodyOf (program : Typed) (listed : Listed) (x : InstructionLines) :
   pub section_is : x.scope.section.now ≡ listed.section.now
   pub listed_is : x.listed ≡ listed
 
--- what is known is what is known before this place
+-- the groups are those before this place
 abbrev pub IsAt : InstructionLines → ℕ → Groups → Type 0
 IsAt x place g = (codes.program_of g ≡ program_of x) × StandsAt (code_of x) place g
 
@@ -49,7 +49,7 @@ asked_of x i = text.asked_text (program_of x) x.scope.section.now (lists_of x.li
 abbrev pub group_of : InstructionLines → List Statement → List ℕ
 group_of x group = text.group_text (program_of x) x.scope.section.now (lists_of x.listed) (paths_of x) group
 
--- the instruction at a place
+-- the text of the instruction at a place
 abbrev pub instr_of : InstructionLines → ℕ → List ℕ
 instr_of x place =
     text_at (text.instr_text (program_of x) x.scope.section.now (lists_of x.listed) (paths_of x) (code_of x) place)
@@ -58,7 +58,7 @@ instr_of x place =
 abbrev pub instrs_of : InstructionLines → List ℕ
 instrs_of x = text.instrs_text (program_of x) x.scope.section.now (lists_of x.listed) (paths_of x) (code_of x)
 
--- with a text ahead of the instruction at each place
+-- the text of the instruction at a place, with its mark
 abbrev pub marked_of : InstructionLines → (ℕ → List ℕ) → ℕ → List ℕ
 marked_of x mark place =
     text_at (text.marked_instr (program_of x) x.scope.section.now (lists_of x.listed) (paths_of x) mark (code_of x) place)
@@ -70,6 +70,6 @@ all_marked x mark = text.marked_text (program_of x) x.scope.section.now (lists_o
 abbrev pub body_of : InstructionLines → Option (ℕ → List ℕ) → List ℕ
 body_of x mark = text.body_text (program_of x) x.scope.section.now (lists_of x.listed) (paths_of x) mark (code_of x)
 
--- where points begin
+-- the places where points begin
 abbrev pub begins_of : InstructionLines → List ℕ
 begins_of x = x.listed.code.now.begins.items

@@ -1,4 +1,4 @@
--- The texts of a section ahead of its instructions, of values of the code. Nobody has to believe these.
+-- The texts of a section before its instructions, as values of the code have them. Nobody has to believe these.
 use Rattle.std.specs.Prelude.{ℕ, Bool, List, length, Option}
 use Rattle.core_lang.specs.declared.tree.Local.{Local}
 use Rattle.core_lang.specs.declared.tree.Section.{Section}
@@ -6,7 +6,7 @@ use Rattle.core_lang.specs.declared.value.ValueType.{ValueType}
 use Rattle.code.specs.declared.instr.Instr.{Instr}
 use Rattle.code.specs.declared.listed.Listed.{Listed}
 use Rattle.c_language.specs.declared.statement.Temporary.{Temporary}
-use Rattle.c_groups.specs.Plans.{IsPlan, plan}
+use Rattle.c_language.specs.Plans.{IsPlan, plan}
 use Rattle.c_sections.specs.declared.names.Writer.{Writer}
 use Rattle.c_sections.specs.Sections as text
 

@@ -1,4 +1,4 @@
--- Where the code of a point ends, jumps lead to the code of a point that follows it, or to the end of the section.
+-- At the end of a point's code, jumps lead to the code of a point that follows it, or to the end of the section.
 use Rattle.std.proofs.Common.{◌≡◌, ℕ, ◌+◌, ◌-◌, List, [], ◌∷◌, ◌++◌, length, Option, Some, None, Bool, true, false}
 use Rattle.std.proofs.Common.{◌⊎◌, inl, inr, refl, sym, ◌∙◌, subst, arith, length-append}
 use Rattle.std.specs.Prelude.{slice_get}
@@ -52,7 +52,7 @@ head_action (Call f es v) r n k = refl
 head_action (Print e) r n k = refl
 
 module _ {P : Type 0} (lists : List (List P)) where
-  -- a point's own code, with what is acquired before it
+  -- a point's own code, with the acquire before it
   abbrev pub action_code : Action → ℕ → List Instr
   action_code (If' c m block) n = (acquire_code lists n ++ test_code c) ++ JumpIfFalse (length (block_code lists block (n + 1))) ∷ []
   action_code (IfElse' c m block k otherwise) n = (acquire_code lists n ++ test_code c) ++ JumpIfFalse (length (block_code lists block (n + 1)) + 1) ∷ []
@@ -63,7 +63,7 @@ module _ {P : Type 0} (lists : List (List P)) where
   point_code (statement start action) n = action_code action n
   point_code (result r) n = acquire_code lists n ++ (expr_code r.value ++ Return ∷ [])
 
-  -- where it ends; behind a condition, by whether it is true
+  -- the end of a point's code; after a condition, by its value
   abbrev pub passed_over : Bool → ℕ → ℕ
   passed_over true over = 0
   passed_over false over = over
@@ -339,7 +339,7 @@ end_at_start lists (s ∷ ss) r e = absurd (none-some 0 (sym e ∙ head_action s
 pub empty_has_end : {P : Type 0} → EmptyHasEnd P
 empty_has_end lists section e = end_at_start lists section.body.items section.result e
 
--- ---- what is acquired
+-- ---- the acquire before a point
 
 acquires_first : {P : Type 0} (lists : List (List P)) (code : List Instr) (place n : ℕ) (point : Point) →
     HasAt code place (point_code lists point n) →

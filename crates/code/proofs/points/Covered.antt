@@ -17,7 +17,7 @@ use Rattle.code.specs.Working.Seen.{Shows, IsSeen, IsAccessible, Covers}
 
 -- ---- values that are seen
 
--- where one cell is written
+-- if one cell is written
 pub shows-set : (seen seen' : ℕ → Option Value) (heap : List Value) (cell : ℕ) (old v : Value) → Shows seen heap →
     slice_get heap cell ≡ Some old →
     seen' cell ≡ Some v → ((c : ℕ) → (c ≡ cell → ⊥) → seen' c ≡ seen c) → Shows seen' (slice_set heap cell v)
@@ -71,7 +71,7 @@ pub with-same : {A B : Type 0} (r : Result A Failure) (f g : A → Result B Fail
 with-same (Ok a) f g e = e a
 with-same (Err x) f g e = refl
 
--- one more field behind others
+-- one more field after others
 pub along-append : (shape : Shape) (heap : List Value) (fs : List FieldStep) (step : FieldStep) (v : Value) →
     along shape heap v (fs ++ step ∷ []) ≡ with (along shape heap v fs) (λ o. step_value shape heap o step)
 along-append shape heap [] step v = with-Ok (step_value shape heap v step)

@@ -1,4 +1,4 @@
--- A point that can be executed leads to where its meaning says: on, to a trap, or to the end of the section.
+-- A point that can be executed leads where its meaning leads: on, to a trap, or to the end of the section.
 use Rattle.std.proofs.Common.{◌≡◌, ℕ, List, Option, Result, Ok, Err, refl}
 use Rattle.core_lang.specs.declared.value.Value.{Value}
 use Rattle.core_lang.specs.declared.value.Trap.{Trap as Cause}

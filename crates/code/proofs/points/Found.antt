@@ -1,4 +1,4 @@
--- Each point of a section is a spot of it, and each `Acquire` of its code stands at one.
+-- Each point of a section is a spot of it, and each `Acquire` of its code is at one.
 use Rattle.std.proofs.Common.{◌≡◌, ℕ, ◌+◌, List, [], ◌∷◌, ◌++◌, length, Option, Some, None, inl, inr, refl, sym, ap}
 use Rattle.std.proofs.Common.{subst, arith, append_assoc}
 use Rattle.std.specs.Prelude.{slice_get}
@@ -138,7 +138,7 @@ module _ {P : Type 0} (lists : List (List P)) (Has : Spot → Type 0) where
   abbrev IsAskedAt : ℕ → ℕ → Type 0
   IsAskedAt place p = (x : Spot) × Has x × (x.number ≡ p) × (x.place ≡ place) × (acquire_code lists p ≡ Acquire p ∷ [])
 
-  -- an instruction that acquires stands at a spot
+  -- an acquire is at a spot of the section
   abbrev AsksAt : ℕ → Instr → Type 0
   AsksAt place (Acquire p) = IsAskedAt place p
   AsksAt place _ = Unit {0}

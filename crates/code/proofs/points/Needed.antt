@@ -1,4 +1,4 @@
--- What each point of a section needs of the operand stack, the section's need has room for.
+-- The operand stack of a section has room for each of its points.
 use Rattle.std.proofs.Common.{◌≡◌, ℕ, ◌+◌, ◌≤◌, max, List, [], ◌∷◌, Option, Some, None, inl, inr, sym, subst, arith}
 use Rattle.std.proofs.Math.Nat.{le-max_left, le-max_right}
 use Rattle.core_lang.specs.declared.tree.Stmt.{Stmt}

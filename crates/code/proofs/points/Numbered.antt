@@ -1,4 +1,4 @@
--- What holds of each item of a list and its number, counted from a first one.
+-- Facts about each item of a list and its number, counted from a first one.
 use Rattle.std.proofs.Common.{◌≡◌, ℕ, zero, suc, ◌+◌, List, [], ◌∷◌, ◌++◌, length, Some, subst, arith}
 use Rattle.std.specs.Prelude.{slice_get}
 use Rattle.std.proofs.lemmas.Option.{none-some}

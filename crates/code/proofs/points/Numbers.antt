@@ -16,7 +16,7 @@ use Rattle.flow.specs.Skeletons.{block_skeleton}
 use Rattle.code.specs.Working.Spots.{Spot, spot, Inside, InBlock, InBody, InSection}
 use Rattle.code.proofs.points.Between.{count_action}
 
--- a point stands among points behind so many others
+-- a point of a list, after the given number of others
 pub record StandsAt (xs : List Point) (i : ℕ) (p : Point) : Type 0 where
   pub before : List Point
   pub behind : List Point

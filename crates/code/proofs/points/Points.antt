@@ -1,4 +1,5 @@
--- From the start of a point's own code, with its accesses covered, each instruction has its case until a point that follows it begins.
+-- From the start of a point's own code, with its accesses covered, each instruction has its case until a point that
+-- follows it begins.
 use Rattle.std.proofs.Common.{◌≡◌, ℕ, ◌+◌, ◌≤◌, List, [], ◌∷◌, ◌++◌, length, Option, Some, Bool, true, false, inl}
 use Rattle.std.proofs.Common.{inr, refl, sym, ◌∙◌, subst, arith, length-append}
 use Rattle.std.specs.Prelude.{slice_get}

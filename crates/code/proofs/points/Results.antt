@@ -1,4 +1,4 @@
--- Results and flows with a property, or with a trap that may be.
+-- Results and flows with a property, or with an allowed trap.
 use Rattle.std.proofs.Common.{◌≡◌, Result, Ok, Err, refl}
 use Rattle.core_lang.specs.declared.value.Failure.{Failure}
 use Rattle.core_lang.specs.declared.value.Failure.TheVariants.{Trap, Wrong}
@@ -7,9 +7,9 @@ use Rattle.core_lang.specs.declared.value.Outcome.TheVariants as out
 use Rattle.core_lang.specs.Cells.{with}
 use Rattle.core_lang.specs.Meaning.{State, Flow, GoesOn, Traps, Beyond, Astray, given}
 
--- over what is to be true of outcomes
+-- over a property of outcomes
 module _ (F : Outcome → Type 0) where
-  -- a result that is no failure but a trap, which may be an outcome, and that has the property
+  -- a result that is not a failure except for a trap, which may be an outcome, and that has the property
   abbrev pub Gives : {A : Type 0} → Result A Failure → (A → Type 0) → Type 0
   Gives (Ok a) P = P a
   Gives (Err (Trap t)) P = F (out.Traps t)

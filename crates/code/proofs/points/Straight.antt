@@ -1,4 +1,5 @@
--- The code of expressions, conditions and statements without blocks has its cases where the cells that their accesses reach are seen.
+-- The code of expressions, conditions and statements without blocks has its cases if the cells that their accesses
+-- reach are seen.
 use Rattle.std.proofs.Math.Nat.{le-max_left, le-max_right}
 use Rattle.std.proofs.Common.{◌≡◌, ℕ, suc, ◌+◌, ◌≤◌, List, [], ◌∷◌, ◌++◌, length, Option, Some, None, Result, Ok, Err}
 use Rattle.std.proofs.Common.{Bool, true, false, ℤ, pos, refl, sym, ap, ◌∙◌, subst, arith, length-append}
@@ -147,7 +148,7 @@ module _ {M : Type 0} (load : M → ℕ → Option (Value × M)) (store : M → 
       subst (λ x. GoesHere (if_there x (λ r. advances (record (here place old memory) { memory = r.1 }) (r.0 ∷ stack)))) (sym l.1)
       (k v e g l.0 (λ c. l.2 c ∙ s c))
 
-  -- what the fields so far lead to
+  -- the value at the end of the fields so far
   abbrev reached : ℕ → List FieldStep → Result Value Failure
   reached local base = with (found (slice_get locals local)) (λ v. along shape heap v base)
 
@@ -229,7 +230,7 @@ module _ {M : Type 0} (load : M → ℕ → Option (Value × M)) (store : M → 
   gives-chained row (Err (Trap t)) P g = subst (λ r. Gives F r P) (chained-Err row (Trap t)) g
   gives-chained row (Err Wrong) P g = subst (λ r. Gives F r P) (chained-Err row Wrong) g
 
-  -- each needs a place for what it gives
+  -- each expression needs at least one place on the stack
   needs : (e : Expr) → 1 ≤ expr_need e
   needs (Number n) = omega arith
   needs Null = omega arith
@@ -363,7 +364,7 @@ module _ {M : Type 0} (load : M → ℕ → Option (Value × M)) (store : M → 
   gives-or (Err (Trap t)) next P g = g
   gives-or (Err Wrong) next P g = g
 
-  -- an operand of && is on the stack: on where it is true, else past the others
+  -- an operand of && is on the stack: if it is true, the next place; else past the others
   and_safe : (b : Bool) (next : Result Bool Failure) (n place end : ℕ) (stack : List Value) → length stack + 1 ≤ room →
       slice_get code place ≡ Some (JumpIfFalse n) →
       place + 1 + n ≡ end → slice_get code end ≡ Some (PushNumber (pos 0)) → (Gives F next (Tells (end + 1) stack) → From (place + 1) stack) →
@@ -390,7 +391,7 @@ module _ {M : Type 0} (load : M → ℕ → Option (Value × M)) (store : M → 
   not_safe true place stack fit at k memory sees = take NotTop (here place (truth true ∷ stack) memory) (omega (arith, fit)) at (k memory sees)
   not_safe false place stack fit at k memory sees = take NotTop (here place (truth false ∷ stack) memory) (omega (arith, fit)) at (k memory sees)
 
-  -- the last operand, and a jump past the truth value behind it
+  -- the last operand, and a jump past the truth value after it
   last_safe : (b : Bool) (place end : ℕ) (stack : List Value) → length stack + 1 ≤ room →
       slice_get code place ≡ Some (Jump 1) → place + 1 ≡ end →
       Tells (end + 1) stack b → Tells place stack b
@@ -661,7 +662,7 @@ module _ {M : Type 0} (load : M → ℕ → Option (Value × M)) (store : M → 
   simple_safe (IfElse' x m block k otherwise) start place stack fit simple has shows c g = absurd simple
   simple_safe (While' x m body) start place stack fit simple has shows c g = absurd simple
 
-  -- where the jump behind a condition leads
+  -- the place to which the jump after a condition leads
   abbrev pub branch : Bool → ℕ → ℕ → ℕ
   branch true place over = place + 1
   branch false place over = place + 1 + over
@@ -672,7 +673,7 @@ module _ {M : Type 0} (load : M → ℕ → Option (Value × M)) (store : M → 
   jump_safe true place over stack fit at k memory sees = take (JumpIfFalse over) (here place (truth true ∷ stack) memory) (omega (arith, fit)) at (k memory sees)
   jump_safe false place over stack fit at k memory sees = take (JumpIfFalse over) (here place (truth false ∷ stack) memory) (omega (arith, fit)) at (k memory sees)
 
-  -- a condition, and the jump behind it
+  -- a condition, and the jump after it
   pub branch_safe : (x : Condition) (place over : ℕ) (stack : List Value) → length stack + test_need x ≤ room →
       HasAt code place (test_code x) →
       slice_get code (place + length (test_code x)) ≡ Some (JumpIfFalse over) →

@@ -1,4 +1,4 @@
--- An instruction at its place, taken.
+-- The run of an instruction at its place.
 use Rattle.std.proofs.Common.{◌≡◌, ℕ, ◌≤◌, List, length, Option, Some, Result, Ok, Err, refl, sym, ap, subst}
 use Rattle.std.specs.Prelude.{slice_get}
 use Rattle.core_lang.specs.declared.value.Value.{Value}

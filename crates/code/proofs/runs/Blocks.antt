@@ -52,7 +52,7 @@ module _ (shape : Shape) (code : List Instr) where
   conclude-after k place s Beyond f go h = h
   conclude-after k place s Astray f go h = h
 
-  -- a truth value is on the stack: on where it is true, else behind so many instructions
+  -- a truth value is on the stack: on if it is true, else over the given number of instructions
   chosen : (k place over : ℕ) (s : State) (f g : Flow) (go : State → Run) →
       slice_get code place ≡ Some (JumpIfFalse over) →
       Runs k (place + 1) s (conclude f go) → Runs k (place + 1 + over) s (conclude g go) →
@@ -70,7 +70,7 @@ module _ (shape : Shape) (code : List Instr) where
     acquire_settles (Some (path ∷ paths)) point k place end s run has h =
         takes shape code k (Acquire point) (machine place [] s) run has.0 (ends_at k (place + 1) end s run has.1 h)
 
-    -- behind what is acquired before a point
+    -- after the acquire before a point
     acquired : (point k place end : ℕ) (s : State) (rest : List Instr) (run : Run) →
         HasAt code place (acquire_code lists point ++ rest) end →
         ((at : ℕ) → HasAt code at rest end → Runs k at s run) → Runs k place s run
@@ -79,7 +79,7 @@ module _ (shape : Shape) (code : List Instr) where
         acquire_settles (slice_get lists point) point k place (place + length first) s run (has_front code place end first rest has)
         (h (place + length first) (has_back code place end first rest has))
 
-    -- a point's condition, and where its jump leads
+    -- a point's condition, and the place to which its jump leads
     condition_settles : (c : Condition) (point j k place mid over : ℕ) (s : State) (f g : Flow) (go : State → Run) →
         k ≤ suc j →
         HasAt code place (acquire_code lists point ++ test_code c) mid → slice_get code mid ≡ Some (JumpIfFalse over) →
@@ -139,7 +139,7 @@ module _ (shape : Shape) (code : List Instr) where
             (ends_at one.0 (stop - back) place s (conclude (more s) go) at_start (by_turns m one.0 one.2 (omega (arith, le')) h' s)))))
             (ends_at one.0 (mid + 1 + (length body + 1)) end s (go s) over_body (h' s))
 
-    -- a value, and what stands behind it
+    -- a value, and the code after it
     value_settles : (e : Expr) (rest : List Instr) (k place end : ℕ) (s : State) (f : Value → Flow) (go : State →
         Run) → HasAt code place (expr_code e ++ rest) end →
         ((v : Value) (at : ℕ) → HasAt code at rest end → Settles shape code k (machine at (v ∷ []) s) (conclude (f v) go)) →

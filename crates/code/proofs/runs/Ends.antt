@@ -1,4 +1,4 @@
--- Alone, a section's code comes to an outcome exactly where the section, run whole, is over.
+-- Alone, a section's code comes to an outcome exactly if the whole run of the section ends.
 use Rattle.std.proofs.Common.{◌≡◌, ℕ, List, [], length, sym, ap, ◌∙◌, subst, arith}
 use Rattle.core_lang.specs.declared.value.Value.{Value}
 use Rattle.core_lang.specs.declared.shape.Shape.{Shape}
@@ -38,7 +38,7 @@ module _ (shape : Shape) (code : List Instr) (m : Machine (List Value)) where
   one_end n j x y over_x over_y e f =
       sym e ∙ ends_once load_from store_to shape code m n j (subst IsOver (sym e) over_x) (subst IsOver (sym f) over_y) ∙ f
 
-  -- where the machine has halted after n instructions, a run that it settles as far as these is over
+  -- if the machine has halted after n instructions, a run that it settles up to these is over
   is_over : (n : ℕ) (finished : Finished) (run : Run) → stands shape code n m ≡ halted finished →
       Settles shape code n m run → run ≡ Over finished
   is_over n finished (Over other) e settled = ap Over (same_end other finished (one_end settled.0 n (halted other) (halted finished) tt tt settled.1 e))

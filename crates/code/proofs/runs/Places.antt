@@ -6,7 +6,7 @@ use Rattle.std.proofs.Math.Seq.{get_or-append_seam}
 use Rattle.std.proofs.lemmas.Option.{slice_get-get_or}
 use Rattle.code.specs.declared.instr.Instr.{Instr}
 
--- the instructions stand in the code from a place up to another
+-- the code has these instructions from a place up to another
 abbrev pub HasAt : List Instr → ℕ → List Instr → ℕ → Type 0
 HasAt code place [] end = place ≡ end
 HasAt code place (i ∷ is) end = (slice_get code place ≡ Some i) × HasAt code (place + 1) is end

@@ -1,4 +1,4 @@
--- A machine on a heap settles a run of its section: it comes to the run's end, or is stuck where the run goes astray.
+-- A machine on a heap settles a run of its section: it comes to the run's end, or is stuck if the run goes astray.
 use Rattle.std.proofs.Common.{◌≡◌, ℕ, suc, ◌≤◌, List, [], Some, Result, Ok, Err, refl, sym, ap, ◌∙◌, subst, arith}
 use Rattle.std.specs.Prelude.{slice_get, ⊤}
 use Rattle.core_lang.specs.declared.value.Value.{Value}
@@ -16,7 +16,7 @@ use Rattle.code.specs.Alone.{halted}
 use Rattle.code.specs.Working.Laws.{IsOver}
 use Rattle.code.proofs.Over.{stays_over}
 
--- ---- where a run goes on
+-- ---- continuations of a run
 
 -- with a result's value, or cut short by its failure
 abbrev pub resolve : {A : Type 0} → Result A Failure → State → (A → Run) → Run
@@ -42,12 +42,12 @@ IsGoing (Halted outcome memory prints) = ⊥
 IsGoing Stuck = ⊥
 
 module _ (shape : Shape) (code : List Instr) where
-  -- how a machine stands after n instructions
+  -- the state of a machine after n instructions
   abbrev pub stands : ℕ → Machine (List Value) → Standing (List Value)
   stands n m = exec load_from store_to shape code n m
 
-  -- the machine comes to the end of the run; where the run goes astray it gets stuck; and where the run needs more turns it
-  -- is still going on after k instructions
+  -- the machine comes to the end of the run. If the run goes astray, the machine gets stuck. If the run needs more
+  -- turns, the machine has not ended after k instructions
   abbrev pub Settles : ℕ → Machine (List Value) → Run → Type 0
   Settles k m (Over finished) = (n : ℕ) × (stands n m ≡ halted finished)
   Settles k m Beyond_turns = IsGoing (stands k m)

@@ -104,7 +104,7 @@ module _ (shape : Shape) (code : List Instr) (k : ℕ) (s : State) where
       by (Some v) = ends_at (place + 1) end (v ∷ stack) (go v) e (h v)
       by None = refl
 
-  -- what a cell holds
+  -- the value of a cell
   pub loading : (i : Instr) (r : Result ℕ Failure) (place end : ℕ) (old stack : List Value) (go : Value → Run) →
       HasAt code place (i ∷ []) end →
       act load_from store_to shape (Some i) (machine place old s) ≡ or_trap r (λ cell. loads load_from store_to shape (machine place old s) cell stack) →
@@ -202,7 +202,7 @@ module _ (shape : Shape) (code : List Instr) (k : ℕ) (s : State) where
   not_settles false place end stack go has h =
       takes shape code k NotTop (machine place (truth false ∷ stack) s) (go true) has.0 (ends_at (place + 1) end (truth true ∷ stack) (go true) has.1 (h true))
 
-  -- an operand of && is on the stack: on where it is true, else past the others
+  -- an operand of && is on the stack: if it is true, the next place; else past the others
   and_settles : (b : Bool) (next : Result Bool Failure) (over place stop end : ℕ) (stack : List Value) (go : Bool →
       Run) → slice_get code place ≡ Some (JumpIfFalse over) →
       place + 1 + over ≡ stop → HasAt code stop (PushNumber (pos 0) ∷ []) end → ((b : Bool) → From end (truth b ∷ stack) (go b)) →
@@ -225,7 +225,7 @@ module _ (shape : Shape) (code : List Instr) (k : ℕ) (s : State) where
       (ends_at (place + 1 + over) stop stack (go true) e
       (takes shape code k (PushNumber (pos 1)) (machine stop stack s) (go true) push.0 (ends_at (stop + 1) end (truth true ∷ stack) (go true) push.1 (h true))))
 
-  -- the last operand is on the stack, and a jump passes the truth value behind it
+  -- the last operand is on the stack, and a jump passes the truth value after it
   last_settles : (b : Bool) (place stop end : ℕ) (stack : List Value) (go : Bool → Run) →
       HasAt code place (Jump 1 ∷ []) stop → stop + 1 ≡ end →
       From end (truth b ∷ stack) (go b) → From place (truth b ∷ stack) (go b)
@@ -272,7 +272,7 @@ module _ (shape : Shape) (code : List Instr) (k : ℕ) (s : State) where
         (λ at here. test_settles last at (at + length cl) stack go (has_front code at stop cl _ here)
         (λ b. last_settles b (at + length cl) stop end stack go (has_back code at stop cl _ here) push.1 (h b)))
 
-    -- stop is the place of the truth value behind the operands
+    -- stop is the place of the truth value after the operands
     all_settle : {m : _} (row : Row_of-Condition m) (cl : List Instr) (last : Result Bool Failure) (place stop end : ℕ) (stack : List Value) (go : Bool → Run) →
         HasAt code stop (PushNumber (pos 0) ∷ []) end → HasAt code place (all_code row cl) stop → ((b : Bool) → From end (truth b ∷ stack) (go b)) →
         ((at : ℕ) → HasAt code at cl stop → From at stack (resolve last s go)) →
@@ -303,7 +303,7 @@ module _ (shape : Shape) (code : List Instr) (k : ℕ) (s : State) where
         (λ b. or_settles b next (length cr) mid stop end stack go back.0 (has_length code (mid + 1) stop cr back.1) push h
         (any_settles rest cl last (mid + 1) stop end stack go push back.1 h l)))
 
-  -- ---- what a statement's last instruction does
+  -- ---- the effect of a statement's last instruction
 
   onward_at : (place end : ℕ) (s' : State) (go : State → Run) → place ≡ end → Onward shape code k end go →
       Settles shape code k (machine place [] s') (go s')

@@ -1,4 +1,4 @@
--- The line table of a section's code: it rises, and is what tells where an instruction stands in the text.
+-- The line table of a section's code rises, and gives the position of each instruction in the text.
 use Rattle.std.proofs.Common.{◌≡◌, ℕ, zero, suc, ◌+◌, ◌<◌, ◌≤◌, List, [], ◌∷◌, ◌++◌, length, map, get_or, Option, Some}
 use Rattle.std.proofs.Common.{None, refl, sym, ap, ◌∙◌, subst, arith, length-append}
 use Rattle.std.specs.Prelude.{slice_get, option_map, option_and_then, codes}
@@ -13,7 +13,7 @@ use Rattle.core_lang.specs.declared.tree.Return.{Return as Result_of}
 use Rattle.core_lang.specs.declared.tree.Section.{Section}
 use Rattle.flow.specs.Points.{Point, points, start_of}
 use Rattle.code.specs.declared.instr.Instr.TheVariants.{Jump, JumpBack, JumpIfFalse}
-use Rattle.code.specs.declared.places.Position.{Position}
+use Rattle.code.specs.declared.places.LineColumn.{LineColumn}
 use Rattle.code.specs.declared.places.SectionPlaces.{SectionPlaces}
 use Rattle.code.specs.Lowering.{test_code, points_of, points_in, acquire_code, stmt_code, block_code}
 use Rattle.code.specs.LineTables.{behind_test, stmt_begins, block_begins, end_begins, body_begins, section_begins}
@@ -137,19 +137,19 @@ pub table_rises : (lists : List (List ℕ)) (section : Section) (begins : List �
     IsNonDecreasing begins
 table_rises lists section begins is = subst IsNonDecreasing (sym is) (begins_rise lists section)
 
--- ---- and says where an instruction stands
+-- ---- the table gives the position of an instruction
 
 -- a point's place among positions
 position_there : (text : List ℕ) (ps : List Point) (o : Option ℕ) →
-    option_map_or (λ (p : Position). position_text p.line p.column ++ codes " ") (option_and_then (λ point. slice_get (map (position_in text) ps) point) o) []
+    option_map_or (λ (p : LineColumn). position_text p.line p.column ++ codes " ") (option_and_then (λ point. slice_get (map (position_in text) ps) point) o) []
     ≡ option_map_or (λ start. position_text (line_of text start) (column_of text start) ++ codes " ") (option_and_then (λ point. option_map start_of (slice_get ps point)) o) []
 position_there text ps None = refl
 position_there text ps (Some point) =
-    ap (λ o. option_map_or (λ (p : Position). position_text p.line p.column ++ codes " ") o []) (slice_get-map (position_in text) ps point)
+    ap (λ o. option_map_or (λ (p : LineColumn). position_text p.line p.column ++ codes " ") o []) (slice_get-map (position_in text) ps point)
     ∙ read (slice_get ps point)
   where
     read : (o : Option Point) →
-        option_map_or (λ (p : Position). position_text p.line p.column ++ codes " ") (option_map (position_in text) o) []
+        option_map_or (λ (p : LineColumn). position_text p.line p.column ++ codes " ") (option_map (position_in text) o) []
         ≡ option_map_or (λ start. position_text (line_of text start) (column_of text start) ++ codes " ") (option_map start_of o) []
     read None = refl
     read (Some p) = refl
@@ -158,7 +158,7 @@ pub places_told : (text : List ℕ) (lists : List (List ℕ)) (section : Section
     PlacesOf text section places → begins ≡ section_begins lists section → (place : ℕ) →
     table_text places begins place ≡ place_text text lists section place
 places_told text lists section places begins are is place =
-    ap (λ ps. option_map_or (λ (p : Position). position_text p.line p.column ++ codes " ") (option_and_then (λ point. slice_get ps point) (point_at begins place)) []) are
+    ap (λ ps. option_map_or (λ (p : LineColumn). position_text p.line p.column ++ codes " ") (option_and_then (λ point. slice_get ps point) (point_at begins place)) []) are
     ∙ position_there text (points section) (point_at begins place)
     ∙ ap (λ bs. option_map_or (λ start. position_text (line_of text start) (column_of text start) ++ codes " ")
     (option_and_then (λ point. option_map start_of (slice_get (points section) point)) (point_at bs place)) []) is

@@ -1,5 +1,5 @@
--- Values of cells, and heaps that they are written into. Nobody has to believe this: it is proved here, for proofs of this crate and
--- of those above.
+-- Values of cells, and heaps that they are written into. Nobody has to believe this: it is proved here, for proofs of
+-- this crate and of those above.
 use Rattle.std.proofs.Common.{◌≡◌, ◌≢◌, ℕ, ◌<◌, List, [], ◌∷◌, ◌++◌, length, map, Option, Some, None, Bool, true, false}
 use Rattle.std.proofs.Common.{inl, inr, refl, sym, ap, ◌∙◌, arith, length-set, get_or-set_same, get_or-set_other}
 use Rattle.std.specs.Prelude.{slice_get, slice_set, nat_eq, nat_lt, if◌then◌else◌}
@@ -25,7 +25,7 @@ pub first_is_not : (a k : ℕ) (v : Value) (rest : Option Value) → a ≢ k →
 first_is_not a k v rest ne =
     elim (eqb_tells a k) [ inl h ↦ absurd (ne h.1) | inr h ↦ ap (λ b. if b then Some v else rest) h.0 ]
 
--- ---- one list behind another
+-- ---- one list after another
 
 pub value_left : (xs ys : List (ℕ × Value)) (c : ℕ) (v : Value) → value_at xs c ≡ Some v →
     value_at (xs ++ ys) c ≡ Some v
@@ -140,7 +140,7 @@ set_there xs i j v ne =
       | inr h ↦ slice_get_past (slice_set xs i v) j (omega (arith, length-set xs i v, h.0)) ∙ sym h.1
     ]
 
--- a cell that was written has what was written, and another what it had
+-- a cell that was written has the written value, and any other its former value
 pub written_cell : (heap : List Value) (ws : List (ℕ × Value)) (c : ℕ) (v : Value) → c < length heap →
     value_at ws c ≡ Some v →
     slice_get (overwritten heap ws) c ≡ Some v
@@ -217,7 +217,7 @@ noted_agrees_by true eq heap x xs c v is agrees ih = (is, agrees)
 noted_agrees_by false true heap x xs c v is agrees ih = (is, agrees.1)
 noted_agrees_by false false heap x xs c v is agrees ih = (agrees.0, ih)
 
--- and the other way round
+-- the converse
 pub noted_agrees : (heap : List Value) (xs : List (ℕ × Value)) (c : ℕ) (v : Value) → slice_get heap c ≡ Some v →
     Agrees heap xs →
     Agrees heap (with_value xs c v)

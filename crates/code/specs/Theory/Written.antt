@@ -1,4 +1,4 @@
--- The text of what stands at a place of a list, or nothing, behind what was written.
+-- The text of a list's item at an index, or nothing, appended to a text.
 use Rattle.std.proofs.Common.{◌≡◌, ◌++◌, ℕ, zero, suc, List, [], ◌∷◌, Option, Some, None, map, refl}
 use Rattle.std.specs.Prelude.{slice_get, unwrap_or}
 use Rattle.std.specs.Borrow.{Bor}
@@ -13,7 +13,7 @@ use Rattle.code.specs.Working.Asked.{asked}
 use Rattle.code.specs.Working.Naming.{asked_text}
 use Rattle.locks.specs.Theory.Written as written
 
--- of a list that a slice lends
+-- the item of a list that a slice lends
 module _ {A : Type 0} (text : A → List ℕ) (xs lent : List A) (i : ℕ) (old : List ℕ) (same : lent ≡ xs) where
   pub found_added : (b : Bor A) (new piece : List ℕ) → IsItemAt lent i (Some b) → piece ≡ text b.now →
       new ≡ old ++ piece
@@ -25,7 +25,7 @@ module _ {A : Type 0} (text : A → List ℕ) (xs lent : List A) (i : ℕ) (old 
   pub none_added : IsItemAt lent i None → old ≡ old ++ text_at text xs i
   none_added h = written.none_added (λ o. option_map_or text o []) _ old (written.item_past xs lent i same h) refl
 
--- of a list that is made from another
+-- the item of a list that is made from another
 pub text_at-map : {A B : Type 0} (f : A → B) (text : B → List ℕ) (xs : List A) (k : ℕ) →
     text_at text (map f xs) k ≡ text_at (λ x. text (f x)) xs k
 text_at-map f text [] k = refl

@@ -19,7 +19,7 @@ use Rattle.code.specs.Working.Spots.{Spot, InSection}
 
 -- ---- safe machines
 
--- over a memory, a code, which outcomes are allowed, where the machine is to arrive, and the room for operands
+-- for a memory, a code, the allowed outcomes, the states in which the machine has arrived, and the room for operands
 module _ {M : Type 0} (load : M → ℕ → Option (Value × M)) (store : M → ℕ → Value → Option M) (shape : Shape)
     (code : List Instr) (IsAllowed : Outcome → Type 0) (HasArrived : Machine M → Type 0) (room : ℕ) where
   -- the operands fit and each instruction has its case, until the machine has arrived or is at an outcome that is
@@ -31,14 +31,14 @@ module _ {M : Type 0} (load : M → ℕ → Option (Value × M)) (store : M → 
     finishes : {m : Machine M} {outcome : Outcome} → length m.stack ≤ room →
         act load store shape (slice_get code m.place) m ≡ Finishes outcome → IsAllowed outcome → Safe m
 
-  -- the same after an instruction
+  -- the machine is safe after an instruction with this effect
   abbrev pub Goes : Effect M → Type 0
   Goes (Moves next) = Safe next
   Goes (Asks point) = ⊥
   Goes (Finishes outcome) = IsAllowed outcome
   Goes Undefined = ⊥
 
-  -- the operands fit, the next instruction has its case, and the machine is safe behind it
+  -- the operands fit, the next instruction has its case, and the machine is safe after it
   abbrev pub Steps : Machine M → Type 0
   Steps m = (length m.stack ≤ room) × Goes (act load store shape (slice_get code m.place) m)
 
@@ -49,15 +49,15 @@ abbrev pub between_points : {M : Type 0} → ℕ → State → M → Machine M
 between_points place s memory =
     record { place = place; stack = []; locals = s.locals; memory = memory; prints = s.prints }
 
--- a point can be executed from a state: what is seen is what the heap has, the cells that the point accesses are seen,
--- and it doesn't lead astray
+-- a point can be executed from a state: the cells that are seen have the values of the heap, those that the point
+-- accesses are seen, and it does not lead astray
 pub record CanExecute (shape : Shape) (point : Point) (s : State) (seen : ℕ → Option Value) : Type 0 where
   pub shows : Shows seen s.heap
   pub covers : Covers shape s.locals s.heap seen (accesses_at point)
   pub sound : effect_at point shape s ≡ Astray → ⊥
 
 -- the outcomes of a section at a point, from a state: the trap that the point leads to, the value of a `return`, and
--- the end behind any other point
+-- the end after any other point
 abbrev pub MayEnd : Shape → Point → State → Outcome → Type 0
 MayEnd shape point s (Traps t) = (later : State) × (effect_at point shape s ≡ meaning.Traps t later)
 MayEnd shape (statement start action) s (Returns v) = ⊥
@@ -66,8 +66,8 @@ MayEnd shape (statement start action) s Ends =
     (later : State) × (effect_at (statement start action) shape s ≡ GoesOn later)
 MayEnd shape (result r) s Ends = ⊥
 
--- a machine has come from a point to one that follows it, in the state that the point leads to; what it sees is what
--- the heap has now, and it sees the cells that it saw
+-- a machine has come from a point to one that follows it, in the state that the point leads to. The cells that it sees
+-- have the values of that state's heap, and it sees those that it saw before
 pub record HasComeOn {P M : Type 0} (view : M → ℕ → Option Value) (shape : Shape) (lists : List (List P))
     (section : Section) (from : Spot) (s : State) (seen : ℕ → Option Value) (m : Machine M) : Type 0 where
   pub later : State

@@ -5,11 +5,11 @@ use Rattle.code.specs.declared.instr.Instr.TheVariants.{Acquire}
 use Rattle.code.specs.declared.listed.Listed.{Listed}
 use Rattle.code.specs.Working.NumberLists.{number_lists}
 
--- the lists before its points
+-- the lists before the points of a listed section
 abbrev pub lists_of : Listed → List (List ℕ)
 lists_of listed = number_lists listed.lists.now
 
--- that before a point
+-- the list before a point
 abbrev pub list_at : List (List ℕ) → ℕ → List ℕ
 list_at lists point = unwrap_or (slice_get lists point) []
 

@@ -17,15 +17,15 @@ IsOver (At m) = ⊥
 IsOver (Halted outcome memory prints) = ⊤
 IsOver Stuck = ⊤
 
--- a claim on every run of every code, over every memory of this type; the run is how the machine stands after n
--- instructions
+-- a claim on every run of every code, over every memory of this type; a run has the state of the machine after each
+-- number of instructions
 abbrev pub InRuns : (M : Type 0) → ((ℕ → Standing M) → Type 0) → Type 0
 InRuns M Claim =
     (load : M → ℕ → Option (Value × M)) (store : M → ℕ → Value → Option M)
     (shape : Shape) (code : List Instr) (m : Machine M) →
     Claim (λ n. exec load store shape code n m)
 
--- where a run is over it stays as it is
+-- a run that is over stays as it is
 abbrev pub StaysOver : {M : Type 0} → (ℕ → Standing M) → Type 0
 StaysOver run = (n later : ℕ) → n ≤ later → IsOver (run n) → run later ≡ run n
 
@@ -35,19 +35,19 @@ EndsOnce run = (n k : ℕ) → IsOver (run n) → IsOver (run k) → run n ≡ r
 
 -- ---- heaps with values written into them
 
--- a cell that was written has what was written
+-- a written cell has the value that was written
 abbrev pub HasWritten : Type 0
 HasWritten =
     (heap : List Value) (writes : List (ℕ × Value)) (cell : ℕ) (v : Value) →
     cell < length heap → value_at writes cell ≡ Some v → slice_get (overwritten heap writes) cell ≡ Some v
 
--- another has what it had
+-- a cell that was not written has its former value
 abbrev pub KeepsUnwritten : Type 0
 KeepsUnwritten =
     (heap : List Value) (writes : List (ℕ × Value)) (cell : ℕ) →
     value_at writes cell ≡ None → slice_get (overwritten heap writes) cell ≡ slice_get heap cell
 
--- there are as many cells as before
+-- the number of cells does not change
 abbrev pub KeepsSize : Type 0
 KeepsSize = (heap : List Value) (writes : List (ℕ × Value)) → length (overwritten heap writes) ≡ length heap
 
@@ -69,7 +69,8 @@ KeepsHeld =
     (shape : Shape) (instr : Option Instr) (m next : Machine HeldCells) →
     act load_held store_held shape instr m ≡ Moves next → Keeps m.memory next.memory
 
--- and moves it alike on each heap that has the cells, and in those that were read what was read
+-- such an instruction moves the machine in the same way on each heap that has the cells and the values that were read
+-- of them
 abbrev pub MovesAlike : Type 0
 MovesAlike =
     (shape : Shape) (instr : Option Instr) (m next : Machine HeldCells) (heap : List Value) →
@@ -77,22 +78,22 @@ MovesAlike =
     IsConsistent m.memory → IsCovered m.memory.cells heap → Agrees heap next.memory.reads →
     act load_from store_to shape instr (on_heap heap m) ≡ Moves (on_heap heap next)
 
--- one that asks for locks does so on every heap
+-- an instruction that asks for locks does so on every heap
 abbrev pub AsksAlike : Type 0
 AsksAlike =
     (shape : Shape) (instr : Option Instr) (m : Machine HeldCells) (point : ℕ) (heap : List Value) →
     act load_held store_held shape instr m ≡ Asks point →
     act load_from store_to shape instr (on_heap heap m) ≡ Asks point
 
--- one that comes to an outcome does so on every heap
+-- an instruction that comes to an outcome does so on every heap
 abbrev pub FinishesAlike : Type 0
 FinishesAlike =
     (shape : Shape) (instr : Option Instr) (m : Machine HeldCells) (outcome : Outcome) (heap : List Value) →
     act load_held store_held shape instr m ≡ Finishes outcome →
     act load_from store_to shape instr (on_heap heap m) ≡ Finishes outcome
 
--- a section that halts on cells that it holds from its start halts alike on each heap that has the cells, and in those
--- that it read what it read
+-- a section that halts on cells that it holds from its start halts in the same way on each heap that has the cells and
+-- the values that it read of them
 abbrev pub HaltsAlike : Type 0
 HaltsAlike =
     (shape : Shape) (code : List Instr) (n : ℕ) (locals : List Value) (cells : List (ℕ × Value))
@@ -101,7 +102,8 @@ HaltsAlike =
     IsCovered cells heap → Agrees heap held.reads →
     alone shape code n locals heap ≡ Halted outcome (overwritten heap held.writes) prints
 
--- on a heap that the cells are part of at its start it halts alike, and they are part of that heap at its end
+-- on a heap that the cells are part of at its start, such a section halts in the same way, and the cells are part of
+-- that heap at its end
 abbrev pub HaltsOnItsHeap : Type 0
 HaltsOnItsHeap =
     (shape : Shape) (code : List Instr) (n : ℕ) (locals : List Value) (cells : List (ℕ × Value))

@@ -25,7 +25,7 @@ abbrev pub IsIndexOf : {S : Type 0} → List GlobalVariable → IndexMap ℕ (Bo
 IsIndexOf globals index =
     (cell : ℕ) → option_copied (get nat_eq index cell) ≡ find (λ (g : GlobalVariable). g.cell == cell) globals
 
--- an instruction's operand, as it is written behind the word, but for lock paths
+-- an instruction's operand, as it is written after the word, except lock paths
 abbrev pub operand_text : Typed → ℕ → Instr → List ℕ
 operand_text program place (PushNumber n) = signed_decimal n
 operand_text program place (GetLocal k) = decimal k
@@ -46,19 +46,19 @@ operand_text program place (JumpIfFalse over) = decimal (place + 1 + over)
 operand_text program place (JumpIfTrue over) = decimal (place + 1 + over)
 operand_text program place _ = []
 
--- the lock paths that it asks for
+-- the lock paths that an instruction asks for
 abbrev pub asked_text : Typed → Section → List (List ℕ) → Instr → List ℕ
 asked_text program section lists (Acquire point) = acquired_text program section lists point
 asked_text program section lists _ = []
 
--- the word of an instruction: all that is written of it ahead of its operand
+-- the word of an instruction: all that is written of it before its operand
 abbrev pub IsMnemonic : Instr → List ℕ → Type 0
 IsMnemonic instr word =
     (program : Typed) (section : Section) (lists : List (List ℕ)) (place : ℕ)
     → instr_text program section lists place instr
     ≡ word ++ operand_text program place instr ++ asked_text program section lists instr
 
--- an instruction comes behind what was written, but for the lock paths that it asks for
+-- an instruction was appended, without the lock paths that it asks for
 abbrev pub AddsBare : {Z : Type 0} → Typed → ℕ → Instr → String Z → String Z → Type 0
 AddsBare program place instr old new =
     (section : Section) (lists : List (List ℕ)) → string_bytes new ++ asked_text program section lists instr

@@ -22,9 +22,9 @@ use Rattle.code.specs.Working.Ahead.{Steps, between_points, CanExecute, MayEnd, 
 
 -- ---- from point to point
 
--- over memories of a type, and lock paths of any, in a section that calls nothing: where the code of a point stands behind what is acquired before it,
--- with room for the section's operands, and the point can be executed from a state, the machine steps, and is safe
--- until it has come to a point that follows, or is at an outcome that the section has there
+-- over memories of a type, and lock paths of any, in a section that calls nothing: if the code of a point follows what
+-- is acquired before it, with room for the section's operands, and the point can be executed from a state, the machine
+-- steps, and is safe until it has come to a point that follows, or is at an outcome that the section has there
 abbrev pub PointsGoOn : (P M : Type 0) → (M → ℕ → Option (Value × M)) → (M → ℕ → Value → Option M) →
     (M → ℕ → Option Value) → Type 0
 PointsGoOn P M load store view =
@@ -48,7 +48,7 @@ PointsHaveSpots P =
     (lists : List (List P)) (section : Section) (p : ℕ) (point : Point) → slice_get (points section) p ≡ Some point →
     (x : Spot) × InSection lists section x × (x.number ≡ p) × (x.point ≡ point)
 
--- and only one
+-- a section has at most one spot with a number
 abbrev pub SpotsHaveNumbers : Type 0 → Type 0
 SpotsHaveNumbers P =
     (lists : List (List P)) (section : Section) (x y : Spot) → InSection lists section x → InSection lists section y →
@@ -66,13 +66,13 @@ EmptyHasEnd P =
     (lists : List (List P)) (section : Section) → head (skeleton section) 0 None ≡ None →
     slice_get (section_code lists section) 0 ≡ Some End
 
--- where a point begins stands what is acquired before it
+-- the code of a point begins with its acquire
 abbrev pub SpotsAcquire : Type 0 → Type 0
 SpotsAcquire P =
     (lists : List (List P)) (section : Section) (x : Spot) → InSection lists section x →
     HasAt (section_code lists section) x.place (acquire_code lists x.number)
 
--- and nothing is acquired anywhere else
+-- each acquire is at the begin of a point's code
 abbrev pub OnlySpotsAcquire : Type 0 → Type 0
 OnlySpotsAcquire P =
     (lists : List (List P)) (section : Section) (place p : ℕ) →

@@ -12,8 +12,8 @@ use Rattle.code.specs.Alone.{alone, halted, Behaves}
 use Rattle.code.specs.Lowering.{section_code}
 use Rattle.code.specs.Needs.{operand_need}
 
--- where a section that calls nothing, run whole, is over, its code alone comes to the same outcome, prints and heap after some number of
--- instructions; whatever lock paths stand before its points
+-- if the whole run of a section that calls nothing ends, its code alone comes to the same outcome, prints and heap
+-- after some number of instructions, whatever lock paths are listed before its points
 abbrev pub EndsAsSection : Type 0 → Type 0
 EndsAsSection P =
     (lists : List (List P)) (section : Section) (shape : Shape) (arguments heap : List Value) (finished : Finished) →
@@ -21,7 +21,7 @@ EndsAsSection P =
     (n : ℕ) ×
     (alone shape (section_code lists section) n (opening section arguments heap).locals heap ≡ halted finished)
 
--- where the code of such a section comes to an outcome, the section, run whole, is over, and like this
+-- if the code of such a section comes to an outcome, the whole run of the section ends, and in the same way
 abbrev pub EndsOnlyAsSection : Type 0 → Type 0
 EndsOnlyAsSection P =
     (lists : List (List P)) (section : Section) (shape : Shape) (arguments heap : List Value) (n : ℕ)
@@ -29,8 +29,8 @@ EndsOnlyAsSection P =
     alone shape (section_code lists section) n (opening section arguments heap).locals heap ≡ halted finished →
     Whole section shape arguments heap finished
 
--- the code of a section of a well-formed program behaves as the section, with room for as many operands as it needs;
--- whatever lock paths stand before its points
+-- the code of a section of a well-formed program behaves as the section, with room for as many operands as it needs,
+-- whatever lock paths are listed before its points
 abbrev pub SectionsBehave : Type 0 → Type 0
 SectionsBehave P =
     (program : Typed) (section : Section) (lists : List (List P)) → IsWellFormed program → HasSection program section →

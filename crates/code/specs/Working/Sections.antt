@@ -1,4 +1,4 @@
--- What the lines of a section are, of values of the code.
+-- The lines of a section, as values of the code have them.
 use Rattle.std.specs.Prelude.{ℕ, List, [], Option, Some, None}
 use Rattle.std.specs.Borrow.{Bor}
 use Rattle.code.specs.declared.instr.Instr.{Instr}
@@ -11,7 +11,7 @@ use Rattle.code.specs.Working.Naming.{HasPaths, asked_text, line_text}
 use Rattle.code.specs.Working.Places.{table_text}
 use Rattle.rope.specs.Working.Ropes.{RopeOf}
 
--- what stands in front of the instruction at a place: where it stands in the program's text, if that is told
+-- what precedes the instruction at a place: its position in the program's text, if positions are given
 abbrev pub front_of : Option (Bor SectionPlaces) → SectionCode → ℕ → List ℕ
 front_of None code place = []
 front_of (Some places) code place = table_text places.now code.begins.items place
@@ -19,7 +19,7 @@ front_of (Some places) code place = table_text places.now code.begins.items plac
 abbrev pub begins_of : SectionLines → List ℕ
 begins_of x = x.listed.code.now.begins.items
 
--- the rope keeps the texts of its lock paths
+-- the rope keeps the texts of the section's lock paths
 abbrev pub HasPathsOf : SectionLines → RopeOf → Type 0
 HasPathsOf x rope = HasPaths x.lister.now.program.now x.listed.section.now x.group rope
 

@@ -1,4 +1,4 @@
--- What is seen of a memory, and the accesses that it is enough for.
+-- The cells that are seen of a memory, and the accesses for which they are enough.
 use Rattle.std.specs.Prelude.{◌≡◌, ℕ, List, slice_get, Option, Some}
 use Rattle.std.specs.List.{Contains}
 use Rattle.core_lang.specs.declared.value.Value.{Value}
@@ -7,8 +7,8 @@ use Rattle.locks.specs.Accesses.{Access, Target}
 use Rattle.locks.specs.Working.Reached.{Reaches}
 use Rattle.code.specs.Memory.{HeldCells, value_at}
 
--- a memory, by what is seen of it: a cell that is seen can be read, which changes nothing that is seen, and written,
--- which changes only what is seen of that cell
+-- a memory, by the values that are seen of its cells: a seen cell can be read, which changes no seen value, and
+-- written, which changes only the seen value of that cell
 pub record IsMemory {M : Type 0} (load : M → ℕ → Option (Value × M)) (store : M → ℕ → Value → Option M)
     (view : M → ℕ → Option Value) : Type 0 where
   pub loads : (m : M) (cell : ℕ) (v : Value) → view m cell ≡ Some v →
@@ -17,7 +17,7 @@ pub record IsMemory {M : Type 0} (load : M → ℕ → Option (Value × M)) (sto
       (next : M) × (store m cell v ≡ Some next) × (view next cell ≡ Some v) ×
       ((c : ℕ) → (c ≡ cell → ⊥) → view next c ≡ view m c)
 
--- what is seen of held cells: what they hold
+-- the value that is seen of a held cell
 abbrev pub held_value : HeldCells → ℕ → Option Value
 held_value held cell = value_at held.cells cell
 
@@ -25,7 +25,7 @@ held_value held cell = value_at held.cells cell
 abbrev pub IsSeen : (ℕ → Option Value) → ℕ → Type 0
 IsSeen seen cell = (v : Value) × (seen cell ≡ Some v)
 
--- what is seen is what the heap has
+-- the seen values are those of the heap
 abbrev pub Shows : (ℕ → Option Value) → List Value → Type 0
 Shows seen heap = (cell : ℕ) (v : Value) → seen cell ≡ Some v → slice_get heap cell ≡ Some v
 

@@ -9,7 +9,7 @@ use Rattle.code.specs.declared.instr.Instr.{Instr}
 use Rattle.code.specs.Lowering.{test_code, points_of, points_in, stmt_code, block_code}
 use Rattle.code.specs.LineTables.{behind_test}
 
--- instructions stand in a code from a place on
+-- the code has these instructions from a place on
 abbrev pub HasAt : List Instr → ℕ → List Instr → Type 0
 HasAt code place [] = ⊤
 HasAt code place (instr ∷ rest) = (slice_get code place ≡ Some instr) × HasAt code (place + 1) rest
@@ -23,7 +23,7 @@ pub record Spot : Type 0 where
 abbrev pub spot : ℕ → ℕ → Point → Spot
 spot number place point = record { number = number; place = place; point = point }
 
--- over the lists of lock paths that stand before the points
+-- given the lists of lock paths before the points
 module _ {P : Type 0} (lists : List (List P)) where
   -- x is a point of the blocks of a statement; the statement's first point has number n, and its code begins at place
   abbrev mutual
@@ -36,18 +36,18 @@ module _ {P : Type 0} (lists : List (List P)) where
     Inside (While' c m body) n place x = InBlock body (n + 1) (behind_test lists (test_code c) n place) x
     Inside _ n place x = ⊥
 
-    -- of a block
+    -- x is a point of a block
     pub InBlock : {m : _} → Row_of-Stmt m → ℕ → ℕ → Spot → Type 0
     InBlock end_of-Stmt n place x = ⊥
     InBlock (more_of-Stmt start action rest) n place x =
         ((x ≡ spot n place (statement start action)) ⊎ Inside action n place x)
         ⊎ InBlock rest (n + points_of action) (place + length (stmt_code lists action n)) x
 
-  -- of a statement that starts there
+  -- x is the point of a statement that starts at this byte, or one of its blocks
   abbrev pub InAction : ℕ → Action → ℕ → ℕ → Spot → Type 0
   InAction start action n place x = (x ≡ spot n place (statement start action)) ⊎ Inside action n place x
 
-  -- of statements, and of the result behind them
+  -- x is a point of statements, or of the result after them
   abbrev pub InBody : List Stmt → Option Result_of → ℕ → ℕ → Spot → Type 0
   InBody [] None n place x = ⊥
   InBody [] (Some r) n place x = x ≡ spot n place (result r)
@@ -55,6 +55,6 @@ module _ {P : Type 0} (lists : List (List P)) where
       InAction s.start s.action n place x
       ⊎ InBody ss r (n + points_of s.action) (place + length (stmt_code lists s.action n)) x
 
-  -- of a section
+  -- x is a point of a section
   abbrev pub InSection : Section → Spot → Type 0
   InSection section x = InBody section.body.items section.result 0 0 x

@@ -1,5 +1,5 @@
--- A program whose helpers are written out is one that may be accepted, and calls nothing. Nobody has to believe this: it is proved
--- here, for proofs of the crates above.
+-- A program whose helpers are expanded is one that may be accepted, and calls nothing. Nobody has to believe this: it
+-- is proved here, for proofs of the crates above.
 use Rattle.std.specs.Prelude.{◌≡◌, ℕ, zero, suc, ◌≤◌, List, [], ◌∷◌, ◌++◌, length, map, take, slice_get, Option, Some}
 use Rattle.std.specs.Prelude.{None}
 use Rattle.std.proofs.Common.{sym, ap, ◌∙◌, refl, arith, length-append}
@@ -25,7 +25,7 @@ no_helper : (program : Typed) (k : ℕ) (h : Section) → program.shape.helpers.
 no_helper program k h none is =
     let here : None ≡ Some h = ap (λ (l : List Section). slice_get l k) (sym none) ∙ is in cc
 
--- what is well typed calls helpers that are there: so where there are none, it calls nothing
+-- well-typed statements call only helpers that exist; without helpers they call nothing
 module _ (program : Typed) (types : List ValueType) (none : program.shape.helpers.items ≡ []) where
   mutual
     calls : (x : Action) → IsWellTyped program types x → CallsOnly NoHelper x
@@ -86,7 +86,7 @@ both_few : (a b : List LocalData) (c d : List ℕ) → length a ≤ length c →
     length (a ++ b) ≤ length (c ++ d)
 both_few a b c d h g = omega (arith, length-append a b, length-append c d)
 
--- and no more locals than they bind
+-- statements without calls bring only the locals that they bind
 module _ (brings : ℕ → Brought) (own : List Local) where
   mutual
     locals_few : (x : Action) → CallsOnly NoHelper x → length (locals_by brings own x) ≤ length (bound_by x)

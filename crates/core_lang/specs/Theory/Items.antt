@@ -1,5 +1,5 @@
--- What lists hold, and at which places. Nobody has to believe these facts: they are proved here, for proofs of this crate and of those
--- above.
+-- The items of lists, and their places. Nobody has to believe these facts: they are proved here, for proofs of this
+-- crate and of those above.
 use Rattle.std.proofs.Common.{◌≡◌, ◌≢◌, ◌⊎◌, ◌∙◌, ◌+◌, ◌<◌, ◌≤◌, ℕ, zero, suc, Bool, true, false, IsTrue, List, [], ◌∷◌}
 use Rattle.std.proofs.Common.{◌++◌, length, map, set, drop, drop-cons, get_or, Option, Some, None, slice_get, inl, inr}
 use Rattle.std.proofs.Common.{refl, sym, ap, subst, add-one, arith, if◌then◌else◌}

@@ -1,5 +1,5 @@
--- A section's locals at its begin have their types, and there are as many arguments as parameters. Nobody has to believe this: it is
--- proved here, for proofs of this crate and of those above.
+-- A section's locals at its begin have their types, and there are as many arguments as parameters. Nobody has to
+-- believe this: it is proved here, for proofs of this crate and of those above.
 use Rattle.std.proofs.Common.{◌≡◌, ◌≤◌, ℕ, zero, suc, List, [], ◌∷◌, ◌++◌, length, map, take, drop, refl, ap, arith}
 use Rattle.std.proofs.Common.{length-append}
 use Rattle.core_lang.specs.declared.shape.Shape.{Shape}

@@ -6,8 +6,8 @@ use Rattle.core_lang.specs.declared.typed.Typed.{Typed}
 use Rattle.lowering.specs.Plans.{Plan, IsCompiled}
 use Rattle.outcomes.specs.declared.outcome.Asked.{Asked}
 use Rattle.outcomes.specs.Ends.{Told}
-use Rattle.report_outcomes.specs.declared.ends.Scope.{Scope}
-use Rattle.report_outcomes.specs.Outcomes.{outcomes_text}
+use Rattle.report_runs.specs.declared.ends.Scope.{Scope}
+use Rattle.report_runs.specs.Outcomes.{outcomes_text}
 use Rattle.source.specs.declared.fault.Fault.{Fault}
 use Rattle.explanation.specs.declared.explanation.Acceptance.{Acceptance}
 use Rattle.explanation.specs.declared.explanation.Explanation.{Explanation}
@@ -15,8 +15,8 @@ use Rattle.explanation.specs.Further.{further_of}
 use Rattle.explanation.specs.Notes.{note_of}
 use Rattle.explanation.specs.Warnings.{warning_of}
 use Rattle.source.specs.Faults.{fault_text}
-use Rattle.source_steps.specs.declared.refusal.StepsFault.{StepsFault}
-use Rattle.source_steps.specs.Steps.{steps_fault_text}
+use Rattle.input_files.specs.declared.steps_refusal.StepsFault.{StepsFault}
+use Rattle.input_files.specs.Steps.{steps_fault_text}
 use Rattle.rope.specs.Working.Ropes.{rope_text}
 use Rattle.driver_words.specs.declared.line.Color.{Color}
 use Rattle.driver.specs.declared.answer.Answer.{Answer}
@@ -28,14 +28,14 @@ use Rattle.driver.specs.Explanations.{acceptance_told, fault_told}
 use Rattle.driver.specs.Listings.{IsListed}
 use Rattle.driver.specs.declared.exploring.Expected as exploring
 use Rattle.driver.specs.Outcomes.{IsLookedAt, Expected, breach_of, judged, ended_by}
-use Rattle.expectations.specs.Texts.{said_of}
+use Rattle.report_runs.specs.ExpectationTexts.{said_of}
 use Rattle.driver.specs.Replays.{IsReplayed, verdict_status, judgement_text}
 use Rattle.driver.specs.Serial.{IsRun}
 use Rattle.driver.specs.Simulations.{IsSimulated}
 use Rattle.driver.specs.ThreadRuns.{IsStrange}
 use Rattle.driver.specs.Traces.{IsTraceAnswer}
-use Rattle.source_histories.specs.declared.refusal.HistoryFault.{HistoryFault}
-use Rattle.source_histories.specs.Refusals.{history_fault_text}
+use Rattle.input_files.specs.declared.history_refusal.HistoryFault.{HistoryFault}
+use Rattle.input_files.specs.Refusals.{history_fault_text}
 use Rattle.replay.specs.declared.verdict.Judgement.{Judgement}
 
 -- the answer's status and outputs are what is wanted of them

@@ -3,7 +3,7 @@ use Rattle.std.specs.Prelude.{◌≡◌, ℕ, List}
 use Rattle.std.specs.List.{All}
 use Rattle.source.specs.declared.cursor.Cursor.{Cursor}
 
--- it is one of the text
+-- the mark is one of the text
 abbrev pub IsOf : List ℕ → Cursor → Type 0
 IsOf text mark = mark.text.now ≡ text
 

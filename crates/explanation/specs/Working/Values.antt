@@ -1,4 +1,4 @@
--- What values of the code say, in the words of the text that explains a fault.
+-- The text that explains a fault, as values of the code have it.
 use Rattle.std.specs.Prelude.{ℕ, List, map}
 use Rattle.std.specs.List.{flat_map}
 use Rattle.explanation.specs.declared.explanation.Acceptance.{Acceptance}

@@ -1,9 +1,9 @@
 -- How the code finds a limit on what helpers call. Nobody has to believe this file.
 use Rattle.std.specs.Prelude.{◌≡◌, ◌<◌, ℕ, false, List, slice_get, Some}
-use Rattle.core_lang_calls.specs.Depths.{depth, is_endless}
-use Rattle.core_lang_calls.specs.Working.FaultLists.{graph_faults}
-use Rattle.core_lang_calls.specs.Faults.{DEPTH_LIMIT}
-use Rattle.core_lang_calls.specs.Graphs.{Body}
+use Rattle.core_lang_helpers.specs.Depths.{depth, is_endless}
+use Rattle.core_lang_helpers.specs.Working.FaultLists.{graph_faults}
+use Rattle.core_lang_helpers.specs.Faults.{DEPTH_LIMIT}
+use Rattle.core_lang_helpers.specs.Graphs.{Body}
 use Rattle.resolution.specs.CallGraphs.{helper_bodies, tree_graph}
 use Rattle.source.specs.Mistakes.{least_of}
 use Rattle.source.specs.declared.fault.Code.TheVariants.{LimitExceeded, RecursiveHelper}

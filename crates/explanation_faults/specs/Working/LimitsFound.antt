@@ -7,9 +7,9 @@ use Rattle.resolution.specs.Limits.{STRUCT_LIMIT, MEMBER_LIMIT, CLASS_LIMIT, SEC
 use Rattle.resolution.specs.Limits.{PARAMETER_LIMIT, LOCAL_LIMIT}
 use Rattle.resolution.specs.Scopes.{member_name}
 use Rattle.syntax.specs.Trees.{Ident, Decl, struct, atomic}
-use Rattle.explanation_faults.specs.FirstBy.{first_by}
+use Rattle.explanation_names.specs.FirstBy.{first_by}
 use Rattle.explanation_faults.specs.LimitsPassed.{struct_name, body_name, thread_name, lock_names, parameter_names}
-use Rattle.explanation_faults.specs.NameSpaces.{local_names}
+use Rattle.explanation_names.specs.NameSpaces.{local_names}
 
 abbrev pub some_starts : ℕ → List Ident → Bool
 some_starts at [] = false

@@ -2,7 +2,7 @@
 use Rattle.std.specs.Prelude.{ℕ, ◌==◌, Bool, false, if◌then◌else◌, List, Option, Some, None}
 use Rattle.resolution.specs.Constants.{initialised}
 use Rattle.syntax.specs.Trees.{Const, null_const, Final, Member, final_member, Decl, init}
-use Rattle.explanation_faults.specs.FirstBy.{first_by}
+use Rattle.explanation_names.specs.FirstBy.{first_by}
 
 -- a null that stands there
 abbrev pub is_null_at : ℕ → Const → Bool

@@ -1,12 +1,10 @@
 -- What values of the code are, in the words of the notes.
-use Rattle.std.specs.Prelude.{◌≡◌, ◌<◌, ◌≤◌, ℕ, Bool, true, if◌then◌else◌, List, map, slice_get, length, Option, Some}
+use Rattle.std.specs.Prelude.{◌≡◌, ◌<◌, ◌≤◌, ℕ, Bool, true, if◌then◌else◌, List, slice_get, length, Option, Some}
 use Rattle.std.specs.Prelude.{None, IsSome}
 use denote.Ref.{Bor}
-use Rattle.std.specs.Option.{option_map}
 use Rattle.core_lang.specs.WellFormed.{IsWellFormed}
 use Rattle.core_lang.specs.declared.typed.Typed.{Typed}
 use Rattle.explanation.specs.Notes.{Note, note_of}
-pub use Rattle.explanation_names.specs.Working.Values.{ident_at, idents}
 use Rattle.explanation.specs.declared.note.Note as written_note
 use Rattle.resolution.specs.FirstFaults.{Firsts}
 use Rattle.resolution.specs.Working.Laws.{the_firsts}
@@ -14,60 +12,33 @@ use Rattle.resolution.specs.Constants.{members_of}
 use Rattle.resolution.specs.Working.FaultLists.{is_at}
 use Rattle.resolution.specs.Faults.{HasNoFault, IsFaultFor}
 use Rattle.resolution.specs.declared.why.Why.{Why}
-use Rattle.resolution.specs.Scopes.{member_bears, member_name, place_of, the_member}
+use Rattle.resolution.specs.Scopes.{member_bears, place_of, the_member}
 use Rattle.source.specs.Texts.{HasTokens, IsFault, SOURCE_LIMIT}
-use Rattle.source.specs.Tokens.{Tok, seen, seen_token}
+use Rattle.source.specs.Tokens.{Tok, seen}
 use Rattle.source.specs.declared.fault.Code.{Code}
 use Rattle.source.specs.declared.fault.Code.TheVariants.{LimitExceeded, MisplacedReturn}
 use Rattle.source.specs.declared.fault.Code.TheVariants.{WrongType, WrongArgumentCount, NotAssignable}
 use Rattle.source.specs.declared.fault.Fault.{Fault}
-use Rattle.source.specs.declared.token.Token.{Token}
-use Rattle.types_symbols.specs.Working.Views.{decls_of as decls_in, members_seen}
-use Rattle.types_symbols.specs.declared.members.Structure.{Structure}
-use Rattle.types_symbols.specs.declared.table.SymbolTable.{SymbolTable}
+use Rattle.types_symbols.specs.Working.Views.{decls_of as decls_in}
 use Rattle.syntax.specs.Faults.{HasRightTree}
-use Rattle.syntax.specs.Trees.{Ident, Final, Init, Member, final_member, Param, Pool, Section, Stmt, let_local}
-use Rattle.syntax.specs.Trees.{let_owned, let_call, var_local, Decl, pool}
-use Rattle.syntax.specs.Views.{ident, decl_of, final_of, init_of, member_of, param_of, pool_of, protection_of}
-use Rattle.syntax.specs.Views.{section_of, stmt_of}
-use Rattle.syntax.specs.declared.tree.Decl as written_decl
+use Rattle.syntax.specs.Trees.{Ident, Final, Init, Member, final_member, Pool}
+use Rattle.syntax.specs.Trees.{Decl, pool}
+use Rattle.syntax.specs.Views.{final_of, init_of, pool_of}
 use Rattle.syntax.specs.declared.tree.Final as written_final
 use Rattle.syntax.specs.declared.tree.Init as written_init
-use Rattle.syntax.specs.declared.tree.Member as written_member
-use Rattle.syntax.specs.declared.tree.Name.{Name}
-use Rattle.syntax.specs.declared.tree.Param as written_param
-use Rattle.syntax.specs.declared.tree.Protection.{Protection}
-use Rattle.syntax.specs.declared.tree.Section as written_section
-use Rattle.syntax.specs.declared.tree.Stmt as written_stmt
 use Rattle.explanation_faults.specs.FaultNotes.{AreNotes, IsFirstFault, IsLimitPassed, IsLimitTold, IsTrueNote, IsTold, gap_note}
 use Rattle.explanation_faults.specs.ReasonNotes.{IsReasonNote}
-use Rattle.explanation_faults.specs.FirstBy.{first_by}
 use Rattle.explanation_faults.specs.HelperLimits.{IsFirstOfHelpers, IsHelperLimit}
 use Rattle.explanation_faults.specs.LimitsPassed.{struct_name, body_name, thread_name}
 use Rattle.explanation_faults.specs.MissingInits.{IsFirstWithout, IsGap, IsGapOf, IsMissing, value_given}
-use Rattle.explanation_faults.specs.MissingReturns.{IsLacking, body_of}
-use Rattle.explanation_faults.specs.Working.PassedFound.{met_along, met_for}
+use Rattle.explanation_names.specs.MissingReturns.{IsLacking}
 use Rattle.explanation_faults.specs.PathsPassed.{ArePathsFirst, ArePathsPast, IsMeantProgram}
 use Rattle.explanation_faults.specs.TextNotes.{IsTextLimit}
 use Rattle.explanation_faults.specs.declared.limits_passed.Kind.{Kind}
 use Rattle.explanation_faults.specs.declared.limits_passed.Kind.TheVariants.{Structs, Bodies, Threads}
-use Rattle.explanation_faults.specs.declared.missing_inits.Gap.{Gap}
-use Rattle.explanation_faults.specs.declared.passed_members.Sought.{Sought}
+use Rattle.explanation_faults.specs.declared.missing_inits.MissingInit.{MissingInit}
 use Rattle.explanation_faults.specs.declared.tree_notes.Faulty.{Faulty}
 use Rattle.explanation_faults.specs.declared.tree_notes.Known.{Known}
-
-abbrev pub FoundName : (Ident → Type 0) → Option (Bor Name) → Type 0
-FoundName Is (Some name) = Is (ident_at name)
-FoundName Is None = (x : Ident) → Is x → ⊥
-
-abbrev pub name_of_member : written_member.Member → Ident
-name_of_member m = member_name (member_of m)
-
-abbrev pub member_names : List written_member.Member → List Ident
-member_names ms = map member_name (map member_of ms)
-
-abbrev pub param_names : List written_param.Param → List Ident
-param_names ps = map (λ (p : Param). p.name) (map param_of ps)
 
 abbrev pub decls_of : Faulty → List Decl
 decls_of x = decls_in x.symbols.now
@@ -125,13 +96,6 @@ abbrev pub FoundInit : (Init → Type 0) → Option (Bor written_init.Init) → 
 FoundInit Is (Some i) = Is (init_of i.now)
 FoundInit Is None = (i : Init) → Is i → ⊥
 
--- the section or the helper that a declaration is
-abbrev pub section_at : Bor written_section.Section → Section
-section_at s = section_of s.now
-
-abbrev pub IsBodyOf : written_decl.Decl → Option (Bor written_section.Section) → Type 0
-IsBodyOf d s = option_map section_at s ≡ body_of (decl_of d)
-
 -- the text has this fault and no other, and no tokens
 abbrev pub IsItsFault : List ℕ → Fault → Type 0
 IsItsFault text fault =
@@ -143,25 +107,6 @@ IsItsFault text fault =
 abbrev pub FoundTextLimit : List ℕ → Fault → Option (Bor (List ℕ)) → Type 0
 FoundTextLimit text fault (Some words) = (fault.code ≡ LimitExceeded) × IsTextLimit text fault.start words.now
 FoundTextLimit text fault None = (words : List ℕ) → fault.code ≡ LimitExceeded → IsTextLimit text fault.start words → ⊥
-
--- ---- tokens and statements
-
-abbrev pub token_seen : Bor Token → Tok
-token_seen t = seen_token t.now
-
-abbrev pub text_at : Bor (List ℕ) → List ℕ
-text_at text = text.now
-
-abbrev pub stmt_at : Bor written_stmt.Stmt → Stmt
-stmt_at s = stmt_of s.now
-
--- the name that a statement itself binds
-abbrev pub bound_name : Stmt → Option Ident
-bound_name (let_local l) = Some l.name
-bound_name (let_owned l o) = Some l.name
-bound_name (let_call l) = Some l.name
-bound_name (var_local l) = Some l.name
-bound_name _ = None
 
 -- ---- limits
 
@@ -198,25 +143,8 @@ kind_name Threads d = thread_name d
 
 -- ---- what is found with the tables of declarations
 
-abbrev pub member_at : Bor written_member.Member → Member
-member_at m = member_of m.now
-
-abbrev pub member_found : ℕ × Bor written_member.Member → ℕ × Member
-member_found f = (f.0, member_of f.1.now)
-
-abbrev pub members_behind : Bor Structure → List Member
-members_behind s = members_seen s.now
-
 abbrev pub final_at : Bor written_final.Final → Final
 final_at f = final_of f.now
-
--- along an annotation, from a struct on, if there is one; and of a struct's annotations
-abbrev pub met_from : SymbolTable → Sought → Option (Bor Structure) → Protection → Option Member
-met_from symbols sought s p =
-    met_along sought (decls_in symbols) (protection_of p).first 0 (option_map members_behind s) (protection_of p).first (protection_of p).rest
-
-abbrev pub met_inside : SymbolTable → Sought → Structure → Option Member
-met_inside symbols sought s = first_by (met_for sought (decls_in symbols) (members_seen s)) (members_seen s)
 
 -- the member at a place of a struct, if it is a final reference and the first of its name
 abbrev pub due_final : List Member → ℕ → Member → Option Final
@@ -250,9 +178,9 @@ abbrev pub FoundGapOf : List Decl → ℕ → Pool → ℕ → Option (ℕ × Bo
 FoundGapOf decls place p at (Some found) = IsGapOf decls place p at found.0 (final_at found.1)
 FoundGapOf decls place p at None = IsWhole decls place p at
 
-abbrev pub FoundGap : List Decl → ℕ → Option Gap → Type 0
+abbrev pub FoundGap : List Decl → ℕ → Option MissingInit → Type 0
 FoundGap decls at (Some gap) = IsGap decls at (pool_of gap.pool.now) gap.index (final_at gap.reference)
 FoundGap decls at None = (place : ℕ) (p : Pool) → slice_get decls place ≡ Some (pool p) → IsWhole decls place p at
 
-abbrev pub gap_note_of : Gap → Note
+abbrev pub gap_note_of : MissingInit → Note
 gap_note_of gap = gap_note (pool_of gap.pool.now) gap.index (final_at gap.reference)

@@ -1,49 +1,14 @@
 -- The note that the code finds for the `var` that a name is. Nobody has to believe this file.
 use Rattle.explanation.specs.Notes.{Note}
-use Rattle.std.specs.Prelude.{ℕ, ◌&&◌, ◌||◌, nat_lt, Bool, false, if◌then◌else◌, List, [], ◌∷◌, slice_get, Option}
-use Rattle.std.specs.Prelude.{Some, None}
-use Rattle.std.specs.Str.{bytes_eq}
+use Rattle.std.specs.Prelude.{ℕ, ◌||◌, Bool, if◌then◌else◌, List, slice_get, Option, Some}
 use Rattle.resolution.specs.Scopes.{◌>>=◌}
 use Rattle.source.specs.Tokens.{Tok}
-use Rattle.syntax.specs.Trees.{Ident, Place, lone, Stmt, var_local, assign, Section, Decl}
-use Rattle.explanation_faults.specs.FirstBy.{first_by}
-use Rattle.explanation_faults.specs.MissingReturns.{body_of}
-use Rattle.explanation_faults.specs.TokensThere.{token_at, name_of, has_two_fields}
-use Rattle.explanation_faults.specs.Vars.{all_of, var_note, fixed_note}
-
--- the `var` of this name
-abbrev pub var_in : List ℕ → Stmt → Option Ident
-var_in q (var_local l) = if bytes_eq q l.name.text then Some l.name else None
-var_in q _ = None
-
--- the name alone
-abbrev pub is_named : List ℕ → Place → Bool
-is_named q (lone x) = bytes_eq q x.text
-is_named q _ = false
-
--- an assignment to the name
-abbrev pub assigns : List ℕ → Stmt → Bool
-assigns q (assign p e) = is_named q p
-assigns q _ = false
-
-abbrev pub some_assigns : List ℕ → List Stmt → Bool
-some_assigns q [] = false
-some_assigns q (s ∷ ss) = assigns q s || some_assigns q ss
-
--- ---- sections
-
--- the place is behind the section's name and ahead of its closing brace
-abbrev pub encloses : ℕ → Section → Bool
-encloses at s = nat_lt s.name.span.start at && nat_lt at s.body.close.start
-
-abbrev pub section_if : ℕ → Decl → Option Section
-section_if at d = body_of d >>= λ (s : Section). if encloses at s then Some s else None
-
--- the section or helper that the place is in
-abbrev pub section_there : List Decl → ℕ → Option Section
-section_there decls at = first_by (section_if at) decls
-
--- ---- notes
+use Rattle.syntax.specs.Trees.{Ident, Stmt, Section, Decl}
+use Rattle.explanation_names.specs.FirstBy.{first_by}
+use Rattle.explanation_names.specs.TokensThere.{token_at, name_of, has_two_fields}
+use Rattle.explanation_names.specs.Vars.{all_of}
+use Rattle.explanation_names.specs.Working.VarsFound.{var_in, some_assigns, section_there}
+use Rattle.explanation_faults.specs.VarNotes.{var_note, fixed_note}
 
 -- of the `var` of this name among these statements: that it is one; and if none of them assigns it, and it is the base of one field at
 -- most, that a `let` would do

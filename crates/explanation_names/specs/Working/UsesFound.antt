@@ -9,7 +9,7 @@ use Rattle.syntax.specs.Trees.{stmt, Otherwise, no_else, else_do, Protection, Me
 use Rattle.syntax.specs.Trees.{field_member, Param, Section, Call, Item, call, repeat, Items, no_items, item, Decl}
 use Rattle.syntax.specs.Trees.{lock, struct, global, array, pool, init, atomic, helper, thread}
 use Rattle.syntax.specs.Trees as tree
-use Rattle.explanation_names.specs.declared.sought.Sought.TheVariants as kind
+use Rattle.explanation_names.specs.declared.sought.NameKind.TheVariants as kind
 use Rattle.explanation_names.specs.Locals.{LocalInScope, declared_by, param_in_scope}
 use Rattle.explanation_names.specs.Sought.{Use, of_kind, by_dots, by_init, by_annotation, by_owner}
 
@@ -43,7 +43,7 @@ module _ (xs : List LocalInScope) where
   abbrev pub uses_of_local : Local → List Use
   uses_of_local l = uses_of_type l.value_type ++ uses_in l.value
 
-  -- in a statement, but not in its blocks
+  -- the uses of names in a statement, but not in its blocks
   abbrev pub uses_by : Stmt → List Use
   uses_by (let_local l) = uses_of_local l
   uses_by (let_owned l o) = uses_of_local l ++ (by_owner l.value_type o.field ∷ of_kind kind.Local xs o.local ∷ [])
@@ -73,12 +73,12 @@ abbrev mutual
   uses_in_else xs no_else = []
   uses_in_else xs (else_do body close) = uses_in_stmts xs body
 
-  -- in statements ahead of which these locals are in scope
+  -- the uses of names in statements, before which these locals are in scope
   pub uses_in_stmts : List LocalInScope → Stmts → List Use
   uses_in_stmts xs no_stmts = []
   uses_in_stmts xs (stmt s rest) = (uses_by xs s ++ uses_in_blocks xs s) ++ uses_in_stmts (xs ++ declared_by s) rest
 
--- behind statements
+-- the locals that statements declare
 abbrev pub all_declared : Stmts → List LocalInScope
 all_declared no_stmts = []
 all_declared (stmt s rest) = declared_by s ++ all_declared rest
@@ -118,7 +118,7 @@ module _ (xs : List LocalInScope) where
   uses_of_annotation (Some p) = of_kind kind.Lock xs p.first ∷ []
   uses_of_annotation None = []
 
-  -- of a field of the struct of this name
+  -- the uses of names in the annotation of a field of the struct of this name
   abbrev pub uses_of_guard : Ident → Option Protection → List Use
   uses_of_guard s (Some p) = of_kind kind.Lock xs p.first ∷ by_annotation s p ∷ []
   uses_of_guard s None = []

@@ -1,4 +1,4 @@
--- What values of the code are, in the words of the definitions.
+-- Names, locals and members, as values of the code stand for them.
 use Rattle.std.proofs.Common.{Vec, Global}
 use Rattle.std.specs.List.{flat_map}
 use Rattle.std.specs.Option.{option_map}
@@ -16,9 +16,9 @@ use Rattle.syntax.specs.Views.{ident, member_of, type_of}
 use Rattle.syntax.specs.declared.tree.Member as written_member
 use Rattle.syntax.specs.declared.tree.Name.{Name}
 use Rattle.syntax.specs.declared.tree.Path as written_path
-use Rattle.explanation_names.specs.declared.found.Found.{Found}
+use Rattle.explanation_names.specs.declared.found.FoundNames.{FoundNames}
 use Rattle.explanation_names.specs.declared.nearest.Near.{Near}
-use Rattle.explanation_names.specs.declared.search.Search.{Search}
+use Rattle.explanation_names.specs.declared.search.NameSearch.{NameSearch}
 use Rattle.explanation_names.specs.declared.search.LocalInScope as written_local
 use Rattle.explanation_names.specs.declared.members.Role.{Role}
 use Rattle.explanation_names.specs.Working.Found.{Candidate, along, along_one, meant_by, next}
@@ -37,8 +37,8 @@ abbrev pub option_list : {A : Type 0} → Option A → List A
 option_list (Some x) = x ∷ []
 option_list None = []
 
--- where no growth was refused up to the end, none was at the start, and the names are those that there were, and these
-pub record Adds (before after : Found) (more : List Ident) : Type 0 where
+-- if no allocation failed up to the end, none failed before, and these names were appended
+pub record Adds (before after : FoundNames) (more : List Ident) : Type 0 where
   pub unrefused : after.is_refused ≡ false → before.is_refused ≡ false
   pub names : after.is_refused ≡ false → idents after.names.items ≡ idents before.names.items ++ more
 
@@ -50,16 +50,16 @@ typed_of x = record { name = ident x.name.now; value_type = type_of x.value_type
 abbrev pub typed_seen : List written_local.LocalInScope → List LocalInScope
 typed_seen xs = map typed_of xs
 
--- where no growth was refused up to the end, the locals are those that there were, and these
-abbrev pub Grows : Found → Vec written_local.LocalInScope Global → Vec written_local.LocalInScope Global →
+-- if no allocation failed up to the end, these locals were appended
+abbrev pub Grows : FoundNames → Vec written_local.LocalInScope Global → Vec written_local.LocalInScope Global →
     List LocalInScope → Type 0
 Grows end before after more = end.is_refused ≡ false → typed_seen after.items ≡ typed_seen before.items ++ more
 
-abbrev pub Keeps : Found → Vec written_local.LocalInScope Global → Vec written_local.LocalInScope Global → Type 0
+abbrev pub Keeps : FoundNames → Vec written_local.LocalInScope Global → Vec written_local.LocalInScope Global → Type 0
 Keeps end before after = end.is_refused ≡ false → typed_seen after.items ≡ typed_seen before.items
 
--- these locals are in scope besides, and no name is found
-pub record Binds (before after : Vec written_local.LocalInScope Global) (start end : Found) (more : List LocalInScope) : Type 0 where
+-- these locals were appended to the scope, and no name was found
+pub record Binds (before after : Vec written_local.LocalInScope Global) (start end : FoundNames) (more : List LocalInScope) : Type 0 where
   pub adds : Adds start end []
   pub scope : Grows end before after more
 
@@ -71,33 +71,33 @@ members_in_pool symbols x = pool_members (decls_in symbols) (the_decl (decls_in 
 
 -- ---- a search
 
-abbrev pub decls_at : Search → List Decl
+abbrev pub decls_at : NameSearch → List Decl
 decls_at s = decls_in s.symbols.now
 
-abbrev pub locals_at : Search → List LocalInScope
+abbrev pub locals_at : NameSearch → List LocalInScope
 locals_at s = typed_seen s.locals.now
 
-abbrev pub meant_for : Search → List Use → List Ident
+abbrev pub meant_for : NameSearch → List Use → List Ident
 meant_for s us = flat_map (meant_by (decls_at s) s.at) us
 
--- what could be meant by these uses of names is found
-pub record Says (s : Search) (before after : Found) (us : List Use) : Type 0 where
+-- the names that could be meant by these uses were found
+pub record Says (s : NameSearch) (before after : FoundNames) (us : List Use) : Type 0 where
   pub found : Adds before after (meant_for s us)
 
-abbrev pub uses_of_members : Search → Name → List written_member.Member → List Use
+abbrev pub uses_of_members : NameSearch → Name → List written_member.Member → List Use
 uses_of_members s structure ms = flat_map (uses_of_member (locals_at s) (ident structure)) (map member_of ms)
 
--- the uses of the names behind dots
-abbrev pub dots_at : Search → written_path.Path → List Use
+-- the uses of the names after dots
+abbrev pub dots_at : NameSearch → written_path.Path → List Use
 dots_at s p = by_dots (locals_at s) (ident p.first) (map ident p.fields.items) ∷ []
 
-abbrev pub along_from : Search → Role → Option (Bor Structure) → List Name → List Ident
+abbrev pub along_from : NameSearch → Role → Option (Bor Structure) → List Name → List Ident
 along_from s r o names = along r (decls_at s) s.at (option_map members_at o) (map ident names)
 
 abbrev pub next_from : SymbolTable → Option (Bor Structure) → Name → Option (List Member)
 next_from symbols o name = next (decls_in symbols) (option_map members_at o) (ident name)
 
-abbrev pub behind_one : Search → written_path.Path → written_local.LocalInScope → List Ident
+abbrev pub behind_one : NameSearch → written_path.Path → written_local.LocalInScope → List Ident
 behind_one s p l = along_one (decls_at s) s.at (ident p.first) (map ident p.fields.items) (typed_of l)
 
 -- ---- the choice
@@ -105,7 +105,7 @@ behind_one s p l = along_one (decls_at s) s.at (ident p.first) (map ident p.fiel
 abbrev pub candidate_of : Near → Candidate
 candidate_of near = record { name = ident near.name.now; edits = near.edits }
 
--- of names beside q the best so far
+-- the candidate is the best of these names for q
 pub record IsBest (names : List Ident) (q : List ℕ) (c : Candidate) : Type 0 where
   pub listed : Has names c.name
   pub distance : IsDistance q c.name.text c.edits
@@ -119,7 +119,7 @@ abbrev pub BestOf : List Ident → List ℕ → Option Candidate → Type 0
 BestOf names q (Some c) = IsBest names q c
 BestOf names q None = NoneIsNear (Has names) q
 
--- where the one was the best of some names, the other is the best of these and x
+-- if one candidate was the best of some names, the other is the best of these and x
 abbrev pub IsBestWith : List ℕ → Ident → Option Near → Option Near → Type 0
 IsBestWith q x before after =
     (names : List Ident) → BestOf names q (option_map candidate_of before) →

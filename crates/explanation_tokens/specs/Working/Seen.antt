@@ -1,4 +1,4 @@
--- What the code of advice speaks of, in the words of the table. Nobody has to believe this file.
+-- The table of advice, as values of the code have it. Nobody has to believe this file.
 use Rattle.std.specs.Prelude.{◌≡◌, ℕ, Bool, ◌&&◌, List, Option, find}
 use Rattle.std.specs.Option.{option_map}
 use denote.Ref.{Bor}
@@ -19,14 +19,14 @@ token_seen t = seen_token t.now
 abbrev pub around_of : written.Around → Around
 around_of s = record { opened = s.opened.items; decl = s.word; last = s.last }
 
--- the view behind the first so many of these tokens
+-- the view after the given number of these tokens
 pub record IsView (view : View) (ts : List Tok) (n : ℕ) : Type 0 where
   pub tokens : seen view.tokens.now ≡ ts
   pub number : view.number ≡ n
   pub area : view.area ≡ area_of (around n ts)
   pub inner : view.inner ≡ inner_of (around n ts).opened
 
--- which row fits there, and the note on the first of the table
+-- the row fits the token after the first n
 abbrev pub fits_at : List Tok → ℕ → Area → Option Opened → Row → Bool
 fits_at ts n area inner r = fits_area area r.0 && fits_inner inner r.1 && fits_shape ts n r.2
 

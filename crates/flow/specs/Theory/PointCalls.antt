@@ -1,4 +1,4 @@
--- Which helpers the points of a section call: those that its statements call.
+-- The helpers that the points of a section call: those that its statements call.
 use Rattle.std.proofs.Common.{◌≡◌, ℕ, List, [], ◌∷◌, Option, Some, None}
 use Rattle.std.specs.Prelude.{slice_get}
 use Rattle.core_lang.specs.declared.tree.Stmt.{Stmt}
@@ -11,7 +11,7 @@ use Rattle.flow.specs.Points.{Point, statement, result, inner_points, points_in,
 use Rattle.flow.specs.Theory.Each.{Each, each_append, each_there}
 
 module _ (P : ℕ → Type 0) where
-  -- each helper that a point calls is such a one
+  -- each helper that a point calls has the property
   abbrev pub PointCalls : Point → Type 0
   PointCalls (statement start x) = CallsOnly P x
   PointCalls (result r) = Unit {0}

@@ -17,11 +17,11 @@ use Rattle.flow.specs.Working.Effects.{effect_at}
 abbrev pub PointsAreCounted : Type 0
 PointsAreCounted = (section : Section) → count (skeleton section) ≡ length (points section)
 
--- and a scope for each
+-- a section has a scope for each of its points
 abbrev pub ScopesAreCounted : Type 0
 ScopesAreCounted = (section : Section) → length (scopes section) ≡ length (points section)
 
--- a flow pair leads from a point of the section to one of it
+-- each flow pair leads from a point of the section to a point of it
 abbrev pub PairsLeadBetweenPoints : Type 0
 PairsLeadBetweenPoints =
     (section : Section) (p q : ℕ) → Follows (skeleton section) p q → (p < length (points section)) × (q < length (points section))
@@ -34,7 +34,7 @@ PairsAreFlow = (c : Skeleton) (p q : ℕ) → Contains (pairs c) (p, q) ↔ Foll
 abbrev pub EachPointIsReached : Type 0
 EachPointIsReached = (c : Skeleton) (p : ℕ) → p < count c → (ps : List ℕ) × Walk c ps p
 
--- a local in scope at a point was in scope at each point that is followed by it, or is bound there
+-- a local in scope at a point was in scope at each point before it in the flow, or is bound there
 abbrev pub ScopeGoesBack : Type 0
 ScopeGoesBack =
     (section : Section) (p q local : ℕ) → Follows (skeleton section) p q → IsLocalInScope section q local →

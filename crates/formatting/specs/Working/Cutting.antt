@@ -1,4 +1,4 @@
--- What the code looks for.
+-- What the code looks for in a text.
 use Rattle.std.specs.Prelude.{ℕ, Bool, false, ◌&&◌, ◌==◌, List, [], ◌∷◌}
 
 -- a comment begins here

@@ -8,12 +8,12 @@ use Rattle.source.specs.Texts.{HasTokens}
 use Rattle.syntax.specs.Trees.{Decl}
 use Rattle.syntax.specs.Faults.{HasRightTree, IsFault, IsRefusal}
 
--- its tokens have one fault at most
+-- the tokens of a text have at most one fault
 abbrev pub HasOneFault : List ℕ → Type 0
 HasOneFault text = (a b : List Tok) (code : Code) (start : ℕ) (r : Refusal) → HasTokens text a → HasTokens text b →
     IsFault b code start → IsRefusal a r → IsFaultAt code start r
 
--- and none where they have a right tree
+-- the tokens of a text have no fault if they have a right tree
 abbrev pub HasFaultOrTree : List ℕ → Type 0
 HasFaultOrTree text = (a b : List Tok) (code : Code) (start : ℕ) (ds : List Decl) → HasTokens text a → HasTokens text b →
     IsFault b code start → HasRightTree a ds → ⊥

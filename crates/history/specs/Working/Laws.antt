@@ -19,8 +19,8 @@ Commuting =
     (opening : List Value) (cs more : List Commit) (cell : ℕ) → IsLegal opening (cs ++ more) → NoneWrites cell more →
     slice_get (committed opening (cs ++ more)) cell ≡ slice_get (committed opening cs) cell
 
--- the calls of a legal list of true commits, run whole one after another, end and print as it says, and leave the heap
--- after it
+-- the calls of a legal list of true commits, run whole one after another, end and print as the commits say, and leave
+-- the heap that the commits leave
 abbrev pub LegalIsSerial : Type 0
 LegalIsSerial =
     (program : Typed) (heap : List Value) (cs : List Commit) → length heap ≡ length program.cells.items →
@@ -29,24 +29,24 @@ LegalIsSerial =
 
 -- ---- one commit more
 
--- the heap is the heap before with its writes made
+-- the heap after one more commit is the heap before it with its writes made
 abbrev pub CommittedOfOneMore : Type 0
 CommittedOfOneMore =
     (heap : List Value) (cs : List Commit) (c : Commit) →
     committed heap (cs ++ c ∷ []) ≡ overwritten (committed heap cs) c.writes
 
--- a legal list stays legal where it read what the heap held
+-- a legal list with one more commit is legal if that commit read what the heap held
 abbrev pub LegalOfOneMore : Type 0
 LegalOfOneMore =
     (heap : List Value) (cs : List Commit) (c : Commit) → IsLegal heap cs → Agrees (committed heap cs) c.reads →
     IsLegal heap (cs ++ c ∷ [])
 
--- true commits stay true where it is true
+-- a list of true commits with one more true commit is a list of true commits
 abbrev pub TrueOfOneMore : Type 0
 TrueOfOneMore =
     (program : Typed) (cs : List Commit) (c : Commit) → AreTrue program cs → IsTrueCommit program c →
     AreTrue program (cs ++ c ∷ [])
 
--- commits leave as many cells as there were
+-- commits leave the number of cells unchanged
 abbrev pub CommittedKeepsSize : Type 0
 CommittedKeepsSize = (heap : List Value) (cs : List Commit) → length (committed heap cs) ≡ length heap

@@ -1,4 +1,4 @@
--- How the code keeps the lists of entries. Nobody has to believe this file.
+-- The representation of the lists of entries. Nobody has to believe this file.
 use Rattle.std.specs.Prelude.{◌≤◌, ◌+◌, ℕ, List, ◌++◌, length, map, slice_range}
 use Rattle.history.specs.Commits.{Commit}
 use Rattle.history.specs.Working.Histories.{PromisedOf}
@@ -8,22 +8,22 @@ use Rattle.history.specs.Working.Arrays.{ListsOf}
 
 -- ---- a list in the array of its kind
 
--- the list that stands there
+-- the list at a part of an array
 abbrev pub part_of : {A : Type 0} → List A → Part → List A
 part_of xs p = slice_range xs p.begin p.end
 
--- there is one
+-- the part lies within an array of this length
 pub record IsPart (long : ℕ) (p : Part) : Type 0 where
   pub forward : p.begin ≤ p.end
   pub within : p.end ≤ long
 
--- where a list goes that is appended
+-- the part where a list stands after it was appended
 abbrev pub part_behind : {A : Type 0} → List A → List A → Part
 part_behind xs ys = record { begin = length xs; end = length xs + length ys }
 
 -- ---- an entry
 
--- what stands in the arrays
+-- the commit whose lists stand in the arrays
 abbrev pub packed_commit : ListsOf → Packed → Commit
 packed_commit lists p = record {
   thread = p.thread;
@@ -37,14 +37,14 @@ packed_commit lists p = record {
   prints = part_of lists.prints p.prints;
 }
 
--- its lists are there
+-- each list of the entry lies within its array
 pub record IsPacked (lists : ListsOf) (p : Packed) : Type 0 where
   pub arguments : IsPart (length lists.arguments) p.arguments
   pub reads : IsPart (length lists.reads) p.reads
   pub writes : IsPart (length lists.writes) p.writes
   pub prints : IsPart (length lists.prints) p.prints
 
--- where the lists of an entry go that are appended
+-- the places of an entry's lists after they were appended
 abbrev pub packed_behind : ListsOf → Commit → Packed
 packed_behind lists c = record {
   thread = c.thread;
@@ -58,7 +58,7 @@ packed_behind lists c = record {
   prints = part_behind lists.prints c.prints;
 }
 
--- and the arrays then
+-- the arrays with the lists of an entry appended
 abbrev pub with_lists : ListsOf → Commit → PromisedOf → ListsOf
 with_lists lists c less = record {
   arguments = lists.arguments ++ c.arguments;
@@ -68,6 +68,6 @@ with_lists lists c less = record {
   promised = less;
 }
 
--- what the entries are whose lists stand there
+-- the commits whose lists stand in the arrays
 abbrev pub commits_in : ListsOf → List Packed → List Commit
 commits_in lists packed = map (packed_commit lists) packed

@@ -1,4 +1,5 @@
--- The numbers by which the lock paths of a section are sorted. Nobody has to believe these: what a list is, says `Placement`.
+-- The numbers by which the lock paths of a section are sorted. Nobody has to believe these: `Placement` defines the
+-- lists.
 use Rattle.std.specs.Prelude.{◌≡◌, ◌<◌, ◌+◌, ◌*◌, ◌++◌, ℕ, zero, suc, List, [], ◌∷◌, ◌%◌, ◌&&◌, not, length}
 use Rattle.std.specs.Prelude.{slice_get, slice_index, Some, if◌then◌else◌}
 use Rattle.std.specs.List.{AllPairs, Contains}
@@ -30,12 +31,12 @@ abbrev pub numbers_in : PathSet → List ℕ → List ℕ
 numbers_in set [] = []
 numbers_in set (k ∷ ks) = if has set (k % 64) then (k % 64) ∷ numbers_in set ks else numbers_in set ks
 
--- the paths of one set that aren't in another, in the order of their keys
+-- the paths of one set that are not in another, in the order of their keys
 abbrev pub IsLeft : List ℕ → PathSet → PathSet → List ℕ → Type 0
 IsLeft keys wanted held list =
     (set : PathSet) × ((i : ℕ) → has set i ≡ (has wanted i && not (has held i))) × (list ≡ numbers_in set keys)
 
--- those of each point, by its two sets
+-- the list of each point, by its two sets
 pub record AreDue (keys : List ℕ) (wanted held : List PathSet) (lists : List (List ℕ)) : Type 0 where
   pub long : length wanted ≡ length held → length lists ≡ length wanted
   pub each : (p : ℕ) (w h : PathSet) (list : List ℕ) → slice_get wanted p ≡ Some w → slice_get held p ≡ Some h →

@@ -13,7 +13,7 @@ use Rattle.lockorder.specs.Edges.{AreRanksOf, RiseIn}
 use Rattle.inserter.specs.Placement.{IsPath, IsPlacement}
 use Rattle.inserter.specs.Working.Runs.{AreAllowed, IsListed, Asks, Run}
 
--- a section of a well-formed program, ranks in which each edge rises, and lists that do
+-- a section of a well-formed program, ranks in which each edge rises, and allowed lists
 pub record IsOrdered (program : Typed) (section : Section) (ranks : List ℕ) (lists : List (List ℕ)) : Type 0 where
   pub well_formed : IsWellFormed program
   pub here : HasSection program section
@@ -21,7 +21,7 @@ pub record IsOrdered (program : Typed) (section : Section) (ranks : List ℕ) (l
   pub rise : RiseIn program ranks
   pub allowed : AreAllowed program section ranks lists
 
--- what accepted programs have: the lists of a placement are such
+-- the lists of a placement of a well-formed program are such
 abbrev pub PlacementsAreOrdered : Type 0
 PlacementsAreOrdered =
     (program : Typed) (ranks : List ℕ) (placed : List (List (List ℕ))) (k : ℕ) (section : Section) (lists : List (List ℕ)) →
@@ -40,13 +40,13 @@ abbrev pub AsksRise : Typed → Section → List ℕ → List (List ℕ) → ℕ
 AsksRise program section ranks lists p locals held =
     (lock other : Lock) → Asks program section ranks lists p locals held lock → Contains held other → Precedes ranks other lock
 
--- where a listed lock isn't held, it asks for one
+-- if a listed lock is not held, the run asks for a lock
 abbrev pub AsksForSome : Typed → Section → List ℕ → List (List ℕ) → ℕ → List Value → List Lock → Type 0
 AsksForSome program section ranks lists p locals held =
     (lock : Lock) → IsListed program section ranks lists p locals lock → (Contains held lock → ⊥) →
     (asked : Lock) × Asks program section ranks lists p locals held asked
 
--- where all listed locks are held, so is the lock that a path which the point uses names
+-- if all listed locks are held, so is each lock named by a path that the point uses
 abbrev pub UsedAreHeld : Typed → Section → List ℕ → List (List ℕ) → ℕ → List Value → List Lock → Type 0
 UsedAreHeld program section ranks lists p locals held =
     ((lock : Lock) → IsListed program section ranks lists p locals lock → Contains held lock) →
@@ -58,6 +58,6 @@ HeldAreNamed program section ranks lists p locals held =
     (lock : Lock) → Contains held lock →
     (i : ℕ) × (path : LockPath) × IsPath program section i path × (lock_named path program.shape locals ≡ Some lock)
 
--- no lock is held twice, and there are no more of them than lock paths of the section
+-- no lock is held twice, and at most as many are held as the section has lock paths
 abbrev pub FewAreHeld : Typed → Section → List ℕ → List (List ℕ) → ℕ → List Value → List Lock → Type 0
 FewAreHeld program section ranks lists p locals held = AllPairs ◌≢◌ held × (length held ≤ length (lock_paths program section))

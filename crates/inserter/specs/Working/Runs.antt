@@ -1,4 +1,4 @@
--- The run of a section as far as its locks go: what it asks for, what it holds, and where it comes.
+-- The run of a section reduced to its locks: the locks that it asks for and holds, and the points that it comes to.
 use Rattle.std.specs.Prelude.{◌≡◌, ◌⊎◌, ℕ, List, [], ◌∷◌, ◌++◌, length, slice_get, Some}
 use Rattle.std.specs.List.{Contains}
 use Rattle.core_lang.specs.declared.value.Value.{Value}
@@ -13,8 +13,8 @@ use Rattle.locks.specs.Order.{Precedes}
 use Rattle.points.specs.Wanted.{IsWanted}
 use Rattle.inserter.specs.Placement.{IsPath, IsDue}
 
--- lists before the points of a section that do: paths that are wanted there, and all that are due. Those of a placement are such lists,
--- and so are lists of all that is wanted
+-- allowed lists before the points of a section: they have only paths that are wanted there, and all that are due. The
+-- lists of a placement are such, and so are lists of all wanted paths
 pub record AreAllowed (program : Typed) (section : Section) (ranks : List ℕ) (lists : List (List ℕ)) : Type 0 where
   pub long : length lists ≡ length (points section)
   pub only : (p i : ℕ) (list : List ℕ) → slice_get lists p ≡ Some list → Contains list i →
@@ -24,7 +24,8 @@ pub record AreAllowed (program : Typed) (section : Section) (ranks : List ℕ) (
       IsDue program section ranks p path → Contains list i
 
 module _ (program : Typed) (section : Section) (ranks : List ℕ) (lists : List (List ℕ)) where
-  -- a path that is listed before the point names the lock, where these are the values of the locals; a path with a null root names none
+  -- a path that is listed before the point names the lock, given the values of the locals; a path with a null root
+  -- names none
   pub record IsListed (p : ℕ) (locals : List Value) (lock : Lock) : Type 0 where
     pub list : List ℕ
     pub number : ℕ
@@ -34,7 +35,7 @@ module _ (program : Typed) (section : Section) (ranks : List ℕ) (lists : List 
     pub is_path : IsPath program section number path
     pub named : lock_named path program.shape locals ≡ Some lock
 
-  -- of the listed locks that aren't held, the first
+  -- the first of the listed locks that are not held
   pub record Asks (p : ℕ) (locals : List Value) (held : List Lock) (lock : Lock) : Type 0 where
     pub listed : IsListed p locals lock
     pub new : Contains held lock → ⊥
@@ -55,7 +56,8 @@ module _ (program : Typed) (section : Section) (ranks : List ℕ) (lists : List 
     gets : {p : ℕ} {locals : List Value} {held : List Lock} {lock : Lock} → Run p locals held →
         Asks p locals held lock →
         Run p locals (held ++ lock ∷ [])
-    -- with all listed locks held it does what the point says, and goes on by flow. The roots of used paths that the point doesn't bind go on naming what they named; all else may change
+    -- if it holds all listed locks, it executes the point and goes on to one that follows. Used paths whose roots the
+    -- point does not bind keep naming the same locks; all else may change
     goes : {p q : ℕ} {locals after : List Value} {held : List Lock} → Run p locals held →
         ((lock : Lock) → IsListed p locals lock → Contains held lock) → Keeps p locals after → Follows (skeleton section) p q →
         Run q after held

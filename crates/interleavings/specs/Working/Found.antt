@@ -1,15 +1,15 @@
--- Runs of instructions, and what the search for turns has found on the way. Nobody has to believe this file.
+-- Runs of instructions, and the results of the search for turns so far. Nobody has to believe this file.
 use Rattle.std.specs.Prelude.{◌≡◌, ◌<◌, ℕ, ◌+◌, ◌-◌, Bool, true, false, nat_le, if◌then◌else◌, List, [], ◌∷◌, ◌++◌, replicate, ⊤}
 use Rattle.std.specs.Prelude.{Option, Some, None, MatchOption, Result, Ok, Err}
 use Rattle.std.specs.List.{list_all}
 use Rattle.lowering.specs.Plans.{Plan}
-use Rattle.source_steps.specs.declared.item.Item.{Item}
-use Rattle.source_steps.specs.declared.item.Until.{Until}
-use Rattle.source_steps.specs.declared.item.Until.TheVariants.{Count, Stop, CallEnd}
-use Rattle.source_steps.specs.declared.refusal.StepsCode.TheVariants.{TooManySteps}
-use Rattle.source_steps.specs.declared.refusal.StepsFault.{StepsFault}
-use Rattle.source_steps.specs.declared.turn.Turn.{Turn}
-use Rattle.source_steps.specs.Steps.{in_front}
+use Rattle.input_files.specs.declared.item.Item.{Item}
+use Rattle.input_files.specs.declared.item.Until.{Until}
+use Rattle.input_files.specs.declared.item.Until.TheVariants.{Count, Stop, CallEnd}
+use Rattle.input_files.specs.declared.steps_refusal.StepsCode.TheVariants.{TooManySteps}
+use Rattle.input_files.specs.declared.steps_refusal.StepsFault.{StepsFault}
+use Rattle.input_files.specs.declared.turn.Turn.{Turn}
+use Rattle.input_files.specs.Steps.{in_front}
 use Rattle.worlds.specs.declared.event.Event.{Event}
 use Rattle.worlds.specs.declared.event.Event.TheVariants.{Moved, Ended}
 use Rattle.worlds.specs.Worlds.{happens, world_after}
@@ -19,7 +19,7 @@ use Rattle.interleavings.specs.declared.items.Finder.{Finder}
 
 -- ---- steps
 
--- each of so many steps of a thread is an instruction
+-- each of the given number of steps of a thread is an instruction
 abbrev pub AreMoves : ThreadsOf → ℕ → ℕ → Type 0
 AreMoves w t count =
     (k : ℕ) → k < count → (happens w.plan (world_after w.plan w.world (replicate k t)) t).0 ≡ Moved
@@ -28,11 +28,11 @@ abbrev pub is_end : Event → Bool
 is_end (Ended position) = true
 is_end _ = false
 
--- so many steps of a thread were taken, where it is known how many
+-- the given number of steps of a thread were taken, if the number is known
 abbrev pub Takes : ℕ → Option ℕ → ThreadsOf → ThreadsOf → Type 0
 Takes t count old new = MatchOption count ⊤ (λ n. new ≡ with_steps old (replicate n t))
 
--- so many more, where it is known how many
+-- the number with more added, if it is known
 abbrev pub plus : ℕ → Option ℕ → Option ℕ
 plus count None = None
 plus count (Some more) = Some (count + more)
@@ -47,7 +47,7 @@ is_counted CallEnd = false
 abbrev pub are_counted : List Item → Bool
 are_counted items = list_all (λ (item : Item). is_counted item.until) items
 
--- how many steps it counts, if so many are left
+-- the number of steps that the item counts, if at least that many are left
 abbrev pub count_within : ℕ → Until → Option ℕ
 count_within left (Count count) = if nat_le count left then Some count else None
 count_within left Stop = None
@@ -63,7 +63,7 @@ counted_turns left (item ∷ items) =
 abbrev pub too_much : Item → StepsFault
 too_much item = record { code = TooManySteps; start = item.start }
 
--- the item's turn was added, and its steps are no longer left
+-- the item's turn was added, and its steps were subtracted from those left
 abbrev pub Adds : Item → Option ℕ → Finder → Finder → Type 0
 Adds item None old new = ⊥
 Adds item (Some count) old new =
@@ -72,23 +72,24 @@ Adds item (Some count) old new =
 abbrev pub IsTooMuch : Item → Option ℕ → StepsFault → Type 0
 IsTooMuch item count fault = (count ≡ None) × (fault ≡ too_much item)
 
--- whatever items follow, all turns are as they were with these items still to come
+-- these items were run: whatever items follow, all turns are the same as with these items still to come
 pub record RunsItems (items : List Item) (old : Finder) (first : ThreadsOf) (new : Finder) (last : ThreadsOf) : Type 0 where
   pub plan : last.plan ≡ first.plan
   pub found : (more : List Item) →
       in_front new.turns.items (turns_from first.plan new.left last.world more)
       ≡ in_front old.turns.items (turns_from first.plan old.left first.world (items ++ more))
 
--- whatever items follow, the fault is theirs
+-- these items have the fault, whatever items follow
 abbrev pub RunIsTooMuch : List Item → Finder → ThreadsOf → StepsFault → Type 0
 RunIsTooMuch items old first fault =
     (more : List Item) → turns_from first.plan old.left first.world (items ++ more) ≡ Err fault
 
--- the same from the opening world on
+-- these items were run from the opening world on
 abbrev pub RunsFromOpening : Plan → List Item → Finder → Finder → Type 0
 RunsFromOpening plan items old new = (last : ThreadsOf) × RunsItems items old (at_opening plan) new last
 
--- the same of items that count their steps
+-- these items, which count their steps, were passed: whatever items follow, all turns are the same as with these still
+-- to come
 abbrev pub CountsItems : List Item → Finder → Finder → Type 0
 CountsItems items old new =
     (more : List Item) →

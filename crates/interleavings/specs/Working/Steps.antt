@@ -1,4 +1,4 @@
--- What one step does to the manager and to the state of one thread. Nobody has to believe this file.
+-- The effect of one step on the manager and on the state of one thread. Nobody has to believe this file.
 use Rattle.std.specs.Prelude.{◌≡◌, ◌<◌, ℕ, Some, None, Result, Ok, Err}
 use Rattle.core_lang.specs.declared.typed.Call.{Call}
 use Rattle.core_lang.specs.Serial.{Invocation, invocation}
@@ -15,11 +15,11 @@ use Rattle.worlds.specs.declared.event.Event.{Event}
 use Rattle.worlds.specs.declared.event.Event.TheVariants as event
 use Rattle.worlds.specs.Worlds.{call_at}
 use Rattle.locks.specs.declared.lock.Lock.{Lock}
-use Rattle.interleavings.specs.declared.state.State.{State}
-use Rattle.interleavings.specs.declared.state.State.TheVariants as state
+use Rattle.interleavings.specs.declared.state.TypedState.{TypedState}
+use Rattle.interleavings.specs.declared.state.TypedState.TheVariants as state
 use Rattle.worlds.specs.Waiting.{first_if}
-use Rattle.interleavings.specs.declared.status.Status.{Status}
-use Rattle.interleavings.specs.declared.status.Status.TheVariants as status
+use Rattle.interleavings.specs.declared.status.ThreadStatus.{ThreadStatus}
+use Rattle.interleavings.specs.declared.status.ThreadStatus.TheVariants as status
 use Rattle.interleavings.specs.declared.coming.Coming.{Coming}
 use Rattle.interleavings.specs.declared.coming.Coming.TheVariants as coming
 use Rattle.interleavings.specs.Statuses.{calling, asking}
@@ -28,15 +28,15 @@ use Rattle.interleavings.specs.Working.States.{state_of}
 -- ---- a step of each kind
 
 -- the next call began
-pub record Begun (plan : Plan) (m : Managed) (r : ReadyOf) (x : State) (m' : Managed) : Type 0 where
+pub record Begun (plan : Plan) (m : Managed) (r : ReadyOf) (x : TypedState) (m' : Managed) : Type 0 where
   pub call : Invocation
   pub call_is : call_at plan r.thread r.step ≡ Some call
   pub section : OpenOf
   pub state_is : x ≡ state.Running section
   pub began : Began m r plan call section m'
 
--- an instruction
-pub record Moved (m : Managed) (o : OpenOf) (x : State) (m' : Managed) : Type 0 where
+-- an instruction was run
+pub record Moved (m : Managed) (o : OpenOf) (x : TypedState) (m' : Managed) : Type 0 where
   pub next : Next
   pub state_is : x ≡ state_of next
   pub is : open_of next ≡ moved o
@@ -44,22 +44,22 @@ pub record Moved (m : Managed) (o : OpenOf) (x : State) (m' : Managed) : Type 0 
   pub manager : m' ≡ m
 
 -- a lock was granted
-pub record Got (m : Managed) (o : OpenOf) (lock : Lock) (x : State) (m' : Managed) : Type 0 where
+pub record Got (m : Managed) (o : OpenOf) (lock : Lock) (x : TypedState) (m' : Managed) : Type 0 where
   pub next : Next
   pub state_is : x ≡ state_of next
   pub gets : Gets m o (open_of next) m'
   pub named : IsNamed next
   pub lock_is : gets.lock ≡ lock
 
--- another thread holds the lock
-pub record Refused (m : Managed) (o : OpenOf) (lock : Lock) (holder : ℕ) (x : State) (m' : Managed) : Type 0 where
+-- the section waits: another thread holds the lock
+pub record Refused (m : Managed) (o : OpenOf) (lock : Lock) (holder : ℕ) (x : TypedState) (m' : Managed) : Type 0 where
   pub section : OpenOf
   pub state_is : x ≡ state.Asking section
   pub waits : Waits m o holder section m'
   pub lock_is : waits.lock ≡ lock
 
 -- the section ended
-pub record Over (m : Managed) (o : OpenOf) (position : ℕ) (x : State) (m' : Managed) : Type 0 where
+pub record Over (m : Managed) (o : OpenOf) (position : ℕ) (x : TypedState) (m' : Managed) : Type 0 where
   pub ready : ReadyOf
   pub receipt : ReceiptOf
   pub state_is : x ≡ state.Ready ready
@@ -69,29 +69,29 @@ pub record Over (m : Managed) (o : OpenOf) (position : ℕ) (x : State) (m' : Ma
 -- ---- one step of any kind
 
 -- nothing has changed
-abbrev pub Stays : Managed → State → State → Managed → Type 0
+abbrev pub Stays : Managed → TypedState → TypedState → Managed → Type 0
 Stays m x x' m' = (x' ≡ x) × (m' ≡ m)
 
-abbrev pub ReadySteps : Plan → Managed → ReadyOf → Event → State → Managed → Type 0
+abbrev pub ReadySteps : Plan → Managed → ReadyOf → Event → TypedState → Managed → Type 0
 ReadySteps plan m r event.Idle x m' = (call_at plan r.thread r.step ≡ None) × Stays m (state.Ready r) x m'
 ReadySteps plan m r event.Began x m' = Begun plan m r x m'
 ReadySteps plan m r _ x m' = ⊥
 
-abbrev pub RunningSteps : Managed → OpenOf → Event → State → Managed → Type 0
+abbrev pub RunningSteps : Managed → OpenOf → Event → TypedState → Managed → Type 0
 RunningSteps m o event.Moved x m' = Moved m o x m'
 RunningSteps m o _ x m' = ⊥
 
-abbrev pub AskingSteps : Managed → OpenOf → Event → State → Managed → Type 0
+abbrev pub AskingSteps : Managed → OpenOf → Event → TypedState → Managed → Type 0
 AskingSteps m o (event.Got lock) x m' = Got m o lock x m'
 AskingSteps m o (event.Waits lock holder) x m' = Refused m o lock holder x m'
 AskingSteps m o _ x m' = ⊥
 
-abbrev pub EndedSteps : Managed → OpenOf → Event → State → Managed → Type 0
+abbrev pub EndedSteps : Managed → OpenOf → Event → TypedState → Managed → Type 0
 EndedSteps m o (event.Ended position) x m' = Over m o position x m'
 EndedSteps m o _ x m' = ⊥
 
--- from a state and the manager, by the event, to a state and the manager
-abbrev pub Steps : Plan → Managed → State → Event → State → Managed → Type 0
+-- a step with this event leads from a state and a manager to these
+abbrev pub Steps : Plan → Managed → TypedState → Event → TypedState → Managed → Type 0
 Steps plan m state.Away e x m' = ⊥
 Steps plan m (state.Ready r) e x m' = ReadySteps plan m r e x m'
 Steps plan m (state.Running o) e x m' = RunningSteps m o e x m'
@@ -102,23 +102,23 @@ Steps plan m (state.Ended o) e x m' = EndedSteps m o e x m'
 abbrev pub HasCall : Plan → ReadyOf → Type 0
 HasCall plan r = (call : Invocation) × (call_at plan r.thread r.step ≡ Some call)
 
--- only where a call would begin can memory be wanting, and then all is as it was
-abbrev pub Refuses : Plan → Managed → State → State → Managed → Type 0
+-- memory can run out only if a call would begin, and then all is as it was
+abbrev pub Refuses : Plan → Managed → TypedState → TypedState → Managed → Type 0
 Refuses plan m (state.Ready r) x m' = HasCall plan r × Stays m (state.Ready r) x m'
 Refuses plan m _ x m' = ⊥
 
-abbrev pub Stepped : Plan → Managed → State → Result Event NoMemory → State → Managed → Type 0
+abbrev pub Stepped : Plan → Managed → TypedState → Result Event NoMemory → TypedState → Managed → Type 0
 Stepped plan m y (Ok e) x m' = Steps plan m y e x m'
 Stepped plan m y (Err e) x m' = Refuses plan m y x m'
 
--- ---- what a step needs
+-- ---- requirements of a step
 
--- its thread has no section open
+-- the thread has no open section
 pub record CanBegin (m : Managed) (r : ReadyOf) : Type 0 where
   pub thread : r.thread < 64
   pub closed : session_of m r.thread ≡ None
 
-abbrev pub CanStep : Managed → State → Type 0
+abbrev pub CanStep : Managed → TypedState → Type 0
 CanStep m state.Away = ⊥
 CanStep m (state.Ready r) = CanBegin m r
 CanStep m (state.Running o) = Unit {0}
@@ -138,22 +138,22 @@ pub record IsCall (plan : Plan) (t step : ℕ) (call : Call) : Type 0 where
 
 -- ---- statuses
 
--- a section that is to be granted a lock
-abbrev pub asking_at : Managed → OpenOf → Status
+-- the status of a section that is to be granted a lock
+abbrev pub asking_at : Managed → OpenOf → ThreadStatus
 asking_at m o = asking (holder_of m) (first_if o.activation.asked o.activation.pending)
 
--- how a thread in this state stands
-abbrev pub status_at : Plan → Managed → State → Status
+-- the status of a thread in this state
+abbrev pub status_at : Plan → Managed → TypedState → ThreadStatus
 status_at plan m state.Away = status.Idle
 status_at plan m (state.Ready r) = calling (call_at plan r.thread r.step)
 status_at plan m (state.Running o) = status.Running
 status_at plan m (state.Asking o) = asking_at m o
 status_at plan m (state.Ended o) = status.Running
 
--- ---- what comes
+-- ---- the next step
 
--- what the next step of a thread in this state takes up
-abbrev pub coming_at : State → Coming
+-- the kind of the next step of a thread in this state
+abbrev pub coming_at : TypedState → Coming
 coming_at state.Away = coming.Other
 coming_at (state.Ready r) = coming.Call r.step
 coming_at (state.Running o) = coming.Instruction o.activation.call.section o.activation.machine.place

@@ -1,4 +1,5 @@
--- Each lock once, and the cells of a lock. Nobody has to believe this: it is proved here, for proofs of this crate and of those above.
+-- Each lock once, and the cells of a lock. Nobody has to believe this: it is proved here, for proofs of this crate and
+-- of those above.
 use Rattle.std.proofs.Common.{◌≡◌, ◌≢◌, ℕ, zero, suc, ◌+◌, ◌<◌, Bool, true, false, if◌then◌else◌, List, [], ◌∷◌, ◌++◌}
 use Rattle.std.proofs.Common.{length, get_or, Some, ◌⊎◌, inl, inr, refl, sym, ap, ◌∙◌, subst, arith}
 use Rattle.std.specs.Prelude.{slice_get}
@@ -52,7 +53,7 @@ cells_push_from k (x ∷ xs) l lock =
     in_front (same_lock x lock) k (cells_from (k + 1) (xs ++ l ∷ []) lock) (cells_from (k + 1) xs lock) (if same_lock l lock then (k + length (x ∷ xs)) ∷ [] else [])
     (more ∙ ap (λ (n : ℕ). cells_from (k + 1) xs lock ++ (if same_lock l lock then n ∷ [] else [])) sum)
 
--- one cell more, of this lock or of another
+-- one more cell, of this lock or of another
 pub own_cell : (ls : List Lock) (lock : Lock) → cells_of (ls ++ lock ∷ []) lock ≡ cells_of ls lock ++ length ls ∷ []
 own_cell ls lock =
     cells_push_from 0 ls lock lock ∙ ap (λ (b : Bool). cells_of ls lock ++ (if b then (0 + length ls) ∷ [] else [])) (same_itself lock)

@@ -21,8 +21,8 @@ use Rattle.source.specs.Faults.{IsBare}
 use Rattle.source.specs.Texts.{is_letter, is_digit, is_name_byte, is_white, keyword_text, value_of, NUMBER_LIMIT}
 use Rattle.source.specs.Texts.{NAME_LIMIT}
 use Rattle.std.specs.Rc.{rc_str_bytes}
-use Rattle.lexer.specs.declared.unit.Kind.{Kind}
-use Rattle.lexer.specs.declared.unit.Kind.TheVariants as kind
+use Rattle.lexer.specs.declared.unit.UnitKind.{UnitKind}
+use Rattle.lexer.specs.declared.unit.UnitKind.TheVariants as kind
 use Rattle.lexer.specs.declared.token_error.TokenError.{TokenError}
 use Rattle.lexer.specs.declared.token_error.TokenError.TheVariants.{Bad, NoMemory}
 
@@ -33,12 +33,12 @@ abbrev pub run_of : (ℕ → Bool) → List ℕ → List ℕ
 run_of p [] = []
 run_of p (b ∷ bs) = if p b then b ∷ run_of p bs else []
 
--- behind them
+-- the bytes after the first ones that pass the test
 abbrev pub after_run : (ℕ → Bool) → List ℕ → List ℕ
 after_run p [] = []
 after_run p (b ∷ bs) = if p b then after_run p bs else b ∷ bs
 
--- behind the bytes of a line
+-- the bytes after those of the first line
 abbrev pub after_line : List ℕ → List ℕ
 after_line [] = []
 after_line (b ∷ bs) = if b == 10 then b ∷ bs else after_line bs
@@ -47,7 +47,7 @@ abbrev pub is_slash : List ℕ → Bool
 is_slash [] = false
 is_slash (b ∷ bs) = b == 47
 
--- behind white space and comments, in a comment or not
+-- the bytes after white space and comments, beginning inside a comment or not
 abbrev pub skip_in : Bool → List ℕ → List ℕ
 skip_in c [] = []
 skip_in true (b ∷ bs) = if b == 10 then skip_in false bs else skip_in true bs
@@ -58,11 +58,11 @@ skip = skip_in false
 
 -- ---- keywords
 
--- a number for a text, another for each keyword
+-- a hash of a text, which differs for each keyword
 abbrev pub slot_of : List ℕ → ℕ
 slot_of bs = (3 * slice_index bs 0 + 2 * slice_index bs 2 + 9 * length bs) % 32
 
--- the keyword of a number
+-- the keyword of each hash
 abbrev pub SLOTS : List Keyword
 SLOTS =
     Lock ∷ Var ∷ Lock ∷ Lock ∷ While ∷ Call ∷ Null ∷ Let ∷ Lock ∷ Global ∷ Lock ∷ Lock ∷ Repeat ∷ If ∷ Lock ∷ Print ∷
@@ -73,13 +73,13 @@ abbrev pub if_same : Bool → Keyword → Option Keyword
 if_same true w = Some w
 if_same false w = None
 
--- the one keyword that a text can be, if it is that
+-- the keyword of this text, if it is one
 abbrev pub keyword_of : List ℕ → Option Keyword
 keyword_of bs = let w = slice_index_or SLOTS (slot_of bs) Lock in if_same (bytes_eq (keyword_text w) bs) w
 
 -- ---- signs
 
--- the sign beside this byte
+-- the sign that the table has for this byte
 abbrev pub pick : List (ℕ × Sign) → ℕ → Option Sign
 pick [] b = None
 pick (p ∷ ps) b = if b == p.0 then Some p.1 else pick ps b
@@ -95,7 +95,7 @@ SINGLES =
 abbrev pub WITH_EQUALS : List (ℕ × Sign)
 WITH_EQUALS = (61, DoubleEquals) ∷ (33, NotEquals) ∷ (60, LessEquals) ∷ (62, GreaterEquals) ∷ []
 
--- the signs of two bytes that are the same, but for that
+-- the signs of two equal bytes, except `==`
 abbrev pub DOUBLED : List (ℕ × Sign)
 DOUBLED = (38, And) ∷ (124, Or) ∷ []
 
@@ -107,14 +107,14 @@ double_of a b = if b == 61 then pick WITH_EQUALS a else if a == b then pick DOUB
 
 -- ---- units
 
--- what a token is, as plain data
-abbrev pub seen_kind : Kind → Lexeme
+-- the kind of a token as plain data
+abbrev pub seen_kind : UnitKind → Lexeme
 seen_kind (kind.Name text) = name (rc_str_bytes text)
 seen_kind (kind.Int n) = int n
 seen_kind (kind.Word w) = word w
 seen_kind (kind.Mark s) = mark s
 
--- where a token of this kind can stand: within 32 bits, and a name is as long as its text
+-- a token of this kind may have this start and end: both fit into 32 bits, and a name is as long as its text
 abbrev pub CanStand : Lexeme → ℕ → ℕ → Type 0
 CanStand (name text) start end = (start < 2 ^ 32) × (end ≡ start + length text)
 CanStand _ start end = (start < 2 ^ 32) × (end < 2 ^ 32)
@@ -150,12 +150,12 @@ abbrev pub sign_at : ℕ → List ℕ → Result (Lexeme × List ℕ) Code
 sign_at a [] = single_at a []
 sign_at a (b ∷ rest) = sign_or (double_of a b) rest (single_at a (b ∷ rest))
 
--- the token that begins with the first byte, and what is behind it
+-- the token that begins with the first byte, and what follows it
 unfoldable pub unit_at : List ℕ → Result (Lexeme × List ℕ) Code
 unit_at [] = Err BadCharacter
 unit_at (b ∷ bs) = if is_letter b then word_at (b ∷ bs) else if is_digit b then number_at (b ∷ bs) else sign_at b bs
 
--- what a function returned, seen by view, is what reading gives, unless memory ran out
+-- the error of a function is that of reading, unless memory ran out
 abbrev pub Fails : {Y : Type 0} → TokenError → Result Y Code → Type 0
 Fails NoMemory read = Unit {0}
 Fails (Bad c) read = read ≡ Err c
@@ -164,7 +164,7 @@ abbrev pub Gives : {X Y : Type 0} → (X → Y) → Result X TokenError → Resu
 Gives view (Ok x) read = read ≡ Ok (view x)
 Gives view (Err e) read = Fails e read
 
--- the refusal for a token that begins here
+-- the refusal for this error of a token that begins at this byte
 abbrev pub Refuses : TokenError → ℕ → Refusal → Type 0
 Refuses (Bad c) start (refusal.Fault f) = IsBare c start f
 Refuses (Bad c) start refusal.NoMemory = ⊥

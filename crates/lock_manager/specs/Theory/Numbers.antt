@@ -1,4 +1,4 @@
--- Locks by number. Nobody has to believe this: it is proved here, for proofs of this crate and of those above.
+-- The numbers of locks. Nobody has to believe this: it is proved here, for proofs of this crate and of those above.
 use Rattle.std.proofs.Common.{◌≡◌, ◌≢◌, ℕ, zero, suc, ◌+◌, if◌then◌else◌, List, [], ◌∷◌, Some, inl, inr, sym, ap, ◌∙◌}
 use Rattle.std.proofs.Common.{arith}
 use Rattle.std.specs.Prelude.{slice_get}

@@ -1,4 +1,4 @@
--- What each call of the manager does.
+-- The effect of each call of the manager.
 use Rattle.std.specs.Prelude.{◌≡◌, ◌≢◌, ◌<◌, ℕ, List, [], ◌∷◌, ◌++◌, length, map, slice_get, slice_set, Option, Some}
 use Rattle.std.specs.Prelude.{None}
 use Rattle.std.specs.List.{Contains, All}
@@ -18,7 +18,7 @@ use Rattle.lock_manager.specs.Working.Queues.{waiting_in, leaving, joining}
 use Rattle.lock_manager.specs.Manager.{Managed, session_of}
 use Rattle.lock_manager.specs.Working.Managers.{place_of, put_for, given_back, as_committed, ComesAfter}
 
--- with a thread's section as it is now
+-- the manager with another slot of a thread
 abbrev pub with_session : Managed → ℕ → Option SessionOf → Managed
 with_session m t s = record m { slots = slice_set m.slots t s }
 
@@ -27,7 +27,7 @@ ticket_with ticket s = record ticket { session = s }
 
 -- ---- begin
 
--- a section of a thread that had none is open, and its ticket says how long the history is
+-- `begin` opens a section of a thread that had none; the ticket has the length of the history
 pub record Begins (m : Managed) (t : ℕ) (room : Room) (ticket : TicketOf) (m' : Managed) : Type 0 where
   pub was_closed : session_of m t ≡ None
   pub ticket_is : ticket ≡ record { thread = t; session = fresh (length m.history) room }
@@ -35,19 +35,19 @@ pub record Begins (m : Managed) (t : ℕ) (room : Room) (ticket : TicketOf) (m' 
 
 -- ---- request
 
--- the manager's slot of the ticket's thread has what the ticket says
+-- the slot of the ticket's thread equals the section of the ticket
 abbrev pub Knows : Managed → TicketOf → Type 0
 Knows m ticket = session_of m ticket.thread ≡ Some ticket.session
 
--- when a lock may be asked for: it is one of the program's; it comes after all that are held; where one was asked
--- for, it is that one; and there is room for one more
+-- the section may ask for the lock: it is a lock of the program, and comes after all locks that the section holds. If
+-- the section has asked for a lock already, it is that lock. The section has room for one more lock
 pub record CanAsk (m : Managed) (ticket : TicketOf) (lock : Lock) : Type 0 where
   pub listed : Contains m.layout.locks lock
   pub rises : ComesAfter m.ranks ticket.session.held lock
   pub same : (other : Lock) → ticket.session.ask ≡ Some other → other ≡ lock
   pub room : length ticket.session.held < ticket.session.room.locks
 
--- the thread has the lock's cells, and waits no more
+-- the manager after a grant: the thread has the lock's cells, and no longer waits
 abbrev pub after_grant : Managed → TicketOf → Lock → Managed
 after_grant m ticket lock =
     record m {
@@ -56,7 +56,7 @@ after_grant m ticket lock =
       slots = slice_set m.slots ticket.thread (Some (with_lock ticket.session lock));
     }
 
--- the thread waits for the lock, behind the others or at the place that it had
+-- the manager after a refusal: the thread waits for the lock, after the other waiters or at the place that it had
 abbrev pub after_refusal : Managed → TicketOf → Lock → Managed
 after_refusal m ticket lock =
     record m {
@@ -64,7 +64,7 @@ after_refusal m ticket lock =
       slots = slice_set m.slots ticket.thread (Some (with_ask ticket.session lock));
     }
 
--- a free lock is granted with its cells
+-- the lock is free, and is granted with its cells
 pub record Grants (m : Managed) (ticket : TicketOf) (lock : Lock) (grant : GrantOf) (m' : Managed) (ticket' : TicketOf)
     : Type 0 where
   pub lock_is : grant.lock ≡ lock
@@ -72,7 +72,7 @@ pub record Grants (m : Managed) (ticket : TicketOf) (lock : Lock) (grant : Grant
   pub ticket_is : ticket' ≡ ticket_with ticket (with_lock ticket.session lock)
   pub manager : m' ≡ after_grant m ticket lock
 
--- a lock that another thread holds is noted as asked for
+-- another thread holds the lock, and the request is noted
 pub record Refuses (m : Managed) (ticket : TicketOf) (lock : Lock) (holder : ℕ) (m' : Managed) (ticket' : TicketOf)
     : Type 0 where
   pub was_taken : place_of m lock ≡ Some (Taken holder)
@@ -80,7 +80,7 @@ pub record Refuses (m : Managed) (ticket : TicketOf) (lock : Lock) (holder : ℕ
   pub ticket_is : ticket' ≡ ticket_with ticket (with_ask ticket.session lock)
   pub manager : m' ≡ after_refusal m ticket lock
 
--- what a request is answered
+-- the answer to a request, with its effect
 abbrev pub Answers : Managed → TicketOf → Lock → Answer → Managed → TicketOf → Type 0
 Answers m ticket lock (Granted grant) m' ticket' = Grants m ticket lock grant m' ticket'
 Answers m ticket lock (Held holder) m' ticket' = Refuses m ticket lock holder m' ticket'
@@ -94,15 +94,15 @@ pub record AreOf (cell_locks : List Lock) (held : List Lock) (grants : List Gran
   pub only : All (λ (g : GrantOf). Contains held g.lock) grants
   pub whole : All (IsWhole cell_locks) grants
 
--- a write is of a cell that one of these locks protects
+-- one of these locks protects the written cell
 pub record IsOwnWrite (cell_locks : List Lock) (held : List Lock) (w : ℕ × Value) : Type 0 where
   pub lock : Lock
   pub lock_is : slice_get cell_locks w.0 ≡ Some lock
   pub is_held : Contains held lock
 
--- when a section may end with these grants and this entry: no ask of it stands; the grants are exactly its own; the
--- entry is its thread's and has its begin; what it read is what the history leaves, it writes only cells of its
--- locks, and the grants are what the history leaves with these writes made
+-- the section may end with these grants and this entry. No request of it is pending, and the grants are exactly its own.
+-- The entry has its thread and its begin. The entry's reads are what the history leaves, its writes are of cells of the
+-- section's locks, and the grants have what the history leaves with these writes made
 pub record Fits (m : Managed) (ticket : TicketOf) (grants : List GrantOf) (entry : Commit) : Type 0 where
   pub no_ask : ticket.session.ask ≡ None
   pub own : AreOf m.layout.cell_locks ticket.session.held grants
@@ -112,21 +112,21 @@ pub record Fits (m : Managed) (ticket : TicketOf) (grants : List GrantOf) (entry
   pub writes : All (IsOwnWrite m.layout.cell_locks ticket.session.held) entry.writes
   pub now : All (λ (g : GrantOf). Agrees (overwritten m.values entry.writes) (cells_in m.layout.cell_locks g)) grants
 
--- when a section may be released
+-- the ticket is known, and the section may end with these grants and this entry
 abbrev pub CanRelease : Managed → TicketOf → List GrantOf → Commit → Type 0
 CanRelease m ticket grants entry = Knows m ticket × Fits m ticket grants entry
 
--- the first of a queue, if there is one, and more
+-- the first item of a queue, if there is one, before the other list
 abbrev pub first_and : List ℕ → List ℕ → List ℕ
 first_and [] more = more
 first_and (t ∷ ts) more = t ∷ more
 
--- the first who waits for each of these locks, where somebody does
+-- the first waiter for each of these locks that has one
 abbrev pub first_waiters : List Waiter → List Lock → List ℕ
 first_waiters waiters [] = []
 first_waiters waiters (l ∷ ls) = first_and (waiting_in waiters l) (first_waiters waiters ls)
 
--- the cells are back, the section is closed, and its entry stands last
+-- the manager after a release: the cells are back, the section is closed, and its entry is last
 abbrev pub after_release : Managed → TicketOf → List GrantOf → Commit → Managed
 after_release m ticket grants entry =
     record m {
@@ -136,7 +136,7 @@ after_release m ticket grants entry =
       values = overwritten m.values entry.writes;
     }
 
--- the entry's position is where the history ended, and of each lock that is free now the first who waits is to be woken
+-- the receipt has the position of the new entry, and the first waiter for each lock that is free now
 pub record Releases (m : Managed) (ticket : TicketOf) (grants : List GrantOf) (entry : Commit) (receipt : ReceiptOf)
     (m' : Managed) : Type 0 where
   pub position : receipt.position ≡ length m.history
@@ -145,8 +145,8 @@ pub record Releases (m : Managed) (ticket : TicketOf) (grants : List GrantOf) (e
 
 -- ---- give_up
 
--- the locks of the grants are free with the history's values, their thread has no open section and waits for nothing,
--- and nothing is entered
+-- the manager after a section was given up: the locks of the grants are free with the history's values, and the thread
+-- has no open section and doesn't wait; the history is unchanged
 abbrev pub after_give_up : Managed → ℕ → List GrantOf → Managed
 after_give_up m t grants =
     record m {
@@ -161,14 +161,14 @@ pub record AreItsGrants (m : Managed) (t : ℕ) (grants : List GrantOf) : Type 0
   pub is : session_of m t ≡ Some session
   pub own : AreOf m.layout.cell_locks session.held grants
 
--- the program, the entries and what they leave stay as they are
+-- the layout, the ranks, the entries and the values that they leave are unchanged
 pub record KeepsEntries (m m' : Managed) : Type 0 where
   pub layout : m'.layout ≡ m.layout
   pub ranks : m'.ranks ≡ m.ranks
   pub history : m'.history ≡ m.history
   pub values : m'.values ≡ m.values
 
--- so where the grants are exactly those of the thread's slot; else all stays as it is. In both cases nothing is entered
+-- the section is given up if the grants are exactly those of the thread's slot; otherwise the manager is unchanged
 pub record GivesUp (m : Managed) (ticket : TicketOf) (grants : List GrantOf) (m' : Managed) : Type 0 where
   pub own : AreItsGrants m ticket.thread grants → m' ≡ after_give_up m ticket.thread grants
   pub not_own : (AreItsGrants m ticket.thread grants → ⊥) → m' ≡ m

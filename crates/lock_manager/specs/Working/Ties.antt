@@ -1,4 +1,4 @@
--- What the manager's parts have to do with one another. Nobody has to believe these.
+-- Invariants between the manager's parts. Nobody has to believe these.
 use Rattle.std.specs.Prelude.{◌≡◌, ◌<◌, ◌≤◌, ℕ, ◌+◌, List, [], ◌∷◌, length, map, slice_set, slice_index_or, Option}
 use Rattle.std.specs.Prelude.{Some, None}
 use Rattle.std.specs.List.{All}
@@ -18,7 +18,7 @@ pub record HasRoom (slots : List (Option SessionOf)) (t : ℕ) : Type 0 where
   pub is : session_in slots t ≡ Some session
   pub room : length session.held < session.room.locks
 
--- an open section has room for one more lock, and where it asked for one, it is this
+-- an open section has room for one more lock, and if it asked for a lock, it is this one
 pub record MayTake (session : SessionOf) (lock : Lock) : Type 0 where
   pub same : (other : Lock) → session.ask ≡ Some other → other ≡ lock
   pub room : length session.held < session.room.locks
@@ -32,7 +32,7 @@ IsChanged change slots t slots' =
 abbrev pub all_restored : CommittedOf → List LockPlace → List GrantOf → List LockPlace
 all_restored c places grants = given_back c.layout.locks places (map (restored c) (locks_of grants))
 
--- the grants are what is left, with these writes made
+-- the grants have the values of their cells, with these writes made
 abbrev pub AreNow : CommittedOf → List (ℕ × Value) → List GrantOf → Type 0
 AreNow c writes grants =
     All (λ (g : GrantOf). Agrees (overwritten c.values writes) (cells_in c.layout.cell_locks g)) grants
@@ -43,7 +43,7 @@ Rise writes =
     (i : ℕ) (d : ℕ × Value) → i + 1 < length writes →
     (slice_index_or writes i d).0 < (slice_index_or writes (i + 1) d).0
 
--- there is room to wake as many as locks can be held
+-- the list of threads to wake is empty, and has room for one thread for each lock that the section can hold
 pub record HasWakingRoom (session : SessionOf) (woken capacity : ℕ) : Type 0 where
   pub none_yet : woken ≡ 0
   pub held : length session.held ≤ capacity
@@ -72,7 +72,7 @@ abbrev pub cells_if_open : Option SessionOf → ℕ
 cells_if_open None = 0
 cells_if_open (Some s) = s.room.cells
 
--- there is room for an entry of each open section, and no more wait than asked
+-- the history has room for an entry of each open section, and at most as many threads wait as have asked for a lock
 pub record IsTied (m : Managed) (promises : PromisedOf) : Type 0 where
   pub promised : promises.entries ≡ sum_over one_if_open m.slots
   pub cells : promises.cells ≡ sum_over cells_if_open m.slots

@@ -1,4 +1,5 @@
--- Edges of one section by the sets of paths at its points. Nobody has to believe these: what makes an edge, says `Edges`.
+-- The edges of one section, in terms of the sets of paths at its points. Nobody has to believe these: `Edges` defines
+-- what makes an edge.
 use Rattle.std.specs.Prelude.{◌≡◌, ◌⊎◌, ◌||◌, ◌<◌, ◌≤◌, ℕ, true, List, length, slice_get, slice_index_or, Some, Option}
 use Rattle.std.specs.Prelude.{MatchOption}
 use Rattle.std.specs.List.{All, AllPairs, Contains}
@@ -46,19 +47,19 @@ BindsAt x p d = HasClass x (set_at x.bound.items p) d
 abbrev pub UsesAt : Points → ℕ → ℕ → Type 0
 UsesAt x p c = HasClass x (set_at x.used.items p) c
 
--- at some point a root of class d is bound, and there or before it class c is used
+-- a root of class d is bound at some point, and class c is used at that point or before it
 abbrev pub MakesSomewhere : Points → ℕ → ℕ → Type 0
 MakesSomewhere x c d = (p : ℕ) × UsesSoFar x p c × BindsAt x p d
 
--- the class is used at the point, which is the binding one or comes before it
+-- the class is used at the point `used`, which is `bound` or comes before it
 abbrev pub UsesFor : Points → ℕ → ℕ → ℕ → Type 0
 UsesFor x c bound used = UsesAt x used c × ((used ≡ bound) ⊎ Before (skeleton_of x.parts.items) used bound)
 
--- the same of two points
+-- the points `used` and `bound` make an edge from class c to class d
 abbrev pub MakesAt : Points → ℕ → ℕ → ℕ → ℕ → Type 0
 MakesAt x c d used bound = UsesFor x c bound used × BindsAt x bound d
 
--- and none do so by a lower use, or by that use and a lower binding
+-- the points make the edge, and no lower use does, nor this use with a lower binding
 pub record MakesFirstAt (x : Points) (c d used bound : ℕ) : Type 0 where
   pub makes : MakesAt x c d used bound
   pub lowest_use : (u b : ℕ) → MakesAt x c d u b → used ≤ u
@@ -70,14 +71,14 @@ pub record MakesFirstAt (x : Points) (c d used bound : ℕ) : Type 0 where
 abbrev pub BindsBehind : Points → ℕ → ℕ → ℕ → Type 0
 BindsBehind x p d bound = ((p ≡ bound) ⊎ Before (skeleton_of x.parts.items) p bound) × BindsAt x bound d
 
--- the lowest such point
+-- the lowest point at or after p that binds a root of the class
 abbrev pub IsFirstBehind : Points → ℕ → ℕ → ℕ → Type 0
 IsFirstBehind x p d bound = BindsBehind x p d bound × ((b : ℕ) → BindsBehind x p d b → bound ≤ b)
 
 abbrev pub IsNotBehind : Points → ℕ → ℕ → Type 0
 IsNotBehind x p d = (b : ℕ) → BindsBehind x p d b → ⊥
 
--- or none where there is none
+-- the lowest such point, or none if the class has none
 abbrev pub IsFirstOrNone : Points → ℕ → ℕ → Option ℕ → Type 0
 IsFirstOrNone x p d bound = MatchOption bound (IsNotBehind x p d) (IsFirstBehind x p d)
 
@@ -90,11 +91,11 @@ abbrev pub AreBoundOnce : Points → Type 0
 AreBoundOnce x =
     (i p q : ℕ) → i < length x.classes.items → IsIn (set_at x.bound.items p) i → IsIn (set_at x.bound.items q) i → p ≡ q
 
--- a path of each class is in the set of which a root is bound at the point or behind it
+-- for each class of which a root is bound at the point or after it, the set has a path
 abbrev pub HasAnyBehind : Points → ℕ → PathSet → Type 0
 HasAnyBehind x p set = (d bound : ℕ) → BindsBehind x p d bound → HasClass x set d
 
--- points in rising order, among them all that bind a root
+-- points in rising order, which include all that bind a root
 pub record AreListedBindings (x : Points) (list : List ℕ) : Type 0 where
   pub within : All (λ p. p < length x.bound.items) list
   pub rising : AllPairs ◌<◌ list
@@ -108,6 +109,6 @@ pub record AreBindings (b : Bindings) : Type 0 where
 abbrev pub AreUsedSoFar : Points → ℕ → PathSet → Type 0
 AreUsedSoFar x p set = (i : ℕ) → has set i ≡ (has (set_at x.used.items p) i || has (set_at x.used_before.items p) i)
 
--- from each class of a set to that of each path of another
+-- an edge from each class of one set to the class of each path of another
 abbrev pub LeadsToRoots : Points → BitSet → PathSet → ℕ → ℕ → Type 0
 LeadsToRoots x used bound c d = InSet used c × HasClass x bound d

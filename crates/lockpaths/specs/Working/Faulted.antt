@@ -1,4 +1,5 @@
--- The faults of accesses one after another, and those of the locals that `where`s name. Nobody has to believe these: what a fault is, says `locks`.
+-- The faults of accesses one after another, and those of the locals that `where`s name. Nobody has to believe these:
+-- `locks` defines the faults.
 use Rattle.std.specs.Prelude.{ℕ, ◌==◌, if◌then◌else◌, List, [], ◌∷◌, ◌++◌, length, Option, Some, None}
 use Rattle.std.specs.List.{flat_map}
 use Rattle.source.specs.declared.fault.Code.TheVariants.{UnstableBase, LimitExceeded}
@@ -11,7 +12,7 @@ use Rattle.locks.specs.Faults.{PATH_LIMIT, Named, where_at}
 use Rattle.locks.specs.LockPaths.{StablePath, LockPath, stable, lock_path, paths_of, each_once}
 use Rattle.lockpaths.specs.Working.Gathering.{is_in}
 
--- of an access that starts there and has this path, if any, behind accesses with these paths
+-- the fault of an access that starts at this byte and has this path, if any, after accesses with these paths
 abbrev pub fault_of : List LockPath → ℕ → Option LockPath → List Mistake
 fault_of before start None = record { code = UnstableBase; start = start } ∷ []
 fault_of before start (Some path) =
@@ -20,13 +21,13 @@ fault_of before start (Some path) =
     else []
 
 module _ (program : Typed) (section : Section) where
-  -- of accesses behind others
+  -- the faults of accesses after others
   abbrev pub faults_behind : List Access → List Access → List Mistake
   faults_behind before [] = []
   faults_behind before (a ∷ rest) =
       fault_of (paths_of program section before) a.start (lock_path program section a) ++ faults_behind (before ++ a ∷ []) rest
 
--- of a local that a `where` names there, unless it is a stable path
+-- the fault of a local that a `where` names at this byte, unless it is a stable path
 abbrev pub fault_unless : ℕ → Option StablePath → List Mistake
 fault_unless start None = record { code = UnstableBase; start = start } ∷ []
 fault_unless start (Some path) = []

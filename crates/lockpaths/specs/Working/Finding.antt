@@ -1,4 +1,4 @@
--- Going over accesses with the values of the code. Nobody has to believe these.
+-- Visits of accesses, in terms of values of the code. Nobody has to believe these.
 use Rattle.std.specs.Prelude.{◌≡◌, ℕ, true, List, Option, None}
 use Rattle.std.specs.Option.{option_map, IfSome}
 use Rattle.std.specs.List.{flat_map}
@@ -33,17 +33,17 @@ over_owner f t point = record { table = t.table; gathered = with_owner f.section
 abbrev pub over_owners : Finder → Told → List Point → Told
 over_owners f t points = record { table = t.table; gathered = with_owners f.section.now t.gathered points }
 
--- a base is behind a field that is not final only if it has one
+-- if a base is marked as having a field that is not final, it has one
 abbrev pub IsTold : Base → Type 0
 IsTold base = base.is_behind ≡ true → all_final base.fields.now ≡ None
 
--- the place of the lock of a field of a base
+-- this is the lock path of a field of a base
 abbrev pub IsLockOf : Finder → Told → ℕ → ℕ → Base → Seen → Option Destination → Type 0
 IsLockOf f t structure number base new place =
     IfSome place (IsPlace new.known.paths)
     × (IsTold base → option_map (path_at new.known.paths) place ≡ target_of f t (field base.local base.fields.now structure number))
 
--- the accesses of conditions, and of the operands of a chain, one after another
+-- the accesses of conditions, one after another
 abbrev pub in_all : List Condition → List Access
 in_all conditions = flat_map in_condition conditions
 

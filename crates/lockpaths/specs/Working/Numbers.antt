@@ -1,4 +1,5 @@
--- The numbers of paths, cut at the ends of points, and sets of them. Nobody has to believe these: what a point uses, says `locks`.
+-- The numbers of paths, cut at the ends of points, and sets of them. Nobody has to believe these: `locks` defines what
+-- a point uses.
 use Rattle.std.specs.Prelude.{◌≡◌, ℕ, ◌-◌, ◌<◌, ◌≤◌, ◌==◌, ◌||◌, Bool, false, List, [], ◌∷◌, map, length, take, drop, ⊤}
 use Rattle.std.specs.List.{All, AllZip}
 use Rattle.core_lang.specs.declared.tree.Section.{Section}
@@ -10,7 +11,7 @@ use Rattle.lockpaths.specs.declared.table.SectionPaths.{SectionPaths}
 use Rattle.lockpaths.specs.Working.Gathering.{Gathered}
 use Rattle.lockpaths.specs.Paths.{AreSectionPaths}
 
--- it is one of them
+-- the number is one of these
 abbrev pub is_number : ℕ → List ℕ → Bool
 is_number i [] = false
 is_number i (n ∷ ns) = (i == n) || is_number i ns
@@ -18,12 +19,12 @@ is_number i (n ∷ ns) = (i == n) || is_number i ns
 abbrev pub IsSetOf : PathSet → List ℕ → Type 0
 IsSetOf set numbers = (i : ℕ) → has set i ≡ is_number i numbers
 
--- from a start on, cut at these ends
+-- the numbers from a start on, cut at these ends
 abbrev pub cut : ℕ → List ℕ → List ℕ → List (List ℕ)
 cut start numbers [] = []
 cut start numbers (end ∷ ends) = take (end - start) (drop start numbers) ∷ cut end numbers ends
 
--- each end is behind the last, and none behind the limit
+-- no end is less than the one before it, or greater than the limit
 abbrev pub AreRising : ℕ → ℕ → List ℕ → Type 0
 AreRising start limit [] = ⊤
 AreRising start limit (end ∷ ends) = (start ≤ end) × (end ≤ limit) × AreRising end limit ends
@@ -33,7 +34,7 @@ pub record IsComplete (g : Gathered) : Type 0 where
   pub small : All (λ n. n < 64) g.numbers
   pub rising : AreRising 0 (length g.numbers) g.ends
 
--- what is gathered, with a set for each point
+-- the lock paths of a section are those that were found, with a set for each point
 pub record IsFinished (g : Gathered) (x : SectionPaths) : Type 0 where
   pub paths : map lock_path_of x.paths.items ≡ g.paths
   pub of_access : x.of_access.items ≡ g.numbers

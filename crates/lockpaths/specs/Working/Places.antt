@@ -5,7 +5,7 @@ use Rattle.source.specs.declared.mistake.Mistake.{Mistake}
 use Rattle.locks.specs.declared.path.Root.{Root}
 use Rattle.locks.specs.declared.path.Root.TheVariants.{GlobalLock, Local}
 use Rattle.locks.specs.LockPaths.{StablePath, LockPath, same_root, same_numbers}
-use Rattle.lockpaths_forms.specs.Working.Nodes.{nowhere}
+use Rattle.lockpaths.specs.Working.Nodes.{nowhere}
 use Rattle.lockpaths.specs.declared.found.Destination.{Destination}
 use Rattle.lockpaths.specs.Working.Gathering.{Gathered}
 
@@ -18,11 +18,11 @@ module _ (paths : List StablePath) where
   finals_at None = []
   finals_at (Some n) = (get_or paths n nowhere).finals
 
-  -- the lock path that leads to a place
+  -- the lock path with this node and class
   abbrev pub path_at : Destination → LockPath
   path_at p = record { root = root_at p.node; finals = finals_at p.node; class = p.class }
 
-  -- but for the class
+  -- two nodes have equal paths, or both are none
   abbrev pub has_same_path : Option ℕ → Option ℕ → Bool
   has_same_path a b = same_root (root_at a) (root_at b) && same_numbers (finals_at a) (finals_at b)
 
@@ -33,7 +33,7 @@ module _ (paths : List StablePath) where
   abbrev pub IsPlace : Destination → Type 0
   IsPlace p = is_numbered p.node
 
-  -- what is found
+  -- the places that were found: at most 65, each with a valid node
   pub record AreFound (places : List Destination) : Type 0 where
     pub few : length places ≤ 65
     pub within : All IsPlace places

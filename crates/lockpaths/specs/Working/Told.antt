@@ -1,11 +1,11 @@
--- What is gathered of a section, with what stands for its locals. Nobody has to believe these.
+-- The results for a section, with the replacements of its locals. Nobody has to believe these.
 use Rattle.std.specs.Prelude.{ℕ, List, Option}
 use Rattle.locks.specs.LockPaths.{LockPath}
-use Rattle.lockpaths_forms.specs.Working.Forms.{Replacement}
-use Rattle.lockpaths_forms.specs.Working.States.{Known}
+use Rattle.lockpaths.specs.Working.Forms.{Replacement}
+use Rattle.lockpaths.specs.Working.States.{Known}
 use Rattle.lockpaths.specs.Working.Gathering.{Gathered, ended, met, with_new}
 
--- with the numbers of the normal forms
+-- the results, with the numbers of the normal forms
 pub record Seen : Type 0 where
   pub known : Known
   pub gathered : Gathered

@@ -1,5 +1,5 @@
--- The accesses of a tree's parts over the items of each `Vec`. Nobody has to believe these equations: they are proved here, for
--- proofs of the crates above.
+-- The accesses of a tree's parts over the items of each `Vec`. Nobody has to believe these equations: they are proved
+-- here, for proofs of the crates above.
 use Rattle.std.specs.Prelude.{◌≡◌, List, ◌++◌}
 use Rattle.std.specs.List.{flat_map}
 use Rattle.std.proofs.Common.{refl, ap, ◌∙◌, Vec, Box, Global}
@@ -13,7 +13,7 @@ use Rattle.core_lang.specs.declared.tree.Condition.{items_hidden-the_row-Conditi
 use Rattle.core_lang.specs.Theory.Lists.{row_of, conditions_of}
 use Rattle.locks.specs.Accesses.{Access, in_expr, in_operations, in_condition, in_conditions}
 
--- of the operands behind operators
+-- the accesses of an operand after its operator
 abbrev pub in_operand : Operation → List Access
 in_operand o = in_expr o.operand
 

@@ -1,4 +1,4 @@
--- Which locks are the same, which are among others, and which come before others. Nobody has to believe these facts: they are
+-- Equality of locks, membership in lists of locks, and the order of locks. Nobody has to believe these facts: they are
 -- proved here, for proofs of this crate and of those above.
 use Rattle.std.proofs.Common.{◌≡◌, ◌≢◌, ◌⊎◌, ◌==◌, ◌&&◌, ◌<◌, ℕ, zero, suc, nat_lt, Bool, IsTrue, true, false, List}
 use Rattle.std.proofs.Common.{[], ◌∷◌, refl, sym, ap, ◌∙◌, arith, inl, inr, true≢false}
@@ -45,14 +45,14 @@ among_contains (x ∷ xs) l h = elim (or_cases (same_lock x l) (among xs l) h) [
   | inr e ↦ (let c = among_contains xs l e in let less = c.1 in (suc c.0, omega (arith, less), c.2))
 ]
 
--- the same of a test's answer
+-- the result of the test decides membership
 pub is_contained : (xs : List Lock) (l : Lock) (b : Bool) → b ≡ among xs l →
     (IsTrue b → Contains xs l) × (Contains xs l → IsTrue b)
 is_contained xs l b e = (λ t. among_contains xs l (sym e ∙ t), λ c. e ∙ contains_among xs l c)
 
 -- ---- before others
 
--- by rank, and within a class by object
+-- one lock comes before another by rank, and within a class by object
 abbrev pub IsBefore : List ℕ → Lock → Lock → Type 0
 IsBefore ranks a b =
     (slice_index ranks a.class < slice_index ranks b.class) ⊎ ((a.class ≡ b.class) × (a.object < b.object))

@@ -28,8 +28,8 @@ use Rattle.locks.specs.LockPaths.{bindings, behind, normal_form, lock_path, lock
 use Rattle.locks.specs.LockPaths.{IsInScope, BindsRoot, LetsAgree}
 use Rattle.locks.specs.Faults.{HasSection}
 
--- at a point of a well-formed program, where each local and cell has a value of its type, and each `let` in scope the value
--- that its initialiser had: the lock that the path of an access names is the one that protects the cell that it reaches
+-- if each local and cell has a value of its type, and each `let` in scope the value that its initialiser had, then the
+-- path of an access at a point of a well-formed program names the lock that protects the cell which the access reaches
 abbrev pub PathsNameTheLocks : Type 0
 PathsNameTheLocks =
     (program : Typed) (section : Section) (p : ℕ) (point : Point) (scope : List ℕ) (locals heap : List Value) (a : Access)
@@ -40,7 +40,7 @@ PathsNameTheLocks =
     Contains (accesses_at point) a → lock_path program section a ≡ Some path → Reaches program.shape locals heap a.target cell →
     (lock : Lock) × (lock_named path program.shape locals ≡ Some lock) × (lock_of_cell program cell ≡ Some lock)
 
--- the lock that a path which a point uses names, where each local has a value of its type, is one of the program's
+-- if each local has a value of its type, a path that a point uses names a lock of the program
 abbrev pub NamedAreLocks : Type 0
 NamedAreLocks =
     (program : Typed) (section : Section) (p : ℕ) (path : LockPath) (locals : List Value) (lock : Lock) → IsWellFormed program →
@@ -53,19 +53,19 @@ UsedAreInScope =
     (program : Typed) (section : Section) (p : ℕ) (path : LockPath) → IsWellFormed program → HasSection program section →
     Uses program section p path → IsInScope section p path
 
--- a path in scope at a point was in scope at each point that is followed by it, or its root is bound there
+-- a path in scope at a point was in scope at each point before it in the flow, or its root is bound there
 abbrev pub ScopeOfPathsGoesBack : Type 0
 ScopeOfPathsGoesBack =
     (section : Section) (p q : ℕ) (path : LockPath) → Follows (skeleton section) p q → IsInScope section q path →
     IsInScope section p path ⊎ BindsRoot section p path
 
--- where a run begins, no `let` is in scope, so each that is agrees
+-- at the first point, each `let` in scope agrees: none is in scope
 abbrev pub LetsAgreeAtFirst : Type 0
 LetsAgreeAtFirst =
     (section : Section) (scope : List ℕ) (shape : Shape) (locals : List Value) → IsWellScoped section → IsScopeAt section 0 scope →
     LetsAgree section scope shape locals
 
--- and where a point leads on, they agree again at each point that follows
+-- if each `let` in scope agrees before a point that leads on, each agrees at each point that follows
 abbrev pub LetsKeepAgreeing : Type 0
 LetsKeepAgreeing =
     (section : Section) (p q : ℕ) (point : Point) (scope after : List ℕ) (shape : Shape) (s t : State) → IsWellScoped section →
@@ -90,27 +90,27 @@ PathsHaveClasses =
     (program : Typed) (section : Section) (p : ℕ) (path : LockPath) → IsWellFormed program → Uses program section p path →
     (c : LockClass) × (slice_get program.classes.items path.class ≡ Some c) × IsClassFor path.root c
 
--- a path that goes on over an owner, which a `where` names, has the normal form of what the owner is
+-- a path over the final reference that a `where` tests has the normal form of the path from the owner
 abbrev pub NormalFormOfOwned : Type 0
 NormalFormOfOwned =
     (section : Section) (b : Binding) (path from : StablePath) → IsWellScoped section → Contains (bindings section) b →
     b.local ≡ path.root → owned_path (owner_of section b.value) path ≡ Some from → normal_form section path ≡ normal_form section from
 
--- any other that begins at a `let` of a stable path has the normal form of that path, with its finals behind
+-- any other path that begins at a `let` of a stable path has the normal form of that path, followed by its finals
 abbrev pub NormalFormOfLet : Type 0
 NormalFormOfLet =
     (section : Section) (b : Binding) (path from : StablePath) → IsWellScoped section → Contains (bindings section) b →
     b.local ≡ path.root → owned_path (owner_of section b.value) path ≡ None → stable_value section b.value ≡ Some from →
     normal_form section path ≡ normal_form section (behind (Some from) path)
 
--- and a path that doesn't is its own
+-- any further path is its own normal form
 abbrev pub NormalFormOfOther : Type 0
 NormalFormOfOther =
     (section : Section) (path : StablePath) →
     ((b : Binding) → Contains (bindings section) b → b.local ≡ path.root → (owned_path (owner_of section b.value) path ≡ None) × (stable_value section b.value ≡ None)) →
     normal_form section path ≡ path
 
--- a local that no normal form replaces: a parameter, or a `let` whose initialiser is no stable path
+-- a local that no normal form replaces: a parameter, or a `let` whose initialiser is not a stable path
 abbrev pub IsNormalRoot : Section → ℕ → Type 0
 IsNormalRoot section k =
     ((local : Local) × (slice_get section.locals.items k ≡ Some local) × (local.kind ≡ Parameter))
@@ -122,17 +122,17 @@ NormalFormsAreNormal =
     (section : Section) (local : ℕ) (base : List FieldStep) (path : StablePath) → IsWellScoped section →
     stable section local base ≡ Some path → IsNormalRoot section (normal_form section path).root
 
--- `same_path` tells whether two paths are equal
+-- `same_path` decides whether two paths are equal
 abbrev pub SamePathDecides : Type 0
 SamePathDecides = (a b : LockPath) → (same_path a b ≡ true) ↔ (a ≡ b)
 
--- no path stands twice in a section's list
+-- no path is in a section's list twice
 abbrev pub EachPathOnce : Type 0
 EachPathOnce =
     (program : Typed) (section : Section) (i j : ℕ) (path : LockPath) → slice_get (lock_paths program section) i ≡ Some path →
     slice_get (lock_paths program section) j ≡ Some path → i ≡ j
 
--- and the list has the paths that points of the section use, and no others
+-- a section's list has exactly the paths that points of the section use
 abbrev pub UsedAreListed : Type 0
 UsedAreListed =
     (program : Typed) (section : Section) (path : LockPath) →

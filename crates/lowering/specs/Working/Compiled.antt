@@ -1,4 +1,4 @@
--- What a compiled program holds.
+-- The model of a compiled program.
 use Rattle.std.specs.Prelude.{◌≡◌, ℕ, List, slice_get, Option, Some, None}
 use Rattle.core_lang.specs.declared.tree.Section.{Section}
 use Rattle.core_lang.specs.declared.typed.Typed.{Typed}
@@ -14,7 +14,7 @@ use Rattle.lowering.specs.Working.Lowered.{IsCodeOf}
 use Rattle.lowering.specs.Working.Rooms.{IsRoomOf, AreRoomsOf}
 use Rattle.lowering.specs.Plans.{Plan, IsCompiled}
 
--- what runs of a program that is accepted, and of the same with its helpers written out, if that is apart
+-- the program that runs: the expanded one, if it is separate, else the accepted one
 abbrev pub written_in : Typed → Option Typed → Typed
 written_in accepted None = accepted
 written_in accepted (Some written) = written
@@ -22,7 +22,7 @@ written_in accepted (Some written) = written
 abbrev pub program_of : Trees → Typed
 program_of trees = written_in trees.accepted trees.written
 
--- its plan
+-- the plan of a compiled program
 abbrev pub plan_of : Typed → Typed → List ℕ → Placed → LayoutOf → Plan
 plan_of accepted program ranks placed layout = record {
   accepted = accepted;
@@ -32,7 +32,7 @@ plan_of accepted program ranks placed layout = record {
   layout = layout;
 }
 
--- it is compiled; and its lock paths, its code and the room for its sections are what the plan says
+-- the plan is compiled, and the lock paths, the code and the room for sections are those of the plan
 pub record IsProgram (plan : Plan) (found : Paths) (code : ProgramCode) (rooms : List Room) : Type 0 where
   pub compiled : IsCompiled plan
   pub are_paths : ArePaths plan.program found

@@ -1,4 +1,4 @@
--- The code of a program: of each section its instructions, its line table, and how deep its operand stack grows.
+-- The code of a program: for each section its instructions, its line table, and the depth of its operand stack.
 use Rattle.std.specs.Prelude.{◌≡◌, ℕ, List, length, slice_get, Some}
 use Rattle.core_lang.specs.declared.tree.Section.{Section}
 use Rattle.core_lang.specs.declared.typed.Typed.{Typed}

@@ -1,4 +1,4 @@
--- What is taken where, as the law of `src/laws.rt` claims it.
+-- A law of the lists of a plan, as `src/laws.rt` claims it.
 use Rattle.std.specs.Prelude.{◌≡◌, ℕ, List, [], slice_get, Some}
 use Rattle.core_lang.specs.declared.tree.Section.{Section}
 use Rattle.locks.specs.Accesses.{accesses}
@@ -9,7 +9,7 @@ pub record HasLists (plan : Plan) (k : ℕ) (section : Section) (lists : List (L
   pub here : slice_get plan.program.sections.items k ≡ Some section
   pub lists_are : slice_get plan.lists k ≡ Some lists
 
--- nothing is taken in a section that accesses nothing
+-- all lists of a section without accesses are empty
 abbrev pub NothingIsTaken : Type 0
 NothingIsTaken =
     (plan : Plan) (k p : ℕ) (section : Section) (lists : List (List ℕ)) (list : List ℕ) → IsCompiled plan →

@@ -1,4 +1,4 @@
--- What one run of a section can need at most.
+-- The most that one run of a section can need.
 use Rattle.std.specs.Prelude.{◌≡◌, ℕ, ◌==◌, max, if◌then◌else◌, List, [], ◌∷◌, length, slice_get, Some}
 use Rattle.std.specs.List.{sum_by}
 use Rattle.core_lang.specs.declared.tree.Section.{Section}
@@ -10,7 +10,7 @@ use Rattle.layout.specs.LockCells.{cells_of}
 use Rattle.layout.specs.Layouts.{LayoutOf}
 use Rattle.code.specs.Needs.{operand_need}
 
--- the most cells that one of these locks protects, of those that have the class; 0, where none has it
+-- the most cells that one of these locks of the class protects; 0 if none has the class
 abbrev pub most_among : List Lock → List Lock → ℕ → ℕ
 most_among cell_locks [] class = 0
 most_among cell_locks (lock ∷ locks) class =
@@ -22,15 +22,15 @@ most_among cell_locks (lock ∷ locks) class =
 abbrev pub most_cells : LayoutOf → ℕ → ℕ
 most_cells layout class = most_among layout.cell_locks layout.locks class
 
--- what one run of a section needs at most: a lock for each of its lock paths, with the most cells that a lock of the path's
--- class protects; as many operands as its deepest stack has; and its locals
+-- the most that one run of a section needs: a lock for each of its lock paths, with the most cells that a lock of the
+-- path's class protects, the operands of its deepest stack, and its locals
 pub record IsRoomOf (program : Typed) (layout : LayoutOf) (section : Section) (room : Room) : Type 0 where
   pub locks : room.locks ≡ length (lock_paths program section)
   pub cells : room.cells ≡ sum_by (λ (path : LockPath). most_cells layout path.class) (lock_paths program section)
   pub operands : room.operands ≡ operand_need section
   pub locals : room.locals ≡ length section.locals.items
 
--- that of each section
+-- the room of each section
 pub record AreRoomsOf (program : Typed) (layout : LayoutOf) (rooms : List Room) : Type 0 where
   pub long : length rooms ≡ length program.sections.items
   pub each : (k : ℕ) (section : Section) (room : Room) → slice_get program.sections.items k ≡ Some section →

@@ -1,4 +1,4 @@
--- What a run answers.
+-- The answers of runs.
 use Rattle.std.specs.Prelude.{◌≡◌, ℕ, List, Option, Some, None, Result, IfOk}
 use Rattle.core_lang.specs.declared.value.Value.{Value}
 use Rattle.core_lang.specs.declared.typed.Typed.{Typed}
@@ -12,23 +12,24 @@ use Rattle.meaning.specs.declared.run.End.{End}
 abbrev pub run_at : Typed → ℕ → ℕ → List Value → List Value → Run
 run_at program n section arguments heap = run_call program n (record { section = section; arguments = arguments }) heap
 
--- there is no end within the turns
+-- the run has no end within the turns
 abbrev pub IsNothing : Run → Type 0
 IsNothing (Over r) = ⊥
 IsNothing Beyond_turns = Unit {0}
 IsNothing Gone_astray = Unit {0}
 
--- the end that the meaning gives and its heap, or none and the heap as it was
+-- the answer is the end that the meaning gives, with its heap; or none, if the run has no end, and the heap is as it
+-- was
 abbrev pub Answers : Option End → Run → List Value → List Value → Type 0
 Answers None run old new = IsNothing run × (new ≡ old)
 Answers (Some end) run old new = run ≡ Over (record { outcome = end.outcome; prints = end.prints.items; heap = new })
 
--- with no answer, the turns were too few
+-- if there is no answer, the turns were too few
 abbrev pub NoneIsBeyond : Option End → Run → Type 0
 NoneIsBeyond None run = run ≡ Beyond_turns
 NoneIsBeyond (Some end) run = Unit {0}
 
--- the same of a call, where the program is well formed and the heap one of it
+-- if there is no answer to a call of an accepted program on a heap of it, the turns were too few
 abbrev pub NoneIsBeyondIfTyped : {E : Type 0} → Typed → ℕ → ℕ → List Value → List Value → Result (Option End) E → Type 0
 NoneIsBeyondIfTyped program n section arguments heap result =
     IsChecked program → IsHeap program heap →

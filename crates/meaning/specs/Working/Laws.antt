@@ -1,4 +1,4 @@
--- A law of what runs answer, as the law of `src/laws.rt` claims it.
+-- A law of the answers of runs, as `src/laws.rt` claims it.
 use Rattle.std.specs.Prelude.{ℕ, List, Option}
 use Rattle.core_lang.specs.declared.value.Value.{Value}
 use Rattle.core_lang.specs.declared.typed.Typed.{Typed}

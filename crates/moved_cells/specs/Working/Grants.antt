@@ -1,4 +1,4 @@
--- Cells of a lock, moved out.
+-- Grants: the cells of a lock, moved out of the manager.
 use Rattle.std.specs.Prelude.{◌≡◌, ℕ, List, [], ◌∷◌, length, map, slice_get, Option, Some, None}
 use Rattle.core_lang.specs.declared.value.Value.{Value}
 use Rattle.locks.specs.declared.lock.Lock.{Lock}
@@ -19,7 +19,7 @@ numbered [] values = []
 numbered (c ∷ cs) [] = []
 numbered (c ∷ cs) (v ∷ vs) = (c, v) ∷ numbered cs vs
 
--- where these are the locks of all cells: the cells of a grant, each beside its value
+-- the cells of a grant, each with its value; the list has the lock of each cell
 abbrev pub cells_in : List Lock → GrantOf → List (ℕ × Value)
 cells_in cell_locks grant = numbered (cells_of cell_locks grant.lock) grant.values
 
@@ -27,12 +27,12 @@ cells_in cell_locks grant = numbered (cells_of cell_locks grant.lock) grant.valu
 abbrev pub IsWhole : List Lock → GrantOf → Type 0
 IsWhole cell_locks grant = length grant.values ≡ length (cells_of cell_locks grant.lock)
 
--- in front of others, if there is one
+-- a value in front of the list, if there is one
 abbrev pub if_there : Option Value → List Value → List Value
 if_there None values = values
 if_there (Some v) values = v ∷ values
 
--- what a heap has in some cells, in their order
+-- the values that a heap has in these cells, in their order
 abbrev pub values_on : List Value → List ℕ → List Value
 values_on heap [] = []
 values_on heap (c ∷ cs) = if_there (slice_get heap c) (values_on heap cs)

@@ -27,13 +27,13 @@ OffsetsChangeCells =
     cells_in cell_locks (record grant { values = slice_set grant.values offset v })
     ≡ with_changed (cells_in cell_locks grant) cell v
 
--- what a heap has in the cells of a lock is a value for each of them
+-- a heap has a value for each cell of a lock
 abbrev pub ValuesAreWhole : Type 0
 ValuesAreWhole =
     (cell_locks : List Lock) (heap : List Value) (lock : Lock) → length heap ≡ length cell_locks →
     IsWhole cell_locks (record { lock = lock; values = values_on heap (cells_of cell_locks lock) })
 
--- and these are the cells' values on the heap
+-- the heap agrees with the grant that has the heap's values
 abbrev pub ValuesAgree : Type 0
 ValuesAgree =
     (cell_locks : List Lock) (heap : List Value) (lock : Lock) → length heap ≡ length cell_locks →

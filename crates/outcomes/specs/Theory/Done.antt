@@ -1,5 +1,5 @@
--- How many calls are done, how many there are, and which orders there are with a next one in front. Nobody has to believe this: it is
--- proved here, for proofs of this crate and of those above.
+-- The numbers of calls that are done and of all calls, and the orders that begin with a next call. Nobody has to believe
+-- this: it is proved here, for proofs of this crate and of those above.
 use Rattle.std.proofs.Common.{◌≡◌, ◌∙◌, ℕ, ◌+◌, ◌<◌, zero, suc, List, [], ◌∷◌, length, map, replicate, get_or}
 use Rattle.std.proofs.Common.{slice_set, Option, Some, inl, inr, ap, sym, subst, refl, arith}
 use Rattle.std.specs.List.{Contains}
@@ -19,7 +19,7 @@ abbrev pub sums : List ℕ → ℕ
 sums [] = 0
 sums (x ∷ xs) = x + sums xs
 
--- how many calls each thread has
+-- the number of calls of each thread
 abbrev pub lengths : List Thread → List ℕ
 lengths [] = []
 lengths (t ∷ ts) = length t.calls.items ∷ lengths ts
@@ -32,7 +32,7 @@ pub length-lengths : (ts : List Thread) → length (lengths ts) ≡ length ts
 length-lengths [] = refl
 length-lengths (t ∷ ts) = ap (λ n. suc n) (length-lengths ts)
 
--- one more of one of them
+-- the sum after one of the numbers was increased by one
 pub sums_set : (xs : List ℕ) (k : ℕ) → k < length xs → sums (slice_set xs k (get_or xs k 0 + 1)) ≡ suc (sums xs)
 sums_set [] k within = absurd (omega arith)
 sums_set (x ∷ xs) zero within = omega arith

@@ -1,8 +1,8 @@
--- What is known while orders are drawn. Nobody has to believe this file.
+-- The invariants while orders are drawn. Nobody has to believe this file.
 use Rattle.std.specs.Prelude.{◌≡◌, ℕ, ◌<◌, zero, suc, Bool, MatchBool, List, [], ◌∷◌, ◌++◌, length, ◌⊎◌, Option, Some, None}
 use Rattle.core_lang.specs.declared.typed.Typed.{Typed}
 use Rattle.core_lang.specs.declared.typed.Thread.{Thread}
-use Rattle.core_lang.specs.Serial.{Invocation}
+use Rattle.core_lang.specs.Serial.{Invocation, opening_heap}
 use Rattle.core_lang.specs.Typing.{IsHeap, HasCells}
 use Rattle.core_lang.specs.WellFormed.{calls_together}
 use Rattle.outcomes.specs.declared.search.Search.{Search}
@@ -12,16 +12,18 @@ use Rattle.outcomes.specs.Orders.{next_call, none_done}
 use Rattle.outcomes.specs.Working.States.{left_with, NoneIsAlike, orders_to}
 use Rattle.outcomes.specs.Working.Trails.{IsBegun, IsLonger}
 use Rattle.outcomes.specs.Working.Searching.{Leads, order_at, IsFound}
-use Rattle.outcomes.specs.Ends.{Left, seen}
+use Rattle.meaning.specs.Working.Undo.{undone}
+use Rattle.outcomes.specs.Ends.{Left, seen, seen_cells}
 use Rattle.outcomes.specs.declared.outcome.Cells.{Cells}
 use Rattle.outcomes.specs.Working.Steps.{IsBeyond, AreEnds, start_of}
 
--- what they leave
+-- the state that the calls leave
 abbrev pub left_of : Walk → Left
 left_of walk = left_with walk.heap walk.answers.items
 
--- the calls, made from the opening cells, lead here
+-- the calls of the walk, made from the opening cells, lead to its state
 pub record IsWalk (search : Search) (walk : Walk) : Type 0 where
+  pub back : undone walk.overwritten.items walk.heap ≡ opening_heap search.program.now
   pub cells : HasCells search.program.now walk.heap
   pub typed : IsHeap search.program.now walk.heap
   pub leads : Leads search.program.now search.turns (none_done search.program.now) (start_of search) walk.order.items walk.done.items (left_of walk)
@@ -30,7 +32,7 @@ pub record IsWalk (search : Search) (walk : Walk) : Type 0 where
 abbrev pub HasCallLeft : Typed → List ℕ → ℕ → Type 0
 HasCallLeft program done thread = (call : Invocation) × (next_call program done thread ≡ Some call)
 
--- how many calls a thread has
+-- the number of calls of a thread
 abbrev pub calls_of_thread : List Thread → ℕ → ℕ
 calls_of_thread [] k = 0
 calls_of_thread (t ∷ ts) zero = length t.calls.items
@@ -48,24 +50,25 @@ abbrev pub Walks : Search → Walk → Option ℕ → Type 0
 Walks search walk None = IsWalk search walk × (length walk.order.items ≡ calls_together search.program.now.threads.items)
 Walks search walk (Some thread) = IsBeyond search.program.now search.turns (start_of search) walk.order.items thread
 
--- the end was not there, and is now, with its order
+-- the end was new, and is added with its order
 pub record IsNewEnd (cells : Cells) (old new : Drawing) : Type 0 where
-  pub none : NoneIsAlike old.walk.done.items (seen cells (left_of old.walk)) old.ends
+  pub none : NoneIsAlike old.walk.done.items (seen cells (left_of old.walk)) old.ends.states
   pub first : ℕ
-  pub ends : new.ends ≡ old.ends ++ (record { done = old.walk.done.items; left = seen cells (left_of old.walk); orders = 1; first = first }) ∷ []
+  pub ends : new.ends.states ≡ old.ends.states ++ (record { done = old.walk.done.items; left = seen cells (left_of old.walk); orders = 1; first = first }) ∷ []
   pub longer : IsLonger old.trail new.trail
   pub within : first < length new.trail
   pub order : order_at new.trail first ≡ old.walk.order.items
 
--- the end is among the ends, with one order more
+-- the end is among the ends, with one more order
 abbrev pub Notes : Cells → Drawing → Drawing → Type 0
 Notes cells old new =
-    (new.walk ≡ old.walk) ×
-    (IsFound old.ends new.ends old.trail new.trail old.walk.done.items (seen cells (left_of old.walk)) 1 ⊎ IsNewEnd cells old new)
+    (new.walk ≡ old.walk) × (new.ends.opening ≡ old.ends.opening) ×
+    (IsFound old.ends.states new.ends.states old.trail new.trail old.walk.done.items (seen cells (left_of old.walk)) 1 ⊎ IsNewEnd cells old new)
 
 -- the ends of k orders
 pub record AreEndsOf (search : Search) (drawing : Drawing) (k : ℕ) : Type 0 where
-  pub heap : HasCells search.program.now drawing.walk.heap
-  pub ends : AreEnds search drawing.trail drawing.ends
-  pub count : orders_to drawing.ends ≡ k
+  pub back : undone drawing.walk.overwritten.items drawing.walk.heap ≡ opening_heap search.program.now
+  pub opening : drawing.ends.opening ≡ seen_cells search.asked.now.cells (opening_heap search.program.now)
+  pub ends : AreEnds search drawing.trail drawing.ends.states
+  pub count : orders_to drawing.ends.states ≡ k
   pub begun : IsBegun drawing.trail

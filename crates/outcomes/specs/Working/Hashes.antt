@@ -1,4 +1,4 @@
--- Numbers by which states are found. Nobody has to believe this file.
+-- The hashes by which states are found. Nobody has to believe this file.
 use Rattle.std.specs.Prelude.{ℕ, List, [], ◌∷◌, Option, Some, None, fold}
 use Rattle.std.specs.Int.{w64, cast_unsigned}
 use Rattle.std.specs.Hash.{u64}
@@ -9,7 +9,9 @@ use Rattle.core_lang.specs.declared.value.Value.TheVariants.{Int, Ref}
 use Rattle.core_lang.specs.declared.value.Outcome.{Outcome}
 use Rattle.core_lang.specs.declared.value.Outcome.TheVariants.{Ends, Returns, Traps}
 use Rattle.core_lang.specs.Traps.{trap_number}
+use Rattle.outcomes.specs.declared.state.Change.{Change}
 use Rattle.outcomes.specs.Ends.{Left}
+use Rattle.outcomes.specs.Working.Changes.{changes_of}
 
 abbrev pub mixed : DefaultHasher → ℕ → DefaultHasher
 mixed hasher word = fold write hasher (u64 word)
@@ -23,9 +25,9 @@ abbrev pub mixed_all : DefaultHasher → List ℕ → DefaultHasher
 mixed_all hasher [] = hasher
 mixed_all hasher (word ∷ words) = mixed_all (mixed hasher word) words
 
-abbrev pub mixed_cells : DefaultHasher → List Value → DefaultHasher
-mixed_cells hasher [] = hasher
-mixed_cells hasher (cell ∷ cells) = mixed_cells (mixed hasher (word_of cell)) cells
+abbrev pub mixed_changes : DefaultHasher → List Change → DefaultHasher
+mixed_changes hasher [] = hasher
+mixed_changes hasher (c ∷ changes) = mixed_changes (mixed (mixed hasher c.cell) (word_of c.value)) changes
 
 abbrev pub mixed_answer : DefaultHasher → Option Outcome → DefaultHasher
 mixed_answer hasher None = mixed hasher 0
@@ -37,10 +39,11 @@ abbrev pub mixed_answers : DefaultHasher → List (Option Outcome) → DefaultHa
 mixed_answers hasher [] = hasher
 mixed_answers hasher (answer ∷ answers) = mixed_answers (mixed_answer hasher answer) answers
 
--- the number of where so many calls of each thread are done, the cells hold these values, and the calls ended like this, by a
--- hasher with the keys
-abbrev pub hash : DefaultHasher → List ℕ → List Value → List (Option Outcome) → ℕ
-hash start done cells answers = finish (mixed_answers (mixed_cells (mixed_all start done) cells) answers)
+-- the hash of a state: the number of each thread's calls that are done, the changes of the cells, and the outcomes; the
+-- hasher has the keys
+abbrev pub hash : DefaultHasher → List ℕ → List Change → List (Option Outcome) → ℕ
+hash start done changes answers = finish (mixed_answers (mixed_changes (mixed_all start done) changes) answers)
 
-abbrev pub hash_left : DefaultHasher → List ℕ → Left → ℕ
-hash_left start done left = hash start done left.cells left.answers
+-- the hash of a state, by the values of its cells and those before any call
+abbrev pub hash_left : DefaultHasher → List Value → List ℕ → Left → ℕ
+hash_left start opening done left = hash start done (changes_of opening left.cells) left.answers

@@ -1,5 +1,5 @@
--- What the functions of a search over some orders do. Nobody has to believe this file.
-use Rattle.std.specs.Prelude.{ℕ, ◌+◌, ◌*◌, ◌<◌, zero, suc, nat_eq, if◌then◌else◌, List, length, slice_index, sum_by, ◌≡◌}
+-- The effects of the functions of a search over some orders. Nobody has to believe this file.
+use Rattle.std.specs.Prelude.{ℕ, ◌+◌, ◌*◌, ◌<◌, zero, suc, nat_eq, if◌then◌else◌, List, length, slice_index, sum_by}
 use Rattle.std.specs.Prelude.{Option, Some, None, ⊤}
 use Rattle.core_lang.specs.declared.typed.Typed.{Typed}
 use Rattle.core_lang.specs.Serial.{Invocation}
@@ -11,63 +11,63 @@ use Rattle.outcomes.specs.declared.outcome.Found.{Found}
 use Rattle.outcomes.specs.Orders.{next_call, one_more, orders, orders_of, begun_with, none_done}
 use Rattle.outcomes.specs.Ends.{Finds, Left}
 use Rattle.outcomes.specs.Working.States.{Reached, at}
-use Rattle.outcomes.specs.Working.Searching.{Leads, Summand, order_at, sum_over}
+use Rattle.outcomes.specs.Working.Searching.{Leads, order_at, sum_over}
 use Rattle.outcomes.specs.Working.Steps.{Growth, GoesOn, IsBeyond, start_of}
 use Rattle.std.specs.List.{Contains}
 
--- this thread, if there is none before it and it has a call
+-- the earlier thread, if there is one; otherwise this thread, if it has a call
 abbrev pub or_this : Option ℕ → Option Invocation → ℕ → Option ℕ
 or_this (Some u) call t = Some u
 or_this None (Some call) t = Some t
 or_this None None t = None
 
--- the first of the first threads, so many of them, that has a call left
+-- the first thread below the given number that has a call left
 abbrev pub first_ready : Typed → List ℕ → ℕ → Option ℕ
 first_ready program done zero = None
 first_ready program done (suc t) = or_this (first_ready program done t) (next_call program done t) t
 
--- by the orders from a state that begin with the next call of a thread
+-- the growth by the orders from a state that begin with the next call of a thread
 abbrev pub by_thread : Search → Reached → ℕ → Growth
 by_thread search s t f left =
     s.orders * sum_over search.program.now search.turns f s.done s.left
     (begun_with (next_call search.program.now s.done t) t (orders_of search.program.now left (one_more s.done t)))
 
--- of the threads of a group among the first, so many of them
+-- the growth by the threads of a group below the given number
 abbrev pub by_group : Search → List ℕ → ℕ → Reached → ℕ → Growth
 by_group search groups group s zero f left = 0
 by_group search groups group s (suc t) f left =
     by_group search groups group s t f left + (if nat_eq (slice_index groups t) group then by_thread search s t f left else 0)
 
--- of those of the group of this thread
+-- the growth by the threads of the group of this thread
 abbrev pub by_first : Search → List ℕ → Reached → Option ℕ → Growth
 by_first search groups s None f left = 0
 by_first search groups s (Some t) f left =
     by_group search groups (slice_index groups t) s (length search.program.now.threads.items) f left
 
--- of those of the first group that has a call left
+-- the growth by the threads of the first group that has a call left
 abbrev pub reduced_from : Search → List ℕ → Reached → Growth
 reduced_from search groups s f left =
     by_first search groups s (first_ready search.program.now s.done (length search.program.now.threads.items)) f left
 
--- from each of these states
+-- the growth from each of these states
 abbrev pub reduced_from_all : Search → List ℕ → List Reached → Growth
 reduced_from_all search groups states f left = sum_by (λ (s : Reached). reduced_from search groups s f left) states
 
--- it went on, or a call is past its turns; of more orders than are looked at nothing is said
+-- the work went on, or a call is not settled by the turns. Nothing is claimed if the orders are more than the limit
 abbrev pub ReducesBy : Search → Work → Work → Growth → Option EarlyEnd → Type 0
 ReducesBy search old new growth None = GoesOn search old new growth
 ReducesBy search old new growth (Some TooMany) = ⊤
 ReducesBy search old new growth (Some (Beyond first thread)) =
     (first < length new.trail) × IsBeyond search.program.now search.turns (start_of search) (order_at new.trail first) thread
 
--- what is found, if anything
+-- the result, if there is one
 abbrev pub FindsIfAny : Search → Option Found → Type 0
 FindsIfAny search None = ⊤
 FindsIfAny search (Some found) = Finds search.program.now search.turns search.most search.asked.now found
 
--- ---- by way of some states
+-- ---- orders through some states
 
--- an order of all calls can be made by way of a state: it leads where some order of what is left leads from there
+-- the order is covered by a state of the list: it leads where some order of the remaining calls leads from that state
 pub record IsCovered (search : Search) (left : ℕ) (states : List Reached) (order : List ℕ) : Type 0 where
   pub number : ℕ
   pub within : number < length states
@@ -78,6 +78,6 @@ pub record IsCovered (search : Search) (left : ℕ) (states : List Reached) (ord
       Leads search.program.now search.turns (at states number).done (at states number).left rest done' left' →
       Leads search.program.now search.turns (none_done search.program.now) (start_of search) order done' left'
 
--- so can each
+-- each order of all calls is covered
 abbrev pub Covers : Search → ℕ → List Reached → Type 0
 Covers search left states = (order : List ℕ) → Contains (orders search.program.now) order → IsCovered search left states order

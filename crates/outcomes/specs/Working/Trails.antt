@@ -1,12 +1,12 @@
--- Orders that share their beginnings. Nobody has to believe this file.
+-- Orders that share their prefixes. Nobody has to believe this file.
 use Rattle.std.specs.Prelude.{◌≡◌, ℕ, ◌<◌, ◌≤◌, List, length, [], ◌∷◌, ◌++◌, slice_get, slice_index_or, Some}
-use Rattle.outcomes.specs.declared.trail.Step.{Step}
+use Rattle.outcomes.specs.declared.trail.TrailEdge.{TrailEdge}
 
--- the order of this number with a thread behind it
+-- the order at this index, followed by a thread
 abbrev pub longer : List (List ℕ) → ℕ → ℕ → List ℕ
 longer orders order thread = slice_index_or orders order [] ++ thread ∷ []
 
--- orders that begin as these
+-- the first list is a prefix of the second
 abbrev pub IsLonger : List (List ℕ) → List (List ℕ) → Type 0
 IsLonger trail trail' = (more : List (List ℕ)) × (trail' ≡ trail ++ more)
 
@@ -14,15 +14,15 @@ IsLonger trail trail' = (more : List (List ℕ)) × (trail' ≡ trail ++ more)
 abbrev pub IsBegun : List (List ℕ) → Type 0
 IsBegun trail = (0 < length trail) × (slice_index_or trail 0 [] ≡ [])
 
--- these orders and those that the steps make of them
-abbrev pub grown : List (List ℕ) → List Step → List (List ℕ)
+-- the orders, and those that the steps make from them
+abbrev pub grown : List (List ℕ) → List TrailEdge → List (List ℕ)
 grown orders [] = orders
 grown orders (s ∷ ss) = grown (orders ++ longer orders s.before s.thread ∷ []) ss
 
--- the empty order, and those that the steps make of it
-abbrev pub orders_of : List Step → List (List ℕ)
+-- the empty order, and those that the steps make from it
+abbrev pub orders_of : List TrailEdge → List (List ℕ)
 orders_of steps = grown ([] ∷ []) steps
 
--- each step leads from an order that is there before it
-abbrev pub AreBackward : List Step → Type 0
-AreBackward steps = (k : ℕ) (s : Step) → slice_get steps k ≡ Some s → s.before ≤ k
+-- each step extends an earlier order
+abbrev pub AreBackward : List TrailEdge → Type 0
+AreBackward steps = (k : ℕ) (s : TrailEdge) → slice_get steps k ≡ Some s → s.before ≤ k

@@ -95,7 +95,7 @@ level_found k [] after op e = absurd cc
 level_found k (t ∷ ts) after op e =
     level_named k ts after op (op_of k t.kind) (IfSome_then (op_of k t.kind) (op_meant k t.kind) (λ p h. h.1)) e
 
--- an operand, and the links behind it, some or none
+-- an operand, and the links after it, some or none
 abbrev chained_from : Level → Expr → Result (Links × List Tok) Stop → Result (Expr × List Tok) Stop
 chained_from k x links = links >>= λ l. Ok (chained k x l.0, l.1)
 
@@ -151,7 +151,7 @@ module _ (operand : Reader Expr) (shorter : Shortens operand) (k : Level) (ts mi
       pub links_stop : (e : Stop) → Fails e (links_behind operand k (op, y) rest) → Fails e (chain_at operand k ts)
       links_stop e fails = subst (Fails e) (sym with_links) (fails_on e (links_behind operand k (op, y) rest) _ fails)
 
--- what is none is none in any view
+-- a missing value is missing in any view
 pub none_found : {A B : Type 0} (f : A → B) (o : Option A) → is_some o ≡ false → option_map f o ≡ None
 none_found f None h = refl
 none_found f (Some x) h = absurd cc

@@ -1,4 +1,4 @@
--- What has a tree is read, unless a sign is too deep: places, expressions and conditions.
+-- Tokens that have a tree are read, unless a sign is too deep: places, expressions and conditions.
 use Rattle.std.proofs.Common.{◌≡◌, ℕ, zero, suc, ◌≤◌, false, List, ◌∷◌, length, Some, None, Ok, refl, sym, ap, ◌∙◌}
 use Rattle.std.proofs.Common.{subst, arith, le_trans, le_refl}
 use Rattle.source.specs.declared.span.Span.{Span}
@@ -75,13 +75,13 @@ below_less Sum = omega arith
 below_less Conjunction = omega arith
 below_less Disjunction = omega arith
 
--- a place goes no further
+-- no place goes on with these tokens
 pub record NoPlace (ts : List Tok) : Type 0 where
   pub no_bracket : is_next (mark OpenBracket) ts ≡ false
   pub no_dot : is_next (mark Dot) ts ≡ false
   pub no_field : NoSign Dot ts
 
--- nor does an expression that binds so loosely at most
+-- no expression of at most this rank goes on with these tokens
 pub record NoOps (n : ℕ) (ts : List Tok) : Type 0 where
   pub none : (k : Level) → rank k ≤ n → op_at k ts ≡ None
   pub no_comparison : COMPARED ≤ n → comparison_at ts ≡ None
@@ -224,7 +224,7 @@ no_ops_comparison c at ts = record {
   no_place = comparison_no_place c at ts;
 }
 
--- before and behind links no tighter operator stands
+-- no tighter operator precedes or follows links
 links_stop : {k : Level} {l : Links} {ts rest : List Tok} → IsLinks k l ts rest → NoOps (rank k) rest →
     NoOps (below k) ts
 links_stop {k = k} {ts = ts} are_no_links h = no_ops_less (below k) (rank k) ts (below_less k) h
@@ -263,7 +263,7 @@ module _ (operand : Reader Expr) (shorter : Shortens operand) (k : Level) where
       (chained k x l, rest) first (finds_then (links_at operand k mid) (λ l. Ok (chained k x l.0, l.1)) (l, rest)
       (chained k x l, rest) more (found refl))
 
--- ---- what is read at a rank is read at a higher one
+-- ---- an expression that is read at a rank is read at a higher one
 
 module _ (room : ℕ) (e : Expr) (ts rest : List Tok) where
   alone : (k : Level) → op_at k rest ≡ None → Finds (rank_at (below k) room ts) (e, rest) →
@@ -288,7 +288,7 @@ module _ (room : ℕ) (e : Expr) (ts rest : List Tok) where
   step (suc (suc (suc (suc (suc zero))))) some h f = alone Disjunction (h.none Disjunction (omega arith)) f
   step (suc (suc (suc (suc (suc (suc n)))))) some h f = f
 
-  -- so many steps
+  -- from one rank to another by single steps
   pub data Up (i : ℕ) : ℕ → Type 0 where
     level : Up i i
     higher : {n : ℕ} → i ≤ n → Up i n → Up i (suc n)
@@ -313,7 +313,7 @@ module _ (room : ℕ) (e : Expr) (ts rest : List Tok) where
       Finds (rank_at n room ts) (e, rest)
   lift i n some le h f = climb (up_of i n le) some h f
 
-  -- from the tightest, where no operator stands before it
+  -- from the tightest rank, if no operator precedes it
   lift_prim : (n : ℕ) → prefix_at ts ≡ None → NoOps n rest → Finds (prim_at room ts) (e, rest) →
       Finds (rank_at n room ts) (e, rest)
   unfolding unary_with
@@ -494,7 +494,7 @@ fields_found =
     (ends_found (λ x. x.0.1 ∷ x.1)))))
     (λ y ts rest h. fields_back h)
 
--- a place is a name and what is read behind it
+-- a place is a name and the tokens that are read after it
 pub record PlaceFound (room : ℕ) (p : Place) (ts rest : List Tok) : Type 0 where
   pub first : Ident
   pub behind : List Tok
@@ -600,7 +600,7 @@ pub any_found : {e : Expr} {ts rest : List Tok} → IsExpr ANY e ts rest → (ro
     Finds (expr_at room ts) (e, rest)
 any_found h room stops = expr_found h room stops
 
--- with what no expression begins
+-- no expression begins with these tokens
 place_starts : {p : Place} {ts rest : List Tok} → IsPlace p ts rest →
     NotNext (mark CloseParen) ts × NotNext (word keyword.Call) ts
 place_starts is_lone = (refl, refl)
@@ -620,7 +620,7 @@ expr_starts (is_compare le a b) = expr_starts a
 
 -- ---- expressions with what ends them
 
--- no operator stands before a semicolon
+-- no operator precedes a semicolon
 semicolon_stops : {A : Type 0} {R : Span → A → List Tok → List Tok → Type 0} {y : A} {ts rest : List Tok} →
     Both (IsTok (mark Semicolon)) R y ts rest → NoOps ANY ts
 semicolon_stops (both {x = at} {mid = ts} is_tok r) = no_ops_semicolon at ts

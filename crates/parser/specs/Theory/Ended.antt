@@ -1,4 +1,4 @@
--- What `ended_by` says of a part: it was read, and the sign behind it.
+-- The result of `ended_by`: a part was read, and the sign after it.
 use Rattle.std.proofs.Common.{◌≡◌, List, Result, Ok, Err, refl, ap, ◌∙◌}
 use Rattle.source.specs.declared.span.Span.{Span}
 use Rattle.source.specs.declared.token.Sign.{Sign}
@@ -30,7 +30,7 @@ sign_read (Ok c) a y rest h =
     record { at = c.0; is = ap (λ (x : _ × List Tok). Ok (c.0, x.1)) both; same = ap (λ (x : _ × List Tok). x.0) both }
 sign_read (Err e) a y rest h = absurd cc
 
--- a failure stands, whatever was to follow
+-- a failure stays, whatever follows
 fails_more : {X Y Z : Type 0} (e : Stop) (r : Result X Stop) (f : X → Result Y Stop) (g : X → Result Z Stop) →
     ((x : X) → Fails e (f x) → Fails e (g x)) → Fails e (r >>= f) → Fails e (r >>= g)
 fails_more e (Ok x) f g h fails = h x fails

@@ -1,4 +1,4 @@
--- What has a tree is read, unless a sign is too deep: of single tokens, and of productions part by part.
+-- Tokens that have a tree are read, unless a sign is too deep: single tokens, and productions part by part.
 use Rattle.std.proofs.Common.{◌≡◌, ℕ, zero, suc, Bool, true, false, cond, List, [], ◌∷◌, length, Some, None, Result}
 use Rattle.std.proofs.Common.{Ok, Err, refl, ap, ◌∙◌}
 use Rattle.source.specs.declared.span.Span.{Span}
@@ -34,14 +34,14 @@ same_finds r q y e (deep n h) = deep n (e ∙ h)
 
 -- ---- parts
 
--- what the relation has is read, where F holds of the tokens behind it
+-- a part that the relation has is read, if F holds of the tokens after it
 abbrev pub FindsPart : {A : Type 0} → (List Tok → Type 0) → (A → List Tok → List Tok → Type 0) → Reader A → Type 0
 FindsPart {A} F R f = (x : A) (ts mid : List Tok) → R x ts mid → F mid → Finds (f ts) (x, mid)
 
 abbrev pub Anything : List Tok → Type 0
 Anything ts = Unit {0}
 
--- the same of what is behind some parts that gave x
+-- the parts that follow some parts with the value x are read
 pub record Finding {X B : Type 0} (F : List Tok → Type 0) (R : X → B → List Tok → List Tok → Type 0) (g : X → Reader B)
     : Type 0 where
   pub find : (x : X) (y : B) (ts rest : List Tok) → R x y ts rest → F rest → Finds (g x ts) (y, rest)
@@ -120,7 +120,7 @@ module _ {X B : Type 0} (G : List Tok → Type 0) (s : Sign) (R : X × Span → 
       finds_then (open_at s (suc r) (tok (mark s) a ∷ mid)) (λ a. g (x, a.0) a.1) (a, mid) (y, rest)
       (room_found s r a mid) ((more r refl).find (x, a) y mid rest q follow)
 
--- an opening sign, and what is behind it, which is read only where one may be opened
+-- an opening sign, and what follows it, which is read only if a further sign may be opened
 pub open_then : {X B : Type 0} {G : List Tok → Type 0} (s : Sign) (room : ℕ) {R : X × Span → B → List Tok → List Tok →
     Type 0} {g : X × Span → Reader B}
     → ((r : ℕ) → room ≡ suc r → Finding G R g)
@@ -167,10 +167,10 @@ skip_found : (s : Sign) (at : Span) (ts : List Tok) → skip_at s (tok (mark s) 
 unfolding skip_at
 skip_found s at ts = ap (λ (b : Bool). cond b (Some ts) None) (same_sign-refl s)
 
--- items that are read where E holds of the tokens behind them
+-- items that are read if E holds of the tokens after them
 module _ {A : Type 0} (E : List Tok → Type 0) (R : A → List Tok → List Tok → Type 0) (f : Reader A)
     (part : FindsPart E R f) where
-  -- an item may end where others follow
+  -- an item may end before others
   module _ (s : Sign) (before_sign : (at : Span) (ts : List Tok) → E (tok (mark s) at ∷ ts)) where
     ends_before : {xs : List A} {ts rest : List Tok} → AreMany (IsAfter s R) xs ts rest → E rest → E ts
     ends_before no_more e = e

@@ -1,4 +1,4 @@
--- The first of several tokens, as it is seen, and those behind it.
+-- The first of several tokens as plain data, and those after it.
 use Rattle.std.proofs.Common.{◌≡◌, ◌∙◌, ◌-◌, ◌<◌, ◌≤◌, ◌+◌, ℕ, zero, suc, List, [], ◌∷◌, length, take, drop, get_or}
 use Rattle.std.proofs.Common.{Bool, true, false, if◌then◌else◌, Some, None, Ok, Err, refl, sym, ap, arith}
 use Rattle.std.specs.Rc.{rc_str_bytes}
@@ -15,7 +15,7 @@ use Rattle.parser.specs.declared.stop.Stop.TheVariants.{Unexpected, TooDeep}
 use Rattle.parser.specs.Working.Reading.{Reader, first_at, refused, same_sign, same_keyword, sign_at, sign_from}
 use Rattle.parser.specs.Working.Reading.{open_at, open_from, opened, word_at, word_from, skip_at, is_next}
 
--- ---- the first, and those behind it
+-- ---- the first, and those after it
 
 abbrev pub behind_first : List Token → List Token
 behind_first tokens = take (length tokens - 1) (drop 1 tokens)
@@ -38,7 +38,7 @@ module _ (tokens : List Token) (first t : Token) (le : 1 ≤ length tokens) (is 
           ap (λ (y : Token). seen_token y ∷ seen xs) (sym here ∙ e) ∙ ap (λ (ys : List Token). seen_token t ∷ seen ys)
           (sym (take_all (length (x ∷ xs) - 1) xs (omega arith)))
 
-  -- what is read is what is read from there
+  -- what is read from the tokens is what is read from the first and those after it
   pub at_first : {R : Type 0} (f : List Tok → R) → f (seen tokens) ≡ f (seen_token t ∷ seen (behind_first tokens))
   at_first f = ap f in_front
 

@@ -1,4 +1,4 @@
--- Productions put together of parts: each a reader with its law, and some tokens that it reads.
+-- Productions built from parts: each is a reader with its law, and some tokens that it reads.
 use Rattle.std.proofs.Common.{◌≡◌, ℕ, zero, suc, ◌+◌, ◌<◌, Bool, true, false, cond, List, [], ◌∷◌, Some, None, Ok}
 use Rattle.std.proofs.Common.{refl, sym, ap, ◌∙◌, subst, arith}
 use Rattle.source.specs.declared.span.Span.{Span}
@@ -20,12 +20,12 @@ use Rattle.parser.specs.Theory.Laws.{NextAt, NextLaw, SaysNext, many_law, weaken
 pub data Done {B : Type 0} (x : B) : B → List Tok → List Tok → Type 0 where
   done : {ts : List Tok} → Done x x ts ts
 
--- a part, and what is behind it
+-- a part, and what follows it
 pub data Both {A B : Type 0} (RF : A → List Tok → List Tok → Type 0) (RG : A → B → List Tok → List Tok → Type 0) : B →
     List Tok → List Tok → Type 0 where
   both : {x : A} {y : B} {ts mid rest : List Tok} → RF x ts mid → RG x y mid rest → Both RF RG y ts rest
 
--- tokens that a part reads, whatever stands behind them
+-- tokens that a part reads, whatever follows them
 abbrev pub Can : {A : Type 0} → (A → List Tok → List Tok → Type 0) → Type 0
 Can R = (rest : List Tok) → (x : _) × (ts : List Tok) × R x ts rest
 
@@ -36,13 +36,13 @@ pub no_room : {X : Type 0} (r : ℕ) → zero ≡ suc r → X
 no_room r e = absurd (omega arith)
 
 module _ (limit : ℕ) where
-  -- a part, where P holds
+  -- a part with its law, if P holds
   pub record Part (P : Type 0) {A : Type 0} (R : A → List Tok → List Tok → Type 0) (f : Reader A) (n d e : ℕ) : Type 0
     where
       pub law : P → Law limit R f n d e
       pub can : Can R
 
-  -- what is behind some parts that gave x
+  -- the parts that follow some parts with the value x
   pub record Rest (P : Type 0) {X B : Type 0} (R : X → B → List Tok → List Tok → Type 0) (g : X → Reader B) (n d e : ℕ)
       : Type 0 where
     pub law : P → (x : X) → Law limit (R x) (g x) n d e
@@ -72,7 +72,7 @@ module _ (limit : ℕ) where
     );
   }
 
-  -- an opening sign, and what is behind it, which is read only where one may be opened
+  -- an opening sign, and what follows it, which is read only if a further sign may be opened
   pub then_open : {P X B : Type 0} (s : Sign) (room : ℕ) {R : X × Span → B → List Tok → List Tok →
       Type 0} {g : X × Span → Reader B} {m d h : ℕ}
       → d + room ≡ limit → IsOpening (mark s) → Rest (0 < room) R g m (after_sign d s) h
@@ -184,7 +184,7 @@ module _ (limit : ℕ) where
       unfolding maybe_at
       maybe_law k ts = by_next k ts (is_next k ts) refl
 
-      -- items behind a sign
+      -- items after a sign
       module _ (s : Sign) (flat : after_sign d s ≡ d) (shut : IsOpening (mark s) → ⊥) where
         is_sign-true : (k : Lexeme) → is_sign s k ≡ true → k ≡ mark s
         is_sign-true (mark m) e = ap mark (same_sign-true m s e)
@@ -311,7 +311,7 @@ module _ (limit : ℕ) where
       Law limit R f 1 d e → Law limit R f 0 d e
   weaken_law R f d e law ts = weaken_at limit R (Says f) d e ts (f ts) (law ts)
 
-  -- what is behind some parts, chosen so
+  -- the parts that follow some parts, chosen by the next token
   pub either : {P X B : Type 0} {R : X → B → List Tok → List Tok → Type 0} {f g : X →
       Reader B} {m d e : ℕ} (k : Lexeme) → Rest P R f m d e → Rest P R g m d e → Rest P R (λ x. choose k (f x) (g x)) m
       d e

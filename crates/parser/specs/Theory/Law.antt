@@ -1,5 +1,5 @@
--- What holds of every reader: it takes a stretch of tokens that stands in the relation and comes back to
--- the nesting that it promises, and it looks at no token behind the next one.
+-- The law of every reader: it takes tokens that are in its relation, ends at the nesting that it promises, and reads no
+-- token after the next one.
 use Rattle.std.proofs.Common.{get_or, ◌≡◌, ℕ, zero, suc, ◌+◌, ◌<◌, ◌≤◌, Bool, true, false, cond, List, [], ◌∷◌, ◌++◌}
 use Rattle.std.proofs.Common.{length, Result, Ok, Err, refl, sym, ap, ◌∙◌, subst, append_assoc, length-append, arith}
 use Rattle.std.proofs.lemmas.Bool.{eqb-true, eq-eqb}
@@ -47,7 +47,7 @@ SameNext-append (t ∷ a) b other h = (a ++ other, refl)
 pub SameNext-at : (a : List Tok) (t : Tok) (b other : List Tok) → SameNext (a ++ t ∷ b) (a ++ t ∷ other)
 SameNext-at a t b other = SameNext-append a (t ∷ b) (t ∷ other) (other, refl)
 
--- what y has to be, once x was read
+-- the requirement on y, once x was read
 abbrev pub Then : {A B : Type 0} → (A → List Tok → List Tok → Type 0) → (B → List Tok → List Tok → Type 0) → A → B →
     List Tok → List Tok → Type 0
 Then RF RH x y mid rest = (ts : List Tok) → RF x ts mid → RH y ts rest
@@ -177,7 +177,7 @@ module _ (limit : ℕ) where
       pub is : (other : List Tok) → R x (taken ++ other) other
       pub again : (other : List Tok) → SameNext rest other → S (taken ++ other) (Ok (x, other))
 
-    -- a token cannot stand where it does, whatever follows
+    -- a token is unexpected, whatever follows
     pub record Met (left : ℕ) : Type 0 where
       pub before : List Tok
       pub token : Tok
@@ -356,7 +356,7 @@ module _ (limit : ℕ) where
 
   -- ---- the first token
 
-  -- what a reader does with a first token
+  -- the effect of a first token on a reader
   pub data Head {A : Type 0} (R : A → List Tok → List Tok → Type 0) (d e : ℕ) (k : Lexeme) (at : Span) (g : Reader A) :
       Type 0 where
     refuses : ((ts : List Tok) → g ts ≡ refused ts) → Head R d e k at g
@@ -450,7 +450,7 @@ module _ (limit : ℕ) where
   }
   implies R R' S n d e ts h (Err NoMemory) s = s
 
-  -- the same fact of another way of saying it
+  -- the same law for an equal reader
   module _ {A : Type 0} (R : A → List Tok → List Tok → Type 0) (S' S : List Tok → Result (A × List Tok) Stop → Type 0)
       (n d e : ℕ) (ts : List Tok) (same_says : (us : List Tok) (q : Result (A × List Tok) Stop) → SameNext ts us → S' us
       q → S us q) where

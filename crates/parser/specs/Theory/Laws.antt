@@ -14,7 +14,7 @@ abbrev pub SaysNext : {A : Type 0} → Next A → List Tok → Result (A × List
 SaysNext next ts r = next ts ≡ Some r
 
 module _ (limit : ℕ) where
-  -- ---- what the law says of lengths
+  -- ---- the law, as a fact about lengths
 
   took_shorter : {A : Type 0} (R : A → List Tok → List Tok → Type 0) (S : List Tok → Result (A × List Tok) Stop →
       Type 0) (d e : ℕ) (ts : List Tok) (r : Result (A × List Tok) Stop) → LawAt limit R S 1 d e ts r → OnValue r

@@ -1,4 +1,4 @@
--- Loops that read items into a list: what was read before stands in front of what is still to come.
+-- Loops that read items into a list: the items read before precede those still to come.
 use Rattle.std.proofs.Common.{◌≡◌, ◌<◌, Bool, true, false, List, [], ◌∷◌, ◌++◌, length, Some, None, Result, Ok, map}
 use Rattle.std.proofs.Common.{refl, sym, ap, ◌∙◌, subst, arith}
 use Rattle.std.proofs.lemmas.List.{length-map}
@@ -12,7 +12,7 @@ use Rattle.parser.specs.Working.Reading.{skip_at, behind, next_after, after_each
 use Rattle.parser.specs.Theory.Readers.{OnValue, Shortens, fails_on}
 use Rattle.parser.specs.Theory.Many.{NextShortens, with_front, goes_on, ends, stops}
 
--- the items of a list, seen by view, in front of others
+-- the items of a list, in a view, before others
 abbrev pub before : {X A L : Type 0} → (A → L → L) → (X → A) → List X → L → L
 before cons view [] more = more
 before cons view (x ∷ xs) more = cons (view x) (before cons view xs more)
@@ -77,7 +77,7 @@ module _ {X A L : Type 0} (nil : L) (cons : A → L → L) (view : X → A) (k :
   until_stops e more fails = stops_here nil cons view (next_until k f) shorter xs ts total e (f ts)
       (next_found k f ts more) fails
 
--- ---- items behind a sign each
+-- ---- items after a sign each
 
 module _ {X A : Type 0} (view : X → A) (s : Sign) (f : Reader A) (shorter : NextShortens (next_after s f)) (xs : List X)
     (ts : List Tok) (total : Result (List A × List Tok) Stop) where

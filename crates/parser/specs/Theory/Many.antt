@@ -13,7 +13,7 @@ abbrev pub NextShortens : {A : Type 0} → Next A → Type 0
 NextShortens next = (ts : List Tok) → IfSome (next ts) (λ r. OnValue r (λ x. length x.1 < length ts))
 
 module _ {A L : Type 0} (nil : L) (cons : A → L → L) where
-  -- a turn needs what is behind it only for fewer tokens
+  -- a turn depends on what follows it only for fewer tokens
   turn_same : (f g : Reader L) (o : Option (Result (A × List Tok) Stop)) (ts : List Tok) →
       IfSome o (λ r. OnValue r (λ x. length x.1 < length ts)) →
       ((rest : List Tok) → length rest < length ts → f rest ≡ g rest) → turn nil cons f o ts ≡ turn nil cons g o ts
@@ -54,7 +54,7 @@ module _ {A L : Type 0} (nil : L) (cons : A → L → L) where
     unfolding many_at
     many_bounds ts = turn_bounds (suc (length ts)) ts
 
--- ---- the loop: front puts what was read before to what is still read
+-- ---- the loop: `front` puts the items read before in front of those still read
 
 abbrev pub with_front : {L : Type 0} → (L → L) → Result (L × List Tok) Stop → Result (L × List Tok) Stop
 with_front front read = read >>= λ l. Ok (front l.0, l.1)

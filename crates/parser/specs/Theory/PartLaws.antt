@@ -22,7 +22,7 @@ use Rattle.parser.specs.Theory.Joined.{Done, done, Both, both, nowhere, Part, en
 use Rattle.parser.specs.Theory.Joined.{production, sign_part, word_part, name_part, int_part, maybe_part, listed_part}
 use Rattle.parser.specs.Theory.Joined.{after_each_part}
 
--- ---- what the parts of each production make
+-- ---- the result of the parts of each production
 
 negative_is : {y : Const} {at : Span} {ts rest : List Tok} → Both IsInt (λ n. Done (negative at n)) y ts rest →
     IsConst y (tok (mark Minus) at ∷ ts) rest
@@ -115,7 +115,7 @@ module _ (limit : ℕ) where
     );
   }
 
-  -- a part behind a sign
+  -- a part after a sign
   pub after_part : {P A : Type 0} {R : A → List Tok → List Tok → Type 0} {f : Reader A} (s : Sign) (d : ℕ) →
       (IsOpening (mark s) → ⊥) → Part limit P R f 1 (after_sign d s) (after_sign d s) →
       Part limit P (IsAfter s R) (after_at s f) 1 d (after_sign d s)

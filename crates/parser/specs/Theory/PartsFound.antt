@@ -1,4 +1,4 @@
--- What has a tree is read, unless a sign is too deep: types, constants, parameters and annotations.
+-- Tokens that have a tree are read, unless a sign is too deep: types, constants, parameters and annotations.
 use Rattle.std.proofs.Common.{ℕ, List, ◌∷◌, Ok, refl}
 use Rattle.source.specs.declared.span.Span.{Span}
 use Rattle.source.specs.declared.token.Keyword.TheVariants as keyword
@@ -48,7 +48,7 @@ const_found room _ ts mid (is_member_const {x = x} {n = n} {begin = begin} {clos
     finds_then (index_at room us) (λ n. Ok (member_const x n.0, n.1)) (n, mid) (member_const x n, mid)
     (index_found room n us mid is_index tt) (found refl)
 
--- ---- a part behind a sign
+-- ---- a part after a sign
 
 after_back : {A : Type 0} {s : Sign} {R : A → List Tok → List Tok → Type 0} {y : A} {ts rest : List Tok} →
     IsAfter s R y ts rest → Both (IsTok (mark s)) (λ at. Both R (λ x. Done x)) y ts rest

@@ -62,7 +62,7 @@ element_is : {x : Ident} {y : Place} {ts rest : List Tok} →
     (λ c. Done (element x e)))) y ts rest → IsPlace y (name_tok x ∷ ts) rest
 element_is (both is_tok (both e (both is_tok done))) = is_element e
 
--- one field or more, each behind a dot
+-- one field or more, each after a dot
 pub data IsFields : List Ident → List Tok → List Tok → Type 0 where
   is_fields : {first : Ident} {more : List Ident} {dot : Span} {ts rest : List Tok} →
       AreMany (IsAfter Dot IsName) more ts rest →
@@ -77,7 +77,7 @@ path_is : {x : Ident} {y : Place} {ts rest : List Tok} → Both IsFields (λ fs.
     IsPlace y (name_tok x ∷ ts) rest
 path_is (both (is_fields more) done) = is_path more
 
--- a chain of lower rank stands where one of higher rank may
+-- an expression of lower rank is also one of higher rank
 pub raise : {n m : ℕ} {e : Expr} {ts rest : List Tok} → n ≤ m → IsExpr n e ts rest → IsExpr m e ts rest
 raise le is_int = is_int
 raise le is_null = is_null
@@ -98,7 +98,7 @@ pub chained_is : (k : Level) (x : Expr) (l : Links) (ts mid rest : List Tok) →
 chained_is k x no_links ts mid rest first are_no_links = raise (below_rank k) first
 chained_is k x (link op y more) ts mid rest first ls = is_chain (le_refl (rank k)) first ls
 
--- what an operator's token is
+-- the token of an operator
 pub op_meant : (k : Level) (kind : Lexeme) →
     IfSome (op_of k kind) (λ op. (kind ≡ mark (sign_of op)) × (level_of op ≡ k))
 op_meant Sum (mark Plus) = (refl, refl)

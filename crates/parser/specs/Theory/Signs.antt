@@ -1,4 +1,4 @@
--- A part and the sign behind it, with what follows; and whether a sign comes next.
+-- A part and the sign after it, with what follows; and whether a sign comes next.
 use Rattle.std.proofs.Common.{◌≡◌, List, Result, Ok, Err, refl}
 use Rattle.source.specs.declared.span.Span.{Span}
 use Rattle.source.specs.declared.token.Sign.{Sign}

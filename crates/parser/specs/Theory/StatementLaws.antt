@@ -29,9 +29,9 @@ use Rattle.parser.specs.Theory.Productions.{zero_expr, any_part, expr_law, IsEnd
 use Rattle.parser.specs.Theory.Productions.{place_part, IsCondition, is_condition, condition_part}
 use Rattle.parser.specs.Theory.PartLaws.{one_is, no_name, zero_tok, type_part}
 
--- ---- what the parts of each production make
+-- ---- the result of the parts of each production
 
--- a local's name and type, and the sign `=`, behind a first word that stands there
+-- a local's name and type, and the sign `=`, after a first word at this position
 pub data IsTyped (start : Span) : TypedName → List Tok → List Tok → Type 0 where
   is_typed : {x : Ident} {t : ValueType} {colon equals : Span} {ts rest : List Tok}
       → IsType t ts (tok (mark Equals) equals ∷ rest)
@@ -59,7 +59,7 @@ assign_is : {x : Ident} {y : Stmt} {ts rest : List Tok} →
     ts rest → IsStmt y (name_tok x ∷ ts) rest
 assign_is (both p (both is_tok (both (ended e) done))) = is_assign p e
 
--- statements in braces, with where the closing one stands
+-- statements in braces, with the position of the closing one
 abbrev pub IsBracedPair : Stmts × Span → List Tok → List Tok → Type 0
 IsBracedPair b = IsBraced b.0 b.1
 
@@ -83,7 +83,7 @@ while_is : {start : Span} {y : Stmt} {ts rest : List Tok} →
     IsStmt y (tok (word keyword.While) start ∷ ts) rest
 while_is (both (is_condition e) (both b done)) = is_while e b
 
--- what a `let` of this local ends with
+-- the end of a `let` of this local
 data IsLetEnd (l : Local) : Stmt → List Tok → List Tok → Type 0 where
   ends_plain : {semicolon : Span} {ts : List Tok} → IsLetEnd l (let_local l) (tok (mark Semicolon) semicolon ∷ ts) ts
   ends_owned : {o : Owner} {semicolon : Span} {ts rest : List Tok} →
@@ -102,7 +102,7 @@ let_ended : {l : Local} {y : Stmt} {ts mid rest : List Tok} → IsLocal l ts mid
 let_ended h ends_plain = is_let h
 let_ended h (ends_owned o) = is_let_owned h o
 
--- what stands behind the sign `=` of a `let`
+-- the rest of a `let` after its sign `=`
 data IsLetRest (t : TypedName) : Stmt → List Tok → List Tok → Type 0 where
   rest_valued : {e : Expr} {s : Stmt} {ts mid rest : List Tok} → IsExpr ANY e ts mid →
       IsLetEnd (local_with t e) s mid rest → IsLetRest t s ts rest
@@ -362,7 +362,7 @@ module _ (limit : ℕ) where
   stmts_law f d law = many_law limit IsStmt IsStmts no_stmts stmt (next_until (mark CloseBrace) f) d
       (until_law limit IsStmt (mark CloseBrace) f d law) (λ ts. are_no_stmts) (λ x l ts mid rest a b. are_stmts a b)
 
-  -- behind an opening brace, where one could be opened
+  -- statements after an opening brace, if one could be opened
   stmts_in_law : (room d : ℕ) → d + room ≡ limit → 0 < room → Law limit IsStmts (stmts_in room) 0 (suc d) (suc d)
   unfolding stmts_in
   stmts_in_law zero d sum some = absurd (omega arith)

@@ -1,4 +1,4 @@
--- What has a tree is read, unless a sign is too deep: statements.
+-- Tokens that have a tree are read, unless a sign is too deep: statements.
 use Rattle.std.proofs.Common.{◌≡◌, ℕ, zero, suc, true, false, List, [], ◌∷◌, length, Ok, refl, sym, subst}
 use Rattle.source.specs.declared.span.Span.{Span}
 use Rattle.source.specs.declared.token.Keyword.TheVariants as keyword
@@ -163,7 +163,7 @@ typed_local l = record { start = l.start; name = l.name; value_type = l.value_ty
 abbrev typed_called : CalledLocal → TypedName
 typed_called l = record { start = l.start; name = l.name; value_type = l.value_type }
 
--- a `let` of a value, by what stands behind it
+-- a `let` of a value, by what follows it
 valued_found : (room : ℕ) (t : TypedName) (e : Expr) (s : Stmt) (ts us mid rest : List Tok) →
     IsTyped t.start t ts us → IsExpr ANY e us mid → NoOps ANY mid →
     Finds (choose (word keyword.Where) (owned_at (local_with t e)) (plain_at (local_with t e)) mid) (s, rest) →

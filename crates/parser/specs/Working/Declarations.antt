@@ -16,7 +16,7 @@ use Rattle.parser.specs.Working.Reading.{name_at, int_at, next_until, listed_at,
 use Rattle.parser.specs.Working.Parts.{type_at, index_at, const_at, maybe_protection, params_at}
 use Rattle.parser.specs.Working.Statements.{braced_at}
 
--- a global that is an array, and one that is none, behind its type and name
+-- reads a global that is an array, after its type and name
 unfoldable pub array_at : ℕ → ValueType → Ident → Reader Decl
 array_at room t x ts = do
   n ← index_at room ts
@@ -31,14 +31,14 @@ variable_at room t x ts = do
   semicolon ← sign_at Semicolon v.1
   Ok (global (record { name = x; value_type = t; protection = p.0; value = v.0 }), semicolon.1)
 
--- behind the word `global`
+-- reads a global, after the word `global`
 unfoldable pub global_at : ℕ → Reader Decl
 global_at room ts = do
   t ← type_at ts
   x ← name_at t.1
   choose (mark OpenBracket) (array_at room t.0 x.0) (variable_at room t.0 x.0) x.1
 
--- behind the word `atomic` of a section, or `call` of a helper
+-- reads a section after the word `atomic`, or a helper after the word `call`
 unfoldable pub section_at : ℕ → Reader Section
 section_at room ts = do
   x ← name_at ts
@@ -47,7 +47,7 @@ section_at room ts = do
   b ← braced_at room r.1
   Ok (record { name = x.0; params = ps.0; result = r.0; body = record { stmts = b.0.0; close = b.0.1 } }, b.1)
 
--- constants behind an opening parenthesis, where room signs could be opened before it
+-- reads constants after an opening parenthesis, before which `room` signs could be opened
 unfoldable pub consts_in : ℕ → Reader (List Const)
 consts_in zero = refused
 consts_in (suc room) = listed_at (const_at room)
@@ -81,7 +81,7 @@ item_with room body = choose (word Repeat) (repeat_with room body) (call_item ro
 unfoldable pub items_with : Reader tree.Item → Reader Items
 items_with item_reader = many_at no_items tree.item (next_until (mark CloseBrace) item_reader)
 
--- items behind an opening brace, where room signs could be opened before it
+-- reads items after an opening brace, before which `room` signs could be opened
 unfoldable pub items_in : ℕ → Reader Items
 items_in zero = refused
 items_in (suc room) = items_with (item_with room (items_in room))
@@ -89,7 +89,7 @@ items_in (suc room) = items_with (item_with room (items_in room))
 abbrev pub item_at : ℕ → Reader tree.Item
 item_at room = item_with room (items_in room)
 
--- behind the word `thread`
+-- reads a thread, after the word `thread`
 unfoldable pub thread_at : ℕ → Reader tree.Thread
 thread_at room ts = do
   x ← name_at ts
@@ -98,14 +98,14 @@ thread_at room ts = do
   close ← sign_at CloseBrace is.1
   Ok (record { name = x.0; items = is.0 }, close.1)
 
--- behind the word `lock`
+-- reads a lock, after the word `lock`
 unfoldable pub lock_at : Reader Ident
 lock_at ts = do
   x ← name_at ts
   semicolon ← sign_at Semicolon x.1
   Ok (x.0, semicolon.1)
 
--- a field, or another member
+-- reads a field
 unfoldable pub field_at : ℕ → Reader Member
 field_at room ts = do
   t ← type_at ts
@@ -135,12 +135,12 @@ member_at room = choose (word Lock) lock_member_at (choose (word Final) final_at
 unfoldable pub members_with : Reader Member → Reader (List Member)
 members_with member_reader = many_at [] ◌∷◌ (next_until (mark CloseBrace) member_reader)
 
--- members behind an opening brace, where room signs could be opened before it
+-- reads members after an opening brace, before which `room` signs could be opened
 unfoldable pub members_in : ℕ → Reader (List Member)
 members_in zero = refused
 members_in (suc room) = members_with (member_at room)
 
--- behind the word `struct`
+-- reads a struct, after the word `struct`
 unfoldable pub struct_at : ℕ → Reader tree.Struct
 struct_at room ts = do
   x ← name_at ts
@@ -149,7 +149,7 @@ struct_at room ts = do
   close ← sign_at CloseBrace ms.1
   Ok (record { name = x.0; members = ms.0 }, close.1)
 
--- behind the word `pool`
+-- reads a pool, after the word `pool`
 unfoldable pub pool_at : ℕ → Reader tree.Pool
 pool_at room ts = do
   target ← name_at ts
@@ -158,7 +158,7 @@ pool_at room ts = do
   semicolon ← sign_at Semicolon n.1
   Ok (record { name = x.0; target = target.0; length = n.0 }, semicolon.1)
 
--- behind the word `init`
+-- reads an `init`, after its first word
 unfoldable pub init_at : ℕ → Span → Reader tree.Init
 init_at room start ts = do
   p ← name_at ts
@@ -201,7 +201,7 @@ decl_at room = first_at (decl_from room)
 unfoldable pub decls_at : ℕ → Reader (List Decl)
 decls_at room = many_at [] ◌∷◌ (next_until end (decl_at room))
 
--- a program, up to and with the end of the text, after which nothing stands
+-- the declarations that were read, if the end of the text follows and is the last token
 abbrev pub end_from : List Decl → List Tok → Result (List Decl) Stop
 end_from ds [] = Err (Unexpected 0)
 end_from ds (t ∷ []) = Ok ds
@@ -212,7 +212,7 @@ program_at room ts = do
   ds ← decls_at room ts
   end_from ds.0 ds.1
 
--- where the first token begins
+-- the first byte of the first token
 abbrev pub first_start : List Tok → ℕ
 first_start [] = 0
 first_start (t ∷ ts) = t.span.start

@@ -59,7 +59,7 @@ abbrev pub chained : Level → Expr → Links → Expr
 chained k e no_links = e
 chained k e (link op x more) = chain k e (link op x more)
 
--- the links of a chain, behind the first
+-- the links of a chain, after the first
 abbrev pub links_behind : Reader Expr → Level → Operator × Expr → Reader Links
 links_behind operand k o ts = do
   l ← links_at operand k ts
@@ -71,7 +71,7 @@ chain_at operand k ts = do
   l ← links_at operand k first.1
   Ok (chained k first.0 l.0, l.1)
 
--- an element, behind its array's or pool's name
+-- an element, after its array's or pool's name
 unfoldable pub element_at : ℕ → Reader Expr → Ident → Reader Place
 element_at room inner x ts = do
   begin ← open_at OpenBracket room ts
@@ -79,7 +79,7 @@ element_at room inner x ts = do
   close ← sign_at CloseBracket e.1
   Ok (element x e.0, close.1)
 
--- one field or more, each behind a dot
+-- one field or more, each after a dot
 unfoldable pub fields_at : Reader (List Ident)
 fields_at ts = do
   dot ← sign_at Dot ts
@@ -95,11 +95,11 @@ path_at x ts = do
 abbrev pub alone_at : Ident → Reader Place
 alone_at x ts = Ok (lone x, ts)
 
--- a place, behind its first name
+-- a place, after its first name
 abbrev pub place_at : ℕ → Reader Expr → Ident → Reader Place
 place_at room inner x = choose (mark OpenBracket) (element_at room inner x) (choose (mark Dot) (path_at x) (alone_at x))
 
--- what stands in parentheses, after the opening one
+-- reads an expression in parentheses, after the opening one
 abbrev pub in_parens : Reader Expr → Span → Reader Expr
 in_parens inner at ts = do
   e ← inner ts
@@ -110,7 +110,8 @@ abbrev pub parens_at : ℕ → Reader Expr → Span → Reader Expr
 parens_at zero inner at ts = too_deep ts
 parens_at (suc room) inner at ts = in_parens inner at ts
 
--- with what stands behind an opening sign read by inner
+-- reads a number, `null`, a place or an expression in parentheses, after its first token; `room` signs may be opened,
+-- and `inner` reads what follows one
 abbrev pub prim_from : ℕ → Reader Expr → Lexeme → Span → Reader Expr
 prim_from room inner (lexeme.int n) at ts = Ok (int (record { value = n; span = at }), ts)
 prim_from room inner (word Null) at ts = Ok (null at, ts)
@@ -159,7 +160,7 @@ unfoldable pub comparison_at : List Tok → Option (Comparison × List Tok)
 comparison_at [] = None
 comparison_at (t ∷ ts) = before_rest (comparison_of t.kind) ts
 
--- what may stand behind a sum
+-- reads the comparison that may follow a sum, and the sum after it
 abbrev pub compared_from : Reader Expr → Expr → Option (Comparison × List Tok) → Reader Expr
 compared_from sum left None ts = Ok (left, ts)
 compared_from sum left (Some c) ts = do
@@ -175,7 +176,7 @@ compared_with sum ts = do
 abbrev pub sum_with : Reader Expr → Reader Expr
 sum_with prim = chain_at (chain_at (unary_with prim) Term) Sum
 
--- the operands of a level, and its expressions
+-- the reader of a level's operands, given that of the tightest expressions
 abbrev pub operand_with : Level → Reader Expr → Reader Expr
 operand_with Term prim = unary_with prim
 operand_with Sum prim = chain_at (unary_with prim) Term
@@ -185,7 +186,7 @@ operand_with Disjunction prim = chain_at (compared_with (sum_with prim)) Conjunc
 abbrev pub level_with : Level → Reader Expr → Reader Expr
 level_with k prim = chain_at (operand_with k prim) k
 
--- an expression behind an opening sign, where room signs could be opened before it
+-- reads an expression after an opening sign, before which `room` signs could be opened
 unfoldable pub inside_at : ℕ → Reader Expr
 inside_at zero = refused
 inside_at (suc room) = level_with Disjunction (prim_with room (inside_at room))
@@ -196,7 +197,7 @@ prim_at room = prim_with room (inside_at room)
 abbrev pub operand_at : Level → ℕ → Reader Expr
 operand_at k room = operand_with k (prim_at room)
 
--- the links of a level's chain, behind the first
+-- the links of a level's chain, after the first
 abbrev pub level_links : Level → ℕ → Operator × Expr → Reader Links
 level_links k room = links_behind (operand_at k room) k
 
@@ -209,7 +210,7 @@ expr_at room = level_at Disjunction room
 
 -- ---- expressions with what ends them
 
--- an expression and the semicolon behind it
+-- an expression and the semicolon after it
 unfoldable pub ended_at : ℕ → Reader Expr
 ended_at room ts = do
   e ← expr_at room ts

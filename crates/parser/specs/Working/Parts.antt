@@ -1,4 +1,4 @@
--- Reading types, constants, parameters and annotations, and what may be left out.
+-- Reading types, constants, parameters, annotations and optional parts.
 use Rattle.std.specs.Prelude.{ℕ, List, Option, Ok, if◌then◌else◌}
 use Rattle.source.specs.declared.span.Span.{Span}
 use Rattle.source.specs.declared.token.Keyword.TheVariants.{Ref, Int, ProtectedBy, Null}
@@ -24,7 +24,7 @@ type_from _ at ts = refused ts
 unfoldable pub type_at : Reader ValueType
 type_at = first_at type_from
 
--- a number behind its sign
+-- a number after its sign
 abbrev pub negative_from : Span → Reader Const
 negative_from at ts = do
   n ← int_at ts
@@ -38,7 +38,7 @@ index_at room ts = do
   close ← sign_at CloseBracket n.1
   Ok (n.0, close.1)
 
--- a member, behind its pool's name
+-- a member, after its pool's name
 abbrev pub member_from : ℕ → Ident → Reader Const
 member_from room x ts = do
   n ← index_at room ts
@@ -85,12 +85,12 @@ protection_at room ts = do
 abbrev pub maybe_protection : ℕ → Reader (Option Protection)
 maybe_protection room = maybe_at (word ProtectedBy) (protection_at room)
 
--- ---- what may be left out
+-- ---- optional parts
 
--- a constant behind `=`, or nothing
+-- a constant after `=`, or nothing
 abbrev pub maybe_value : ℕ → Reader (Option Const)
 maybe_value room = maybe_at (mark Equals) (after_at Equals (const_at room))
 
--- a type behind `:`, or nothing
+-- a type after `:`, or nothing
 abbrev pub maybe_result : Reader (Option ValueType)
 maybe_result = maybe_at (mark Colon) (after_at Colon type_at)

@@ -1,4 +1,5 @@
--- Reading from left to right, with the first fault that is met: what the functions of this crate compute of single tokens and lists.
+-- Reading from left to right, up to the first fault: what the functions of this crate compute for single tokens and
+-- lists.
 use Rattle.std.specs.Prelude.{◌≡◌, ℕ, zero, suc, Bool, true, false, List, [], ◌∷◌, length, Option, Some, None, Result}
 use Rattle.std.specs.Prelude.{Ok, Err, ◌==◌, if◌then◌else◌}
 use Rattle.source.specs.declared.span.Span.{Span}
@@ -24,7 +25,7 @@ abbrev pub ◌>>=◌ : {A B : Type 0} → Result A Stop → (A → Result B Stop
 (Ok x) >>= f = f x
 (Err e) >>= f = Err e
 
--- What a function returned, seen by view, is what reading gives, unless memory ran out.
+-- the error of a function is that of reading, unless memory ran out
 abbrev pub Fails : {Y : Type 0} → Stop → Result Y Stop → Type 0
 Fails NoMemory read = Unit {0}
 Fails (Unexpected left) read = read ≡ Err (Unexpected left)
@@ -34,17 +35,17 @@ abbrev pub Gives : {X Y : Type 0} → (X → Y) → Result X Stop → Result Y S
 Gives view (Ok x) read = read ≡ Ok (view x)
 Gives view (Err e) read = Fails e read
 
--- a value, and the tokens after it
+-- a reader: for tokens, a value with the tokens after it, or the reason why it stops
 abbrev pub Reader : Type 0 → Type 0
 Reader A = List Tok → Result (A × List Tok) Stop
 
 -- ---- repetition
 
--- the next item, or none where the items end
+-- reads the next item; none at the end of the items
 abbrev pub Next : Type 0 → Type 0
 Next A = List Tok → Option (Result (A × List Tok) Stop)
 
--- an item and those after it
+-- an item and those after it, if there is a next item
 abbrev pub turn : {A L : Type 0} → L → (A → L → L) → Reader L → Option (Result (A × List Tok) Stop) → Reader L
 turn nil cons more None ts = Ok (nil, ts)
 turn nil cons more (Some item) ts = do
@@ -52,12 +53,12 @@ turn nil cons more (Some item) ts = do
   l ← more x.1
   Ok (cons x.0 l.0, l.1)
 
--- with a number of turns that is never used up
+-- reads items in at most this many turns, a number that is never used up
 abbrev pub many_in : {A L : Type 0} → L → (A → L → L) → Next A → ℕ → Reader L
 many_in nil cons next zero ts = Ok (nil, ts)
 many_in nil cons next (suc n) ts = turn nil cons (many_in nil cons next n) (next ts) ts
 
--- the items up to where they end
+-- reads items up to their end
 unfoldable pub many_at : {A L : Type 0} → L → (A → L → L) → Next A → Reader L
 many_at nil cons next ts = many_in nil cons next (suc (length ts)) ts
 
@@ -102,11 +103,11 @@ abbrev pub first_at : {A : Type 0} → (Lexeme → Span → Reader A) → Reader
 first_at f [] = Err (Unexpected 0)
 first_at f (t ∷ ts) = f t.kind t.span ts
 
--- the token before these can't stand there
+-- stops at the token before these, which is unexpected
 abbrev pub refused : {A : Type 0} → Reader A
 refused ts = Err (Unexpected (suc (length ts)))
 
--- the opening sign before these is too deep
+-- stops at the opening sign before these, which is too deep
 abbrev pub too_deep : {A : Type 0} → Reader A
 too_deep ts = Err (TooDeep (suc (length ts)))
 
@@ -116,7 +117,7 @@ sign_from s k at ts = if is_sign s k then Ok (at, ts) else refused ts
 unfoldable pub sign_at : Sign → Reader Span
 sign_at s = first_at (sign_from s)
 
--- an opening sign, where room more may be opened
+-- an opening sign, if `room` more may be opened
 abbrev pub opened : ℕ → Span → Reader Span
 opened zero at ts = too_deep ts
 opened (suc room) at ts = Ok (at, ts)
@@ -188,7 +189,7 @@ abbrev pub is_next : Lexeme → List Tok → Bool
 is_next k [] = false
 is_next k (t ∷ ts) = same_kind t.kind k
 
--- the tokens behind the sign, if it comes next
+-- the tokens after the sign, if it comes next
 unfoldable pub skip_at : Sign → List Tok → Option (List Tok)
 skip_at s [] = None
 skip_at s (t ∷ ts) = if is_sign s t.kind then Some ts else None
@@ -203,7 +204,7 @@ next_unless false item = Some item
 abbrev pub next_until : {A : Type 0} → Lexeme → Reader A → Next A
 next_until k item ts = next_unless (is_next k ts) (item ts)
 
--- an item behind the sign, if that comes next
+-- an item after the sign, if that comes next
 abbrev pub behind : {A : Type 0} → Reader A → Option (List Tok) → Option (Result (A × List Tok) Stop)
 behind item None = None
 behind item (Some ts) = Some (item ts)
@@ -211,7 +212,7 @@ behind item (Some ts) = Some (item ts)
 abbrev pub next_after : {A : Type 0} → Sign → Reader A → Next A
 next_after s item ts = behind item (skip_at s ts)
 
--- items, each behind the sign
+-- items, each after the sign
 unfoldable pub after_each : {A : Type 0} → Sign → Reader A → Reader (List A)
 after_each s item = many_at [] ◌∷◌ (next_after s item)
 
@@ -236,7 +237,7 @@ maybe_from part true ts = do
 unfoldable pub maybe_at : {A : Type 0} → Lexeme → Reader A → Reader (Option A)
 maybe_at k part ts = maybe_from part (is_next k ts) ts
 
--- a part behind a sign
+-- a part after a sign
 unfoldable pub after_at : {A : Type 0} → Sign → Reader A → Reader A
 after_at s part ts = do
   at ← sign_at s ts
@@ -251,9 +252,9 @@ chosen f g false ts = g ts
 unfoldable pub choose : {A : Type 0} → Lexeme → Reader A → Reader A → Reader A
 choose k f g ts = chosen f g (is_next k ts) ts
 
--- ---- a part and the sign behind it
+-- ---- a part and the sign after it
 
--- a part and the sign behind it
+-- a part and the sign after it
 abbrev pub closed_at : {A : Type 0} → Sign → Reader A → Reader A
 closed_at s part ts = do
   x ← part ts
@@ -264,7 +265,7 @@ closed_at s part ts = do
 abbrev pub given : {A : Type 0} → A → Reader A
 given x ts = Ok (x, ts)
 
--- what was read, and the sign behind it, with the tokens seen by see
+-- reads the sign after a part that was read; `see` has the tokens after the part
 abbrev pub closing : {A R : Type 0} → Sign → (R → List Tok) → Result (A × R) Stop → Result (A × List Tok) Stop
 closing s see read = do
   x ← read

@@ -1,4 +1,4 @@
--- What stands behind the words `pool` and `init`, each read as the declaration that it is.
+-- What follows the words `pool` and `init`, each read as the declaration that it is.
 use Rattle.std.specs.Prelude.{ℕ, Ok}
 use Rattle.source.specs.declared.span.Span.{Span}
 use Rattle.syntax.specs.Trees.{Decl, pool, init}

@@ -3,24 +3,24 @@ use Rattle.std.specs.Prelude.{ℕ, Bool, true, false, List, [], ◌∷◌, Optio
 use Rattle.syntax.specs.Trees.{ValueType, Stmt, if_then, while, return_value, Stmts, no_stmts, stmt, Otherwise}
 use Rattle.syntax.specs.Trees.{no_else, else_do, Section, Decl, atomic, helper}
 
--- the lesser place of two, where there is one
+-- the lesser of two bytes, if there are any
 abbrev pub earlier : Option ℕ → Option ℕ → Option ℕ
 earlier None b = b
 earlier (Some a) None = Some a
 earlier (Some a) (Some b) = Some (min a b)
 
--- where the statement returns
+-- the first byte of the statement, if it is a `return`
 abbrev pub own_return : Stmt → Option ℕ
 own_return (return_value at e) = Some at.start
 own_return _ = None
 
 abbrev mutual
-  -- among the statements and in their blocks
+  -- the first byte of the first `return` among statements and in their blocks
   pub least_return : Stmts → Option ℕ
   least_return no_stmts = None
   least_return (stmt s more) = earlier (earlier (own_return s) (inner_return s)) (least_return more)
 
-  -- in the blocks of a statement
+  -- the first byte of the first `return` in the blocks of a statement
   pub inner_return : Stmt → Option ℕ
   inner_return (if_then start e body close other) = earlier (least_return body) (other_return other)
   inner_return (while start e body close) = least_return body

@@ -15,7 +15,7 @@ use Rattle.syntax.specs.Views.{ident, type_of}
 use Rattle.parser.specs.declared.local.TypedName as the_typed_name
 use Rattle.parser.specs.Working.Expressions.{place_at, inside_at, expr_at, ended_at, condition_at}
 
--- a local's name and type, and where its statement stands, by the first word
+-- a local's name and type, and the position of the first word of its statement
 pub record TypedName : Type 0 where
   pub start : Span
   pub name : Ident
@@ -30,7 +30,7 @@ local_with t e = record { start = t.start; name = t.name; value_type = t.value_t
 abbrev pub called_with : TypedName → HelperCall → CalledLocal
 called_with t c = record { start = t.start; name = t.name; value_type = t.value_type; call = c }
 
--- behind the word `let` or `var`, up to the sign `=`
+-- reads a local's name and type, after the word `let` or `var` and up to the sign `=`
 unfoldable pub typed_at : Span → Reader TypedName
 typed_at start ts = do
   x ← name_at ts
@@ -39,7 +39,7 @@ typed_at start ts = do
   equals ← sign_at Equals t.1
   Ok (record { start = start; name = x.0; value_type = t.0 }, equals.1)
 
--- from the word `where` on
+-- reads an owner, from the word `where` on
 unfoldable pub owner_at : Reader Owner
 owner_at ts = do
   start ← word_at Where ts
@@ -48,7 +48,7 @@ owner_at ts = do
   x ← name_at equals.1
   Ok (record { field = field.0; local = x.0 }, x.1)
 
--- what a `let` of this local ends with: an owner and a semicolon, or a semicolon
+-- reads the end of a `let` of this local: an owner and a semicolon, or a semicolon
 abbrev pub owned_at : Local → Reader Stmt
 owned_at l ts = do
   o ← owner_at ts
@@ -60,7 +60,7 @@ plain_at l ts = do
   semicolon ← sign_at Semicolon ts
   Ok (let_local l, semicolon.1)
 
--- behind the word `call`, up to the closing parenthesis
+-- reads a call of a helper, after the word `call` and up to the closing parenthesis
 unfoldable pub helper_call_at : ℕ → Reader HelperCall
 helper_call_at room ts = do
   x ← name_at ts
@@ -69,7 +69,7 @@ helper_call_at room ts = do
   after ← sign_at CloseParen es.1
   Ok (record { helper = x.0; arguments = es.0 }, after.1)
 
--- behind the sign `=` of a `let`: a value and what it ends with, or a call
+-- reads a `let` after its sign `=`: a value and its end, or a call
 abbrev pub valued_at : ℕ → TypedName → Reader Stmt
 valued_at room t ts = do
   e ← expr_at room ts
@@ -82,27 +82,27 @@ called_at room t ts = do
   semicolon ← sign_at Semicolon c.1
   Ok (let_call (called_with t c.0), semicolon.1)
 
--- behind the word `let`
+-- reads a `let`, after its first word
 unfoldable pub let_at : ℕ → Span → Reader Stmt
 let_at room start ts = do
   t ← typed_at start ts
   choose (word Call) (called_at room t.0) (valued_at room t.0) t.1
 
--- behind the word `var`
+-- reads a `var`, after its first word
 unfoldable pub var_at : ℕ → Span → Reader Stmt
 var_at room start ts = do
   t ← typed_at start ts
   e ← ended_at room t.1
   Ok (var_local (local_with t.0 e.0), e.1)
 
--- behind the word `call` of a statement
+-- reads the statement of a call, after the word `call`
 unfoldable pub call_stmt_at : ℕ → Span → Reader Stmt
 call_stmt_at room start ts = do
   c ← helper_call_at room ts
   semicolon ← sign_at Semicolon c.1
   Ok (Stmt.call start c.0, semicolon.1)
 
--- behind the first name of what is assigned to
+-- reads an assignment, after its first name
 unfoldable pub assign_at : ℕ → Ident → Reader Stmt
 assign_at room x ts = do
   p ← place_at room (inside_at room) x ts
@@ -110,7 +110,7 @@ assign_at room x ts = do
   e ← ended_at room equals.1
   Ok (assign p.0 e.0, e.1)
 
--- statements in braces, read by body behind the opening one
+-- reads statements in braces; the argument reads those after the opening one
 unfoldable pub braced_with : ℕ → Reader Stmts → Reader (Stmts × Span)
 braced_with room body ts = do
   begin ← open_at OpenBrace room ts
@@ -130,7 +130,7 @@ nothing_else ts = Ok (no_else, ts)
 abbrev pub else_with : ℕ → Reader Stmts → Reader Otherwise
 else_with room body = choose (word Else) (some_else room body) nothing_else
 
--- behind the word `if`
+-- reads an `if`, after its first word
 unfoldable pub if_with : ℕ → Reader Stmts → Span → Reader Stmt
 if_with room body start ts = do
   e ← condition_at room ts
@@ -138,7 +138,7 @@ if_with room body start ts = do
   o ← else_with room body b.1
   Ok (if_then start e.0 b.0.0 b.0.1 o.0, o.1)
 
--- behind the word `while`
+-- reads a `while`, after its first word
 unfoldable pub while_with : ℕ → Reader Stmts → Span → Reader Stmt
 while_with room body start ts = do
   e ← condition_at room ts
@@ -166,7 +166,7 @@ stmt_with room body = first_at (stmt_from room body)
 unfoldable pub stmts_with : Reader Stmt → Reader Stmts
 stmts_with stmt_reader = many_at no_stmts stmt (next_until (mark CloseBrace) stmt_reader)
 
--- statements behind an opening brace, where room signs could be opened before it
+-- reads statements after an opening brace, before which `room` signs could be opened
 unfoldable pub stmts_in : ℕ → Reader Stmts
 stmts_in zero = refused
 stmts_in (suc room) = stmts_with (stmt_with room (stmts_in room))

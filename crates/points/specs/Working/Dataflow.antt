@@ -1,5 +1,5 @@
--- What the dataflow analyses over a section's parts have done, one path at a time. Nobody has to believe these: what is
--- used before a point and later, says `Used`; what is surely held, `Wanted`.
+-- The results of the dataflow analyses over a section's parts, one path at a time. Nobody has to believe these: `Used`
+-- defines what is used before a point and later, and `Wanted` what is surely held.
 use Rattle.std.specs.Prelude.{◌≡◌, ◌<◌, ◌-◌, ℕ, Bool, false, List, [], ◌++◌, length, map, reverse}
 use Rattle.std.specs.Bool.{Decides}
 use Rattle.std.proofs.Common.{get_or, Vec, Global}
@@ -33,11 +33,11 @@ joins d = join_of d.join
 abbrev pub transfers : Dataflow → ℕ → ℕ → Bool → Bool
 transfers d i = past (marks i d.gens.now) (marks i d.kills.now)
 
--- what comes out of points numbered from n, where this comes in
+-- the set after points that are numbered from n, given the set before them
 abbrev pub IsThrough : Dataflow → Skeleton → ℕ → PathSet → PathSet → Type 0
 IsThrough d c n first set = (i : ℕ) → has set i ≡ through (transfers d i) (joins d) c n (has first i)
 
--- to some sets were added those of points that are numbered from there on
+-- the sets of points were appended; the points are numbered from the length of the list on
 abbrev pub AreForward : Dataflow → Skeleton → PathSet → Vec PathSet Global → Vec PathSet Global → Type 0
 AreForward d c first was sets =
     (i : ℕ) → column i sets.items ≡ column i was.items ++ holds (transfers d i) (joins d) c was.len (has first i)
@@ -46,21 +46,21 @@ AreForward d c first was sets =
 abbrev pub IsMay : Dataflow → Type 0
 IsMay d = (d.kills.now ≡ []) × (d.join ≡ Union)
 
--- what such an analysis brings back out of points numbered from n, where this comes back to them
+-- the set of a backward analysis before points that are numbered from n, given the set after them
 abbrev pub IsBehind : Dataflow → Skeleton → ℕ → PathSet → PathSet → Type 0
 IsBehind d c n last set = (i : ℕ) → has set i ≡ behind or (marks i d.gens.now) c n (has last i)
 
--- the number of the point whose set was added last, where they are added from a section's last point to its first
+-- the number of the point whose set was appended last, if sets are appended from a section's last point to its first
 abbrev pub down_to : Dataflow → Vec PathSet Global → ℕ
 down_to d sets = length d.gens.now - sets.len
 
--- to some sets were added those of points, the last first
+-- the sets of points were appended, the last point first
 abbrev pub AreBackward : Dataflow → Skeleton → PathSet → Vec PathSet Global → Vec PathSet Global → Type 0
 AreBackward d c last was sets =
     (i : ℕ) → column i sets.items ≡ column i was.items
     ++ reverse (laters or (marks i d.gens.now) c (down_to d sets) (has last i))
 
--- the sets of whole sections
+-- the sets of a whole section are those of the forward may analysis
 abbrev pub AreForwardMay : List PathSet → Skeleton → List PathSet → Type 0
 AreForwardMay gens c sets = (i p : ℕ) → p < count c → Decides (marks i sets p) (UsedBefore (marks i gens) c p)
 

@@ -1,10 +1,11 @@
--- Where the blocks of parts end, as the code notes it. Nobody has to believe these: which point is followed by which, says `Points`.
+-- The ends of the blocks of parts, as the code notes them. Nobody has to believe these: `Points` defines which point
+-- follows which.
 use Rattle.std.specs.Prelude.{◌≡◌, ⊤, ℕ, ◌+◌, ◌<◌, List, [], ◌∷◌, ◌++◌, length}
 use Rattle.std.proofs.Common.{get_or}
 use Rattle.flow.specs.Skeletons.{Skeleton, Nil, Step, Fork, Loop, count}
 use Rattle.points.specs.declared.ends.Ends.{Ends}
 
--- for each point, where the blocks end of the part that it is the first of; the points are numbered from n
+-- for each point, the ends of the blocks of the part that it is the first point of; the points are numbered from n
 abbrev pub ends_from : Skeleton → ℕ → List Ends
 ends_from Nil n = []
 ends_from (Step r) n = record { middle = n + 1; end = n + 1 } ∷ ends_from r (n + 1)
@@ -14,7 +15,7 @@ ends_from (Fork a b r) n =
 ends_from (Loop a r) n =
     record { middle = n + 1 + count a; end = n + 1 + count a } ∷ (ends_from a (n + 1) ++ ends_from r (n + 1 + count a))
 
--- to some ends were added those of points that are numbered from there on
+-- the ends of points were appended; the points are numbered from the length of the list on
 abbrev pub AddsEnds : Skeleton → List Ends → List Ends → Type 0
 AddsEnds c old new = new ≡ old ++ ends_from c (length old)
 
@@ -22,7 +23,7 @@ AddsEnds c old new = new ≡ old ++ ends_from c (length old)
 abbrev pub IsEndAt : List Ends → ℕ → ℕ → ℕ → Type 0
 IsEndAt ends n middle end = (n < length ends) × ((none : Ends) → get_or ends n none ≡ record { middle = middle; end = end })
 
--- a list has those of points numbered from n
+-- a list has the ends of points that are numbered from n
 abbrev pub AreEndsAt : List Ends → Skeleton → ℕ → Type 0
 AreEndsAt ends Nil n = ⊤
 AreEndsAt ends (Step r) n = IsEndAt ends n (n + 1) (n + 1) × AreEndsAt ends r (n + 1)

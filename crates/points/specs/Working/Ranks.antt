@@ -1,4 +1,4 @@
--- What is wanted by the ranks of paths, by their numbers. Nobody has to believe these: what is wanted, says `Wanted`.
+-- The wanted paths in terms of the ranks of paths, by number. Nobody has to believe these: `Wanted` defines them.
 use Rattle.std.specs.Prelude.{◌≡◌, ◌<◌, ◌≤◌, ◌↔◌, ◌⊎◌, ◌&&◌, ℕ, true, not, nat_lt, List, map, length, slice_index}
 use Rattle.std.specs.Prelude.{Option, Some, None}
 use Rattle.std.specs.Bool.{Decides}
@@ -11,7 +11,7 @@ use Rattle.points.specs.declared.table.Points.{Points}
 abbrev pub IsReached : List ℕ → PathSet → ℕ → ℕ → Type 0
 IsReached ranks used n rank = (j : ℕ) × (j < n) × (has used j ≡ true) × (rank ≤ slice_index ranks j)
 
--- a rank is no greater than the greatest, if there is one
+-- a rank is at most the greatest one, if there is a greatest
 abbrev pub IsWithin : ℕ → Option ℕ → Type 0
 IsWithin rank None = ⊥
 IsWithin rank (Some greatest) = rank ≤ greatest
@@ -20,16 +20,16 @@ IsWithin rank (Some greatest) = rank ≤ greatest
 abbrev pub IsGreatest : List ℕ → PathSet → ℕ → Option ℕ → Type 0
 IsGreatest ranks used n greatest = (rank : ℕ) → IsWithin rank greatest ↔ IsReached ranks used n rank
 
--- path i is in scope, used here or later, and of no greater rank than some path that is used here
+-- path i is in scope, used here or later, and its rank is at most that of some path that is used here
 abbrev pub IsWantedBy : List ℕ → PathSet → PathSet → PathSet → ℕ → Type 0
 IsWantedBy ranks used later scope i =
     (has scope i ≡ true) × ((has used i ≡ true) ⊎ (has later i ≡ true)) × IsReached ranks used (length ranks) (slice_index ranks i)
 
--- a set of the paths of at most this rank
+-- the set of the paths of at most this rank
 abbrev pub AreUpTo : List ℕ → ℕ → PathSet → Type 0
 AreUpTo ranks greatest set = (i : ℕ) → has set i ≡ (nat_lt i (length ranks) && not (nat_lt greatest (slice_index ranks i)))
 
--- a set of what is wanted
+-- the set of the wanted paths
 abbrev pub IsWantedSet : List ℕ → PathSet → PathSet → PathSet → PathSet → Type 0
 IsWantedSet ranks used later scope set = (i : ℕ) → i < length ranks → Decides (has set i) (IsWantedBy ranks used later scope i)
 
@@ -40,7 +40,7 @@ ranks_by_path x ranks = map (slice_index ranks) x.classes.items
 abbrev pub set_at : List PathSet → ℕ → PathSet
 set_at sets p = get_or sets p (record { bits = 0 })
 
--- the first n points have the sets of what is wanted
+-- the first n points have their sets of wanted paths
 abbrev pub AreWantedBy : Points → List ℕ → ℕ → List PathSet → Type 0
 AreWantedBy x ranks n sets =
     (p i : ℕ) → p < n → i < length ranks → Decides (has (set_at sets p) i)

@@ -1,5 +1,5 @@
--- Where the roots of lock paths are in scope, as the code goes over statements. Nobody has to believe these: when a path is in
--- scope and where its root is bound, says `locks`.
+-- The scopes of the roots of lock paths, as the code visits statements. Nobody has to believe these: `locks` defines
+-- when a path is in scope and where its root is bound.
 use Rattle.std.specs.Prelude.{◌≡◌, ℕ, ◌==◌, Bool, true, false, List, ◌++◌, map, slice_get, Option, Some, None}
 use Rattle.std.proofs.Common.{Vec, Global}
 use Rattle.core_lang.specs.declared.tree.Action.{Action}
@@ -22,7 +22,7 @@ abbrev pub is_among : List ℕ → Root → Bool
 is_among scope GlobalLock = true
 is_among scope (AtLocal k) = names k scope
 
--- a test of the root of path i, if there is such a path
+-- the result of a test of a path's root; false without a path
 abbrev pub test_at : (Root → Bool) → Option written.LockPath → Bool
 test_at test None = false
 test_at test (Some path) = test path.root
@@ -30,11 +30,11 @@ test_at test (Some path) = test path.root
 abbrev pub test_root : List written.LockPath → (Root → Bool) → ℕ → Bool
 test_root paths test i = test_at test (slice_get paths i)
 
--- a set of the paths whose root passes a test
+-- the set of the paths whose root passes a test
 abbrev pub AreThose : List written.LockPath → (Root → Bool) → PathSet → Type 0
 AreThose paths test set = (i : ℕ) → has set i ≡ test_root paths test i
 
--- whether path i is in scope where these locals are
+-- whether path i is in scope if these locals are
 abbrev pub in_scope : List written.LockPath → ℕ → List ℕ → Bool
 in_scope paths i scope = test_root paths (is_among scope) i
 
@@ -46,11 +46,11 @@ binds_at paths i (Some k) = test_root paths (is_at k) i
 abbrev pub binds : List written.LockPath → ℕ → Point → Bool
 binds paths i point = binds_at paths i (bound_at point)
 
--- a set is that of a scope behind a statement or statements, if one was that of the scope before
+-- the set is that of the scope after statements, if the other is that of the scope before
 abbrev pub IsAfter : List written.LockPath → PathSet → (List ℕ → List ℕ) → PathSet → Type 0
 IsAfter paths scope after set = (locals : List ℕ) → AreThose paths (is_among locals) scope → AreThose paths (is_among (after locals)) set
 
--- to some sets were added those of points with scopes that begin with this one
+-- the sets of the scopes of points were appended, of which this set is that of the first
 abbrev pub AreScopes : List written.LockPath → PathSet → (List ℕ → List (List ℕ)) → Vec PathSet Global →
     Vec PathSet Global → Type 0
 AreScopes paths scope scopes was sets =

@@ -5,7 +5,7 @@ use Rattle.core_lang.specs.declared.value.Value.{Value}
 use Rattle.core_lang.specs.declared.typed.Typed.{Typed}
 use Rattle.core_lang.specs.Serial.{Invocation, Ended, SerialFromOpening}
 use Rattle.code.specs.Listing.{line}
-use Rattle.source_histories.specs.declared.format.Format.{Format}
+use Rattle.input_files.specs.declared.format.Format.{Format}
 use Rattle.report.specs.Entry.{Entry, scheduled_in}
 use Rattle.report.specs.History.{call_line}
 use Rattle.replay.specs.declared.callers.Callers.{Callers}

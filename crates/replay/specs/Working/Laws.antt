@@ -10,10 +10,10 @@ use Rattle.core_lang.specs.Arithmetic.{fits}
 use Rattle.core_lang.specs.Serial.{Scheduled, opening_heap, all_calls, serial_run}
 use Rattle.core_lang.specs.WellFormed.{CanCall, IsChecked}
 use Rattle.history.specs.Commits.{Commit, committed, IsLegal, AreTrue}
-use Rattle.source_histories.specs.declared.format.Format.{Format}
-use Rattle.source_histories.specs.declared.format.Format.TheVariants.{One}
-use Rattle.source_histories.specs.Lines.{header_of}
-use Rattle.source_histories.specs.Pieces.{is_name}
+use Rattle.input_files.specs.declared.format.Format.{Format}
+use Rattle.input_files.specs.declared.format.Format.TheVariants.{One}
+use Rattle.input_files.specs.Lines.{header_of}
+use Rattle.input_files.specs.Pieces.{is_name}
 use Rattle.report.specs.Entry.{Entry, scheduled_in, entry_of_commit}
 use Rattle.report.specs.History.{history_of}
 use Rattle.report.specs.Pieces.{invocation_text}

@@ -13,10 +13,10 @@ use Rattle.core_lang.specs.Serial.{Invocation, Scheduled}
 use Rattle.core_lang.specs.Typing.{lookup, IsHeap, HasCells}
 use Rattle.core_lang.specs.Expansion.{IsExpansion}
 use Rattle.core_lang.specs.WellFormed.{CanCall, IsChecked}
-use Rattle.source_histories.specs.declared.format.Format.{Format}
-use Rattle.source_histories.specs.declared.format.Format.TheVariants.{One, Two}
-use Rattle.source_histories.specs.Pieces.{begins}
-use Rattle.report.specs.declared.record.Called.{Called}
+use Rattle.input_files.specs.declared.format.Format.{Format}
+use Rattle.input_files.specs.declared.format.Format.TheVariants.{One, Two}
+use Rattle.input_files.specs.Pieces.{begins}
+use Rattle.report.specs.declared.record.CallRef.{CallRef}
 use Rattle.report.specs.Entry.{scheduled_called}
 use Rattle.report.specs.History.{call_head}
 use Rattle.replay.specs.declared.callers.Callers.{Callers}
@@ -26,7 +26,7 @@ use Rattle.replay.specs.declared.candidate.Replay.{Replay}
 use Rattle.replay.specs.declared.told.Told.{Told}
 use Rattle.replay.specs.declared.verdict.Judgement.{Judgement}
 use Rattle.replay.specs.declared.wanted.Lack.{Lack}
-use Rattle.replay.specs.declared.progress.Seat.{Seat}
+use Rattle.replay.specs.declared.progress.ThreadProgress.{ThreadProgress}
 use Rattle.replay.specs.declared.progress.Stage.{Stage}
 use Rattle.replay.specs.declared.progress.Stage.TheVariants.{Calls, Cells, Ended}
 use Rattle.replay.specs.declared.progress.Progress.{Progress}
@@ -43,15 +43,15 @@ use Rattle.replay.specs.Working.Seats.{seat_in}
 -- ---- how far
 
 -- how many calls of a thread its seat counts
-abbrev pub called_at : BTreeMap ℕ Seat → ℕ → ℕ
+abbrev pub called_at : BTreeMap ℕ ThreadProgress → ℕ → ℕ
 called_at seats t = (seat_in seats t).called
 
 -- the least begin that its seat allows to its next call
-abbrev pub least_at : BTreeMap ℕ Seat → ℕ → ℕ
+abbrev pub least_at : BTreeMap ℕ ThreadProgress → ℕ → ℕ
 least_at seats t = (seat_in seats t).least
 
 -- the seats count what came
-pub record AreSeats (seats : BTreeMap ℕ Seat) (order : List ℕ) : Type 0 where
+pub record AreSeats (seats : BTreeMap ℕ ThreadProgress) (order : List ℕ) : Type 0 where
   pub called : (t : ℕ) → called_at seats t ≡ calls_by t order
   pub least : (t begun : ℕ) → IsAfter order t begun ↔ (least_at seats t ≤ begun)
 
@@ -80,7 +80,7 @@ IsThread Scripts program t = t < length program.threads.items
 IsThread Anyone program t = ⊤
 
 -- no calls of others are counted
-abbrev pub AreThreads : Callers → Typed → BTreeMap ℕ Seat → Type 0
+abbrev pub AreThreads : Callers → Typed → BTreeMap ℕ ThreadProgress → Type 0
 AreThreads Scripts program seats = (t : ℕ) → length program.threads.items ≤ t → called_at seats t ≡ 0
 AreThreads Anyone program seats = ⊤
 
@@ -193,7 +193,7 @@ IsNoCall callers format program at text =
 
 -- the call is the next of its thread, as its seat counts them, if the line is of it up to its end, and no other call's line
 -- reads so
-pub record IsOnlyCall (callers : Callers) (format : Format) (program : Typed) (at : Progress) (text : List ℕ) (this : Called) : Type 0 where
+pub record IsOnlyCall (callers : Callers) (format : Format) (program : Typed) (at : Progress) (text : List ℕ) (this : CallRef) : Type 0 where
   pub counted : called_at at.seats this.thread ≡ this.step
   pub thread : IsThread callers program this.thread
   pub few : this.step < 2 ^ 63
@@ -206,25 +206,25 @@ pub record IsOnlyCall (callers : Callers) (format : Format) (program : Typed) (a
       (call ≡ scheduled_called this) × (call_head format program call begun ≡ call_head format program (scheduled_called this) this.begun)
 
 -- the only call whose line may read so, if there is one
-abbrev pub IsCandidate : Callers → Format → Typed → Progress → List ℕ → Option Called → Type 0
+abbrev pub IsCandidate : Callers → Format → Typed → Progress → List ℕ → Option CallRef → Type 0
 IsCandidate callers format program at text (Some this) = IsOnlyCall callers format program at text this
 IsCandidate callers format program at text None = IsNoCall callers format program at text
 
 -- up to its end the line of a call is what was written, and the line reads so
-pub record IsHead (format : Format) (program : Typed) (text : List ℕ) (written : List ℕ) (this : Called) : Type 0 where
+pub record IsHead (format : Format) (program : Typed) (text : List ℕ) (written : List ℕ) (this : CallRef) : Type 0 where
   pub is : written ≡ call_head format program (scheduled_called this) this.begun
   pub begins : IsTrue (begins written text)
 
 -- the same, if there is a call
-abbrev pub IsHeadOf : Format → Typed → List ℕ → List ℕ → Option Called → Type 0
+abbrev pub IsHeadOf : Format → Typed → List ℕ → List ℕ → Option CallRef → Type 0
 IsHeadOf format program text written (Some this) = IsHead format program text written this
 IsHeadOf format program text written None = ⊤
 
 -- the seats count all calls of all scripts
-abbrev pub SeatsAreFull : Typed → BTreeMap ℕ Seat → Type 0
+abbrev pub SeatsAreFull : Typed → BTreeMap ℕ ThreadProgress → Type 0
 SeatsAreFull program seats = (t : ℕ) → called_at seats t ≡ length (script_of program t)
 
 -- all that must come; where anyone may call, any number is
-abbrev pub SeatsAreAll : Callers → Typed → BTreeMap ℕ Seat → Type 0
+abbrev pub SeatsAreAll : Callers → Typed → BTreeMap ℕ ThreadProgress → Type 0
 SeatsAreAll Scripts program seats = SeatsAreFull program seats
 SeatsAreAll Anyone program seats = ⊤

@@ -7,11 +7,11 @@ use Rattle.flow.specs.Points.{points}
 use Rattle.flow.specs.declared.points.PointRef.{PointRef}
 use Rattle.flow.specs.Working.PointList.{point_at}
 
--- those of the section of this number
+-- these are the points of the section with this number
 abbrev pub ArePointsAt : Typed → ℕ → List PointRef → Type 0
 ArePointsAt program k list = (section : Section) → slice_get program.sections.items k ≡ Some section → map point_at list ≡ points section
 
--- those of each section
+-- these are the points of each section
 abbrev pub AreAllPoints : Typed → List (Vec PointRef Global) → Type 0
 AreAllPoints program each =
     (length each ≡ length program.sections.items)

@@ -12,7 +12,7 @@ use Rattle.report_check.specs.Sources.{has_place}
 abbrev pub IsIndexOf : {S : Type 0} → List Section → IndexMap ℕ (Bor Section) S → Type 0
 IsIndexOf helpers index = (start : ℕ) → option_copied (get nat_eq index start) ≡ find (has_place start) helpers
 
--- what has a place once the helper was put at each of these points
+-- the helper of a place after this helper was put at each of these points
 abbrev pub put_over : List Point → Section → Option Section → ℕ → Option Section
 put_over points helper before start =
     if list_any (λ (p : Point). start_of p == start) points then Some helper else before

@@ -1,4 +1,4 @@
--- What values of the code say, in the words of the text of `order`. Nobody has to believe these.
+-- The text of `order`, as values of the code have it. Nobody has to believe these.
 use Rattle.std.specs.Prelude.{ℕ, List, map}
 use Rattle.flow.specs.declared.points.PointRef.{PointRef}
 use Rattle.flow.specs.Working.PointList.{point_at}

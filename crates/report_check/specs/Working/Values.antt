@@ -1,4 +1,4 @@
--- What values of the code say, in the words of the text of `check`.
+-- The text of `check`, as values of the code have it.
 use Rattle.std.specs.Prelude.{◌≡◌, ℕ, List, [], ◌++◌, map, slice_get, codes, Option, Some, None, IfSome}
 use Rattle.std.specs.Borrow.{Bor}
 use Rattle.source.specs.Faults.{line_of, column_of}
@@ -18,15 +18,14 @@ use Rattle.code.specs.Listing.{paths_text}
 use Rattle.report_check.specs.Check.{take_text, takes_by, section_by, sections_by, check_by, check_text}
 use Rattle.report_check.specs.Sources.{in_helper, source_line, sourced_take_text, sourced_check_text}
 
--- of a section
--- the rope keeps the texts of its lock paths
+-- the rope keeps the texts of the section's lock paths
 abbrev pub HasPaths : SectionText → RopeOf → Type 0
 HasPaths x rope = slice_get rope.groups x.group ≡ Some (map (path_text x.program.now x.section.now) (lock_paths x.program.now x.section.now))
 
 abbrev pub taken_text_of : SectionText → List ℕ → List ℕ
 taken_text_of x list = paths_text x.program.now x.section.now list
 
--- what is told of a place beside line and column: the helper, and the line of the source
+-- the helper that is written of a place, beside line and column, if sources are
 abbrev pub helper_text_of : Option (Bor Sources) → ℕ → List ℕ
 helper_text_of None start = []
 helper_text_of (Some sources) start = in_helper sources.now.helpers.now start
@@ -35,7 +34,7 @@ abbrev pub line_text_of : Option (Bor Sources) → ℕ → List ℕ
 line_text_of None start = []
 line_text_of (Some sources) start = source_line sources.now.text.now start
 
--- that is of this text
+-- the sources, if there are any, are of this text
 abbrev pub AreOf : List ℕ → Option (Bor Sources) → Type 0
 AreOf text sources = IfSome sources (λ (s : Bor Sources). s.now.text.now ≡ text)
 
@@ -43,7 +42,7 @@ abbrev pub at_text_of : List ℕ → Option (Bor Sources) → ℕ → List ℕ
 at_text_of text sources start =
     codes "at " ++ position_text (line_of text start) (column_of text start) ++ helper_text_of sources start
 
--- what is written of a point
+-- the text of a point
 abbrev pub take_by : Option (Bor Sources) → List ℕ → Typed → Section → ℕ → List ℕ → List ℕ
 take_by None text program = take_text text program
 take_by (Some sources) text program = sourced_take_text text sources.now.helpers.now program
@@ -57,7 +56,7 @@ take_texts_of text x ps = takes_by (take_text_of text x) (map point_at ps) (list
 abbrev pub section_text_of : List ℕ → SectionText → List ℕ
 section_text_of text x = section_by (take_by x.sources text x.program.now) x.section.now (lists_of x.lists.now)
 
--- of a program
+-- the texts of a program's sections
 abbrev pub section_texts_of : Option (Bor Sources) → Check → List ℕ
 section_texts_of sources x =
     sections_by (take_by sources x.text.now x.program.now) x.program.now.sections.items (all_lists x.placed.now)

@@ -2,9 +2,9 @@
 use Rattle.core_lang.specs.declared.value.Value.{Value}
 use Rattle.core_lang.specs.declared.value.Value.TheVariants.{Int, Ref}
 use Rattle.history.specs.Commits.{Commit}
-use Rattle.report_runs.specs.declared.kind.Place.{Place}
-use Rattle.report_runs.specs.declared.kind.Held.{Held}
-use Rattle.report_runs.specs.declared.kind.Held.TheVariants.{Number, Object}
+use Rattle.report_runs.specs.declared.run_kind.Place.{Place}
+use Rattle.report_runs.specs.declared.run_kind.Held.{Held}
+use Rattle.report_runs.specs.declared.run_kind.Held.TheVariants.{Number, Object}
 
 abbrev pub place_of : Commit → Place
 place_of c = record { thread = c.thread; step = c.step }

@@ -3,7 +3,7 @@ use Rattle.std.specs.Prelude.{ℕ, List, ◌++◌, codes, string_bytes, count_by
 use Rattle.std.specs.Fmt.{decimal}
 use Rattle.core_lang.specs.declared.typed.Typed.{Typed}
 use Rattle.code.specs.Listing.{line}
-use Rattle.report_runs.specs.declared.told.Told.{Told}
+use Rattle.report_runs.specs.declared.runs_told.Told.{Told}
 use Rattle.report_runs.specs.Runs.{Run, same_order, same_end, same_kind, number_of, run_text}
 
 -- what is told of a kind

@@ -2,9 +2,9 @@
 use Rattle.std.specs.Prelude.{◌≡◌, true, List, length, map}
 use Rattle.std.specs.List.{AllByRecursion, IsDistinct, list_any}
 use Rattle.core_lang.specs.declared.typed.Typed.{Typed}
-use Rattle.report_runs.specs.declared.kind.Held.{Held}
-use Rattle.report_runs.specs.declared.kind.Kind.{Kind}
-use Rattle.report_runs.specs.declared.kind.Place.{Place}
+use Rattle.report_runs.specs.declared.run_kind.Held.{Held}
+use Rattle.report_runs.specs.declared.run_kind.RunKind.{RunKind}
+use Rattle.report_runs.specs.declared.run_kind.Place.{Place}
 use Rattle.report_runs.specs.declared.seen.Seen.{Seen}
 use Rattle.report_runs.specs.Runs.{Run, same_order, same_end, same_kind, firsts}
 use Rattle.report_runs.specs.Working.Kinds.{held_of, place_of}
@@ -22,7 +22,7 @@ pub record Shown : Type 0 where
   pub order : List Place
   pub end : List Held
 
-abbrev pub kind_shown : Kind → Shown
+abbrev pub kind_shown : RunKind → Shown
 kind_shown kind = record { order = kind.order.items; end = kind.end.items }
 
 abbrev pub kind_in : Run → Shown

@@ -1,5 +1,5 @@
--- What a scope keeps over statements and parameters, and what stands behind a block; the last step of a path. Nobody has to believe
--- these facts: they are proved here, for proofs of this crate and of the crates above.
+-- The parts of a scope that statements and parameters keep, the scope after a block, and the last step of a path.
+-- Nobody has to believe these facts: they are proved here, for proofs of this crate and of the crates above.
 use Rattle.std.proofs.Common.{◌≡◌, ◌∙◌, ℕ, List, [], ◌∷◌, ◌++◌, length, Option, Some, None, refl, ap}
 use Rattle.syntax.specs.Trees.{Decl, Param, Stmt, let_local, let_owned, let_call, var_local, assign, if_then, while}
 use Rattle.syntax.specs.Trees.{print, return_value, call, Stmts, no_stmts, stmt, no_else, else_do}
@@ -13,7 +13,7 @@ use Rattle.resolution.specs.Statements.{after, after_all}
 use Rattle.resolution.specs.Working.TypedStatements.{Split, behind, last_field}
 use Rattle.resolution.specs.Theory.Facts.{after_result}
 
--- ---- behind statements
+-- ---- after statements
 
 pub after_decls : (sc : Scope) (s : Stmt) → (after sc s).decls ≡ sc.decls
 after_decls sc (let_local l) = refl
@@ -53,7 +53,7 @@ pub all_limits : (sc : Scope) (ss : Stmts) → (after_all sc ss).limits ≡ sc.l
 all_limits sc no_stmts = refl
 all_limits sc (stmt s rest) = all_limits (after sc s) rest ∙ after_limits sc s
 
--- behind a block, whose locals are hidden
+-- after a block, whose locals are hidden
 pub left_is : (sc inner new : Scope) (number : ℕ) (ss : Stmts) → number ≡ length sc.locals → inner ≡ after_all sc ss →
     new ≡ record inner { locals = hidden_from number inner.locals } →
     new ≡ left sc (after_all sc ss)
@@ -65,7 +65,7 @@ left_is sc inner new number ss here within made =
     ∙ ap (λ (r : Option core_type.ValueType). record { decls = sc.decls; locals = hidden_from (length sc.locals) end.locals; result = r; limits = end.limits }) (all_result sc ss)
     ∙ ap (λ (l : BodyLimits). record { decls = sc.decls; locals = hidden_from (length sc.locals) end.locals; result = sc.result; limits = l }) (all_limits sc ss)
 
--- ---- behind parameters
+-- ---- after parameters
 
 pub entered_decls : (sc : Scope) (ps : List Param) → (entered sc ps).decls ≡ sc.decls
 entered_decls sc [] = refl

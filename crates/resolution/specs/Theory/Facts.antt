@@ -1,5 +1,5 @@
--- What holds of names, structs, scopes and `init`s. Nobody has to believe these facts: they are proved here, for proofs of this crate
--- and of the crates above.
+-- Facts about names, structs, scopes and `init`s. Nobody has to believe these facts: they are proved here, for proofs
+-- of this crate and of the crates above.
 use Rattle.std.specs.Prelude.{slice_get, ◌==◌, ◌&&◌, if◌then◌else◌}
 use Rattle.std.proofs.Common.{◌≡◌, ℕ, zero, suc, ◌+◌, List, [], ◌∷◌, Option, Some, None, Bool, true, false, refl, sym}
 use Rattle.std.proofs.Common.{ap, ◌∙◌, arith}
@@ -17,7 +17,7 @@ use Rattle.resolution.specs.declared.init_target.InitTarget.{InitTarget}
 
 -- ---- the first of a name
 
--- one that passes, so many places on
+-- an item that passes, at an index that is counted from n
 pub record Passing {A : Type 0} (p : A → Bool) (xs : List A) (n i : ℕ) : Type 0 where
   pub by : ℕ
   pub place : i ≡ n + by
@@ -63,7 +63,7 @@ named_at : {A : Type 0} (get : ℕ → Option A) (i : ℕ) (x : A) (o : Option �
 named_at {A = A} get i x None e = absurd (none-some (i, x) e)
 named_at {A = A} get i x (Some k) e = found_at get k i x (get k) refl e
 
--- a declaration that is found by a name stands where it is found
+-- a declaration that is found by a name is at the place that is found
 pub decl_at : (decls : List Decl) (q : List ℕ) (i : ℕ) (d : Decl) → the_decl decls q ≡ Some (i, d) →
     slice_get decls i ≡ Some d
 decl_at decls q i d e = named_at (slice_get decls) i d (place_of bears decls q) e
@@ -99,7 +99,7 @@ struct_at (thread t ∷ ds) (suc n) s e = struct_at ds n s e
 
 -- ---- sections and helpers
 
--- together they are those of the one kind and those of the other
+-- the number of sections and helpers is the sum of both numbers
 pub bodies_counted : (decls : List Decl) (s r : Section) →
     count has_body decls ≡ count (alike (atomic s)) decls + count (alike (helper r)) decls
 bodies_counted [] s r = refl
@@ -113,7 +113,7 @@ bodies_counted (atomic x ∷ ds) s r = let n = bodies_counted ds s r in omega (a
 bodies_counted (helper x ∷ ds) s r = let n = bodies_counted ds s r in omega (arith, n)
 bodies_counted (thread x ∷ ds) s r = bodies_counted ds s r
 
--- ---- behind statements
+-- ---- after statements
 
 after_else_result : (sc : Scope) (o : Otherwise) → (after_else sc o).result ≡ sc.result
 after_else_result sc no_else = refl
@@ -132,7 +132,7 @@ after_result sc (print start e) = refl
 after_result sc (return_value start e) = refl
 after_result sc (call start c) = refl
 
--- ---- what an `init` gives a value to
+-- ---- the target of an `init`
 
 pub and_left : (a b : Bool) → (a && b) ≡ true → a ≡ true
 and_left true b e = refl

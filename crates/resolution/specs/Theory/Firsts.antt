@@ -1,4 +1,4 @@
--- The first of the first ones of a list of faults is the least.
+-- The first of the first faults of a list is the least.
 use Rattle.std.proofs.Common.{◌≡◌, ℕ, suc, zero, List, [], ◌∷◌, take, Option, Some, None, Bool, true, false, refl, sym, ap, ◌∙◌, if◌then◌else◌}
 use Rattle.resolution.specs.declared.finding.Finding.{Finding}
 use Rattle.resolution.specs.Working.Findings.{Firsts, goes_ahead, lesser, least_of, first_of, first, placed, with_found, found_in}
@@ -28,6 +28,6 @@ none_before : (f : Option Finding) (gs : List Finding) → least_of f gs ≡ Non
 none_before None gs e = refl
 none_before (Some f) gs e = absurd (some_least f gs e)
 
--- where there is none, there was none before
+-- if no fault is first now, none was before
 pub was_none : (s : Firsts) (gs : List Finding) → first (found_in s gs) ≡ None → first s ≡ None
 was_none s gs e = none_before (first s) gs (sym (first_found s gs) ∙ e)

@@ -1,4 +1,5 @@
--- Lists of faults with their reasons: a fault by its code and place, or with its reason, is one of them, and which is the least.
+-- Lists of faults with their reasons: whether a fault is in a list, by code and place or with its reason, and the least
+-- fault.
 use Rattle.std.proofs.Common.{◌≡◌, ℕ, ◌==◌, ◌||◌, ◌&&◌, nat_lt, arith, ◌⊎◌, List, [], ◌∷◌, ◌++◌, map, Option, Some, None, Bool, true, false, inl, inr, refl, sym, ap}
 use Rattle.std.proofs.Common.{◌∙◌, subst, if◌then◌else◌}
 use Rattle.std.specs.Option.{option_map}
@@ -99,7 +100,7 @@ least_none gs e = none_of gs (bare_lists.least_none (map mistake_of gs) (sym (le
 
 -- ---- the least of faults without reasons is noted as one
 
--- what is left of a fault, if there is one, and the least of others without reasons
+-- the least of a fault, if one is given, and of another without a reason
 abbrev pub noted : Option Finding → Option Mistake → Option Finding
 noted f None = f
 noted f (Some m) = lesser f (plain m)
@@ -135,7 +136,7 @@ none_twice : (a b : Finding) (y : Bool) → (if y then Some b else Some a) ≡ S
 none_twice a b true = refl
 none_twice a b false = refl
 
--- of two, the lesser can be noted alone
+-- of two faults, the lesser can be noted alone
 lesser_alone : (f : Option Finding) (a b : Finding) → lesser (lesser f a) b ≡ lesser f (if goes_ahead b a then b else a)
 lesser_alone None a b = none_twice a b (goes_ahead b a)
 lesser_alone (Some f) a b =

@@ -1,5 +1,5 @@
--- The program that a tree stands for, as it is built: one declaration after another, until one has no type. What the program is, says
--- Tables; `resolved_by_rules` of src/laws.rt ties the two together.
+-- The program that a tree stands for, as it is built: one declaration after another, until one has no type. `Tables`
+-- defines the program; `resolved_by_rules` of src/laws.rt ties the two together.
 use Rattle.std.specs.Prelude.{ℕ, zero, suc, ◌+◌, List, [], ◌∷◌, ◌++◌, length, nat_le, Bool, Option, Some, None}
 use Rattle.std.specs.Prelude.{if◌then◌else◌}
 use Rattle.syntax.specs.Trees.{Item, call, repeat, Items, no_items, item}
@@ -7,8 +7,8 @@ use Rattle.syntax.specs.Trees.{Const, Variable, Array, Member, lock_member, fina
 use Rattle.syntax.specs.Trees.{struct, global, array, pool, init, atomic, helper, thread}
 use Rattle.core_lang.specs.declared.value.Value.{Value}
 use Rattle.core_lang.specs.declared.value.ValueType as core_type
-use Rattle.core_lang.specs.declared.typed.Owner.{Owner}
-use Rattle.core_lang.specs.declared.typed.Owner.TheVariants as owner
+use Rattle.core_lang.specs.declared.typed.CellOwner.{CellOwner}
+use Rattle.core_lang.specs.declared.typed.CellOwner.TheVariants as owner
 use Rattle.resolution.specs.Core as core
 use Rattle.resolution.specs.Limits.{CALL_LIMIT, section_limits, helper_limits, object_at, cell_at, final_at}
 use Rattle.resolution.specs.Scopes.{◌>>=◌, outside, the_decl, number_at, type_of, struct_named}
@@ -35,7 +35,7 @@ abbrev pub one_call : Option core.Call → Option (List core.Call)
 one_call (Some c) = Some (c ∷ [])
 one_call None = None
 
--- the calls of what a thread does, each `repeat` multiplied out
+-- the calls of a thread's items, with each `repeat` expanded
 abbrev mutual
   pub typed_item : List Decl → Item → Option (List core.Call)
   typed_item decls (call c) = one_call (call_of decls (the_decl decls c.section.text) c.arguments)
@@ -45,11 +45,11 @@ abbrev mutual
   typed_items decls no_items = Some []
   typed_items decls (item i is) = joined (typed_item decls i) (typed_items decls is)
 
--- there are not too many calls
+-- all threads together keep the limit of calls
 abbrev pub few_calls : List Decl → Bool
 few_calls decls = nat_le (total calls_of decls) CALL_LIMIT
 
--- a thread's calls, if there are not too many in all threads
+-- a thread's calls, if all threads together keep the limit of calls
 abbrev pub typed_calls : List Decl → Items → Option (List core.Call)
 typed_calls decls is = if few_calls decls then typed_items decls is else None
 
@@ -60,7 +60,7 @@ pub record StructBuilder : Type 0 where
   pub structure : core.Struct
   pub classes : List core.LockClass
 
--- a lock field has the next class; the struct has number k
+-- the struct with number k and a further lock field, which has the next class
 abbrev pub lock_added : ℕ → StructBuilder → List ℕ → StructBuilder
 lock_added k st name = record {
   structure = record (st.structure) { locks = st.structure.locks ++ record { name = name; class = length st.classes } ∷ [] };
@@ -77,14 +77,14 @@ field_added st name (Some t) (Some p) = Some (record st { structure = record (st
 field_added st name (Some t) None = None
 field_added st name None p = None
 
--- one more member of the struct that has number k, this place and these members
+-- the struct with one more member; it has number k, this place and these members
 abbrev pub member_added : List Decl → ℕ → ℕ → List Member → Option StructBuilder → Member → Option StructBuilder
 member_added decls k i ms (Some st) (lock_member x) = Some (lock_added k st x.text)
 member_added decls k i ms (Some st) (final_member f) = final_added st f.name.text (struct_named decls f.target)
 member_added decls k i ms (Some st) (field_member f) = field_added st f.name.text (type_of (outside decls) f.value_type) (protection_of decls i ms f.protection)
 member_added decls k i ms None m = None
 
--- members, one after another
+-- the struct with further members, one after another
 abbrev pub members_added : List Decl → ℕ → ℕ → List Member → Option StructBuilder → List Member → Option StructBuilder
 members_added decls k i all st [] = st
 members_added decls k i all st (m ∷ ms) = members_added decls k i all (member_added decls k i all st m) ms
@@ -101,7 +101,7 @@ abbrev pub with_struct : core.Program → Option StructBuilder → Option core.P
 with_struct p (Some st) = Some (record p { classes = st.classes; structs = p.structs ++ st.structure ∷ [] })
 with_struct p None = None
 
-abbrev pub with_cell : core.Program → Owner → core_type.ValueType → Value → core.Program
+abbrev pub with_cell : core.Program → CellOwner → core_type.ValueType → Value → core.Program
 with_cell p o t v = record p { cells = p.cells ++ record { owner = o; value_type = t; opening = v } ∷ [] }
 
 abbrev pub with_section : core.Program → Option core.Section → Option core.Program
@@ -116,7 +116,7 @@ abbrev pub with_thread : core.Program → List ℕ → Option (List core.Call) �
 with_thread p name (Some calls) = Some (record p { threads = p.threads ++ record { name = name; calls = calls } ∷ [] })
 with_thread p name None = None
 
--- a global has the next cell
+-- the program with a further global, which has the next cell
 abbrev pub global_added : core.Program → List ℕ → ℕ → ℕ → core_type.ValueType → Value → core.Program
 global_added p name cell class t v = with_cell (record p { globals = p.globals ++ record { name = name; cell = cell; class = class } ∷ [] }) (owner.Global (length p.globals)) t v
 
@@ -127,7 +127,7 @@ with_global p name (Some class) (Some t) None = None
 with_global p name (Some class) None v = None
 with_global p name None t v = None
 
--- the value that a global opens with, if its type has no fault
+-- the initial value of a global, if its type has no fault
 abbrev pub opening_of : List Decl → Option core_type.ValueType → Option Const → Option Value
 opening_of decls (Some t) c = opened decls t c
 opening_of decls None c = None
@@ -135,12 +135,12 @@ opening_of decls None c = None
 abbrev pub global_with : List Decl → core.Program → Variable → Option core.Program
 global_with decls p v = with_global p v.name.text (class_of decls v.protection) (type_of (outside decls) v.value_type) (opening_of decls (type_of (outside decls) v.value_type) v.value)
 
--- with so many elements of the array of number a
+-- the program with further elements of the array of number a
 abbrev pub with_elements : core.Program → ℕ → core_type.ValueType → ℕ → core.Program
 with_elements p a t zero = p
 with_elements p a t (suc n) = with_cell (with_elements p a t n) (owner.Element a n) t (default_of t)
 
--- an array has the next cells
+-- the program with a further array, which has the next cells
 abbrev pub array_added : core.Program → List ℕ → ℕ → ℕ → core_type.ValueType → ℕ → core.Program
 array_added p name first length element class = record p { arrays = p.arrays ++ record { name = name; first = first; length = length; element_type = element; class = class } ∷ [] }
 
@@ -158,7 +158,7 @@ pub record Slot : Type 0 where
   pub index : ℕ
   pub object : ℕ
 
--- what the declarations give the member at this place of its struct
+-- the constant that the declarations give the member at this place of its struct
 abbrev pub slot_given : List Decl → Slot → ℕ → Option Const
 slot_given decls slot place = given decls (record { pool = slot.pool; index = slot.index; member = place })
 
@@ -166,12 +166,13 @@ abbrev pub final_cell : core.Program → Option ℕ → Option core.Program
 final_cell p (Some o) = Some (record p { finals = p.finals ++ o ∷ [] })
 final_cell p None = None
 
-abbrev pub field_cell : core.Program → Owner → Option core_type.ValueType → Option Value → Option core.Program
+abbrev pub field_cell : core.Program → CellOwner → Option core_type.ValueType → Option Value → Option core.Program
 field_cell p o (Some t) (Some v) = Some (with_cell p o t v)
 field_cell p o (Some t) None = None
 field_cell p o None v = None
 
--- an object's members, the first of them at this place of its struct, with so many of the struct's fields ahead of them
+-- the program with the members of an object added, the first of them at this place of its struct, after this number of
+-- the struct's fields
 abbrev pub with_members : List Decl → Slot → ℕ → ℕ → Option core.Program → List Member → Option core.Program
 with_members decls slot place fields p [] = p
 with_members decls slot place fields p (lock_member x ∷ ms) = with_members decls slot (place + 1) fields p ms
@@ -181,7 +182,7 @@ with_members decls slot place fields p (field_member f ∷ ms) =
     with_members decls slot (place + 1) (fields + 1)
     (p >>= λ q. field_cell q (owner.Field slot.object fields) (type_of (outside decls) f.value_type) (opening_of decls (type_of (outside decls) f.value_type) (slot_given decls slot place))) ms
 
--- an object has the next cells and the next final references
+-- the program with a further object, which has the next cells and the next final references
 abbrev pub object_added : core.Program → ℕ → ℕ → ℕ → core.Program
 object_added p number cells finals = record p { objects = p.objects ++ record { pool = number; cells = cells; finals = finals } ∷ [] }
 
@@ -190,7 +191,7 @@ with_object decls place number ms index p =
     cell_at (length p.cells) >>= λ cells. final_at (length p.finals) >>= λ finals.
     with_members decls (record { pool = place; index = index; object = length p.objects }) 0 0 (Some (object_added p number cells finals)) ms
 
--- with so many members of the pool that has this place and this number
+-- the program with further objects of the pool with this place and this number
 abbrev pub with_objects : List Decl → ℕ → ℕ → List Member → Option core.Program → ℕ → Option core.Program
 with_objects decls place number ms p zero = p
 with_objects decls place number ms p (suc n) = with_objects decls place number ms p n >>= λ q. with_object decls place number ms n q
@@ -198,7 +199,7 @@ with_objects decls place number ms p (suc n) = with_objects decls place number m
 abbrev pub pool_added : core.Program → List ℕ → ℕ → ℕ → ℕ → core.Program
 pool_added p name first length structure = record p { pools = p.pools ++ record { name = name; first = first; length = length; structure = structure } ∷ [] }
 
--- a pool has the next objects
+-- the program with a further pool, which has the next objects
 abbrev pub with_pool : List Decl → ℕ → core.Program → List ℕ → Option ℕ → Option (List Member) → ℕ → Option core.Program
 with_pool decls place p name (Some s) (Some ms) n =
     object_at (length p.objects) >>= λ first. object_at n >>= λ count.
@@ -206,7 +207,7 @@ with_pool decls place p name (Some s) (Some ms) n =
 with_pool decls place p name (Some s) None n = None
 with_pool decls place p name None ms n = None
 
--- a program with one more declaration, which has this place
+-- the program with one more declaration, which has this place
 abbrev pub extended : List Decl → ℕ → core.Program → Decl → Option core.Program
 extended decls i p (lock x) = Some (with_class p (core.global_lock x.text))
 extended decls i p (struct s) = with_struct p (members_added decls (length p.structs) i s.members (Some (record { structure = empty_struct s.name.text; classes = p.classes })) s.members)
@@ -218,7 +219,7 @@ extended decls i p (atomic s) = with_section p (typed_section decls section_limi
 extended decls i p (helper s) = with_helper p (typed_section decls helper_limits s)
 extended decls i p (thread t) = with_thread p t.name.text (typed_calls decls t.items)
 
--- with declarations from a place on, one after another
+-- the program with the declarations from a place on, one after another
 abbrev pub resolved_from : List Decl → ℕ → Option core.Program → List Decl → Option core.Program
 resolved_from decls i p [] = p
 resolved_from decls i p (d ∷ ds) = resolved_from decls (i + 1) (p >>= λ q. extended decls i q d) ds

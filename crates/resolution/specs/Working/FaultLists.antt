@@ -1,4 +1,5 @@
--- The faults of a program as one list, in the order in which they are looked for. Only proofs read it: what a fault is, says Faults.
+-- The faults of a program as one list, in the order in which they are looked for. Only proofs need it: `Faults` defines
+-- the faults.
 use Rattle.std.specs.Prelude.{ℕ, zero, suc, ◌+◌, List, [], ◌∷◌, ◌++◌, length, nat_le, nat_lt, not, is_some, ◌==◌}
 use Rattle.std.specs.Prelude.{◌&&◌, ◌||◌, Bool, true, false, if◌then◌else◌, map, Option, Some, None}
 use Rattle.source.specs.declared.fault.Code.{Code}
@@ -63,14 +64,14 @@ use Rattle.resolution.specs.Annotations.{AnnotationCursor, stepped_on, cursor_at
 use Rattle.resolution.specs.Statements.{ahead_of}
 use Rattle.resolution.specs.Where.{operand_want, prefix_want, side_want}
 use Rattle.resolution.specs.Faults.{start_of, const_start}
-use Rattle.core_lang_calls.specs.Working.FaultLists.{graph_faults}
+use Rattle.core_lang_helpers.specs.Working.FaultLists.{graph_faults}
 use Rattle.resolution.specs.CallGraphs.{tree_graph}
 
--- one with its reason
+-- one fault with its reason
 abbrev pub reasoned : Code → ℕ → Why → List Finding
 reasoned code start why = told code start why ∷ []
 
--- one of which its code says all
+-- one fault whose code says all
 abbrev pub one : Code → ℕ → List Finding
 one code start = reasoned code start why.Plain
 
@@ -79,7 +80,7 @@ one_if b code start = found_if b (told code start why.Plain)
 
 -- ---- names and types
 
--- a type's name that names no struct
+-- the fault of a type's name that does not refer to a struct
 abbrev pub no_struct : ℕ → Meaning → List Finding
 no_struct start (a_decl i (struct s)) = []
 no_struct start nothing = one UnknownName start
@@ -89,15 +90,15 @@ abbrev pub type_faults : Scope → ValueType → List Finding
 type_faults sc int_type = []
 type_faults sc (ref_type x) = no_struct x.span.start (meaning sc x.text)
 
--- a declaration that can't stand here, unless its type has a fault
+-- this fault of a name, unless the type of the declaration that the name refers to has a fault
 abbrev pub unfit : List Decl → Finding → Meaning → List Finding
 unfit decls f m = found_if (has_type decls m) f
 
--- a name that is to stand for something else
+-- the fault of a name that is expected to refer to something else
 abbrev pub misnamed : List Decl → Code → Role → ℕ → Meaning → List Finding
 misnamed decls code r start m = unfit decls (told code start (why.Misnamed r (stands_for m))) m
 
--- a member that can't
+-- this fault of a member, unless its type has a fault
 abbrev pub unfit_member : List Decl → Finding → Member → List Finding
 unfit_member decls f m = found_if (member_has_type decls m) f
 
@@ -106,20 +107,20 @@ unfit_member decls f m = found_if (member_has_type decls m) f
 abbrev pub number_faults : Number → List Finding
 number_faults n = one_if (nat_lt NUMBER_LIMIT n.value) NumberTooLarge n.span.start
 
--- a pool's name with an index
+-- the faults of a pool's name with an index
 abbrev pub index_faults : List Decl → ℕ → Option (ℕ × Decl) → Number → List Finding
 index_faults decls start None n = one UnknownName start
 index_faults decls start (Some (i, pool p)) n = one_if (has_type decls (a_decl i (pool p)) && nat_le p.length.value n.value) InitOutOfRangeOrRepeated n.span.start
 index_faults decls start (Some (i, d)) n = misnamed decls WrongType role.Pool start (a_decl i d)
 
--- a constant by itself
+-- the faults of a constant by itself
 abbrev pub own_faults : List Decl → Const → List Finding
 own_faults decls (int_const n) = number_faults n
 own_faults decls (negative sign n) = number_faults n
 own_faults decls (null_const at) = []
 own_faults decls (member_const p n) = index_faults decls p.span.start (the_decl decls p.text) n
 
--- what isn't of the sort that is wanted
+-- the fault of a constant that is not of the expected sort
 abbrev pub sort_misfit : Want → ℕ → Option Sort → List Finding
 sort_misfit w start (Some s) = if fits_sort w s then [] else reasoned WrongType start (why.Unwanted w (kind.Value s))
 sort_misfit w start None = []
@@ -135,7 +136,7 @@ argument_faults decls (p ∷ ps) (c ∷ cs) = const_faults decls (want_of decls 
 
 -- ---- places
 
--- a name that is no value
+-- the fault of a name that is not a value
 abbrev pub no_value : List Decl → ℕ → Meaning → List Finding
 no_value decls start (a_local i l) = []
 no_value decls start (a_decl i (global v)) = []
@@ -143,14 +144,14 @@ no_value decls start (a_decl i (lock x)) = one LockAsValue start
 no_value decls start (a_decl i d) = misnamed decls WrongType role.Value start (a_decl i d)
 no_value decls start nothing = one UnknownName start
 
--- a name that takes no index
+-- the fault of a name without elements
 abbrev pub no_elements : List Decl → ℕ → Meaning → List Finding
 no_elements decls start (a_decl i (array a)) = []
 no_elements decls start (a_decl i (pool p)) = []
 no_elements decls start nothing = one UnknownName start
 no_elements decls start m = misnamed decls WrongType role.Elements start m
 
--- a field that is none
+-- the fault of a field that does not exist
 abbrev pub no_member : ℕ → Option (ℕ × Member) → List Finding
 no_member start None = one UnknownName start
 no_member start (Some m) = []
@@ -159,14 +160,14 @@ abbrev pub no_field : Option Struct → Ident → List Finding
 no_field (Some s) f = no_member f.span.start (the_member s.members f.text)
 no_field None f = []
 
--- a step of a path that starts there
+-- the faults of a step of a path that starts at this byte
 abbrev pub step_faults : List Decl → ℕ → Walk → Ident → List Finding
 step_faults decls start (reached steps (Reference k)) f = no_field (the_struct decls k) f
 step_faults decls start (reached steps Integer) f = reasoned WrongType start why.FieldOfInt
 step_faults decls start at_lock f = reasoned WrongType start why.FieldOfLock
 step_faults decls start lost f = []
 
--- its end
+-- the fault of a path that ends at a lock
 abbrev pub end_faults : ℕ → Walk → List Finding
 end_faults start (reached steps t) = []
 end_faults start at_lock = one LockAsValue start
@@ -183,12 +184,12 @@ path_faults decls start nothing fs = one UnknownName start
 
 -- ---- expressions
 
--- what isn't wanted
+-- the fault of an expression that is not as expected
 abbrev pub misfit : Want → ℕ → Option ResolvedExpr → List Finding
 misfit w start (Some s) = if fits w s then [] else reasoned WrongType start (why.Unwanted w (kind_of s))
 misfit w start None = []
 
--- sides that `==` doesn't take
+-- the fault of sides that `==` does not take
 abbrev pub unlike : ℕ → ℕ → Option ResolvedExpr → Option ResolvedExpr → List Finding
 unlike a b (Some (value e s)) (Some (value f t)) =
     if alike_sorts s t then [] else reasoned WrongType b (why.Unlike (kind.Value s) (kind.Value t))
@@ -203,7 +204,7 @@ side_faults sign.Equal a b s t = unlike a b s t
 side_faults sign.NotEqual a b s t = unlike a b s t
 side_faults _ a b s t = []
 
--- an operator that can't stand in the chain
+-- the fault of an operator of conditions in a chain of numbers
 abbrev pub operator_faults : Level → ℕ → Operator → List Finding
 operator_faults Term start o = found_if (not (is_some (operator_of o))) (told WrongType start why.OperatorOfConditions)
 operator_faults Sum start o = found_if (not (is_some (operator_of o))) (told WrongType start why.OperatorOfConditions)
@@ -211,7 +212,7 @@ operator_faults Conjunction start o = []
 operator_faults Disjunction start o = []
 
 abbrev mutual
-  -- of an expression by itself
+  -- the faults of an expression by itself
   pub expr_faults : Scope → Expr → List Finding
   expr_faults sc (int n) = number_faults n
   expr_faults sc (null at) = []
@@ -224,7 +225,7 @@ abbrev mutual
       ++ expr_faults sc b ++ misfit (side_want c) (start_of b) (typed sc b)
       ++ side_faults c (start_of a) (start_of b) (typed sc a) (typed sc b)
 
-  -- of a place as a value
+  -- the faults of a place as a value
   pub place_faults : Scope → Place → List Finding
   place_faults sc (lone x) = no_value sc.decls x.span.start (meaning sc x.text)
   place_faults sc (element x e) = no_elements sc.decls x.span.start (meaning sc x.text) ++ expr_faults sc e ++ misfit (Value Integer) (start_of e) (typed sc e)
@@ -234,25 +235,25 @@ abbrev mutual
   link_faults sc level no_links = []
   link_faults sc level (link o e rest) = operator_faults level (start_of e) o ++ expr_faults sc e ++ misfit (operand_want level) (start_of e) (typed sc e) ++ link_faults sc level rest
 
--- of an expression of which something is wanted
+-- the faults of an expression of which something is expected
 abbrev pub wanted_faults : Scope → Want → Expr → List Finding
 wanted_faults sc w e = expr_faults sc e ++ misfit w (start_of e) (typed sc e)
 
 -- ---- statements
 
--- a local's name that is taken
+-- the fault of a local's name that an earlier local or a declaration has
 abbrev pub taken : ℕ → Option (ℕ × Local) → Option (ℕ × Decl) → List Finding
 taken start None None = []
 taken start (Some l) d = one DeclaredTwice start
 taken start None (Some d) = one DeclaredTwice start
 
--- a local's name, in the scope ahead of it
+-- the faults of a local's name, in the scope before it
 abbrev pub local_faults : Scope → Ident → List Finding
 local_faults sc x =
     taken x.span.start (the_local sc.locals x.text) (the_decl sc.decls x.text)
     ++ one_if (nat_le sc.limits.locals (length sc.locals)) LimitExceeded x.span.start
 
--- a name that can't stand on the left
+-- the fault of a name on the left that can't be assigned to
 abbrev pub no_target : List Decl → ℕ → Meaning → List Finding
 no_target decls start (a_local i l) = if is_var l.kind then [] else misnamed decls NotAssignable role.Target start (a_local i l)
 no_target decls start (a_decl i (global v)) = []
@@ -260,12 +261,12 @@ no_target decls start (a_decl i (lock x)) = one LockAsValue start
 no_target decls start (a_decl i d) = misnamed decls NotAssignable role.Target start (a_decl i d)
 no_target decls start nothing = one UnknownName start
 
--- a pool's member on the left
+-- the fault of a pool's member on the left
 abbrev pub no_array : List Decl → ℕ → Meaning → List Finding
 no_array decls start (a_decl i (pool p)) = misnamed decls NotAssignable role.Target start (a_decl i (pool p))
 no_array decls start _ = []
 
--- a path that ends at no field that can be assigned to
+-- the fault of a path on the left whose end can't be assigned to
 abbrev pub final_faults : ℕ → Walk → List Finding
 final_faults start (reached steps t) = found_if (not (is_some (last_field steps))) (told NotAssignable start why.FinalTarget)
 final_faults start at_lock = []
@@ -276,11 +277,11 @@ target_faults sc (lone x) = no_target sc.decls x.span.start (meaning sc x.text)
 target_faults sc (element x e) = no_elements sc.decls x.span.start (meaning sc x.text) ++ no_array sc.decls x.span.start (meaning sc x.text) ++ wanted_faults sc (Value Integer) e
 target_faults sc (path x fs) = path_faults sc.decls x.span.start (meaning sc x.text) fs ++ final_faults x.span.start (walk_from sc.decls (meaning sc x.text) fs)
 
--- a local that is bound
+-- the faults of the declaration of a local
 abbrev pub binding_faults : Scope → tree.Local → List Finding
 binding_faults sc l = local_faults sc l.name ++ type_faults sc l.value_type ++ wanted_faults sc (want (type_of sc l.value_type)) l.value
 
--- a member that is no final reference, where one is named
+-- the fault of a member that is not a final reference after `where`
 abbrev pub no_final : List Decl → ℕ → Option (ℕ × Member) → List Finding
 no_final decls start None = one UnknownName start
 no_final decls start (Some (i, lock_member x)) = one LockAsValue start
@@ -291,30 +292,30 @@ abbrev pub no_final_in : List Decl → Option Struct → Ident → List Finding
 no_final_in decls (Some s) f = no_final decls f.span.start (the_member s.members f.text)
 no_final_in decls None f = []
 
--- the field that is named behind `where`, for a value of this type
+-- the faults of the final reference after `where`, for a value of this type
 abbrev pub owner_field_faults : List Decl → Option core_type.ValueType → Ident → List Finding
 owner_field_faults decls (Some (Reference k)) f = no_final_in decls (the_struct decls k) f
 owner_field_faults decls (Some Integer) f = reasoned WrongType f.span.start why.OwnedInt
 owner_field_faults decls None f = []
 
--- a type is wanted, and another is there
+-- the fault of a type that differs from the expected one
 abbrev pub other_than : ℕ → core_type.ValueType → core_type.ValueType → List Finding
 other_than start t u =
     if fits_type t (sort.Of u) then [] else reasoned WrongType start (why.Unwanted (Value t) (kind.Value (sort.Of u)))
 
--- a local of another type than the final reference's
+-- the fault of a local whose type is not that of the final reference
 abbrev pub other_type : ℕ → Option OwnerField → Option core_type.ValueType → List Finding
 other_type start (Some f) (Some t) = other_than start f.value_type t
 other_type start (Some f) None = []
 other_type start None t = []
 
--- the name that is to be a local's
+-- the fault of a name after `where` that is not a fitting local
 abbrev pub no_owner : List Decl → ℕ → Option OwnerField → Meaning → List Finding
 no_owner decls start f (a_local i l) = other_type start f l.value_type
 no_owner decls start f (a_decl i d) = misnamed decls WrongType role.Local start (a_decl i d)
 no_owner decls start f nothing = one UnknownName start
 
--- what stands behind `where`, for a value of this type
+-- the faults of what follows `where`, for a value of this type
 abbrev pub owner_faults : Scope → Option core_type.ValueType → tree.Owner → List Finding
 owner_faults sc t o =
     owner_field_faults sc.decls t o.field
@@ -322,25 +323,25 @@ owner_faults sc t o =
 
 -- ---- calls of helpers
 
--- a name that is called with so many arguments, which no helper takes
+-- the fault of a called name that does not refer to a helper with this number of parameters
 abbrev pub no_helper : List Decl → ℕ → ℕ → Meaning → List Finding
 no_helper decls start n (a_decl i (helper s)) =
     found_if (not (n == length s.params)) (told WrongArgumentCount start (why.Counted (length s.params) n))
 no_helper decls start n nothing = one UnknownName start
 no_helper decls start n m = misnamed decls WrongType role.Helper start m
 
--- arguments, each for its parameter
+-- the faults of arguments, each for its parameter
 abbrev pub values_faults : Scope → List Param → List Expr → List Finding
 values_faults sc [] es = []
 values_faults sc (p ∷ ps) [] = []
 values_faults sc (p ∷ ps) (e ∷ es) = wanted_faults sc (want_of sc.decls p) e ++ values_faults sc ps es
 
--- arguments, each by itself
+-- the faults of arguments, each by itself
 abbrev pub each_value_faults : Scope → List Expr → List Finding
 each_value_faults sc [] = []
 each_value_faults sc (e ∷ es) = wanted_faults sc Anything e ++ each_value_faults sc es
 
--- the arguments for the helper that is meant
+-- the faults of the arguments for the helper that the name refers to
 abbrev pub passed_values_faults : Scope → Option (ℕ × Section) → List Expr → List Finding
 passed_values_faults sc (Some (i, s)) es = if length es == length s.params then values_faults sc s.params es else []
 passed_values_faults sc None es = each_value_faults sc es
@@ -350,23 +351,23 @@ helper_call_faults sc c =
     no_helper sc.decls c.helper.span.start (length c.arguments) (meaning sc c.helper.text)
     ++ passed_values_faults sc (helper_meant (meaning sc c.helper.text)) c.arguments
 
--- a result of another type
+-- the fault of a result of another type
 abbrev pub other_result : ℕ → core_type.ValueType → Option core_type.ValueType → List Finding
 other_result start t (Some u) = other_than start t u
 other_result start t None = []
 
--- no result, where one of the type is wanted
+-- the fault of a helper without result, if one of the type is expected
 abbrev pub no_result : ℕ → core_type.ValueType → Option ValueType → Option core_type.ValueType → List Finding
 no_result start t None u = reasoned WrongType start (why.NoResult t)
 no_result start t (Some r) u = other_result start t u
 
--- what is given back to a local of this type
+-- the faults of a helper's result for a local of this type
 abbrev pub given_back_faults : List Decl → ℕ → Option core_type.ValueType → Option (ℕ × Section) → List Finding
 given_back_faults decls start (Some t) (Some (i, s)) = no_result start t s.result (result_of decls s)
 given_back_faults decls start (Some t) None = []
 given_back_faults decls start None h = []
 
--- a local with what a helper gives back
+-- the faults of a `let` of a helper's result
 abbrev pub called_faults : Scope → CalledLocal → List Finding
 called_faults sc l =
     local_faults sc l.name ++ type_faults sc l.value_type
@@ -394,7 +395,7 @@ abbrev mutual
   stmts_faults sc no_stmts = []
   stmts_faults sc (stmt s rest) = stmt_faults sc s ++ stmts_faults (after sc s) rest
 
--- parameters, in the scope behind n of them
+-- the faults of parameters, in the scope after n of them
 abbrev pub param_faults : Scope → ℕ → List Param → List Finding
 param_faults sc n [] = []
 param_faults sc n (p ∷ ps) =
@@ -407,28 +408,28 @@ result_faults decls (Some t) = type_faults (outside decls) t
 
 -- ---- annotations
 
--- one that is to name a global lock
+-- the fault of an annotation that has to name a global lock
 abbrev pub global_lock_faults : List Decl → ℕ → Option (ℕ × Decl) → List Ident → List Finding
 global_lock_faults decls start None ys = one UnknownName start
 global_lock_faults decls start (Some (i, lock x)) [] = []
 global_lock_faults decls start (Some (i, d)) ys = unfit decls (told ProtectedByNoLock start why.Plain) (a_decl i d)
 
--- of these names
+-- the faults of these names, which have to name a global lock
 abbrev pub named_lock_faults : List Decl → Ident → List Ident → List Finding
 named_lock_faults decls x ys = global_lock_faults decls x.span.start (the_decl decls x.text) ys
 
--- a global's or an array's of this name
+-- the faults of the annotation of the global or array of this name
 abbrev pub lock_faults : List Decl → ℕ → Option Protection → List Finding
 lock_faults decls name None = one NeitherFinalNorProtected name
 lock_faults decls name (Some p) = named_lock_faults decls p.first p.rest
 
--- a name that others follow, after n final references
+-- the fault of a name that others follow, after n final references
 abbrev pub passed_faults : List Decl → ℕ → ℕ → ℕ → Option (ℕ × Member) → List Finding
 passed_faults decls first here n None = one UnknownName here
 passed_faults decls first here n (Some (i, final_member f)) = one_if (nat_le FINAL_LIMIT n) LimitExceeded first
 passed_faults decls first here n (Some (i, m)) = unfit_member decls (told ProtectedByPassesNonFinal here why.Plain) m
 
--- the last name
+-- the fault of the last name
 abbrev pub last_faults : List Decl → ℕ → ℕ → Option (ℕ × Member) → List Finding
 last_faults decls first here None = one UnknownName here
 last_faults decls first here (Some (i, lock_member x)) = []
@@ -442,7 +443,7 @@ abbrev pub ended : List Decl → ℕ → Option AnnotationCursor → Ident → L
 ended decls first (Some st) y = last_faults decls first y.span.start (the_member st.members y.text)
 ended decls first None y = []
 
--- a walk along names, the first of all of which starts there
+-- the faults of a walk along names; the annotation starts at this byte
 abbrev pub along_faults : List Decl → ℕ → Option AnnotationCursor → Ident → List Ident → List Finding
 along_faults decls first st y [] = ended decls first st y
 along_faults decls first st y (z ∷ zs) = passed decls first st y ++ along_faults decls first (stepped_on decls st y) z zs
@@ -451,14 +452,14 @@ abbrev pub annotation_faults : List Decl → AnnotationCursor → Protection →
 annotation_faults decls own p (Some m) = along_faults decls p.first.span.start (Some own) p.first p.rest
 annotation_faults decls own p None = named_lock_faults decls p.first p.rest
 
--- a field's of this name, of the struct at this place
+-- the faults of the annotation of a field with this name, of the struct at this place
 abbrev pub protection_faults : List Decl → ℕ → List Member → ℕ → Option Protection → List Finding
 protection_faults decls i ms name None = one NeitherFinalNorProtected name
 protection_faults decls i ms name (Some p) = annotation_faults decls (cursor_at i ms) p (the_member ms p.first.text)
 
 -- ---- declarations
 
--- a member of the struct at this place
+-- the faults of a member of the struct at this place
 abbrev pub member_faults : List Decl → ℕ → List Member → Member → List Finding
 member_faults decls i all (lock_member x) = []
 member_faults decls i all (final_member f) = type_faults (outside decls) (ref_type f.target)
@@ -472,7 +473,7 @@ abbrev pub opening_faults : List Decl → Want → Option Const → List Finding
 opening_faults decls w None = []
 opening_faults decls w (Some c) = const_faults decls w c
 
--- of the first n members of the pool at a place, some isn't given the member at this place of its struct
+-- some of the first n members of the pool at a place has no `init` for the member at this place of its struct
 abbrev pub some_lacks : List Decl → ℕ → ℕ → ℕ → Bool
 some_lacks decls i m zero = false
 some_lacks decls i m (suc n) = not (is_some (given decls (record { pool = i; index = n; member = m }))) || some_lacks decls i m n
@@ -481,12 +482,12 @@ abbrev pub is_at : ℕ → Option ℕ → Bool
 is_at n (Some i) = i == n
 is_at n None = false
 
--- a final reference, the first of its name, whose struct is known
+-- the member is a final reference, the first of its name, whose struct is known
 abbrev pub is_due : List Decl → List Member → ℕ → Member → Bool
 is_due decls all n (final_member f) = is_at n (place_of member_bears all f.name.text) && is_some (struct_named decls f.target)
 is_due decls all n _ = false
 
--- of the members from a place on, some final reference isn't given
+-- some of the members from a place on is a final reference without an `init`
 abbrev pub lacks : List Decl → ℕ → ℕ → List Member → ℕ → List Member → Bool
 lacks decls i n all k [] = false
 lacks decls i n all k (m ∷ ms) = is_due decls all k m && some_lacks decls i k n || lacks decls i n all (k + 1) ms
@@ -495,14 +496,14 @@ abbrev pub missing_faults : List Decl → ℕ → Pool → Option (List Member) 
 missing_faults decls i p (Some ms) = one_if (lacks decls i p.length.value ms 0 ms) FinalWithoutOpeningValue p.name.span.start
 missing_faults decls i p None = []
 
--- what no `init` can give a value
+-- the fault of a member that no `init` can give a value
 abbrev pub field_faults : ℕ → Option (ℕ × Member) → List Finding
 field_faults start None = one UnknownName start
 field_faults start (Some (m, lock_member x)) = one LockAsValue start
 field_faults start (Some (m, final_member f)) = []
 field_faults start (Some (m, field_member f)) = []
 
--- the field that an `init` names
+-- the faults of the field that an `init` names
 abbrev pub named_faults : List Decl → ℕ → Option (List Member) → List ℕ → List Finding
 named_faults decls start None q = []
 named_faults decls start (Some ms) q = field_faults start (the_member ms q)
@@ -510,7 +511,7 @@ named_faults decls start (Some ms) q = field_faults start (the_member ms q)
 abbrev pub init_field_faults : List Decl → Init → List Finding
 init_field_faults decls j = named_faults decls j.field.span.start (pool_members decls (the_decl decls j.pool.text)) j.field.text
 
--- null for a final reference
+-- the fault of null for a final reference
 abbrev pub null_faults : List Decl → Option (ℕ × Member) → Const → List Finding
 null_faults decls (Some (m, final_member f)) (null_const at) = one_if (is_some (struct_named decls f.target)) FinalWithoutOpeningValue at.start
 null_faults decls _ c = []
@@ -522,7 +523,7 @@ init_faults decls j =
     ++ const_faults decls (member_want decls (initialised decls j)) j.value
     ++ null_faults decls (initialised decls j) j.value
 
--- a call, by what its name means
+-- the faults of a call, by what its name refers to
 abbrev pub call_faults : List Decl → ℕ → Option (ℕ × Decl) → List Const → List Finding
 call_faults decls start None cs = one UnknownName start
 call_faults decls start (Some (i, atomic s)) cs =
@@ -546,14 +547,14 @@ global_faults decls v =
 abbrev pub array_faults : List Decl → Array → List Finding
 array_faults decls a = type_faults (outside decls) a.value_type ++ lock_faults decls a.name.span.start a.protection
 
--- a section or a helper, from the scope ahead of its parameters
+-- the faults of a section or a helper, from the scope before its parameters
 abbrev pub faults_in : Scope → Section → List Finding
 faults_in sc s = result_faults sc.decls s.result ++ param_faults sc 0 s.params ++ stmts_faults (entered sc s.params) s.body.stmts
 
 abbrev pub section_faults : List Decl → BodyLimits → Section → List Finding
 section_faults decls limits s = faults_in (ahead_of decls limits s) s
 
--- of the declaration at this place by itself
+-- the faults of the declaration at this place by itself
 abbrev pub decl_faults : List Decl → ℕ → Decl → List Finding
 decl_faults decls i (lock x) = []
 decl_faults decls i (struct s) = members_faults decls i s.members s.members
@@ -565,14 +566,14 @@ decl_faults decls i (atomic s) = section_faults decls section_limits s
 decl_faults decls i (helper s) = section_faults decls helper_limits s
 decl_faults decls i (thread t) = items_faults decls t.items
 
--- of declarations from a place on
+-- the faults of the declarations from a place on
 abbrev pub each_faults : List Decl → ℕ → List Decl → List Finding
 each_faults decls i [] = []
 each_faults decls i (d ∷ ds) = decl_faults decls i d ++ each_faults decls (i + 1) ds
 
--- ---- names and counts, with what stands before
+-- ---- names and counts, given the declarations before
 
--- a name that is borne before
+-- the fault of a name that was declared before
 abbrev pub again : ℕ → Option ℕ → List Finding
 again start None = []
 again start (Some i) = one DeclaredTwice start
@@ -594,7 +595,7 @@ struct_faults [] = []
 struct_faults (struct s ∷ ds) = member_twice_faults [] s.members ++ struct_faults ds
 struct_faults (d ∷ ds) = struct_faults ds
 
--- so many before, and so many more by which there are first too many
+-- a further count is the first to exceed the limit, after the count before
 abbrev pub first_too_many : ℕ → ℕ → ℕ → Bool
 first_too_many limit before own = nat_le before limit && nat_lt limit (before + own)
 
@@ -602,7 +603,7 @@ abbrev pub lock_count : Bool → ℕ
 lock_count true = 1
 lock_count false = 0
 
--- members behind n others, where so many lock classes stand ahead
+-- the faults of members past a limit, after n others and this number of lock classes
 abbrev pub member_counts : ℕ → ℕ → List Member → List Finding
 member_counts classes n [] = []
 member_counts classes n (m ∷ ms) =
@@ -610,7 +611,7 @@ member_counts classes n (m ∷ ms) =
     ++ one_if (is_lock m && nat_le CLASS_LIMIT classes) LimitExceeded (member_name m).span.start
     ++ member_counts (classes + lock_count (is_lock m)) (n + 1) ms
 
--- a declaration, behind others
+-- the faults of a declaration past a limit, after others
 abbrev pub count_faults : List Decl → List Decl → Decl → List Finding
 count_faults decls before (lock x) = one_if (nat_le CLASS_LIMIT (total classes_of before)) LimitExceeded x.span.start
 count_faults decls before (struct s) = one_if (nat_le STRUCT_LIMIT (count (alike (struct s)) before)) LimitExceeded s.name.span.start ++ member_counts (total classes_of before) 0 s.members
@@ -630,7 +631,7 @@ abbrev pub total_faults : List Decl → List Decl → List Decl → List Finding
 total_faults decls before [] = []
 total_faults decls before (d ∷ ds) = count_faults decls before d ++ total_faults decls (before ++ d ∷ []) ds
 
--- what an `init` gives, with the one before that gives it
+-- the fault of an `init` whose target has a value from an earlier one
 abbrev pub given_before : {A : Type 0} → ℕ → Option A → List Finding
 given_before start None = []
 given_before start (Some d) = one InitOutOfRangeOrRepeated start
@@ -649,10 +650,10 @@ repeated_faults decls before (d ∷ ds) = repeated decls before d ++ repeated_fa
 
 -- ---- the whole
 
--- of declarations, one by one and behind others
+-- the faults of declarations, each by itself and after others
 abbrev pub declaration_faults : List Decl → List Finding
 declaration_faults decls = twice_faults [] decls ++ struct_faults decls ++ total_faults decls [] decls ++ repeated_faults decls [] decls ++ each_faults decls 0 decls
 
--- and of what their bodies call
+-- the faults of a program: those of its declarations and of their calls
 abbrev pub program_faults : List Decl → List Finding
 program_faults decls = declaration_faults decls ++ map plain (graph_faults (tree_graph decls))

@@ -1,4 +1,4 @@
--- What holds of resolution and of faults, as `src/laws.rt` claims it.
+-- Laws of resolution and of faults, as `src/laws.rt` claims them.
 use Rattle.std.specs.Prelude.{◌≡◌, ℕ, List, ◌++◌, Option, Some, None, false, option_map, option_to_list}
 use Rattle.source.specs.declared.fault.Code.{Code}
 use Rattle.syntax.specs.Trees.{Decl, Section, helper}
@@ -11,7 +11,7 @@ use Rattle.resolution.specs.declared.finding.Finding.{Finding}
 use Rattle.resolution.specs.Working.Findings.{mistake_of, plain, least_of, Firsts, first, nothing_found, found_in}
 use Rattle.resolution.specs.FirstFaults.{AreFirstFaults}
 use Rattle.source.specs.Mistakes as bare
-use Rattle.core_lang_calls.specs.Working.FaultLists.{graph_faults}
+use Rattle.core_lang_helpers.specs.Working.FaultLists.{graph_faults}
 use Rattle.resolution.specs.Core as core
 use Rattle.resolution.specs.Working.Building.{resolved}
 use Rattle.resolution.specs.Tables.{AreTables}
@@ -19,7 +19,7 @@ use Rattle.resolution.specs.Resolved.{Resolves}
 use Rattle.resolution.specs.Where.{Has, Asks}
 use Rattle.resolution.specs.Faults.{IsFault, IsFaultFor, HasNoFault}
 use Rattle.resolution.specs.Working.FaultLists.{declaration_faults, program_faults}
-use Rattle.core_lang_calls.specs.Working.Programs.{IsGraphOf}
+use Rattle.core_lang_helpers.specs.Working.Programs.{IsGraphOf}
 use Rattle.resolution.specs.CallGraphs.{tree_graph}
 use Rattle.syntax.specs.Trees.{Ident, Const, Param, Expr, Place, assign, Stmt, Stmts}
 use Rattle.core_lang.specs.declared.value.Value.{Value}
@@ -46,55 +46,55 @@ use Rattle.resolution.specs.Working.TypedConstants.{const_sort, typed_const, typ
 abbrev pub the_least : List Decl → Option Finding
 the_least decls = least_of None (program_faults decls)
 
--- the first faults of the program's list, where of those of calls the least alone is there
+-- the first faults of the program's list, which has only the least fault of calls
 abbrev pub the_firsts : List Decl → Firsts
 the_firsts decls =
     found_in nothing_found (declaration_faults decls ++ option_to_list (option_map plain (bare.least_of None (graph_faults (tree_graph decls)))))
 
--- they are first faults of the program
+-- the first faults of the list are first faults of the program
 abbrev pub TheFirstsAreFirstFaults : Type 0
 TheFirstsAreFirstFaults = (decls : List Decl) → AreFirstFaults decls (the_firsts decls)
 
--- and the first of them is the least
+-- the first of these faults is the least
 abbrev pub TheFirstIsTheLeast : Type 0
 TheFirstIsTheLeast = (decls : List Decl) → first (the_firsts decls) ≡ the_least decls
 
--- it is a fault of the program
+-- the least fault of the list is a fault of the program
 abbrev pub TheLeastIsAFault : Type 0
 TheLeastIsAFault = (decls : List Decl) (f : Finding) → the_least decls ≡ Some f → IsFault decls f.code f.start
 
--- and its reason is true
+-- the reason of the least fault is true
 abbrev pub TheLeastHasItsReason : Type 0
 TheLeastHasItsReason = (decls : List Decl) (f : Finding) → the_least decls ≡ Some f → IsFaultFor decls f.code f.start f.why
 
--- no fault of the program goes before this one
+-- no fault of the program comes before this one
 abbrev pub IsFirst : List Decl → Mistake → Type 0
 IsFirst decls f = (code : Code) (p : ℕ) → IsFault decls code p →
     goes_before (record { code = code; start = p }) f ≡ false
 
--- none goes before the least
+-- no fault of the program comes before the least of the list
 abbrev pub NoneGoesBeforeTheLeast : Type 0
 NoneGoesBeforeTheLeast = (decls : List Decl) (f : Finding) → the_least decls ≡ Some f → IsFirst decls (mistake_of f)
 
--- two faults of a program before which none goes are the same
+-- two faults of a program before which no other comes are the same
 abbrev pub HaveAtMostOneLeast : Type 0
 HaveAtMostOneLeast = (decls : List Decl) (f g : Mistake) → IsFault decls f.code f.start →
     IsFault decls g.code g.start → IsFirst decls f → IsFirst decls g → f ≡ g
 
--- where there is none, the program has no fault
+-- if the list has no least fault, the program has no fault
 abbrev pub NoLeastIsNoFault : Type 0
 NoLeastIsNoFault = (decls : List Decl) → the_least decls ≡ None → HasNoFault decls
 
--- a program with no fault is resolved
+-- a tree without faults, whose returns are right, stands for a program
 abbrev pub FaultlessAreResolved : Type 0
 FaultlessAreResolved = (decls : List Decl) → ReturnsRight decls → the_least decls ≡ None →
     (p : core.Program) × AreTables decls p
 
--- what a tree stands for is built as the rules say
+-- the program that the code builds from a tree is one that the rules build
 abbrev pub ResolvedByRules : Type 0
 ResolvedByRules = (decls : List Decl) (p : core.Program) → resolved decls ≡ Some p → AreTables decls p
 
--- and what they say is built
+-- each program that the rules build from a tree is the one that the code builds
 abbrev pub RulesAreResolved : Type 0
 RulesAreResolved = (decls : List Decl) (p : core.Program) → AreTables decls p → resolved decls ≡ Some p
 
@@ -102,45 +102,45 @@ RulesAreResolved = (decls : List Decl) (p : core.Program) → AreTables decls p 
 abbrev pub StandsForOne : Type 0
 StandsForOne = (decls : List Decl) (p q : core.Program) → AreTables decls p → AreTables decls q → p ≡ q
 
--- the graph of a tree with no fault is that of what it is resolved to
+-- the call graph of a tree without faults is that of its resolution
 abbrev pub GraphOfResolved : Type 0
 GraphOfResolved = (decls : List Decl) (program : Typed) → the_least decls ≡ None → Resolves decls program →
     IsGraphOf program (tree_graph decls)
 
--- and what it is resolved to is as an accepted program should be
+-- the resolution of a tree without faults is a checked program
 abbrev pub ResolvedAreChecked : Type 0
 ResolvedAreChecked =
     (decls : List Decl) (program : Typed) → the_least decls ≡ None → Resolves decls program → IsChecked program
 
--- no helper is declared
+-- the tree declares no helper
 abbrev pub DeclaresNoHelper : List Decl → Type 0
 DeclaresNoHelper decls = (s : Section) → Has decls (helper s) → ⊥
 
--- without helpers, what a program is resolved to is well formed
+-- the resolution of a tree without faults and without helpers is well formed
 abbrev pub WithoutHelpersAreWellFormed : Type 0
 WithoutHelpersAreWellFormed =
     (decls : List Decl) (program : Typed) → the_least decls ≡ None → Resolves decls program → DeclaresNoHelper decls →
     IsWellFormed program
 
--- ---- what the code computes is what the rules say, and the other way round
+-- ---- the code computes exactly the results of the rules
 
 abbrev pub ExpressionsByRules : Type 0
 ExpressionsByRules =
     (sc : Scope) (e : Expr) (r : ResolvedExpr) →
     (typed sc e ≡ Some r → Types sc e r) × (Types sc e r → typed sc e ≡ Some r)
 
--- what the code finds to assign to is a left side by the rules
+-- each target that the code finds is a left side by the rules
 abbrev pub FoundAreAssigned : Type 0
 FoundAreAssigned =
     (sc : Scope) (p : Place) (a : Assignee) → target_of sc p ≡ Some a → Assigns sc p a.value_type (set_to a.target)
 
--- and a left side by the rules is found
+-- each left side by the rules is found by the code
 abbrev pub AssignedAreFound : Type 0
 AssignedAreFound =
     (sc : Scope) (p : Place) (t : ValueType) (set : core.Expr → core.Action) → Assigns sc p t set →
     (a : Assignee) × (target_of sc p ≡ Some a) × (a.value_type ≡ t) × (set_to a.target ≡ set)
 
--- what the code takes to be wanted of the value that is assigned is what the rules ask of it
+-- the code and the rules expect the same of an assigned value
 abbrev pub WantedAreAsked : Type 0
 WantedAreAsked =
     (sc : Scope) (p : Place) →
@@ -150,7 +150,7 @@ WantedAreAsked =
     (((t : ValueType) (set : core.Expr → core.Action) → Assigns sc p t set → ⊥) →
     wanted_by (target_of sc p) ≡ wanted.Anything)
 
--- the final reference of a type that a name behind `where` means
+-- the code finds the final reference after `where` exactly as the rules say
 abbrev pub FinalsByRules : Type 0
 FinalsByRules =
     (decls : List Decl) (t : ValueType) (x : Ident) (f : OwnerField) →
@@ -175,7 +175,7 @@ SectionsByRules =
     (typed_section decls limits s ≡ Some x → TypesSection decls limits s x) ×
     (TypesSection decls limits s x → typed_section decls limits s ≡ Some x)
 
--- ---- the same of constants
+-- ---- constants
 
 abbrev pub SortsByRules : Type 0
 SortsByRules =

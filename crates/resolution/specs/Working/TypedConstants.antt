@@ -1,5 +1,5 @@
--- What the code computes of constants: their sorts and values, where they have one. What must be believed of them says
--- Constants; `constants_by_rules` of src/laws.rt ties the two together.
+-- What the code computes for constants: their sorts and values, if they have one. `Constants` has the rules to believe;
+-- `constants_by_rules` of src/laws.rt ties the two together.
 use Rattle.std.specs.Prelude.{ℕ, ℤ, neg_ℤ, nat_lt, List, [], ◌∷◌, Option, Some, None, if◌then◌else◌}
 use Rattle.syntax.specs.Trees.{Const, int_const, negative, null_const, member_const, Decl, pool, Param}
 use Rattle.core_lang.specs.declared.value.Value.{Value}
@@ -25,19 +25,19 @@ abbrev pub reference_sort : Option ℕ → Option Sort
 reference_sort (Some s) = Some (sort.Of (Reference s))
 reference_sort None = None
 
--- a member of what the name means: of a pool whose struct has no fault
+-- the sort of a member, if the name refers to a pool whose struct has no fault
 abbrev pub member_sort : List Decl → Option (ℕ × Decl) → Option Sort
 member_sort decls (Some (i, pool p)) = reference_sort (struct_named decls p.target)
 member_sort decls _ = None
 
--- what a constant is, if it has a type
+-- the sort of a constant, if it has a type
 abbrev pub const_sort : List Decl → Const → Option Sort
 const_sort decls (int_const n) = number_sort (number_value n)
 const_sort decls (negative sign n) = number_sort (number_value n)
 const_sort decls (null_const at) = Some sort.Null
 const_sort decls (member_const p n) = member_sort decls (the_decl decls p.text)
 
--- the member of this index of what the name means, if there is one
+-- the reference to the member with this index, if the name refers to a pool that has it
 abbrev pub member_of : List Decl → Option (ℕ × Decl) → ℕ → Option Value
 member_of decls (Some (i, pool p)) n = if nat_lt n p.length.value then Some (Ref (Some (object_of decls i n))) else None
 member_of decls _ n = None
@@ -48,31 +48,31 @@ const_value decls (negative sign n) = number_value n >>= λ z. Some (Int (neg_�
 const_value decls (null_const at) = Some (Ref None)
 const_value decls (member_const p n) = member_of decls (the_decl decls p.text) n.value
 
--- the value, if it is what is wanted
+-- the value, if its sort is as expected
 abbrev pub if_fitting : Want → Option Sort → Option Value → Option Value
 if_fitting w (Some s) v = if fits_sort w s then v else None
 if_fitting w None v = None
 
--- the value of a constant, if it is what is wanted
+-- the value of a constant, if it is as expected
 abbrev pub typed_const : List Decl → Want → Const → Option Value
 typed_const decls w c = if_fitting w (const_sort decls c) (const_value decls c)
 
--- each of them, if there are all
+-- the list with one item before it, if none is missing
 abbrev pub added : {A : Type 0} → Option A → Option (List A) → Option (List A)
 added (Some x) (Some xs) = Some (x ∷ xs)
 added (Some x) None = None
 added None xs = None
 
--- arguments, one for each parameter
+-- the values of arguments, one for each parameter
 abbrev pub typed_arguments : List Decl → List Param → List Const → Option (List Value)
 typed_arguments decls [] [] = Some []
 typed_arguments decls [] (c ∷ cs) = None
 typed_arguments decls (p ∷ ps) [] = None
 typed_arguments decls (p ∷ ps) (c ∷ cs) = added (typed_const decls (want_of decls p) c) (typed_arguments decls ps cs)
 
--- ---- opening values
+-- ---- initial values
 
--- the value that a thing of the type opens with
+-- the initial value of something of this type
 abbrev pub opened : List Decl → ValueType → Option Const → Option Value
 opened decls t None = Some (default_of t)
 opened decls t (Some c) = typed_const decls (wanted.Value t) c

@@ -1,4 +1,4 @@
--- What the code computes: an expression with each name replaced by the number of what it means, where it has a type.
+-- What the code computes: the resolved form of an expression, if it has a type.
 use Rattle.std.specs.Prelude.{ℕ, ℤ, pos, nat_le, true, List, [], Option, Some, None, if◌then◌else◌}
 use Rattle.source.specs.Texts.{NUMBER_LIMIT}
 use Rattle.source.specs.declared.token.Number.{Number}
@@ -23,7 +23,7 @@ use Rattle.resolution.specs.Scopes.{struct_named}
 use Rattle.resolution.specs.Expressions.{ResolvedExpr, value, truth, fits, alike_sorts, cell_of}
 use Rattle.resolution.specs.Expressions.{local_path, Walk, reached, at_lock, lost, walk_from, operator_of}
 
--- ---- what is given, and what is wanted
+-- ---- what is found, and what is expected
 
 abbrev pub fitting : Want → Option ResolvedExpr → Option ResolvedExpr
 fitting w (Some s) = if fits w s then Some s else None
@@ -94,7 +94,7 @@ path_value start nothing w = None
 
 -- ---- operators
 
--- what stands in parentheses; a local or a path that does is marked, since it is then no stable path
+-- an expression in parentheses; a local or a path is marked, since it is then not a stable path
 abbrev pub parenthesised : Option ResolvedExpr → Option ResolvedExpr
 parenthesised (Some (value (core.place p) s)) = Some (value (core.place (record p { in_parentheses = true })) s)
 parenthesised s = s
@@ -140,13 +140,13 @@ abbrev pub one_holds : Option Tests → Option ResolvedExpr
 one_holds (Some ts) = Some (truth (core.any_of ts.before ts.last))
 one_holds None = None
 
--- a comparison of what has an order
+-- a comparison of two numbers by their order
 abbrev pub ordered : Comparison → Option core.Expr → Option core.Expr → Option ResolvedExpr
 ordered c (Some a) (Some b) = Some (truth (core.compare c a b))
 ordered c (Some a) None = None
 ordered c None b = None
 
--- a comparison of two that are alike
+-- a comparison of two values that `==` takes
 abbrev pub equated : Comparison → Option ResolvedExpr → Option ResolvedExpr → Option ResolvedExpr
 equated c (Some (value a s)) (Some (value b t)) = if alike_sorts s t then Some (truth (core.compare c a b)) else None
 equated c (Some (value a s)) (Some (truth d)) = None

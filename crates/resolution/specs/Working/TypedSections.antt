@@ -1,4 +1,4 @@
--- What the code computes: a section or a helper with each name replaced by the number of what it means.
+-- What the code computes: the resolved form of a section or a helper.
 use Rattle.std.specs.Prelude.{List, [], ◌∷◌, length, Option, Some, None}
 use Rattle.syntax.specs.Trees.{ValueType, Section, Decl}
 use Rattle.resolution.specs.Core as core
@@ -16,7 +16,7 @@ abbrev pub core_locals : List Local → Option (List core.Local)
 core_locals [] = Some []
 core_locals (l ∷ ls) = added (core_local l) (core_locals ls)
 
--- a section or a helper that has a result has a `return` at its end, and no other one has one
+-- a section or a helper from its parts, if it has a `return` exactly if it has a result type
 abbrev pub section_with : List Decl → Section → List core.Local → core.Stmts → Option ValueType → Option core.Return →
     Option core.Section
 section_with decls s locals body None None =
@@ -48,7 +48,7 @@ section_of decls s (Some locals) (Some b) = section_with decls s locals b.stmts 
 section_of decls s (Some locals) None = None
 section_of decls s None b = None
 
--- what a section or a helper is, from the scope ahead of its parameters
+-- the resolved form of a section or a helper, from the scope before its parameters
 abbrev pub section_in : Scope → Section → Option core.Section
 section_in sc s =
     section_of sc.decls s (core_locals (after_all (entered sc s.params) s.body.stmts).locals)

@@ -1,5 +1,4 @@
--- What the code computes: a statement with each name replaced by the number of what it means, where everything in it
--- has a type.
+-- What the code computes: the resolved form of a statement, if everything in it has a type.
 use Rattle.std.specs.Prelude.{ℕ, Bool, false, List, [], ◌∷◌, length, Option, Some, None, if◌then◌else◌}
 use Rattle.syntax.specs.Trees.{Place, lone, element, path, Expr, Local, Owner, HelperCall, CalledLocal, Stmt, let_local}
 use Rattle.syntax.specs.Trees.{let_owned, let_call, var_local, assign, if_then, while, print, return_value, call, Stmts}
@@ -23,14 +22,14 @@ use Rattle.resolution.specs.Statements.{is_var, first_name, after, after_all}
 
 -- ---- the left side of an assignment
 
--- what is assigned to
+-- the target of an assignment
 pub data Target : Type 0 where
   to_local : (local : ℕ) → Target
   to_global : (cell : ℕ) → Target
   to_element : (number : ℕ) → (index : core.Expr) → Target
   to_field : (base : core.Path) → (structure field : ℕ) → Target
 
--- what is assigned to, and its type
+-- the target of an assignment, and its type
 pub record Assignee : Type 0 where
   pub target : Target
   pub value_type : core_type.ValueType
@@ -40,14 +39,14 @@ assignee (Some t) (Some v) = Some (record { target = t; value_type = v })
 assignee (Some t) None = None
 assignee None v = None
 
--- a name
+-- the target that a name is
 abbrev pub assignee_at : List Decl → Meaning → Option Assignee
 assignee_at decls (a_local i l) = if is_var l.kind then assignee (Some (to_local i)) l.value_type else None
 assignee_at decls (a_decl i (global v)) =
     assignee (Some (to_global (cell_of decls i))) (type_of (outside decls) v.value_type)
 assignee_at decls _ = None
 
--- a name with an index
+-- the target that a name with an index is
 abbrev pub assignee_at_element : List Decl → Meaning → Option core.Expr → Option Assignee
 assignee_at_element decls (a_decl i (array a)) (Some index) =
     assignee (Some (to_element (number_at decls i (array a)) index)) (type_of (outside decls) a.value_type)
@@ -63,7 +62,7 @@ assignee_at_element decls (a_local i l) (Some index) = None
 assignee_at_element decls nothing (Some index) = None
 assignee_at_element decls m None = None
 
--- the steps ahead of the last, and what that goes over, if it is a field that isn't final: of which struct, and which
+-- the steps before the last one, and the last one, if it is a field that is not final: its struct and its number
 pub record Split : Type 0 where
   pub base : List FieldStep
   pub structure : ℕ
@@ -82,7 +81,7 @@ abbrev pub field_target : ℕ → ℕ → Option Split → Option Target
 field_target start i (Some p) = Some (to_field (local_path start i p.base) p.structure p.field)
 field_target start i None = None
 
--- a local and fields
+-- the target that a local with fields is
 abbrev pub assignee_along : ℕ → Meaning → Walk → Option Assignee
 assignee_along start (a_local i l) (reached steps t) = assignee (field_target start i (last_field steps)) (Some t)
 assignee_along start (a_local i l) at_lock = None
@@ -96,7 +95,7 @@ target_of sc (lone x) = assignee_at sc.decls (meaning sc x.text)
 target_of sc (element x e) = assignee_at_element sc.decls (meaning sc x.text) (number_resolved (typed sc e))
 target_of sc (path x fs) = assignee_along x.span.start (meaning sc x.text) (walk_from sc.decls (meaning sc x.text) fs)
 
--- what is wanted to be assigned
+-- what is expected of the assigned value
 abbrev pub wanted_by : Option Assignee → Want
 wanted_by (Some a) = Value a.value_type
 wanted_by None = Anything
@@ -110,7 +109,7 @@ typed_values sc [] (e ∷ es) = None
 typed_values sc (p ∷ ps) [] = None
 typed_values sc (p ∷ ps) (e ∷ es) = added (as_value (fitting (want_of sc.decls p) (typed sc e))) (typed_values sc ps es)
 
--- a call of the helper that is meant, if one is; the local takes what it gives back
+-- a call of the helper that the name refers to, if it refers to one; the local takes the result
 abbrev pub called : Scope → Option (ℕ × Section) → List Expr → Option ℕ → Option core.Action
 called sc (Some (i, s)) es local =
     typed_values sc s.params es >>= λ vs. Some (core.call (number_at sc.decls i (helper s)) vs local)
@@ -119,7 +118,7 @@ called sc None es local = None
 abbrev pub call_resolved : Scope → HelperCall → Option ℕ → Option core.Action
 call_resolved sc c local = called sc (helper_meant (meaning sc c.helper.text)) c.arguments local
 
--- the type of what a call gives back, if it gives anything back, and that type has no fault
+-- the type of a call's result, if it has a result whose type has no fault
 abbrev pub type_given : List Decl → Option (ℕ × Section) → Option core_type.ValueType
 type_given decls (Some (i, s)) = result_of decls s
 type_given decls None = None
@@ -131,7 +130,7 @@ can_take None u = false
 
 -- ---- statements
 
--- what a statement is: something to do, or what the section gives back
+-- the resolved form of a statement: an action, or a `return`
 pub data Part : Type 0 where
   does : core.Stmt → Part
   gives : core.Return → Part
@@ -189,7 +188,7 @@ pub record Body : Type 0 where
   pub stmts : core.Stmts
   pub result : Option core.Return
 
--- nothing stands behind a `return`
+-- a body that is only a `return`, if no statement follows
 abbrev pub given_back : core.Return → core.Stmts → Option core.Return → Option Body
 given_back r core.no_stmts None = Some (record { stmts = core.no_stmts; result = Some r })
 given_back r core.no_stmts (Some q) = None
@@ -201,7 +200,7 @@ preceded (Some (gives r)) (Some b) = given_back r b.stmts b.result
 preceded (Some p) None = None
 preceded None b = None
 
--- the statements of a block, in which no `return` stands
+-- the statements of a block without a `return`
 abbrev pub block_without : core.Stmts → Option core.Return → Option core.Stmts
 block_without stmts None = Some stmts
 block_without stmts (Some r) = None
@@ -218,12 +217,12 @@ first_value sc l = as_value (fitting (want (type_of sc l.value_type)) (typed sc 
 abbrev pub local_bound : Scope → Local → Option Part
 local_bound sc l = binds l.start.start (length sc.locals) (type_of sc l.value_type) (first_value sc l)
 
--- the same, where the value is tested
+-- a local with its first value, which is tested
 abbrev pub owned_bound : Scope → Local → Owner → Option Part
 owned_bound sc l o = binds l.start.start (length sc.locals) (type_of sc l.value_type)
     (owned_by sc (type_of sc l.value_type) o (first_value sc l))
 
--- a local with what a helper gives back
+-- a local with the result of a helper
 abbrev pub called_bound : Scope → CalledLocal → Option Part
 called_bound sc l =
     if can_take (type_of sc l.value_type) (type_given sc.decls (helper_meant (meaning sc l.call.helper.text)))
@@ -247,7 +246,7 @@ abbrev mutual
   typed_stmt sc (return_value start e) = returns start.start (as_value (fitting (want sc.result) (typed sc e)))
   typed_stmt sc (call start c) = acts_if start.start (call_resolved sc c None)
 
-  -- an `if` by its condition and its block, and the scope behind that
+  -- an `if` by its condition and its block, and the scope after that
   pub typed_if : Scope → ℕ → Option core.Condition → Option core.Stmts → Otherwise → Option Part
   typed_if sc start c body no_else = chooses start c body
   typed_if sc start c body (else_do other close) = chooses_between start c body (block_of (typed_body sc other))

@@ -21,7 +21,7 @@ pub part_is : {A : Type 0} (text : A → List ℕ) (xs : List A) (groups : List 
 part_is text xs groups group k is =
     ap (λ o. option_map_or (λ (parts : List (List ℕ)). slice_index_or parts k []) o []) is ∙ text_at text xs k
 
--- the texts of one more
+-- the texts of one more item
 pub one_more : {A : Type 0} (text : A → List ℕ) (xs : List A) (i : ℕ) (x : A) → i < length xs → x ≡ get_or xs i x
     → flat_map text (take (i + 1) xs) ≡ flat_map text (take i xs) ++ text x
 one_more text xs i x lt is =
@@ -31,7 +31,7 @@ one_more text xs i x lt is =
     ∙ flat_map-append text (take i xs) (x ∷ [])
     ∙ ap (λ (t : List ℕ). flat_map text (take i xs) ++ t) (append-nil (text x))
 
--- behind what was written, in two pieces
+-- the texts of one more item, appended in two pieces
 pub two_more : {A : Type 0} (text : A → List ℕ) (xs : List A) (i : ℕ) (x : A) (start old mid new a b : List ℕ) →
     i < length xs → x ≡ get_or xs i x
     → old ≡ start ++ flat_map text (take i xs) → mid ≡ old ++ a → new ≡ mid ++ b → a ++ b ≡ text x

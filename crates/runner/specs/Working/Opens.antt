@@ -1,6 +1,7 @@
--- Open sections, as their types show them, and what their calls do.
+-- Open sections as data, and the effect of their calls.
 use Rattle.std.specs.Prelude.{◌≡◌, ◌≢◌, ◌<◌, ◌≤◌, ◌+◌, ◌^◌, ℕ, zero, suc, true, List, [], ◌∷◌, length, Some, None}
 use Rattle.std.specs.List.{All, Contains}
+use Rattle.source.specs.Limits.{PRINT_LIMIT}
 use Rattle.core_lang.specs.declared.value.Value.{Value}
 use Rattle.core_lang.specs.declared.value.Outcome.{Outcome}
 use Rattle.core_lang.specs.Serial.{Invocation}
@@ -10,7 +11,7 @@ use Rattle.locks.specs.Order.{Precedes}
 use Rattle.layout.specs.declared.room.Room.{Room}
 use Rattle.layout.specs.LockCells.{cells_of}
 use Rattle.moved_cells.specs.Working.Grants.{GrantOf, IsWhole, numbered, locks_of}
-use Rattle.runner_cells.specs.Working.Held.{cells_granted}
+use Rattle.runner_machine.specs.Working.Held.{cells_granted}
 use Rattle.history.specs.Commits.{Commit, IsTrueCommit}
 use Rattle.lock_manager.specs.declared.places.LockPlace.TheVariants.{Free, Taken}
 use Rattle.lock_manager.specs.Manager.{SessionOf}
@@ -29,8 +30,8 @@ pub record ReadyOf : Type 0 where
   pub thread : ℕ
   pub step : ℕ
 
--- an open section of a thread: its program's plan, which of the thread's calls it is, the room that it was given, and
--- how far it has come
+-- an open section: its program's plan, its thread, the number of the call among the thread's calls, the most that it can
+-- need, and its progress
 pub record OpenOf : Type 0 where
   pub plan : Plan
   pub thread : ℕ
@@ -42,7 +43,7 @@ pub record OpenOf : Type 0 where
 abbrev pub further : OpenOf → Activation → OpenOf
 further o a = record o { activation = a }
 
--- the same section, later: of one plan, thread and call, with its room, begun when it was
+-- the same section at a later time: the plan, thread, call, room and begin are equal
 pub record IsSame (o o' : OpenOf) : Type 0 where
   pub plan : o'.plan ≡ o.plan
   pub thread : o'.thread ≡ o.thread
@@ -51,7 +52,7 @@ pub record IsSame (o o' : OpenOf) : Type 0 where
   pub call : o'.activation.call ≡ o.activation.call
   pub begun : o'.activation.begun ≡ o.activation.begun
 
--- what its ticket says
+-- the section in its ticket
 abbrev pub session_of_open : OpenOf → SessionOf
 session_of_open o = record {
   begun = o.activation.begun;
@@ -63,7 +64,7 @@ session_of_open o = record {
 abbrev pub ticket_of : OpenOf → TicketOf
 ticket_of o = record { thread = o.thread; session = session_of_open o }
 
--- these are the grants that it holds, the oldest first
+-- the list has exactly the grants of the section, the oldest first
 pub record AreItsGrants (o : OpenOf) (grants : List GrantOf) : Type 0 where
   pub locks : locks_of grants ≡ o.activation.held
   pub whole : All (IsWhole o.plan.layout.cell_locks) grants
@@ -71,7 +72,7 @@ pub record AreItsGrants (o : OpenOf) (grants : List GrantOf) : Type 0 where
 
 -- ---- the calls
 
--- a thread whose next call has all the memory that it needs
+-- a thread for whose next call all memory is allocated
 pub record PoisedOf : Type 0 where
   pub plan : Plan
   pub thread : ℕ
@@ -83,11 +84,11 @@ pub record PoisedOf : Type 0 where
 abbrev pub ready_of : PoisedOf → ReadyOf
 ready_of p = record { thread = p.thread; step = p.step }
 
--- a thread is prepared for a call of a plan
+-- the thread is prepared for a call of a section of the plan
 abbrev pub Prepares : ReadyOf → Plan → Invocation → PoisedOf → Type 0
 Prepares ready plan call p = p ≡ record { plan = plan; thread = ready.thread; step = ready.step; room = p.room; call = call }
 
--- a call of a thread with no section open begins
+-- a thread without an open section begins a call
 pub record Began (m : Managed) (ready : ReadyOf) (plan : Plan) (call : Invocation) (o : OpenOf) (m' : Managed) : Type 0
   where
     pub room : IsRoomAt plan call.section o.room
@@ -100,20 +101,20 @@ pub record Began (m : Managed) (ready : ReadyOf) (plan : Plan) (call : Invocatio
     }
     pub begins : Begins m ready.thread o.room (ticket_of o) m'
 
--- after its next instruction
+-- the section after its next instruction
 abbrev pub moved : OpenOf → OpenOf
 moved o = further o (instructed o.plan o.activation (next_effect o.plan o.activation))
 
--- its next step is an instruction
+-- the section has no pending lock and no outcome, so that its next step is an instruction
 abbrev pub IsRunning : OpenOf → Type 0
 IsRunning o = (o.activation.pending ≡ []) × (o.activation.outcome ≡ None)
 
--- after so many instructions
+-- the section after the given number of instructions
 abbrev pub moved_by : ℕ → OpenOf → OpenOf
 moved_by zero o = o
 moved_by (suc n) o = moved (moved_by n o)
 
--- it has done so many instructions, of at most so many; fewer only where its next step is none
+-- the section has run `count` instructions, at most `most`. It has run fewer only if its next step is not an instruction
 pub record Ran (most : ℕ) (o : OpenOf) (count : ℕ) (o' : OpenOf) : Type 0 where
   pub is : o' ≡ moved_by count o
   pub running : (k : ℕ) → k < count → IsRunning (moved_by k o)
@@ -127,7 +128,7 @@ pub record IsKnown (m : Managed) (o : OpenOf) : Type 0 where
   pub known : Knows m (ticket_of o)
   pub heap : IsHeap o.plan.program m.values
 
--- it is granted the first of its pending locks, with the lock's cells
+-- the section is granted the first of its pending locks, with the lock's cells
 pub record Gets (m : Managed) (o : OpenOf) (o' : OpenOf) (m' : Managed) : Type 0 where
   pub lock : Lock
   pub rest : List Lock
@@ -137,7 +138,7 @@ pub record Gets (m : Managed) (o : OpenOf) (o' : OpenOf) (m' : Managed) : Type 0
   pub is : o' ≡ further o (granted o.activation lock rest (numbered (cells_of o.plan.layout.cell_locks lock) values))
   pub manager : m' ≡ after_grant m (ticket_of o) lock
 
--- another thread holds the first of its pending locks, and it has asked for it
+-- another thread holds the first of its pending locks, and the section has asked for it
 pub record Waits (m : Managed) (o : OpenOf) (holder : ℕ) (o' : OpenOf) (m' : Managed) : Type 0 where
   pub lock : Lock
   pub rest : List Lock
@@ -147,28 +148,28 @@ pub record Waits (m : Managed) (o : OpenOf) (holder : ℕ) (o' : OpenOf) (m' : M
   pub is : o' ≡ further o (record o.activation { asked = true })
   pub manager : m' ≡ after_refusal m (ticket_of o) lock
 
--- what goes into the history where it ends
+-- the entry of the section for an outcome
 abbrev pub entry_of : OpenOf → Outcome → Commit
 entry_of o outcome = commit o.thread o.step o.activation outcome
 
--- the entry that it has where it is over, and its few prints
+-- the section has ended, and this is its entry, with at most `PRINT_LIMIT` prints
 pub record IsItsEntry (o : OpenOf) (entry : Commit) : Type 0 where
   pub over : o.activation.outcome ≡ Some entry.outcome
   pub is : entry ≡ entry_of o entry.outcome
-  pub few : length entry.prints ≤ 256
+  pub few : length entry.prints ≤ PRINT_LIMIT
 
--- its grants and its entry may be given back
+-- the manager may release the section with its grants and its entry
 abbrev pub CanGiveBack : Managed → OpenOf → Type 0
 CanGiveBack m o =
     (grants : List GrantOf) (outcome : Outcome) → AreItsGrants o grants → o.activation.outcome ≡ Some outcome →
     CanRelease m (ticket_of o) grants (entry_of o outcome)
 
--- it may be released: and its thread's next call has a number
+-- the section may be released, and the number of its thread's next call is below 2 ^ 64
 pub record CanBeReleased (m : Managed) (o : OpenOf) : Type 0 where
   pub back : CanGiveBack m o
   pub step : o.step + 1 < 2 ^ 64
 
--- it is over: its cells are back, its entry is in the history, and its thread has no section open
+-- the section is released: its cells are back, its entry is in the history, and its thread has no open section
 pub record Released (m : Managed) (o : OpenOf) (ready : ReadyOf) (receipt : ReceiptOf) (m' : Managed) : Type 0 where
   pub grants : List GrantOf
   pub outcome : Outcome
@@ -177,11 +178,11 @@ pub record Released (m : Managed) (o : OpenOf) (ready : ReadyOf) (receipt : Rece
   pub ready_is : ready ≡ record { thread = o.thread; step = o.step + 1 }
   pub releases : Releases m (ticket_of o) grants (entry_of o outcome) receipt m'
 
--- the thread of an open section, with none
+-- the thread of an open section, after the section was given up
 abbrev pub ready_again : OpenOf → ReadyOf
 ready_again o = record { thread = o.thread; step = o.step }
 
--- it is given up, with all its grants
+-- the section is given up, with all its grants
 pub record GivenUp (m : Managed) (o : OpenOf) (m' : Managed) : Type 0 where
   pub grants : List GrantOf
   pub its : AreItsGrants o grants
@@ -189,21 +190,22 @@ pub record GivenUp (m : Managed) (o : OpenOf) (m' : Managed) : Type 0 where
 
 -- ---- what holds of every open section
 
--- it keeps the rules by itself: its program is compiled, it is in order, and it was given the room that its section needs
+-- the invariant of an open section: its program is compiled, the section is in order, and its room is that of its section
 pub record IsOpen (o : OpenOf) : Type 0 where
   pub compiled : IsCompiled o.plan
   pub in_order : IsInOrder o.plan o.activation
   pub room : IsRoomAt o.plan o.activation.call.section o.room
 
--- ---- what its state says of it
+-- ---- the properties of its state
 
--- the lock that it is to be granted next comes after all that it holds
+-- the first pending lock comes after all locks that the section holds
 abbrev pub NextRises : OpenOf → Type 0
 NextRises o =
     (lock other : Lock) (rest : List Lock) → o.activation.pending ≡ lock ∷ rest → Contains o.activation.held other →
     Precedes o.plan.ranks other lock
 
--- its entry is that of a run of its section, whole, from each heap that agrees with what it read
+-- the entry of an ended section is true: from each heap that agrees with its reads, the section, run whole, ends as the
+-- entry says
 abbrev pub HasTrueEntry : OpenOf → Type 0
 HasTrueEntry o =
     (outcome : Outcome) → o.activation.outcome ≡ Some outcome → IsTrueCommit o.plan.program (entry_of o outcome)

@@ -1,4 +1,4 @@
--- How the code keeps an open section. Nobody has to believe this file.
+-- The representation of an open section. Nobody has to believe this file.
 use Rattle.std.specs.Prelude.{◌≡◌, ◌≤◌, ℕ, Bool, false, List, [], length, Option, Some, None, vec_capacity}
 use Rattle.std.specs.List.{sum_by}
 use Rattle.core_lang.specs.declared.value.Value.{Value}
@@ -20,8 +20,8 @@ use Rattle.lock_manager.specs.Manager.{Managed}
 use Rattle.moved_cells.specs.Working.Grants.{GrantOf}
 use Rattle.history.specs.Commits.{Commit}
 use Rattle.history.specs.Working.Histories.{IsWithin}
-use Rattle.runner_cells.specs.Working.Held.{cells_granted}
-use Rattle.runner.specs.declared.body.Body.{Body}
+use Rattle.runner_machine.specs.Working.Held.{cells_granted}
+use Rattle.runner.specs.declared.body.SectionFrame.{SectionFrame}
 use Rattle.runner.specs.Working.Opens.{OpenOf, IsOpen, AreItsGrants, Gets, Waits, ticket_of, further, moved}
 
 -- a call
@@ -46,19 +46,19 @@ open_as plan ticket step call run pending asked = record {
   };
 }
 
--- its call, as a block has it
-abbrev pub its_call : Body → Invocation
+-- the call that a block has
+abbrev pub its_call : SectionFrame → Invocation
 its_call b = call_of b.section b.arguments.items
 
 -- the same of a block
-abbrev pub open_in : Plan → TicketOf → Body → OpenOf
+abbrev pub open_in : Plan → TicketOf → SectionFrame → OpenOf
 open_in plan ticket b = open_as plan ticket b.step (its_call b) b.machine b.pending.items b.asked
 
--- how many cells locks have together
+-- the number of cells of these locks together
 abbrev pub cells_together : Plan → List Lock → ℕ
 cells_together plan locks = sum_by (λ (lock : Lock). length (cells_of plan.layout.cell_locks lock)) locks
 
--- its ticket and its machine are its own, and there is room for all locks
+-- the ticket and the machine are those of the section, and the pending locks have room for all locks
 pub record IsKeptOpen (o : OpenOf) (ticket : TicketOf) (run : RunOf) (pending_room : ℕ) : Type 0 where
   pub is_open : IsOpen o
   pub ticket_is : ticket ≡ ticket_of o
@@ -71,11 +71,11 @@ pub record IsKeptOpen (o : OpenOf) (ticket : TicketOf) (run : RunOf) (pending_ro
   pub cells : length o.activation.machine.memory.cells ≡ cells_together o.plan o.activation.held
   pub few_arguments : length o.activation.call.arguments ≤ 8
 
--- with an outcome
+-- the section with an outcome
 abbrev pub over_by : OpenOf → Outcome → OpenOf
 over_by o outcome = further o (record o.activation { outcome = Some outcome })
 
--- what an instruction does to its machine
+-- the effect of an instruction on the section's machine
 abbrev pub effect_on : OpenOf → Instr → Effect HeldCells
 effect_on o instruction = act load_held store_held o.plan.program.shape (Some instruction) o.activation.machine
 
@@ -86,8 +86,8 @@ HasMoved old (Some outcome) new = (new ≡ old) × (moved old ≡ over_by old ou
 
 -- ---- a section that is about to begin
 
--- its call fits, and there is all memory that it can need
-pub record IsBeginning (plan : Plan) (b : Body) : Type 0 where
+-- the call fits its section, and all memory that it can need is allocated
+pub record IsBeginning (plan : Plan) (b : SectionFrame) : Type 0 where
   pub compiled : IsCompiled plan
   pub fits : CanCall plan.program b.section b.arguments.items
   pub room_is : IsRoomAt plan b.section b.room
@@ -96,7 +96,7 @@ pub record IsBeginning (plan : Plan) (b : Body) : Type 0 where
   pub not_asked : b.asked ≡ false
   pub pending_fits : b.room.locks ≤ vec_capacity b.pending
 
--- it begins where the history is so long
+-- the section that begins when the history has the given length
 abbrev pub begun_as : Plan → ℕ → ℕ → Room → ℕ → Invocation → OpenOf
 begun_as plan thread step room begun call = record {
   plan = plan;
@@ -108,14 +108,14 @@ begun_as plan thread step room begun call = record {
 
 -- ---- a section that asks
 
--- nobody holds the lock, or this other thread does
+-- the lock was free and is granted, or the given other thread holds it
 abbrev pub HasAsked : Managed → OpenOf → Option ℕ → OpenOf → Managed → Type 0
 HasAsked m o None o' m' = Gets m o o' m'
 HasAsked m o (Some holder) o' m' = Waits m o holder o' m'
 
 -- ---- a section that has an outcome
 
--- by its ticket, its call, what is left of its machine, and its grants
+-- an ended section, by its ticket, its call, its machine after the end, and its grants
 abbrev pub ended_as : Plan → TicketOf → ℕ → Invocation → RunOf → List GrantOf → Bool → Outcome → OpenOf
 ended_as plan ticket step call run grants asked outcome = record {
   plan = plan;
@@ -136,11 +136,11 @@ ended_as plan ticket step call run grants asked outcome = record {
 }
 
 -- the same of a block
-abbrev pub ended_in : Plan → TicketOf → Body → OpenOf
+abbrev pub ended_in : Plan → TicketOf → SectionFrame → OpenOf
 ended_in plan ticket b = ended_as plan ticket b.step (its_call b) b.machine b.grants.items b.asked b.outcome
 
--- its entry
-abbrev pub entry_in : TicketOf → Body → Commit
+-- the entry of the section
+abbrev pub entry_in : TicketOf → SectionFrame → Commit
 entry_in ticket b = record {
   thread = ticket.thread;
   step = b.step;
@@ -153,7 +153,7 @@ entry_in ticket b = record {
   prints = b.machine.machine.prints;
 }
 
--- its ticket and its grants are its own, no more are with its machine, and its entry fits its room
+-- the ticket and the grants are those of the section, its machine has no further grants, and its entry fits its room
 pub record IsKeptEnded (o : OpenOf) (ticket : TicketOf) (run : RunOf) (grants : List GrantOf) (entry : Commit) : Type 0 where
   pub is_open : IsOpen o
   pub ticket_is : ticket ≡ ticket_of o

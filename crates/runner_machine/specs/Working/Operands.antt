@@ -3,17 +3,17 @@ use Rattle.std.specs.Prelude.{ℕ, zero, suc, List, [], ◌∷◌, get_or, drop,
 use Rattle.core_lang.specs.declared.value.Value.{Value}
 use Rattle.core_lang.specs.declared.value.Value.TheVariants.{Ref}
 
--- the operands, the top first, and for how many there is room
+-- an operand stack: the operands, the top first, and the number of operands for which there is room
 pub record OperandsOf : Type 0 where
   pub stack : List Value
   pub room : ℕ
 
--- the first n of a list, the last of them first. The code relies on it; nobody has to believe it
+-- the first n items of a list in reverse order. The code relies on it; nobody has to believe it
 abbrev pub downward : List Value → ℕ → List Value
 downward values zero = []
 downward values (suc n) = get_or values n (Ref None) ∷ downward values n
 
--- with an operand on the top; without the top; and with another top
+-- the stack with one more operand on the top
 abbrev pub pushed : OperandsOf → Value → OperandsOf
 pushed o v = record o { stack = v ∷ o.stack }
 

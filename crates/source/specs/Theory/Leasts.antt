@@ -1,5 +1,5 @@
--- The fault that is kept of several is one of them, and none of them goes before it. Nobody has to believe these lemmas: they are
--- checked, and stand here for proofs of the crates above.
+-- The fault that is kept of several is one of them, and none of them comes before it. Nobody has to believe these
+-- lemmas: they are checked, and are here for proofs of the crates above.
 use Rattle.std.proofs.Common.{◌≡◌, ℕ, ◌+◌, ◌*◌, ◌<◌, ◌≤◌, ◌==◌, ◌||◌, ◌&&◌, ◌⊎◌, nat_lt, List, [], ◌∷◌, ◌++◌, Option}
 use Rattle.std.proofs.Common.{Some, None, Bool, true, false, inl, inr, refl, sym, ap, ◌∙◌, subst, if◌then◌else◌, arith}
 use Rattle.std.proofs.lemmas.Bool.Decides.{nat_tests}
@@ -14,7 +14,7 @@ use Rattle.source.specs.declared.fault.Code.TheVariants.{RecursiveHelper}
 use Rattle.source.specs.declared.mistake.Mistake.{Mistake}
 use Rattle.source.specs.Mistakes.{code_number, goes_before, lesser, least_of}
 
--- it is one of them
+-- the fault is one of these
 abbrev pub IsAmong : Mistake → List Mistake → Type 0
 IsAmong f [] = ⊥
 IsAmong f (g ∷ gs) = (f ≡ g) ⊎ IsAmong f gs

@@ -1,5 +1,5 @@
--- The view of a `Vec` in a tree is that of the same `Vec` by itself. Nobody has to believe these equations: they are proved here,
--- for proofs of this crate and of the crates above.
+-- The view of a `Vec` in a tree is that of the same `Vec` by itself. Nobody has to believe these equations: they are
+-- proved here, for proofs of this crate and of the crates above.
 use Rattle.std.specs.Prelude.{Box}
 use Rattle.std.proofs.Common.{◌≡◌, Vec, Global, Option, refl, sym, ap, ◌∙◌}
 use mathlib.Core.Former.{Count}

@@ -1,4 +1,4 @@
--- Trees without the places of their parts, and which tree the text of a printed one has.
+-- Trees without the positions of their parts, and the tree of a printed text.
 use Rattle.std.specs.Prelude.{◌≡◌, ℕ, List, map}
 use Rattle.source.specs.declared.span.Span.{Span}
 use Rattle.source.specs.Tokens.{Tok}
@@ -15,7 +15,7 @@ use Rattle.syntax.specs.Trees.{global, array, pool, init, atomic, helper, thread
 use Rattle.syntax.specs.Views.{option_of}
 use Rattle.syntax.specs.Grammar.{HasTree}
 
--- the place of each part of a tree without places
+-- the position of each part of a tree without positions
 abbrev pub nowhere : Span
 nowhere = record { start = 0; end = 0 }
 
@@ -151,11 +151,11 @@ bare_decl (atomic s) = atomic (bare_section s)
 bare_decl (helper s) = helper (bare_section s)
 bare_decl (thread t) = thread (bare_thread t)
 
--- a tree without the places of its parts
+-- a tree without the positions of its parts
 abbrev pub bare : List Decl → List Decl
 bare ds = map bare_decl ds
 
--- the text has the tree, but for places
+-- the text has the tree, except for positions
 pub record HasTextOf (text : List ℕ) (ds : List Decl) : Type 0 where
   pub tokens : List Tok
   pub tree : List Decl
@@ -163,6 +163,6 @@ pub record HasTextOf (text : List ℕ) (ds : List Decl) : Type 0 where
   pub has_tree : HasTree tokens tree
   pub same : bare tree ≡ bare ds
 
--- where any text has the tree, this one has it, but for places
+-- if any text has the tree, this one has it, except for positions
 abbrev pub HasTextIfAny : List ℕ → List Decl → Type 0
 HasTextIfAny printed ds = (text : List ℕ) (tokens : List Tok) → HasTokens text tokens → HasTree tokens ds → HasTextOf printed ds

@@ -18,16 +18,16 @@ use Rattle.syntax.specs.Grammar.{sign_of, prefix_sign, comparison_sign}
 
 -- ---- lists, and parts that may be left out
 
--- one behind the other
+-- the texts of items, one after another
 abbrev pub many_text : {A : Type 0} → (A → List ℕ) → List A → List ℕ
 many_text text [] = []
 many_text text (x ∷ xs) = text x ++ many_text text xs
 
--- with a comma before it
+-- the text of an item, after a comma
 abbrev pub after_comma : {A : Type 0} → (A → List ℕ) → A → List ℕ
 after_comma text x = codes ", " ++ text x
 
--- with commas between them
+-- the texts of items, with commas between them
 abbrev pub listed_text : {A : Type 0} → (A → List ℕ) → List A → List ℕ
 listed_text text [] = []
 listed_text text (x ∷ xs) = text x ++ many_text (after_comma text) xs
@@ -51,7 +51,7 @@ const_text (negative at n) = codes "-" ++ decimal n.value
 const_text (null_const at) = codes "null"
 const_text (member_const x n) = x.text ++ index_text n
 
--- behind a dot
+-- a name after a dot
 abbrev pub field_text : Ident → List ℕ
 field_text x = codes "." ++ x.text
 
@@ -91,15 +91,15 @@ abbrev pub indent : ℕ → List ℕ
 indent zero = []
 indent (suc n) = codes "    " ++ indent n
 
--- the depth of what stands in braces; lines are not moved in any further than this
+-- the depth of lines in braces, given that of the line with the braces; it has an upper bound
 abbrev pub deeper : ℕ → ℕ
 deeper d = if nat_lt d 64 then d + 1 else d
 
--- lines in braces, behind what stands at this depth before them
+-- lines in braces, after a line at this depth
 abbrev pub braced : ℕ → List ℕ → List ℕ
 braced d lines = codes " {" ++ lines ++ codes "\n" ++ indent d ++ codes "}"
 
--- up to the end of the value
+-- a `let` or `var` after its first word, up to the end of the value
 abbrev pub local_text : Local → List ℕ
 local_text l = l.name.text ++ codes ": " ++ type_text l.value_type ++ codes " = " ++ expr_text l.value
 
@@ -113,7 +113,7 @@ abbrev pub called_text : CalledLocal → List ℕ
 called_text l = l.name.text ++ codes ": " ++ type_text l.value_type ++ codes " = call " ++ helper_call_text l.call
 
 abbrev mutual
-  -- at this depth
+  -- the text of a statement whose lines are at this depth
   pub stmt_text : ℕ → Stmt → List ℕ
   stmt_text d (let_local l) = codes "let " ++ local_text l ++ codes ";"
   stmt_text d (let_owned l o) = codes "let " ++ local_text l ++ owner_text o ++ codes ";"
@@ -126,7 +126,7 @@ abbrev mutual
   stmt_text d (return_value at e) = codes "return " ++ expr_text e ++ codes ";"
   stmt_text d (call at c) = codes "call " ++ helper_call_text c ++ codes ";"
 
-  -- each on a line of its own
+  -- the text of statements, each on a line of its own
   pub stmts_text : ℕ → Stmts → List ℕ
   stmts_text d no_stmts = []
   stmts_text d (stmt s more) = codes "\n" ++ indent d ++ stmt_text d s ++ stmts_text d more
@@ -146,7 +146,7 @@ value_text c = codes " = " ++ const_text c
 abbrev pub result_text : ValueType → List ℕ
 result_text t = codes ": " ++ type_text t
 
--- on a line of its own
+-- a member, on a line of its own
 abbrev pub member_text : Member → List ℕ
 member_text (lock_member x) = codes "\n    lock " ++ x.text ++ codes ";"
 member_text (final_member f) = codes "\n    final ref " ++ f.target.text ++ codes " " ++ f.name.text ++ codes ";"
@@ -159,7 +159,7 @@ abbrev pub call_text : Call → List ℕ
 call_text c = c.section.text ++ codes "(" ++ listed_text const_text c.arguments ++ codes ");"
 
 abbrev mutual
-  -- at this depth
+  -- the text of an item whose lines are at this depth
   pub item_text : ℕ → Item → List ℕ
   item_text d (call c) = call_text c
   item_text d (repeat n is) = codes "repeat " ++ decimal n.value ++ braced d (items_text (deeper d) is)

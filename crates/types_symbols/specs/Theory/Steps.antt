@@ -1,5 +1,5 @@
--- One turn of a loop over a list, of one that keeps the least fault so far, and of one over scopes; and what a look-up finds. Nobody has to believe
--- these equations: they are proved here, for proofs of this crate and of the crates above.
+-- One turn of a loop over a list, of one that keeps the least fault so far, and of one over scopes; and what a look-up
+-- finds. Nobody has to believe these equations: they are proved here, for proofs of this crate and of the crates above.
 use Rattle.std.specs.Prelude.{OnOk}
 use Rattle.std.proofs.Common.{◌≡◌, ℕ, ◌+◌, ◌<◌, List, ◌∷◌, ◌++◌, Option, Some, None, Result, Ok, Err, length, map, drop}
 use Rattle.std.proofs.Common.{get_or, sym, ap, ◌∙◌}
@@ -60,7 +60,7 @@ pub on_ok : {A E : Type 0} {P : Type 0} (r : Result A E) → P → OnOk r P
 on_ok (Ok x) p = p
 on_ok (Err e) p = tt
 
--- what a look-up finds, at the name as it stands in the tree
+-- the result of a look-up, by the name as it is in the tree
 module _ {A B : Type 0} (view : A → B) (meant : List ℕ → Option (ℕ × B)) (q text : List ℕ) (same : q ≡ text) where
   pub found_as : (place : ℕ) (a b : A) → Some (place, view a) ≡ meant q → a ≡ b → meant text ≡ Some (place, view b)
   found_as place a b here is = sym (here ∙ ap meant same) ∙ ap (λ (x : A). Some (place, view x)) is

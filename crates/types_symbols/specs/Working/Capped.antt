@@ -1,4 +1,4 @@
--- Sums in which all past a limit count alike.
+-- Sums that are capped at one more than their limits.
 use Rattle.std.specs.Prelude.{ℕ, ◌≤◌, ◌+◌, nat_le, min, List, [], ◌++◌}
 use Rattle.source.specs.declared.fault.Code.TheVariants.{LimitExceeded}
 use Rattle.syntax.specs.Trees.{Decl, lock, struct, global, array, pool, init, atomic, helper, thread}
@@ -15,7 +15,7 @@ capped limit n = min n (limit + 1)
 abbrev pub no_totals : Totals
 no_totals = record { classes = 0; objects = 0; cells = 0; calls = 0 }
 
--- what a declaration adds
+-- the totals that a declaration adds
 abbrev pub added_by : List Decl → Decl → Totals
 added_by decls d = record {
   classes = capped CLASS_LIMIT (classes_of d);
@@ -24,7 +24,7 @@ added_by decls d = record {
   calls = capped CALL_LIMIT (calls_of d);
 }
 
--- what declarations add together
+-- the totals of declarations
 abbrev pub totals_of : List Decl → List Decl → Totals
 totals_of decls ds = record {
   classes = capped CLASS_LIMIT (total classes_of ds);
@@ -41,11 +41,12 @@ both_totals a b = record {
   calls = capped CALL_LIMIT (a.calls + b.calls);
 }
 
--- none is further past its limit than by one
+-- no total is more than one past its limit
 abbrev pub AreCapped : Totals → Type 0
 AreCapped t = (t.classes ≤ CLASS_LIMIT + 1) × (t.objects ≤ OBJECT_LIMIT + 1) × (t.cells ≤ CELL_LIMIT + 1) × (t.calls ≤ CALL_LIMIT + 1)
 
--- the faults of a declaration, by how many stand ahead that have a limit together with it, what stands ahead, and what it adds
+-- the faults of a declaration past a limit, given the number of declarations before it that share a limit with it, the
+-- totals before it, and what it adds
 abbrev pub faults_by : ℕ → Totals → Totals → Decl → List Finding
 faults_by number ahead own (lock x) = one_if (nat_le CLASS_LIMIT ahead.classes) LimitExceeded x.span.start
 faults_by number ahead own (struct s) = one_if (nat_le STRUCT_LIMIT number) LimitExceeded s.name.span.start ++ member_counts ahead.classes 0 s.members

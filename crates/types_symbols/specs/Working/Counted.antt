@@ -1,4 +1,4 @@
--- How many there are of each kind.
+-- The number of declarations and of members of each kind.
 use Rattle.std.specs.Prelude.{ℕ, ◌+◌, min, List, [], ◌∷◌, Bool, if◌then◌else◌}
 use Rattle.syntax.specs.Trees.{Decl, lock, struct, global, array, pool, init, atomic, helper, thread, Member}
 use Rattle.syntax.specs.Trees.{lock_member, final_member, field_member}
@@ -7,7 +7,7 @@ use Rattle.resolution.specs.Scopes.{count, alike}
 use Rattle.types_symbols.specs.declared.declarations.Counts.{Counts}
 use Rattle.types_symbols.specs.declared.members.MemberCounts.{MemberCounts}
 
--- how many there are of a declaration's kind
+-- the number of declarations of a declaration's kind
 abbrev pub count_of : Counts → Decl → ℕ
 count_of c (lock x) = c.locks
 count_of c (struct s) = c.structs
@@ -19,7 +19,7 @@ count_of c (atomic s) = c.sections
 count_of c (helper s) = c.helpers
 count_of c (thread t) = c.threads
 
--- one more
+-- the counts with one more
 abbrev pub counted : Counts → Decl → Counts
 counted c (lock x) = record c { locks = c.locks + 1 }
 counted c (struct s) = record c { structs = c.structs + 1 }
@@ -34,31 +34,31 @@ counted c (thread t) = record c { threads = c.threads + 1 }
 abbrev pub no_counts : Counts
 no_counts = record { locks = 0; structs = 0; globals = 0; arrays = 0; pools = 0; inits = 0; sections = 0; helpers = 0; threads = 0 }
 
--- these many, and then the declarations
+-- the counts after these declarations
 abbrev pub counts_from : Counts → List Decl → Counts
 counts_from c [] = c
 counts_from c (d ∷ ds) = counts_from (counted c d) ds
 
--- how many there are that have a limit together with this one: those of its kind; of sections and helpers, which have one limit together, those
--- of both, of each no more than the limit
+-- the number of declarations that share a limit with this one: those of its kind, or for a section or a helper those of
+-- both kinds, each counted up to the limit
 abbrev pub limited_of : Counts → Decl → ℕ
 limited_of c (atomic s) = min c.sections SECTION_LIMIT + min c.helpers SECTION_LIMIT
 limited_of c (helper s) = min c.sections SECTION_LIMIT + min c.helpers SECTION_LIMIT
 limited_of c d = count_of c d
 
--- the same of declarations
+-- the number of these declarations that share a limit with this one
 abbrev pub limited : List Decl → Decl → ℕ
 limited ds (atomic s) = min (count (alike (atomic s)) ds) SECTION_LIMIT + min (count (alike (helper s)) ds) SECTION_LIMIT
 limited ds (helper s) = min (count (alike (atomic s)) ds) SECTION_LIMIT + min (count (alike (helper s)) ds) SECTION_LIMIT
 limited ds d = count (alike d) ds
 
--- how many there are of a member's kind
+-- the number of members of a member's kind
 abbrev pub member_count : MemberCounts → Member → ℕ
 member_count c (lock_member x) = c.locks
 member_count c (final_member f) = c.finals
 member_count c (field_member f) = c.fields
 
--- one more
+-- the counts with one more
 abbrev pub member_counted : MemberCounts → Member → MemberCounts
 member_counted c (lock_member x) = record c { locks = c.locks + 1 }
 member_counted c (final_member f) = record c { finals = c.finals + 1 }
@@ -67,12 +67,12 @@ member_counted c (field_member f) = record c { fields = c.fields + 1 }
 abbrev pub no_members : MemberCounts
 no_members = record { locks = 0; finals = 0; fields = 0 }
 
--- these many, and then the members
+-- the counts after these members
 abbrev pub member_counts_from : MemberCounts → List Member → MemberCounts
 member_counts_from c [] = c
 member_counts_from c (m ∷ ms) = member_counts_from (member_counted c m) ms
 
--- the fields that a member adds, the first of its name or not
+-- the number of fields that a member adds, given whether it is the first of its name
 abbrev pub field_if : Bool → Member → ℕ
 field_if first (lock_member x) = 0
 field_if first (final_member f) = 0

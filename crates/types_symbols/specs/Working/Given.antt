@@ -1,4 +1,4 @@
--- The table of what is given.
+-- The table of the targets of `init`s.
 use Rattle.std.specs.Prelude.{◌≡◌, ℕ, List, [], Option, Some, None, Bool, option_map, if◌then◌else◌}
 use Rattle.std.specs.HashMap.{get_by}
 use Rattle.std.specs.Option.{option_or}
@@ -13,19 +13,19 @@ use Rattle.resolution.specs.Working.FaultLists.{given_before}
 use Rattle.types_symbols.specs.Working.Views.{decl_named, struct_in}
 use Rattle.types_symbols.specs.declared.first_inits.FirstInits.{FirstInits}
 
--- the place that the table has for what is given
+-- the place that the table has for the target of an `init`
 abbrev pub init_target_found : FirstInits → InitTarget → Option ℕ
 init_target_found t g = get_by (same_init_target g) t.places
 
--- the table has the place of the first of these declarations that gives it
+-- the table has for each target the place of the first of these declarations that gives it a value
 abbrev pub IsInitTargetTable : List Decl → List Decl → FirstInits → Type 0
 IsInitTargetTable decls ds t = (g : InitTarget) → init_target_found t g ≡ place_of (gives decls) ds g
 
--- the table that has these init targets more, with their place, if it has them not yet
+-- the table got these targets with their place, unless it had them
 abbrev pub IsInitTargetTableWith : (InitTarget → Bool) → ℕ → FirstInits → FirstInits → Type 0
 IsInitTargetTableWith is_given place old new = (g : InitTarget) → init_target_found new g ≡ option_or (init_target_found old g) (if is_given g then Some place else None)
 
--- what is given already
+-- the fault of an `init` whose target has a value
 abbrev pub again_given : FirstInits → ℕ → Option InitTarget → List Finding
 again_given t start (Some g) = given_before start (init_target_found t g)
 again_given t start None = []
@@ -34,7 +34,7 @@ abbrev pub repeated_in : FirstInits → List Decl → Decl → List Finding
 repeated_in t decls (init j) = again_given t j.start.start (init_target_of decls j)
 repeated_in t decls _ = []
 
--- the pool that is found
+-- the pool that a found declaration is, if it is one
 abbrev pub pool_in : Option (ℕ × Decl) → Option (ℕ × Pool)
 pool_in (Some (i, pool p)) = Some (i, p)
 pool_in _ = None
@@ -43,7 +43,7 @@ pool_in _ = None
 abbrev pub pool_named : List rust_decl.Decl → Name → Option (ℕ × Pool)
 pool_named ds x = pool_in (decl_named ds x)
 
--- the struct that the pool names, if there is such a struct
+-- the struct of a pool's members, if it exists
 abbrev pub struct_of_pool : List Decl → Option (ℕ × Pool) → Option Struct
 struct_of_pool decls (Some (i, p)) = option_map (λ s. s.1) (struct_in (the_decl decls p.target.text))
 struct_of_pool decls None = None

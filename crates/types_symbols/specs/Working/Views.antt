@@ -1,4 +1,4 @@
--- What the checker's values stand for.
+-- The data that values of the code stand for.
 use Rattle.std.specs.Prelude.{◌≡◌, ℕ, List, map, Option, Some, None, option_map}
 use Rattle.std.specs.Borrow.{Bor}
 use Rattle.syntax.specs.declared.tree.Decl as the_decl
@@ -15,18 +15,18 @@ decls_of ds = map decl_of ds
 abbrev pub decl_named : List the_decl.Decl → the_name.Name → Option (ℕ × Decl)
 decl_named ds x = first_of_name (decls_of ds) (ident x).text
 
--- a name behind a reference
+-- the name that a reference refers to
 abbrev pub name_seen : Option (Bor the_name.Name) → Option Ident
 name_seen x = option_map (λ n. ident n.now) x
 
 abbrev pub members_seen : the_struct.Struct → List Member
 members_seen s = (struct_of s).members
 
--- these are the structs among declarations
+-- these are the structs among the declarations
 abbrev pub AreStructures : List Decl → List the_struct.Struct → Type 0
 AreStructures decls ss = map struct_of ss ≡ structs_in decls
 
--- the struct that is found
+-- the struct that a found declaration is, if it is one
 abbrev pub struct_in : Option (ℕ × Decl) → Option (ℕ × Struct)
 struct_in (Some (i, struct s)) = Some (i, s)
 struct_in _ = None

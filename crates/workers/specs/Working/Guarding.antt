@@ -1,4 +1,4 @@
--- What lies under the Mutex.
+-- The state under the Mutex.
 use Rattle.std.specs.Prelude.{◌≡◌, List}
 use Rattle.std.specs.List.{All}
 use Rattle.core_lang.specs.declared.typed.Typed.{Typed}
@@ -8,7 +8,7 @@ use Rattle.history.specs.Commits.{Commit, AreTrue}
 use Rattle.lock_manager.specs.Manager.{Managed}
 use Rattle.lowering.specs.Plans.{Plan}
 
--- each entry is of a call that the program can be asked for
+-- each entry is of a call that can be made of the program
 abbrev pub AreCallable : Typed → List Commit → Type 0
 AreCallable program log = All (λ (c : Commit). CanCall program c.section c.arguments) log
 

@@ -1,5 +1,5 @@
--- Steps one after another, what an instruction leaves as it is, and entries that are of scripts. Nobody has to believe this: it is
--- proved here, for proofs of this crate and of those above.
+-- Steps one after another, the parts that an instruction does not change, and entries of calls of scripts. Nobody has
+-- to believe this: it is proved here, for proofs of this crate and of those above.
 use Rattle.std.proofs.Common.{◌≡◌, ℕ, suc, ◌+◌, List, [], ◌∷◌, ◌++◌, Some, slice_get, refl}
 use Rattle.code.specs.Machine.{Effect, Moves, Asks, Finishes, Undefined}
 use Rattle.code.specs.Memory.{HeldCells}

@@ -1,5 +1,5 @@
--- What is ahead of an open section, and that it holds by then the locks that a run of the section holds. Nobody has to
--- believe this file.
+-- The instructions ahead of an open section, and the locks that it holds at each point: those that a run of the section
+-- holds there. Nobody has to believe this file.
 use Rattle.std.specs.Prelude.{◌≡◌, ℕ, ◌+◌, List, [], ◌++◌, length, slice_get, Option, Some, ⊤}
 use Rattle.std.specs.List.{Contains}
 use Rattle.core_lang.specs.declared.value.Value.{Value}
@@ -36,7 +36,7 @@ SeesTyped program seen =
 abbrev pub Any : Outcome → Type 0
 Any outcome = ⊤
 
--- over a section of a plan, and the lists of lock paths before its points
+-- for a section of a plan, and the lists of lock paths before its points
 module _ (plan : Plan) (section : Section) (lists : List (List ℕ)) where
   -- a machine has come to the section's point of this number: its locals and cells have values of their types, each
   -- `let` in scope the value that its initialiser had, and a run of the section comes there with these locks
@@ -48,7 +48,7 @@ module _ (plan : Plan) (section : Section) (lists : List (List ℕ)) where
     pub cells : SeesTyped plan.program (held_value m.memory)
     pub run : Run plan.program section plan.ranks lists p m.locals held
 
-  -- it is where a point begins
+  -- the machine is at the begin of a point
   pub record IsAtPoint (held : List Lock) (m : Machine HeldCells) : Type 0 where
     pub point : Spot
     pub inside : InSection lists section point
@@ -56,8 +56,8 @@ module _ (plan : Plan) (section : Section) (lists : List (List ℕ)) where
     pub stack : m.stack ≡ []
     pub come : HasCome point.number held m
 
-  -- it is behind the acquire of a point. The locks that it is still to be granted rise behind those that it holds; with
-  -- all of them, it is where a run comes that holds each lock that is listed there
+  -- the machine is after the acquire of a point. The locks that it is still to be granted rise after those that it
+  -- holds. With all of them, a run of the section comes to this point, and holds each lock that is listed there
   pub record IsAsking (held pending : List Lock) (m : Machine HeldCells) : Type 0 where
     pub point : Spot
     pub inside : InSection lists section point
@@ -68,13 +68,13 @@ module _ (plan : Plan) (section : Section) (lists : List (List ℕ)) where
     pub all : (lock : Lock) → IsListed plan.program section plan.ranks lists point.number m.locals lock →
         Contains (held ++ pending) lock
 
-  -- it is safe until it is where a point begins
+  -- the machine is safe until the begin of a point
   abbrev pub IsRunning : List Lock → Machine HeldCells → Type 0
   IsRunning held m =
       Safe load_held store_held plan.program.shape (section_code lists section) Any (IsAtPoint held)
       (operand_need section) m
 
-  -- an open section runs, or it asks for the locks of a point, or it is over
+  -- an open section runs, or it asks for the locks of a point, or it has an outcome
   pub data CanGoOn (a : Activation) : Type 0 where
     running : a.pending ≡ [] → IsRunning a.held a.machine → CanGoOn a
     asking : IsAsking a.held a.pending a.machine → CanGoOn a
@@ -87,13 +87,13 @@ pub record IsReady (plan : Plan) (a : Activation) : Type 0 where
   pub fit : Fit plan.program section a.call.arguments
   pub goes_on : CanGoOn plan section (lists_at plan.lists a.call.section) a
 
--- a world is ready: what the history leaves is a heap of the program, and each open section is ready
+-- a world is ready: the heap after the history is one of the program, and each open section is ready
 pub record IsReadyWorld (plan : Plan) (w : World) : Type 0 where
   pub heap : IsHeap plan.program (committed plan.layout.opening w.history)
   pub sections : (t : ℕ) (a : Activation) → HasOpen w t a → IsReady plan a
 
--- before any step a world is ready, and a step of a thread keeps a sound world so; in a ready world pending locks rise,
--- and if it is sound too, next instructions have their case
+-- before any step a world is ready, and a step of a thread keeps a sound world ready. In a ready world pending locks
+-- rise. If it is sound too, next instructions have their case
 pub record WorldsStayReady : Type 0 where
   pub opening : (plan : Plan) → IsCompiled plan → IsReadyWorld plan (opening_world plan)
   pub step : (plan : Plan) (w : World) (t : ℕ) → IsCompiled plan → IsSound plan w → IsReadyWorld plan w →

@@ -1,5 +1,5 @@
--- What an open section keeps by itself, along its own steps, as the law of `src/laws.rt` claims it. Nobody has to
--- believe this file.
+-- The properties that an open section keeps by itself, along its own steps, as the law of `src/laws.rt` claims them.
+-- Nobody has to believe this file.
 use Rattle.std.specs.Prelude.{◌≡◌, ℕ, ◌≤◌, true, List, [], ◌∷◌, ◌++◌, length, map, Some, None}
 use Rattle.std.specs.List.{Contains, sum_by}
 use Rattle.core_lang.specs.declared.value.Value.{Value}
@@ -21,7 +21,7 @@ use Rattle.worlds.specs.Working.States.{IsWell}
 use Rattle.worlds.specs.Waiting.{HasNext}
 use Rattle.worlds.specs.Working.Ahead.{SeesTyped, IsReady}
 
--- it keeps the rules, whatever the others do, and it can go on
+-- an open section keeps the rules, whatever the others do, and it can go on
 pub record IsInOrder (plan : Plan) (a : Activation) : Type 0 where
   pub well : IsWell plan a
   pub ready : IsReady plan a
@@ -31,38 +31,38 @@ pub record AreCellsOf (plan : Plan) (lock : Lock) (values : List (ℕ × Value))
   pub cells : map (λ (x : ℕ × Value). x.0) values ≡ cells_of plan.layout.cell_locks lock
   pub typed : SeesTyped plan.program (λ cell. value_at values cell)
 
--- the locks have room, and so have their cells
+-- the locks and their cells fit the room
 pub record FitRoom (plan : Plan) (locks : List Lock) (room : Room) : Type 0 where
   pub locks_fit : length locks ≤ room.locks
   pub cells_fit : sum_by (λ (lock : Lock). length (cells_of plan.layout.cell_locks lock)) locks ≤ room.cells
 
--- what is claimed of a section that is in order
+-- the claim about a section that is in order
 pub record SectionsStayInOrder : Type 0 where
-  -- a call that fits begins so
+  -- a call that fits begins in order
   pub begins : (plan : Plan) (begun : ℕ) (call : Invocation) → IsCompiled plan →
       CanCall plan.program call.section call.arguments → IsInOrder plan (activation plan begun call)
-  -- and stays so by its next instruction, which has its case
+  -- the next instruction has its case, and keeps the section in order
   pub moves : (plan : Plan) (a : Activation) → IsCompiled plan → IsInOrder plan a → a.pending ≡ [] → a.outcome ≡ None →
       IsInOrder plan (instructed plan a (next_effect plan a))
   pub next : (plan : Plan) (a : Activation) → IsCompiled plan → IsInOrder plan a → a.pending ≡ [] → a.outcome ≡ None →
       HasNext plan a
-  -- by the next of its pending locks, granted with its cells, and by asking for it
+  -- the next pending lock, granted with its cells, keeps the section in order, and so does asking for it
   pub gets : (plan : Plan) (a : Activation) (lock : Lock) (rest : List Lock) (values : List (ℕ × Value)) →
       IsCompiled plan → IsInOrder plan a → a.pending ≡ lock ∷ rest → AreCellsOf plan lock values →
       IsInOrder plan (granted a lock rest values)
   pub asks : (plan : Plan) (a : Activation) → IsCompiled plan → IsInOrder plan a →
       IsInOrder plan (record a { asked = true })
-  -- this lock comes after all that it holds
+  -- the next pending lock comes after all locks that the section holds
   pub rises : (plan : Plan) (a : Activation) (lock other : Lock) (rest : List Lock) → IsInOrder plan a →
       a.pending ≡ lock ∷ rest → Contains a.held other → Precedes plan.ranks other lock
-  -- where locks are pending, they and those that it holds are locks of the program, and they fit the section's room
+  -- if locks are pending, they and those that the section holds are locks of the program, and fit the section's room
   pub listed : (plan : Plan) (a : Activation) (first lock : Lock) (rest : List Lock) → IsCompiled plan →
       IsInOrder plan a → a.pending ≡ first ∷ rest → Contains (a.held ++ a.pending) lock →
       Contains plan.layout.locks lock
   pub fit : (plan : Plan) (a : Activation) (first : Lock) (rest : List Lock) (section : Section) (room : Room) →
       IsCompiled plan → IsInOrder plan a → a.pending ≡ first ∷ rest → section_at plan a.call.section ≡ Some section →
       IsRoomOf plan.program plan.layout section room → FitRoom plan (a.held ++ a.pending) room
-  -- and where it has an outcome, its entry is true, and it leaves a heap of the program so
+  -- if the section has an outcome, its entry is true, and its writes leave a heap of the program one of the program
   pub ends : (plan : Plan) (thread step : ℕ) (a : Activation) (outcome : Outcome) → IsCompiled plan →
       IsInOrder plan a → a.outcome ≡ Some outcome → IsTrueCommit plan.program (commit thread step a outcome)
   pub leaves : (plan : Plan) (a : Activation) (outcome : Outcome) (heap : List Value) → IsCompiled plan →

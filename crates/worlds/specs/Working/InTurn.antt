@@ -10,14 +10,14 @@ use Rattle.inserter.specs.Working.Runs.{IsListed, Run}
 use Rattle.inserter.specs.Working.Laws.{IsOrdered}
 use Rattle.worlds.specs.Asking.{to_ask}
 
--- locks that are granted one after another, behind those that are held: each comes after all that are held by then
+-- locks that are granted one after another, after those that are held: each comes after all that are held by then
 abbrev pub RiseBehind : List ℕ → List Lock → List Lock → Type 0
 RiseBehind ranks held [] = ⊤
 RiseBehind ranks held (lock ∷ rest) =
     ((other : Lock) → Contains held other → Precedes ranks other lock) × RiseBehind ranks (held ++ lock ∷ []) rest
 
--- what a run asks for before a point rises behind what it holds; and with all of it granted, it holds each lock that
--- is listed there
+-- the locks that a run asks for before a point rise after those that it holds. Once all are granted, it holds each lock
+-- that is listed there
 abbrev pub AskedInTurn : Type 0
 AskedInTurn =
     (program : Typed) (section : Section) (ranks : List ℕ) (lists : List (List ℕ)) (p : ℕ) (locals : List Value)

@@ -1,4 +1,4 @@
--- What is true of an open section by itself, whatever the others do, and what ties it to the world. Nobody has to
+-- Properties of an open section by itself, whatever the others do, and of how it belongs to the world. Nobody has to
 -- believe this file.
 use Rattle.std.specs.Prelude.{◌≡◌, ℕ, true, List, length, slice_get, Option, Some, None}
 use Rattle.core_lang.specs.declared.value.Value.{Value}
@@ -20,14 +20,14 @@ abbrev pub HoldsLockOf : Plan → Activation → ℕ → Type 0
 HoldsLockOf plan a cell =
     (lock : Lock) × (slice_get plan.layout.cell_locks cell ≡ Some lock) × (among a.held lock ≡ true)
 
--- how the code, run alone on a heap, stands where the section does
+-- the state that the code, run alone on a heap, has if the section has this outcome or none
 abbrev pub standing : Option Outcome → Machine (List Value) → Standing (List Value)
 standing None m = At m
 standing (Some outcome) m = Halted outcome m.memory m.prints
 
--- an open section keeps the rules, whatever the others do: it holds exactly the cells of its locks; what it read and
--- wrote of them is what they hold; and there is a number of instructions after which its code, run alone on any heap
--- that agrees with its reads, stands where it does, on that heap with its writes made
+-- an open section keeps the rules, whatever the others do. It holds exactly the cells of its locks. What it read and
+-- wrote of them is what they hold. After some number of instructions its code, run alone on any heap that agrees with
+-- its reads, is in its state, on that heap with its writes made
 pub record IsWell (plan : Plan) (a : Activation) : Type 0 where
   pub section : Section
   pub is : section_at plan a.call.section ≡ Some section
@@ -39,14 +39,14 @@ pub record IsWell (plan : Plan) (a : Activation) : Type 0 where
       alone plan.program.shape (code_at plan a.call.section) count (locals_at plan a.call) heap
       ≡ standing a.outcome (on_heap heap a.machine)
 
--- an open section fits a world: its cells are with it and nowhere else, and are what the history leaves, with its
--- writes made; and what it read is what the history leaves
+-- an open section fits a world: its cells are with it and nowhere else. Their values are those after the history with
+-- its writes made, and the values that it read are those after the history
 pub record IsFit (cells : List (Option Value)) (heap : List Value) (a : Activation) : Type 0 where
   pub moved : (cell : ℕ) → HoldsCell a cell → slice_get cells cell ≡ Some None
   pub part : IsPartOf heap a.machine.memory
 
--- a world is sound: its history is legal and true, a cell that is there is as the history leaves it, each open section
--- keeps the rules and fits, and each other cell is with exactly one of them
+-- a world is sound: its history is legal and true, each cell that has a value has the one that the history leaves, each
+-- open section keeps the rules and fits, and each other cell is with exactly one of them
 pub record IsSound (plan : Plan) (w : World) : Type 0 where
   pub legal : IsLegal plan.layout.opening w.history
   pub true_commits : AreTrue plan.program w.history

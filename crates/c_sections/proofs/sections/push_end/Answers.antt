@@ -1,10 +1,10 @@
 use Rattle.std.proofs.Common.{◌++◌, string_bytes}
 use Rattle.std.specs.Prelude.{codes}
 use Rattle.locks.specs.Theory.Written.{piece_added}
-use Rattle.c_sections.specs.Acquires.{downward}
+use Rattle.c_statements.specs.Acquires.{downward}
 use Rattle.c_sections.specs.Sections.{ended_text, unlock_line, count_line, give_line, return_text}
-use Rattle.c_sections.specs.Statements.{line}
-use Rattle.c_sections.proofs.Chains.{then, more}
+use Rattle.c_statements.specs.Statements.{line}
+use Rattle.c_statements.specs.Theory.Chains.{then, more}
 use Rattle.c_sections.proofs.sections.push_end.Goals as goal
 
 pub returns : goal.returns

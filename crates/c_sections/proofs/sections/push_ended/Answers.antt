@@ -2,7 +2,7 @@ use Rattle.std.proofs.Common.{◌++◌, string_bytes}
 use Rattle.std.specs.Prelude.{codes}
 use Rattle.locks.specs.Theory.Written.{piece_added}
 use Rattle.c_sections.specs.Sections.{value_word, printed_words}
-use Rattle.c_sections.proofs.Chains.{then, more}
+use Rattle.c_statements.specs.Theory.Chains.{then, more}
 use Rattle.c_sections.proofs.sections.push_ended.Goals as goal
 
 pub returns : goal.returns

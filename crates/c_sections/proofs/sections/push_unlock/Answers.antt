@@ -1,8 +1,8 @@
 use Rattle.std.proofs.Common.{◌∙◌, ◌++◌, ℕ, List, string_bytes, ap}
 use Rattle.std.specs.Prelude.{codes}
 use Rattle.std.specs.Fmt.{decimal}
-use Rattle.c_sections.proofs.Chains.{then}
-use Rattle.c_sections.proofs.Lines.{two_numbers}
+use Rattle.c_statements.specs.Theory.Chains.{then}
+use Rattle.c_statements.specs.Theory.Lines.{two_numbers}
 use Rattle.c_sections.proofs.sections.push_unlock.Goals as goal
 
 pub returns : goal.returns

@@ -1,6 +1,6 @@
 use Rattle.std.proofs.Common.{string_bytes}
 use Rattle.c_sections.specs.Sections.{unlock_line}
-use Rattle.c_sections.proofs.Loops.{downward_moved}
+use Rattle.c_statements.specs.Theory.Loops.{downward_moved}
 use Rattle.c_sections.proofs.sections.push_unlocks.Goals as goal
 
 pub loop-number-preserved : goal.loop-number-preserved

@@ -1,5 +1,5 @@
 use Rattle.std.proofs.Common.{◌≡◌, ◌++◌, string_bytes}
-use Rattle.c_sections.specs.Acquires.{downward}
+use Rattle.c_statements.specs.Acquires.{downward}
 use Rattle.c_sections.specs.Sections.{unlock_line}
 use Rattle.c_sections.proofs.sections.push_unlocks.Given as goal
 

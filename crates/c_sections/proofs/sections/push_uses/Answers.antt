@@ -1,7 +1,7 @@
 use Rattle.std.proofs.Common.{◌++◌, string_bytes}
 use Rattle.std.specs.Prelude.{codes}
 use Rattle.c_sections.specs.Sections.{used_locals, used_locks}
-use Rattle.c_sections.proofs.Chains.{then, more}
+use Rattle.c_statements.specs.Theory.Chains.{then, more}
 use Rattle.c_sections.proofs.sections.push_uses.Goals as goal
 
 pub returns : goal.returns

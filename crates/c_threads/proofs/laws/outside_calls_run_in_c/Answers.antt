@@ -1,4 +1,4 @@
-use Rattle.c_threads.proofs.Outside.{outside_calls_run_in_c}
+use Rattle.c_threads.proofs.OutsideCalls.{outside_calls_run_in_c}
 use Rattle.c_threads.proofs.laws.outside_calls_run_in_c.Goals as goal
 
 pub returns : goal.returns

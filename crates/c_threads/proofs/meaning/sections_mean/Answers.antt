@@ -5,8 +5,8 @@ use Rattle.core_lang.specs.Theory.Items.{get_some}
 use Rattle.core_lang.specs.Serial.{opening_heap}
 use Rattle.core_lang.specs.declared.typed.Typed.{Typed}
 use Rattle.code.specs.Lowering.{lists_at}
-use Rattle.c_groups.specs.Alike.{AreFitting}
-use Rattle.c_groups.specs.InC.{AreShort}
+use Rattle.c_language.specs.Alike.{AreFitting}
+use Rattle.c_language.specs.InC.{AreShort}
 use Rattle.c_threads.specs.Working.Codes.{IsShortCode}
 use Rattle.c_threads.proofs.meaning.sections_mean.Goals as goal
 

@@ -10,8 +10,8 @@ use Rattle.core_lang.specs.declared.tree.Section.{Section}
 use Rattle.core_lang.specs.declared.typed.Typed.{Typed}
 use Rattle.code.specs.declared.section_code.ProgramCode.{ProgramCode}
 use Rattle.code.specs.Lowering.{lists_at, section_code}
-use Rattle.c_groups.specs.Alike.{AreFitting}
-use Rattle.c_groups.specs.InC.{AreShort, IsShort}
+use Rattle.c_language.specs.Alike.{AreFitting}
+use Rattle.c_language.specs.InC.{AreShort, IsShort}
 use Rattle.lowering.specs.Plans.{Plan}
 use Rattle.lowering.specs.Working.Lowered.{IsCodeOf}
 use Rattle.worlds.specs.Worlds.{code_at}

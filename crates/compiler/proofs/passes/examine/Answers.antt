@@ -1,7 +1,7 @@
 use Rattle.std.proofs.Common.{◌≡◌, ◌∙◌, ap, sym, subst, subst₂}
 use Rattle.std.proofs.lemmas.Result.{err_from_is_err_and}
 use Rattle.core_lang.specs.WellFormed.{IsChecked, IsWellFormed}
-use Rattle.core_lang_expansion.specs.Data.{IsExpanded}
+use Rattle.core_lang_helpers.specs.Data.{IsExpanded}
 use Rattle.lockorder.specs.Faults.{IsCycleOf, IsFaultAtFirst}
 use Rattle.lowering.specs.declared.compiled.Trees.{Trees}
 use Rattle.lowering.specs.Working.Compiled.{program_of}

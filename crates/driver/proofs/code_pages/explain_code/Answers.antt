@@ -1,4 +1,4 @@
-use Rattle.explanation_codes.specs.Pages.{page_text}
+use Rattle.explanation.specs.CodePages.{page_text}
 use Rattle.driver.proofs.PageLemmas.{page_served}
 use Rattle.driver.proofs.code_pages.explain_code.Goals as goal
 

@@ -1,8 +1,8 @@
 use Rattle.std.proofs.Common.{List, rules, ap, ◌∙◌}
 use Rattle.rope.specs.Working.Ropes.{rope_text}
-use Rattle.source_steps.specs.declared.turn.Turn.{Turn}
-use Rattle.source_steps.specs.Turns.{steps_of}
-use Rattle.report_trace.specs.Trace.{trace_text}
+use Rattle.input_files.specs.declared.turn.Turn.{Turn}
+use Rattle.input_files.specs.Turns.{steps_of}
+use Rattle.report_runs.specs.Trace.{trace_text}
 use Rattle.driver.specs.Traces as answer
 use Rattle.driver.proofs.tracing.traced.Goals as goal
 

@@ -5,7 +5,7 @@ use Rattle.syntax.specs.Trees.{Decl}
 use Rattle.syntax.specs.Views.{decl_of}
 use Rattle.explanation_faults.specs.Working.AmountsFound.{begins}
 use Rattle.explanation_faults.proofs.AmountsPassed.{is_last, ends_there}
-use Rattle.explanation_faults.proofs.Places.{viewed_at, within_view}
+use Rattle.explanation_names.specs.Theory.Viewed.{viewed_at, within_view}
 use Rattle.explanation_faults.proofs.amounts_passed.are_calls_past.Goals as goal
 use Rattle.explanation_faults.proofs.amounts_passed.are_calls_past.Goals.{then-begins_there+in_ok-ends_few_calls+else-branch}
 use Rattle.explanation_faults.proofs.amounts_passed.are_calls_past.Goals.{else-begins_there}

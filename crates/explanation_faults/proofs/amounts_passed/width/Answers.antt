@@ -10,7 +10,7 @@ use Rattle.syntax.specs.declared.tree.Member as written
 use Rattle.syntax.specs.declared.tree.Struct as the_struct
 use Rattle.explanation_faults.specs.Working.AmountsFound.{field_count}
 use Rattle.explanation_faults.proofs.AmountsPassed.{counted_new}
-use Rattle.explanation_faults.proofs.Places.{viewed_at}
+use Rattle.explanation_names.specs.Theory.Viewed.{viewed_at}
 use Rattle.explanation_faults.proofs.amounts_passed.width.Goals as goal
 
 pub loop-place-preserved : goal.loop-place-preserved

@@ -6,7 +6,7 @@ use Rattle.syntax.specs.Trees.{Decl, Init, init}
 use Rattle.syntax.specs.Views.{decl_of, init_of}
 use Rattle.explanation_faults.specs.Inits.{IsFirstGiver}
 use Rattle.explanation_faults.proofs.FirstInits.{no_init}
-use Rattle.explanation_faults.proofs.Places.{viewed_at, within_view}
+use Rattle.explanation_names.specs.Theory.Viewed.{viewed_at, within_view}
 use Rattle.explanation_faults.proofs.first_inits.first_given.Goals as goal
 use Rattle.explanation_faults.proofs.first_inits.first_given.Goals.{in-Init+then-init-at+in_default-first_giver}
 use Rattle.explanation_faults.proofs.first_inits.first_given.Goals.{in-Init+else-init-at, in_default}

@@ -3,7 +3,7 @@ use Rattle.syntax.specs.declared.tree.Decl.{Decl}
 use Rattle.syntax.specs.Views.{decl_of, init_of}
 use Rattle.explanation_faults.specs.Inits.{gives_same}
 use Rattle.explanation_faults.proofs.FirstInits.{first_here, not_here, gives_nothing}
-use Rattle.explanation_faults.proofs.Places.{viewed_at}
+use Rattle.explanation_names.specs.Theory.Viewed.{viewed_at}
 use Rattle.std.proofs.Common.{refl, Some}
 use Rattle.explanation_faults.proofs.first_inits.first_giver.Goals as goal
 use Rattle.explanation_faults.proofs.first_inits.first_giver.Goals.{in-Init+else-is_same_target, in_default}

@@ -1,5 +1,5 @@
 use Rattle.std.proofs.Common.{◌≡◌, ◌++◌, map, drop}
-use Rattle.core_lang_calls.specs.Graphs.{bodies_of}
+use Rattle.core_lang_helpers.specs.Graphs.{bodies_of}
 use Rattle.resolution.specs.CallGraphs.{helper_bodies}
 use Rattle.types_symbols.specs.Working.Views.{decls_of}
 use Rattle.syntax.specs.Views.{decl_of}

@@ -1,8 +1,8 @@
 use Rattle.std.proofs.Common.{◌≡◌, ◌<◌, ℕ, Some, false}
 use Rattle.std.specs.Prelude.{slice_get}
-use Rattle.core_lang_calls.specs.Depths.{depth, is_endless}
-use Rattle.core_lang_calls.specs.Faults.{DEPTH_LIMIT}
-use Rattle.core_lang_calls.specs.Graphs.{Body, bodies_of}
+use Rattle.core_lang_helpers.specs.Depths.{depth, is_endless}
+use Rattle.core_lang_helpers.specs.Faults.{DEPTH_LIMIT}
+use Rattle.core_lang_helpers.specs.Graphs.{Body, bodies_of}
 use Rattle.explanation_faults.proofs.helper_limits.is_deep_there.Given as goal
 
 -- none so far is declared there, and too deep

@@ -1,7 +1,7 @@
 use Rattle.std.proofs.Common.{◌∙◌, ◌-◌, drop, length, sym, ap, arith, length-drop}
 use Rattle.std.proofs.lemmas.List.{drop-map, take_all}
 use Rattle.explanation_faults.specs.Working.LimitsFound.{some_starts}
-use Rattle.explanation_faults.specs.Working.Values.{ident_at, idents}
+use Rattle.explanation_names.specs.Working.Values.{ident_at, idents}
 use Rattle.explanation_faults.proofs.limits_passed.is_past.Goals as goal
 
 pub returns : goal.returns

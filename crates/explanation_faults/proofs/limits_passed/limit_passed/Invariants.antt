@@ -1,6 +1,6 @@
 use Rattle.std.proofs.Common.{◌≡◌, map, drop}
 use Rattle.syntax.specs.Views.{decl_of}
-use Rattle.explanation_faults.specs.FirstBy.{first_by}
+use Rattle.explanation_names.specs.FirstBy.{first_by}
 use Rattle.explanation_faults.specs.Working.LimitsFound.{limit_in}
 use Rattle.explanation_faults.proofs.limits_passed.limit_passed.Given as goal
 

@@ -1,7 +1,7 @@
 use Rattle.std.proofs.Common.{◌≡◌, ◌++◌, map, drop}
 use Rattle.syntax.specs.Views.{member_of}
 use Rattle.explanation_faults.specs.LimitsPassed.{own_lock_names}
-use Rattle.explanation_faults.specs.Working.Values.{idents}
+use Rattle.explanation_names.specs.Working.Values.{idents}
 use Rattle.explanation_faults.proofs.limits_passed.push_own_locks.Given as goal
 
 abbrev pub invariant-loop-member : goal.invariant-loop-member

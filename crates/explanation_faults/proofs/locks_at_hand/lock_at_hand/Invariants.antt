@@ -1,6 +1,6 @@
 use Rattle.std.proofs.Common.{◌≡◌, map, drop}
 use Rattle.syntax.specs.Views.{decl_of}
-use Rattle.explanation_faults.specs.FirstBy.{first_by}
+use Rattle.explanation_names.specs.FirstBy.{first_by}
 use Rattle.explanation_faults.specs.Working.LocksFound.{lock_for}
 use Rattle.explanation_faults.proofs.locks_at_hand.lock_at_hand.Given as goal
 

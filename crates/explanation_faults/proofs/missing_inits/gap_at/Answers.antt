@@ -5,7 +5,7 @@ use Rattle.syntax.specs.Trees.{Pool, pool}
 use Rattle.syntax.specs.Views.{decl_of, pool_of}
 use Rattle.explanation_faults.specs.Working.Values.{IsWhole}
 use Rattle.explanation_faults.proofs.MissingInits.{no_pool}
-use Rattle.explanation_faults.proofs.Places.{viewed_at, within_view}
+use Rattle.explanation_names.specs.Theory.Viewed.{viewed_at, within_view}
 use Rattle.explanation_faults.proofs.missing_inits.gap_at.Goals as goal
 use Rattle.explanation_faults.proofs.missing_inits.gap_at.Goals.{in-Pool+in_default-gap_of, in_default}
 

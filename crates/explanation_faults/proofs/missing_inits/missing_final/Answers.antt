@@ -9,7 +9,7 @@ use Rattle.syntax.specs.declared.tree.Struct.{Struct}
 use Rattle.explanation_faults.specs.Working.Values.{due_final, final_at}
 use Rattle.explanation_faults.proofs.Given.{named_at}
 use Rattle.explanation_faults.proofs.MissingInits.{found_due}
-use Rattle.explanation_faults.proofs.Places.{viewed_at, within_view}
+use Rattle.explanation_names.specs.Theory.Viewed.{viewed_at, within_view}
 use Rattle.explanation_faults.proofs.missing_inits.missing_final.Goals as goal
 use Rattle.explanation_faults.proofs.missing_inits.missing_final.Goals.{in-Some+in_default-first_without, in_default}
 

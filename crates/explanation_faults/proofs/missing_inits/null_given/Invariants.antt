@@ -1,7 +1,7 @@
 use Rattle.std.proofs.Common.{◌≡◌, map, drop}
 use Rattle.types_symbols.specs.Working.Views.{decls_of}
 use Rattle.syntax.specs.Views.{decl_of}
-use Rattle.explanation_faults.specs.FirstBy.{first_by}
+use Rattle.explanation_names.specs.FirstBy.{first_by}
 use Rattle.explanation_faults.specs.Working.NullsFound.{null_given_in}
 use Rattle.explanation_faults.proofs.missing_inits.null_given.Given as goal
 

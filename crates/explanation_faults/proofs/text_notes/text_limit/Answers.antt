@@ -4,12 +4,12 @@ use Rattle.explanation_faults.proofs.text_notes.text_limit.Goals as goal
 use Rattle.explanation_faults.proofs.text_notes.text_limit.Goals.{else-is_limit_at-via-then-is_limit_at+else-is_limit_at-2}
 use Rattle.explanation_faults.proofs.text_notes.text_limit.Goals.{else-is_limit_at-via-else-is_limit_at}
 
-pub returns-then-text-gt-MOST_BYTES : goal.returns-then-text-gt-MOST_BYTES
-returns-then-text-gt-MOST_BYTES c =
+pub returns-then-text-gt-SOURCE_LIMIT : goal.returns-then-text-gt-SOURCE_LIMIT
+returns-then-text-gt-SOURCE_LIMIT c =
     let text = c.args.text.now in
     let at = c.args.fault.now.start in (
       (c.if-is_limit_at-2.ensures.0 refl).0,
-      source_limit text at (limit_found text c.args.found.now at c.requires (c.if-is_limit_at.ensures.0 refl)) c.if-text-gt-MOST_BYTES.true,
+      source_limit text at (limit_found text c.args.found.now at c.requires (c.if-is_limit_at.ensures.0 refl)) c.if-text-gt-SOURCE_LIMIT.true,
     )
 
 pub returns-then-is_limit_at-2 : goal.returns-then-is_limit_at-2
@@ -17,7 +17,7 @@ returns-then-is_limit_at-2 c =
     let text = c.args.text.now in
     let at = c.args.fault.now.start in (
       (c.if-is_limit_at-2.ensures.0 refl).0,
-      name_limit text at (limit_found text c.args.found.now at c.requires (c.if-is_limit_at.ensures.0 refl)) (omega (arith, c.if-text-gt-MOST_BYTES.false)),
+      name_limit text at (limit_found text c.args.found.now at c.requires (c.if-is_limit_at.ensures.0 refl)) (omega (arith, c.if-text-gt-SOURCE_LIMIT.false)),
     )
 
 pub returns : goal.returns

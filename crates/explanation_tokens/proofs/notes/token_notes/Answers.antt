@@ -1,7 +1,7 @@
 use Rattle.std.proofs.Common.{◌≡◌, ◌∙◌, ℕ, List, [], Some, None, option_to_list, ap, sym, subst, refl, arith}
 use Rattle.std.proofs.lemmas.Option.{same_Some}
 use Rattle.source.specs.Tokens.{Tok, seen}
-use Rattle.explanation_tokens.specs.declared.trial.Spot.{Spot}
+use Rattle.explanation_tokens.specs.declared.trial.TokenPlace.{TokenPlace}
 use Rattle.explanation_tokens.specs.Advice.{advice_on}
 use Rattle.explanation_tokens.specs.Expected.{AreInOrder, CanCome, IsBehind}
 use Rattle.explanation_tokens.specs.Working.Trials.{before_in, notes_on}
@@ -64,7 +64,7 @@ returns-then-place-gt-MOST_READ c =
           let there = place_behind tokens start told.before told.place (order.rise told.before told.place) in
           let found : Some c.in-Some.place ≡ Some spot = (rw c.deref.ensures.value at c.in-Some.ensures.only) spot (omega (arith, order.low)) there in
           let is : c.in-Some.place ≡ spot = same_Some c.in-Some.place spot found in
-          omega (arith, ap (λ (s : Spot). s.number) is, told.few, c.if-place-gt-MOST_READ.true));
+          omega (arith, ap (λ (s : TokenPlace). s.number) is, told.few, c.if-place-gt-MOST_READ.true));
     })
 
 pub returns : goal.returns
@@ -91,9 +91,9 @@ returns c =
             let there = place_behind tokens start told.before told.place (order.rise told.before told.place) in
             let found : Some place ≡ Some spot = (rw c.deref.ensures.value at c.in-Some.ensures.only) spot (omega (arith, order.low)) there in
             let is : place ≡ spot = same_Some place spot found in
-            let before : before_in place tokens ≡ told.before = ap (λ (s : Spot). before_in s tokens) is ∙ before_spot tokens start told.before told.place in
+            let before : before_in place tokens ≡ told.before = ap (λ (s : TokenPlace). before_in s tokens) is ∙ before_spot tokens start told.before told.place in
             some_told (CanCome (before_in place tokens) place.span.start) list told.candidate c.in_ok-candidates.ensures
             (subst (λ (l : List Tok). CanCome l place.span.start told.candidate) (sym before)
-            (subst (λ (k : ℕ). CanCome told.before k told.candidate) (sym (ap (λ (s : Spot). s.span.start) is)) told.can_come));
+            (subst (λ (k : ℕ). CanCome told.before k told.candidate) (sym (ap (λ (s : TokenPlace). s.span.start) is)) told.can_come));
       };
     })

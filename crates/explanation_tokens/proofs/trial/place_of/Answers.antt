@@ -1,7 +1,7 @@
 use Rattle.std.proofs.Common.{◌≡◌, ◌∙◌, ◌<◌, ◌+◌, ℕ, length, take, Some, ap, sym, subst, refl, arith}
 use Rattle.std.proofs.lemmas.Option.{slice_get_read}
 use Rattle.source.specs.Tokens.{seen, seen_token}
-use Rattle.explanation_tokens.specs.declared.trial.Spot.{Spot}
+use Rattle.explanation_tokens.specs.declared.trial.TokenPlace.{TokenPlace}
 use Rattle.explanation_tokens.specs.Expected.{StartBefore}
 use Rattle.explanation_tokens.proofs.Spots.{one_more_before, there_seen, spot_is, only_place, none_later, none_behind}
 use Rattle.explanation_tokens.proofs.trial.place_of.Goals as goal
@@ -32,7 +32,7 @@ returns-then-at-start-clause-only c = λ place low at.
     let there = there_seen tokens n item (slice_get_read tokens (length tokens) n item refl within c.index-tokens-number.is) in
     let here = spot_is (record { number = n; span = record { start = c.start-at.result; end = c.in_ok-end.end } }) n start refl same
     (c.in_ok-end.ensures.1 ∙ ap (λ k. k + 1) same) in
-    ap (λ (s : Spot). Some s)
+    ap (λ (s : TokenPlace). Some s)
     (here ∙ sym (only_place tokens start n (seen_token item) place c.loop-number.invariant there (omega (arith, same, c.start-at.ensures)) at))
 
 pub returns-then-at-start-2-clause-only : goal.returns-then-at-start-2-clause-only

@@ -1,6 +1,6 @@
 use Rattle.std.proofs.Common.{List, Err, refl, subst}
-use Rattle.source_steps.specs.declared.item.Item.{Item}
-use Rattle.source_steps.specs.Steps.{IfFault}
+use Rattle.input_files.specs.declared.item.Item.{Item}
+use Rattle.input_files.specs.Steps.{IfFault}
 use Rattle.interleavings.specs.Working.Found.{CountsItems, CountIsTooMuch}
 use Rattle.interleavings.proofs.Finding.{all_refused_first, all_refused_last, all_found, rest_is}
 use Rattle.interleavings.proofs.items.turns_of.Goals as goal

@@ -1,7 +1,7 @@
 use Rattle.std.proofs.Common.{ℕ, ap, sym, refl, ◌∙◌}
 use Rattle.core_lang.specs.Serial.{invocation}
 use Rattle.worlds.specs.Worlds.{call_at}
-use Rattle.interleavings.specs.declared.state.State.TheVariants as state
+use Rattle.interleavings.specs.declared.state.TypedState.TheVariants as state
 use Rattle.interleavings.proofs.stepping.begin.Goals as goal
 
 pub returns-in-Ok : goal.returns-in-Ok

@@ -8,8 +8,8 @@ use Rattle.lexer.proofs.Ends.{all_only, none_refused, stop_fault, stop_only, sto
 use Rattle.lexer.proofs.First.{less_behind, here_within, behind_within, can_stand}
 use Rattle.lexer.proofs.whole.lex.Goals as goal
 
-pub returns-then-text-gt-MOST_BYTES-clause-fault : goal.returns-then-text-gt-MOST_BYTES-clause-fault
-returns-then-text-gt-MOST_BYTES-clause-fault c = (rw (c.at.ensures.code, c.at.ensures.start) (too_big (omega arith)), c.at.ensures.detail)
+pub returns-then-text-gt-SOURCE_LIMIT-clause-fault : goal.returns-then-text-gt-SOURCE_LIMIT-clause-fault
+returns-then-text-gt-SOURCE_LIMIT-clause-fault c = (rw (c.at.ensures.code, c.at.ensures.start) (too_big (omega arith)), c.at.ensures.detail)
 
 pub tokens-init : goal.tokens-init
 tokens-init c = rw c.new-tokens.ensures.items (record { state = begun (length c.args.text.now) c.args.text.now; short = omega arith })
@@ -71,4 +71,4 @@ overflow_sub-end c = behind_within c.args.text.now c.tokens.rest.now c.after_gap
 
 pub token_at-requires : goal.token_at-requires
 token_at-requires c =
-    can_stand c.args.text.now c.tokens.rest.now c.after_gap-here.result.now c.after_gap-here.ensures c.tokens.invariant.short (seen_kind c.in-Ok.token.0) c.in-Ok.token.1.now c.in-Ok.ensures c.if-text-gt-MOST_BYTES.false
+    can_stand c.args.text.now c.tokens.rest.now c.after_gap-here.result.now c.after_gap-here.ensures c.tokens.invariant.short (seen_kind c.in-Ok.token.0) c.in-Ok.token.1.now c.in-Ok.ensures c.if-text-gt-SOURCE_LIMIT.false

@@ -1,7 +1,7 @@
 use Rattle.std.proofs.Common.{◌≡◌, Err, Some, None, sym, ◌∙◌}
 use Rattle.source.specs.Tokens.{seen}
 use Rattle.syntax.specs.Views.{tree_of}
-use Rattle.syntax.specs.Grammar.{LIMIT}
+use Rattle.syntax.specs.Grammar.{NESTING_LIMIT}
 use Rattle.parser.specs.declared.stop.Stop.TheVariants.{Unexpected, TooDeep}
 use Rattle.parser.specs.Working.Declarations.{program_at}
 use Rattle.parser.specs.Working.Returning.{least_fault}
@@ -40,30 +40,30 @@ returns-in-Some-clause-misplaced c = λ start m.
 
 pub returns-in-Err-Unexpected-clause-only : goal.returns-in-Err-Unexpected-clause-only
 returns-in-Err-Unexpected-clause-only c = λ ds h.
-    let a : program_at LIMIT (seen c.args.tokens.now) ≡ Err (Unexpected c.in-Err-Unexpected.left) = rw c.in-Err-Unexpected.field-0-is at c.in-Err-Unexpected.ensures in
+    let a : program_at NESTING_LIMIT (seen c.args.tokens.now) ≡ Err (Unexpected c.in-Err-Unexpected.left) = rw c.in-Err-Unexpected.field-0-is at c.in-Err-Unexpected.ensures in
     absurd (not_read (seen c.args.tokens.now) (Unexpected c.in-Err-Unexpected.left) a ds h)
 
 pub returns-in-Err-Unexpected-clause-fault : goal.returns-in-Err-Unexpected-clause-fault
 returns-in-Err-Unexpected-clause-fault c =
-    let a : program_at LIMIT (seen c.args.tokens.now) ≡ Err (Unexpected c.in-Err-Unexpected.left) = rw c.in-Err-Unexpected.field-0-is at c.in-Err-Unexpected.ensures in
+    let a : program_at NESTING_LIMIT (seen c.args.tokens.now) ≡ Err (Unexpected c.in-Err-Unexpected.left) = rw c.in-Err-Unexpected.field-0-is at c.in-Err-Unexpected.ensures in
     (rw (c.at-in-Err-Unexpected.ensures.code, c.at-in-Err-Unexpected.ensures.start, c.start_of.ensures, start_seen c.args.tokens.now c.in-Err-Unexpected.left) (is_unexpected (seen c.args.tokens.now) c.in-Err-Unexpected.left a), c.at-in-Err-Unexpected.ensures.detail)
 
 pub returns-in-Err-Unexpected-clause-misplaced : goal.returns-in-Err-Unexpected-clause-misplaced
 returns-in-Err-Unexpected-clause-misplaced c = λ start m.
-    let a : program_at LIMIT (seen c.args.tokens.now) ≡ Err (Unexpected c.in-Err-Unexpected.left) = rw c.in-Err-Unexpected.field-0-is at c.in-Err-Unexpected.ensures in
+    let a : program_at NESTING_LIMIT (seen c.args.tokens.now) ≡ Err (Unexpected c.in-Err-Unexpected.left) = rw c.in-Err-Unexpected.field-0-is at c.in-Err-Unexpected.ensures in
     absurd (never_misplaced (seen c.args.tokens.now) (Unexpected c.in-Err-Unexpected.left) a start m)
 
 pub returns-in-Err-TooDeep-clause-only : goal.returns-in-Err-TooDeep-clause-only
 returns-in-Err-TooDeep-clause-only c = λ ds h.
-    let a : program_at LIMIT (seen c.args.tokens.now) ≡ Err (TooDeep c.in-Err-TooDeep.left) = rw c.in-Err-TooDeep.field-0-is at c.in-Err-TooDeep.ensures in
+    let a : program_at NESTING_LIMIT (seen c.args.tokens.now) ≡ Err (TooDeep c.in-Err-TooDeep.left) = rw c.in-Err-TooDeep.field-0-is at c.in-Err-TooDeep.ensures in
     absurd (not_read (seen c.args.tokens.now) (TooDeep c.in-Err-TooDeep.left) a ds h)
 
 pub returns-in-Err-TooDeep-clause-fault : goal.returns-in-Err-TooDeep-clause-fault
 returns-in-Err-TooDeep-clause-fault c =
-    let a : program_at LIMIT (seen c.args.tokens.now) ≡ Err (TooDeep c.in-Err-TooDeep.left) = rw c.in-Err-TooDeep.field-0-is at c.in-Err-TooDeep.ensures in
+    let a : program_at NESTING_LIMIT (seen c.args.tokens.now) ≡ Err (TooDeep c.in-Err-TooDeep.left) = rw c.in-Err-TooDeep.field-0-is at c.in-Err-TooDeep.ensures in
     (rw (c.at-in-Err-TooDeep.ensures.code, c.at-in-Err-TooDeep.ensures.start, c.start_of-in-Err-TooDeep.ensures, start_seen c.args.tokens.now c.in-Err-TooDeep.left) (is_too_deep (seen c.args.tokens.now) c.in-Err-TooDeep.left a), c.at-in-Err-TooDeep.ensures.detail)
 
 pub returns-in-Err-TooDeep-clause-misplaced : goal.returns-in-Err-TooDeep-clause-misplaced
 returns-in-Err-TooDeep-clause-misplaced c = λ start m.
-    let a : program_at LIMIT (seen c.args.tokens.now) ≡ Err (TooDeep c.in-Err-TooDeep.left) = rw c.in-Err-TooDeep.field-0-is at c.in-Err-TooDeep.ensures in
+    let a : program_at NESTING_LIMIT (seen c.args.tokens.now) ≡ Err (TooDeep c.in-Err-TooDeep.left) = rw c.in-Err-TooDeep.field-0-is at c.in-Err-TooDeep.ensures in
     absurd (never_misplaced (seen c.args.tokens.now) (TooDeep c.in-Err-TooDeep.left) a start m)

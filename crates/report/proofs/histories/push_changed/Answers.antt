@@ -7,7 +7,7 @@ use Rattle.core_lang.specs.declared.value.Value.{Value}
 use Rattle.report.specs.History.{changed_texts}
 use Rattle.report.proofs.histories.push_changed.Goals as goal
 
--- cells behind the last value have no line
+-- cells after the last value have no line
 none_left : (program : Typed) (cells : List Cell) (values : List Value) → values ≡ [] →
     changed_texts program cells values ≡ []
 none_left program [] values none = refl

@@ -2,7 +2,7 @@ use Rattle.std.proofs.Common.{◌≡◌, ◌++◌, string_bytes, drop}
 use Rattle.report.specs.History.{changed_texts}
 use Rattle.report.proofs.histories.push_changed.Given as goal
 
--- what is written and the text of what is left are the whole text
+-- the written text and that of the remaining items are the whole text
 abbrev pub invariant-loop-i : goal.invariant-loop-i
 invariant-loop-i l =
     string_bytes l.out ++ changed_texts l.program (drop l.i l.cells) (drop l.i l.values)

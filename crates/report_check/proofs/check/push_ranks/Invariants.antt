@@ -3,7 +3,7 @@ use Rattle.std.specs.List.{flat_map, range_with_len}
 use Rattle.report_check.specs.Check.{rank_text, rank_texts}
 use Rattle.report_check.proofs.check.push_ranks.Given as goal
 
--- what is written and the text of what is left are the whole text
+-- the written text and that of the remaining items are the whole text
 abbrev pub invariant-loop-rank : goal.invariant-loop-rank
 invariant-loop-rank l =
     string_bytes l.out ++ flat_map (rank_text l.program l.ranks) (range_with_len l.rank (length l.ranks - l.rank))

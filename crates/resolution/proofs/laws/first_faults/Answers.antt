@@ -3,8 +3,8 @@ use Rattle.std.specs.Prelude.{option_map, option_to_list}
 use Rattle.source.specs.declared.mistake.Mistake.{Mistake}
 use Rattle.source.specs.Mistakes as bare
 use Rattle.syntax.specs.Trees.{Decl}
-use Rattle.core_lang_calls.specs.Working.FaultLists.{graph_faults}
-use Rattle.core_lang_calls.specs.Working.Laws.{ListedAreFaults}
+use Rattle.core_lang_helpers.specs.Working.FaultLists.{graph_faults}
+use Rattle.core_lang_helpers.specs.Working.Laws.{ListedAreFaults}
 use Rattle.resolution.specs.declared.finding.Finding.{Finding}
 use Rattle.resolution.specs.Working.Findings.{plain, nothing_found, found_in, IsOneOf}
 use Rattle.resolution.specs.Theory.Leasts.{one_of_either, among_left}

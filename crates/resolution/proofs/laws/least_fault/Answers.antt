@@ -2,8 +2,8 @@ use Rattle.std.proofs.Common.{◌≡◌, ℕ, List, map, Some, inl, inr, subst}
 use Rattle.source.specs.declared.fault.Code.{Code}
 use Rattle.source.specs.declared.mistake.Mistake.{Mistake}
 use Rattle.syntax.specs.Trees.{Decl}
-use Rattle.core_lang_calls.specs.Working.FaultLists.{graph_faults}
-use Rattle.core_lang_calls.specs.Working.Laws.{ListedAreFaults}
+use Rattle.core_lang_helpers.specs.Working.FaultLists.{graph_faults}
+use Rattle.core_lang_helpers.specs.Working.Laws.{ListedAreFaults}
 use Rattle.resolution.specs.declared.finding.Finding.{Finding}
 use Rattle.resolution.specs.declared.why.Why.{Why}
 use Rattle.resolution.specs.Working.Findings.{plain}

@@ -1,6 +1,6 @@
 use Rattle.std.specs.Prelude.{◌≡◌, vec_capacity}
 use Rattle.std.proofs.Common.{sym, ap, ◌∙◌, subst}
-use Rattle.runner.specs.declared.body.Body.{Body}
+use Rattle.runner.specs.declared.body.SectionFrame.{SectionFrame}
 use Rattle.runner.specs.Working.Ties.{open_in, IsKeptOpen}
 use Rattle.runner.proofs.Begun.{as_begun, kept_at_first}
 use Rattle.runner.proofs.states.begun.Goals as goal
@@ -10,9 +10,9 @@ invariant_of-result c =
     let b = c.args.memory.body.value in
     let t = c.args.ticket in
     let same : c.deref_mut.result.now ≡ b = c.deref_mut.ensures.value ∙ c.into_body-body.ensures.body in (
-      subst (λ (x : Body). IsKeptOpen (open_in c.args.program.now t (record x { step = c.args.step })) t x.machine (vec_capacity x.pending)) (sym same)
+      subst (λ (x : SectionFrame). IsKeptOpen (open_in c.args.program.now t (record x { step = c.args.step })) t x.machine (vec_capacity x.pending)) (sym same)
           (kept_at_first c.args.program.now b t c.args.step c.sections_stay_in_order.ensures c.requires.prepared c.requires.ticket),
-      ap (λ (x : Body). x.grants.items) same ∙ c.args.memory.grants,
+      ap (λ (x : SectionFrame). x.grants.items) same ∙ c.args.memory.grants,
     )
 
 pub returns : goal.returns
@@ -20,4 +20,4 @@ returns c =
     let b = c.args.memory.body.value in
     let t = c.args.ticket in
     let same : c.deref_mut.result.now ≡ b = c.deref_mut.ensures.value ∙ c.into_body-body.ensures.body in
-    ap (λ (x : Body). open_in c.args.program.now t (record x { step = c.args.step })) same ∙ as_begun c.args.program.now b t c.args.step c.requires.prepared c.requires.ticket
+    ap (λ (x : SectionFrame). open_in c.args.program.now t (record x { step = c.args.step })) same ∙ as_begun c.args.program.now b t c.args.step c.requires.prepared c.requires.ticket

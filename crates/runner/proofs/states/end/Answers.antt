@@ -1,7 +1,7 @@
 use Rattle.std.specs.Prelude.{◌≡◌, vec_capacity}
 use Rattle.std.proofs.Common.{sym, ap, ◌∙◌, subst}
 use Rattle.runner_machine.specs.Working.Machines.{IsFinished}
-use Rattle.runner.specs.declared.body.Body.{Body}
+use Rattle.runner.specs.declared.body.SectionFrame.{SectionFrame}
 use Rattle.runner.specs.Working.Opens.{OpenOf, moved, entry_of}
 use Rattle.runner.specs.Working.Ties.{over_by, its_call, ended_as, IsKeptEnded}
 use Rattle.runner.proofs.Endings.{IsOver, ended_is, kept_ended}
@@ -21,9 +21,9 @@ invariant_of-result c =
       kept = c.opened.invariant.0;
       none = ap (λ (s : OpenOf). s.activation.pending) c.opened.view_is ∙ c.requires.pending;
       leads = subst (λ (s : OpenOf). moved s ≡ over_by s outcome) (sym c.opened.view_is) c.requires.leads;
-      finished = subst (λ (b : Body). IsFinished b.machine grants run) same_body c.finish.ensures;
+      finished = subst (λ (b : SectionFrame). IsFinished b.machine grants run) same_body c.finish.ensures;
     } in
-    subst (λ (b : Body).
+    subst (λ (b : SectionFrame).
     IsKeptEnded (ended_as x.program.now x.ticket b.step (its_call b) run grants b.asked outcome) x.ticket run grants
     (entry_of (ended_as x.program.now x.ticket b.step (its_call b) run grants b.asked outcome) outcome)) (sym same_body)
     (kept_ended x.program.now x.ticket b.step (its_call b) b.machine b.pending.items b.asked (vec_capacity b.pending) outcome
@@ -43,9 +43,9 @@ returns c =
       kept = c.opened.invariant.0;
       none = ap (λ (s : OpenOf). s.activation.pending) c.opened.view_is ∙ c.requires.pending;
       leads = subst (λ (s : OpenOf). moved s ≡ over_by s outcome) (sym c.opened.view_is) c.requires.leads;
-      finished = subst (λ (b : Body). IsFinished b.machine grants run) same_body c.finish.ensures;
+      finished = subst (λ (b : SectionFrame). IsFinished b.machine grants run) same_body c.finish.ensures;
     } in
-    ap (λ (b : Body). ended_as x.program.now x.ticket b.step (its_call b) run grants b.asked outcome) same_body
+    ap (λ (b : SectionFrame). ended_as x.program.now x.ticket b.step (its_call b) run grants b.asked outcome) same_body
     ∙ ended_is x.program.now x.ticket b.step (its_call b) b.machine b.pending.items b.asked (vec_capacity b.pending) outcome
     run grants over
     ∙ ap (λ (s : OpenOf). over_by s outcome) c.opened.view_is

@@ -1,5 +1,5 @@
 use Rattle.std.proofs.Common.{subst}
-use Rattle.workers_seen.specs.Logs.{Begins}
+use Rattle.workers.specs.Logs.{Begins}
 use Rattle.workers.proofs.Passing.{answers_in}
 use Rattle.workers.proofs.closing.is_in.Goals as goal
 

@@ -1,12 +1,12 @@
 use Rattle.std.proofs.Common.{◌≡◌, ◌++◌, drop, string_bytes}
 use Rattle.code.specs.Working.Asked.{lists_of}
-use Rattle.c_sections.specs.Acquires.{numbered}
+use Rattle.c_statements.specs.Acquires.{numbered}
 use Rattle.c_sections.specs.Instructions as text
 use Rattle.c_sections.specs.Working.Bodies.{IsAt, program_of, code_of, paths_of, begins_of}
 use Rattle.c_sections.specs.Working.Marked.{mark_in}
 use Rattle.c_sections.proofs.instructions.MarkedLines.push.Given as goal
 
--- what is written and the text of what is left are the whole text
+-- the written text and that of the remaining items are the whole text
 abbrev pub invariant-loop-place : goal.invariant-loop-place
 invariant-loop-place l =
     let x = l.self.lines.now in

@@ -8,7 +8,7 @@ use Rattle.c_sections.specs.Working.Bodies.{begins_of, code_of, instr_of, paths_
 use Rattle.c_sections.specs.Working.Marked.{mark_in}
 use Rattle.c_sections.proofs.instructions.MarkedLines.push_next.Goals as goal
 
--- the text of the instruction at a place, behind another and in one line
+-- the text of the instruction at a place, after another and in one line
 marked_there : (mark : List ℕ) (text : Instr → List ℕ) (code : List Instr) (place : ℕ) → place < length code →
     mark ++ flat (text_at text code place) ≡ text_at (λ i. mark ++ flat (text i)) code place
 marked_there mark text [] place h = absurd (omega arith)

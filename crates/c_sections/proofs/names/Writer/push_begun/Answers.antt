@@ -4,7 +4,7 @@ use Rattle.std.specs.Fmt.{decimal}
 use Rattle.core_lang.specs.declared.tree.Local.{Local}
 use Rattle.locks.specs.Theory.Written.{piece_added}
 use Rattle.c_sections.specs.Sections.{section_name, arguments_text, kept_line}
-use Rattle.c_sections.proofs.Chains.{then, more}
+use Rattle.c_statements.specs.Theory.Chains.{then, more}
 use Rattle.c_sections.proofs.names.Writer.push_begun.Goals as goal
 
 pub returns : goal.returns

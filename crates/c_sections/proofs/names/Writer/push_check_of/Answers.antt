@@ -2,8 +2,8 @@ use Rattle.std.proofs.Common.{◌∙◌, ◌++◌, ℕ, List, string_bytes, ap}
 use Rattle.std.specs.Prelude.{codes}
 use Rattle.locks.specs.Texts.{struct_name}
 use Rattle.locks.specs.Theory.Written.{piece_added}
-use Rattle.c_sections.specs.Names.{own, local_text}
-use Rattle.c_sections.proofs.Chains.{then, more}
+use Rattle.c_statements.specs.Names.{own, local_text}
+use Rattle.c_statements.specs.Theory.Chains.{then, more}
 use Rattle.c_sections.proofs.Lines.{joined_word}
 use Rattle.c_sections.proofs.names.Writer.push_check_of.Goals as goal
 

@@ -3,7 +3,7 @@ use Rattle.std.specs.Prelude.{codes}
 use Rattle.c_sections.specs.Instructions.{prints}
 use Rattle.c_sections.specs.Sections.{prototype_text, uses, begun_text}
 use Rattle.c_sections.specs.Working.Prototypes.{declarations_of, code_of}
-use Rattle.c_sections.proofs.Chains.{more}
+use Rattle.c_statements.specs.Theory.Chains.{more}
 use Rattle.c_sections.proofs.names.Writer.push_front.Goals as goal
 
 pub returns : goal.returns

@@ -1,9 +1,9 @@
 use Rattle.std.proofs.Common.{◌++◌, string_bytes}
 use Rattle.std.specs.Prelude.{codes}
 use Rattle.locks.specs.Theory.Written.{piece_added}
-use Rattle.c_sections.specs.Acquires.{numbered}
+use Rattle.c_statements.specs.Acquires.{numbered}
 use Rattle.c_sections.specs.Working.Prototypes.{check_line_of}
-use Rattle.c_sections.proofs.Chains.{then, more}
+use Rattle.c_statements.specs.Theory.Chains.{then, more}
 use Rattle.c_sections.proofs.names.Writer.push_guarded.Goals as goal
 
 pub returns : goal.returns

@@ -1,5 +1,5 @@
 use Rattle.std.proofs.Common.{◌≡◌, ◌++◌, drop, string_bytes}
-use Rattle.c_sections.specs.Acquires.{numbered}
+use Rattle.c_statements.specs.Acquires.{numbered}
 use Rattle.c_sections.specs.Working.Prototypes.{local_of, locals_of}
 use Rattle.c_sections.proofs.names.Writer.push_locals.Given as goal
 

@@ -1,10 +1,10 @@
 use Rattle.std.proofs.Common.{◌++◌, string_bytes}
 use Rattle.std.specs.Prelude.{codes}
 use Rattle.locks.specs.Theory.Written.{piece_added}
-use Rattle.c_sections.specs.Names.{own}
+use Rattle.c_statements.specs.Names.{own}
 use Rattle.c_sections.specs.Sections.{out_text}
 use Rattle.c_sections.specs.Working.Prototypes.{head_of, parameters_of}
-use Rattle.c_sections.proofs.Chains.{then, more}
+use Rattle.c_statements.specs.Theory.Chains.{then, more}
 use Rattle.c_sections.proofs.names.Writer.push_prototype.Goals as goal
 
 pub returns : goal.returns

@@ -9,15 +9,15 @@ use Rattle.code.specs.Lowering.{section_code}
 use Rattle.code.specs.Working.Asked.{lists_of}
 use Rattle.code.specs.declared.instr.Instr.{Instr}
 use Rattle.code.specs.declared.listed.Listed.{Listed}
-use Rattle.c_groups.specs.Plans.{IsPlan, plan}
+use Rattle.c_language.specs.Plans.{IsPlan, plan}
 use Rattle.c_sections.specs.declared.instructions.InstructionLines.{InstructionLines}
-use Rattle.c_sections.specs.declared.marks.Marks.{Marks}
+use Rattle.c_sections.specs.declared.marks.LineMarks.{LineMarks}
 use Rattle.c_sections.specs.Instructions.{prints, body_text}
 use Rattle.c_sections.specs.Sections.{front_text, end_text, checks, text_of, section_text}
 use Rattle.c_sections.specs.Working.Bodies as body
 use Rattle.c_sections.specs.Working.Marked.{marks_of}
 use Rattle.c_sections.specs.Working.Prototypes.{front_of, code_of}
-use Rattle.c_sections.proofs.Chains.{more}
+use Rattle.c_statements.specs.Theory.Chains.{more}
 use Rattle.c_sections.proofs.names.Writer.push_section.Goals as goal
 
 has_plan : (program : Typed) (code : List Instr) (lists : List (List ℕ)) (section : Section) → code ≡ section_code lists section →
@@ -30,7 +30,7 @@ lines_plan program listed x b law =
     subst (λ (p : Typed). IsPlan p (body.code_of x) (plan p (body.code_of x))) (sym b.program_is)
     (subst (λ (l : Listed). IsPlan program (code_of l) (plan program (code_of l))) (sym b.listed_is) law)
 
-lines_text : (marks : Option Marks) (program : Typed) (listed : Listed) (x : InstructionLines) → body.IsBodyOf program listed x →
+lines_text : (marks : Option LineMarks) (program : Typed) (listed : Listed) (x : InstructionLines) → body.IsBodyOf program listed x →
     body.body_of x (marks_of marks x.listed.code.now)
     ≡ body_text program listed.section.now (lists_of listed) (map lock_path_of listed.paths.now) (marks_of marks listed.code.now) (code_of listed)
 lines_text marks program listed x b =

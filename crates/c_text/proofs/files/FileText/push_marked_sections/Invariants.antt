@@ -1,5 +1,5 @@
 use Rattle.std.proofs.Common.{◌≡◌, ◌++◌, string_bytes, drop}
-use Rattle.c_sections.specs.Acquires.{numbered}
+use Rattle.c_statements.specs.Acquires.{numbered}
 use Rattle.c_text.specs.Files.{marked_of, file_of}
 use Rattle.c_text.specs.Working.Sections.{file_in}
 use Rattle.c_text.proofs.files.FileText.push_marked_sections.Given as goal

@@ -1,5 +1,5 @@
 use Rattle.std.proofs.Common.{◌≡◌, ◌++◌, string_bytes, drop}
-use Rattle.c_sections.specs.Acquires.{numbered}
+use Rattle.c_statements.specs.Acquires.{numbered}
 use Rattle.c_text.specs.Files.{section_of}
 use Rattle.c_text.proofs.files.FileText.push_plain_sections.Given as goal
 

@@ -4,7 +4,7 @@ use Rattle.std.proofs.lemmas.Result.{on_ok_weaker}
 use Rattle.locks.specs.Theory.Written.{piece_added}
 use Rattle.c_sections.specs.Instructions.{prints}
 use Rattle.c_text.proofs.Sections.{prototype_is}
-use Rattle.c_text.proofs.Steps.{after}
+use Rattle.c_data.specs.Theory.Steps.{after}
 use Rattle.c_text.proofs.files.FileText.push_prototype.Goals as goal
 
 pub returns : goal.returns

@@ -1,5 +1,5 @@
 use Rattle.std.proofs.Common.{◌≡◌, ◌++◌, string_bytes, drop}
-use Rattle.c_sections.specs.Acquires.{numbered}
+use Rattle.c_statements.specs.Acquires.{numbered}
 use Rattle.c_text.specs.Mains.{word_next}
 use Rattle.c_text.proofs.writer.FileWriter.push_each_word.Given as goal
 

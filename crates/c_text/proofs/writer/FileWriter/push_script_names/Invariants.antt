@@ -1,5 +1,5 @@
 use Rattle.std.proofs.Common.{◌≡◌, ◌++◌, string_bytes, drop}
-use Rattle.c_sections.specs.Acquires.{numbered}
+use Rattle.c_statements.specs.Acquires.{numbered}
 use Rattle.c_text.specs.Mains.{script_name}
 use Rattle.c_text.proofs.writer.FileWriter.push_script_names.Given as goal
 

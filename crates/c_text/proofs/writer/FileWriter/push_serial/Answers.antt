@@ -1,4 +1,4 @@
-use Rattle.c_text.proofs.Steps.{after}
+use Rattle.c_data.specs.Theory.Steps.{after}
 use Rattle.c_text.specs.Mains.{serial_text}
 use Rattle.c_text.proofs.writer.FileWriter.push_serial.Goals as goal
 

@@ -1,6 +1,6 @@
 use Rattle.locks.specs.Theory.Written.{piece_added}
 use Rattle.std.specs.Prelude.{codes, string_bytes}
-use Rattle.c_text.proofs.Steps.{after, both}
+use Rattle.c_data.specs.Theory.Steps.{after, both}
 use Rattle.c_text.specs.Histories.{tell_text}
 use Rattle.c_text.proofs.writer.FileWriter.push_tell.Goals as goal
 

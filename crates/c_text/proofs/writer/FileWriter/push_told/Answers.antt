@@ -1,5 +1,5 @@
 use Rattle.std.specs.Prelude.{string_bytes}
-use Rattle.c_text.proofs.Steps.{after, both}
+use Rattle.c_data.specs.Theory.Steps.{after, both}
 use Rattle.c_text.specs.Mains.{told_text}
 use Rattle.c_text.proofs.writer.FileWriter.push_told.Goals as goal
 

@@ -5,7 +5,7 @@ use Rattle.code.specs.Working.Asked.{lists_of}
 use Rattle.code.specs.Working.Sections.{front_text_of}
 use Rattle.code.proofs.lines.SectionLines.push.Given as goal
 
--- what is written and the text of what is left are the whole text
+-- the written text and that of the remaining items are the whole text
 abbrev pub invariant-loop-place : goal.invariant-loop-place
 invariant-loop-place l =
     let program = l.self.lister.now.program.now in

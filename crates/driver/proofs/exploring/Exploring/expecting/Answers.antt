@@ -3,9 +3,9 @@ use Rattle.std.proofs.lemmas.Result.{IfOk-weaker}
 use Rattle.std.proofs.lemmas.List.Elements.{Contains-append_right}
 use Rattle.std.specs.Prelude.{Contains}
 use Rattle.core_lang.specs.declared.typed.Typed.{Typed}
-use Rattle.expectations.specs.Texts.{said_of}
-use Rattle.expectations.specs.Cells.{names_of}
-use Rattle.report_outcomes.specs.Names.{IsUnknownIn, is_known, names_in, names_together}
+use Rattle.report_runs.specs.ExpectationTexts.{said_of}
+use Rattle.report_runs.specs.ExpectationCells.{names_of}
+use Rattle.report_runs.specs.Names.{IsUnknownIn, is_known, names_in, names_together}
 use Rattle.code.specs.Listing.{line}
 use Rattle.driver.specs.Outcomes.{AreExpectedNames, names_given, unknown_cell, unknown_named}
 use Rattle.driver.proofs.exploring.Exploring.expecting.Goals as goal

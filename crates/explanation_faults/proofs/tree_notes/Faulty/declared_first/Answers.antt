@@ -3,9 +3,11 @@ use Rattle.std.proofs.lemmas.Option.{same_Some}
 use Rattle.syntax.specs.Trees.{Decl}
 use Rattle.syntax.specs.declared.tree.Decl as the_decl
 use Rattle.syntax.specs.Views.{decl_of}
-use Rattle.explanation_faults.specs.NameSpaces.{IsDeclaredIn, in_one, top_names}
-use Rattle.explanation_faults.specs.Working.Values.{decls_of, idents}
-use Rattle.explanation_faults.proofs.Places.{at_has, viewed_at, within_view}
+use Rattle.explanation_names.specs.NameSpaces.{IsDeclaredIn, in_one, top_names}
+use Rattle.explanation_faults.specs.Working.Values.{decls_of}
+use Rattle.explanation_names.specs.Working.Values.{idents}
+use Rattle.explanation_faults.proofs.Places.{at_has}
+use Rattle.explanation_names.specs.Theory.Viewed.{viewed_at, within_view}
 use Rattle.explanation_faults.proofs.Declared.{not_declared}
 use Rattle.explanation_faults.proofs.tree_notes.Faulty.declared_first.Goals as goal
 

@@ -1,7 +1,7 @@
 use Rattle.std.proofs.Common.{◌≡◌, ◌<◌, ℕ, Some}
 use Rattle.std.specs.Prelude.{slice_get}
 use Rattle.syntax.specs.Trees.{Ident, Decl}
-use Rattle.explanation_faults.specs.NameSpaces.{top_names, IsDeclaredIn}
+use Rattle.explanation_names.specs.NameSpaces.{top_names, IsDeclaredIn}
 use Rattle.explanation_faults.specs.Working.Values.{decls_of}
 use Rattle.explanation_faults.proofs.tree_notes.Faulty.declared_first.Given as goal
 

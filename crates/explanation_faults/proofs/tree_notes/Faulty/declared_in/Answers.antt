@@ -1,6 +1,6 @@
 use Rattle.std.proofs.Common.{sym}
 use Rattle.syntax.specs.Views.{decl_of}
-use Rattle.explanation_faults.specs.Working.Values.{idents}
+use Rattle.explanation_names.specs.Working.Values.{idents}
 use Rattle.explanation_faults.proofs.Declared.{of_body, of_no_body}
 use Rattle.explanation_faults.proofs.tree_notes.Faulty.declared_in.Goals as goal
 

@@ -1,6 +1,7 @@
 use Rattle.std.proofs.Common.{inl, refl, sym}
 use Rattle.syntax.specs.Views.{ident}
-use Rattle.explanation_faults.specs.Working.Values.{decls_of, text_at, tokens_of}
+use Rattle.explanation_faults.specs.Working.Values.{decls_of, tokens_of}
+use Rattle.explanation_names.specs.Working.Viewed.{text_at}
 use Rattle.explanation_faults.proofs.NearNames.{none_told, none_near}
 use Rattle.explanation_faults.proofs.tree_notes.Faulty.near_note.Goals as goal
 

@@ -2,7 +2,8 @@ use Rattle.std.proofs.Common.{◌∙◌, sym, ap}
 use Rattle.std.specs.Prelude.{codes}
 use Rattle.syntax.specs.Trees.{Ident}
 use Rattle.explanation_faults.specs.Words.{name_note}
-use Rattle.explanation_faults.specs.Working.Values.{decls_of, member_at}
+use Rattle.explanation_faults.specs.Working.Values.{decls_of}
+use Rattle.explanation_names.specs.Working.Viewed.{member_at}
 use Rattle.explanation_faults.proofs.FinalsPassed.{at_same}
 use Rattle.explanation_faults.proofs.tree_notes.Faulty.passed_note.Goals as goal
 

@@ -1,6 +1,6 @@
 use Rattle.std.proofs.Common.{get_or, arith}
-use Rattle.source_steps.specs.declared.item.Item.{Item}
-use Rattle.source_steps.specs.declared.item.Until.TheVariants.{Count}
+use Rattle.input_files.specs.declared.item.Item.{Item}
+use Rattle.input_files.specs.declared.item.Until.TheVariants.{Count}
 use Rattle.interleavings.specs.Working.Found.{IsTooMuch, CountIsTooMuch}
 use Rattle.interleavings.proofs.Finding.{weaker_fault, counts_on, counts_fault}
 use Rattle.interleavings.proofs.items.Finder.count.Goals as goal

@@ -1,6 +1,6 @@
 use Rattle.std.proofs.Common.{◌≡◌, ◌∙◌, ◌==◌, true, List, [], ◌∷◌, length, refl, sym, subst, arith}
 use Rattle.std.proofs.lemmas.Bool.{eqb-true}
-use Rattle.source_steps.specs.declared.item.Item.{Item}
+use Rattle.input_files.specs.declared.item.Item.{Item}
 use Rattle.interleavings.specs.Threads.{at_opening}
 use Rattle.interleavings.specs.Working.Found.{RunsItems}
 use Rattle.interleavings.proofs.Finding.{runs_none, run_made}

@@ -2,8 +2,8 @@ use Rattle.std.proofs.Common.{◌≡◌, ◌<◌, length, Some, set, refl, sym, 
 use Rattle.std.specs.Prelude.{slice_get}
 use Rattle.std.proofs.lemmas.List.{set-set}
 use Rattle.std.proofs.lemmas.Option.{slice_get_read}
-use Rattle.interleavings.specs.declared.state.State.{State}
-use Rattle.interleavings.specs.declared.state.State.TheVariants as state
+use Rattle.interleavings.specs.declared.state.TypedState.{TypedState}
+use Rattle.interleavings.specs.declared.state.TypedState.TheVariants as state
 use Rattle.interleavings.specs.Working.States.{state_of}
 use Rattle.interleavings.proofs.Along.{ran_tied, ran_steps, ran_moves}
 use Rattle.interleavings.proofs.world.World.run_on.Goals as goal
@@ -15,7 +15,7 @@ invariant_of-self c =
     let low : t < length states = omega (arith, c.if-thread-len.false, c.len.ensures) in
     let here : slice_get states t ≡ Some (state.Running c.in-Running-state.running) =
     slice_get_read states (length states) t c.index_mut.result.now refl low c.index_mut.ensures.value
-    ∙ ap (λ (x : State). Some x) (sym c.replace-state.ensures.value ∙ c.in-Running-state.is) in
+    ∙ ap (λ (x : TypedState). Some x) (sym c.replace-state.ensures.value ∙ c.in-Running-state.is) in
     let last = set (set states t c.replace-state.new.dest) t c.put.new.place in
     let is : last ≡ set states t (state_of c.run-count.result.1) =
     set-set states t c.replace-state.new.dest c.put.new.place ∙ ap (set states t) (c.put.ensures ∙ c.state_of.ensures) in
@@ -31,7 +31,7 @@ returns-clause-steps c =
     let low : t < length states = omega (arith, c.if-thread-len.false, c.len.ensures) in
     let here : slice_get states t ≡ Some (state.Running c.in-Running-state.running) =
     slice_get_read states (length states) t c.index_mut.result.now refl low c.index_mut.ensures.value
-    ∙ ap (λ (x : State). Some x) (sym c.replace-state.ensures.value ∙ c.in-Running-state.is) in
+    ∙ ap (λ (x : TypedState). Some x) (sym c.replace-state.ensures.value ∙ c.in-Running-state.is) in
     let last = set (set states t c.replace-state.new.dest) t c.put.new.place in
     let is : last ≡ set states t (state_of c.run-count.result.1) =
     set-set states t c.replace-state.new.dest c.put.new.place ∙ ap (set states t) (c.put.ensures ∙ c.state_of.ensures) in
@@ -47,7 +47,7 @@ returns-clause-moves c =
     let low : t < length states = omega (arith, c.if-thread-len.false, c.len.ensures) in
     let here : slice_get states t ≡ Some (state.Running c.in-Running-state.running) =
     slice_get_read states (length states) t c.index_mut.result.now refl low c.index_mut.ensures.value
-    ∙ ap (λ (x : State). Some x) (sym c.replace-state.ensures.value ∙ c.in-Running-state.is) in
+    ∙ ap (λ (x : TypedState). Some x) (sym c.replace-state.ensures.value ∙ c.in-Running-state.is) in
     let last = set (set states t c.replace-state.new.dest) t c.put.new.place in
     let is : last ≡ set states t (state_of c.run-count.result.1) =
     set-set states t c.replace-state.new.dest c.put.new.place ∙ ap (set states t) (c.put.ensures ∙ c.state_of.ensures) in

@@ -1,6 +1,6 @@
 use Rattle.std.proofs.Common.{◌≡◌, take}
 use Rattle.interleavings.specs.Threads.{with_steps}
-use Rattle.source_steps.specs.Turns.{steps_of}
+use Rattle.input_files.specs.Turns.{steps_of}
 use Rattle.interleavings.proofs.world.World.take_turns.Given as goal
 
 abbrev pub invariant-loop-turn : goal.invariant-loop-turn

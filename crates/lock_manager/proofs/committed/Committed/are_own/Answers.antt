@@ -13,7 +13,7 @@ use Rattle.lock_manager.proofs.Lists.{all_fails, all_whole, never_both, one_plac
 use Rattle.lock_manager.proofs.committed.Committed.are_own.Goals as goal
 
 module _ (inside locks held : List Lock) (same : inside ≡ locks) (writes : List (ℕ × Value)) (i : ℕ) (d : ℕ × Value) (lt : i < length writes) where
-  -- a write behind the last cell
+  -- a write after the last cell
   not_there : (count : ℕ) → count ≡ length inside → count ≤ (get_or writes i d).0 →
       (IsTrue false → All (IsOwnWrite locks held) writes) × (All (IsOwnWrite locks held) writes → IsTrue false)
   not_there count is past =

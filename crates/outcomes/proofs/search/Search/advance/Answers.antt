@@ -1,5 +1,8 @@
-use Rattle.std.proofs.Common.{◌≡◌, ◌∙◌, ℕ, ◌+◌, List, Option, Some, get_or, slice_set, ap, refl, arith}
+use Rattle.std.proofs.Common.{◌≡◌, ◌∙◌, ℕ, ◌+◌, List, Option, Some, get_or, slice_set, ap, arith}
 use Rattle.core_lang.specs.declared.value.Outcome.{Outcome}
+use Rattle.core_lang.specs.declared.value.Value.{Value}
+use Rattle.meaning.specs.Working.Undo.{undone}
+use Rattle.outcomes.proofs.ChangeLemmas.{undone-append}
 use Rattle.outcomes.specs.Orders.{call_number}
 use Rattle.outcomes.specs.Ends.{answered}
 use Rattle.std.proofs.lemmas.Grind.{get_or_default_zero}
@@ -31,7 +34,7 @@ pub returns-in_default : goal.returns-in_default
 returns-in_default c =
     let there = rw (c.deref.ensures.value, c.unwrap-call.ensures) at c.next.ensures in
     goes_beyond c.args.self.now c.args.walk.now c.args.thread (invocation c.unwrap-call.result.now) c.requires.walk there.next
-    (rw c.in_default.is at c.in_ok-outcome.ensures)
+    (rw c.in_default.is at c.in_ok-end.ensures)
 
 pub index-requires : goal.index-requires
 index-requires c =
@@ -55,7 +58,8 @@ call_number-number-requires-clause-thread c =
 pub returns : goal.returns
 returns c =
     let program = c.args.self.now.program.now in
-    let outcome = c.in-Some.outcome in
+    let outcome = c.in-Some.end.outcome in
+    let over = rw c.in-Some.is at c.in_ok-end.ensures in
     let there = rw (c.deref.ensures.value, c.unwrap-call.ensures) at c.next.ensures in
     let xs = c.args.walk.now.done.items in
     let within = next_within program xs c.args.thread c.requires.left.0 c.requires.left.1 in
@@ -69,12 +73,19 @@ returns c =
     let answers : c.in_ok-walk.field-0.items ≡ answered program xs c.args.thread outcome c.args.walk.now.answers.items =
     c.in_ok-walk.ensures ∙ ap (λ (a : List (Option Outcome)). slice_set a c.call_number-number.result (Some outcome)) c.deref-2.ensures.value
     ∙ ap (λ (k : ℕ). slice_set c.args.walk.now.answers.items k (Some outcome)) number in
+    let heap : c.take_back.new.self ≡ c.run.new.heap =
+    c.take_back.ensures ∙ ap (λ (w : List (ℕ × Value)). undone w c.run.new.heap) c.in_ok-memory.ensures.empty in
     walks_further c.args.self.now c.args.walk.now
     (record {
-      heap = c.run.new.heap;
+      heap = c.take_back.new.self;
+      overwritten = c.keep_writes.new.before;
       done = with_item c.args.walk.now.done c.args.thread (c.index_mut.result.now + 1);
       answers = c.in_ok-walk.field-0;
       order = c.push.new.self;
     })
     c.args.thread (invocation c.unwrap-call.result.now) c.run.new.heap outcome c.requires.walk there.next
-    (rw c.in-Some.is at c.in_ok-outcome.ensures) refl (ap (λ (k : ℕ). slice_set xs c.args.thread (k + 1)) done) answers c.in_ok-push.ensures.items
+    over.0 heap
+    (ap (undone c.keep_writes.new.before.items) heap ∙ ap (λ (w : List (ℕ × Value)). undone w c.run.new.heap) c.in_ok-memory.ensures.kept
+    ∙ undone-append c.args.walk.now.overwritten.items c.in-Some.end.overwritten.items c.run.new.heap
+    ∙ ap (undone c.args.walk.now.overwritten.items) over.1 ∙ c.requires.walk.back)
+    (ap (λ (k : ℕ). slice_set xs c.args.thread (k + 1)) done) answers c.in_ok-push.ensures.items

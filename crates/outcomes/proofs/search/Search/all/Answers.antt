@@ -1,8 +1,12 @@
-use Rattle.std.proofs.Common.{◌≡◌, ◌∙◌, ℕ, ◌+◌, ◌-◌, [], ◌++◌, length, map, ap, sym, subst, refl, arith}
+use Rattle.std.proofs.Common.{◌≡◌, ◌∙◌, ℕ, ◌+◌, ◌-◌, List, [], ◌++◌, length, map, ap, sym, subst, refl, arith, rules}
 use Rattle.core_lang.specs.WellFormed.{calls_together}
 use Rattle.outcomes.specs.Working.Steps.{start_of, made_from_all}
 use Rattle.outcomes.specs.declared.search.Work.{Work}
 use Rattle.outcomes.specs.Orders.{none_done}
+use Rattle.outcomes.specs.Working.States.{Layered}
+use Rattle.core_lang.specs.declared.value.Value.{Value}
+use Rattle.core_lang.specs.Serial.{opening_heap}
+use Rattle.meaning.specs.Working.Undo.{undone}
 use Rattle.outcomes.specs.Working.Searching.{AreGood, order_at, weight}
 use Rattle.outcomes.proofs.Whole.{good_at_first, sums_at_first, sums_of_more, good_of_more, stops_after, too_many}
 use Rattle.outcomes.proofs.Whole.{are_all_ends}
@@ -12,14 +16,18 @@ use Rattle.outcomes.proofs.search.Search.all.Goals as goal
 pub loop-depth-init : goal.loop-depth-init
 loop-depth-init c =
     record {
-      heap = c.in_ok-heap.ensures.cells;
-      empty = c.new.ensures;
-      layer = good_at_first c.args.self.now c.new-2.result c.in_ok-layer.layer c.requires.checked c.new-2.ensures c.in_ok-layer.ensures;
-      sums = sums_at_first c.args.self.now c.in_ok-layer.layer c.in_ok-layer.ensures;
+      back = record {
+        opening = search rules;
+        back = ap (λ (w : List (ℕ × Value)). undone w c.in_ok-heap.heap) c.new.ensures.items ∙ c.in_ok-heap.ensures.opens;
+      };
+      empty = c.new-2.ensures.states;
+      opening = search rules;
+      layer = good_at_first c.args.self.now c.new-3.result c.in_ok-layer.layer.states c.requires.checked c.new-3.ensures c.in_ok-layer.ensures.states;
+      sums = sums_at_first c.args.self.now c.in_ok-layer.layer.states c.in_ok-layer.ensures.states;
       before = (
         [],
         no_places c.args.self.now.program.now c.args.self.now.turns c.args.self.now.asked.now.answers,
-        (let one : length c.in_ok-layer.layer ≡ 1 = ap length c.in_ok-layer.ensures in let root : length c.new-2.result ≡ 1 = ap length c.new-2.ensures in omega arith),
+        (let one : length c.in_ok-layer.layer.states ≡ 1 = ap length c.in_ok-layer.ensures.states in let root : length c.new-3.result ≡ 1 = ap length c.new-3.ensures in omega arith),
       );
     }
 
@@ -33,8 +41,8 @@ returns-in-Some-Beyond c =
 pub returns-in-Some-TooMany : goal.returns-in-Some-TooMany
 returns-in-Some-TooMany c =
     let many = rw (c.in-Some-TooMany.is, c.in-Some-TooMany.field-0-is) at c.in_ok-expand_all.ensures in
-    let old : Work = record { heap = c.loop-depth.work.heap; next = c.loop-depth.work.next; trail = c.loop-depth.work.trail; depth = c.loop-depth.depth } in
-    too_many c.args.self.now old c.loop-depth.layer c.calls-calls.result c.loop-depth.depth many c.loop-depth.invariant.empty refl c.loop-depth-test.true
+    let old : Work = record { heap = c.loop-depth.work.heap; overwritten = c.loop-depth.work.overwritten; next = c.loop-depth.work.next; trail = c.loop-depth.work.trail; depth = c.loop-depth.depth } in
+    too_many c.args.self.now old c.loop-depth.layer.states c.calls-calls.result c.loop-depth.depth many c.loop-depth.invariant.empty refl c.loop-depth-test.true
     c.calls-calls.ensures
     (λ f. c.loop-depth.invariant.sums f (c.calls-calls.result - c.loop-depth.depth)
     ∙ ap (λ (k : ℕ). weight c.args.self.now.program.now c.args.self.now.turns f k (none_done c.args.self.now.program.now) (start_of c.args.self.now))
@@ -43,31 +51,41 @@ returns-in-Some-TooMany c =
 pub loop-depth-preserved : goal.loop-depth-preserved
 loop-depth-preserved c =
     let goes = rw c.in-None.is at c.in_ok-expand_all.ensures in
-    let old : Work = record { heap = c.loop-depth.work.heap; next = c.loop-depth.work.next; trail = c.loop-depth.work.trail; depth = c.loop-depth.depth } in
+    let old : Work = record { heap = c.loop-depth.work.heap; overwritten = c.loop-depth.work.overwritten; next = c.loop-depth.work.next; trail = c.loop-depth.work.trail; depth = c.loop-depth.depth } in
     record {
-      heap = goes.work.heap;
-      empty = c.replace-layer.ensures.after ∙ c.new-in-loop-depth.ensures;
+      back = record {
+        opening = ap (λ (l : Layered). l.opening) c.replace-layer.ensures.after ∙ (let same : c.new-in-loop-depth.result.opening ≡ opening_heap c.args.self.now.program.now = search rules in same);
+        back = goes.work.back.back;
+      };
+      empty = ap (λ (l : Layered). l.states) c.replace-layer.ensures.after ∙ c.new-in-loop-depth.ensures.states;
+      opening = rw c.replace-layer.ensures.value goes.work.back.opening;
       layer = rw c.replace-layer.ensures.value
-          (good_of_more c.args.self.now old c.expand_all.new.work (made_from_all c.args.self.now c.loop-depth.layer) c.loop-depth.depth goes refl);
+          (good_of_more c.args.self.now old c.expand_all.new.work (made_from_all c.args.self.now c.loop-depth.layer.states) c.loop-depth.depth goes refl);
       sums = λ f left. rw c.replace-layer.ensures.value
-          (sums_of_more c.args.self.now old c.expand_all.new.work c.loop-depth.layer c.loop-depth.depth goes c.loop-depth.invariant.empty
+          (sums_of_more c.args.self.now old c.expand_all.new.work c.loop-depth.layer.states c.loop-depth.depth goes c.loop-depth.invariant.empty
           c.loop-depth.invariant.sums f left);
       before = rw c.replace-layer.ensures.value (
-        c.loop-depth.invariant.before.0 ++ map configuration_of c.loop-depth.layer,
+        c.loop-depth.invariant.before.0 ++ map configuration_of c.loop-depth.layer.states,
         places_more c.settled_are_serial.ensures c.at_most_one_serial.ensures c.args.self.now.program.now c.args.self.now.turns c.args.self.now.asked.now.answers c.loop-depth.depth
-            c.loop-depth.work.trail c.loop-depth.layer c.loop-depth.invariant.before.0 c.loop-depth.invariant.layer
+            c.loop-depth.work.trail c.loop-depth.layer.states c.loop-depth.invariant.before.0 c.loop-depth.invariant.layer
             (λ f. c.loop-depth.invariant.sums f 0 ∙ ap (λ (k : ℕ). weight c.args.self.now.program.now c.args.self.now.turns f k (none_done c.args.self.now.program.now) (start_of c.args.self.now)) (omega arith))
             c.loop-depth.invariant.before.1,
-        before_more c.args.self.now old c.expand_all.new.work (made_from_all c.args.self.now c.loop-depth.layer)
-            c.loop-depth.invariant.before.0 c.loop-depth.layer goes c.loop-depth.invariant.empty
+        before_more c.args.self.now old c.expand_all.new.work (made_from_all c.args.self.now c.loop-depth.layer.states)
+            c.loop-depth.invariant.before.0 c.loop-depth.layer.states goes c.loop-depth.invariant.empty
             c.loop-depth.invariant.before.2,
       );
     }
 
-pub ends_of-requires : goal.ends_of-requires
-ends_of-requires c =
+pub ends_of-requires-clause-work : goal.ends_of-requires-clause-work
+ends_of-requires-clause-work c = c.loop-depth.invariant.back
+
+pub ends_of-requires-clause-opening : goal.ends_of-requires-clause-opening
+ends_of-requires-clause-opening c = c.loop-depth.invariant.opening
+
+pub ends_of-requires-clause-layer : goal.ends_of-requires-clause-layer
+ends_of-requires-clause-layer c =
     let at_end : c.loop-depth.depth ≡ c.calls-calls.result = omega arith in
-    subst (λ (k : ℕ). AreGood c.args.self.now.program.now c.args.self.now.turns k (start_of c.args.self.now) c.loop-depth.work.trail c.loop-depth.layer)
+    subst (λ (k : ℕ). AreGood c.args.self.now.program.now c.args.self.now.turns k (start_of c.args.self.now) c.loop-depth.work.trail c.loop-depth.layer.states)
     (at_end ∙ c.calls-calls.ensures) c.loop-depth.invariant.layer
 
 pub returns : goal.returns
@@ -78,12 +96,12 @@ returns c =
     let at_end : c.loop-depth.depth ≡ c.calls-calls.result = omega arith in
     let here : c.loop-depth.depth + 0 ≡ calls_together program.threads.items = (let all : c.calls-calls.result ≡ calls_together program.threads.items = c.calls-calls.ensures in omega arith) in (
       are_all_ends c.whole_within_some_turns.ensures.over c.settled_are_serial.ensures c.at_most_one_serial.ensures c.args.self.now
-          c.loop-depth.work.trail c.loop-depth.layer _
+          c.loop-depth.work.trail c.loop-depth.layer.states _
           (λ f. c.loop-depth.invariant.sums f 0 ∙ ap (λ (k : ℕ). weight program n f k (none_done program) start) here)
-          c.in_ok-ends.ensures,
+          c.in_ok-ends.ensures.told,
       has_places c.whole_within_some_turns.ensures.over c.settled_are_serial.ensures c.at_most_one_serial.ensures program n c.args.self.now.asked.now.answers c.loop-depth.depth
-          c.len-configurations.result c.loop-depth.work.trail c.loop-depth.layer c.loop-depth.invariant.before.0 (at_end ∙ c.calls-calls.ensures)
+          c.len-configurations.result c.loop-depth.work.trail c.loop-depth.layer.states c.loop-depth.invariant.before.0 (at_end ∙ c.calls-calls.ensures)
           c.loop-depth.invariant.layer
           (λ f. c.loop-depth.invariant.sums f 0 ∙ ap (λ (k : ℕ). weight program n f k (none_done program) start) (omega arith))
-          c.loop-depth.invariant.before.1 (c.loop-depth.invariant.before.2 ∙ sym c.len-configurations.ensures),
+          c.loop-depth.invariant.before.1 (c.loop-depth.invariant.before.2 ∙ sym (ap (λ (t : List (List ℕ)). length t) c.in_ok-ends.ensures.trail) ∙ sym c.len-configurations.ensures),
     )

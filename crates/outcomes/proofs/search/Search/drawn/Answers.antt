@@ -14,7 +14,7 @@ pub loop-preserved : goal.loop-preserved
 loop-preserved c =
     let walked = rw c.in_default.is at c.in_ok-thread.ensures in
     let old : Drawing = record { walk = c.walk.new.walk; ends = c.loop.drawing.ends; trail = c.loop.drawing.trail } in
-    ends_more c.args.self.now old c.note.new.self c.loop.counter walked.0 walked.1 c.loop.invariant.ends c.loop.invariant.count c.loop.invariant.begun
+    ends_more c.args.self.now old c.note.new.self c.loop.counter walked.0 walked.1 c.loop.invariant.ends c.loop.invariant.count c.loop.invariant.begun c.loop.invariant.opening
     c.in_ok-note.ensures
 
 pub returns : goal.returns

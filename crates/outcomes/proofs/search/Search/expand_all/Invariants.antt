@@ -4,4 +4,4 @@ use Rattle.outcomes.proofs.search.Search.expand_all.Given as goal
 
 -- the calls from the states so far were made
 abbrev pub invariant-loop-number : goal.invariant-loop-number
-invariant-loop-number l = GoesOn l.self l.initial.work l.work (made_from_all l.self (take l.number l.layer))
+invariant-loop-number l = GoesOn l.self l.initial.work l.work (made_from_all l.self (take l.number l.layer.states))

@@ -1,9 +1,10 @@
-use Rattle.std.proofs.Common.{◌≡◌, ◌∙◌, ◌+◌, length, sym, subst, arith}
+use Rattle.std.proofs.Common.{◌∙◌, ◌+◌, length, ap, sym, subst, refl, arith}
 use Rattle.std.specs.Prelude.{slice_index}
 use Rattle.outcomes.specs.declared.search.Work.{Work}
-use Rattle.outcomes.specs.Working.States.{reached_of}
-use Rattle.outcomes.specs.Working.Steps.{GoesOn}
+use Rattle.outcomes.specs.Working.Changes.{applied}
+use Rattle.outcomes.specs.Working.Steps.{GoesOn, state_in}
 use Rattle.outcomes.specs.Working.Reducing.{by_group}
+use Rattle.outcomes.proofs.Going.{goes_visited, reached_still}
 use Rattle.outcomes.proofs.Covering.{ready_is, group_more, group_past}
 use Rattle.outcomes.proofs.search.Search.expand_group.Goals as goal
 use Rattle.outcomes.proofs.search.Search.expand_group.Goals.{then-groups-thread+in_ok-stop+in_default-2, else-groups-thread}
@@ -19,17 +20,48 @@ bounds-groups-first c =
     let there = ready_is c.args.self.now.program.now c.deref.result.now (length c.args.self.now.program.now.threads.items) c.in-Some.first (sym c.first_ready.ensures ∙ c.in-Some.is) in
     omega (arith, there.1, c.requires.groups)
 
+pub loop-thread-init : goal.loop-thread-init
+loop-thread-init c =
+    let search = c.args.self.now in
+    let groups = c.args.groups.now in
+    let group = slice_index groups c.in-Some.first in
+    record {
+      goes = goes_visited search c.args.work.now c.visit.new.self c.args.from.now (by_group search groups group (state_in search c.args.from.now) 0)
+          c.in_ok-visit.ensures c.requires.work (λ f left. refl);
+      there = c.in_ok-visit.ensures.heap ∙ ap (applied c.args.from.now.changes.items) c.requires.work.back.opening;
+    }
+
+pub step-requires-clause-work : goal.step-requires-clause-work
+step-requires-clause-work c = c.loop-thread.invariant.goes.work
+
+pub step-requires-clause-there : goal.step-requires-clause-there
+step-requires-clause-there c = c.loop-thread.invariant.there
+
+pub step-requires-clause-from : goal.step-requires-clause-from
+step-requires-clause-from c =
+    let search = c.args.self.now in
+    let groups = c.args.groups.now in
+    reached_still search c.args.work.now c.loop-thread.work
+    (by_group search groups (slice_index groups c.in-Some.first) (state_in search c.args.from.now) c.loop-thread.thread) c.args.from.now
+    c.loop-thread.invariant.goes c.requires.from
+
 pub loop-thread-preserved : goal.loop-thread-preserved
 loop-thread-preserved c =
     let groups = c.args.groups.now in
-    let s = reached_of c.args.from.now in
-    let t = c.loop-thread.thread in
     let search = c.args.self.now in
+    let s = state_in search c.args.from.now in
+    let t = c.loop-thread.thread in
     let group = slice_index groups c.in-Some.first in
     elim c.if-groups-thread.branch [
-      | then-groups-thread+in_ok-stop+in_default-2 w ↦ subst (λ (x : Work). GoesOn search c.args.work.now x (by_group search groups group s (t + 1))) (sym w.work-is)
-          (group_more search groups group s t c.args.work.now c.loop-thread.work w.step.new.work c.loop-thread.invariant
-          (rw w.in_default-2.is at w.in_ok-stop.ensures) w.if-groups-thread.true)
-      | else-groups-thread w ↦ subst (λ (x : Work). GoesOn search c.args.work.now x (by_group search groups group s (t + 1))) (sym w.work-is)
-          (group_past search groups group s t c.args.work.now c.loop-thread.work c.loop-thread.invariant w.if-groups-thread.false)
+      | then-groups-thread+in_ok-stop+in_default-2 w ↦ record {
+        goes = subst (λ (x : Work). GoesOn search c.args.work.now x (by_group search groups group s (t + 1))) (sym w.work-is)
+            (group_more search groups group s t c.args.work.now c.loop-thread.work w.step.new.work c.loop-thread.invariant.goes
+            (rw w.in_default-2.is at w.in_ok-stop.ensures.steps) w.if-groups-thread.true);
+        there = ap (λ (x : Work). x.heap) w.work-is ∙ (rw w.in_default-2.is at w.in_ok-stop.ensures.there) ∙ c.loop-thread.invariant.there;
+      }
+      | else-groups-thread w ↦ record {
+        goes = subst (λ (x : Work). GoesOn search c.args.work.now x (by_group search groups group s (t + 1))) (sym w.work-is)
+            (group_past search groups group s t c.args.work.now c.loop-thread.work c.loop-thread.invariant.goes w.if-groups-thread.false);
+        there = ap (λ (x : Work). x.heap) w.work-is ∙ c.loop-thread.invariant.there;
+      }
     ]

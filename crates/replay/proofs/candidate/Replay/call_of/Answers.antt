@@ -1,5 +1,5 @@
 use Rattle.std.proofs.Common.{◌≡◌, ◌∙◌, ◌++◌, sym, ap, false, List, ℕ, string_bytes}
-use Rattle.source_histories.specs.Pieces.{begins}
+use Rattle.input_files.specs.Pieces.{begins}
 use Rattle.report.specs.Entry.{scheduled_called}
 use Rattle.report.specs.History.{call_head}
 use Rattle.replay.proofs.Candidates.{no_head}

@@ -1,5 +1,5 @@
 use Rattle.std.proofs.Common.{◌∷◌, List, ℕ, arith, refl, subst, sym}
-use Rattle.source_histories.specs.Histories.{lines_in, recorded_lines}
+use Rattle.input_files.specs.Histories.{lines_in, recorded_lines}
 use Rattle.replay.specs.Working.Reading.{IsAt}
 use Rattle.replay.proofs.Replays.{HasRead, read_start, read_more, ended_holds, ended_explains, explained, wanted_at}
 use Rattle.replay.proofs.candidate.Replay.judgement.Goals as goal

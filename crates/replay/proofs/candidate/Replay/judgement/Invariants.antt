@@ -1,5 +1,5 @@
 use Rattle.std.proofs.Common.{◌≤◌, ◌+◌, length}
-use Rattle.source_histories.specs.Histories.{lines_in, recorded_lines}
+use Rattle.input_files.specs.Histories.{lines_in, recorded_lines}
 use Rattle.replay.proofs.Replays.{HasRead}
 use Rattle.replay.proofs.candidate.Replay.judgement.Given as goal
 

@@ -2,7 +2,7 @@ use Rattle.std.proofs.Common.{◌≡◌, ◌∙◌, arith, ap, sym, slice_get, m
 use Rattle.core_lang.specs.declared.shape.Pool.{Pool}
 use Rattle.core_lang.specs.Typing.{lookup}
 use Rattle.locks.specs.Theory.Written.{item_here}
-use Rattle.source_histories.specs.Pieces.{before, behind, count_in}
+use Rattle.input_files.specs.Pieces.{before, behind, count_in}
 use Rattle.replay.specs.Told.{first_named, pool_named}
 use Rattle.replay.proofs.Members.{member_few, member_told, no_member}
 use Rattle.replay.proofs.candidate.Replay.object_in.Goals as goal

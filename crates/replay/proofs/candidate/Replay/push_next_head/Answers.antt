@@ -3,7 +3,7 @@ use Rattle.std.specs.Option.{option_copied}
 use Rattle.std.proofs.lemmas.List.{map-append}
 use Rattle.core_lang.specs.Serial.{Scheduled}
 use Rattle.report.specs.History.{call_head}
-use Rattle.replay.specs.declared.progress.Seat.{Seat}
+use Rattle.replay.specs.declared.progress.ThreadProgress.{ThreadProgress}
 use Rattle.replay.specs.Working.Reading.{call_in, called_at}
 use Rattle.replay.proofs.NextHeads.{no_next, some_next}
 use Rattle.replay.proofs.Scripts.{scheduled_at}
@@ -13,7 +13,7 @@ pub returns-in_default : goal.returns-in_default
 returns-in_default c reader is =
     let program = c.args.self.now.program.now in
     let gone : call_in program c.args.thread (called_at c.args.at.now.seats c.args.thread) ≡ None =
-    ap (call_in program c.args.thread) (sym (ap (λ (s : Seat). s.called) c.seat-step.ensures)) ∙ sym c.call_in.ensures ∙ ap option_copied c.in_default.is in
+    ap (call_in program c.args.thread) (sym (ap (λ (s : ThreadProgress). s.called) c.seat-step.ensures)) ∙ sym c.call_in.ensures ∙ ap option_copied c.in_default.is in
     sym (append-nil (map (λ head. string_bytes head) c.args.heads.now.items))
     ∙ ap (λ (more : List (List ℕ)). map (λ head. string_bytes head) c.args.heads.now.items ++ more)
     (sym (no_next c.args.self.now.format program c.args.at.now reader is c.args.thread gone))
@@ -27,10 +27,10 @@ returns c reader is =
     let call = c.in-Some.call.now in
     let olds = map (λ head. string_bytes head) c.args.heads.now.items in
     let found : call_in program t (called_at at.seats t) ≡ Some call =
-    ap (call_in program t) (sym (ap (λ (s : Seat). s.called) c.seat-step.ensures)) ∙ sym c.call_in.ensures ∙ ap option_copied c.in-Some.is in
+    ap (call_in program t) (sym (ap (λ (s : ThreadProgress). s.called) c.seat-step.ensures)) ∙ sym c.call_in.ensures ∙ ap option_copied c.in-Some.is in
     let said : Scheduled = record { thread = t; step = c.seat-step.result.called; call = record { section = call.section; arguments = c.deref.result.now } } in
     let same : said ≡ scheduled_at t (called_at at.seats t) call =
-    ap (λ n. record { thread = t; step = n; call = record { section = call.section; arguments = c.deref.result.now } }) (ap (λ (s : Seat). s.called) c.seat-step.ensures)
+    ap (λ n. record { thread = t; step = n; call = record { section = call.section; arguments = c.deref.result.now } }) (ap (λ (s : ThreadProgress). s.called) c.seat-step.ensures)
     ∙ ap (λ xs. record { thread = t; step = called_at at.seats t; call = record { section = call.section; arguments = xs } }) c.deref.ensures.value in
     let head = call_head format program (scheduled_at t (called_at at.seats t) call) at.position in
     let written : string_bytes c.push_call_head.new.out ≡ head =

@@ -5,7 +5,7 @@ use Rattle.report_check.specs.Check.{sections_by}
 use Rattle.report_check.specs.Working.Values.{take_by}
 use Rattle.report_check.proofs.check.Check.push_sections.Given as goal
 
--- what is written and the text of what is left are the whole text
+-- the written text and that of the remaining items are the whole text
 abbrev pub invariant-loop-i : goal.invariant-loop-i
 invariant-loop-i l =
     let text = l.self.text.now in

@@ -13,7 +13,7 @@ use Rattle.report_check.specs.Sources.{source_line}
 use Rattle.report_check.specs.Working.Values.{AreOf, at_text_of, line_text_of, take_by}
 use Rattle.report_check.proofs.section_text.SectionText.push_take.Goals as goal
 
--- one text behind another
+-- one text after another
 both : (a b c : RopeOf) (p q : List ℕ) → AddsTo p a b → AddsTo q b c → AddsTo (p ++ q) a c
 both a b c p q first second = (
   second.0 ∙ ap (λ (t : List ℕ). t ++ q) first.0 ∙ append_assoc (rope_text a) p q,

@@ -5,7 +5,7 @@ use Rattle.report_check.specs.Check.{takes_by}
 use Rattle.report_check.specs.Working.Values.{take_by}
 use Rattle.report_check.proofs.section_text.SectionText.push_takes.Given as goal
 
--- what is written and the text of what is left are the whole text
+-- the written text and that of the remaining items are the whole text
 abbrev pub invariant-loop-i : goal.invariant-loop-i
 invariant-loop-i l =
     let text = l.initial.cursor.text.now in

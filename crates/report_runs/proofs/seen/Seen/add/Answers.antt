@@ -1,10 +1,10 @@
 use Rattle.std.proofs.Common.{◌≡◌, true, false, refl, sym, ◌∙◌}
 use Rattle.std.specs.List.{list_any, position_or_len}
-use Rattle.report_runs.specs.declared.kind.Kind.{Kind}
+use Rattle.report_runs.specs.declared.run_kind.RunKind.{RunKind}
 use Rattle.report_runs.specs.Runs.{Run, firsts, same_kind}
 use Rattle.report_runs.specs.Working.Seeing.{kind_in, kind_shown}
 use Rattle.report_runs.proofs.Keyed.{orders_with, ends_with, kinds_with, kinds_same, kind_any, kind_place, order_number, end_number, told_raised, told_pushed, texts_same}
-use Rattle.report_runs.proofs.Steps.{seen_more, rows_raised, rows_pushed}
+use Rattle.report_runs.proofs.RunSteps.{seen_more, rows_raised, rows_pushed}
 use Rattle.report_runs.proofs.seen.Seen.add.Goals as goal
 
 -- the run is of a kind that was seen
@@ -12,7 +12,7 @@ pub returns-in-Some-get_index_of : goal.returns-in-Some-get_index_of
 returns-in-Some-get_index_of c = λ program runs seen.
     let run : Run = record { log = c.args.history.now.commits; values = c.args.values.now } in
     let old = c.args.self.now in
-    let kind : Kind = record { order = c.in_ok-order_of-2.field-0; end = c.in_ok-end_of-2.field-0 } in
+    let kind : RunKind = record { order = c.in_ok-order_of-2.field-0; end = c.in_ok-end_of-2.field-0 } in
     let shows : kind_shown kind ≡ kind_in run =
     λ i. record { order = c.in_ok-order_of-2.ensures i; end = c.in_ok-end_of-2.ensures i } in
     let there : list_any (same_kind run) (firsts same_kind runs) ≡ true =
@@ -31,7 +31,7 @@ pub returns : goal.returns
 returns c = λ program runs seen.
     let run : Run = record { log = c.args.history.now.commits; values = c.args.values.now } in
     let old = c.args.self.now in
-    let kind : Kind = record { order = c.in_ok-order_of-2.field-0; end = c.in_ok-end_of-2.field-0 } in
+    let kind : RunKind = record { order = c.in_ok-order_of-2.field-0; end = c.in_ok-end_of-2.field-0 } in
     let shows : kind_shown kind ≡ kind_in run =
     λ i. record { order = c.in_ok-order_of-2.ensures i; end = c.in_ok-end_of-2.ensures i } in
     let none : list_any (same_kind run) (firsts same_kind runs) ≡ false =

@@ -1,5 +1,5 @@
 use Rattle.std.proofs.Common.{refl}
-use Rattle.report_runs.proofs.Steps.{nothing_seen}
+use Rattle.report_runs.proofs.RunSteps.{nothing_seen}
 use Rattle.report_runs.proofs.seen.Seen.new.Goals as goal
 
 pub returns : goal.returns

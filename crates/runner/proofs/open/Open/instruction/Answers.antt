@@ -6,7 +6,7 @@ use Rattle.code.specs.declared.section_code.SectionCode.{SectionCode}
 use Rattle.code.specs.Machine.{act}
 use Rattle.code.specs.Memory.{load_held, store_held}
 use Rattle.worlds.specs.Worlds.{code_at, next_effect}
-use Rattle.runner.specs.declared.body.Body.{Body}
+use Rattle.runner.specs.declared.body.SectionFrame.{SectionFrame}
 use Rattle.runner.specs.Working.Opens.{OpenOf}
 use Rattle.runner.specs.Working.Ties.{open_in}
 use Rattle.runner.proofs.Opened.{RunsInOrder, has_code, code_read, place_there}
@@ -22,11 +22,11 @@ index-requires-2 c =
       outcome = refl;
     } in
     let place : c.place.result ≡ x.body.value.machine.machine.place =
-    c.place.ensures ∙ ap (λ (b : Body). b.machine.machine.place) c.deref-body.ensures in
+    c.place.ensures ∙ ap (λ (b : SectionFrame). b.machine.machine.place) c.deref-body.ensures in
     let code = c.code-code.result.now in
     let of = c.code-code.ensures in
     let h = has_code o code r.is_open of in
-    let its = subst (λ (b : Body). c.index.result.now ≡ get_or code.sections.items b.section c.index.result.now) c.deref-body.ensures c.index.ensures in
+    let its = subst (λ (b : SectionFrame). c.index.result.now ≡ get_or code.sections.items b.section c.index.result.now) c.deref-body.ensures c.index.ensures in
     let within = place_there o code h c.sections_stay_in_order.ensures r in
     subst (λ (m : SectionCode). c.place.result < vec_len m.instructions) (sym (code_read o code h c.index.result.now its))
     (omega (arith, place, within, h.made.instructions.ok.0))
@@ -41,11 +41,11 @@ returns c =
       outcome = refl;
     } in
     let place : c.place.result ≡ x.body.value.machine.machine.place =
-    c.place.ensures ∙ ap (λ (b : Body). b.machine.machine.place) c.deref-body.ensures in
+    c.place.ensures ∙ ap (λ (b : SectionFrame). b.machine.machine.place) c.deref-body.ensures in
     let code = c.code-code.result.now in
     let of = c.code-code.ensures in
     let h = has_code o code r.is_open of in
-    let its = subst (λ (b : Body). c.index.result.now ≡ get_or code.sections.items b.section c.index.result.now) c.deref-body.ensures c.index.ensures in
+    let its = subst (λ (b : SectionFrame). c.index.result.now ≡ get_or code.sections.items b.section c.index.result.now) c.deref-body.ensures c.index.ensures in
     let within = place_there o code h c.sections_stay_in_order.ensures r in
     let found = code_read o code h c.index.result.now its in
     let i = c.index-2.result.now in

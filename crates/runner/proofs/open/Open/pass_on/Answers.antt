@@ -6,7 +6,7 @@ use Rattle.worlds.specs.Worlds.{locks_before, next_effect}
 use Rattle.runner_machine.specs.Working.Machines.{RunOf, with_machine}
 use Rattle.runner.specs.Working.Opens.{OpenOf}
 use Rattle.runner.specs.Working.Ties.{open_as, open_in, its_call, IsKeptOpen}
-use Rattle.runner.specs.declared.body.Body.{Body}
+use Rattle.runner.specs.declared.body.SectionFrame.{SectionFrame}
 use Rattle.runner.proofs.Opened.{RunsInOrder, has_code, place_there, code_is_short, asked_fits, kept_asking}
 use Rattle.runner.proofs.open.Open.pass_on.Goals as goal
 
@@ -23,12 +23,12 @@ ask_before-requires-clause-room c =
     } in
     let is = ap (λ (o : OpenOf). next_effect o.plan o.activation) c.self.view_is ∙ c.requires.asks in
     let locals : c.locals.result.now ≡ x.body.value.machine.machine.locals =
-    c.locals.ensures ∙ ap (λ (b : Body). b.machine.machine.locals) same_body in
+    c.locals.ensures ∙ ap (λ (b : SectionFrame). b.machine.machine.locals) same_body in
     let held : c.held.result.now ≡ o.activation.held = c.held.ensures in
     let same : length (locks_before x.program.now c.deref_mut-body.result.now.section c.args.point c.held.result.now c.locals.result.now)
     ≡ length (locks_before o.plan o.activation.call.section c.args.point o.activation.held o.activation.machine.locals) =
     λ i. length (locks_before x.program.now (same_body i).section c.args.point (held i) (locals i)) in
-    let room = ap (λ (b : Body). vec_capacity b.pending) same_body in
+    let room = ap (λ (b : SectionFrame). vec_capacity b.pending) same_body in
     omega (arith, asked_fits o c.args.point c.sections_stay_in_order.ensures r is, same, room, c.self.invariant.0.pending_fits)
 
 pub pass-requires : goal.pass-requires
@@ -46,7 +46,7 @@ pass-requires c =
     let of = c.code-code.ensures in
     let h = has_code o code r.is_open of in
     let same : c.deref_mut-body.result.now.machine.machine.place ≡ o.activation.machine.place =
-    ap (λ (b : Body). b.machine.machine.place) same_body in
+    ap (λ (b : SectionFrame). b.machine.machine.place) same_body in
     omega (arith, same, place_there o code h c.sections_stay_in_order.ensures r, code_is_short h.made)
 
 pub invariant_of-self : goal.invariant_of-self
@@ -63,18 +63,18 @@ invariant_of-self c =
     let is = ap (λ (o : OpenOf). next_effect o.plan o.activation) c.self.view_is ∙ c.requires.asks in
     let room = vec_capacity c.ask_before.new.pending in
     let longer : vec_capacity b.pending ≤ room =
-    subst (λ (b : Body). vec_capacity b.pending ≤ room) same_body c.ask_before.ensures.capacity in
+    subst (λ (b : SectionFrame). vec_capacity b.pending ≤ room) same_body c.ask_before.ensures.capacity in
     let kept = kept_asking o x.ticket b.machine (vec_capacity b.pending) room c.args.point
     c.sections_stay_in_order.ensures r c.self.invariant.0 is longer in
     let locals : c.locals.result.now ≡ b.machine.machine.locals =
-    c.locals.ensures ∙ ap (λ (b : Body). b.machine.machine.locals) same_body in
+    c.locals.ensures ∙ ap (λ (b : SectionFrame). b.machine.machine.locals) same_body in
     let held : c.held.result.now ≡ o.activation.held = c.held.ensures in
     let pending : c.ask_before.new.pending.items
     ≡ locks_before o.plan o.activation.call.section c.args.point o.activation.held o.activation.machine.locals =
     c.ask_before.ensures.items
     ∙ (λ i. locks_before x.program.now (same_body i).section c.args.point (held i) (locals i)) in
     let passed_on : c.pass.new.self ≡ with_machine b.machine (passed b.machine.machine) =
-    c.pass.ensures ∙ ap (λ (b : Body). with_machine b.machine (passed b.machine.machine)) same_body in
+    c.pass.ensures ∙ ap (λ (b : SectionFrame). with_machine b.machine (passed b.machine.machine)) same_body in
     let at_run = subst (λ (run : RunOf).
     IsKeptOpen (open_as x.program.now x.ticket b.step (its_call b) run
     (locks_before o.plan o.activation.call.section c.args.point o.activation.held o.activation.machine.locals) false)
@@ -82,8 +82,8 @@ invariant_of-self c =
     let at_pending = subst (λ (ps : List Lock).
     IsKeptOpen (open_as x.program.now x.ticket b.step (its_call b) c.pass.new.self ps false)
     x.ticket c.pass.new.self room) (sym pending) at_run in (
-      subst (λ (b : Body).
+      subst (λ (b : SectionFrame).
           IsKeptOpen (open_as x.program.now x.ticket b.step (its_call b) c.pass.new.self c.ask_before.new.pending.items false)
           x.ticket c.pass.new.self room) (sym same_body) at_pending,
-      ap (λ (b : Body). b.grants.items) same_body ∙ c.self.invariant.1,
+      ap (λ (b : SectionFrame). b.grants.items) same_body ∙ c.self.invariant.1,
     )

@@ -7,7 +7,7 @@ use Rattle.worlds.specs.Worlds.{next_effect}
 use Rattle.runner_machine.specs.Working.Machines.{RunOf, FitsRoom, HasSmallCells, with_machine}
 use Rattle.runner.specs.Working.Opens.{OpenOf}
 use Rattle.runner.specs.Working.Ties.{open_as, open_in, its_call, IsKeptOpen}
-use Rattle.runner.specs.declared.body.Body.{Body}
+use Rattle.runner.specs.declared.body.SectionFrame.{SectionFrame}
 use Rattle.runner.proofs.Opened.{RunsInOrder, next_fits, cells_small, kept_moving}
 use Rattle.runner.proofs.open.Open.step.Goals as goal
 
@@ -15,7 +15,7 @@ pub step-requires-clause-small : goal.step-requires-clause-small
 step-requires-clause-small c =
     let x = c.self.inside in
     let o = open_in x.program.now x.ticket x.body.value in
-    subst (λ (b : Body). HasSmallCells b.machine.machine.memory) (sym c.deref_mut-body.ensures.value) (cells_small o c.self.invariant.0.is_open)
+    subst (λ (b : SectionFrame). HasSmallCells b.machine.machine.memory) (sym c.deref_mut-body.ensures.value) (cells_small o c.self.invariant.0.is_open)
 
 pub step-requires-clause-fits : goal.step-requires-clause-fits
 step-requires-clause-fits c =
@@ -36,7 +36,7 @@ step-requires-clause-fits c =
     ≡ act load_held store_held o.plan.program.shape (Some i) o.activation.machine) (sym c.self.view_is) c.instruction-instruction.ensures in
     let effect = is ∙ ap (λ (t : Typed). act load_held store_held t.shape (Some i) b.machine.machine) (sym typed) in
     let of = c.code-code.ensures in
-    subst (λ (b : Body). FitsRoom b.machine.operand_room (act load_held store_held c.expanded.result.now.shape (Some i) b.machine.machine))
+    subst (λ (b : SectionFrame). FitsRoom b.machine.operand_room (act load_held store_held c.expanded.result.now.shape (Some i) b.machine.machine))
     (sym same_body)
     (subst (λ (room : ℕ). FitsRoom room (act load_held store_held c.expanded.result.now.shape (Some i) b.machine.machine))
     (sym c.self.invariant.0.operands)
@@ -63,15 +63,15 @@ invariant_of-self c =
     let m = c.step.new.self.machine in
     let moves : next_effect o.plan o.activation ≡ Moves m =
     is ∙ ap (λ (t : Typed). act load_held store_held t.shape (Some i) b.machine.machine) (sym typed)
-    ∙ ap (λ (b : Body). act load_held store_held c.expanded.result.now.shape (Some i) b.machine.machine) (sym same_body)
+    ∙ ap (λ (b : SectionFrame). act load_held store_held c.expanded.result.now.shape (Some i) b.machine.machine) (sym same_body)
     ∙ c.in-Moved.ensures.0 in
     let kept = kept_moving o x.ticket x.body.value.machine (vec_capacity x.body.value.pending) m
     c.steps_go_alike.ensures.keeps c.sections_stay_in_order.ensures r c.self.invariant.0 moves in
     let at_run = subst (λ (run : RunOf).
     IsKeptOpen (open_as x.program.now x.ticket b.step (its_call b) run b.pending.items b.asked)
-    x.ticket run (vec_capacity b.pending)) (sym (c.in-Moved.ensures.1 ∙ ap (λ (b : Body). with_machine b.machine m) same_body)) kept in (
-      subst (λ (b : Body).
+    x.ticket run (vec_capacity b.pending)) (sym (c.in-Moved.ensures.1 ∙ ap (λ (b : SectionFrame). with_machine b.machine m) same_body)) kept in (
+      subst (λ (b : SectionFrame).
           IsKeptOpen (open_as x.program.now x.ticket b.step (its_call b) c.step.new.self b.pending.items b.asked)
           x.ticket c.step.new.self (vec_capacity b.pending)) (sym same_body) at_run,
-      ap (λ (b : Body). b.grants.items) same_body ∙ c.self.invariant.1,
+      ap (λ (b : SectionFrame). b.grants.items) same_body ∙ c.self.invariant.1,
     )

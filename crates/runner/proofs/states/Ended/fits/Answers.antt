@@ -4,7 +4,7 @@ use Rattle.core_lang.specs.declared.value.Outcome.{Outcome}
 use Rattle.moved_cells.specs.Working.Grants.{GrantOf}
 use Rattle.history.specs.Commits.{Commit}
 use Rattle.lock_manager.specs.Working.Calls.{CanRelease}
-use Rattle.runner.specs.declared.body.Body.{Body}
+use Rattle.runner.specs.declared.body.SectionFrame.{SectionFrame}
 use Rattle.runner.specs.Working.Opens.{OpenOf, CanBeReleased, entry_of}
 use Rattle.runner.specs.Working.Ties.{ended_in}
 use Rattle.runner.proofs.Endings.{can_end, own_release}
@@ -22,8 +22,8 @@ returns-then-body-lt18446744073709551615 c =
     c.entry.ensures.is
     ∙ ap (λ (s : OpenOf). entry_of s told) (sym c.self.view_is)
     ∙ ap (entry_of o) (ap (λ (y : Option Outcome). unwrap_or y told) (sym over)) in
-    let grants : c.deref.result.now ≡ b.grants.items = c.deref.ensures.value ∙ ap (λ (b : Body). b.grants.items) c.deref-body.ensures in
-    let step = ap (λ (b : Body). b.step) c.deref-body.ensures in
+    let grants : c.deref.result.now ≡ b.grants.items = c.deref.ensures.value ∙ ap (λ (b : SectionFrame). b.grants.items) c.deref-body.ensures in
+    let step = ap (λ (b : SectionFrame). b.step) c.deref-body.ensures in
     let told : IsTrue c.fits.result ↔ CanRelease m x.ticket b.grants.items (entry_of o b.outcome) =
     subst (λ (e : Commit). IsTrue c.fits.result ↔ CanRelease m x.ticket b.grants.items e) entry
     (subst (λ (gs : List GrantOf). IsTrue c.fits.result ↔ CanRelease m x.ticket gs c.entry.result) grants c.fits.ensures) in

@@ -4,7 +4,7 @@ use Rattle.lock_manager.specs.Working.Sessions.{TicketOf}
 use Rattle.moved_cells.specs.Working.Grants.{GrantOf}
 use Rattle.history.specs.Commits.{Commit}
 use Rattle.lock_manager.specs.Working.Calls.{Fits, Releases}
-use Rattle.runner.specs.declared.body.Body.{Body}
+use Rattle.runner.specs.declared.body.SectionFrame.{SectionFrame}
 use Rattle.runner.specs.Working.Opens.{OpenOf, ReadyOf, CanGiveBack, Released, entry_of}
 use Rattle.runner.specs.Working.Ties.{ended_in, entry_in}
 use Rattle.runner.proofs.Endings.{own_release}
@@ -17,7 +17,7 @@ release-receipt-requires-clause-fits c =
     let m = c.args.manager.now in
     let o = ended_in x.program.now x.ticket b in
     let grants : c.swap.new.x.items ≡ b.grants.items =
-    (λ i. (c.swap.ensures.x_after i).items) ∙ ap (λ (b : Body). b.grants.items) c.deref_mut.ensures.value in
+    (λ i. (c.swap.ensures.x_after i).items) ∙ ap (λ (b : SectionFrame). b.grants.items) c.deref_mut.ensures.value in
     let entry : c.entry-entry.result ≡ entry_in x.ticket b =
     c.entry-entry.ensures ∙ ap (entry_in x.ticket) c.deref-3.ensures ∙ ap (entry_in x.ticket) c.deref_mut.ensures.value in
     let own = own_release m o x.ticket b.machine b.grants.items b.outcome c.self.invariant refl
@@ -32,7 +32,7 @@ returns c =
     let m = c.args.manager.now in
     let o = ended_in x.program.now x.ticket b in
     let grants : c.swap.new.x.items ≡ b.grants.items =
-    (λ i. (c.swap.ensures.x_after i).items) ∙ ap (λ (b : Body). b.grants.items) c.deref_mut.ensures.value in
+    (λ i. (c.swap.ensures.x_after i).items) ∙ ap (λ (b : SectionFrame). b.grants.items) c.deref_mut.ensures.value in
     let entry : c.entry-entry.result ≡ entry_in x.ticket b =
     c.entry-entry.ensures ∙ ap (entry_in x.ticket) c.deref-3.ensures ∙ ap (entry_in x.ticket) c.deref_mut.ensures.value in
     let own = own_release m o x.ticket b.machine b.grants.items b.outcome c.self.invariant refl

@@ -17,8 +17,8 @@ returns c =
     let items = decls_of c.args.items.now in
     let decls = decls_of c.in_ok-decls.decls in
     let same = c.in_ok-decls.ensures.items in
-    let all = noted_four f c.new.new.firsts c.judge_totals.new.firsts c.judge_first_inits.new.firsts (twice_faults [] items) (struct_faults items) (total_faults decls [] decls) (repeated_faults decls [] decls)
-    c.in_ok-decls.ensures.faults c.in-Ok.ensures.faults c.in-Ok-judge_first_inits.ensures.faults in
+    let all = noted_four f c.new.new.firsts c.check_totals.new.firsts c.check_first_inits.new.firsts (twice_faults [] items) (struct_faults items) (total_faults decls [] decls) (repeated_faults decls [] decls)
+    c.in_ok-decls.ensures.faults c.in-Ok.ensures.faults c.in-Ok-check_first_inits.ensures.faults in
     record {
       items = same;
       faults = all
@@ -26,4 +26,4 @@ returns c =
     }
 
 pub invariant_of-result : goal.invariant_of-result
-invariant_of-result c = (c.in-Ok.ensures.totals, c.in-Ok-judge_first_inits.ensures.first_inits)
+invariant_of-result c = (c.in-Ok.ensures.totals, c.in-Ok-check_first_inits.ensures.first_inits)

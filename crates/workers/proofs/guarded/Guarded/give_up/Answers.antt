@@ -1,8 +1,7 @@
-use Rattle.std.proofs.Common.{◌∙◌, sym}
-use Rattle.workers.proofs.Guarding.{manager_kept}
+use Rattle.workers.proofs.Parts.{guarded_kept}
 use Rattle.workers.proofs.guarded.Guarded.give_up.Goals as goal
 
 pub invariant_of-self : goal.invariant_of-self
 invariant_of-self g c =
-    let kept = c.give_up.ensures.given_up.gives_up.entries in
-    (manager_kept g.J.Naming.plan _ _ c.self.invariant.0 kept, c.self.invariant.1 ∙ sym kept.history)
+    guarded_kept g.J.Naming.plan _ _ c.self.inside.log c.self.inside.ends c.give_up.ensures.given_up.gives_up.entries c.self.invariant.0
+    c.self.invariant.1 c.self.invariant.2 c.self.invariant.3

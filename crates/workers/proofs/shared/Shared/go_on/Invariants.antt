@@ -1,6 +1,7 @@
 use Rattle.runner.specs.Working.Answers.{open_of}
 use Rattle.runner.specs.Working.Opens.{IsSame}
+use Rattle.workers.specs.Working.LockEnds.{IsPartAt}
 use Rattle.workers.proofs.shared.Shared.go_on.Given as goal
 
 abbrev pub invariant-loop : goal.invariant-loop
-invariant-loop g l = IsSame l.fn.running (open_of l.next)
+invariant-loop g l = record { same : IsSame l.fn.running (open_of l.next); part : IsPartAt g.J.Naming.plan l.front (open_of l.next) }

@@ -1,0 +1,9 @@
+use Rattle.std.specs.Prelude.{string_bytes}
+use Rattle.c_data.specs.Theory.Steps.{after, both}
+use Rattle.c_data.proofs.writer.DataWriter.push_lock.Goals as goal
+
+pub returns : goal.returns
+returns c =
+    let old = string_bytes c.args.out.now in
+    let t2 = both old _ _ _ _ c.in_ok-push_str.ensures.bytes c.in_ok-push_protected.ensures in
+    after _ old _ _ _ _ t2 c.write.ensures.bytes

@@ -1,0 +1,8 @@
+use Rattle.std.proofs.Common.{◌≡◌, ◌++◌, string_bytes, take}
+use Rattle.c_data.specs.Openings.{member_text}
+use Rattle.std.specs.List.{flat_map}
+use Rattle.c_data.proofs.writer.DataWriter.push_pool_members.Given as goal
+
+abbrev pub invariant-loop-pool : goal.invariant-loop-pool
+invariant-loop-pool l =
+    string_bytes l.out ≡ string_bytes l.initial.out ++ flat_map (member_text l.self.names.prefix.now l.self.names.program.now) (take l.pool-index l.self.names.program.now.shape.pools.items)

@@ -1,0 +1,17 @@
+use Rattle.locks.specs.Theory.Written.{piece_added}
+use Rattle.std.specs.Prelude.{codes, string_bytes}
+use Rattle.c_data.specs.Theory.Steps.{after, both}
+use Rattle.c_data.specs.Pools.{write_text}
+use Rattle.c_data.proofs.writer.DataWriter.push_write.Goals as goal
+
+pub returns : goal.returns
+unfolding write_text
+returns c =
+    let old = string_bytes c.args.out.now in
+    let t2 = both old _ _ _ _ c.in_ok-write.ensures.bytes c.in_ok-push_state_pointer.ensures in
+    let t3 = both old _ _ _ _ t2 c.in_ok-push_str.ensures.bytes in
+    let t4 = both old _ _ _ _ t3 c.in_ok-push_object_pointer.ensures in
+    let t5 = both old _ _ _ _ t4 c.in_ok-push_str-2.ensures.bytes in
+    let t6 = both old _ _ _ _ t5 c.in_ok-push_writes.ensures in
+    let last = piece_added c.push_str-3.result _ (string_bytes c.push_writes.new.out) (codes "  (void)s;\n  (void)a;\n  fputs(\"null\", f);\n}\n") c.push_str-3.ensures.bytes in
+    after _ old _ _ _ _ t6 last

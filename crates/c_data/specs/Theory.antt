@@ -1,0 +1,2 @@
+-- Lemmas for proofs of the crates above. Nobody has to believe these files: they are proved.
+pub mod Steps

@@ -1,5 +1,0 @@
-use Rattle.c_groups.proofs.Runs.{runs_stand_alike}
-use Rattle.c_groups.proofs.laws.runs_stand_alike.Goals as goal
-
-pub returns : goal.returns
-returns g c = runs_stand_alike

@@ -1,5 +1,0 @@
-use Rattle.c_groups.proofs.Plans.{sections_have_plans}
-use Rattle.c_groups.proofs.laws.sections_have_plans.Goals as goal
-
-pub returns : goal.returns
-returns g c = sections_have_plans

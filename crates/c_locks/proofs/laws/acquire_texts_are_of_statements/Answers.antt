@@ -1,8 +1,0 @@
-use Rattle.c_locks.proofs.Texts.{acquire_texts, end_texts}
-use Rattle.c_locks.proofs.laws.acquire_texts_are_of_statements.Goals as goal
-
-pub returns-clause-acquires : goal.returns-clause-acquires
-returns-clause-acquires c = acquire_texts
-
-pub returns-clause-ends : goal.returns-clause-ends
-returns-clause-ends c = end_texts

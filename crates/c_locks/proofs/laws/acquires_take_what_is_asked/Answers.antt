@@ -1,8 +1,0 @@
-use Rattle.c_locks.proofs.Taking.{acquires_take}
-use Rattle.c_locks.proofs.laws.acquires_take_what_is_asked.Goals as goal
-
-pub returns : goal.returns
-returns c = acquires_take (record {
-  classes = c.paths_have_classes.ensures;
-  listed = c.each_path_once.ensures.listed;
-})

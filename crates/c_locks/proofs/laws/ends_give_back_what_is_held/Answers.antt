@@ -1,5 +1,0 @@
-use Rattle.c_locks.proofs.Giving.{ends_give_back}
-use Rattle.c_locks.proofs.laws.ends_give_back_what_is_held.Goals as goal
-
-pub returns : goal.returns
-returns c = ends_give_back

@@ -1,8 +1,0 @@
-use Rattle.c_locks.proofs.Roots.{listed_roots_stay}
-use Rattle.c_locks.proofs.laws.listed_roots_stay.Goals as goal
-
-pub returns : goal.returns
-returns c = listed_roots_stay (record {
-  classes = c.paths_have_classes.ensures;
-  listed = c.each_path_once.ensures.listed;
-})

@@ -1,9 +1,0 @@
-use Rattle.std.proofs.Common.{◌≡◌, ◌++◌, map, drop}
-use Rattle.locks.specs.LockPaths.{lock_path_of}
-use Rattle.c_sections.specs.Acquires as text
-use Rattle.c_sections.specs.Working.Taken.{class_of}
-use Rattle.c_sections.proofs.acquires.Acquires.of_class.Given as goal
-
-abbrev pub invariant-loop-number : goal.invariant-loop-number
-invariant-loop-number l =
-    l.numbers.items ++ text.of_class l.class l.number (map lock_path_of (drop l.number l.self.paths.now)) ≡ class_of l.self l.class

@@ -1,0 +1,5 @@
+pub mod Names
+pub mod Statements
+pub mod Acquires
+pub mod Working
+pub mod Theory

@@ -1,8 +1,0 @@
-use Rattle.c_text.proofs.Steps.{after}
-use Rattle.c_text.specs.Pools.{pool_numbered}
-use Rattle.c_text.proofs.pools.push_numbered.Goals as goal
-
-pub returns : goal.returns
-unfolding pool_numbered
-returns c =
-    after _ _ _ _ _ _ c.in_ok-write.ensures.bytes c.write-2.ensures.bytes

@@ -1,8 +1,0 @@
-use Rattle.c_text.proofs.Steps.{after}
-use Rattle.c_text.specs.Types.{announced_text}
-use Rattle.c_text.proofs.writer.FileWriter.push_announced.Goals as goal
-
-pub returns : goal.returns
-unfolding announced_text
-returns c =
-    after _ _ _ _ _ _ c.in_ok-write.ensures.bytes c.write-2.ensures.bytes

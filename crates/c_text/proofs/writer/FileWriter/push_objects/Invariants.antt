@@ -1,9 +1,0 @@
-use Rattle.std.proofs.Common.{◌≡◌, ◌++◌, string_bytes, drop}
-use Rattle.c_sections.specs.Acquires.{numbered}
-use Rattle.c_text.specs.Pools.{object_text}
-use Rattle.c_text.proofs.writer.FileWriter.push_objects.Given as goal
-
-abbrev pub invariant-loop-number : goal.invariant-loop-number
-invariant-loop-number l =
-    string_bytes l.out ++ numbered (object_text l.self.names.prefix.now l.self.names.program.now) l.number (drop l.number l.self.names.program.now.structs.items)
-    ≡ string_bytes l.initial.out ++ numbered (object_text l.self.names.prefix.now l.self.names.program.now) 0 l.self.names.program.now.structs.items

@@ -1,7 +1,0 @@
--- Texts one behind another.
-use Rattle.std.specs.Prelude.{ℕ, List, [], ◌∷◌, ◌++◌}
-
-abbrev pub joined : List (List ℕ) → List ℕ
-joined [] = []
-joined (text ∷ []) = text
-joined (text ∷ (next ∷ texts)) = text ++ joined (next ∷ texts)

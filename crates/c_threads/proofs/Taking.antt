@@ -1,0 +1,169 @@
+-- An acquire of a compiled plan takes the locks that are asked for.
+use Rattle.std.proofs.Common.{◌≡◌, ◌<◌, ℕ, suc, List, [], ◌∷◌, map, length, Option, Some, None}
+use Rattle.std.proofs.Common.{slice_get, refl, sym, ap, ◌∙◌, subst, inl, inr}
+use Rattle.std.specs.Prelude.{slice_index, unwrap_or}
+use Rattle.std.specs.List.{Contains}
+use Rattle.std.specs.Option.{option_map, option_map_or}
+use Rattle.std.proofs.lemmas.Option.{none-some, same_Some, slice_get_within, get_or_from_slice_get}
+use Rattle.core_lang.specs.declared.value.Value.{Value}
+use Rattle.core_lang.specs.declared.shape.Shape.{Shape}
+use Rattle.core_lang.specs.declared.tree.Section.{Section}
+use Rattle.core_lang.specs.declared.typed.Typed.{Typed}
+use Rattle.core_lang.specs.Typing.{lookup}
+use Rattle.core_lang.specs.WellFormed.{IsWellFormed}
+use Rattle.core_lang.specs.Theory.Items.{lookup_some, map_some, contains_at, at_contained, not_in_none}
+use Rattle.locks.specs.declared.lock.Lock.{Lock}
+use Rattle.locks.specs.declared.path.Root.{Root}
+use Rattle.locks.specs.declared.path.Root.TheVariants.{GlobalLock, Local as AtLocal}
+use Rattle.locks.specs.LockPaths.{LockPath, lock_paths, lock_from, lock_named, object_at}
+use Rattle.locks.specs.Working.Laws.{PathsHaveClasses, UsedAreListed}
+use Rattle.lockorder.specs.Edges.{AreRanksOf}
+use Rattle.inserter.specs.Placement.{IsDue, IsListBefore}
+use Rattle.code.specs.Lowering.{lists_at}
+use Rattle.lowering.specs.Plans.{Plan, IsCompiled}
+use Rattle.worlds.specs.Asking.{to_ask}
+use Rattle.worlds.specs.Worlds.{section_at}
+use Rattle.c_statements.specs.Acquires.{runs}
+use Rattle.c_threads.specs.Locking.{Locking}
+use Rattle.c_threads.specs.LockClaims.{listed_before, AcquiresTakeWhatIsAsked}
+use Rattle.c_threads.proofs.Orders.{takens}
+use Rattle.c_threads.proofs.LockRuns.{joined, Sorted, sorted_from, AreKnown, list_runs, list_joined}
+use Rattle.c_threads.proofs.ClassRuns.{names, HaveAddresses}
+use Rattle.c_threads.proofs.Acquires.{NamesHaveClasses, TellApart, IsGood, all_runs, takens_asked}
+use Rattle.c_threads.proofs.Addresses.{addressed}
+
+pub record TakingLaws : Type 0 where
+  pub classes : PathsHaveClasses
+  pub listed : UsedAreListed
+
+-- ---- ranks tell classes apart
+
+-- a class of the program, by its place in the rank list
+rank_place : (program : Typed) (ranks : List ℕ) (ok : AreRanksOf program ranks) (class : ℕ) →
+    class < length program.classes.items →
+    (k : ℕ) × (slice_get ok.list k ≡ Some class) × (slice_index ranks class ≡ k)
+rank_place program ranks ok class less =
+    let at = at_contained ok.list class (ok.is_list.all class less) in
+    (at.0, at.1, get_or_from_slice_get ranks class at.0 0 (ok.places at.0 class at.1))
+
+same_rank : (program : Typed) (ranks : List ℕ) → AreRanksOf program ranks → (c d : ℕ) →
+    c < length program.classes.items → d < length program.classes.items → slice_index ranks c ≡ slice_index ranks d → c ≡ d
+same_rank program ranks ok c d lc ld e =
+    let p = rank_place program ranks ok c lc in
+    let q = rank_place program ranks ok d ld in
+    let same : p.0 ≡ q.0 = sym p.2 ∙ (e ∙ q.2) in
+    same_Some c d (sym p.1 ∙ (ap (slice_get ok.list) same ∙ q.1))
+
+pub tell_apart : TakingLaws → (program : Typed) (section : Section) (locals : List Value) (ranks : List ℕ) →
+    IsWellFormed program → AreRanksOf program ranks → TellApart program section locals ranks
+tell_apart laws program section locals ranks well ok i k a b ha hb e =
+    same_rank program ranks ok a.class b.class (known i a ha) (known k b hb) e
+  where
+    known : (i : ℕ) (path : LockPath) → slice_get (lock_paths program section) i ≡ Some path →
+        path.class < length program.classes.items
+    known i path e =
+        let used = (laws.listed program section path).0 (contains_at (lock_paths program section) i path e) in
+        let class = laws.classes program section used.0 path well used.1 in
+        slice_get_within program.classes.items path.class class.0 class.1
+
+-- ---- the class of a lock that a path names
+
+made_class : (class : ℕ) (o : Option ℕ) (lock : Lock) →
+    option_map (λ (n : ℕ). record { class = class; object = n }) o ≡ Some lock → class ≡ lock.class
+made_class class o lock e =
+    let m = map_some (λ (n : ℕ). record { class = class; object = n }) o lock e in ap (λ (l : Lock). l.class) m.2
+
+lock_class : (root : Root) (finals : List ℕ) (class : ℕ) (shape : Shape) (locals : List Value) (lock : Lock) →
+    lock_from root finals class shape locals ≡ Some lock → class ≡ lock.class
+lock_class GlobalLock finals class shape locals lock e =
+    (let same : record { class = class; object = 0 } ≡ lock = cc e in ap (λ (l : Lock). l.class) same)
+lock_class (AtLocal k) finals class shape locals lock e = made_class class (object_at shape locals k finals) lock e
+
+pub names_have_classes : (program : Typed) (section : Section) (locals : List Value) (ranks : List ℕ) →
+    NamesHaveClasses program section locals ranks
+names_have_classes program section locals ranks k lock e =
+    let r = lookup_some (slice_get (lock_paths program section) k)
+    (λ (path : LockPath). lock_named path program.shape locals) lock e in
+    record {
+      path = r.0;
+      here = r.1;
+      is = lock_class r.0.root r.0.finals r.0.class program.shape locals lock r.2;
+    }
+
+-- ---- the list before a point
+
+module _ (plan : Plan) (ok : IsCompiled plan) (k point : ℕ) (section : Section) (is : section_at plan k ≡ Some section) where
+  abbrev paths : List LockPath
+  paths = lock_paths plan.program section
+
+  -- a placement's list, or none
+  list_at : (list : List ℕ) → slice_get (lists_at plan.lists k) point ≡ Some list →
+      IsListBefore plan.program section plan.ranks point list
+  list_at list e = by (slice_get plan.lists k) refl where
+    by : (o : Option (List (List ℕ))) → slice_get plan.lists k ≡ o → IsListBefore plan.program section plan.ranks point list
+    by None n = absurd (none-some list (sym (ap (λ o. slice_get (unwrap_or o []) point) n) ∙ e))
+    by (Some ls) here =
+        (ok.placed.each k section ls is here).each point list
+        (sym (ap (λ o. slice_get (unwrap_or o []) point) here) ∙ e)
+
+  list_by : (P : List ℕ → Type 0) → P [] → ((list : List ℕ) → IsListBefore plan.program section plan.ranks point list → P list) →
+      P (listed_before plan k point)
+  list_by P none some = by (slice_get (lists_at plan.lists k) point) refl where
+    by : (o : Option (List ℕ)) → slice_get (lists_at plan.lists k) point ≡ o → P (unwrap_or o [])
+    by None e = none
+    by (Some list) e = some list (list_at list e)
+
+  pub list_sorted : Sorted paths plan.ranks (listed_before plan k point)
+  list_sorted = list_by (Sorted paths plan.ranks) tt (λ list before. sorted_from paths plan.ranks list before.order)
+
+  -- each is due there
+  pub list_due : (i : ℕ) → Contains (listed_before plan k point) i →
+      (path : LockPath) × (slice_get paths i ≡ Some path) × IsDue plan.program section plan.ranks point path
+  list_due =
+      list_by (λ list. (i : ℕ) → Contains list i →
+      (path : LockPath) × (slice_get paths i ≡ Some path) × IsDue plan.program section plan.ranks point path)
+      (λ i c. absurd (not_in_none i c)) (λ list before. before.only)
+
+  pub list_known : AreKnown paths plan.ranks (listed_before plan k point)
+  list_known i c = (let due = list_due i c in (due.0, due.1))
+
+-- ---- the acquire
+
+pub acquires_take : TakingLaws → AcquiresTakeWhatIsAsked
+acquires_take laws plan k point section locals held notes ok is have are fit =
+    let program = plan.program in
+    let paths = lock_paths program section in
+    let list = listed_before plan k point in
+    let gs = runs paths list in
+    let classes = names_have_classes program section locals plan.ranks in
+    let apart = tell_apart laws program section locals plan.ranks ok.well_formed ok.ranked in
+    let known = list_known plan ok k point section is in
+    let each = list_runs paths plan.ranks apart list (list_sorted plan ok k point section is) known in
+    let joins : joined gs ≡ list = list_joined paths plan.ranks apart list in
+    let addresses : HaveAddresses program section locals (joined gs) =
+    λ i c. (let path = known i (subst (λ t. Contains t i) joins c) in
+    addressed program section ok.well_formed locals have laws.listed (k, is) i path.0 path.1) in
+    let good : IsGood program section locals plan.ranks notes held =
+    record { are = are; long = fit.long; fit = fit.named } in
+    let all =
+    all_runs program section locals plan.ranks classes apart gs each addresses notes held good
+    (map (λ (path : LockPath). None) paths) [] (unset paths) in
+    let taken = takens plan.ranks held (map (names program section locals) gs) in
+    let asked : taken ≡ to_ask program section plan.ranks held locals list =
+    takens_asked program section locals plan.ranks classes apart held gs each
+    ∙ ap (to_ask program section plan.ranks held locals) joins in
+    record {
+      after = record { notes = all.noted_after; calls = taken };
+      is = ap (λ o. lookup o (λ (x : Locking). Some (record { notes = x.notes; calls = x.calls }))) all.done;
+      calls = asked ∙ sym (ap (λ o. option_map_or (λ (s : Section). to_ask program s plan.ranks held locals list) o []) is);
+      noted = all.good.are;
+      fit = record { long = all.good.long; named = all.good.fit };
+      new = λ i lock e. elim (all.from i lock e) [
+        | inl h ↦ inl h
+        | inr c ↦ inr (subst (λ t. Contains t i) joins c)
+      ];
+    }
+  where
+    unset : (ps : List LockPath) → length (map {B = Option (Option Lock)} (λ (path : LockPath). None) ps) ≡ length ps
+    unset [] = refl
+    unset (p ∷ ps) = ap suc (unset ps)

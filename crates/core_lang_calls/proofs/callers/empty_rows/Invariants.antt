@@ -1,5 +1,0 @@
-use Rattle.core_lang_calls.specs.Working.Tables.{HaveNone}
-use Rattle.core_lang_calls.proofs.callers.empty_rows.Given as goal
-
-abbrev pub invariant-loop : goal.invariant-loop
-invariant-loop l = HaveNone l.rows.items l.counter

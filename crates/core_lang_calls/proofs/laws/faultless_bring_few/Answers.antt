@@ -1,5 +1,0 @@
-use Rattle.core_lang_calls.proofs.Faultless.{bring_few}
-use Rattle.core_lang_calls.proofs.laws.faultless_bring_few.Goals as goal
-
-pub returns : goal.returns
-returns c = λ graph none s section is. bring_few graph none s section is

@@ -1,5 +1,0 @@
-use Rattle.core_lang_calls.proofs.Faultless.{no_recursion}
-use Rattle.core_lang_calls.proofs.laws.without_calls_no_recursion.Goals as goal
-
-pub returns : goal.returns
-returns c = λ graph none p h. no_recursion graph none p h

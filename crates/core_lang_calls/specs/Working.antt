@@ -1,7 +1,0 @@
--- What the code computes and values of its types, for proofs and for the crates above. Nobody has to believe these files: no promise
--- cites them.
-pub mod Tables
-pub mod Knowledge
-pub mod FaultLists
-pub mod Programs
-pub mod Laws

@@ -1,6 +1,0 @@
-use Rattle.std.proofs.Common.{take}
-use Rattle.core_lang_expansion.specs.Working.Scopes.{pairs_of, RenamesOperations}
-use Rattle.core_lang_expansion.proofs.scope.Scope.+expr.Given as goal
-
-abbrev pub invariant-operations-loop-operation : goal.invariant-operations-loop-operation
-invariant-operations-loop-operation l = RenamesOperations (pairs_of l.self) (take l.operation-index l.operations) l.made.items

@@ -1,7 +1,0 @@
-use Rattle.std.proofs.Common.{◌≡◌, map, reverse}
-use Rattle.core_lang.specs.Expansion.{parameters_at}
-use Rattle.core_lang_expansion.specs.Working.Scopes.{pair_of}
-use Rattle.core_lang_expansion.proofs.scope.Scope.entered.Given as goal
-
-abbrev pub invariant-loop-k : goal.invariant-loop-k
-invariant-loop-k l = reverse (map pair_of l.pairs.items) ≡ parameters_at l.k l.first

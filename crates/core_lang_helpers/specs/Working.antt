@@ -1,0 +1,10 @@
+-- What the code computes, and values of its types, for proofs and for the crates above. Nobody has to believe these
+-- files: no promise cites them.
+pub mod Bodies
+pub mod FaultLists
+pub mod IdleHelpers
+pub mod Knowledge
+pub mod Laws
+pub mod Programs
+pub mod Scopes
+pub mod Tables

@@ -1,6 +1,0 @@
-pub mod Added
-pub mod Alone
-pub mod Calls
-pub mod Owners
-pub mod Printing
-pub mod PrintCounts

@@ -1,8 +1,0 @@
-use Rattle.core_lang_laws.proofs.Calls.{does_what_it_does, gives_what_it_gives}
-use Rattle.core_lang_laws.proofs.laws.a_call_is_the_helper.Goals as goal
-
-pub returns-clause-drops : goal.returns-clause-drops
-returns-clause-drops c = does_what_it_does
-
-pub returns-clause-gives : goal.returns-clause-gives
-returns-clause-gives c = gives_what_it_gives

@@ -1,8 +1,0 @@
-use Rattle.core_lang_laws.proofs.Owners.{where_holds, where_fails}
-use Rattle.core_lang_laws.proofs.laws.a_where_is_a_test.Goals as goal
-
-pub returns-clause-holds : goal.returns-clause-holds
-returns-clause-holds c = where_holds
-
-pub returns-clause-fails : goal.returns-clause-fails
-returns-clause-fails c = where_fails

@@ -1,8 +1,0 @@
-use Rattle.std.proofs.Common.{◌≡◌, take, map}
-use Rattle.std.specs.List.{flat_map}
-use Rattle.expectations.specs.Texts.{part_of}
-use Rattle.expectations.specs.Cells.{addends_of}
-use Rattle.expectations.proofs.resolving.addends.Given as goal
-
-abbrev pub invariant-loop-term : goal.invariant-loop-term
-invariant-loop-term l = l.addends.items ≡ flat_map (addends_of l.program) (map part_of (take l.term-index l.terms))

@@ -1,4 +1,0 @@
-pub mod Found
-pub mod Cycles
-pub mod Leading
-pub mod Orders

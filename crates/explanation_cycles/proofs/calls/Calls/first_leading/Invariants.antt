@@ -1,9 +1,0 @@
-use Rattle.std.proofs.Common.{◌≡◌, map, take, None}
-use Rattle.std.specs.Prelude.{find}
-use Rattle.flow.specs.Working.PointList.{point_at}
-use Rattle.explanation_cycles.specs.Calls.{deepest, leads}
-use Rattle.explanation_cycles.proofs.calls.Calls.first_leading.Given as goal
-
--- none so far leads there
-abbrev pub invariant-loop-point : goal.invariant-loop-point
-invariant-loop-point l = find (leads l.self.program.now deepest l.at) (map point_at (take l.point-index l.points)) ≡ None

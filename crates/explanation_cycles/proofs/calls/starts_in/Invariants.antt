@@ -1,8 +1,0 @@
-use Rattle.std.proofs.Common.{◌≡◌, map, take, false}
-use Rattle.flow.specs.Working.PointList.{point_at}
-use Rattle.explanation_cycles.specs.Calls.{starts_in}
-use Rattle.explanation_cycles.proofs.calls.starts_in.Given as goal
-
--- none so far starts here
-abbrev pub invariant-loop-point : goal.invariant-loop-point
-invariant-loop-point l = starts_in (map point_at (take l.point-index l.points)) l.at ≡ false

@@ -1,9 +1,0 @@
-use Rattle.std.proofs.Common.{◌≡◌, ◌<◌, ℕ, true}
-use Rattle.locks.specs.Sets.{has}
-use Rattle.explanation_cycles.specs.Working.Tellers.{HasClass}
-use Rattle.explanation_cycles.proofs.teller.Teller.used_path.Given as goal
-
--- none so far is of the class and used
-abbrev pub invariant-loop-number : goal.invariant-loop-number
-invariant-loop-number l =
-    (k : ℕ) → k < l.number → HasClass l.self.program.now l.self.section.now l.class k → has l.used k ≡ true → ⊥

@@ -1,7 +1,0 @@
-use Rattle.std.proofs.Common.{◌≡◌, ◌++◌, drop}
-use Rattle.explanation_faults.specs.Working.Values.{idents, member_names}
-use Rattle.explanation_faults.proofs.name_spaces.push_members.Given as goal
-
-abbrev pub invariant-loop-member : goal.invariant-loop-member
-invariant-loop-member l =
-    idents l.names.items ++ member_names (drop l.member-index l.members) ≡ idents l.initial.names.items ++ member_names l.members

@@ -1,9 +1,0 @@
-use Rattle.std.proofs.Common.{◌≡◌, drop}
-use Rattle.resolution.specs.Scopes.{place_from}
-use Rattle.explanation_faults.specs.NameSpaces.{ident_bears}
-use Rattle.explanation_faults.specs.Working.Values.{idents}
-use Rattle.explanation_faults.proofs.same_names.first_place.Given as goal
-
-abbrev pub invariant-loop-i : goal.invariant-loop-i
-invariant-loop-i l =
-    place_from (λ x. ident_bears x l.text) l.i (idents (drop l.i l.names)) ≡ place_from (λ x. ident_bears x l.text) 0 (idents l.names)

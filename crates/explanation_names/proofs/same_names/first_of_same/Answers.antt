@@ -1,0 +1,37 @@
+use Rattle.std.proofs.Common.{◌∙◌, ◌<◌, sym, ap, below_more, arith}
+use Rattle.std.proofs.lemmas.Option.{none-some}
+use Rattle.explanation_names.specs.Working.Values.{ident_at}
+use Rattle.syntax.specs.Trees.{Ident}
+use Rattle.explanation_names.proofs.Firsts.{named_at, same_name, found_ahead, within_ahead, place_within}
+use Rattle.explanation_names.proofs.same_names.first_of_same.Goals as goal
+use Rattle.explanation_names.proofs.same_names.first_of_same.Goals.{then-name-at+in_default, else-name-at}
+
+pub returns-in-Some : goal.returns-in-Some
+returns-in-Some c = record {
+  place = c.loop-j.j;
+  name = ident_at c.index-names-j.result;
+  listed = named_at c.args.names.now c.loop-j.j c.index-names-j.result c.index-names-j.is c.loop-j-test.true;
+  starts = c.if-name-at.true;
+  first = c.in-Some.i;
+  found = found_ahead c.args.names.now c.loop-j.j _ _ _ c.in-Some.ensures.place c.as_str.ensures.value;
+  is_first = named_at c.args.names.now c.in-Some.i c.index-names-i.result c.index-names-i.is
+      (within_ahead c.args.names.now c.in-Some.i c.loop-j.j c.in-Some.ensures.within c.loop-j-test.true);
+}
+
+pub loop-j-preserved : goal.loop-j-preserved
+loop-j-preserved c =
+    below_more _ _ c.loop-j.invariant
+    (λ x at starts.
+    let same = same_name c.args.names.now c.loop-j.j c.index-names-j.result x c.index-names-j.is c.loop-j-test.true at in
+    elim c.if-name-at.branch [
+      | then-name-at+in_default w ↦
+          found_ahead c.args.names.now c.loop-j.j _ _ _ (sym w.in_default.is ∙ w.first_place.ensures.place)
+          (w.as_str.ensures.value ∙ ap (λ (y : Ident). y.text) same)
+      | else-name-at w ↦ absurd (w.if-name-at.false (ap (λ (y : Ident). y.span.start) same ∙ starts))
+    ])
+
+pub returns : goal.returns
+returns c x is =
+    let within = place_within c.args.names.now is.place is.name is.listed in
+    let lt : is.place < c.loop-j.j = omega arith in
+    absurd (none-some _ (sym (c.loop-j.invariant is.place lt is.name is.listed is.starts) ∙ is.found))

@@ -1,4 +1,0 @@
-use Rattle.explanation_names.proofs.search.Search.in_const.Goals as goal
-
-pub returns-in-Member : goal.returns-in-Member
-returns-in-Member c = rw c.in-Member.is (c.of_kind.ensures)

@@ -1,0 +1,6 @@
+use Rattle.std.proofs.Common.{sym}
+use Rattle.explanation_names.proofs.VarStatements.{no_var}
+use Rattle.explanation_names.proofs.vars.var_in.Goals as goal
+
+pub returns-in_default : goal.returns-in_default
+returns-in_default c = sym (no_var c.args.text.now c.args.stmt.now c.in_default.not-Var)

@@ -1,6 +1,0 @@
-use Rattle.std.proofs.Common.{refl}
-use Rattle.explanation_warnings.proofs.Seen.{if_seen}
-use Rattle.explanation_warnings.proofs.body.Condition.is_changed_by.Goals as goal
-
-pub returns-in-If : goal.returns-in-If
-returns-in-If c = rw (if_seen c.args.stmt.now c.in-If.field-0 c.in-If.is) refl

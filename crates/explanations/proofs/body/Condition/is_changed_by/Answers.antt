@@ -1,0 +1,6 @@
+use Rattle.std.proofs.Common.{refl}
+use Rattle.explanations.proofs.Seen.{if_seen}
+use Rattle.explanations.proofs.body.Condition.is_changed_by.Goals as goal
+
+pub returns-in-If : goal.returns-in-If
+returns-in-If c = rw (if_seen c.args.stmt.now c.in-If.field-0 c.in-If.is) refl

@@ -1,9 +1,0 @@
-use Rattle.std.proofs.Common.{◌≡◌, ◌++◌, drop}
-use Rattle.independence.specs.Working.Touches.{acts_in_all}
-use Rattle.independence.specs.Working.Listing.{touches}
-use Rattle.independence.proofs.accesses.+acts.Given as goal
-
-abbrev pub invariant-push_statements-loop-statement : goal.invariant-push_statements-loop-statement
-invariant-push_statements-loop-statement l =
-    touches l.list.items ++ acts_in_all (drop l.statement-index l.statements) ≡ touches
-    l.initial.list.items ++ acts_in_all l.statements

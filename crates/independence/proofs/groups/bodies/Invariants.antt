@@ -1,6 +1,0 @@
-use Rattle.std.proofs.Common.{take}
-use Rattle.independence.specs.Working.Listing.{AreListed}
-use Rattle.independence.proofs.groups.bodies.Given as goal
-
-abbrev pub invariant-loop-section : goal.invariant-loop-section
-invariant-loop-section l = AreListed l.bodies.items (take l.section-index l.sections)

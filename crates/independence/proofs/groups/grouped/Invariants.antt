@@ -1,9 +1,0 @@
-use Rattle.std.proofs.Common.{◌≡◌, length}
-use Rattle.independence.specs.Working.Grouping.{AreGrouped}
-use Rattle.independence.proofs.groups.grouped.Given as goal
-
-abbrev pub invariant-loop-number : goal.invariant-loop-number
-invariant-loop-number l = record {
-  long : length l.groups.items ≡ l.threads;
-  grouped : AreGrouped l.cells l.touched l.groups.items l.number;
-}

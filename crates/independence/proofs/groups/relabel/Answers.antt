@@ -1,5 +1,0 @@
-use Rattle.independence.proofs.Grouped.{relabelled_alike}
-use Rattle.independence.proofs.groups.relabel.Goals as goal
-
-pub returns-then-from-to : goal.returns-then-from-to
-returns-then-from-to c = relabelled_alike c.args.groups.now.items c.args.from c.args.to c.if-from-to.true

@@ -1,0 +1,4 @@
+pub mod Cuts
+pub mod Named
+pub mod Pieces
+pub mod ReadingLemmas

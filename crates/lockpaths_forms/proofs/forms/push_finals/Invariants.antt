@@ -1,7 +1,0 @@
-use Rattle.std.proofs.Common.{◌≡◌, drop}
-use Rattle.locks.specs.LockPaths.{all_final}
-use Rattle.lockpaths_forms.proofs.Walks.{behind_all}
-use Rattle.lockpaths_forms.proofs.forms.push_finals.Given as goal
-
-abbrev pub invariant-loop-field : goal.invariant-loop-field
-invariant-loop-field l = behind_all l.finals.items (all_final (drop l.field-index l.fields)) ≡ behind_all l.initial.finals.items (all_final l.fields)

@@ -1,3 +1,0 @@
-pub mod Extents
-pub mod Lines
-pub mod Classes

@@ -1,2 +1,0 @@
-mod Floats
-mod Warned

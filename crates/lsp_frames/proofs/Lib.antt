@@ -1,2 +1,0 @@
-mod HeaderLemmas
-mod FrameLemmas

@@ -1,4 +1,0 @@
-mod Floats
-mod ListLemmas
-mod NameLemmas
-mod ReferenceLemmas

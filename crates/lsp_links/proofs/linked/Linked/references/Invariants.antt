@@ -1,6 +1,0 @@
-use Rattle.std.proofs.Common.{◌≡◌}
-use Rattle.lsp_links.specs.Links.{references_in}
-use Rattle.lsp_links.proofs.linked.Linked.references.Given as goal
-
-abbrev pub invariant-loop-at : goal.invariant-loop-at
-invariant-loop-at l = l.found.items ≡ references_in l.self.tokens.now l.itself l.declared l.at

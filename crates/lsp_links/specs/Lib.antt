@@ -1,4 +1,0 @@
-pub mod Links
-pub mod Renames
-pub mod Told
-pub mod Working

@@ -1,4 +1,0 @@
-pub mod Loop
-pub mod Working
--- what the public clauses cite
-pub use Rattle.lsp_loop.specs.Loop.{Serves}

@@ -1,4 +1,0 @@
-pub mod Calls
-pub mod Parameters
-pub mod Replies
-pub mod Working

@@ -1,4 +1,0 @@
-mod DeclarationLemmas
-mod PlaceLemmas
-mod SymbolLemmas
-mod TableLemmas

@@ -1,4 +1,0 @@
-use Rattle.lsp_places.proofs.tables.Tables.of.Goals as goal
-
-pub loop-at-init : goal.loop-at-init
-loop-at-init c = record { place = c.first-place.ensures c.args.tokens.now; tables = c.new-tables.ensures c.args.tokens.now }

@@ -1,9 +1,0 @@
-use Rattle.lsp_places.specs.Working.Places.{IsPlaceOf}
-use Rattle.lsp_places.specs.Working.Tables.{AreTablesIn}
-use Rattle.lsp_places.proofs.tables.Tables.of.Given as goal
-
-abbrev pub invariant-loop-at : goal.invariant-loop-at
-invariant-loop-at l = record {
-  place : IsPlaceOf l.tokens l.at l.place;
-  tables : AreTablesIn l.tokens l.at l.tables;
-}

@@ -1,2 +1,0 @@
--- What holds of the definitions, for the proofs of the crates above. Nobody has to believe these files.
-pub mod Within

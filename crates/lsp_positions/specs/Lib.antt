@@ -1,3 +1,0 @@
-pub mod Positions
-pub mod Theory
-pub mod Working

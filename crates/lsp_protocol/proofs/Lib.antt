@@ -1,0 +1,6 @@
+mod AnswerLemmas
+mod DeedLemmas
+mod DocumentLemmas
+mod FrameLemmas
+mod HeaderLemmas
+mod LoopLemmas

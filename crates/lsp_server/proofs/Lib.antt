@@ -1,3 +1,0 @@
-mod AnswerLemmas
-mod DeedLemmas
-mod DocumentLemmas

@@ -1,5 +1,0 @@
-pub mod Deeds
-pub mod Documents
-pub mod Sessions
-pub mod Servers
-pub mod Working

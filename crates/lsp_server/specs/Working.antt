@@ -1,3 +1,0 @@
--- Values of the code's types, for its clauses. Nobody has to believe these files.
-pub mod Values
-pub mod Views

@@ -1,0 +1,11 @@
+mod DeclarationLemmas
+mod LinkFloats
+mod ListLemmas
+mod NameLemmas
+mod PlaceLemmas
+mod RangeLemmas
+mod ReferenceLemmas
+mod SymbolFloats
+mod SymbolLemmas
+mod TableLemmas
+mod WalkLemmas

@@ -1,7 +1,0 @@
-use Rattle.std.proofs.Common.{◌≡◌, drop}
-use Rattle.report_outcomes.specs.Names.{goes_on}
-use Rattle.report_outcomes.proofs.names.goes_on.Given as goal
-
--- the text begins with the bytes so far, and what is left of both decides
-abbrev pub invariant-loop-byte : goal.invariant-loop-byte
-invariant-loop-byte l = goes_on (drop l.byte-index l.name) l.rest ≡ goes_on l.name l.text

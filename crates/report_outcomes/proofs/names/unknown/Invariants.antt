@@ -1,9 +1,0 @@
-use Rattle.std.proofs.Common.{◌≡◌, drop, map}
-use Rattle.std.specs.List.{list_all}
-use Rattle.report_outcomes.specs.Names.{is_known}
-use Rattle.report_outcomes.proofs.names.unknown.Given as goal
-
--- those so far are known
-abbrev pub invariant-loop-name : goal.invariant-loop-name
-invariant-loop-name l =
-    list_all (is_known l.program) (map (λ name. name.now) (drop l.name-index l.names)) ≡ list_all (is_known l.program) (map (λ name. name.now) l.names)

@@ -1,2 +1,0 @@
--- What the code computes and values of its types. Nobody has to believe these files: no promise cites them.
-pub mod Known

@@ -1,7 +1,0 @@
-use Rattle.std.proofs.Common.{◌≡◌, map, take}
-use Rattle.report_runs.specs.Working.Kinds.{place_of}
-use Rattle.report_runs.proofs.kind.order_of.Given as goal
-
--- the calls of the entries so far
-abbrev pub invariant-loop-position : goal.invariant-loop-position
-invariant-loop-position l = l.order.items ≡ map place_of (take l.position l.history.commits)

@@ -1,4 +1,0 @@
-mod Draws
-mod ReadBack
-mod Contests
-mod SameTurns

@@ -1,5 +1,0 @@
-use Rattle.schedules.proofs.SameTurns.{texts_come}
-use Rattle.schedules.proofs.laws.texts_come_to_their_turns.Goals as goal
-
-pub returns : goal.returns
-returns c = texts_come

@@ -1,6 +1,0 @@
-use Rattle.std.proofs.Common.{◌≡◌, ◌++◌, string_bytes, take}
-use Rattle.schedules.specs.Schedules.{schedule_text}
-use Rattle.schedules.proofs.telling.push_items.Given as goal
-
-abbrev pub invariant-loop-item : goal.invariant-loop-item
-invariant-loop-item l = string_bytes l.out ≡ string_bytes l.initial.out ++ schedule_text l.program (take l.item-index l.items)

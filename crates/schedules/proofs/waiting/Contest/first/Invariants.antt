@@ -1,9 +1,0 @@
-use Rattle.std.proofs.Common.{◌≡◌}
-use Rattle.schedules.specs.Rivals.{first_to_go}
-use Rattle.schedules.proofs.waiting.Contest.first.Given as goal
-
--- none before this one
-abbrev pub invariant-threads : goal.invariant-threads
-invariant-threads l =
-    first_to_go l.self.world.plan l.self.world.world l.besides l.thread
-    ≡ first_to_go l.self.world.plan l.self.world.world l.besides l.initial.from

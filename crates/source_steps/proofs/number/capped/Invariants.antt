@@ -1,7 +1,0 @@
-use Rattle.std.proofs.Common.{◌≡◌, take}
-use Rattle.std.specs.Prelude.{min}
-use Rattle.source_steps.specs.Steps.{value_of}
-use Rattle.source_steps.proofs.number.capped.Given as goal
-
-abbrev pub invariant-loop-byte : goal.invariant-loop-byte
-invariant-loop-byte l = l.value ≡ min (value_of (take l.byte-index l.bytes)) 100000000000

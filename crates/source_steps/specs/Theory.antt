@@ -1,2 +1,0 @@
--- Lemmas for proofs of this crate and of those above. Nobody has to believe them.
-pub mod Fronts

@@ -1,4 +1,0 @@
-use Rattle.test_manager.proofs.calls.Calls.into_said.Given as goal
-
-abbrev pub decreases-loop-ticket : goal.decreases-loop-ticket
-decreases-loop-ticket l = goal.left-loop-ticket l

@@ -1,4 +1,0 @@
-use Rattle.test_threads.proofs.runs.in_turn.Given as goal
-
-abbrev pub ghosts-said_in_turn : goal.ghosts-said_in_turn
-ghosts-said_in_turn g a = record { plan = a.program.now; book = a.row.now }

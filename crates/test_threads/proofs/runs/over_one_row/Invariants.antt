@@ -1,4 +1,0 @@
-use Rattle.test_threads.proofs.runs.over_one_row.Given as goal
-
-abbrev pub ghosts-said_over_one_row : goal.ghosts-said_over_one_row
-ghosts-said_over_one_row g a = record { plan = a.program.now; book = a.row.now }

@@ -1,0 +1,3 @@
+pub mod ClosedRuns
+pub mod EndsTold
+pub mod Meanings

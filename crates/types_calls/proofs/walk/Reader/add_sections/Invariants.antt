@@ -1,8 +1,0 @@
-use Rattle.std.proofs.Common.{◌≡◌, take}
-use Rattle.core_lang_calls.specs.Graphs.{graph_of}
-use Rattle.resolution.specs.CallGraphs.{section_bodies}
-use Rattle.types_symbols.specs.{decls_of}
-use Rattle.types_calls.proofs.walk.Reader.add_sections.Given as goal
-
-abbrev pub invariant-loop-d : goal.invariant-loop-d
-invariant-loop-d l = graph_of l.graph ≡ record (graph_of l.fn.graph) { sections = section_bodies (decls_of l.self.symbols.now) (decls_of (take l.d-index l.d-items)) }

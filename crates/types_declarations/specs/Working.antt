@@ -1,6 +1,0 @@
--- What the code computes and values of its types, for proofs and for the crates above. Nobody has to believe these files: no promise
--- cites them.
-pub mod StructBuilders
-pub mod Slots
-pub mod Grown
-pub mod Values

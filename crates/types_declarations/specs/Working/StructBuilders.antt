@@ -1,8 +1,0 @@
--- What the checker's values of structs stand for.
-use Rattle.std.specs.Prelude.{map}
-use Rattle.resolution.specs.CoreViews.{core_struct, core_class}
-use Rattle.resolution.specs.Working.Building.{StructBuilder}
-use Rattle.types_declarations.specs.declared.struct_builder.StructBuilder as s
-
-abbrev pub builder_of : s.StructBuilder → StructBuilder
-builder_of s = record { structure = core_struct s.structure; classes = map core_class s.classes.items }

@@ -1,3 +1,0 @@
-pub mod CoreRows
-pub mod Chains
-pub mod Indices

@@ -1,0 +1,31 @@
+use Rattle.std.proofs.Common.{◌≡◌, ◌+◌, ◌∙◌, ap, sym, drop, List, []}
+use Rattle.std.proofs.lemmas.List.{drop_all}
+use Rattle.std.specs.Prelude.{map, option_map}
+use Rattle.syntax.specs.declared.tree.Name.{Name}
+use Rattle.syntax.specs.Views.{ident}
+use Rattle.resolution.specs.Annotations.{along}
+use Rattle.types_symbols.specs.Working.Views.{decls_of}
+use Rattle.types_symbols.specs.Working.AnnotationCursors.{cursor_of}
+use Rattle.types_symbols.specs.Theory.Steps.{step}
+use Rattle.types_symbols.proofs.annotation.AnnotationWalk.along.Goals as goal
+
+pub loop-z-preserved : goal.loop-z-preserved
+loop-z-preserved c =
+    let decls = decls_of c.args.self.now.symbols.now in
+    let before = option_map cursor_of c.loop-z.cursor in
+    let behind = option_map cursor_of c.in_ok-cursor.cursor in
+    let y = ident c.loop-z.y.now in
+    let z = c.z-item.result in
+    let rest = map ident (drop (c.loop-z.z-index + 1) c.args.rest.now) in
+    record {
+      value = step (λ (zs : List Name). along decls before y (map ident zs)) (λ (zs : List Name). along decls behind (ident z) (map ident zs)) c.args.rest.now c.loop-z.z-index z _ c.loop-z-test.true c.z-item.is
+          (ap (λ s. along decls s (ident z) rest) c.in_ok-cursor.ensures)
+          c.loop-z.invariant.value;
+    }
+
+pub returns : goal.returns
+returns c =
+    let none : drop c.loop-z.z-index c.args.rest.now ≡ [] = drop_all c.loop-z.z-index c.args.rest.now c.loop-z-test.false in
+    c.ended.ensures
+    ∙ sym (ap (λ (zs : List Name). along (decls_of c.args.self.now.symbols.now) (option_map cursor_of c.loop-z.cursor) (ident c.loop-z.y.now) (map ident zs)) none)
+    ∙ c.loop-z.invariant.value

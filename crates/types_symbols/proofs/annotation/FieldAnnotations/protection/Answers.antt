@@ -1,0 +1,27 @@
+use Rattle.std.proofs.Common.{◌∙◌, List, Some, Option, ap, sym}
+use Rattle.std.specs.Prelude.{map, option_map}
+use Rattle.core_lang.specs.declared.typed.Protection as core
+use Rattle.syntax.specs.declared.tree.Name.{Name}
+use Rattle.syntax.specs.declared.tree.Protection as rust
+use Rattle.syntax.specs.Views.{ident, option_of, protection_of as protection_view}
+use Rattle.resolution.specs.Annotations.{AnnotationCursor, along, cursor_at, protection_of}
+use Rattle.resolution.specs.CoreViews.{core_protection}
+use Rattle.resolution.specs.Scopes.{the_member}
+use Rattle.types_symbols.specs.Working.Views.{decls_of, members_seen}
+use Rattle.types_symbols.proofs.AnnotationNames.{seen_some, along_own, if_ok_same}
+use Rattle.types_symbols.proofs.annotation.FieldAnnotations.protection.Goals as goal
+
+pub returns-then-is_some : goal.returns-then-is_some
+returns-then-is_some c =
+    let decls = decls_of c.args.self.now.symbols.now in
+    let place = c.args.self.now.place in
+    let ms = members_seen c.args.self.now.structure.now in
+    let p = c.in-Some.p in
+    let x = ident p.first in
+    let named = seen_some _ c.find.result (the_member ms x.text) (c.find.ensures ∙ ap (the_member ms) c.as_str.ensures.value) (sym c.is_some.ensures ∙ c.if-is_some.true) in
+    if_ok_same (λ (r : Option core.Protection). option_map core_protection r) c.along.result _ _
+    (ap (λ (own : AnnotationCursor). along decls (Some own) x (map ident c.deref.result.now)) c.own.ensures
+    ∙ ap (λ (ys : List Name). along decls (Some (cursor_at place ms)) x (map ident ys)) c.deref.ensures.value
+    ∙ sym (along_own decls (cursor_at place ms) (protection_view p) (the_member ms x.text) named)
+    ∙ ap (λ (o : Option rust.Protection). protection_of decls place ms (option_of protection_view o)) (sym c.in-Some.is))
+    c.along.ensures

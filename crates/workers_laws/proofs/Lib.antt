@@ -1,5 +1,0 @@
-mod OneSeat
-mod Quiet
-mod Turns
-mod Simulated
-mod Told

@@ -1,5 +1,0 @@
-use Rattle.workers_laws.proofs.Told.{are_told}
-use Rattle.workers_laws.proofs.laws.closed_ends_are_told.Goals as goal
-
-pub returns : goal.returns
-returns c = are_told c.at_most_one_serial.ensures c.closed_runs_are_simulated.ensures c.every_end_is_told.ensures

@@ -1,5 +1,0 @@
-use Rattle.workers_laws.proofs.OneSeat.{is_serial}
-use Rattle.workers_laws.proofs.laws.one_seat_is_serial.Goals as goal
-
-pub returns : goal.returns
-returns c = is_serial c.at_most_one_serial.ensures

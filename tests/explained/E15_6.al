@@ -1,0 +1,2 @@
+lock G;
+global int this_name_goes_on_and_on_until_it_has_one_byte_more_than_64_bytes protected_by(G);

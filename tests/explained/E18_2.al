@@ -1,0 +1,3 @@
+lock G;
+global int n protected_by(G);
+atomic read() { return n; }
