@@ -8,7 +8,7 @@
 `rt ci` leaves it, which is all that a proof above it reads; and the crates go as those of `rt ci` do, but first those with
 the longest chain of others above them by measured seconds (the file proof_seconds here; of what isn't in it by its lines).
 A library that was built of the same files is taken as it is, so a run that was stopped goes on where it was. Writes a line
-for each crate that is done. The status is 5 where the toolchain has no such functions, as in another version: `rt all check` serves then.
+for each crate that is done. The status is 5 where the toolchain lacks what is used of it (script/README.md).
 """
 import contextlib
 import importlib.machinery

@@ -3,7 +3,7 @@
 
 The toolchain follows each way down through the crates for the list of those below one, and some versions for a crate's sum
 of files. Together there are 200,000 such ways; the sums took half an hour of one processor in a whole gate, the lists a
-minute. Here each is found once. Where a version has no such functions, nothing is changed.
+minute. Here each is found once. script/README.md says what is used of the toolchain, and what happens where it isn't there.
 """
 import os
 import shutil

@@ -4,7 +4,8 @@ the gate, or by `./autolock --build`. Its own crate is proved on the way.
 
     script/library.py
 
-`rt lib` does the same, but takes no library that `rt ci` left, and so proves all of them once more.
+`rt lib` does the same, but takes no library that `rt ci` left, and so proves all of them once more. script/README.md says
+what is used of the toolchain.
 """
 import os
 import pathlib
