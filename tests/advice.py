@@ -29,7 +29,7 @@ KINDS = {
     "all": "TEXT",
 }
 
-SEMICOLON = "a `;` may be missing behind this"
+SEMICOLON = "a `;` may be missing after this"
 
 FAULTY = [
     ("body", "do { n = 1; } while (n > 0);", "there is no `do`"),
@@ -63,7 +63,7 @@ FAULTY = [
     ("body", "let y: int = n++;", "there is no `++`: write `x = x + 1;`"),
     ("body", "let y: int = n--;", "there is no `--`: write `x = x - 1;`"),
     ("body", "if (n == 0) { n = 1; } else if (n == 1) { n = 2; }", "write `else { if (..) { .. } }`"),
-    ("body", "if (n == 0) { n = 1; } else n = 2;", "what stands behind `else` is put between `{` and `}`"),
+    ("body", "if (n == 0) { n = 1; } else n = 2;", "what follows `else` is put between `{` and `}`"),
     ("body", "if (n == 0) n = 1;", "what an `if` or a `while` guards is put between `{` and `}`"),
     ("body", "while (n == 0) print n;", "what an `if` or a `while` guards is put between `{` and `}`"),
     ("body", "/* words */ n = 1;", "a comment begins with `//`, and goes to the end of the line"),
@@ -85,8 +85,8 @@ FAULTY = [
     ("body", "while n { n = 1; }", "a condition stands in parentheses: `while (..) { .. }`"),
     ("body", "n = 1; return;", "leave it out: a section without a result ends where its body does"),
     ("top", "int g() { return 1; }", "a section is declared by `atomic g(..) : int { .. }`"),
-    ("top", "atomic int g() { return 1; }", "the type of a result stands behind the parameters: `atomic f(..) : int { .. }`"),
-    ("top", "call int g() { return 1; }", "the type of a result stands behind the parameters: `call f(..) : int { .. }`"),
+    ("top", "atomic int g() { return 1; }", "the type of a result follows the parameters: `atomic f(..) : int { .. }`"),
+    ("top", "call int g() { return 1; }", "the type of a result follows the parameters: `call f(..) : int { .. }`"),
     ("top", "atomic g(k: int) { n = k; }", "a parameter begins with its type: `int k`"),
     ("top", "atomic g(int j, k: int) { n = k; }", "a parameter begins with its type: `int k`"),
     ("top", "int x = 3;", "data by `global int x protected_by(..);`"),

@@ -103,7 +103,7 @@ def changes_wanted(text, told):
             length = re.match(rf"{GAP}\[{GAP}\d+{GAP}\]", text[end:])
             behind = end + (length.end() if length else 0)
             found.append((f"write {lock[2]}", behind, behind, f" {lock[2]}"))
-        elif note["text"] == "a `;` may be missing behind this":
+        elif note["text"] == "a `;` may be missing after this":
             behind = character(text, note["end"])
             found.append(("write ;", behind, behind, ";"))
         elif note["text"] == "leave this `;` out":

@@ -448,7 +448,7 @@ class Reader:
         return None
 
     def differs(self, number, wanted):
-        told = "".join(f"wanted: {text}\n" for text in wanted)
+        told = "".join(f"expected: {text}\n" for text in wanted)
         return f"differs at line {number}\n{told}found: {self.lines[number - 1]}\n"
 
     def argument(self, text):

@@ -200,9 +200,9 @@ class Replays:
         lines = text.decode("latin-1").split("\n")[:-1]
         found = lines[number - 1]
         *wanted, last = told.removesuffix("\n").split("\n")
-        if last != f"found: {found}" or not wanted or not all(line.startswith("wanted: ") for line in wanted):
+        if last != f"found: {found}" or not wanted or not all(line.startswith("expected: ") for line in wanted):
             return False
-        wanted = [line.removeprefix("wanted: ") for line in wanted]
+        wanted = [line.removeprefix("expected: ") for line in wanted]
         if not wanted[0].endswith(" .."):
             wrong = self.first_wrong([*lines[: number - 1], wanted[0], *["?"] * 5000])
             return len(wanted) == 1 and wanted[0] != found and (wrong is None or wrong > number)

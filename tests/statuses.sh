@@ -62,7 +62,7 @@ printf 'history 2\ncall 0 0 0 f() ends\ncells\nn 1\nend\n' >history_2
 printf 'history 1\ncall 0 0 f() ends\ncells\nn 2\nend\n' >other_history
 printf 'history 1\ncall 4294967295 0 f() ends\ncall 7 0 f() ends\ncells\nn 1\nend\n' >open_history
 printf 'history 1\ncall 7 0 f() ends\ncall 7 0 f() ends\ncells\nn 1\nend\n' >other_open_history
-printf 'differs at line 3\nwanted: K 1\nfound: call 7 0 f() ends\n' >differs_open
+printf 'differs at line 3\nexpected: K 1\nfound: call 7 0 f() ends\n' >differs_open
 printf 'history 1\ncall 0 0 f() ends\ncells\nn 01\nend\n' >bad_history
 printf 'lock G;\nglobal int n protected_by(G);\natomic f() { while (n < 3) { n = n + 1; } }\nthread t { f(); }\n' >loop.al
 printf 'history 1\ncall 0 0 f() ends\ncells\nn 3\nend\n' >loop_history

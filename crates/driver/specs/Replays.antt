@@ -44,11 +44,11 @@ verdict_status (verdict.Unsettled number) = Unsettled
 
 -- the line of a call that may come, given up to its end
 abbrev pub call_wanted : List ℕ → List ℕ
-call_wanted head = line (codes "wanted: " ++ head ++ codes "..")
+call_wanted head = line (codes "expected: " ++ head ++ codes "..")
 
 -- the line of words that say what may come
 abbrev pub wanted_line : List ℕ → List ℕ
-wanted_line words = line (codes "wanted: " ++ words)
+wanted_line words = line (codes "expected: " ++ words)
 
 -- the form of a call's line
 abbrev pub form_text : Format → List ℕ
@@ -57,7 +57,7 @@ form_text Two = codes "call T K B NAME(ARGUMENTS) .."
 
 -- the range of the begins that a call may have
 abbrev pub begins_text : ℕ → ℕ → List ℕ
-begins_text least most = (codes "wanted: B from " ++ decimal least) ++ line (codes " to " ++ decimal most)
+begins_text least most = (codes "expected: B from " ++ decimal least) ++ line (codes " to " ++ decimal most)
 
 -- what a line lacks to be the line of a call, where anyone may call
 abbrev pub lack_text : Lack → List ℕ

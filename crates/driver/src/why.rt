@@ -17,7 +17,7 @@ fn push_calls(out: &mut String, heads: &[String]) -> Result<(), AllocError>
     ensures { OnOk result (AddsText (flat_map (λ head. call_wanted (string_bytes head)) heads.now) out.old out.new) }
 {
     for head in heads {
-        writeln!(out, "wanted: {head}..")?;
+        writeln!(out, "expected: {head}..")?;
     }
     Ok(())
 }
@@ -26,7 +26,7 @@ fn push_calls(out: &mut String, heads: &[String]) -> Result<(), AllocError>
 fn push_words(out: &mut String, words: &str) -> Result<(), AllocError>
     ensures { OnOk result (AddsText (wanted_line words.now) out.old out.new) }
 {
-    writeln!(out, "wanted: {words}")
+    writeln!(out, "expected: {words}")
 }
 
 /// Appends the form of a call's line.
@@ -49,9 +49,9 @@ fn push_open(out: &mut String, format: Format) -> Result<(), AllocError>
 
 /// Appends the least begin that a call may have.
 fn push_least(out: &mut String, least: usize) -> Result<(), AllocError>
-    ensures { OnOk result (AddsText (codes "wanted: B from " ++ decimal least) out.old out.new) }
+    ensures { OnOk result (AddsText (codes "expected: B from " ++ decimal least) out.old out.new) }
 {
-    write!(out, "wanted: B from {least}")
+    write!(out, "expected: B from {least}")
 }
 
 /// Appends the greatest begin that a call may have.
@@ -76,7 +76,7 @@ fn push_lack(out: &mut String, lack: Lack) -> Result<(), AllocError>
     match lack {
         Lack::Form(format) => push_open(out, format),
         Lack::Thread => push_words(out, "T from 0 to 4294967295"),
-        Lack::Number(number) => writeln!(out, "wanted: K {number}"),
+        Lack::Number(number) => writeln!(out, "expected: K {number}"),
         Lack::Begin { least, most } => push_begins(out, least, most),
         Lack::Section => push_words(out, "a section of the program"),
         Lack::Arguments => push_words(out, "arguments that fit the section"),

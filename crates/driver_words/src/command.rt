@@ -94,7 +94,7 @@ fn times_argument<'a>(alloc: Global) -> Arg<'a>
         .long("times")
         .value_name("N")
         .value_parser(ValueParser::unsigned(1, 1_000_000))
-        .help("Run them so often, and tell each order of calls and each end that was seen")
+        .help("Run them this many times, and report each order of calls and each end that was seen")
 }
 
 /// `--length N`.
@@ -159,7 +159,7 @@ fn cells_argument<'a>(alloc: Global) -> Arg<'a>
     Arg::new(alloc, "cells")
         .long("cells")
         .value_name("NAMES")
-        .help("Which cells ends are told apart by, as n,a,a[0],p[1].x")
+        .help("The cells whose values distinguish ends, as n,a,a[0],p[1].x")
 }
 
 /// A command over one file, or over another argument in its place.

@@ -45,7 +45,7 @@ places UnknownName =
     ∷ [])
 places WrongType =
     flat_map line
-    (codes "- At the start of an expression or constant not of the wanted type: an int for"
+    (codes "- At the start of an expression or constant not of the expected type: an int for"
     ∷ codes "  a condition, a truth value for `print`, a reference for `+` or to another"
     ∷ codes "  struct."
     ∷ codes "- Of `==` and `!=` at the right side where both are unlike, at the left where"

@@ -40,7 +40,7 @@ in an annotation, an `init`, a type or a call.
 "#
         }
         Code::WrongType => {
-            r#"- At the start of an expression or constant not of the wanted type: an int for
+            r#"- At the start of an expression or constant not of the expected type: an int for
   a condition, a truth value for `print`, a reference for `+` or to another
   struct.
 - Of `==` and `!=` at the right side where both are unlike, at the left where

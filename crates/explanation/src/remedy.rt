@@ -28,10 +28,10 @@ pub fn remedy_of(code: Code) -> &'static str
             "take another name: those of a section differ from each other and from those of the top level"
         }
         Code::UnknownName => {
-            "declare it, or mend its spelling; a let or var ends with the block that it is in"
+            "declare it or fix the spelling; a let or var is in scope until the end of its block"
         }
         Code::WrongType => {
-            "write what is of the type or kind that is wanted; a condition is a comparison, which is no value"
+            "use an expression of the expected type or kind; a comparison is a condition, not a value"
         }
         Code::WrongArgumentCount => "give one argument for each parameter",
         Code::NotAssignable => {

@@ -70,13 +70,13 @@ referent_words stands.Thread = codes "a thread"
 
 -- what is expected of a name
 abbrev pub role_words : Role → List ℕ
-role_words role.Value = codes ", and a value is wanted"
-role_words role.Elements = codes ", and an array or a pool is wanted"
-role_words role.Local = codes ", and a local is wanted"
-role_words role.Struct = codes ", and a struct is wanted"
-role_words role.Pool = codes ", and a pool is wanted"
-role_words role.Section = codes ", and a section is wanted"
-role_words role.Helper = codes ", and a helper is wanted"
+role_words role.Value = codes ", and a value is expected"
+role_words role.Elements = codes ", and an array or a pool is expected"
+role_words role.Local = codes ", and a local is expected"
+role_words role.Struct = codes ", and a struct is expected"
+role_words role.Pool = codes ", and a pool is expected"
+role_words role.Section = codes ", and a section is expected"
+role_words role.Helper = codes ", and a helper is expected"
 role_words role.Target = codes ", and keeps what it is"
 
 -- a hint, where there is one
@@ -99,7 +99,7 @@ hint_words _ _ = []
 
 -- wanted .., found ..
 abbrev pub unwanted_words : List Decl → Want → Kind → List ℕ
-unwanted_words decls w k = codes "wanted " ++ want_words decls w ++ codes ", found " ++ kind_words decls k
+unwanted_words decls w k = codes "expected " ++ want_words decls w ++ codes ", found " ++ kind_words decls k
 
 -- what the left and the right side are
 abbrev pub side_words : List Decl → Kind → Kind → List ℕ
@@ -107,7 +107,7 @@ side_words decls a b = (codes "the left side is " ++ kind_words decls a) ++ (cod
 
 -- that a result is expected, and the helper has none
 abbrev pub no_result_words : List Decl → ValueType → List ℕ
-no_result_words decls t = codes "wanted " ++ type_words decls t ++ codes ", found no result"
+no_result_words decls t = codes "expected " ++ type_words decls t ++ codes ", found no result"
 
 -- what a name stands for and what is expected of it, with a hint where there is one
 abbrev pub misnamed_words : Role → Referent → List ℕ
@@ -115,12 +115,12 @@ misnamed_words r s = codes "this is " ++ referent_words s ++ role_words r ++ hin
 
 -- how many arguments are expected, and how many are given
 abbrev pub count_words : ℕ → ℕ → List ℕ
-count_words n k = (codes "arguments wanted: " ++ decimal n) ++ (codes ", given: " ++ decimal k)
+count_words n k = (codes "arguments expected: " ++ decimal n) ++ (codes ", given: " ++ decimal k)
 
 -- the words of reasons that do not have parameters
 abbrev pub fixed_words : Why → List ℕ
-fixed_words why.OwnedInt = codes "wanted a reference, found int"
-fixed_words why.OwnerField = codes "this field can change, and a final reference is wanted"
+fixed_words why.OwnedInt = codes "expected a reference, found int"
+fixed_words why.OwnerField = codes "this field can change, and a final reference is expected"
 fixed_words why.FieldOfInt = codes "an int has no fields"
 fixed_words why.FieldOfLock = codes "a lock has no fields"
 fixed_words why.OperatorOfConditions = codes "this operator stands between conditions"

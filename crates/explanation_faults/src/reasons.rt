@@ -79,13 +79,13 @@ fn role_words(role: Role) -> &'static str
     ensures { result.now ≡ role_words role }
 {
     match role {
-        Role::Value => ", and a value is wanted",
-        Role::Elements => ", and an array or a pool is wanted",
-        Role::Local => ", and a local is wanted",
-        Role::Struct => ", and a struct is wanted",
-        Role::Pool => ", and a pool is wanted",
-        Role::Section => ", and a section is wanted",
-        Role::Helper => ", and a helper is wanted",
+        Role::Value => ", and a value is expected",
+        Role::Elements => ", and an array or a pool is expected",
+        Role::Local => ", and a local is expected",
+        Role::Struct => ", and a struct is expected",
+        Role::Pool => ", and a pool is expected",
+        Role::Section => ", and a section is expected",
+        Role::Helper => ", and a helper is expected",
         Role::Target => ", and keeps what it is",
     }
 }
@@ -158,8 +158,8 @@ fn fixed_words(why: Why) -> &'static str
     ensures { result.now ≡ fixed_words why }
 {
     match why {
-        Why::OwnedInt => "wanted a reference, found int",
-        Why::OwnerField => "this field can change, and a final reference is wanted",
+        Why::OwnedInt => "expected a reference, found int",
+        Why::OwnerField => "this field can change, and a final reference is expected",
         Why::FieldOfInt => "an int has no fields",
         Why::FieldOfLock => "a lock has no fields",
         Why::OperatorOfConditions => "this operator stands between conditions",
@@ -182,7 +182,7 @@ fn push_unwanted(
 ) -> Result<(), AllocError>
     ensures { OnOk result (string_bytes words.new ≡ string_bytes words.old ++ unwanted_words (decls_of symbols.now) want kind) }
 {
-    words.push_str("wanted ")?;
+    words.push_str("expected ")?;
     push_want(symbols, want, words)?;
     words.push_str(", found ")?;
     push_kind(symbols, kind, words)
@@ -217,7 +217,7 @@ fn push_sides(
 fn push_no_result(symbols: &SymbolTable, t: ValueType, words: &mut String) -> Result<(), AllocError>
     ensures { OnOk result (string_bytes words.new ≡ string_bytes words.old ++ no_result_words (decls_of symbols.now) t) }
 {
-    words.push_str("wanted ")?;
+    words.push_str("expected ")?;
     push_type(symbols, t, words)?;
     words.push_str(", found no result")
 }
@@ -242,7 +242,7 @@ fn push_count(ahead: &str, count: usize, words: &mut String) -> Result<(), Alloc
 fn push_counts(wanted: usize, given: usize, words: &mut String) -> Result<(), AllocError>
     ensures { OnOk result (string_bytes words.new ≡ string_bytes words.old ++ count_words wanted given) }
 {
-    push_count("arguments wanted: ", wanted, words)?;
+    push_count("arguments expected: ", wanted, words)?;
     push_count(", given: ", given, words)
 }
 

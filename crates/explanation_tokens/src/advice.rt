@@ -112,7 +112,7 @@ impl Advice {
             Advice::Leave => "there is no `E`: make the condition of the `while` false",
             Advice::Skip => "there is no `E`: put the rest of the turn into an `if`",
             Advice::ElseIf => "write `else { if (..) { .. } }`",
-            Advice::ElseBlock => "what stands behind `else` is put between `{` and `}`",
+            Advice::ElseBlock => "what follows `else` is put between `{` and `}`",
             Advice::Condition => "a condition stands in parentheses: `E (..) { .. }`",
             Advice::Block => "what an `if` or a `while` guards is put between `{` and `}`",
             Advice::NameFirst => "the name comes first: `E G: int = ..;`",
@@ -143,10 +143,10 @@ impl Advice {
             Advice::StepField => "there is no `FG`: write `C.E = C.E F 1;`",
             Advice::StepPlace => "there is no `FG`: write the place on both sides of an `=`",
             Advice::NoStep => {
-                "there is no `++`: write `x = x + 1;`, and `x` where its value is wanted"
+                "there is no `++`: write `x = x + 1;`, and `x` where its value is needed"
             }
             Advice::NoStepDown => {
-                "there is no `--`: write `x = x - 1;`, and `x` where its value is wanted"
+                "there is no `--`: write `x = x - 1;`, and `x` where its value is needed"
             }
             Advice::TwiceMinus => "write `-(-..)`",
             Advice::TwiceNot => "write `!(!..)`",
@@ -176,7 +176,7 @@ impl Advice {
                 "leave it out: a section without a result ends where its body does"
             }
             Advice::ResultBehind => {
-                "the type of a result stands behind the parameters: `E f(..) : int { .. }`"
+                "the type of a result follows the parameters: `E f(..) : int { .. }`"
             }
             Advice::ParameterType => "a parameter begins with its type: `int F`, or `ref S F`",
             Advice::TopInt => {
@@ -192,7 +192,7 @@ impl Advice {
             Advice::GlobalStruct => "objects are declared by a pool: `pool F G[1];`",
             Advice::NameAlone => "a name alone is no statement: write `E = ..;`",
             Advice::NoSemicolon => "leave this `;` out",
-            Advice::Semicolon => "a `;` may be missing behind this",
+            Advice::Semicolon => "a `;` may be missing after this",
             Advice::CallBound => "bind the result first: `let y: int = call G(..);`",
             Advice::OpenParen => "this `(` is not closed",
             Advice::OpenBrace => "this `{` is not closed",

@@ -48,7 +48,7 @@ impl<'a> Faulty<'a> {
             (seen self.now.tokens.now) self.now.fault.now.start (note_of note.now).start (note_of note.now).words) }
     {
         match (note.start, note.words.as_str()) {
-            (Some(start), "a `;` may be missing behind this") => {
+            (Some(start), "a `;` may be missing after this") => {
                 let place = token_end(self.tokens, start);
                 Ok(Some(Change::ended(alloc, place)?))
             }

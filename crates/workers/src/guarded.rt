@@ -120,7 +120,7 @@ impl<'p, 'r, J: Naming> Guarded<'p, 'r, J> {
     /// # Errors
     ///
     /// The manager isn't the one that the section left. The section has ended without an entry.
-    pub fn ask(
+    pub(crate) fn ask(
         &mut self,
         asking: Asking<'p>,
         front: &mut Front<'r, J>,
@@ -152,7 +152,7 @@ impl<'p, 'r, J: Naming> Guarded<'p, 'r, J> {
     /// # Errors
     ///
     /// The entry doesn't fit, or another entry of the thread came between. The section has ended without an entry.
-    pub fn finish(
+    pub(crate) fn finish(
         &mut self,
         ended: Ended<'p>,
         front: &Front<'r, J>,
@@ -197,7 +197,7 @@ impl<'p, 'r, J: Naming> Guarded<'p, 'r, J> {
     }
 
     /// Ends a section without an entry.
-    pub fn give_up(&mut self, ended: Ended<'p>) -> Ready<'p>
+    pub(crate) fn give_up(&mut self, ended: Ended<'p>) -> Ready<'p>
         ensures ready { result ≡ ready_again ended.entry }
         ensures history { self.new.history ≡ self.old.history }
     {

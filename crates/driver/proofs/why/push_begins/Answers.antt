@@ -7,5 +7,5 @@ use Rattle.driver.proofs.why.push_begins.Goals as goal
 
 pub returns : goal.returns
 returns c =
-    both_added c.push_most.result (codes "wanted: B from " ++ decimal c.args.least) (line (codes " to " ++ decimal c.args.most)) c.args.out.now c.push_least.new.out c.push_most.new.out
+    both_added c.push_most.result (codes "expected: B from " ++ decimal c.args.least) (line (codes " to " ++ decimal c.args.most)) c.args.out.now c.push_least.new.out c.push_most.new.out
     c.in_ok-push_least.ensures c.push_most.ensures

@@ -6,7 +6,7 @@ use Rattle.explanation_faults.proofs.reasons.push_counts.Goals as goal
 
 pub returns : goal.returns
 returns c =
-    let left = codes "arguments wanted: " ++ decimal c.args.wanted in
+    let left = codes "arguments expected: " ++ decimal c.args.wanted in
     let right = codes ", given: " ++ decimal c.args.given in
     let old = string_bytes c.args.words.now in
     on_ok_weaker c.push_count-2.result (λ e. e ∙ ap (λ (t : List ℕ). t ++ right) c.in_ok-push_count.ensures ∙ append_assoc old left right)
