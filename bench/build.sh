@@ -2,14 +2,26 @@
 # Builds the program bench/NAME over the crates of this repository, in a folder beside the system's
 # temporary files, and prints where the built program lies.
 #
-#     bench/build.sh NAME
+#     bench/build.sh NAME               proves it first
+#     bench/build.sh --unproved NAME    compiles it without any proof, into the folder $BENCH_BUILT
+#
+# If $BENCH_BUILT has the program already, it prints where.
 #
 # A program bench/NAME is main.rattle and crate.txt, the line "NAME: what it stands on", and FUNCTION.answers and
 # FUNCTION.invariants for what the search doesn't prove of one of its functions (TYPE.FUNCTION of a method). The
 # endings keep it out of the gate, which wants every .rt file and .antt file to be part of a crate of the repository.
 set -euo pipefail
+unproved=
+if [ "$1" = --unproved ]; then
+  unproved=yes
+  shift
+fi
 name=$1
 top=$(cd "$(dirname "$0")/.." && pwd)
+if [ -z "$unproved" ] && [ -n "${BENCH_BUILT:-}" ] && [ -x "$BENCH_BUILT/bench_$name" ]; then
+  echo "$BENCH_BUILT/bench_$name"
+  exit
+fi
 work=${AUTOLOCK_BENCH:-${TMPDIR:-/tmp}/autolock-bench}
 mkdir -p "$work/crates"
 for crate in "$top"/crates/*/; do
@@ -37,6 +49,12 @@ done
 cp "$top/HANDLES" "$work/HANDLES"
 { cat "$top/crates.txt"; sed "s/^$name\b/$program/" "$top/bench/$name/crate.txt"; } > "$work/crates.txt"
 cd "$work/crates/$program"
+if [ -n "$unproved" ]; then
+  rt=$(dirname -- "$(readlink -f -- "$(command -v rt)")")
+  "$top/script/unproved.py" "$rt" "$PWD" "$BENCH_BUILT/$program"
+  echo "$BENCH_BUILT/$program"
+  exit
+fi
 : > stdin
 rm -f "out/$program"
 # The program is run once without words, which it may refuse: only that it was built counts.

@@ -13,6 +13,7 @@ NAME is one of
     crates      the groups of crates.txt, and for each crate the first sentence of its head (`//!` of lib.rt or main.rt)
     commands    each command with its arguments and what it does, from script/help, which tests/words.sh compares with the
                 program
+    figures_..  what the benches printed, by script/figures.py
 
 docs/BELIEVED.md is made as a whole, by tests/believed.py.
 """
@@ -26,6 +27,7 @@ MARKED = re.compile(r"(<!-- (\w+): made by script/docs\.py -->\n).*?(<!-- end --
 BELIEVED = TOP / "docs" / "BELIEVED.md"
 sys.path.insert(0, str(TOP / "tests"))
 import believed  # noqa: E402
+import figures  # noqa: E402
 
 
 def first_sentence(crate):
@@ -64,7 +66,7 @@ def commands():
     return "\n".join([*rows, ""])
 
 
-TABLES = {"crates": crates, "commands": commands}
+TABLES = {"crates": crates, "commands": commands, **figures.tables()}
 
 
 def made(path):

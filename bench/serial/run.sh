@@ -4,8 +4,11 @@
 set -u
 
 top=$(cd -- "$(dirname -- "$0")/../.." && pwd -P)
-"$top/autolock" --help >/dev/null || exit 1
-program=$top/crates/autolock/out/autolock
+program=${AUTOLOCK:-}
+if [ -z "$program" ]; then
+  "$top/autolock" --build || exit 1
+  program=$top/crates/autolock/out/autolock
+fi
 work=$(mktemp -d)
 trap 'rm -rf "$work"' EXIT
 
