@@ -74,7 +74,8 @@ fn with_settled_color<'a>(rt: &HostRuntime, request: Alone<'a>) -> Alone<'a> {
 /// Serves an editor over standard input and output.
 fn serve_editor<O: Write, E: Write>(rt: &HostRuntime, streams: &mut Streams<O, E>) -> Status
     ensures words { result ≢ Status.BadWords }
-    ensures failed { result ≡ Status.Failed → Tells E.contents streams.old.err streams.new.err (cannot_read (codes "standard input"))
+    ensures failed { result ≡ Status.Failed → Tells E.contents streams.old.err streams.new.err
+        (cannot_read (codes "standard input"))
         ⊎ Tells E.contents streams.old.err streams.new.err cannot_write }
     ensures memory { result ≡ Status.OutOfMemory → Tells E.contents streams.old.err streams.new.err no_memory }
 {
@@ -96,7 +97,8 @@ fn run_line<R: Threads + Wait + Sync, O: Write, E: Write>(
 ) -> Status
     requires { writing_failed streams.old.out ≡ false }
     ensures words { result ≢ Status.BadWords }
-    ensures failed { result ≡ Status.Failed → NamesOneOf (Tells E.contents streams.old.err streams.new.err) (files_of line.entry)
+    ensures failed { result ≡ Status.Failed → NamesOneOf (Tells E.contents streams.old.err streams.new.err)
+        (files_of line.entry)
         ⊎ Tells E.contents streams.old.err streams.new.err cannot_write }
     ensures memory { result ≡ Status.OutOfMemory → Tells E.contents streams.old.err streams.new.err no_memory }
 {
@@ -126,8 +128,10 @@ fn tell_words<O: Write, E: Write>(
 ) -> Status
     ensures memory { kind_of error.now ≡ ErrorKind.OutOfMemory → result ≡ Status.OutOfMemory }
     ensures asked { IsAsked (kind_of error.now) → (result ≡ Status.Done) ⊎ (result ≡ Status.Failed) }
-    ensures bad { kind_of error.now ≢ ErrorKind.OutOfMemory → (IsAsked (kind_of error.now) → ⊥) → result ≡ Status.BadWords }
-    ensures memory_err { kind_of error.now ≡ ErrorKind.OutOfMemory → Tells E.contents streams.old.err streams.new.err no_memory }
+    ensures bad { kind_of error.now ≢ ErrorKind.OutOfMemory → (IsAsked (kind_of error.now) → ⊥)
+        → result ≡ Status.BadWords }
+    ensures memory_err { kind_of error.now ≡ ErrorKind.OutOfMemory
+        → Tells E.contents streams.old.err streams.new.err no_memory }
     ensures asked_err { result ≡ Status.Failed → Tells E.contents streams.old.err streams.new.err cannot_write }
     ensures quiet { result ≢ Status.OutOfMemory → result ≢ Status.Failed → streams.new.err ≡ streams.old.err }
 {

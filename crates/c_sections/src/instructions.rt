@@ -134,7 +134,8 @@ impl<'a> InstructionLines<'a> {
         requires targets { HasTargets self.now }
         requires plan { HasPlan self.now }
         requires rises { IsNonDecreasing (begins_of self.now) }
-        ensures { OnOk result (AddsText (body_of self.now (marks_of marks.entry self.now.listed.code.now)) out.old out.new) }
+        ensures { OnOk result
+            (AddsText (body_of self.now (marks_of marks.entry self.now.listed.code.now)) out.old out.new) }
     {
         match marks {
             None => self.push_plain(alloc, out),

@@ -198,7 +198,8 @@ fn serial_text(
     values: &[Value],
 ) -> Result<String, NoMemory>
     requires { vec_len program.now.cells ≡ length values.now }
-    ensures { IfOk result (λ text. string_bytes text ≡ serial_text changed program.now (map entry_of calls.now) values.now) }
+    ensures { IfOk result
+        (λ text. string_bytes text ≡ serial_text changed program.now (map entry_of calls.now) values.now) }
 {
     if changed {
         return changed_text(alloc, program, calls, values);
@@ -269,7 +270,8 @@ pub fn report_answer(
     report: Report<'_>,
     source: &Named<'_>,
 ) -> Result<Answer, NoMemory>
-    ensures { IfOk result (Meets (TextAnswers (IsReport report.entry source.now.text.now) source.now.file.now source.now.text.now)) }
+    ensures { IfOk result
+        (Meets (TextAnswers (IsReport report.entry source.now.text.now) source.now.file.now source.now.text.now)) }
 {
     match accepted(alloc, source)? {
         Ok(program) => reported(alloc, report, source.text, &program),
@@ -285,7 +287,8 @@ pub fn beside_answer(
     source: &Named<'_>,
     other: &Named<'_>,
 ) -> Result<Answer, NoMemory>
-    ensures { IfOk result (Meets (BesideAnswers request source.now.file.now other.now.file.now source.now.text.now other.now.text.now)) }
+    ensures { IfOk result
+        (Meets (BesideAnswers request source.now.file.now other.now.file.now source.now.text.now other.now.text.now)) }
 {
     let program = match accepted(alloc, source)? {
         Ok(program) => program,

@@ -53,7 +53,8 @@ pub fn serve<R: Threads + Wait + Sync, S: Read, O: Write, E: Write>(
 ) -> Status
     requires readable { reading_failed source.old ≡ false }
     requires writable { writing_failed streams.old.out ≡ false }
-    ensures { Serves (OfOne (AloneAnswers request.entry (name_of source.old))) (reading_of S.remaining source.old source.new) []
+    ensures { Serves (OfOne (AloneAnswers request.entry (name_of source.old)))
+        (reading_of S.remaining source.old source.new) []
         O.contents E.contents streams.old streams.new result }
 {
     match request {
@@ -74,7 +75,8 @@ pub fn serve_report<S: Read, O: Write, E: Write>(
 ) -> Status
     requires readable { reading_failed source.old ≡ false }
     requires writable { writing_failed streams.old.out ≡ false }
-    ensures { Serves (OfOne (AloneAnswers (Alone.Report report.entry) (name_of source.old))) (reading_of S.remaining source.old source.new) []
+    ensures { Serves (OfOne (AloneAnswers (Alone.Report report.entry) (name_of source.old)))
+        (reading_of S.remaining source.old source.new) []
         O.contents E.contents streams.old streams.new result }
 {
     let text = match streams.read(alloc, source, SOURCE_LIMIT) {
@@ -152,7 +154,8 @@ pub fn listing<S: Read, O: Write, E: Write>(
 ) -> Status
     requires readable { reading_failed source.old ≡ false }
     requires writable { writing_failed streams.old.out ≡ false }
-    ensures { Serves (OfOne (AloneAnswers (Alone.Report (Report.Listing false)) (name_of source.old))) (reading_of S.remaining source.old source.new) []
+    ensures { Serves (OfOne (AloneAnswers (Alone.Report (Report.Listing false)) (name_of source.old)))
+        (reading_of S.remaining source.old source.new) []
         O.contents E.contents streams.old streams.new result }
 {
     serve_report(alloc, Report::Listing { places: false }, source, streams)
@@ -169,7 +172,8 @@ pub fn serial<S: Read, O: Write, E: Write>(
 ) -> Status
     requires readable { reading_failed source.old ≡ false }
     requires writable { writing_failed streams.old.out ≡ false }
-    ensures { Serves (OfOne (AloneAnswers (Alone.Report (Report.Serial turns false)) (name_of source.old))) (reading_of S.remaining source.old source.new) []
+    ensures { Serves (OfOne (AloneAnswers (Alone.Report (Report.Serial turns false)) (name_of source.old)))
+        (reading_of S.remaining source.old source.new) []
         O.contents E.contents streams.old streams.new result }
 {
     let report = Report::Serial {
@@ -228,7 +232,8 @@ pub fn run<R: Threads + Wait + Sync, S: Read, O: Write, E: Write>(
 ) -> Status
     requires readable { reading_failed source.old ≡ false }
     requires writable { writing_failed streams.old.out ≡ false }
-    ensures { Serves (OfOne (AloneAnswers (Alone.Run running) (name_of source.old))) (reading_of S.remaining source.old source.new) []
+    ensures { Serves (OfOne (AloneAnswers (Alone.Run running) (name_of source.old)))
+        (reading_of S.remaining source.old source.new) []
         O.contents E.contents streams.old streams.new result }
 {
     let text = match streams.read(alloc, source, SOURCE_LIMIT) {

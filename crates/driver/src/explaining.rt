@@ -143,7 +143,8 @@ pub fn explain<S: Read, O: Write, E: Write>(
 ) -> Status
     requires readable { reading_failed source.old ≡ false }
     requires writable { writing_failed streams.old.out ≡ false }
-    ensures { Serves (OfOne (AloneAnswers (Alone.Explain json color) (name_of source.old))) (reading_of S.remaining source.old source.new) []
+    ensures { Serves (OfOne (AloneAnswers (Alone.Explain json color) (name_of source.old)))
+        (reading_of S.remaining source.old source.new) []
         O.contents E.contents streams.old streams.new result }
 {
     explanation::laws::shown_by_first_bytes();

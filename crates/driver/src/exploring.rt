@@ -142,7 +142,8 @@ impl Exploring<'_> {
     fn found(&self, alloc: Global, asked: &Asked) -> Result<Found, NoMemory>
         requires checked { IsChecked self.now.prepared.now.program.now }
         requires expansion { IsExpansion self.now.prepared.now.program.now self.now.prepared.now.written.now }
-        ensures { IfOk result (Finds self.now.prepared.now.program.now self.now.looking.turns self.now.looking.count asked.now) }
+        ensures { IfOk result
+            (Finds self.now.prepared.now.program.now self.now.looking.turns self.now.looking.count asked.now) }
     {
         let search = Search {
             program: self.prepared.program(),
@@ -193,8 +194,10 @@ impl Exploring<'_> {
     ) -> Result<Answer, NoMemory>
         requires checked { IsChecked self.now.prepared.now.program.now }
         requires expansion { IsExpansion self.now.prepared.now.program.now self.now.prepared.now.written.now }
-        requires expected { IsExpected self.now.prepared.now.program.now (text_given self.now.looking) (option_map (λ e. expected_of e.now) expected) }
-        requires asked { IsAsked self.now.looking self.now.prepared.now.program.now (option_map (λ e. expected_of e.now) expected) asked.now }
+        requires expected { IsExpected self.now.prepared.now.program.now (text_given self.now.looking)
+            (option_map (λ e. expected_of e.now) expected) }
+        requires asked { IsAsked self.now.looking self.now.prepared.now.program.now
+            (option_map (λ e. expected_of e.now) expected) asked.now }
         ensures { IfOk result (Meets (IsLookedAt self.now.looking self.now.prepared.now.program.now)) }
     {
         match self.found(alloc, asked)? {
@@ -225,7 +228,8 @@ impl Exploring<'_> {
     fn explored(&self, alloc: Global, expected: Option<&Expected<'_>>) -> Result<Answer, NoMemory>
         requires checked { IsChecked self.now.prepared.now.program.now }
         requires expansion { IsExpansion self.now.prepared.now.program.now self.now.prepared.now.written.now }
-        requires expected { IsExpected self.now.prepared.now.program.now (text_given self.now.looking) (option_map (λ e. expected_of e.now) expected) }
+        requires expected { IsExpected self.now.prepared.now.program.now (text_given self.now.looking)
+            (option_map (λ e. expected_of e.now) expected) }
         requires names { option_map (λ e. map (λ name. name.now) e.now.names.items) expected
             ≡ option_map (λ e. names_of (said_of e.now.expectation)) expected }
         ensures { IfOk result (Meets (IsLookedAt self.now.looking self.now.prepared.now.program.now)) }

@@ -47,7 +47,8 @@ fn ordered(alloc: Global, source: &Named<'_>, found: &Ordered) -> Result<Answer,
 
 /// The line that reports `fault`, with a line feed.
 fn told_line(alloc: Global, source: &Named<'_>, fault: &Fault) -> Result<String, NoMemory>
-    ensures { IfOk result (λ told. string_bytes told ≡ line (fault_text source.now.file.now source.now.text.now fault.now)) }
+    ensures { IfOk result
+        (λ told. string_bytes told ≡ line (fault_text source.now.file.now source.now.text.now fault.now)) }
 {
     let mut told = fault_line(alloc, source.file, source.text, fault)?;
     told.push_str("\n")?;
@@ -107,7 +108,8 @@ pub fn order_graph<S: Read, O: Write, E: Write>(
 ) -> Status
     requires readable { reading_failed source.old ≡ false }
     requires writable { writing_failed streams.old.out ≡ false }
-    ensures { Serves (OfOne (AloneAnswers Alone.Order (name_of source.old))) (reading_of S.remaining source.old source.new) []
+    ensures { Serves (OfOne (AloneAnswers Alone.Order (name_of source.old)))
+        (reading_of S.remaining source.old source.new) []
         O.contents E.contents streams.old streams.new result }
 {
     let text = match streams.read(alloc, source, SOURCE_LIMIT) {

@@ -25,7 +25,8 @@ fn push_script<'a>(
     thread: usize,
     calls: &'a [Call],
 ) -> Result<(), AllocError>
-    ensures { OnOk result (map scheduled_of all.new.items ≡ map scheduled_of all.old.items ++ script_from thread 0 calls.entry.now) }
+    ensures { OnOk result
+        (map scheduled_of all.new.items ≡ map scheduled_of all.old.items ++ script_from thread 0 calls.entry.now) }
 {
     for (step, call) in calls.iter().enumerate() {
         all.push(ScheduledCall { thread, step, call })?;

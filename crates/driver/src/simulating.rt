@@ -22,7 +22,8 @@ use std::alloc::Global;
 
 /// The answer that reports `fault` of the steps file.
 pub fn bad_steps(alloc: Global, steps: &Named<'_>, fault: StepsFault) -> Result<Answer, NoMemory>
-    ensures { IfOk result (IsMessage Status.BadInput (line (steps_fault_text steps.now.file.now steps.now.text.now fault))) }
+    ensures { IfOk result
+        (IsMessage Status.BadInput (line (steps_fault_text steps.now.file.now steps.now.text.now fault))) }
 {
     let line = steps_fault_line(alloc, steps.file, steps.text, fault)?;
     Answer::refused(alloc, Status::BadInput, line)

@@ -46,7 +46,8 @@ impl<W: Write> Sink<W> {
     pub fn put(&mut self, bytes: &[u8])
         ensures empty { bytes.now ≡ [] → self.new ≡ self.old }
         ensures stopped { writing_failed self.old ≡ true → writer_of self.new ≡ writer_of self.old }
-        ensures appends { writing_failed self.new ≡ false → Appends (W.contents (writer_of self.old)) (W.contents (writer_of self.new)) bytes.now }
+        ensures appends { writing_failed self.new ≡ false
+            → Appends (W.contents (writer_of self.old)) (W.contents (writer_of self.new)) bytes.now }
         ensures sticky { writing_failed self.new ≡ false → writing_failed self.old ≡ false }
     {
         if bytes.is_empty() || self.failed {
@@ -60,7 +61,8 @@ impl<W: Write> Sink<W> {
     /// Writes all of `text`, or nothing after a failure.
     pub fn put_text(&mut self, text: &Rope)
         ensures stopped { writing_failed self.old ≡ true → writer_of self.new ≡ writer_of self.old }
-        ensures appends { writing_failed self.new ≡ false → Appends (W.contents (writer_of self.old)) (W.contents (writer_of self.new)) (rope_text text.now) }
+        ensures appends { writing_failed self.new ≡ false
+            → Appends (W.contents (writer_of self.old)) (W.contents (writer_of self.new)) (rope_text text.now) }
         ensures sticky { writing_failed self.new ≡ false → writing_failed self.old ≡ false }
     {
         for insert in 0..text.inserts() {
@@ -73,7 +75,8 @@ impl<W: Write> Sink<W> {
     /// Flushes the writer, or does nothing after a failure.
     pub fn flush(&mut self)
         ensures stopped { writing_failed self.old ≡ true → writer_of self.new ≡ writer_of self.old }
-        ensures keeps { writing_failed self.new ≡ false → Keeps (W.contents (writer_of self.old)) (W.contents (writer_of self.new)) }
+        ensures keeps { writing_failed self.new ≡ false
+            → Keeps (W.contents (writer_of self.old)) (W.contents (writer_of self.new)) }
         ensures sticky { writing_failed self.new ≡ false → writing_failed self.old ≡ false }
     {
         if !self.failed && self.writer.flush().is_err() {

@@ -31,7 +31,8 @@ pub enum ReadError {
 /// error the reader stands somewhere in them, and must not be read further.
 fn read_up_to<R: Read>(alloc: Global, reader: &mut Take<R>, most: u64) -> Result<Vec<u8>, ReadError>
     requires { most + 1 < 2 ^ 64 }
-    ensures bytes { IfOk result (λ text. IfSome (R.remaining (take_inner reader.old)) (λ bytes. text.items ≡ take (most + 1) bytes)) }
+    ensures bytes { IfOk result
+        (λ text. IfSome (R.remaining (take_inner reader.old)) (λ bytes. text.items ≡ take (most + 1) bytes)) }
     ensures end { IfOk result (λ text. IsAtEnd (R.remaining (take_inner reader.new)) ⊎ (most < length text.items)) }
 {
     let mut text = Vec::new(alloc);
@@ -91,7 +92,8 @@ impl<'a, R: Read> SourceText<'a, R> {
     /// The file could not be opened, the reader failed, or a growth was refused.
     pub fn read_up_to(&mut self, alloc: Global, most: u64) -> Result<Vec<u8>, ReadError>
         requires { most + 1 < 2 ^ 64 }
-        ensures bytes { IfOk result (λ text. IfSome (left_in R.remaining self.old) (λ bytes. text.items ≡ take (most + 1) bytes)) }
+        ensures bytes { IfOk result
+            (λ text. IfSome (left_in R.remaining self.old) (λ bytes. text.items ≡ take (most + 1) bytes)) }
         ensures end { IfOk result (λ text. IsAtEnd (left_in R.remaining self.new) ⊎ (most < length text.items)) }
         ensures opened { OnOk result (is_some (reader_of self.old) ≡ true) }
         ensures name { name_of self.new ≡ name_of self.old }

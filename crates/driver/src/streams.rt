@@ -61,14 +61,16 @@ impl<O: Write, E: Write> Streams<O, E> {
     ) -> Result<Vec<u8>, Status>
         requires most { most + 1 < 2 ^ 64 }
         requires readable { reading_failed source.old ≡ false }
-        ensures bytes { IfOk result (λ text. IfSome (left_in R.remaining source.old) (λ bytes. text.items ≡ take (most + 1) bytes)) }
+        ensures bytes { IfOk result
+            (λ text. IfSome (left_in R.remaining source.old) (λ bytes. text.items ≡ take (most + 1) bytes)) }
         ensures end { IfOk result (λ text. IsAtEnd (left_in R.remaining source.new) ⊎ (most < length text.items)) }
         ensures opened { OnOk result (is_some (reader_of source.old) ≡ true) }
         ensures name { name_of source.new ≡ name_of source.old }
         ensures out { self.new.out ≡ self.old.out }
         ensures ok { OnOk result (reading_failed source.new ≡ false) }
         ensures quiet { OnOk result (self.new ≡ self.old) }
-        ensures unread { IfErr result (IsUnread (name_of source.old) (reading_failed source.new) (Tells E.contents self.old.err self.new.err)) }
+        ensures unread { IfErr result
+            (IsUnread (name_of source.old) (reading_failed source.new) (Tells E.contents self.old.err self.new.err)) }
     {
         match source.read_up_to(alloc, most) {
             Ok(text) => Ok(text),

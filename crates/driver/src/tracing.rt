@@ -15,7 +15,10 @@ use std::alloc::Global;
 /// The answer to `trace`: a line for each reported step of a steps file, and the text of the world after them; or the fault
 /// of the file.
 pub fn traced(alloc: Global, trace: &Trace<'_>, steps: &Named<'_>) -> Result<Answer, NoMemory>
-    ensures { IfOk result (Meets (IsTraceAnswer trace.now.moves trace.now.all steps.now.file.now trace.now.text.now steps.now.text.now trace.now.program.now)) }
+    ensures { IfOk result
+        (Meets
+        (IsTraceAnswer trace.now.moves trace.now.all steps.now.file.now trace.now.text.now steps.now.text.now
+        trace.now.program.now)) }
 {
     worlds::laws::every_run();
     let _typed = trace.program.expanded();

@@ -118,7 +118,8 @@ pub fn push_why(
     judgement: &Judgement,
     recorded: &Recorded<'_>,
 ) -> Result<(), AllocError>
-    ensures { OnOk result (AddsText (why_text judgement.now.verdict judgement.now.wanted (recorded_lines recorded.now)) out.old out.new) }
+    ensures { OnOk result
+        (AddsText (why_text judgement.now.verdict judgement.now.wanted (recorded_lines recorded.now)) out.old out.new) }
 {
     match (judgement.verdict, &judgement.wanted) {
         (Verdict::Differs(number), Some(wanted)) => {

@@ -55,7 +55,8 @@ fn warning_values(
     places: &Places<'_>,
     warnings: &[Warning],
 ) -> Result<Value, AllocError>
-    ensures { IfOk result (λ value. view value ≡ object.warnings_data places.now.text.now (map warning_of warnings.now)) }
+    ensures { IfOk result
+        (λ value. view value ≡ object.warnings_data places.now.text.now (map warning_of warnings.now)) }
 {
     let mut values = Vec::new(alloc);
     for warning in warnings {

@@ -45,7 +45,8 @@ fn line_at(
     label: &str,
     words: &str,
 ) -> Result<String, AllocError>
-    ensures { IfOk result (λ told. string_bytes told ≡ told_words file.now at.entry.line at.entry.column label.now words.now) }
+    ensures { IfOk result
+        (λ told. string_bytes told ≡ told_words file.now at.entry.line at.entry.column label.now words.now) }
 {
     let (line, column) = (at.line, at.column);
     let mut told = String::from_str(alloc, file)?;
@@ -85,7 +86,8 @@ impl<'a> Places<'a> {
 
     // The line of this place.
     fn line(&self, start: usize, label: &str, words: &str) -> Result<String, AllocError>
-        ensures { IfOk result (λ told. string_bytes told ≡ place_text self.now.file.now self.now.text.now start label.now words.now) }
+        ensures { IfOk result
+            (λ told. string_bytes told ≡ place_text self.now.file.now self.now.text.now start label.now words.now) }
     {
         let at = self.marks.at(start);
         line_at(self.alloc, self.file, at, label, words)

@@ -75,7 +75,8 @@ impl<'a> Places<'a> {
     /// The range of what begins at `start`.
     pub fn range(&self, alloc: Global, start: usize) -> Result<Range, AllocError>
         ensures start { IfOk result (λ range. view range.start ≡ object.position_data self.now.text.now start) }
-        ensures end { IfOk result (λ range. view range.end ≡ object.position_data self.now.text.now (object.end_of self.now.text.now start)) }
+        ensures end { IfOk result
+            (λ range. view range.end ≡ object.position_data self.now.text.now (object.end_of self.now.text.now start)) }
     {
         let first = position(alloc, &self.marks, start)?;
         let behind = position(alloc, &self.marks, end_of(self.text, start))?;

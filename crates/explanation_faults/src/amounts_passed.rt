@@ -133,7 +133,8 @@ fn limit_of(amount: Amount) -> u64
 
 /// Whether the first declaration with which the amount exceeds its limit begins at byte `at`.
 fn is_first_over(symbols: &SymbolTable, amount: Amount, at: usize) -> bool
-    ensures { result ≡ first_over (amount_of amount (decls_of symbols.now)) at (limit_of amount) (decls_of symbols.now) }
+    ensures { result ≡ first_over (amount_of amount (decls_of symbols.now)) at (limit_of amount)
+        (decls_of symbols.now) }
 {
     let decls = symbols.items();
     let mut room = limit_of(amount);

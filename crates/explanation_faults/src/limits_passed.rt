@@ -58,7 +58,8 @@ fn kind_names(alloc: Global, kind: Kind, decls: &[Decl]) -> Result<Vec<&Name>, N
 }
 
 fn push_own_locks<'a>(members: &'a [Member], names: &mut Vec<&'a Name>) -> Result<(), NoMemory>
-    ensures { OnOk result (idents names.new.items ≡ idents names.old.items ++ own_lock_names (map member_of members.now)) }
+    ensures { OnOk result
+        (idents names.new.items ≡ idents names.old.items ++ own_lock_names (map member_of members.now)) }
 {
     for member in members {
         if let Some(name) = own_lock_in(member) {

@@ -99,7 +99,8 @@ fn global_lock_if(is_wanted: bool, decls: &[Decl]) -> Option<&Name>
 
 /// The first lock that could protect a field of a struct with these members.
 fn lock_for_field<'a>(decls: &'a [Decl], members: &'a [Member]) -> Option<&'a Name>
-    ensures { option_map ident_at result ≡ option_or (own_lock (map member_of members.now)) (global_lock (map decl_of decls.now)) }
+    ensures { option_map ident_at result ≡ option_or (own_lock (map member_of members.now))
+        (global_lock (map decl_of decls.now)) }
 {
     match own_lock(members) {
         Some(own) => Some(own),

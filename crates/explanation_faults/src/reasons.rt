@@ -180,7 +180,8 @@ fn push_unwanted(
     kind: Kind,
     words: &mut String,
 ) -> Result<(), AllocError>
-    ensures { OnOk result (string_bytes words.new ≡ string_bytes words.old ++ unwanted_words (decls_of symbols.now) want kind) }
+    ensures { OnOk result
+        (string_bytes words.new ≡ string_bytes words.old ++ unwanted_words (decls_of symbols.now) want kind) }
 {
     words.push_str("expected ")?;
     push_want(symbols, want, words)?;
@@ -195,7 +196,8 @@ fn push_side(
     kind: Kind,
     words: &mut String,
 ) -> Result<(), AllocError>
-    ensures { OnOk result (string_bytes words.new ≡ string_bytes words.old ++ (ahead.now ++ kind_words (decls_of symbols.now) kind)) }
+    ensures { OnOk result
+        (string_bytes words.new ≡ string_bytes words.old ++ (ahead.now ++ kind_words (decls_of symbols.now) kind)) }
 {
     words.push_str(ahead)?;
     push_kind(symbols, kind, words)
@@ -208,14 +210,16 @@ fn push_sides(
     right: Kind,
     words: &mut String,
 ) -> Result<(), AllocError>
-    ensures { OnOk result (string_bytes words.new ≡ string_bytes words.old ++ side_words (decls_of symbols.now) left right) }
+    ensures { OnOk result
+        (string_bytes words.new ≡ string_bytes words.old ++ side_words (decls_of symbols.now) left right) }
 {
     push_side(symbols, "the left side is ", left, words)?;
     push_side(symbols, ", the right side is ", right, words)
 }
 
 fn push_no_result(symbols: &SymbolTable, t: ValueType, words: &mut String) -> Result<(), AllocError>
-    ensures { OnOk result (string_bytes words.new ≡ string_bytes words.old ++ no_result_words (decls_of symbols.now) t) }
+    ensures { OnOk result
+        (string_bytes words.new ≡ string_bytes words.old ++ no_result_words (decls_of symbols.now) t) }
 {
     words.push_str("expected ")?;
     push_type(symbols, t, words)?;

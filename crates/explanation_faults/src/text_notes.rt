@@ -134,7 +134,8 @@ fn notes_on_tree(
     judged: Judged<'_>,
 ) -> Result<Vec<Note>, NoMemory>
     requires { judged.firsts.now ≡ the_firsts (tree_of tree.now) }
-    ensures { IfOk result (λ notes. AreNotes (seen tokens.now) (tree_of tree.now) judged.entry.fault.now.code judged.entry.fault.now.start
+    ensures { IfOk result
+        (λ notes. AreNotes (seen tokens.now) (tree_of tree.now) judged.entry.fault.now.code judged.entry.fault.now.start
         (map note_of notes.items)) }
 {
     let Judged { fault, firsts } = judged;
@@ -162,8 +163,10 @@ struct Judged<'a> {
 /// The notes on a fault that is not a byte order mark, and the further faults.
 fn other_told(alloc: Global, text: &[u8], fault: &Fault) -> Result<FaultTold, NoMemory>
     requires { IsMarkFault text.now fault.now.code fault.now.start → ⊥ }
-    ensures notes { IfOk result (λ told. AreTextNotes text.now fault.now.code fault.now.start (map note_of told.notes.items)) }
-    ensures further { IfOk result (λ told. AreFurther text.now fault.now.code fault.now.start (further_of told.further)) }
+    ensures notes { IfOk result
+        (λ told. AreTextNotes text.now fault.now.code fault.now.start (map note_of told.notes.items)) }
+    ensures further { IfOk result
+        (λ told. AreFurther text.now fault.now.code fault.now.start (further_of told.further)) }
 {
     one_tree();
     least_fault();
@@ -211,8 +214,10 @@ fn other_told(alloc: Global, text: &[u8], fault: &Fault) -> Result<FaultTold, No
 ///
 /// `NoMemory`: a growth was refused.
 pub fn fault_told(alloc: Global, text: &[u8], fault: &Fault) -> Result<FaultTold, NoMemory>
-    ensures notes { IfOk result (λ told. AreTextNotes text.now fault.now.code fault.now.start (map note_of told.notes.items)) }
-    ensures further { IfOk result (λ told. AreFurther text.now fault.now.code fault.now.start (further_of told.further)) }
+    ensures notes { IfOk result
+        (λ told. AreTextNotes text.now fault.now.code fault.now.start (map note_of told.notes.items)) }
+    ensures further { IfOk result
+        (λ told. AreFurther text.now fault.now.code fault.now.start (further_of told.further)) }
 {
     if is_mark(text, fault) {
         let notes = mark_notes(alloc)?;

@@ -247,7 +247,8 @@ impl<'a> Faulty<'a> {
 
     // The note `NAME is a var`, which says whether a `let` would do.
     fn var_note(&self, alloc: Global) -> Result<Option<Note>, NoMemory>
-        ensures { IfOk result (λ note. option_map note_of note ≡ var_noted (tokens_of self.now) (decls_of self.now) self.now.at) }
+        ensures { IfOk result
+            (λ note. option_map note_of note ≡ var_noted (tokens_of self.now) (decls_of self.now) self.now.at) }
     {
         let Some(i) = token_at(self.at, self.tokens) else {
             return Ok(None);
@@ -374,7 +375,8 @@ pub fn tree_notes(
     known: Known<'_>,
 ) -> Result<Vec<Note>, NoMemory>
     requires { IsKnownOf (decls_in symbols.now) known }
-    ensures { IfOk result (λ notes. AreNotesOn (seen tokens.now) (decls_in symbols.now) known.entry (map note_of notes.items)) }
+    ensures { IfOk result
+        (λ notes. AreNotesOn (seen tokens.now) (decls_in symbols.now) known.entry (map note_of notes.items)) }
 {
     let faulty = Faulty {
         tokens,

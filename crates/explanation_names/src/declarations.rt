@@ -23,7 +23,8 @@ impl<'s, 't> NameSearch<'s, 't> {
     }
 
     fn in_consts(&self, constants: &[Const], found: &mut FoundNames<'t>)
-        ensures { Says self.now found.old found.new (flat_map (uses_of_const (locals_at self.now)) (map const_of constants.now)) }
+        ensures { Says self.now found.old found.new
+            (flat_map (uses_of_const (locals_at self.now)) (map const_of constants.now)) }
     {
         for c in constants {
             self.in_const(c, found);
@@ -53,7 +54,8 @@ impl<'s, 't> NameSearch<'s, 't> {
     }
 
     fn in_annotation(&self, protection: &Option<Protection>, found: &mut FoundNames<'t>)
-        ensures { Says self.now found.old found.new (uses_of_annotation (locals_at self.now) (option_of protection_of protection.now)) }
+        ensures { Says self.now found.old found.new
+            (uses_of_annotation (locals_at self.now) (option_of protection_of protection.now)) }
     {
         if let Some(protection) = protection {
             self.of_kind(NameKind::Lock, &protection.first, found);
@@ -61,7 +63,8 @@ impl<'s, 't> NameSearch<'s, 't> {
     }
 
     fn in_member(&self, structure: &Name, member: &Member, found: &mut FoundNames<'t>)
-        ensures { Says self.now found.old found.new (uses_of_member (locals_at self.now) (ident structure.now) (member_of member.now)) }
+        ensures { Says self.now found.old found.new
+            (uses_of_member (locals_at self.now) (ident structure.now) (member_of member.now)) }
     {
         match member {
             Member::Lock(_) => {}
@@ -85,7 +88,8 @@ impl<'s, 't> NameSearch<'s, 't> {
     }
 
     fn in_params(&self, params: &[Param], found: &mut FoundNames<'t>)
-        ensures { Says self.now found.old found.new (flat_map (uses_of_param (locals_at self.now)) (map param_of params.now)) }
+        ensures { Says self.now found.old found.new
+            (flat_map (uses_of_param (locals_at self.now)) (map param_of params.now)) }
     {
         for param in params {
             self.in_type(&param.value_type, found);
@@ -135,7 +139,8 @@ impl<'s, 't> NameSearch<'s, 't> {
 
     /// Searches the declarations of a program.
     pub fn in_decls(&self, decls: &'t [Decl], found: &mut FoundNames<'t>)
-        ensures { Says self.now found.old found.new (flat_map (uses_of_decl (locals_at self.now)) (map decl_of decls.now)) }
+        ensures { Says self.now found.old found.new
+            (flat_map (uses_of_decl (locals_at self.now)) (map decl_of decls.now)) }
     {
         for decl in decls {
             self.in_decl(decl, found);

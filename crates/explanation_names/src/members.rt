@@ -189,7 +189,8 @@ impl<'s, 't> NameSearch<'s, 't> {
         protection: &Protection,
         found: &mut FoundNames<'t>,
     )
-        ensures { Says self.now found.old found.new (by_annotation (ident structure.now) (protection_of protection.now) ∷ []) }
+        ensures { Says self.now found.old found.new
+            (by_annotation (ident structure.now) (protection_of protection.now) ∷ []) }
     {
         let first = &protection.first;
         let here = struct_named(self.symbols, structure);

@@ -68,7 +68,8 @@ fn bound_name(stmt: &Stmt) -> Option<&Name>
 
 /// Adds the names that statements bind.
 fn push_bound<'a>(all: &[&'a Stmt], names: &mut Vec<&'a Name>) -> Result<(), NoMemory>
-    ensures { OnOk result (idents names.new.items ≡ idents names.old.items ++ filter_map bound_name (map stmt_at all.now)) }
+    ensures { OnOk result
+        (idents names.new.items ≡ idents names.old.items ++ filter_map bound_name (map stmt_at all.now)) }
 {
     for stmt in all {
         if let Some(name) = bound_name(stmt) {

@@ -31,7 +31,8 @@ impl Sought {
         name: &Name,
         found: Option<(usize, &'t Member)>,
     ) -> Option<&'t Member>
-        ensures { option_map member_at result ≡ met self (ident first.now) passed (ident name.now) (option_map member_found found.entry) }
+        ensures { option_map member_at result ≡ met self (ident first.now) passed (ident name.now)
+            (option_map member_found found.entry) }
     {
         let (_, member) = found?;
         match self {
@@ -64,7 +65,8 @@ fn next_structure<'a, 't>(
     symbols: &'a SymbolTable<'t>,
     found: Option<(usize, &'t Member)>,
 ) -> Option<&'a Structure<'t>>
-    ensures { option_map members_behind result ≡ next_members (decls_of symbols.now) (option_map member_found found.entry) }
+    ensures { option_map members_behind result ≡ next_members (decls_of symbols.now)
+        (option_map member_found found.entry) }
 {
     match found {
         Some((_, Member::Final(reference))) => {
@@ -107,7 +109,8 @@ fn passed_for<'a, 't>(
     structure: &'a Structure<'t>,
     member: &Member,
 ) -> Option<&'t Member>
-    ensures { option_map member_at result ≡ met_for sought (decls_of symbols.now) (members_seen structure.now) (member_of member.now) }
+    ensures { option_map member_at result ≡ met_for sought (decls_of symbols.now) (members_seen structure.now)
+        (member_of member.now) }
 {
     let Member::Field(field) = member else {
         return None;

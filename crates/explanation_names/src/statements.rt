@@ -82,7 +82,8 @@ impl<'s, 't> NameSearch<'s, 't> {
         scope: &mut Vec<LocalInScope<'t>>,
         found: &mut FoundNames<'t>,
     )
-        ensures found { Says self.now found.old found.new (uses_in_stmts (typed_seen scope.old.items) (stmts_of stmts.now)) }
+        ensures found { Says self.now found.old found.new
+            (uses_in_stmts (typed_seen scope.old.items) (stmts_of stmts.now)) }
         ensures scope { Grows found.new scope.old scope.new (all_declared (stmts_of stmts.now)) }
     {
         for s in stmts {
@@ -100,7 +101,8 @@ impl<'s, 't> NameSearch<'s, 't> {
 
     #[cycle(stmts)]
     fn in_blocks(&self, s: &'t Stmt, scope: &mut Vec<LocalInScope<'t>>, found: &mut FoundNames<'t>)
-        ensures found { Says self.now found.old found.new (uses_in_blocks (typed_seen scope.old.items) (stmt_of s.now)) }
+        ensures found { Says self.now found.old found.new
+            (uses_in_blocks (typed_seen scope.old.items) (stmt_of s.now)) }
         ensures scope { Keeps found.new scope.old scope.new }
     {
         match s {
@@ -128,7 +130,8 @@ impl<'s, 't> NameSearch<'s, 't> {
         scope: &mut Vec<LocalInScope<'t>>,
         found: &mut FoundNames<'t>,
     )
-        ensures found { Says self.now found.old found.new (uses_in_stmts (typed_seen scope.old.items) (stmts_of block.now.stmts.items)) }
+        ensures found { Says self.now found.old found.new
+            (uses_in_stmts (typed_seen scope.old.items) (stmts_of block.now.stmts.items)) }
         ensures scope { Keeps found.new scope.old scope.new }
     {
         let ahead = scope.len();
@@ -143,7 +146,8 @@ impl<'s, 't> NameSearch<'s, 't> {
         scope: &mut Vec<LocalInScope<'t>>,
         found: &mut FoundNames<'t>,
     )
-        ensures found { Says self.now found.old found.new (uses_in_else (typed_seen scope.old.items) (else_of other.now)) }
+        ensures found { Says self.now found.old found.new
+            (uses_in_else (typed_seen scope.old.items) (else_of other.now)) }
         ensures scope { Keeps found.new scope.old scope.new }
     {
         if let Some(block) = other {

@@ -225,7 +225,8 @@ impl View<'_> {
     /// Appends the token at a column.
     fn push_column(&self, out: &mut String, column: usize) -> Result<(), AllocError>
         requires { column ≤ 6 }
-        ensures { OnOk result (AddsText (column_text (seen self.now.tokens.now) self.now.number column) out.old out.new) }
+        ensures { OnOk result
+            (AddsText (column_text (seen self.now.tokens.now) self.now.number column) out.old out.new) }
     {
         match self.there(column) {
             Some(token) => push_token(out, token),
@@ -245,7 +246,8 @@ impl View<'_> {
     }
 
     fn push_filled(&self, out: &mut String, words: &str) -> Result<(), AllocError>
-        ensures { OnOk result (AddsText (flat_map (filled (seen self.now.tokens.now) self.now.number) words.now) out.old out.new) }
+        ensures { OnOk result
+            (AddsText (flat_map (filled (seen self.now.tokens.now) self.now.number) words.now) out.old out.new) }
     {
         for byte in words.as_bytes() {
             self.push_byte(out, *byte)?;
@@ -255,7 +257,8 @@ impl View<'_> {
 
     /// The advice in words.
     fn words(&self, alloc: Global, advice: Advice) -> Result<String, AllocError>
-        ensures { IfOk result (λ text. string_bytes text ≡ advice_words (seen self.now.tokens.now) self.now.number advice) }
+        ensures { IfOk result
+            (λ text. string_bytes text ≡ advice_words (seen self.now.tokens.now) self.now.number advice) }
     {
         let mut out = String::new(alloc);
         if let Advice::Meant(word) = advice {

@@ -68,7 +68,8 @@ fn advice(alloc: Global, tokens: &[Token], number: usize) -> Result<Vec<Note>, N
 ///
 /// Out of memory.
 pub fn token_notes(alloc: Global, tokens: Vec<Token>, fault: &Fault) -> Result<Vec<Note>, NoMemory>
-    ensures { IfOk result (λ notes. AreNotesOnTokens (seen tokens.items) fault.now.code fault.now.start (map note_of notes.items)) }
+    ensures { IfOk result
+        (λ notes. AreNotesOnTokens (seen tokens.items) fault.now.code fault.now.start (map note_of notes.items)) }
 {
     let Code::UnexpectedToken = fault.code else {
         return Ok(Vec::new(alloc));

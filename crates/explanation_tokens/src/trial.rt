@@ -25,7 +25,8 @@ pub struct TokenPlace {
 /// may begin at the byte after it.
 pub fn place_of(tokens: &[Token], start: usize) -> Option<TokenPlace>
     ensures found { IfSome result (IsPlace tokens.now start) }
-    ensures only { (place : TokenPlace) → place.span.end < 4294967296 → IsPlace tokens.now start place → result ≡ Some place }
+    ensures only { (place : TokenPlace) → place.span.end < 4294967296 → IsPlace tokens.now start place
+        → result ≡ Some place }
 {
     for (number, token) in tokens.iter().enumerate() {
         let at = token.start();
@@ -69,8 +70,10 @@ pub fn can_come(
     requires { AreBefore place tokens.old.items }
     ensures behind { OnOk result (AreBefore place tokens.new.items) }
     ensures before { OnOk result (before_in place tokens.new.items ≡ before_in place tokens.old.items) }
-    ensures can { IfOk result (λ can. IsTrue can → CanCome (before_in place tokens.old.items) place.span.start candidate) }
-    ensures cannot { IfOk result (λ can. CanCome (before_in place tokens.old.items) place.span.start candidate → IsTrue can) }
+    ensures can { IfOk result
+        (λ can. IsTrue can → CanCome (before_in place tokens.old.items) place.span.start candidate) }
+    ensures cannot { IfOk result (λ can. CanCome (before_in place tokens.old.items) place.span.start candidate
+        → IsTrue can) }
 {
     let token = candidate.token(alloc, place.span)?;
     tokens.truncate(place.number);
@@ -97,7 +100,8 @@ pub fn expected(
     place: TokenPlace,
 ) -> Result<Vec<Candidate>, NoMemory>
     requires { AreBefore place tokens.items }
-    ensures { IfOk result (λ list. AreThose (CanCome (before_in place tokens.items) place.span.start) all_candidates list.items) }
+    ensures { IfOk result
+        (λ list. AreThose (CanCome (before_in place tokens.items) place.span.start) all_candidates list.items) }
 {
     let mut tokens = tokens;
     let mut list = Vec::new(alloc);

@@ -51,7 +51,8 @@ impl<'p, 'a> Condition<'p, 'a> {
 
     // Whether a statement itself may write a name of the condition.
     fn is_changed_by(&self, stmt: &Stmt) -> bool
-        ensures { result ≡ list_any (is_named (all_in (expr_of self.now.expr.now))) (writes (cells_of self.now.program.now) (stmt_of stmt.now)) }
+        ensures { result ≡ list_any (is_named (all_in (expr_of self.now.expr.now)))
+            (writes (cells_of self.now.program.now) (stmt_of stmt.now)) }
     {
         match stmt {
             Stmt::Assign(place, _) => self.names.contains(written(place)),
@@ -69,7 +70,8 @@ impl<'p, 'a> Condition<'p, 'a> {
 
     // Whether one of the statements may write a name of the condition.
     fn is_changed(&self, all: &[&Stmt]) -> bool
-        ensures { result ≡ list_any (is_named (all_in (expr_of self.now.expr.now))) (flat_map (writes (cells_of self.now.program.now)) (map stmt_at all.now)) }
+        ensures { result ≡ list_any (is_named (all_in (expr_of self.now.expr.now)))
+            (flat_map (writes (cells_of self.now.program.now)) (map stmt_at all.now)) }
     {
         for stmt in all {
             if self.is_changed_by(stmt) {
@@ -82,7 +84,8 @@ impl<'p, 'a> Condition<'p, 'a> {
 
 /// Whether the body of a loop may write a name of its condition. The one error is a refused growth.
 fn is_changing(program: &Program<'_>, repetition: &While) -> Result<bool, NoMemory>
-    ensures { IfOk result (λ is. is ≡ is_changed (cells_of program.now) (expr_of repetition.now.condition) (stmts_of repetition.now.block.stmts.items)) }
+    ensures { IfOk result (λ is. is ≡ is_changed (cells_of program.now) (expr_of repetition.now.condition)
+        (stmts_of repetition.now.block.stmts.items)) }
 {
     let condition = Condition::of(program, &repetition.condition)?;
     let all = all_of(program.maker.alloc, &repetition.block.stmts)?;
@@ -100,7 +103,8 @@ struct Body<'p, 'a> {
 
 impl<'p, 'a> Body<'p, 'a> {
     fn push_local(&self, name: &Name, warnings: &mut Vec<Warning>) -> Result<(), NoMemory>
-        ensures { OnOk result (AddsWarnings self.now.program.now (a_local (stmts_of self.now.stmts.now) (ident name.now) ∷ []) warnings.old warnings.new) }
+        ensures { OnOk result (AddsWarnings self.now.program.now
+            (a_local (stmts_of self.now.stmts.now) (ident name.now) ∷ []) warnings.old warnings.new) }
     {
         if self.read.contains(name) {
             return Ok(());
@@ -114,7 +118,8 @@ impl<'p, 'a> Body<'p, 'a> {
     }
 
     fn push_loop(&self, repetition: &While, warnings: &mut Vec<Warning>) -> Result<(), NoMemory>
-        ensures { OnOk result (AddsWarnings self.now.program.now (loop_of repetition.now ∷ []) warnings.old warnings.new) }
+        ensures { OnOk result
+            (AddsWarnings self.now.program.now (loop_of repetition.now ∷ []) warnings.old warnings.new) }
     {
         if is_changing(self.program, repetition)? {
             return Ok(());
@@ -128,7 +133,8 @@ impl<'p, 'a> Body<'p, 'a> {
 
     // Appends the warning on what a statement itself is or declares, if it is warned of.
     fn push_of(&self, stmt: &Stmt, warnings: &mut Vec<Warning>) -> Result<(), NoMemory>
-        ensures { OnOk result (AddsWarnings self.now.program.now (subject_of (stmts_of self.now.stmts.now) (stmt_of stmt.now)) warnings.old warnings.new) }
+        ensures { OnOk result (AddsWarnings self.now.program.now
+            (subject_of (stmts_of self.now.stmts.now) (stmt_of stmt.now)) warnings.old warnings.new) }
     {
         match stmt {
             Stmt::Let(local) => self.push_local(&local.name, warnings),
@@ -145,7 +151,8 @@ impl<'p, 'a> Body<'p, 'a> {
 
     // Appends the warnings on what statements themselves are or declare.
     fn push_all(&self, all: &[&Stmt], warnings: &mut Vec<Warning>) -> Result<(), NoMemory>
-        ensures { OnOk result (AddsWarnings self.now.program.now (flat_map (subject_of (stmts_of self.now.stmts.now)) (map stmt_at all.now)) warnings.old warnings.new) }
+        ensures { OnOk result (AddsWarnings self.now.program.now
+            (flat_map (subject_of (stmts_of self.now.stmts.now)) (map stmt_at all.now)) warnings.old warnings.new) }
     {
         for stmt in all {
             self.push_of(stmt, warnings)?;

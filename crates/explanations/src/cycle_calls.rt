@@ -106,7 +106,8 @@ impl Calls<'_> {
         points: &[PointRef<'p>],
         at: usize,
     ) -> Result<Option<PointRef<'p>>, NoMemory>
-        ensures { IfOk result (λ point. option_map point_at point ≡ find (leads self.now.program.now deepest at) (map point_at points.now)) }
+        ensures { IfOk result (λ point. option_map point_at point
+            ≡ find (leads self.now.program.now deepest at) (map point_at points.now)) }
     {
         for point in points {
             if self.leads(alloc, DEPTH_LIMIT, at, *point)? {
@@ -123,7 +124,8 @@ impl Calls<'_> {
         section: &'p Section,
         at: usize,
     ) -> Result<Option<PointRef<'p>>, NoMemory>
-        ensures { IfOk result (λ point. option_map point_at point ≡ first_call self.now.program.now section.entry.now at) }
+        ensures { IfOk result
+            (λ point. option_map point_at point ≡ first_call self.now.program.now section.entry.now at) }
     {
         let points = points_of(alloc, section)?;
         if starts_in(&points, at) {
@@ -153,7 +155,8 @@ impl Calls<'_> {
         told: &str,
         point: PointRef<'_>,
     ) -> Result<Note, NoMemory>
-        ensures { IfOk result (λ note. note_of note ≡ call_note self.now.program.now section.now told.now (point_at point.entry)) }
+        ensures { IfOk result
+            (λ note. note_of note ≡ call_note self.now.program.now section.now told.now (point_at point.entry)) }
     {
         let mut words = String::from_str(alloc, "in ")?;
         words.push_str(&section.name)?;

@@ -148,7 +148,8 @@ impl CycleWriter<'_> {
     ) -> Result<Note, NoMemory>
         requires paths { AreSectionPaths self.now.program.now self.now.section.now self.now.found.now }
         requires point { point < length (all_points self.now.section.now) }
-        ensures { IfOk result (λ note. TellsWay self.now.program.now self.now.section.now used point class (note_of note)) }
+        ensures { IfOk result
+            (λ note. TellsWay self.now.program.now self.now.section.now used point class (note_of note)) }
     {
         let words = if self.uses_class(point, class) {
             self.within(alloc, class)?
@@ -240,7 +241,8 @@ impl CycleWriter<'_> {
         requires paths { AreSectionPaths self.now.program.now self.now.section.now self.now.found.now }
         requires listed { map point_at points.now ≡ all_points self.now.section.now }
         requires binds { BindsClass self.now.program.now self.now.section.now point class }
-        ensures { IfOk result (λ note. TellsBinding self.now.program.now self.now.section.now point class (note_of note)) }
+        ensures { IfOk result
+            (λ note. TellsBinding self.now.program.now self.now.section.now point class (note_of note)) }
     {
         locks::laws::each_path_once();
         let bound = self.bound_path(point, points[point], class);

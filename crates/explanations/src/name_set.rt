@@ -47,7 +47,8 @@ impl NameSet {
 
     // Inserts `name`. The one error is a refused growth.
     fn add(&mut self, alloc: Global, name: &Name) -> Result<(), AllocError>
-        ensures { OnOk result ((q : List ℕ) → has self.new q ≡ (has self.old q || bytes_eq q (rc_str_bytes name.now.text))) }
+        ensures { OnOk result
+            ((q : List ℕ) → has self.new q ≡ (has self.old q || bytes_eq q (rc_str_bytes name.now.text))) }
     {
         if self.contains(name) {
             return Ok(());

@@ -62,7 +62,8 @@ fn push_in(
     decl: &Decl,
 ) -> Result<(), NoMemory>
     requires { slice_get (decls_of symbols.now) place ≡ Some (decl_of decl.now) }
-    ensures { OnOk result (AddsClasses (classes_in_struct (decls_of symbols.now) place (decl_of decl.now)) classes.old classes.new) }
+    ensures { OnOk result
+        (AddsClasses (classes_in_struct (decls_of symbols.now) place (decl_of decl.now)) classes.old classes.new) }
 {
     let Decl::Struct(_) = decl else {
         return Ok(());
@@ -88,7 +89,8 @@ fn push_by(
     decl: &Decl,
 ) -> Result<(), NoMemory>
     requires { slice_get (decls_of symbols.now) place ≡ Some (decl_of decl.now) }
-    ensures { OnOk result (AddsClasses (classes_by (decls_of symbols.now) place (decl_of decl.now)) classes.old classes.new) }
+    ensures { OnOk result
+        (AddsClasses (classes_by (decls_of symbols.now) place (decl_of decl.now)) classes.old classes.new) }
 {
     match decl {
         Decl::Global(variable) => push_if(class_of(symbols, &variable.protection), classes),

@@ -44,7 +44,8 @@ impl Program<'_> {
         members: &[Member],
         warnings: &mut Vec<Warning>,
     ) -> Result<(), NoMemory>
-        ensures { OnOk result (AddsWarnings self.now (own_locks_of self.now place members.now) warnings.old warnings.new) }
+        ensures { OnOk result
+            (AddsWarnings self.now (own_locks_of self.now place members.now) warnings.old warnings.new) }
     {
         let mut number = 0;
         for member in members {
@@ -91,7 +92,8 @@ impl Program<'_> {
         decl: &Decl,
         warnings: &mut Vec<Warning>,
     ) -> Result<(), NoMemory>
-        ensures { OnOk result (AddsWarnings self.now (subjects_of (decls_in self.now) place (decl_of decl.now)) warnings.old warnings.new) }
+        ensures { OnOk result (AddsWarnings self.now
+            (subjects_of (decls_in self.now) place (decl_of decl.now)) warnings.old warnings.new) }
     {
         match decl {
             Decl::Lock(name) => self.push_lock(self.symbols.class(place, 0), name, warnings),
@@ -113,7 +115,8 @@ impl Program<'_> {
 impl Program<'_> {
     // Appends the warnings on the declarations, from the first on, and on what is in them.
     fn push_all(&self, decls: &[Decl], warnings: &mut Vec<Warning>) -> Result<(), NoMemory>
-        ensures { OnOk result (AddsWarnings self.now (subjects_from (decls_in self.now) 0 (map decl_of decls.now)) warnings.old warnings.new) }
+        ensures { OnOk result (AddsWarnings self.now
+            (subjects_from (decls_in self.now) 0 (map decl_of decls.now)) warnings.old warnings.new) }
     {
         for (place, decl) in decls.iter().enumerate() {
             self.push_of(place, decl, warnings)?;

@@ -81,7 +81,8 @@ impl Model for Lists {
 impl Lists {
     /// Arrays without lists.
     pub fn new(alloc: Global) -> Lists
-        ensures { result ≡ record { arguments = []; reads = []; writes = []; prints = []; promised = nothing_promised } }
+        ensures { result
+            ≡ record { arguments = []; reads = []; writes = []; prints = []; promised = nothing_promised } }
     {
         Lists {
             arguments: Vec::new(alloc),

@@ -109,7 +109,8 @@ impl Reader {
 /// Checks the form of the lines in `text`, which follow the first line of a history.
 fn judge_lines(format: Format, text: &[u8]) -> Result<(), HistoryFault>
     requires { length text.now + 3 < 2 ^ 64 }
-    ensures { Judges (lines_from format Stage.Opening 2 (slice_split (λ b. b == 10) text.now)) (lines_in text.now) result }
+    ensures { Judges (lines_from format Stage.Opening 2 (slice_split (λ b. b == 10) text.now))
+        (lines_in text.now) result }
 {
     let mut reader = Reader {
         format,

@@ -115,7 +115,8 @@ impl World<'_> {
         item: Item,
         left: usize,
     ) -> Result<Option<usize>, NoMemory>
-        ensures count { IfOk result (λ count. count ≡ steps_until self.old.plan item.thread left self.old.world item.until) }
+        ensures count { IfOk result
+            (λ count. count ≡ steps_until self.old.plan item.thread left self.old.world item.until) }
         ensures within { IfOk result (λ count. MatchOption count ⊤ (λ n. n ≤ left)) }
         ensures world { IfOk result (λ count. MatchOption count ⊤ (λ n.
             self.new ≡ with_steps self.old (replicate n item.thread))) }

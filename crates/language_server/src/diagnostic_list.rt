@@ -91,7 +91,8 @@ fn further_values(
     places: &Places<'_>,
     faults: &[Mistake],
 ) -> Result<Vec<Value>, AllocError>
-    ensures { IfOk result (λ values. map view values.items ≡ map (list.further_data places.now.document.text.now) faults.now) }
+    ensures { IfOk result
+        (λ values. map view values.items ≡ map (list.further_data places.now.document.text.now) faults.now) }
 {
     let mut values = Vec::new(alloc);
     for fault in faults {

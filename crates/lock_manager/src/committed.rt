@@ -72,7 +72,8 @@ impl<'p> Committed<'p> {
     ///
     /// Out of memory.
     pub fn free_places(&self, alloc: Global) -> Result<Vec<LockPlace>, NoMemory>
-        ensures { IfOk result (λ places. places.items ≡ map (λ l. place.Free (lock_values self.now l)) self.now.layout.locks) }
+        ensures { IfOk result
+            (λ places. places.items ≡ map (λ l. place.Free (lock_values self.now l)) self.now.layout.locks) }
     {
         let mut places = Vec::with_capacity(alloc, self.members.len())?;
         for row in &self.members {

@@ -55,7 +55,8 @@ impl Sections {
 
     /// The open section of `thread`, if it has one.
     pub fn of(&self, thread: u32) -> Option<&Session>
-        ensures { MatchOption result (session_in self.now thread ≡ None) (λ s. session_in self.now thread ≡ Some s.now) }
+        ensures { MatchOption result (session_in self.now thread ≡ None)
+            (λ s. session_in self.now thread ≡ Some s.now) }
     {
         match self.slots.get(thread as usize)? {
             Some(session) => Some(session),

@@ -47,7 +47,8 @@ impl Spare {
     ) -> Result<Box<TicketBlock>, NoMemory>
         ensures thread { IfOk result (λ p. p.value.thread ≡ thread) }
         ensures session { IfOk result (λ p. p.value.session ≡ fresh begun room) }
-        ensures waking { IfOk result (λ p. HasWakingRoom p.value.session (vec_len p.value.wake) (vec_capacity p.value.wake)) }
+        ensures waking { IfOk result
+            (λ p. HasWakingRoom p.value.session (vec_len p.value.wake) (vec_capacity p.value.wake)) }
     {
         match self.pass {
             Some(pass) => renewed(pass, thread, begun, room),
@@ -76,7 +77,8 @@ fn renewed(
 ) -> Result<Box<TicketBlock>, NoMemory>
     ensures thread { IfOk result (λ p. p.value.thread ≡ thread) }
     ensures session { IfOk result (λ p. p.value.session ≡ fresh begun room) }
-    ensures waking { IfOk result (λ p. HasWakingRoom p.value.session (vec_len p.value.wake) (vec_capacity p.value.wake)) }
+    ensures waking { IfOk result
+        (λ p. HasWakingRoom p.value.session (vec_len p.value.wake) (vec_capacity p.value.wake)) }
 {
     renew(&mut pass, thread, begun, room)?;
     Ok(pass)

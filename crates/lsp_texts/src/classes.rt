@@ -116,7 +116,8 @@ impl Meant<'_> {
 
 /// The class of the lock that the token `at` declares.
 fn class(alloc: Global, tokens: &[Token], at: usize) -> Result<String, NoMemory>
-    ensures { IfOk result (λ text. string_bytes text ≡ classes.class_text tokens.now at (classes.holder_of tokens.now at)) }
+    ensures { IfOk result
+        (λ text. string_bytes text ≡ classes.class_text tokens.now at (classes.holder_of tokens.now at)) }
 {
     let symbols = symbols(alloc, tokens)?;
     let mut text = String::new(alloc);

@@ -170,7 +170,8 @@ fn remember(
 ) -> Result<(), AllocError>
     requires kept { IsKept is_written.old.items overwritten.old.items (length cells.now) }
     requires within { cell < length cells.now }
-    ensures before { OnOk result (undone overwritten.new.items (slice_set cells.now cell value) ≡ undone overwritten.old.items cells.now) }
+    ensures before { OnOk result
+        (undone overwritten.new.items (slice_set cells.now cell value) ≡ undone overwritten.old.items cells.now) }
     ensures err { OnErr result (overwritten.new.items ≡ overwritten.old.items) }
     ensures kept { IsKept is_written.new.items overwritten.new.items (length cells.now) }
 {

@@ -130,7 +130,8 @@ impl Execution {
 
     #[cycle(run)]
     fn run(&mut self, action: &Action, shape: &Shape, bounds: &Bounds) -> Result<(), Halt>
-        ensures follows { Follows result (state_of self.new) (effect_within action.now shape.now bounds.now (state_of self.old)) }
+        ensures follows { Follows result (state_of self.new)
+            (effect_within action.now shape.now bounds.now (state_of self.old)) }
         ensures keeps { Keeps self.old self.new }
     {
         match action {
@@ -206,7 +207,8 @@ impl Execution {
         shape: &Shape,
         bounds: &Bounds,
     ) -> Result<(), Halt>
-        ensures follows { Follows result (state_of self.new) (while_within condition.now body.now shape.now bounds.now (state_of self.old)) }
+        ensures follows { Follows result (state_of self.new)
+            (while_within condition.now body.now shape.now bounds.now (state_of self.old)) }
         ensures keeps { Keeps self.old self.new }
     {
         let mut left = bounds.turns;
@@ -223,7 +225,8 @@ impl Execution {
     #[inline(never)]
     #[cycle(run)]
     fn run_all(&mut self, block: &[Stmt], shape: &Shape, bounds: &Bounds) -> Result<(), Halt>
-        ensures follows { Follows result (state_of self.new) (sequence_within block.now shape.now bounds.now (state_of self.old)) }
+        ensures follows { Follows result (state_of self.new)
+            (sequence_within block.now shape.now bounds.now (state_of self.old)) }
         ensures keeps { Keeps self.old self.new }
     {
         self.steps(block, shape, bounds)
@@ -232,7 +235,8 @@ impl Execution {
     #[inline(always)]
     #[cycle(run)]
     fn steps(&mut self, block: &[Stmt], shape: &Shape, bounds: &Bounds) -> Result<(), Halt>
-        ensures follows { Follows result (state_of self.new) (sequence_within block.now shape.now bounds.now (state_of self.old)) }
+        ensures follows { Follows result (state_of self.new)
+            (sequence_within block.now shape.now bounds.now (state_of self.old)) }
         ensures keeps { Keeps self.old self.new }
     {
         for s in block {
@@ -265,7 +269,8 @@ impl Execution {
         shape: &Shape,
         bounds: &Bounds,
     ) -> Result<Outcome, Halt>
-        ensures follows { Concludes result (state_of self.new) (called helper arguments.now shape.now bounds.now (state_of self.old)) }
+        ensures follows { Concludes result (state_of self.new)
+            (called helper arguments.now shape.now bounds.now (state_of self.old)) }
         ensures locals { self.new.locals.items ≡ self.old.locals.items }
         ensures keeps { Keeps self.old self.new }
     {
@@ -282,7 +287,8 @@ impl Execution {
         shape: &Shape,
         bounds: &Bounds,
     ) -> Result<Outcome, Halt>
-        ensures follows { Concludes result (state_of self.new) (helped_within helper arguments.items shape.now bounds.now (state_of self.old)) }
+        ensures follows { Concludes result (state_of self.new)
+            (helped_within helper arguments.items shape.now bounds.now (state_of self.old)) }
         ensures locals { self.new.locals.items ≡ self.old.locals.items }
         ensures keeps { Keeps self.old self.new }
     {
@@ -319,7 +325,8 @@ impl Execution {
     // Runs the statements of a section or a helper, and returns how it ends.
     #[cycle(run)]
     fn finish(&mut self, section: &Section, shape: &Shape, bounds: &Bounds) -> Result<Outcome, Halt>
-        ensures follows { Concludes result (state_of self.new) (run_within section.now shape.now bounds.now (state_of self.old)) }
+        ensures follows { Concludes result (state_of self.new)
+            (run_within section.now shape.now bounds.now (state_of self.old)) }
         ensures keeps { Keeps self.old self.new }
     {
         self.run_all(&section.body, shape, bounds)?;
@@ -339,7 +346,8 @@ impl Execution {
         shape: &Shape,
         turns: u64,
     ) -> Result<Outcome, Halt>
-        ensures follows { Concludes result (state_of self.new) (run_from section.now shape.now turns (state_of self.old)) }
+        ensures follows { Concludes result (state_of self.new)
+            (run_from section.now shape.now turns (state_of self.old)) }
         ensures keeps { Keeps self.old self.new }
     {
         let bounds = Bounds {

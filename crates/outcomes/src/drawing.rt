@@ -75,7 +75,8 @@ impl Search<'_> {
         requires thread { thread < length self.now.program.now.threads.items }
         requires threads { length done.now ≡ length self.now.program.now.threads.items }
         requires few { slice_index_or done.now thread 0 ≤ calls_of_thread self.now.program.now.threads.items thread }
-        ensures { result + slice_index_or done.now thread 0 ≡ calls_of_thread self.now.program.now.threads.items thread }
+        ensures { result + slice_index_or done.now thread 0
+            ≡ calls_of_thread self.now.program.now.threads.items thread }
     {
         self.program.threads[thread].calls.len() - done[thread]
     }

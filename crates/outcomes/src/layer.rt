@@ -139,7 +139,8 @@ impl<'a> Layer<'a> {
     pub fn add_orders(&mut self, number: usize, more: u64)
         requires within { number < length self.old.states }
         requires fit { orders_to self.old.states + more < 2 ^ 64 }
-        ensures states { self.new.states ≡ slice_set self.old.states number (with_more (at self.old.states number) more) }
+        ensures states { self.new.states ≡ slice_set self.old.states number
+            (with_more (at self.old.states number) more) }
         ensures opening { self.new.opening ≡ self.old.opening }
     {
         self.total += more;

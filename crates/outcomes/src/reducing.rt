@@ -47,7 +47,8 @@ impl Search<'_> {
         requires work { IsAtWork self.now work.old }
         requires from { IsReached self.now work.old from.now }
         requires groups { length groups.now ≡ length self.now.program.now.threads.items }
-        ensures { IfOk result (ReducesBy self.now work.old work.new (reduced_from self.now groups.now (state_in self.now from.now))) }
+        ensures { IfOk result
+            (ReducesBy self.now work.old work.new (reduced_from self.now groups.now (state_in self.now from.now))) }
     {
         let Some(first) = self.first_ready(&from.done) else {
             return Ok(None);
@@ -77,7 +78,8 @@ impl Search<'_> {
         requires opening { layer.now.opening ≡ opening_heap self.now.program.now }
         requires layer { AreReached self.now work.old layer.now.states }
         requires groups { length groups.now ≡ length self.now.program.now.threads.items }
-        ensures { IfOk result (ReducesBy self.now work.old work.new (reduced_from_all self.now groups.now layer.now.states)) }
+        ensures { IfOk result
+            (ReducesBy self.now work.old work.new (reduced_from_all self.now groups.now layer.now.states)) }
     {
         for number in 0..layer.len() {
             if let Some(stop) = self.expand_group(alloc, work, layer.get(number), groups)? {

@@ -123,7 +123,8 @@ impl Search<'_> {
     ) -> Result<Vec<FinalState>, NoMemory>
         requires work { IsBack self.now work.old }
         requires opening { layer.now.opening ≡ opening_heap self.now.program.now }
-        requires layer { AreGood self.now.program.now self.now.turns (calls_together self.now.program.now.threads.items) (start_of self.now) work.old.trail layer.now.states }
+        requires layer { AreGood self.now.program.now self.now.turns
+            (calls_together self.now.program.now.threads.items) (start_of self.now) work.old.trail layer.now.states }
         ensures told { IfOk result
             (λ ends. AreToldOfStates self.now work.old.trail layer.now.states (map told_of ends.items)) }
         ensures trail { OnOk result (work.new.trail ≡ work.old.trail) }

@@ -74,7 +74,8 @@ impl Replay<'_> {
     // The values that the text writes: none, or those between commas.
     fn arguments_in(&self, text: &[u8]) -> Result<Option<Vec<Value>>, NoMemory>
         requires { IsReady self.now }
-        ensures { IfOk result (λ values. option_map items_of values ≡ arguments_in self.now.program.now.shape text.now) }
+        ensures { IfOk result
+            (λ values. option_map items_of values ≡ arguments_in self.now.program.now.shape text.now) }
     {
         let mut values = Vec::new(self.alloc);
         if text.is_empty() {
@@ -97,7 +98,8 @@ impl Replay<'_> {
     /// The call that the text writes.
     pub(crate) fn invoked_in(&self, text: &[u8]) -> Result<Option<Invoked>, NoMemory>
         requires { IsReady self.now }
-        ensures { IfOk result (λ invoked. option_map invocation_of invoked ≡ invocation_in self.now.program.now text.now) }
+        ensures { IfOk result
+            (λ invoked. option_map invocation_of invoked ≡ invocation_in self.now.program.now text.now) }
     {
         let (name, inside) = cut(text, b'(');
         let Some(section) = self.sections.find(name) else {

@@ -99,7 +99,8 @@ impl<'a> Replay<'a> {
         requires ready { IsReady self.now }
         requires sound { IsSound Anyone self.now.program.now at.now }
         requires short { at.now.position < 2 ^ 63 }
-        requires told { invocation_at invoked.now ≡ invocation_in self.now.program.now (invoked_text self.now.format line.now) }
+        requires told { invocation_at invoked.now ≡ invocation_in self.now.program.now
+            (invoked_text self.now.format line.now) }
         ensures { IsCandidate Anyone self.now.format self.now.program.now at.now line.now result }
     {
         let Some(told) = told_by(self.format, line) else {

@@ -30,7 +30,8 @@ impl<'a> Replay<'a> {
         requires sound { IsSound self.now.callers self.now.program.now at.old }
         requires stage { at.old.stage ≡ Calls }
         requires due { at.old.told < length at.old.prints.items }
-        ensures reads { IfOk result (Reads self.now.turns self.now.callers self.now.format self.now.program.now line.now at.old at.new) }
+        ensures reads { IfOk result
+            (Reads self.now.turns self.now.callers self.now.format self.now.program.now line.now at.old at.new) }
         ensures sound { OnOk result (IsSound self.now.callers self.now.program.now at.new) }
         ensures position { at.new.position ≡ at.old.position }
         ensures leaves { IfOk result
@@ -51,7 +52,8 @@ impl<'a> Replay<'a> {
         requires sound { IsSound self.now.callers self.now.program.now at.old }
         requires stage { at.old.stage ≡ Cells number }
         requires past { length self.now.program.now.cells.items ≤ number }
-        ensures reads { Reads self.now.turns self.now.callers self.now.format self.now.program.now line.now at.old at.new result }
+        ensures reads { Reads self.now.turns self.now.callers self.now.format self.now.program.now line.now at.old
+            at.new result }
         ensures sound { IsSound self.now.callers self.now.program.now at.new }
         ensures position { at.new.position ≡ at.old.position }
         ensures leaves { (written : List ℕ) →
@@ -74,7 +76,8 @@ impl<'a> Replay<'a> {
     ) -> Result<Finding, NoMemory>
         requires sound { IsSound self.now.callers self.now.program.now at.old }
         requires stage { at.old.stage ≡ Cells number }
-        ensures reads { IfOk result (Reads self.now.turns self.now.callers self.now.format self.now.program.now line.now at.old at.new) }
+        ensures reads { IfOk result
+            (Reads self.now.turns self.now.callers self.now.format self.now.program.now line.now at.old at.new) }
         ensures sound { OnOk result (IsSound self.now.callers self.now.program.now at.new) }
         ensures position { at.new.position ≡ at.old.position }
         ensures leaves { IfOk result
@@ -138,7 +141,8 @@ impl<'a> Replay<'a> {
         requires sound { IsSound self.now.callers self.now.program.now at.old }
         requires stage { at.old.stage ≡ Calls }
         requires none_due { at.old.told ≡ length at.old.prints.items }
-        ensures reads { Reads self.now.turns self.now.callers self.now.format self.now.program.now (codes "cells") at.old at.new result }
+        ensures reads { Reads self.now.turns self.now.callers self.now.format self.now.program.now
+            (codes "cells") at.old at.new result }
         ensures sound { IsSound self.now.callers self.now.program.now at.new }
         ensures position { at.new.position ≡ at.old.position }
         ensures leaves { (written : List ℕ) →
@@ -166,7 +170,8 @@ impl<'a> Replay<'a> {
         requires short { at.old.position < 2 ^ 63 }
         requires only { IsOnlyCall self.now.callers self.now.format self.now.program.now at.old line.now call }
         requires head { IsHead self.now.format self.now.program.now line.now (string_bytes text.old) call }
-        ensures reads { IfOk result (Reads self.now.turns self.now.callers self.now.format self.now.program.now line.now at.old at.new) }
+        ensures reads { IfOk result
+            (Reads self.now.turns self.now.callers self.now.format self.now.program.now line.now at.old at.new) }
         ensures sound { OnOk result (IsSound self.now.callers self.now.program.now at.new) }
         ensures position { at.new.position ≤ at.old.position + 1 }
         ensures leaves { IfOk result
@@ -219,7 +224,8 @@ impl<'a> Replay<'a> {
         requires not_cells { line.now ≡ codes "cells" → ⊥ }
         requires told { self.now.callers ≡ Anyone →
             invocation_at invoked.now ≡ invocation_in self.now.program.now (invoked_text self.now.format line.now) }
-        ensures reads { IfOk result (Reads self.now.turns self.now.callers self.now.format self.now.program.now line.now at.old at.new) }
+        ensures reads { IfOk result
+            (Reads self.now.turns self.now.callers self.now.format self.now.program.now line.now at.old at.new) }
         ensures sound { OnOk result (IsSound self.now.callers self.now.program.now at.new) }
         ensures position { at.new.position ≤ at.old.position + 1 }
         ensures leaves { IfOk result
@@ -243,7 +249,8 @@ impl<'a> Replay<'a> {
         requires stage { at.old.stage ≡ Calls }
         requires none_due { at.old.told ≡ length at.old.prints.items }
         requires short { at.old.position < 2 ^ 63 }
-        ensures reads { IfOk result (Reads self.now.turns self.now.callers self.now.format self.now.program.now line.now at.old at.new) }
+        ensures reads { IfOk result
+            (Reads self.now.turns self.now.callers self.now.format self.now.program.now line.now at.old at.new) }
         ensures sound { OnOk result (IsSound self.now.callers self.now.program.now at.new) }
         ensures position { at.new.position ≤ at.old.position + 1 }
         ensures leaves { IfOk result
@@ -266,7 +273,8 @@ impl<'a> Replay<'a> {
         requires ready { IsReady self.now }
         requires sound { IsSound self.now.callers self.now.program.now at.old }
         requires short { at.old.position < 2 ^ 63 }
-        ensures reads { IfOk result (Reads self.now.turns self.now.callers self.now.format self.now.program.now line.now at.old at.new) }
+        ensures reads { IfOk result
+            (Reads self.now.turns self.now.callers self.now.format self.now.program.now line.now at.old at.new) }
         ensures sound { OnOk result (IsSound self.now.callers self.now.program.now at.new) }
         ensures position { at.new.position ≤ at.old.position + 1 }
         ensures leaves { IfOk result

@@ -101,7 +101,8 @@ impl Replay<'_> {
     fn at_end(&self, at: &Progress, number: usize) -> Result<Judgement, NoMemory>
         requires ready { IsReady self.now }
         requires sound { IsSound self.now.callers self.now.program.now at.now }
-        ensures holds { IfOk result (EndsAs self.now.turns self.now.callers self.now.format self.now.program.now at.now number) }
+        ensures holds { IfOk result
+            (EndsAs self.now.turns self.now.callers self.now.format self.now.program.now at.now number) }
     {
         match at.stage {
             Stage::Ended => Ok(settled(Verdict::Same)),

@@ -144,7 +144,8 @@ impl<'a> Replay<'a> {
         requires anyone { self.now.callers ≡ Anyone }
         requires stage { at.now.stage ≡ Calls }
         requires none_due { at.now.told ≡ length at.now.prints.items }
-        ensures { Suggests self.now.turns self.now.callers self.now.format self.now.program.now at.now (option_map (λ text. text.now) line.entry) result }
+        ensures { Suggests self.now.turns self.now.callers self.now.format self.now.program.now at.now
+            (option_map (λ text. text.now) line.entry) result }
     {
         match line {
             Some(line) => Wanted::Open(self.lack(at, line)),
@@ -158,7 +159,8 @@ impl<'a> Replay<'a> {
         requires sound { IsSound self.now.callers self.now.program.now at.now }
         requires stage { at.now.stage ≡ Calls }
         requires none_due { at.now.told ≡ length at.now.prints.items }
-        ensures { IfOk result (Suggests self.now.turns self.now.callers self.now.format self.now.program.now at.now (option_map (λ text. text.now) line.entry)) }
+        ensures { IfOk result (Suggests self.now.turns self.now.callers self.now.format self.now.program.now at.now
+            (option_map (λ text. text.now) line.entry)) }
     {
         if let Callers::Anyone = self.callers {
             return Ok(self.wanted_open(at, line));
@@ -173,7 +175,8 @@ impl<'a> Replay<'a> {
     fn wanted_cell(&self, at: &Progress, number: usize) -> Result<Wanted, NoMemory>
         requires sound { IsSound self.now.callers self.now.program.now at.now }
         requires stage { at.now.stage ≡ Cells number }
-        ensures { IfOk result (SuggestsFor self.now.turns self.now.callers self.now.format self.now.program.now at.now) }
+        ensures { IfOk result
+            (SuggestsFor self.now.turns self.now.callers self.now.format self.now.program.now at.now) }
     {
         if number >= self.program.cells.len() {
             return Ok(Wanted::Line(String::from_str(self.alloc, "end")?));
@@ -192,7 +195,8 @@ impl<'a> Replay<'a> {
     fn wanted_print(&self, at: &Progress) -> Result<Wanted, NoMemory>
         requires stage { at.now.stage ≡ Calls }
         requires due { at.now.told < length at.now.prints.items }
-        ensures { IfOk result (SuggestsFor self.now.turns self.now.callers self.now.format self.now.program.now at.now) }
+        ensures { IfOk result
+            (SuggestsFor self.now.turns self.now.callers self.now.format self.now.program.now at.now) }
     {
         let mut line = String::new(self.alloc);
         push_print(&mut line, at.prints[at.told])?;
@@ -203,7 +207,8 @@ impl<'a> Replay<'a> {
     pub(crate) fn wanted(&self, at: &Progress, line: Option<&[u8]>) -> Result<Wanted, NoMemory>
         requires ready { IsReady self.now }
         requires sound { IsSound self.now.callers self.now.program.now at.now }
-        ensures { IfOk result (Suggests self.now.turns self.now.callers self.now.format self.now.program.now at.now (option_map (λ text. text.now) line.entry)) }
+        ensures { IfOk result (Suggests self.now.turns self.now.callers self.now.format self.now.program.now at.now
+            (option_map (λ text. text.now) line.entry)) }
     {
         match at.stage {
             Stage::Calls if at.told < at.prints.len() => self.wanted_print(at),

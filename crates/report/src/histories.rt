@@ -66,7 +66,8 @@ fn push_records(
     program: &Typed,
     calls: &[Record<'_>],
 ) -> Result<(), AllocError>
-    ensures { OnOk result (AddsText (flat_map (entry_text format program.now) (map entry_of calls.now)) out.old out.new) }
+    ensures { OnOk result
+        (AddsText (flat_map (entry_text format program.now) (map entry_of calls.now)) out.old out.new) }
 {
     for call in calls {
         push_entry(out, format, program, &call.said())?;
@@ -185,7 +186,8 @@ pub fn history_text(
     values: &[Value],
 ) -> Result<String, NoMemory>
     requires { vec_len program.now.cells ≡ length values.now }
-    ensures { IfOk result (λ text. string_bytes text ≡ history_of format program.now (map entry_of calls.now) values.now) }
+    ensures { IfOk result
+        (λ text. string_bytes text ≡ history_of format program.now (map entry_of calls.now) values.now) }
 {
     let mut out = calls_text(alloc, format, program, calls)?;
     push_closing(&mut out, program, values)?;
@@ -201,7 +203,8 @@ pub fn changed_text(
     values: &[Value],
 ) -> Result<String, NoMemory>
     requires { vec_len program.now.cells ≡ length values.now }
-    ensures { IfOk result (λ text. string_bytes text ≡ changed_history_of program.now (map entry_of calls.now) values.now) }
+    ensures { IfOk result
+        (λ text. string_bytes text ≡ changed_history_of program.now (map entry_of calls.now) values.now) }
 {
     let mut out = calls_text(alloc, Format::One, program, calls)?;
     push_changes(&mut out, program, values)?;
@@ -218,7 +221,8 @@ pub fn entries_text(
     values: &[Value],
 ) -> Result<String, NoMemory>
     requires { vec_len program.now.cells ≡ length values.now }
-    ensures { IfOk result (λ text. string_bytes text ≡ history_of format program.now (map entry_of_commit history.now.commits) values.now) }
+    ensures { IfOk result (λ text. string_bytes text
+        ≡ history_of format program.now (map entry_of_commit history.now.commits) values.now) }
 {
     let mut out = first_line(alloc, format)?;
     push_entries(&mut out, format, program, history)?;

@@ -33,7 +33,8 @@ pub fn push_call_head(
     program: &Typed,
     call: &CallRef<'_>,
 ) -> Result<(), AllocError>
-    ensures { OnOk result (AddsText (call_head format program.now (scheduled_called call.now) call.now.begun) out.old out.new) }
+    ensures { OnOk result
+        (AddsText (call_head format program.now (scheduled_called call.now) call.now.begun) out.old out.new) }
 {
     write!(out, "call {} {} ", call.thread, call.step)?;
     push_begun(out, format, call.begun)?;

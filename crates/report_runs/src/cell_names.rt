@@ -53,7 +53,8 @@ pub fn is_known(alloc: Global, program: &Typed, name: &str) -> Result<bool, Allo
 
 /// Whether one of `names` stands for `cell`.
 fn is_asked(alloc: Global, program: &Typed, names: &[&str], cell: &Cell) -> Result<bool, AllocError>
-    ensures { IfOk result (λ is. is ≡ list_any (λ name. is_named program.now name cell.now) (map (λ name. name.now) names.now)) }
+    ensures { IfOk result
+        (λ is. is ≡ list_any (λ name. is_named program.now name cell.now) (map (λ name. name.now) names.now)) }
 {
     for name in names {
         if is_named(alloc, program, name, cell)? {
@@ -83,7 +84,8 @@ fn unknown<'n>(
 
 /// The numbers of the cells that `names` stand for, each once, in order. The one error is a refused growth.
 pub fn numbers_of(alloc: Global, program: &Typed, names: &[&str]) -> Result<Vec<usize>, AllocError>
-    ensures { IfOk result (λ numbers. numbers.items ≡ numbers_from program.now (map (λ name. name.now) names.now) 0 program.now.cells.items) }
+    ensures { IfOk result (λ numbers. numbers.items
+        ≡ numbers_from program.now (map (λ name. name.now) names.now) 0 program.now.cells.items) }
 {
     let mut numbers = Vec::new(alloc);
     for (number, cell) in program.cells.iter().enumerate() {

@@ -200,7 +200,9 @@ impl Ends<'_> {
         known: &[Value],
         values: &[Value],
     ) -> Result<(), AllocError>
-        ensures { OnOk result (AddsText (cell_texts self.now.program.now self.now.asked.now.cells known.now 0 values.now) out.old out.new) }
+        ensures { OnOk result
+            (AddsText (cell_texts self.now.program.now self.now.asked.now.cells known.now 0 values.now) out.old
+            out.new) }
     {
         for (place, value) in values.iter().enumerate() {
             self.push_place(out, known, place, *value)?;
@@ -215,7 +217,8 @@ impl Ends<'_> {
         call: &CallRef<'_>,
         answer: Option<value::Outcome>,
     ) -> Result<(), AllocError>
-        ensures { OnOk result (AddsText (answer_text self.now.program.now (scheduled_called call.now) answer) out.old out.new) }
+        ensures { OnOk result
+            (AddsText (answer_text self.now.program.now (scheduled_called call.now) answer) out.old out.new) }
     {
         match answer {
             Some(outcome) => {
@@ -252,7 +255,9 @@ impl Ends<'_> {
         answers: &[Option<value::Outcome>],
         calls: &[CallRef<'_>],
     ) -> Result<(), AllocError>
-        ensures { OnOk result (AddsText (answer_texts self.now.program.now known.now answers.now 0 (map scheduled_called calls.now)) out.old out.new) }
+        ensures { OnOk result
+            (AddsText (answer_texts self.now.program.now known.now answers.now 0 (map scheduled_called calls.now))
+            out.old out.new) }
     {
         for (number, call) in calls.iter().enumerate() {
             let answer = answer_in(answers, number);
@@ -270,7 +275,9 @@ impl Ends<'_> {
         calls: &[CallRef<'_>],
     ) -> Result<(), AllocError>
         requires { map scheduled_called calls.now ≡ all_calls self.now.program.now }
-        ensures { OnOk result (AddsText (answers_text self.now.asked.now.answers self.now.program.now known.now answers.now) out.old out.new) }
+        ensures { OnOk result
+            (AddsText (answers_text self.now.asked.now.answers self.now.program.now known.now answers.now) out.old
+            out.new) }
     {
         if !self.asked.answers {
             return Ok(());
@@ -288,7 +295,8 @@ impl Ends<'_> {
         calls: &[CallRef<'_>],
     ) -> Result<(), AllocError>
         requires { map scheduled_called calls.now ≡ all_calls self.now.program.now }
-        ensures { OnOk result (AddsText (end_text self.now.program.now self.now.asked.now self.now.scope (left_known known.entry)
+        ensures { OnOk result
+            (AddsText (end_text self.now.program.now self.now.asked.now self.now.scope (left_known known.entry)
             (told_of end.now)) out.old out.new) }
     {
         out.push_str("outcome ")?;
@@ -338,7 +346,9 @@ impl Ends<'_> {
         calls: &[CallRef<'_>],
     ) -> Result<(), AllocError>
         requires { map scheduled_called calls.now ≡ all_calls self.now.program.now }
-        ensures { OnOk result (AddsText (flat_map (end_text self.now.program.now self.now.asked.now self.now.scope (left_known known.entry))
+        ensures { OnOk result
+            (AddsText
+            (flat_map (end_text self.now.program.now self.now.asked.now self.now.scope (left_known known.entry))
             (map told_of ends.now)) out.old out.new) }
     {
         for end in ends {

@@ -49,7 +49,8 @@ fn bad_name<'t>(
     program: &Typed,
     name: &'t str,
 ) -> Result<Option<BadName<'t>>, AllocError>
-    ensures { IfOk result (λ bad. MatchOption bad (is_numeric program.now name.entry.now ≡ true) (IsBadName program.now name.entry.now)) }
+    ensures { IfOk result
+        (λ bad. MatchOption bad (is_numeric program.now name.entry.now ≡ true) (IsBadName program.now name.entry.now)) }
 {
     if !is_known(alloc, program, name)? {
         return Ok(Some(BadName::Unknown(name)));

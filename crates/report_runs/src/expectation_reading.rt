@@ -137,7 +137,8 @@ fn sum_from<'t>(
     first: Sign,
     text: &'t [u8],
 ) -> Result<(Vec<Term<'t>>, &'t [u8]), Stopped<'t>>
-    ensures { (n : ℕ) → length text.entry.now ≤ n → Reads (λ read. (map part_of read.0.items, read.1.now)) result (sum_from n first text.entry.now) }
+    ensures { (n : ℕ) → length text.entry.now ≤ n → Reads (λ read. (map part_of read.0.items, read.1.now)) result
+        (sum_from n first text.entry.now) }
 {
     let mut terms = Vec::new(alloc);
     let mut before = first;

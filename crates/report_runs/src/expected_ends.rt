@@ -61,7 +61,8 @@ impl ExpectedEnds<'_> {
 
     /// Appends the order that leads to an end that is not as expected, and what the cells hold at this end.
     fn push_broken(&self, out: &mut String, end: &FinalState) -> Result<(), AllocError>
-        ensures { OnOk result (AddsText (broken_text self.now.ends.now.program.now self.now.ends.now.asked.now.cells self.now.text.now
+        ensures { OnOk result
+            (AddsText (broken_text self.now.ends.now.program.now self.now.ends.now.asked.now.cells self.now.text.now
             (told_of end.now)) out.old out.new) }
     {
         out.push_str("expected ")?;

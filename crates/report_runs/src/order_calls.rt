@@ -14,7 +14,8 @@ fn add_calls<'a>(
     thread: usize,
     script: &'a [Call],
 ) -> Result<(), AllocError>
-    ensures { OnOk result (map scheduled_called calls.new.items ≡ map scheduled_called calls.old.items ++ script_from thread 0 script.entry.now) }
+    ensures { OnOk result (map scheduled_called calls.new.items ≡ map scheduled_called calls.old.items
+        ++ script_from thread 0 script.entry.now) }
 {
     for (step, call) in script.iter().enumerate() {
         calls.push(CallRef {

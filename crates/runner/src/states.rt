@@ -184,7 +184,8 @@ impl<'p> Ready<'p> {
         arguments: &[Value],
     ) -> Result<Poised<'p>, Ready<'p>>
         requires { CanCall program.now.program section arguments.now }
-        ensures ok { IfOk result (λ p. Prepares self.entry program.now (record { section = section; arguments = arguments.now }) p) }
+        ensures ok { IfOk result
+            (λ p. Prepares self.entry program.now (record { section = section; arguments = arguments.now }) p) }
         ensures err { IfErr result (λ ready. ready ≡ self.entry) }
     {
         let Ready {
@@ -233,7 +234,8 @@ impl<'p> Ready<'p> {
         requires thread { self.thread < 64 }
         requires closed { session_of manager.old self.thread ≡ None }
         requires fits { CanCall program.now.program call.now.section call.now.arguments.items }
-        ensures ok { IfOk result (λ running. Began manager.old self.entry program.now (invocation call.now) running manager.new) }
+        ensures ok { IfOk result
+            (λ running. Began manager.old self.entry program.now (invocation call.now) running manager.new) }
         ensures err { IfErr result (λ ready. ready ≡ self.entry) }
         ensures same { OnErr result (manager.new ≡ manager.old) }
     {
@@ -314,7 +316,8 @@ impl<'p> Poised<'p> {
     pub fn begin(self, alloc: Global, manager: &mut Manager<'p>) -> Result<Running<'p>, Ready<'p>>
         requires thread { self.thread < 64 }
         requires closed { session_of manager.old self.thread ≡ None }
-        ensures ok { IfOk result (λ running. Began manager.old (ready_of self.entry) self.entry.plan self.entry.call running manager.new) }
+        ensures ok { IfOk result
+            (λ running. Began manager.old (ready_of self.entry) self.entry.plan self.entry.call running manager.new) }
         ensures err { IfErr result (λ ready. ready ≡ ready_of self.entry) }
         ensures same { OnErr result (manager.new ≡ manager.old) }
     {

@@ -239,8 +239,10 @@ impl<'p> StackMachine<'p> {
     #[inline(always)]
     fn replace_top(&mut self, value: Result<Value, Failure>) -> Progress
         requires top { 0 < length self.old.machine.stack }
-        requires fits { FitsRoom self.old.operand_room (putting_on (drop 1 self.old.machine.stack) value self.old.machine) }
-        ensures { HasEffect (putting_on (drop 1 self.old.machine.stack) value self.old.machine) self.old result self.new }
+        requires fits { FitsRoom self.old.operand_room
+            (putting_on (drop 1 self.old.machine.stack) value self.old.machine) }
+        ensures { HasEffect (putting_on (drop 1 self.old.machine.stack) value self.old.machine) self.old result
+            self.new }
     {
         match value {
             Ok(value) => {
@@ -256,8 +258,10 @@ impl<'p> StackMachine<'p> {
     #[inline(always)]
     fn replace_two(&mut self, value: Result<Value, Failure>) -> Progress
         requires top { 1 < length self.old.machine.stack }
-        requires fits { FitsRoom self.old.operand_room (putting_on (drop 2 self.old.machine.stack) value self.old.machine) }
-        ensures { HasEffect (putting_on (drop 2 self.old.machine.stack) value self.old.machine) self.old result self.new }
+        requires fits { FitsRoom self.old.operand_room
+            (putting_on (drop 2 self.old.machine.stack) value self.old.machine) }
+        ensures { HasEffect (putting_on (drop 2 self.old.machine.stack) value self.old.machine) self.old result
+            self.new }
     {
         match value {
             Ok(value) => {
@@ -319,8 +323,10 @@ impl<'p> StackMachine<'p> {
     fn load_cell(&mut self, cell: Result<usize, Failure>) -> Progress
         requires top { 0 < length self.old.machine.stack }
         requires small { HasSmallCells self.old.machine.memory }
-        requires fits { FitsRoom self.old.operand_room (or_trap cell (λ c. loading_on (drop 1 self.old.machine.stack) c self.old.machine)) }
-        ensures { HasEffect (or_trap cell (λ c. loading_on (drop 1 self.old.machine.stack) c self.old.machine)) self.old result self.new }
+        requires fits { FitsRoom self.old.operand_room
+            (or_trap cell (λ c. loading_on (drop 1 self.old.machine.stack) c self.old.machine)) }
+        ensures { HasEffect (or_trap cell (λ c. loading_on (drop 1 self.old.machine.stack) c self.old.machine))
+            self.old result self.new }
     {
         match cell {
             Ok(cell) => {
@@ -340,8 +346,10 @@ impl<'p> StackMachine<'p> {
     fn store_cell(&mut self, cell: Result<usize, Failure>, value: Value) -> Progress
         requires top { 1 < length self.old.machine.stack }
         requires small { HasSmallCells self.old.machine.memory }
-        requires fits { FitsRoom self.old.operand_room (storing_found (drop 2 self.old.machine.stack) cell value self.old.machine) }
-        ensures { HasEffect (storing_found (drop 2 self.old.machine.stack) cell value self.old.machine) self.old result self.new }
+        requires fits { FitsRoom self.old.operand_room
+            (storing_found (drop 2 self.old.machine.stack) cell value self.old.machine) }
+        ensures { HasEffect (storing_found (drop 2 self.old.machine.stack) cell value self.old.machine) self.old result
+            self.new }
     {
         match cell {
             Ok(cell) => {
@@ -441,8 +449,10 @@ impl<'p> StackMachine<'p> {
 
     #[inline(always)]
     fn load_final(&mut self, shape: &Shape, number: u32) -> Progress
-        requires { FitsRoom self.old.operand_room (on_one (λ base. final_value shape.now base number) self.old.machine) }
-        ensures { HasEffect (on_one (λ base. final_value shape.now base number) self.old.machine) self.old result self.new }
+        requires { FitsRoom self.old.operand_room
+            (on_one (λ base. final_value shape.now base number) self.old.machine) }
+        ensures { HasEffect (on_one (λ base. final_value shape.now base number) self.old.machine) self.old result
+            self.new }
     {
         let Some(base) = self.operands.top() else {
             return Progress::Undefined;
@@ -453,8 +463,10 @@ impl<'p> StackMachine<'p> {
     #[inline(always)]
     fn load_field(&mut self, shape: &Shape, number: u32) -> Progress
         requires small { HasSmallCells self.old.machine.memory }
-        requires fits { FitsRoom self.old.operand_room (loading_named (λ base. field_cell shape.now base number) self.old.machine) }
-        ensures { HasEffect (loading_named (λ base. field_cell shape.now base number) self.old.machine) self.old result self.new }
+        requires fits { FitsRoom self.old.operand_room
+            (loading_named (λ base. field_cell shape.now base number) self.old.machine) }
+        ensures { HasEffect (loading_named (λ base. field_cell shape.now base number) self.old.machine) self.old result
+            self.new }
     {
         let Some(base) = self.operands.top() else {
             return Progress::Undefined;
@@ -476,8 +488,10 @@ impl<'p> StackMachine<'p> {
     #[inline(always)]
     fn put_field(&mut self, shape: &Shape, number: u32) -> Progress
         requires small { HasSmallCells self.old.machine.memory }
-        requires fits { FitsRoom self.old.operand_room (storing_named (λ base. field_cell shape.now base number) self.old.machine) }
-        ensures { HasEffect (storing_named (λ base. field_cell shape.now base number) self.old.machine) self.old result self.new }
+        requires fits { FitsRoom self.old.operand_room
+            (storing_named (λ base. field_cell shape.now base number) self.old.machine) }
+        ensures { HasEffect (storing_named (λ base. field_cell shape.now base number) self.old.machine) self.old result
+            self.new }
     {
         let Some(base) = self.operands.second() else {
             return Progress::Undefined;
@@ -501,8 +515,10 @@ impl<'p> StackMachine<'p> {
 
     #[inline(always)]
     fn check_owner(&mut self, shape: &Shape, number: u32, local: usize) -> Progress
-        requires { FitsRoom self.old.operand_room (on_one (owner_test shape.now number local self.old.machine.locals) self.old.machine) }
-        ensures { HasEffect (on_one (owner_test shape.now number local self.old.machine.locals) self.old.machine) self.old result self.new }
+        requires { FitsRoom self.old.operand_room
+            (on_one (owner_test shape.now number local self.old.machine.locals) self.old.machine) }
+        ensures { HasEffect (on_one (owner_test shape.now number local self.old.machine.locals) self.old.machine)
+            self.old result self.new }
     {
         let Some(top) = self.operands.top() else {
             return Progress::Undefined;

@@ -65,12 +65,18 @@ impl Asked<'_> {
         ensures lists { (result ≡ Some (Asked.Engine (Engine.Report (Report.Check false))))
             ↔ (word.now ≡ codes "lists") }
         ensures graph { (result ≡ Some (Asked.Engine Engine.Graph)) ↔ (word.now ≡ codes "graph") }
-        ensures listing { (result ≡ Some (Asked.Engine (Engine.Report (Report.Listing false)))) ↔ (word.now ≡ codes "listing") }
-        ensures places { (result ≡ Some (Asked.Engine (Engine.Report (Report.Listing true)))) ↔ (word.now ≡ codes "places") }
-        ensures serial { (turns : ℕ) → (result ≡ Some (Asked.Engine (Engine.Report (Report.Serial turns false)))) ↔ IsSerial word.now turns }
-        ensures outcomes { (result ≡ Some (Asked.Engine (Engine.Report (Report.Outcomes looking)))) ↔ (word.now ≡ codes "outcomes") }
-        ensures simulate { (steps : Bor (List ℕ)) → result ≡ Some (Asked.Engine (Engine.Simulate steps)) → IsSimulate word.now steps.now }
-        ensures steps { (s : List ℕ) → IsSimulate word.now s → (steps : Bor (List ℕ)) × (result ≡ Some (Asked.Engine (Engine.Simulate steps))) }
+        ensures listing { (result ≡ Some (Asked.Engine (Engine.Report (Report.Listing false))))
+            ↔ (word.now ≡ codes "listing") }
+        ensures places { (result ≡ Some (Asked.Engine (Engine.Report (Report.Listing true))))
+            ↔ (word.now ≡ codes "places") }
+        ensures serial { (turns : ℕ) → (result ≡ Some (Asked.Engine (Engine.Report (Report.Serial turns false))))
+            ↔ IsSerial word.now turns }
+        ensures outcomes { (result ≡ Some (Asked.Engine (Engine.Report (Report.Outcomes looking))))
+            ↔ (word.now ≡ codes "outcomes") }
+        ensures simulate { (steps : Bor (List ℕ)) → result ≡ Some (Asked.Engine (Engine.Simulate steps))
+            → IsSimulate word.now steps.now }
+        ensures steps { (s : List ℕ) → IsSimulate word.now s
+            → (steps : Bor (List ℕ)) × (result ≡ Some (Asked.Engine (Engine.Simulate steps))) }
         ensures tokens { (result ≡ Some Asked.Tokens) ↔ (word.now ≡ codes "tokens") }
         ensures tree { (result ≡ Some Asked.Tree) ↔ (word.now ≡ codes "tree") }
         ensures print { (result ≡ Some Asked.Print) ↔ (word.now ≡ codes "print") }

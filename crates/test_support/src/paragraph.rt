@@ -28,11 +28,15 @@ pub fn read_paragraph(paragraph: &str) -> Paragraph<'_>
     ensures tree { (result ≡ Paragraph.Ask Asked.Tree) ↔ (paragraph.now ≡ codes "@ask tree") }
     ensures print { (result ≡ Paragraph.Ask Asked.Print) ↔ (paragraph.now ≡ codes "@ask print") }
     ensures again { (result ≡ Paragraph.Ask Asked.Again) ↔ (paragraph.now ≡ codes "@ask again") }
-    ensures head { (text : Bor (List ℕ)) → result ≡ Paragraph.Head (Some text) → paragraph.now ≡ codes "@head\n" ++ text.now }
-    ensures headed { (s : List ℕ) → paragraph.now ≡ codes "@head\n" ++ s → (text : Bor (List ℕ)) × (result ≡ Paragraph.Head (Some text)) }
-    ensures case { (text want : Bor (List ℕ)) → result ≡ Paragraph.Case text want → IsCase paragraph.now text.now want.now }
+    ensures head { (text : Bor (List ℕ)) → result ≡ Paragraph.Head (Some text)
+        → paragraph.now ≡ codes "@head\n" ++ text.now }
+    ensures headed { (s : List ℕ) → paragraph.now ≡ codes "@head\n" ++ s
+        → (text : Bor (List ℕ)) × (result ≡ Paragraph.Head (Some text)) }
+    ensures case { (text want : Bor (List ℕ)) → result ≡ Paragraph.Case text want
+        → IsCase paragraph.now text.now want.now }
     ensures headless { (result ≡ Paragraph.Head None) ↔ (paragraph.now ≡ codes "@head") }
-    ensures unreadable { result ≡ Paragraph.Unreadable → HasNoWant paragraph.now ⊎ ((word : List ℕ) × (paragraph.now ≡ codes "@ask " ++ word)) }
+    ensures unreadable { result ≡ Paragraph.Unreadable → HasNoWant paragraph.now
+        ⊎ ((word : List ℕ) × (paragraph.now ≡ codes "@ask " ++ word)) }
 {
     if paragraph.starts_with('#') {
         return Paragraph::Note;

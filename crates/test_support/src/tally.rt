@@ -51,7 +51,8 @@ impl Tally {
         ensures wanted { said.now ≡ want.now → self.new.wrong ≡ self.old.wrong }
         ensures wrong { said.now ≢ want.now → self.new.wrong ≡ min (self.old.wrong + 1) (2 ^ 64 - 1) }
         ensures silent { said.now ≡ want.now → string_bytes self.new.report ≡ string_bytes self.old.report }
-        ensures told { said.now ≢ want.now → OnOk result (IsTold self.old self.new (case_text file.now text.now said.now want.now)) }
+        ensures told { said.now ≢ want.now → OnOk result
+            (IsTold self.old self.new (case_text file.now text.now said.now want.now)) }
     {
         self.cases = self.cases.saturating_add(1);
         if is_wanted(said, want) {

@@ -338,7 +338,8 @@ impl<'p, 'r, J: Naming> Shared<'p, 'r, J> {
     /// What two seats of one log have seen are prefixes of each other; returns whether that of `one` is a prefix of that
     /// of `other`.
     pub fn agree(one: &Seat<'p, 'r, J>, other: &Seat<'p, 'r, J>) -> bool
-        ensures one_begins { MatchBool result (Begins one.now.seen other.now.seen) (Begins other.now.seen one.now.seen) }
+        ensures one_begins { MatchBool result (Begins one.now.seen other.now.seen)
+            (Begins other.now.seen one.now.seen) }
         ensures exact { IsTrue result ↔ Begins one.now.seen other.now.seen }
     {
         one.seen.begins(&other.seen)
